@@ -1,0 +1,53 @@
+//! What a table stores, and what can be looked up in it.
+ghost use Rattle.std.specs.Prelude.{◌≡◌, ℕ, List, [], ◌∷◌, ◌++◌, ◌↔◌, IsTrue};
+ghost use Rattle.intaglio_content.specs.Key.{Key, key_hash};
+ghost use Rattle.intaglio_content.specs.Work.{hashed, compared};
+
+use crate::work::Work;
+use std::hash::BuildHasher;
+
+/// A value with a key, a list of byte lists. Values are equal if their keys are.
+pub trait Keyed {
+    ghost key: { Self → Key };
+}
+
+/// A value that a table stores. Its spelling is the bytes that it was made of, and its key is
+/// made of them.
+pub trait Content: Keyed {
+    ghost spelling: { Self → List ℕ };
+
+    ghost key_of: { List ℕ → Key };
+
+    ghost key_of_spelling: { (c : Self) → Self.key c ≡ key_of (spelling c) };
+}
+
+/// A content whose spelling can be read.
+pub trait Spelled: Content {
+    /// The bytes of the spelling.
+    fn spelling(&self) -> &[u8]
+        ensures { result.now ≡ Self.spelling self.now };
+}
+
+/// A content that lends a form of itself, which is spelled the same.
+pub trait Formed<'a>: Content {
+    type Form: Drop;
+
+    ghost form_spelling: { Self.Form → List ℕ };
+
+    /// The borrowed form of the content.
+    fn lend(&'a self) -> Self::Form
+        ensures { form_spelling result ≡ Self.spelling self.now };
+}
+
+/// A value that can be looked up among contents of type `C`.
+pub trait Sought<C: Keyed>: Keyed {
+    /// Feeds the key to a new hasher of the builder, and answers what that finishes with.
+    fn hash_with<S: BuildHasher>(&self, builder: &S, work: &mut Work) -> u64
+        ensures hash { result ≡ key_hash S.Hasher.finish S.Hasher.write (S.build_hasher builder.now) (Self.key self.now) }
+        ensures mark { work.new.marks ≡ work.old.marks ++ hashed (Self.key self.now) ∷ [] };
+
+    /// Whether the key is that of the stored content.
+    fn same_as(&self, stored: &C, work: &mut Work) -> bool
+        ensures same { IsTrue result ↔ (Self.key self.now ≡ C.key stored.now) }
+        ensures mark { work.new.marks ≡ work.old.marks ++ compared (Self.key self.now) (C.key stored.now) ∷ [] };
+}
