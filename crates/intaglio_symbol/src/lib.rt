@@ -1,0 +1,18 @@
+//! Symbols and the errors of interning, which every table of contents shares.
+//!
+//! - [`Symbol`] is the number that a content was given, with its conversions.
+//! - [`SymbolOverflowError`], [`InternError`], [`RoomError`] and [`StaleMark`] say what was refused.
+//! - [`Mark`] is a number of contents to which a table can be taken back.
+//! - [`AllSymbols`] gives the symbols of a table in order.
+#![tactic(auto)]
+
+mod error;
+mod mark;
+mod symbol;
+
+pub use error::{InternError, RoomError, StaleMark, SymbolOverflowError};
+pub use mark::Mark;
+pub use symbol::Symbol;
+
+/// How many contents a table has room for where its constructor takes no capacity.
+pub const DEFAULT_SYMBOL_TABLE_CAPACITY: usize = 4096;

@@ -1,0 +1,49 @@
+//! A symbol.
+ghost use Rattle.std.specs.Prelude.{◌≡◌, ◌^◌, ◌<◌, ◌↔◌, IsTrue};
+
+use std::marker::Model;
+
+/// The number that a content was given by its table: 0 for the first one, then 1, and so on.
+///
+/// Order, equality and hash are those of the number. A symbol is copied as one `u32` and knows nothing of its table.
+///
+/// ```
+/// assert_eq!(Symbol::new(263).id(), 263);
+/// ```
+#[derive(Debug, Clone, Copy, Hash, PartialEq, Eq, PartialOrd, Ord)]
+pub struct Symbol(u32);
+
+impl Model for Symbol {
+    ghost use Rattle.std.specs.Prelude.{ℕ, ◌^◌, ◌<◌};
+
+    ghost Value = { ℕ };
+
+    ghost view = { λ symbol. symbol.0 };
+
+    ghost invariant = { λ symbol. symbol.0 < 2 ^ 32 };
+
+    ghost inverse = { λ number. record { 0 = number } };
+}
+
+impl Symbol {
+    /// The symbol with this number. Nothing says whether a table has issued it.
+    pub const fn new(number: u32) -> Symbol
+        ensures { result ≡ number }
+    {
+        Symbol(number)
+    }
+
+    /// The symbol's number.
+    pub const fn id(self) -> u32
+        ensures { result ≡ self }
+    {
+        self.0
+    }
+
+    /// Whether the symbol has this number.
+    pub fn is(self, number: u32) -> bool
+        ensures { IsTrue result ↔ (self ≡ number) }
+    {
+        self.0 == number
+    }
+}
