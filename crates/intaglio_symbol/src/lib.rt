@@ -6,10 +6,13 @@
 //! - [`AllSymbols`] gives the symbols of a table in order.
 #![tactic(auto)]
 
+mod all_symbols;
+mod convert;
 mod error;
 mod mark;
 mod symbol;
 
+pub use all_symbols::AllSymbols;
 pub use error::{InternError, RoomError, StaleMark, SymbolOverflowError};
 pub use mark::Mark;
 pub use symbol::Symbol;
