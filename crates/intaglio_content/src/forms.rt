@@ -1,0 +1,95 @@
+//! The forms of a list of contents, in order.
+ghost use Rattle.std.specs.Prelude.{◌≡◌, length, map, IfSome, Some, ⊤};
+ghost use Rattle.std.specs.Iterator.{YieldsFirstBy, YieldsLastBy, item_count, at_most, UpTo};
+ghost use Rattle.std.specs.Iterator.SizeHint.{IsWithinCount};
+
+use crate::content::{Content, Formed};
+use std::alloc::AllocError;
+use std::iter::FusedIterator;
+use std::marker::Model;
+use std::slice;
+
+/// The forms of contents that are still to come, from the first content to the last.
+///
+/// Clauses see it as the list of their spellings. After the last form only `None` comes, from both ends. `len` and
+/// `size_hint` are exact, and a clone takes no memory.
+///
+/// ```
+/// let mut forms = Forms::of(&contents);
+/// assert!(forms.next_back() == Some("c"));
+/// ```
+#[derive(Drop)]
+pub struct Forms<'a, C: Content> {
+    contents: slice::Iter<'a, C>,
+}
+
+impl<'a, C: Content> Model for Forms<'a, C> {
+    ghost use Rattle.std.specs.Prelude.{ℕ, List, map};
+    ghost use Rattle.std.specs.Slice.Iter.{iter_rest};
+
+    ghost Value = { List (List ℕ) };
+
+    ghost view = { λ forms. map C.spelling (iter_rest forms.contents) };
+}
+
+impl<'a, C: Content> Forms<'a, C> {
+    /// The forms of the contents, in their order.
+    pub fn of(contents: &'a [C]) -> Forms<'a, C>
+        ensures { result ≡ map C.spelling contents.now }
+    {
+        Forms {
+            contents: contents.iter(),
+        }
+    }
+}
+
+impl<'a, C: Formed<'a>> Iterator for Forms<'a, C> {
+    type Item = C::Form;
+
+    ghost next_gives = { YieldsFirstBy C.form_spelling (λ rest. rest) };
+
+    ghost remaining = { item_count (λ rest. rest) };
+
+    fn next(&mut self) -> Option<C::Form> {
+        let content = self.contents.next()?;
+        Some(content.lend())
+    }
+
+    fn size_hint(&self) -> (usize, Option<usize>)
+        ensures exact { result ≡ (length self.now, Some (length self.now)) }
+        ensures lower { IsWithinCount result.0 (at_most (length self.now)) }
+        ensures upper { IfSome result.1 (UpTo (at_most (length self.now))) }
+    {
+        let len = self.contents.len();
+        (len, Some(len))
+    }
+}
+
+impl<'a, C: Formed<'a>> DoubleEndedIterator for Forms<'a, C> {
+    ghost next_back_gives = { YieldsLastBy C.form_spelling (λ rest. rest) };
+
+    fn next_back(&mut self) -> Option<C::Form> {
+        let content = self.contents.next_back()?;
+        Some(content.lend())
+    }
+}
+
+impl<'a, C: Formed<'a>> ExactSizeIterator for Forms<'a, C> {
+    fn len(&self) -> usize {
+        self.contents.len()
+    }
+}
+
+impl<'a, C: Formed<'a>> FusedIterator for Forms<'a, C> {}
+
+impl<'a, C: Content> Clone for Forms<'a, C> {
+    ghost is_clone = { λ forms copy. copy ≡ forms };
+
+    ghost is_infallible = { λ _. ⊤ };
+
+    fn clone(&self) -> Result<Forms<'a, C>, AllocError> {
+        Ok(Forms {
+            contents: self.contents.clone()?,
+        })
+    }
+}
