@@ -1,0 +1,4 @@
+pub mod ChainLemmas
+pub mod LinkLemmas
+pub mod Powers
+pub mod WalkLemmas

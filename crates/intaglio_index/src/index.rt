@@ -1,0 +1,77 @@
+//! The index, and what can be read off it.
+ghost use Rattle.std.specs.Prelude.{◌≡◌, ◌%◌, ◌<◌, ◌≤◌, length};
+
+mod changing;
+mod making;
+mod walking;
+
+use intaglio_symbol::Symbol;
+use std::alloc::Global;
+use std::marker::Model;
+
+// A placed symbol's hash, and the symbol behind it in its bucket. Its place in the list is the symbol's number.
+#[derive(Clone, Copy)]
+pub(crate) struct Node {
+    hash: u64,
+    next: Option<Symbol>,
+}
+
+/// Symbols in buckets, by the hashes of their contents.
+///
+/// A bucket takes 8 bytes and a placed symbol 16. No number of a symbol stands for "none": all 2^32 symbols can be placed.
+#[derive(Drop)]
+pub struct Index {
+    heads: Vec<Option<Symbol>>,
+    nodes: Vec<Node>,
+    alloc: Global,
+}
+
+impl Model for Index {
+    ghost use Rattle.std.specs.Prelude.{min, length, vec_len, vec_capacity};
+    ghost use Rattle.intaglio_index.specs.Placed.{Placed, placed_code};
+
+    ghost Value = { Placed };
+
+    ghost coded = { placed_code };
+
+    ghost use Rattle.intaglio_index.specs.Links.{IsLinked, hashes_of};
+
+    ghost view = { λ index. record { count = length index.heads.items; hashes = hashes_of index.nodes.items; room = min (vec_len index.heads) (vec_capacity index.nodes) } };
+
+    ghost invariant = { λ index. IsLinked index.heads.items index.nodes.items };
+}
+
+impl Index {
+    /// How many buckets there are.
+    pub fn bucket_count(&self) -> usize
+        ensures { result ≡ self.now.count }
+    {
+        self.heads.len()
+    }
+
+    /// How many symbols can be placed in all: the lesser of the number of buckets and the capacity for links.
+    pub fn room(&self) -> usize
+        ensures { result ≡ self.now.room }
+    {
+        self.heads.len().min(self.nodes.capacity())
+    }
+
+    fn placed(&self) -> usize
+        ensures { result ≡ length self.now.hashes }
+    {
+        self.nodes.len()
+    }
+}
+
+// The bucket of a hash among `count`. Where that is a power of two this takes no division.
+#[tactic(auto, using(crate::proofs::Powers::masked_is))]
+fn bucket(hash: u64, count: u64) -> usize
+    requires { 0 < count }
+    ensures { result ≡ hash % count }
+{
+    if count & (count - 1) == 0 {
+        (hash & (count - 1)) as usize
+    } else {
+        (hash % count) as usize
+    }
+}

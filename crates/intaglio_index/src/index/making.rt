@@ -1,0 +1,97 @@
+//! Buckets are made.
+ghost use Rattle.std.specs.Prelude.{◌≡◌, ◌<◌, ◌≤◌, ◌++◌, [], length, replicate, None, IfOk, IsOk, OnErr, OnOk};
+ghost use Rattle.intaglio_content.specs.Work.{placed};
+
+use super::Index;
+use intaglio_content::Work;
+use intaglio_symbol::Symbol;
+use std::alloc::{AllocError, Global};
+
+impl Index {
+    /// Exactly `count` empty buckets, with room for as many symbols. No buckets take no memory.
+    ///
+    /// Errors where a request for memory is refused. There are two requests, and nothing is kept after a refusal.
+    pub fn with_buckets(alloc: Global, count: usize) -> Result<Index, AllocError>
+        ensures made { IfOk result (λ index. index ≡ record { count = count; hashes = []; room = count }) }
+        ensures none_needed { count ≡ 0 → IsOk result }
+    {
+        let heads = empty_heads(alloc, count)?;
+        let nodes = Vec::with_capacity(alloc, count)?;
+        Ok(Index {
+            heads,
+            nodes,
+            alloc,
+        })
+    }
+
+    /// Finds room for `count` symbols, and at least as many buckets. What was placed stays placed.
+    ///
+    /// New buckets are made only where there are fewer than `count`. Then all symbols are placed again, by their kept hashes.
+    ///
+    /// Errors where a request for memory is refused: then the buckets and the symbols in them are as before.
+    pub fn reserve(&mut self, count: usize, work: &mut Work) -> Result<(), AllocError>
+        ensures count { OnOk result (count ≤ self.new.count) }
+        ensures enough { OnOk result (count ≤ self.new.room) }
+        ensures room { self.old.room ≤ self.new.room }
+        ensures fits { self.new.room ≤ self.new.count }
+        ensures hashes { self.new.hashes ≡ self.old.hashes }
+        ensures err { OnErr result (self.new.count ≡ self.old.count) }
+        ensures kept { count ≤ self.old.count → self.new.count ≡ self.old.count }
+        ensures none_needed { count ≤ self.old.room → IsOk result }
+        ensures quiet { OnErr result (work.new.marks ≡ work.old.marks) }
+        ensures stays { count ≤ self.old.count → work.new.marks ≡ work.old.marks }
+        ensures places { OnOk result (self.old.count < count → work.new.marks ≡ work.old.marks ++ replicate (length self.old.hashes) placed) }
+    {
+        let placed = self.nodes.len();
+        if count <= self.heads.len() {
+            if placed < count {
+                self.nodes.reserve(count - placed)?;
+            }
+            return Ok(());
+        }
+        *self = self.rebuilt(count, work)?;
+        Ok(())
+    }
+
+    /// Makes exactly `count` buckets, with room for as many symbols. All symbols are placed again, by their kept hashes.
+    ///
+    /// Errors where a request for memory is refused: then the index is as before.
+    pub fn remake(&mut self, count: usize, work: &mut Work) -> Result<(), AllocError>
+        requires { length self.old.hashes ≤ count }
+        ensures count { OnOk result (self.new.count ≡ count) }
+        ensures room { OnOk result (self.new.room ≡ count) }
+        ensures hashes { self.new.hashes ≡ self.old.hashes }
+        ensures err { OnErr result (self.new ≡ self.old) }
+        ensures quiet { OnErr result (work.new.marks ≡ work.old.marks) }
+        ensures places { OnOk result (work.new.marks ≡ work.old.marks ++ replicate (length self.old.hashes) placed) }
+    {
+        *self = self.rebuilt(count, work)?;
+        Ok(())
+    }
+
+    // The same symbols in new buckets.
+    fn rebuilt(&self, count: usize, work: &mut Work) -> Result<Index, AllocError>
+        requires { length self.now.hashes ≤ count }
+        ensures made { IfOk result (λ index. index ≡ record { count = count; hashes = self.now.hashes; room = count }) }
+        ensures quiet { OnErr result (work.new.marks ≡ work.old.marks) }
+        ensures places { OnOk result (work.new.marks ≡ work.old.marks ++ replicate (length self.now.hashes) placed) }
+    {
+        let mut index = Index::with_buckets(self.alloc, count)?;
+        for (i, node) in self.nodes.iter().enumerate() {
+            index.place(node.hash, Symbol::new(i as u32), work);
+        }
+        Ok(index)
+    }
+}
+
+// The heads of empty buckets.
+fn empty_heads(alloc: Global, count: usize) -> Result<Vec<Option<Symbol>>, AllocError>
+    ensures made { IfOk result (λ heads. heads.items ≡ replicate count None) }
+    ensures none_needed { count ≡ 0 → IsOk result }
+{
+    let mut heads = Vec::with_capacity(alloc, count)?;
+    for _i in 0..count {
+        heads.push_reserved(None);
+    }
+    Ok(heads)
+}

@@ -1,0 +1,86 @@
+//! A bucket is walked.
+ghost use Rattle.std.specs.Prelude.{◌≡◌, ◌%◌, ◌<◌, ◌++◌, ◌∷◌, [], List, ℕ, length, None, Some, MatchOption};
+ghost use Rattle.std.specs.Option.{option_map};
+ghost use Rattle.std.specs.List.{AllByRecursion};
+ghost use Rattle.std.specs.List.Sorted.{IsPermutation};
+ghost use Rattle.intaglio_content.specs.Work.{step};
+ghost use Rattle.intaglio_index.specs.Placed.{chain, members, head_of, symbols_of, AreSorted, BeginsAtOrAbove, IsPredecessor, IsEntry};
+ghost use Rattle.intaglio_index.specs.Links.{entry_of};
+ghost use Rattle.intaglio_symbol.specs.declared.symbol.Symbol.{Symbol};
+
+use super::{Index, Node, bucket};
+use intaglio_content::Work;
+use intaglio_symbol::Symbol;
+
+impl Index {
+    /// The first symbol of the hash's bucket, with its own hash. One step.
+    ///
+    /// Where there are no buckets this is `None`.
+    pub fn first(&self, hash: u64, work: &mut Work) -> Option<(Symbol, u64)>
+        // The bucket has the symbols whose hashes fall in it, each once.
+        ensures members { IsPermutation (members self.now (hash % self.now.count)) (symbols_of (chain self.now (hash % self.now.count))) }
+        ensures sorted { AreSorted (chain self.now (hash % self.now.count)) }
+        ensures hashes { AllByRecursion (IsEntry self.now.count (hash % self.now.count) self.now.hashes) (chain self.now (hash % self.now.count)) }
+        ensures first { result ≡ head_of (chain self.now (hash % self.now.count)) }
+        ensures none { self.now.count ≡ 0 → result ≡ None }
+        ensures marks { work.new.marks ≡ work.old.marks ++ step ∷ [] }
+    {
+        work.step();
+        self.front(hash)
+    }
+
+    /// The symbol behind a placed one in its bucket, with its hash. One step.
+    pub fn after(&self, symbol: Symbol, work: &mut Work) -> Option<(Symbol, u64)>
+        requires { symbol < length self.now.hashes }
+        ensures next { (b hash : ℕ) (before behind : List (ℕ × ℕ)) → chain self.now b ≡ before ++ (symbol, hash) ∷ behind → result ≡ head_of behind }
+        ensures marks { work.new.marks ≡ work.old.marks ++ step ∷ [] }
+    {
+        work.step();
+        self.behind(symbol)
+    }
+
+    fn front(&self, hash: u64) -> Option<(Symbol, u64)>
+        ensures first { result ≡ head_of (chain self.now (hash % self.now.count)) }
+        ensures none { self.now.count ≡ 0 → result ≡ None }
+    {
+        let count = self.heads.len();
+        if count == 0 {
+            return None;
+        }
+        entry(&self.nodes, self.heads[bucket(hash, count as u64)])
+    }
+
+    fn behind(&self, symbol: Symbol) -> Option<(Symbol, u64)>
+        requires { symbol < length self.now.hashes }
+        ensures next { (b hash : ℕ) (before behind : List (ℕ × ℕ)) → chain self.now b ≡ before ++ (symbol, hash) ∷ behind → result ≡ head_of behind }
+    {
+        entry(&self.nodes, self.nodes[symbol.id() as usize].next)
+    }
+
+    // The last of the symbols at the bucket's front that have smaller hashes.
+    pub(super) fn predecessor(&self, hash: u64) -> Option<Symbol>
+        ensures { MatchOption result (BeginsAtOrAbove hash (chain self.now (hash % self.now.count))) (λ last. IsPredecessor hash (chain self.now (hash % self.now.count)) last) }
+    {
+        let mut last = None;
+        let mut candidate = self.front(hash);
+        while let Some(found) = candidate {
+            if hash <= found.1 {
+                break;
+            }
+            last = Some(found.0);
+            candidate = self.behind(found.0);
+        }
+        last
+    }
+}
+
+// The symbol that a link leads to, with its hash.
+fn entry(nodes: &[Node], link: Option<Symbol>) -> Option<(Symbol, u64)>
+    requires { (s : Symbol) → link ≡ Some s → s < length nodes.now }
+    ensures { result ≡ option_map (entry_of nodes.now) link }
+{
+    match link {
+        None => None,
+        Some(symbol) => Some((symbol, nodes[symbol.id() as usize].hash)),
+    }
+}
