@@ -118,7 +118,7 @@ impl<'a> PartialEq for AllSymbols<'a> {
 
     ghost laws = { Prim.search (comparing, rules) };
 
-    #[tactic(auto, using(crate::proofs::NumbersLemmas::numbers_steps))]
+    #[tactic(auto, using(crate::proofs::NumbersLemmas::numbers_steps, std::proofs::lemmas::Bool::Decides::nat_tests))]
     fn eq(&self, other: &AllSymbols<'a>) -> bool {
         let left = self.back - self.front;
         left == other.back - other.front && (left == 0 || self.front == other.front)

@@ -20,7 +20,7 @@ impl From<&u8> for Symbol {
     ghost from_gives = { λ number symbol. symbol ≡ number.now };
 
     fn from(number: &u8) -> Symbol {
-        Symbol::new(u32::from(*number))
+        Symbol::from(*number)
     }
 }
 
@@ -36,7 +36,7 @@ impl From<&u16> for Symbol {
     ghost from_gives = { λ number symbol. symbol ≡ number.now };
 
     fn from(number: &u16) -> Symbol {
-        Symbol::new(u32::from(*number))
+        Symbol::from(*number)
     }
 }
 
@@ -52,7 +52,7 @@ impl From<&u32> for Symbol {
     ghost from_gives = { λ number symbol. symbol ≡ number.now };
 
     fn from(number: &u32) -> Symbol {
-        Symbol::new(*number)
+        Symbol::from(*number)
     }
 }
 
@@ -68,7 +68,7 @@ impl From<&NonZeroU8> for Symbol {
     ghost from_gives = { λ number symbol. symbol ≡ non_zero_u8_get number.now };
 
     fn from(number: &NonZeroU8) -> Symbol {
-        Symbol::new(u32::from(number.get()))
+        Symbol::from(*number)
     }
 }
 
@@ -84,7 +84,7 @@ impl From<&NonZeroU16> for Symbol {
     ghost from_gives = { λ number symbol. symbol ≡ non_zero_u16_get number.now };
 
     fn from(number: &NonZeroU16) -> Symbol {
-        Symbol::new(u32::from(number.get()))
+        Symbol::from(*number)
     }
 }
 
@@ -100,7 +100,7 @@ impl From<&NonZeroU32> for Symbol {
     ghost from_gives = { λ number symbol. symbol ≡ non_zero_u32_get number.now };
 
     fn from(number: &NonZeroU32) -> Symbol {
-        Symbol::new(number.get())
+        Symbol::from(*number)
     }
 }
 
@@ -162,7 +162,7 @@ impl TryFrom<&NonZeroU64> for Symbol {
     ghost try_from_gives = { λ number r. OkIff r (non_zero_u64_get number.now < 2 ^ 32) (non_zero_u64_get number.now) };
 
     fn try_from(number: &NonZeroU64) -> Result<Symbol, SymbolOverflowError> {
-        Symbol::try_from(number.get())
+        Symbol::try_from(*number)
     }
 }
 
@@ -182,7 +182,7 @@ impl TryFrom<&NonZeroUsize> for Symbol {
     ghost try_from_gives = { λ number r. OkIff r (non_zero_usize_get number.now < 2 ^ 32) (non_zero_usize_get number.now) };
 
     fn try_from(number: &NonZeroUsize) -> Result<Symbol, SymbolOverflowError> {
-        Symbol::try_from(number.get())
+        Symbol::try_from(*number)
     }
 }
 
@@ -198,7 +198,7 @@ impl From<&Symbol> for u32 {
     ghost from_gives = { λ symbol number. number ≡ symbol.now };
 
     fn from(symbol: &Symbol) -> u32 {
-        symbol.id()
+        u32::from(*symbol)
     }
 }
 
@@ -214,7 +214,7 @@ impl From<&Symbol> for u64 {
     ghost from_gives = { λ symbol number. number ≡ symbol.now };
 
     fn from(symbol: &Symbol) -> u64 {
-        u64::from(symbol.id())
+        u64::from(*symbol)
     }
 }
 
@@ -230,7 +230,7 @@ impl From<&Symbol> for usize {
     ghost from_gives = { λ symbol number. number ≡ symbol.now };
 
     fn from(symbol: &Symbol) -> usize {
-        symbol.id() as usize
+        usize::from(*symbol)
     }
 }
 
@@ -246,6 +246,6 @@ impl From<&Symbol> for i64 {
     ghost from_gives = { λ symbol number. number ≡ pos symbol.now };
 
     fn from(symbol: &Symbol) -> i64 {
-        i64::from(symbol.id())
+        i64::from(*symbol)
     }
 }

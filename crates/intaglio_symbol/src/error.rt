@@ -27,7 +27,7 @@ impl SymbolOverflowError {
     pub const fn max_capacity(self) -> usize
         ensures { result ≡ 4294967296 }
     {
-        4294967296
+        4_294_967_296
     }
 }
 
@@ -61,7 +61,7 @@ impl fmt::Display for InternError {
 
     fn fmt<W: fmt::Write>(&self, f: &mut fmt::Formatter<W>) -> fmt::Result {
         match self {
-            InternError::Overflow(_) => write!(f, "Symbol overflow"),
+            InternError::Overflow(full) => write!(f, "{full}"),
             InternError::Memory(_) => write!(f, "out of memory"),
         }
     }

@@ -44,6 +44,6 @@ impl Symbol {
     pub fn is(self, number: u32) -> bool
         ensures { IsTrue result ↔ (self ≡ number) }
     {
-        self.0 == number
+        self.id() == number
     }
 }
