@@ -12,7 +12,7 @@ use std::hash::BuildHasher;
 /// It is kept as it was handed in: nothing is copied, and an owned vector keeps its spare capacity.
 ///
 /// ```
-/// assert!(BytesContent::from(b"\x00\xff").form().len() == 2);
+/// assert!(BytesContent::from(b"\x00\xff".as_slice()).form().len() == 2);
 /// ```
 #[derive(Drop)]
 pub enum BytesContent {
@@ -28,8 +28,8 @@ impl BytesContent {
         ensures { result.now ≡ bytes_content_bytes self.now }
     {
         match self {
-            BytesContent::Borrowed(bytes) => bytes,
-            BytesContent::Owned(bytes) => bytes.as_slice(),
+            Self::Borrowed(bytes) => bytes,
+            Self::Owned(bytes) => bytes.as_slice(),
         }
     }
 }
@@ -88,13 +88,11 @@ impl<'a> Formed<'a> for BytesContent {
 
 impl Sought<BytesContent> for BytesContent {
     fn hash_with<S: BuildHasher>(&self, builder: &S, work: &mut Work) -> u64 {
-        work.hashed(self);
-        hash_bytes(self.form(), builder)
+        self.form().hash_with(builder, work)
     }
 
     fn same_as(&self, stored: &BytesContent, work: &mut Work) -> bool {
-        work.compared(self, stored);
-        same_bytes(self.form(), stored.form())
+        self.form().same_as(stored, work)
     }
 }
 

@@ -60,7 +60,7 @@ impl<'a, C: Formed<'a>> Iterator for Forms<'a, C> {
         ensures lower { IsWithinCount result.0 (at_most (length self.now)) }
         ensures upper { IfSome result.1 (UpTo (at_most (length self.now))) }
     {
-        let len = self.contents.len();
+        let len = self.len();
         (len, Some(len))
     }
 }

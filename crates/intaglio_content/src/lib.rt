@@ -22,3 +22,6 @@ pub use forms::Forms;
 pub use pairs::Pairs;
 pub use str_content::StrContent;
 pub use work::Work;
+
+#[cfg(test)]
+mod tests;

@@ -28,8 +28,8 @@ impl StrContent {
         ensures { result.now ≡ str_content_bytes self.now }
     {
         match self {
-            StrContent::Borrowed(text) => text,
-            StrContent::Owned(text) => text.as_str(),
+            Self::Borrowed(text) => text,
+            Self::Owned(text) => text.as_str(),
         }
     }
 }
@@ -88,13 +88,11 @@ impl<'a> Formed<'a> for StrContent {
 
 impl Sought<StrContent> for StrContent {
     fn hash_with<S: BuildHasher>(&self, builder: &S, work: &mut Work) -> u64 {
-        work.hashed(self);
-        hash_bytes(self.form().as_bytes(), builder)
+        self.form().hash_with(builder, work)
     }
 
     fn same_as(&self, stored: &StrContent, work: &mut Work) -> bool {
-        work.compared(self, stored);
-        same_bytes(self.form().as_bytes(), stored.form().as_bytes())
+        self.form().same_as(stored, work)
     }
 }
 
