@@ -1,0 +1,4 @@
+-- What the contracts of the crate cite, and those of the crates above.
+pub mod Components
+pub mod Path
+pub mod PathContent

@@ -1,0 +1,114 @@
+//! Paths as contents.
+ghost use Rattle.std.specs.Prelude.{◌≡◌, refl};
+ghost use Rattle.intaglio_path.specs.Components.{components};
+ghost use Rattle.intaglio_path.specs.Path.{path_text};
+ghost use Rattle.intaglio_path.specs.PathContent.{path_content_bytes};
+
+use crate::path::Path;
+use intaglio_content::{Content, Formed, Keyed, Sought, Spelled, Work};
+use std::hash::{BuildHasher, Hash, Hasher};
+
+/// A path that a table stores. Its spelling is the UTF-8 bytes of its text, and its key is their components.
+///
+/// It is kept as it was handed in: nothing is copied or cleaned up, and an owned text keeps its spare capacity.
+///
+/// ```
+/// assert!(PathContent::from("a//b").form().as_str() == "a//b");
+/// assert!(PathContent::from("a//b").form() == Path::new("a/b"));
+/// ```
+#[derive(Drop)]
+pub enum PathContent {
+    /// A text that lasts as long as the program.
+    Borrowed(&'static str),
+    /// A text of the table's own.
+    Owned(String),
+}
+
+impl PathContent {
+    /// The path.
+    pub fn form(&self) -> Path<'_>
+        ensures { path_text result ≡ path_content_bytes self.now }
+    {
+        match self {
+            PathContent::Borrowed(text) => Path::new(text),
+            PathContent::Owned(text) => Path::new(text.as_str()),
+        }
+    }
+}
+
+impl From<&'static str> for PathContent {
+    ghost use Rattle.intaglio_path.specs.declared.content.PathContent.TheVariants.{Borrowed};
+
+    ghost from_gives = { λ text content. content ≡ Borrowed text };
+
+    fn from(text: &'static str) -> PathContent {
+        Self::Borrowed(text)
+    }
+}
+
+impl From<String> for PathContent {
+    ghost use Rattle.intaglio_path.specs.declared.content.PathContent.TheVariants.{Owned};
+
+    ghost from_gives = { λ text content. content ≡ Owned text };
+
+    fn from(text: String) -> PathContent {
+        Self::Owned(text)
+    }
+}
+
+impl Keyed for PathContent {
+    ghost key = { λ content. components (path_content_bytes content) };
+}
+
+impl<'a> Keyed for Path<'a> {
+    ghost key = { λ path. components (path_text path) };
+}
+
+impl Content for PathContent {
+    ghost spelling = { path_content_bytes };
+
+    ghost key_of = { components };
+
+    ghost key_of_spelling = { λ _. refl };
+}
+
+impl Spelled for PathContent {
+    fn spelling(&self) -> &[u8] {
+        self.form().as_str().as_bytes()
+    }
+}
+
+impl<'a> Formed<'a> for PathContent {
+    type Form = Path<'a>;
+
+    ghost form_spelling = { path_text };
+
+    fn lend(&'a self) -> Path<'a> {
+        PathContent::form(self)
+    }
+}
+
+impl<'a> Sought<PathContent> for Path<'a> {
+    fn hash_with<S: BuildHasher>(&self, builder: &S, work: &mut Work) -> u64 {
+        work.hashed(self);
+        let mut hasher = builder.build_hasher();
+        self.hash(&mut hasher);
+        hasher.finish()
+    }
+
+    #[tactic(auto, using(crate::specs::Components::same_components_decides))]
+    fn same_as(&self, stored: &PathContent, work: &mut Work) -> bool {
+        work.compared(self, stored);
+        *self == stored.form()
+    }
+}
+
+impl Sought<PathContent> for PathContent {
+    fn hash_with<S: BuildHasher>(&self, builder: &S, work: &mut Work) -> u64 {
+        self.form().hash_with(builder, work)
+    }
+
+    fn same_as(&self, stored: &PathContent, work: &mut Work) -> bool {
+        self.form().same_as(stored, work)
+    }
+}
