@@ -1,0 +1,401 @@
+-- A walk along a sorted path of positions with their hashes.
+use Rattle.std.proofs.Common.{◌≡◌, ◌≢◌, ◌⊎◌, ℕ, zero, suc, ◌+◌, ◌-◌, ◌<◌, ◌≤◌, ◌%◌, Bool, true, false, cond, List, [], ◌∷◌, ◌++◌, length, get_or, map, refl, sym, ap, ◌∙◌, arith, eqb, append_assoc, Option, Some, None, inl, inr, length-append, option_map}
+use Rattle.std.specs.List.{All, AllPairs, Contains, AllByRecursion, IsDistinct}
+use Rattle.std.specs.List.Sorted.{IsPermutation}
+use Rattle.std.specs.Option.{MatchOption}
+use Rattle.std.proofs.lemmas.Bool.{eqb-true, eqb-false, cases_lt}
+use Rattle.std.proofs.lemmas.Bool.Decides.{eqb_tells}
+use Rattle.std.proofs.lemmas.Simd.{map-map}
+use Rattle.std.proofs.lemmas.List.{append-nil, get_or_at, get_or-append-add, get_or-map, length-map, map-append}
+use Rattle.std.proofs.lemmas.List.Elements.{All-from_recursion, recursion_from_All, All-contains_itself, All-weaker, All-contains}
+use Rattle.std.proofs.lemmas.List.Sorted.{Contains-permutation, IsPermutation-map, length_permutation, IsPermutation-sym}
+use Rattle.std.proofs.lemmas.Map.Keys.{apart_from_distinct, IsDistinct-from_apart, IsDistinct-IsPermutation}
+use Rattle.intaglio_index.specs.Placed.{Placed, places_from, head_of, members, chain, symbols_of, AreSorted, IsEntry}
+use Rattle.intaglio_content.specs.Key.{Key}
+use Rattle.intaglio_content.specs.Work.{Mark, hashed, compared, step}
+use Rattle.intaglio_core.specs.State.{first_of, key_eq, AreDistinct}
+use Rattle.intaglio_core.specs.Cost.{hashed_keys, sought_keys, stored_keys, step_count, placed_count, bucket_keys, IsSearchCost}
+use Rattle.intaglio_core.proofs.First.{first-none, first-some, key_eq-decides, key_eq-unequal}
+
+pub eqb-unequal : (a b : ℕ) → a ≢ b → eqb a b ≡ false
+eqb-unequal a b n = elim (eqb_tells a b) [ inl h ↦ absurd (n h.1) | inr h ↦ h.0 ]
+
+pub eqb-equal : (a b : ℕ) → a ≡ b → eqb a b ≡ true
+eqb-equal a b e = elim (eqb_tells a b) [ inl h ↦ h.0 | inr h ↦ absurd (h.1 e) ]
+
+key_eq-apart : (a b : Key) → key_eq a b ≡ false → a ≢ b
+key_eq-apart a b differ e = let yes = (key_eq-decides a b).1 e in cc
+
+key_eq-flips : (a b : Key) → key_eq a b ≡ key_eq b a
+key_eq-flips a b =
+    let cases : (t : Bool) → key_eq a b ≡ t → t ≡ key_eq b a = elim [
+      true ↦ λ e. sym ((key_eq-decides b a).1 (sym ((key_eq-decides a b).0 e)))
+    | false ↦ λ e. sym (key_eq-unequal b a (λ q. key_eq-apart a b e (sym q)))
+    ] in
+    cases (key_eq a b) refl
+
+Each-weaker : {X : Type 0} (P Q : X → Type 0) → ((x : X) → P x → Q x) → (xs : List X) → AllByRecursion P xs → AllByRecursion Q xs
+Each-weaker P Q f [] h = tt
+Each-weaker P Q f (x ∷ xs) h = (f x h.0, Each-weaker P Q f xs h.1)
+
+Each-left : {X : Type 0} (P : X → Type 0) (xs ys : List X) → AllByRecursion P (xs ++ ys) → AllByRecursion P xs
+Each-left P [] ys h = tt
+Each-left P (x ∷ xs) ys h = (h.0, Each-left P xs ys h.1)
+
+Each-right : {X : Type 0} (P : X → Type 0) (xs ys : List X) → AllByRecursion P (xs ++ ys) → AllByRecursion P ys
+Each-right P [] ys h = h
+Each-right P (x ∷ xs) ys h = Each-right P xs ys h.1
+
+Each-append : {X : Type 0} (P : X → Type 0) (xs ys : List X) → AllByRecursion P xs → AllByRecursion P ys → AllByRecursion P (xs ++ ys)
+Each-append P [] ys h k = k
+Each-append P (x ∷ xs) ys h k = (h.0, Each-append P xs ys h.1 k)
+
+Distinct-left : (xs ys : List Key) → IsDistinct key_eq (xs ++ ys) → IsDistinct key_eq xs
+unfolding IsDistinct
+Distinct-left [] ys d = tt
+Distinct-left (x ∷ xs) ys d = (Each-left (λ y. key_eq x y ≡ false) xs ys d.0, Distinct-left xs ys d.1)
+
+Contains-cons : (x : ℕ) (xs : List ℕ) (y : ℕ) → Contains xs y → Contains (x ∷ xs) y
+Contains-cons x xs y h = (suc h.0, omega (arith, h.1), h.2)
+
+places-complete : (count b at : ℕ) (hs : List ℕ) (i d : ℕ) → i < length hs → get_or hs i d % count ≡ b → Contains (places_from count b at hs) (at + i)
+places-complete count b at [] i d l e = absurd (omega arith)
+places-complete count b at (h ∷ hs) zero d l e = rw (eqb-equal (h % count) b e) (0, omega arith, omega arith)
+places-complete count b at (h ∷ hs) (suc i) d l e =
+    let rest : Contains (places_from count b (at + 1) hs) (at + suc i) =
+        (let z : at + suc i ≡ (at + 1) + i = omega arith in rw z (places-complete count b (at + 1) hs i d (omega arith) e)) in
+    elim (eqb (h % count) b) as (λ t. Contains (cond t (at ∷ places_from count b (at + 1) hs) (places_from count b (at + 1) hs)) (at + suc i)) [ true ↦ Contains-cons at _ _ rest | false ↦ rest ]
+
+-- the keys of a bucket, by its positions
+places-keys : (hash : Key → ℕ) (count : ℕ) (k : Key) (before keys : List Key) →
+    map (λ i. get_or (before ++ keys) i []) (places_from count (hash k % count) (length before) (map hash keys)) ≡ bucket_keys hash count keys k
+places-keys hash count k before [] = refl
+places-keys hash count k before (x ∷ xs) =
+    let all : (before ++ x ∷ []) ++ xs ≡ before ++ x ∷ xs = append_assoc before (x ∷ []) xs in
+    let more : length (before ++ x ∷ []) ≡ length before + 1 = length-append before (x ∷ []) in
+    let rest = rw (all, more) at (places-keys hash count k (before ++ x ∷ []) xs) in
+    let here : get_or (before ++ x ∷ xs) (length before) [] ≡ x = get_or_at before x xs [] (length before) refl in
+    elim (eqb (hash x % count) (hash k % count)) as (λ t. map (λ i. get_or (before ++ x ∷ xs) i []) (cond t (length before ∷ places_from count (hash k % count) (length before + 1) (map hash xs)) (places_from count (hash k % count) (length before + 1) (map hash xs))) ≡ cond t (x ∷ bucket_keys hash count xs k) (bucket_keys hash count xs k)) [
+      true ↦ rw (here, rest) refl
+    | false ↦ rest ]
+
+bucket-each : (P : Key → Type 0) (hash : Key → ℕ) (count : ℕ) (keys : List Key) (k : Key) → AllByRecursion P keys → AllByRecursion P (bucket_keys hash count keys k)
+bucket-each P hash count [] k a = tt
+bucket-each P hash count (x ∷ xs) k a =
+    let rest = bucket-each P hash count xs k a.1 in
+    elim (eqb (hash x % count) (hash k % count)) as (λ t. AllByRecursion P (cond t (x ∷ bucket_keys hash count xs k) (bucket_keys hash count xs k))) [ true ↦ (a.0, rest) | false ↦ rest ]
+
+bucket-distinct : (hash : Key → ℕ) (count : ℕ) (keys : List Key) (k : Key) → IsDistinct key_eq keys → IsDistinct key_eq (bucket_keys hash count keys k)
+unfolding IsDistinct
+bucket-distinct hash count [] k d = tt
+bucket-distinct hash count (x ∷ xs) k d =
+    let rest = bucket-distinct hash count xs k d.1 in
+    let apart = bucket-each (λ y. key_eq x y ≡ false) hash count xs k d.0 in
+    elim (eqb (hash x % count) (hash k % count)) as (λ t. IsDistinct key_eq (cond t (x ∷ bucket_keys hash count xs k) (bucket_keys hash count xs k))) [ true ↦ (apart, rest) | false ↦ rest ]
+
+-- what is left of a path at a candidate
+abbrev pub rest_of : List (ℕ × ℕ) → Option (ℕ × ℕ) → List (ℕ × ℕ)
+rest_of [] candidate = []
+rest_of (x ∷ xs) None = []
+rest_of (x ∷ xs) (Some e) = cond (eqb x.0 e.0) (x ∷ xs) (rest_of xs (Some e))
+
+rest_of-none : (path : List (ℕ × ℕ)) → rest_of path None ≡ []
+rest_of-none [] = refl
+rest_of-none (x ∷ xs) = refl
+
+rest_of-split : (seen rest : List (ℕ × ℕ)) → IsDistinct eqb (symbols_of (seen ++ rest)) → rest_of (seen ++ rest) (head_of rest) ≡ rest
+unfolding IsDistinct
+rest_of-split seen [] d = rest_of-none (seen ++ [])
+rest_of-split [] (e ∷ behind) d = rw (eqb-equal e.0 e.0 refl) refl
+rest_of-split (x ∷ seen) (e ∷ behind) d =
+    let apart = rw (map-append (λ (e : ℕ × ℕ). e.0) seen (e ∷ behind)) at d.0 in
+    let no : eqb x.0 e.0 ≡ false = (Each-right (λ y. eqb x.0 y ≡ false) (symbols_of seen) (e.0 ∷ symbols_of behind) apart).0 in
+    rw no (rest_of-split seen (e ∷ behind) d.1)
+
+rest_of-at : (path seen rest : List (ℕ × ℕ)) (candidate : Option (ℕ × ℕ)) → path ≡ seen ++ rest → IsDistinct eqb (symbols_of path) → candidate ≡ head_of rest → rest_of path candidate ≡ rest
+rest_of-at path seen rest candidate split d next =
+    rw (split, next) (rest_of-split seen rest (rw split at d))
+
+both : {X : Type 0} (P Q : X → Type 0) (xs : List X) → AllByRecursion P xs → AllByRecursion Q xs → AllByRecursion (λ x. P x × Q x) xs
+both P Q [] a b = tt
+both P Q (x ∷ xs) a b = ((a.0, b.0), both P Q xs a.1 b.1)
+
+each_symbol : (P : ℕ → Type 0) (es : List (ℕ × ℕ)) → AllByRecursion (λ (e : ℕ × ℕ). P e.0) es → AllByRecursion P (symbols_of es)
+each_symbol P [] a = tt
+each_symbol P (e ∷ es) a = (a.0, each_symbol P es a.1)
+
+nil_rest : (rest : List (ℕ × ℕ)) → None ≡ head_of rest → rest ≡ []
+nil_rest [] e = refl
+nil_rest (x ∷ xs) e = cc
+
+some_rest : (rest : List (ℕ × ℕ)) (e : ℕ × ℕ) → Some e ≡ head_of rest → (behind : List (ℕ × ℕ)) × (rest ≡ e ∷ behind)
+some_rest [] e q = cc
+some_rest (x ∷ xs) e q = (xs, cc)
+
+-- behind an entry of a sorted path no hash is smaller
+not_smaller : (seen : List (ℕ × ℕ)) (e : ℕ × ℕ) (behind : List (ℕ × ℕ)) → AreSorted (seen ++ e ∷ behind) → AllByRecursion (λ (f : ℕ × ℕ). e.1 ≤ f.1) behind
+not_smaller seen e behind o =
+    recursion_from_All (λ (f : ℕ × ℕ). e.1 ≤ f.1) behind (λ j d l.
+      (let size : length (seen ++ e ∷ behind) ≡ length seen + length (e ∷ behind) = length-append seen (e ∷ behind) in
+      let at = o (length seen) (length seen + suc j) d (omega arith) (omega arith) in
+      rw (get_or_at seen e behind d (length seen) refl, get_or-append-add seen (e ∷ behind) (suc j) d) at at))
+
+module _ (hash : Key → ℕ) (keys : List Key) (k : Key) where
+  abbrev pub key_at : ℕ → Key
+  key_at s = get_or keys s []
+
+  -- the marks of passing these entries
+  abbrev pub walked : List (ℕ × ℕ) → List Mark
+  walked [] = []
+  walked (e ∷ es) = cond (eqb (hash k) e.1) (compared k (key_at e.0) ∷ step ∷ walked es) (step ∷ walked es)
+
+  -- the keys that are compared in passing them
+  abbrev met_keys : List (ℕ × ℕ) → List Key
+  met_keys [] = []
+  met_keys (e ∷ es) = cond (eqb (hash k) e.1) (key_at e.0 ∷ met_keys es) (met_keys es)
+
+  walked-push : (seen : List (ℕ × ℕ)) (e : ℕ × ℕ) → walked (seen ++ e ∷ []) ≡ walked seen ++ cond (eqb (hash k) e.1) (compared k (key_at e.0) ∷ step ∷ []) (step ∷ [])
+  walked-push [] e = refl
+  walked-push (x ∷ seen) e =
+      elim (eqb (hash k) x.1) as (λ t. cond t (compared k (key_at x.0) ∷ step ∷ walked (seen ++ e ∷ [])) (step ∷ walked (seen ++ e ∷ [])) ≡ cond t (compared k (key_at x.0) ∷ step ∷ walked seen) (step ∷ walked seen) ++ cond (eqb (hash k) e.1) (compared k (key_at e.0) ∷ step ∷ []) (step ∷ [])) [
+        true ↦ ap (λ ms. compared k (key_at x.0) ∷ step ∷ ms) (walked-push seen e)
+      | false ↦ ap (λ ms. step ∷ ms) (walked-push seen e) ]
+
+  met-push : (seen : List (ℕ × ℕ)) (e : ℕ × ℕ) → met_keys (seen ++ e ∷ []) ≡ met_keys seen ++ cond (eqb (hash k) e.1) (key_at e.0 ∷ []) []
+  met-push [] e = refl
+  met-push (x ∷ seen) e =
+      elim (eqb (hash k) x.1) as (λ t. cond t (key_at x.0 ∷ met_keys (seen ++ e ∷ [])) (met_keys (seen ++ e ∷ [])) ≡ cond t (key_at x.0 ∷ met_keys seen) (met_keys seen) ++ cond (eqb (hash k) e.1) (key_at e.0 ∷ []) []) [
+        true ↦ ap (λ ks. key_at x.0 ∷ ks) (met-push seen e)
+      | false ↦ met-push seen e ]
+
+  walked-hashed : (seen : List (ℕ × ℕ)) (last : List Mark) → hashed_keys (walked seen ++ last) ≡ hashed_keys last
+  walked-hashed [] last = refl
+  walked-hashed (e ∷ seen) last =
+      elim (eqb (hash k) e.1) as (λ t. hashed_keys (cond t (compared k (key_at e.0) ∷ step ∷ walked seen) (step ∷ walked seen) ++ last) ≡ hashed_keys last) [ true ↦ walked-hashed seen last | false ↦ walked-hashed seen last ]
+
+  walked-sought : (seen : List (ℕ × ℕ)) (last : List Mark) → AllByRecursion (λ x. x ≡ k) (sought_keys last) → AllByRecursion (λ x. x ≡ k) (sought_keys (walked seen ++ last))
+  walked-sought [] last h = h
+  walked-sought (e ∷ seen) last h =
+      elim (eqb (hash k) e.1) as (λ t. AllByRecursion (λ x. x ≡ k) (sought_keys (cond t (compared k (key_at e.0) ∷ step ∷ walked seen) (step ∷ walked seen) ++ last))) [ true ↦ (refl, walked-sought seen last h) | false ↦ walked-sought seen last h ]
+
+  walked-stored : (seen : List (ℕ × ℕ)) (last : List Mark) → stored_keys (walked seen ++ last) ≡ met_keys seen ++ stored_keys last
+  walked-stored [] last = refl
+  walked-stored (e ∷ seen) last =
+      elim (eqb (hash k) e.1) as (λ t. stored_keys (cond t (compared k (key_at e.0) ∷ step ∷ walked seen) (step ∷ walked seen) ++ last) ≡ cond t (key_at e.0 ∷ met_keys seen) (met_keys seen) ++ stored_keys last) [
+        true ↦ ap (λ ks. key_at e.0 ∷ ks) (walked-stored seen last) | false ↦ walked-stored seen last ]
+
+  walked-steps : (seen : List (ℕ × ℕ)) (last : List Mark) → step_count (walked seen ++ last) ≡ length seen + step_count last
+  walked-steps [] last = omega arith
+  walked-steps (e ∷ seen) last =
+      elim (eqb (hash k) e.1) as (λ t. step_count (cond t (compared k (key_at e.0) ∷ step ∷ walked seen) (step ∷ walked seen) ++ last) ≡ suc (length seen) + step_count last) [
+        true ↦ omega (arith, walked-steps seen last) | false ↦ omega (arith, walked-steps seen last) ]
+
+  walked-placed : (seen : List (ℕ × ℕ)) (last : List Mark) → placed_count (walked seen ++ last) ≡ placed_count last
+  walked-placed [] last = refl
+  walked-placed (e ∷ seen) last =
+      elim (eqb (hash k) e.1) as (λ t. placed_count (cond t (compared k (key_at e.0) ∷ step ∷ walked seen) (step ∷ walked seen) ++ last) ≡ placed_count last) [ true ↦ walked-placed seen last | false ↦ walked-placed seen last ]
+
+  abbrev keys_of : List (ℕ × ℕ) → List Key
+  keys_of es = map (λ (e : ℕ × ℕ). key_at e.0) es
+
+  met-each : (P : Key → Type 0) (es : List (ℕ × ℕ)) → AllByRecursion P (keys_of es) → AllByRecursion P (met_keys es)
+  met-each P [] a = tt
+  met-each P (e ∷ es) a =
+      elim (eqb (hash k) e.1) as (λ t. AllByRecursion P (cond t (key_at e.0 ∷ met_keys es) (met_keys es))) [ true ↦ (a.0, met-each P es a.1) | false ↦ met-each P es a.1 ]
+
+  met-distinct : (es : List (ℕ × ℕ)) → IsDistinct key_eq (keys_of es) → IsDistinct key_eq (met_keys es)
+  unfolding IsDistinct
+  met-distinct [] d = tt
+  met-distinct (e ∷ es) d =
+      elim (eqb (hash k) e.1) as (λ t. IsDistinct key_eq (cond t (key_at e.0 ∷ met_keys es) (met_keys es))) [
+        true ↦ (met-each (λ y. key_eq (key_at e.0) y ≡ false) es d.0, met-distinct es d.1) | false ↦ met-distinct es d.1 ]
+
+  met-hashes : (es : List (ℕ × ℕ)) → AllByRecursion (λ (e : ℕ × ℕ). hash (key_at e.0) ≡ e.1) es → AllByRecursion (λ x. hash x ≡ hash k) (met_keys es)
+  met-hashes [] a = tt
+  met-hashes (e ∷ es) a =
+      let cases : (t : Bool) → eqb (hash k) e.1 ≡ t → AllByRecursion (λ x. hash x ≡ hash k) (cond t (key_at e.0 ∷ met_keys es) (met_keys es)) = elim [
+        true ↦ λ q. (a.0 ∙ sym (eqb-true (hash k) e.1 q), met-hashes es a.1)
+      | false ↦ λ q. met-hashes es a.1 ] in
+      cases (eqb (hash k) e.1) refl
+
+  -- distinct keys stand at distinct positions
+  symbols-distinct : (es : List (ℕ × ℕ)) → IsDistinct key_eq (keys_of es) → IsDistinct eqb (symbols_of es)
+  unfolding IsDistinct
+  symbols-distinct [] d = tt
+  symbols-distinct (e ∷ es) d = (apart_symbols e es d.0, symbols-distinct es d.1)
+    where
+      apart_symbols : (e : ℕ × ℕ) (es : List (ℕ × ℕ)) → AllByRecursion (λ y. key_eq (key_at e.0) y ≡ false) (keys_of es) → AllByRecursion (λ s. eqb e.0 s ≡ false) (symbols_of es)
+      apart_symbols e [] a = tt
+      apart_symbols e (f ∷ fs) a = (eqb-unequal e.0 f.0 (λ q. key_eq-apart _ _ a.0 (ap key_at q)), apart_symbols e fs a.1)
+
+  -- where a walk stands
+  pub record IsAlong (path : List (ℕ × ℕ)) (candidate : Option (ℕ × ℕ)) (marks : List Mark) : Type 0 where
+    pub seen : List (ℕ × ℕ)
+    pub rest : List (ℕ × ℕ)
+    pub split : path ≡ seen ++ rest
+    pub next : candidate ≡ head_of rest
+    pub others : AllByRecursion (λ (e : ℕ × ℕ). key_at e.0 ≢ k) seen
+    pub walk : marks ≡ hashed k ∷ step ∷ walked seen
+
+-- the bucket that a key's hash falls in, and the sorted path through it
+pub record IsBucketPath (hash : Key → ℕ) (count : ℕ) (keys : List Key) (k : Key) (path : List (ℕ × ℕ)) : Type 0 where
+  pub same : IsPermutation (places_from count (hash k % count) 0 (map hash keys)) (symbols_of path)
+  pub apart : AreDistinct keys
+  pub sorted : AreSorted path
+  pub entries : AllByRecursion (IsEntry count (hash k % count) (map hash keys)) path
+
+module _ (hash : Key → ℕ) (count : ℕ) (keys : List Key) (k : Key) (path : List (ℕ × ℕ)) (here : IsBucketPath hash count keys k path) where
+  keys_same : keys_of hash keys k path ≡ map (key_at hash keys k) (symbols_of path)
+  keys_same = sym (map-map (key_at hash keys k) (λ (e : ℕ × ℕ). e.0) path)
+
+  bucket_same : IsPermutation (bucket_keys hash count keys k) (keys_of hash keys k path)
+  bucket_same =
+      rw (places-keys hash count k [] keys, ← keys_same) at (IsPermutation-map (key_at hash keys k) _ _ here.same)
+
+  bucket-length : length (bucket_keys hash count keys k) ≡ length path
+  bucket-length = sym (length_permutation _ _ bucket_same) ∙ length-map path (λ (e : ℕ × ℕ). key_at hash keys k e.0)
+
+  path_distinct : IsDistinct key_eq (keys_of hash keys k path)
+  path_distinct =
+      IsDistinct-IsPermutation key_eq key_eq-flips _ _ bucket_same
+      (bucket-distinct hash count keys k (IsDistinct-from_apart key_eq keys (λ i j d l lj. key_eq-unequal _ _ (here.apart i j d l lj))))
+
+  path_bucket : AllByRecursion (Contains (bucket_keys hash count keys k)) (keys_of hash keys k path)
+  path_bucket =
+      recursion_from_All _ _ (All-weaker (Contains (keys_of hash keys k path)) (Contains (bucket_keys hash count keys k))
+        (λ x h. Contains-permutation _ _ x (IsPermutation-sym _ _ bucket_same) h) _ (All-contains_itself (keys_of hash keys k path)))
+
+  -- an entry is a position, with the hash of its key
+  abbrev IsHashed : ℕ × ℕ → Type 0
+  IsHashed e = (e.0 < length keys) × (hash (key_at hash keys k e.0) ≡ e.1)
+
+  path_hashes : AllByRecursion IsHashed path
+  path_hashes =
+      Each-weaker (IsEntry count (hash k % count) (map hash keys)) IsHashed
+      (λ e h. (let l : e.0 < length keys = omega (arith, h.0, length-map keys hash) in (l, sym (get_or-map hash keys e.0 [] 0 l) ∙ h.1 0))) path here.entries
+
+  cost : (seen : List (ℕ × ℕ)) (last : List Mark) (met tail : List (ℕ × ℕ)) → path ≡ met ++ tail → met_keys hash keys k seen ++ stored_keys last ≡ met_keys hash keys k met →
+      hashed_keys last ≡ [] → AllByRecursion (λ x. x ≡ k) (sought_keys last) → length seen + step_count last ≤ length path → placed_count last ≡ 0 →
+      IsSearchCost hash k (bucket_keys hash count keys k) (hashed k ∷ step ∷ (walked hash keys k seen ++ last))
+  cost seen last met tail split stored none sought steps placements =
+      let keys_split : keys_of hash keys k path ≡ keys_of hash keys k met ++ keys_of hash keys k tail = ap (keys_of hash keys k) split ∙ map-append (λ (e : ℕ × ℕ). key_at hash keys k e.0) met tail in
+      let is : stored_keys (walked hash keys k seen ++ last) ≡ met_keys hash keys k met = walked-stored hash keys k seen last ∙ stored in
+      let distinct = met-distinct hash keys k met (Distinct-left _ _ (rw keys_split at path_distinct)) in
+      let within = met-each hash keys k (Contains (bucket_keys hash count keys k)) met (Each-left (Contains (bucket_keys hash count keys k)) (keys_of hash keys k met) (keys_of hash keys k tail) (rw keys_split at path_bucket)) in
+      let hashes = met-hashes hash keys k met (Each-weaker IsHashed (λ (e : ℕ × ℕ). hash (key_at hash keys k e.0) ≡ e.1) (λ e h. h.1) met (Each-left IsHashed met tail (rw split at path_hashes))) in
+      record {
+        hashings = ap (λ ks. k ∷ ks) (walked-hashed hash keys k seen last ∙ none);
+        sought = All-from_recursion _ _ (walked-sought hash keys k seen last sought);
+        once = rw is (λ i j d l lj. key_eq-apart _ _ (apart_from_distinct key_eq (met_keys hash keys k met) i j d distinct l lj));
+        within = rw is (All-from_recursion _ _ within);
+        steps = omega (arith, steps, walked-steps hash keys k seen last, bucket-length);
+        placements = walked-placed hash keys k seen last ∙ placements;
+        equal_hashes = rw is (All-from_recursion (λ x. hash x ≡ hash k) _ hashes);
+      }
+
+  standing : (e : ℕ × ℕ) (marks : List Mark) → (at : IsAlong hash keys k path (Some e) marks) → (behind : List (ℕ × ℕ)) × (path ≡ at.seen ++ e ∷ behind)
+  standing e marks at =
+      let rest = some_rest at.rest e at.next in
+      (rest.0, at.split ∙ ap (λ r. at.seen ++ r) rest.1)
+
+  candidate_hashed : (e : ℕ × ℕ) (marks : List Mark) → IsAlong hash keys k path (Some e) marks → IsHashed e
+  candidate_hashed e marks at =
+      let h = standing e marks at in (Each-right IsHashed at.seen (e ∷ h.0) (rw h.1 at path_hashes)).0
+
+  pub in_range : (s o : ℕ) (marks : List Mark) → IsAlong hash keys k path (Some (s, o)) marks → s < length keys
+  in_range s o marks at = (candidate_hashed (s, o) marks at).0
+
+  -- a key with another hash is another key
+  pub hash_differs : (s o : ℕ) (marks : List Mark) → IsAlong hash keys k path (Some (s, o)) marks → hash k ≢ o → key_at hash keys k s ≢ k
+  hash_differs s o marks at differ = λ e. differ (sym (ap hash e) ∙ (candidate_hashed (s, o) marks at).1)
+
+  -- beyond a greater hash no key is the sought one
+  rest_differs : (at_path seen rest : List (ℕ × ℕ)) (candidate : Option (ℕ × ℕ)) → path ≡ seen ++ rest → candidate ≡ head_of rest → MatchOption candidate (Unit {0}) (λ e. hash k < e.1) → AllByRecursion (λ (e : ℕ × ℕ). key_at hash keys k e.0 ≢ k) rest
+  rest_differs at_path seen [] candidate split next m = tt
+  rest_differs at_path seen (e ∷ behind) candidate split next m =
+      let greater : hash k < e.1 = rw next at m in
+      let hashes = Each-right IsHashed seen (e ∷ behind) (rw split at path_hashes) in
+      let above = not_smaller seen e behind (rw split at here.sorted) in
+      let differs : (f : ℕ × ℕ) → IsHashed f × (e.1 ≤ f.1) → key_at hash keys k f.0 ≢ k = λ f h q. (let same : hash k ≡ f.1 = sym (ap hash q) ∙ h.0.1 in omega arith) in
+      (differs e (hashes.0, omega arith), Each-weaker (λ (f : ℕ × ℕ). IsHashed f × (e.1 ≤ f.1)) (λ (f : ℕ × ℕ). key_at hash keys k f.0 ≢ k) differs behind (both IsHashed (λ (f : ℕ × ℕ). e.1 ≤ f.1) behind hashes.1 above))
+
+  -- the walk ends: no position has the key
+  pub ends : (marks : List Mark) (candidate : Option (ℕ × ℕ)) → IsAlong hash keys k path candidate marks → MatchOption candidate (Unit {0}) (λ e. hash k < e.1) →
+      (None ≡ first_of keys k) × IsSearchCost hash k (bucket_keys hash count keys k) marks
+  ends marks candidate at m =
+      let all = Each-append (λ (e : ℕ × ℕ). key_at hash keys k e.0 ≢ k) at.seen at.rest at.others (rest_differs path at.seen at.rest candidate at.split at.next m) in
+      let others : All (λ s. key_at hash keys k s ≢ k) (symbols_of path) = All-from_recursion (λ s. key_at hash keys k s ≢ k) (symbols_of path) (each_symbol (λ s. key_at hash keys k s ≢ k) path (rw at.split all)) in
+      let none : (j : ℕ) → j < length keys → key_at hash keys k j ≢ k = λ j l e.
+          (let number : get_or (map hash keys) j 0 % count ≡ hash k % count = ap (λ h. h % count) (get_or-map hash keys j [] 0 l ∙ ap hash e) in
+          let l' : j < length (map hash keys) = omega (arith, l, length-map keys hash) in
+          let z : 0 + j ≡ j = omega arith in
+          let h = Contains-permutation _ _ j here.same (rw z at (places-complete count (hash k % count) 0 (map hash keys) j 0 l' number)) in
+          All-contains (λ s. key_at hash keys k s ≢ k) (symbols_of path) j others h e) in
+      let steps : length at.seen + 0 ≤ length path = omega (arith, ap length at.split, length-append at.seen at.rest) in
+      let is = cost at.seen [] at.seen at.rest at.split (append-nil _) refl tt steps refl in
+      (sym (first-none keys k none), rw at.walk (rw (append-nil (walked hash keys k at.seen)) at is))
+
+  -- a stored key is the sought one
+  pub finds : (s o : ℕ) (marks : List Mark) → IsAlong hash keys k path (Some (s, o)) marks → hash k ≡ o → key_at hash keys k s ≡ k →
+      (Some s ≡ first_of keys k) × IsSearchCost hash k (bucket_keys hash count keys k) (marks ++ compared k (key_at hash keys k s) ∷ [])
+  finds s o marks at same e =
+      let h = standing (s, o) marks at in
+      let l = in_range s o marks at in
+      let before : (j : ℕ) → j < s → key_at hash keys k j ≢ k = λ j lt q. here.apart j s [] lt l (q ∙ sym e) in
+      let split : path ≡ (at.seen ++ (s, o) ∷ []) ++ h.0 = h.1 ∙ sym (append_assoc at.seen ((s, o) ∷ []) h.0) in
+      let met : met_keys hash keys k at.seen ++ key_at hash keys k s ∷ [] ≡ met_keys hash keys k (at.seen ++ (s, o) ∷ []) = sym (met-push hash keys k at.seen (s, o) ∙ rw (eqb-equal (hash k) o same) refl) in
+      let steps : length at.seen + 0 ≤ length path = omega (arith, ap length h.1, length-append at.seen ((s, o) ∷ h.0)) in
+      let is = cost at.seen (compared k (key_at hash keys k s) ∷ []) (at.seen ++ (s, o) ∷ []) h.0 split met refl (refl, tt) steps refl in
+      (sym (first-some keys k s l e before), rw at.walk is)
+
+  -- one position on
+  pub goes_on : (s o : ℕ) (marks : List Mark) (next : Option (ℕ × ℕ)) → IsAlong hash keys k path (Some (s, o)) marks → key_at hash keys k s ≢ k →
+      ((before behind : List (ℕ × ℕ)) → path ≡ before ++ (s, o) ∷ behind → next ≡ head_of behind) →
+      IsAlong hash keys k path next (marks ++ cond (eqb (hash k) o) (compared k (key_at hash keys k s) ∷ step ∷ []) (step ∷ []))
+  goes_on s o marks next at n after =
+      let h = standing (s, o) marks at in
+      record {
+        seen = at.seen ++ (s, o) ∷ [];
+        rest = h.0;
+        split = h.1 ∙ sym (append_assoc at.seen ((s, o) ∷ []) h.0);
+        next = after at.seen h.0 h.1;
+        others = Each-append (λ (e : ℕ × ℕ). key_at hash keys k e.0 ≢ k) at.seen ((s, o) ∷ []) at.others (n, tt);
+        walk = rw (at.walk, walked-push hash keys k at.seen (s, o)) refl;
+      }
+
+  -- and nearer the end
+  pub falls : (s o : ℕ) (marks : List Mark) (next : Option (ℕ × ℕ)) → IsAlong hash keys k path (Some (s, o)) marks →
+      ((before behind : List (ℕ × ℕ)) → path ≡ before ++ (s, o) ∷ behind → next ≡ head_of behind) →
+      length (rest_of path next) < length (rest_of path (Some (s, o)))
+  falls s o marks next at after =
+      let h = standing (s, o) marks at in
+      let distinct = symbols-distinct hash keys k path path_distinct in
+      let now : rest_of path (Some (s, o)) ≡ (s, o) ∷ h.0 = rest_of-at path at.seen ((s, o) ∷ h.0) (Some (s, o)) h.1 distinct refl in
+      let later : path ≡ (at.seen ++ (s, o) ∷ []) ++ h.0 = h.1 ∙ sym (append_assoc at.seen ((s, o) ∷ []) h.0) in
+      let then : rest_of path next ≡ h.0 = rest_of-at path (at.seen ++ (s, o) ∷ []) h.0 next later distinct (after at.seen h.0 h.1) in
+      rw (now, then) (omega arith)
+
+  pub starts : (first : Option (ℕ × ℕ)) → first ≡ head_of path → IsAlong hash keys k path first (hashed k ∷ step ∷ [])
+  starts first e = record { seen = []; rest = path; split = refl; next = e; others = tt; walk = refl }
+
+-- the path that an index gives, where its hashes are those of the contents
+pub bucket_path : {C : Type 0} (key : C → Key) (hash : Key → ℕ) (index : Placed) (contents : List C) (k : Key) (h : ℕ) →
+    index.hashes ≡ map (λ c. hash (key c)) contents → AreDistinct (map key contents) → h ≡ hash k →
+    IsPermutation (members index (h % index.count)) (symbols_of (chain index (h % index.count))) → AreSorted (chain index (h % index.count)) →
+    AllByRecursion (IsEntry index.count (h % index.count) index.hashes) (chain index (h % index.count)) →
+    IsBucketPath hash index.count (map key contents) k (chain index (h % index.count))
+bucket_path key hash index contents k h hashes distinct is same sorted entries =
+    let e : index.hashes ≡ map hash (map key contents) = hashes ∙ sym (map-map hash key contents) in
+    record { same = rw (← e, ← is) same; apart = distinct; sorted = sorted; entries = rw (← e, ← is) entries }
+
+-- the key of a content that was read
+pub key_read : {C : Type 0} (key : C → Key) (contents : List C) (s : ℕ) (x : C) → s < length contents → x ≡ get_or contents s x → get_or (map key contents) s [] ≡ key x
+key_read key contents s x l e = get_or-map key contents s x [] l ∙ ap key (sym e)
+
+-- marks added to marks
+pub joined : (start marks more a b : List Mark) → a ≡ start ++ marks → b ≡ a ++ more → b ≡ start ++ (marks ++ more)
+joined start marks more a b e f = f ∙ ap (λ ms. ms ++ more) e ∙ append_assoc start marks more
+
+pub joined_twice : (start marks : List Mark) (x y : Mark) (a b d : List Mark) → a ≡ start ++ marks → b ≡ a ++ x ∷ [] → d ≡ b ++ y ∷ [] → d ≡ start ++ (marks ++ x ∷ y ∷ [])
+joined_twice start marks x y a b d e f h =
+    joined start (marks ++ x ∷ []) (y ∷ []) b d (joined start marks (x ∷ []) a b e f) h ∙ ap (λ ms. start ++ ms) (append_assoc marks (x ∷ []) (y ∷ []))

@@ -1,0 +1,10 @@
+pub mod First
+pub mod Along
+pub mod Kept
+pub mod Spent
+pub mod LookUps
+pub mod Issue
+pub mod Growth
+pub mod Room
+pub mod Rounded
+pub mod Runs

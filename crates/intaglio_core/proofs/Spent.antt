@@ -1,0 +1,116 @@
+-- What an interning costs, from the costs of its parts.
+use Rattle.std.proofs.Common.{◌≡◌, ◌≢◌, ℕ, zero, suc, ◌+◌, ◌*◌, ◌<◌, ◌≤◌, min, max, List, [], ◌∷◌, ◌++◌, length, map, replicate, Option, None, Result, Ok, Err, OnOk, OnErr, append_assoc, append-nil, inl, inr, refl, sym, ap, ◌∙◌, arith}
+use Rattle.std.proofs.lemmas.Bool.{cases_lt}
+use Rattle.std.specs.declared.alloc.AllocError.{AllocError}
+use Rattle.intaglio_content.specs.Key.{Key}
+use Rattle.intaglio_content.specs.Work.{Mark, hashed, compared, step, placed}
+use Rattle.intaglio_core.specs.State.{State, first}
+use Rattle.intaglio_core.specs.Cost.{hashed_keys, stored_keys, step_count, placed_count, Adds, SearchCost, IsGrowthCost, IsRoomCost, InternCost}
+use Rattle.intaglio_symbol.specs.declared.symbol.Symbol.{Symbol}
+use Rattle.intaglio_symbol.specs.declared.error.InternError.{InternError}
+use Rattle.intaglio_core.specs.Indexed.{AddCost, IsGrowthAndPlacement}
+
+no-hashed : (n : ℕ) → hashed_keys (replicate n placed) ≡ []
+no-hashed zero = refl
+no-hashed (suc n) = no-hashed n
+
+no-stored : (n : ℕ) → stored_keys (replicate n placed) ≡ []
+no-stored zero = refl
+no-stored (suc n) = no-stored n
+
+no-steps : (n : ℕ) → step_count (replicate n placed) ≡ 0
+no-steps zero = refl
+no-steps (suc n) = no-steps n
+
+all-placed : (n : ℕ) → placed_count (replicate n placed) ≡ n
+all-placed zero = refl
+all-placed (suc n) = omega (arith, all-placed n)
+
+pub no-growth : {C : Type 0} (old new : State C) → new.buckets ≡ old.buckets → IsGrowthCost old new []
+no-growth old new same = record {
+  only_growth = λ e. refl;
+  hashings = refl;
+  comparisons = refl;
+  steps = refl;
+  placements = λ grown. absurd (grown same);
+}
+
+pub grown : {C : Type 0} (old new : State C) → new.buckets ≢ old.buckets → IsGrowthCost old new (replicate (length old.contents) placed)
+grown old new more = record {
+  only_growth = λ e. absurd (more e);
+  hashings = no-hashed (length old.contents);
+  comparisons = no-stored (length old.contents);
+  steps = no-steps (length old.contents);
+  placements = λ e. all-placed (length old.contents);
+}
+
+pub add-cost : {C : Type 0} (old new : State C) (s : Symbol) (before between after : List Mark)
+    → length old.contents < old.limit → length old.contents ≤ old.buckets
+    → (length old.contents < old.buckets → new.buckets ≡ old.buckets)
+    → (old.buckets ≤ length old.contents → min old.limit (max 4 (2 * old.buckets)) ≤ new.buckets)
+    → (length old.contents < old.buckets → between ≡ before)
+    → (old.buckets ≤ length old.contents → between ≡ before ++ replicate (length old.contents) placed)
+    → after ≡ between ++ placed ∷ [] → Adds before after (AddCost old (Ok s) new)
+add-cost old new s before between after below enough kept more stays places last =
+    elim (cases_lt (length old.contents) old.buckets) [
+      | inl inside ↦ (placed ∷ [], rw (last, stays inside) refl, record { growth = []; parts = refl; grows = no-growth old new (kept inside) })
+      | inr outside ↦
+          let big = more outside in
+          let bigger : new.buckets ≢ old.buckets = λ e. absurd (omega (arith, e, big, below, enough)) in
+          (
+            replicate (length old.contents) placed ++ placed ∷ [],
+            rw (last, places outside, append_assoc) refl,
+            record { growth = replicate (length old.contents) placed; parts = refl; grows = grown old new bigger },
+          )
+    ]
+
+pub room-cost : {C : Type 0} (s : State C) (n : ℕ) (before after : List Mark) → n ≤ length s.contents → after ≡ before ++ replicate n placed → Adds before after (IsRoomCost s)
+room-cost s n before after le e = (
+  replicate n placed,
+  e,
+  record { hashings = no-hashed n; comparisons = no-stored n; steps = no-steps n; placements = omega (arith, all-placed n, le) },
+)
+
+pub no-room-cost : {C : Type 0} (s : State C) (before after : List Mark) → after ≡ before → Adds before after (IsRoomCost s)
+no-room-cost s before after e = room-cost s 0 before after (omega arith) (e ∙ sym (append-nil before))
+
+-- what a reservation of the index costs
+pub reserve-cost : {C : Type 0} (s : State C) (result : Result (Unit {0}) AllocError) (count wanted n : ℕ) (before after : List Mark)
+    → n ≤ length s.contents → (wanted ≤ count → after ≡ before) → OnOk result (count < wanted → after ≡ before ++ replicate n placed) → OnErr result (after ≡ before)
+    → Adds before after (IsRoomCost s)
+reserve-cost s (Ok _) count wanted n before after le stays places quiet =
+    elim (cases_lt count wanted) [
+      | inl more ↦ room-cost s n before after le (places more)
+      | inr enough ↦ no-room-cost s before after (stays enough)
+    ]
+reserve-cost s (Err _) count wanted n before after le stays places quiet = no-room-cost s before after quiet
+
+-- what new buckets cost
+pub remake-cost : {C : Type 0} (s : State C) (result : Result (Unit {0}) AllocError) (n : ℕ) (before after : List Mark)
+    → n ≤ length s.contents → OnOk result (after ≡ before ++ replicate n placed) → OnErr result (after ≡ before) → Adds before after (IsRoomCost s)
+remake-cost s (Ok _) n before after le places quiet = room-cost s n before after le places
+remake-cost s (Err _) n before after le places quiet = no-room-cost s before after quiet
+
+-- a mark, and what is added after it
+pub mark-first : (P : List Mark → Type 0) (m : Mark) (before between after : List Mark) → between ≡ before ++ m ∷ [] → Adds between after (λ cost. P (m ∷ cost)) → Adds before after P
+mark-first P m before between after first_mark later =
+    (m ∷ later.0, rw (later.1, first_mark) (append_assoc before (m ∷ []) later.0), later.2)
+
+module _ {C : Type 0} (key : C → Key) (hash : Key → ℕ) where
+  pub intern-cost : (result : Result Symbol InternError) (old new : State C) (k : Key) (before between walked after : List Mark)
+      → first key old.contents k ≡ None → between ≡ before ++ hashed k ∷ []
+      → Adds between walked (λ cost. SearchCost key hash old k (hashed k ∷ cost)) → Adds walked after (AddCost old result new)
+      → Adds before after (InternCost key hash old k result new)
+  intern-cost (Ok s) old new k before between walked after none first_mark walk spent = (
+    (hashed k ∷ walk.0) ++ spent.0,
+    rw (spent.1, walk.1, first_mark) (append_assoc (before ++ hashed k ∷ []) walk.0 spent.0 ∙ append_assoc before (hashed k ∷ []) (walk.0 ++ spent.0)),
+    rw none (record {
+      search = hashed k ∷ walk.0;
+      growth = spent.2.growth;
+      parts = rw (spent.2.parts, append_assoc) refl;
+      searches = walk.2;
+      grows = spent.2.grows;
+    }),
+  )
+  intern-cost (Err e) old new k before between walked after none first_mark walk spent =
+      (hashed k ∷ walk.0, rw (spent.1, spent.2, walk.1, first_mark) (append-nil _ ∙ append_assoc before (hashed k ∷ []) walk.0), walk.2)

@@ -1,0 +1,97 @@
+-- How the calls that change a table change its state.
+use Rattle.std.specs.Prelude.{◌≡◌, ◌≢◌, ℕ, ◌+◌, ◌*◌, ◌<◌, ◌≤◌, min, max, List, [], ◌∷◌, ◌++◌, length, take, Result, Ok, Err, MatchOption}
+use Rattle.intaglio_content.specs.Key.{Key}
+use Rattle.intaglio_core.specs.State.{State, first}
+use Rattle.intaglio_symbol.specs.declared.error.InternError.{InternError}
+use Rattle.intaglio_symbol.specs.declared.error.InternError.TheVariants.{Overflow, Memory}
+use Rattle.intaglio_symbol.specs.declared.error.RoomError.{RoomError}
+use Rattle.intaglio_symbol.specs.declared.error.RoomError.TheVariants as room_error
+use Rattle.intaglio_symbol.specs.declared.error.StaleMark.{StaleMark}
+
+-- a new content takes the next position. Room that was there is used, and a growth of the buckets doubles them
+pub record IsTaken {C : Type 0} (old : State C) (content : C) (symbol : ℕ) (new : State C) : Type 0 where
+  pub below_limit : length old.contents < old.limit
+  pub position : symbol ≡ length old.contents
+  pub contents : new.contents ≡ old.contents ++ content ∷ []
+  pub room : 0 < old.room → (old.room ≤ new.room + 1) × (new.buckets ≡ old.buckets)
+  pub growth : new.buckets ≢ old.buckets → (length old.contents ≡ old.buckets) × (min old.limit (max 4 (2 * old.buckets)) ≤ new.buckets)
+  pub limit : new.limit ≡ old.limit
+
+-- there was no memory for a growth that was needed
+pub record IsRefused {C : Type 0} (old new : State C) : Type 0 where
+  pub below_limit : length old.contents < old.limit
+  pub no_room : old.room ≡ 0
+  pub contents : new.contents ≡ old.contents
+  pub room : old.room ≤ new.room
+  pub buckets : new.buckets ≡ old.buckets
+  pub limit : new.limit ≡ old.limit
+
+-- how a content that isn't there is answered
+abbrev pub Takes : {C : Type 0} → State C → C → Result ℕ InternError → State C → Type 0
+Takes old content (Ok symbol) new = IsTaken old content symbol new
+Takes old content (Err (Overflow _)) new = (length old.contents ≡ old.limit) × (new ≡ old)
+Takes old content (Err (Memory _)) new = IsRefused old new
+
+-- one interning: a content that is there answers its first position and changes nothing
+abbrev pub Interns : {C : Type 0} → (C → Key) → State C → C → Result ℕ InternError → State C → Type 0
+Interns key old content result new =
+    MatchOption (first key old.contents (key content)) (Takes old content result new) (λ i. (result ≡ Ok i) × (new ≡ old))
+
+-- there is room for n more. Where it was there, nothing changed
+pub record IsReserved {C : Type 0} (old : State C) (n : ℕ) (new : State C) : Type 0 where
+  pub within_limit : length old.contents + n ≤ old.limit
+  pub enough : n ≤ old.room → new ≡ old
+  pub contents : new.contents ≡ old.contents
+  pub room : n ≤ new.room
+  pub buckets : length old.contents + n ≤ old.buckets → new.buckets ≡ old.buckets
+  pub limit : new.limit ≡ old.limit
+
+-- there was no memory for room that was missing
+pub record IsUnreserved {C : Type 0} (old : State C) (n : ℕ) (new : State C) : Type 0 where
+  pub within_limit : length old.contents + n ≤ old.limit
+  pub missing : old.room < n
+  pub contents : new.contents ≡ old.contents
+  pub room : old.room ≤ new.room
+  pub buckets : new.buckets ≡ old.buckets
+  pub limit : new.limit ≡ old.limit
+
+-- room for n more was asked for
+abbrev pub Reserves : {C : Type 0} → State C → ℕ → Result (Unit {0}) RoomError → State C → Type 0
+Reserves old n (Ok _) new = IsReserved old n new
+Reserves old n (Err room_error.CapacityOverflow) new = (old.limit < length old.contents + n) × (new ≡ old)
+Reserves old n (Err (room_error.Memory _)) new = IsUnreserved old n new
+
+-- where contents and room are more than n, they become n, or as many as there are contents. Else nothing changed
+pub record IsShrunk {C : Type 0} (old : State C) (n : ℕ) (new : State C) : Type 0 where
+  pub small : length old.contents + old.room ≤ n → new ≡ old
+  pub contents : new.contents ≡ old.contents
+  pub buckets : n < length old.contents + old.room → new.buckets ≡ max (length old.contents) n
+  pub room : n < length old.contents + old.room → length new.contents + new.room ≡ max (length old.contents) n
+  pub limit : new.limit ≡ old.limit
+
+-- a shrink down to n was asked for. Where there is no memory for one that has something to do, nothing changed
+abbrev pub Shrinks : {C : Type 0} → State C → ℕ → Result (Unit {0}) RoomError → State C → Type 0
+Shrinks old n (Ok _) new = IsShrunk old n new
+Shrinks old n (Err room_error.CapacityOverflow) new = ⊥
+Shrinks old n (Err (room_error.Memory _)) new = (n < length old.contents + old.room) × (new ≡ old)
+
+-- only the first n contents are left, and as many fit as before. Where that is all of them, nothing changed
+pub record IsCut {C : Type 0} (old : State C) (n : ℕ) (new : State C) : Type 0 where
+  pub within : n ≤ length old.contents
+  pub all : n ≡ length old.contents → new ≡ old
+  pub contents : new.contents ≡ take n old.contents
+  pub room : length new.contents + new.room ≡ length old.contents + old.room
+  pub buckets : new.buckets ≡ old.buckets
+  pub limit : new.limit ≡ old.limit
+
+-- the contents behind a mark of n were to be dropped
+abbrev pub TakesBack : {C : Type 0} → State C → ℕ → Result (Unit {0}) StaleMark → State C → Type 0
+TakesBack old n (Ok _) new = IsCut old n new
+TakesBack old n (Err _) new = (length old.contents < n) × (new ≡ old)
+
+-- no content is left, and as many fit as before
+pub record Empties {C : Type 0} (old new : State C) : Type 0 where
+  pub contents : new.contents ≡ []
+  pub room : new.room ≡ length old.contents + old.room
+  pub buckets : new.buckets ≡ old.buckets
+  pub limit : new.limit ≡ old.limit

@@ -1,0 +1,10 @@
+-- What the contracts of the crate cite, and those of the crates above.
+pub mod State
+pub mod Change
+pub mod Capacity
+pub mod Cost
+pub mod Step
+pub mod Run
+pub mod Issue
+pub mod Pattern
+pub mod Indexed

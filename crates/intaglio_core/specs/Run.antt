@@ -1,0 +1,71 @@
+-- A list of calls, made in order, and what holds over one.
+use Rattle.std.specs.Prelude.{◌≡◌, ◌≢◌, ℕ, ◌+◌, ◌*◌, ◌≤◌, List, [], ◌∷◌, ◌++◌, length, Some, All, map}
+use Rattle.intaglio_content.specs.Key.{Key}
+use Rattle.intaglio_content.specs.Work.{Mark}
+use Rattle.intaglio_core.specs.State.{State, IsValid}
+use Rattle.intaglio_core.specs.Cost.{placed_count}
+use Rattle.intaglio_core.specs.Issue.{issue}
+use Rattle.intaglio_core.specs.Step.{Step, StepCost}
+use Rattle.intaglio_core.specs.declared.run.Call.{Call}
+use Rattle.intaglio_core.specs.declared.run.Call.TheVariants.{Intern, Check, GetInterned, IsInterned, Clear, Reserve, ShrinkTo, ShrinkToFit, TakeBack}
+use Rattle.intaglio_core.specs.declared.run.Reply.{Reply}
+use Rattle.intaglio_core.specs.declared.run.Reply.TheVariants as reply
+
+module _ {C : Type 0} (key : C → Key) where
+  -- calls in order, each with its reply and its cost, from a state to a state, every one of them valid
+  abbrev pub Runs : (C → List ℕ) → (Key → ℕ) → State C → List (Call C) → List Reply → List Mark → State C → Type 0
+  Runs spelling hash old [] [] cost new = (cost ≡ []) × (new ≡ old)
+  Runs spelling hash old (call ∷ calls) (r ∷ replies) cost new =
+      (next : State C) × (now later : List Mark) × (cost ≡ now ++ later) × Step key spelling old call r next
+      × StepCost key hash old call r next now × IsValid key next × Runs spelling hash next calls replies later new
+  Runs spelling hash old _ _ cost new = ⊥
+
+  -- the keys of the contents that calls look for
+  abbrev pub searched_keys : List (Call C) → List Key
+  searched_keys [] = []
+  searched_keys (Intern c ∷ calls) = key c ∷ searched_keys calls
+  searched_keys (Check c ∷ calls) = key c ∷ searched_keys calls
+  searched_keys (GetInterned c ∷ calls) = key c ∷ searched_keys calls
+  searched_keys (IsInterned c ∷ calls) = key c ∷ searched_keys calls
+  searched_keys (_ ∷ calls) = searched_keys calls
+
+-- an interning or a look-up
+abbrev pub KeepsContents : {C : Type 0} → Call C → Type 0
+KeepsContents Clear = ⊥
+KeepsContents (Reserve _) = ⊥
+KeepsContents (ShrinkTo _) = ⊥
+KeepsContents ShrinkToFit = ⊥
+KeepsContents (TakeBack _) = ⊥
+KeepsContents _ = Unit {0}
+
+-- internings and look-ups place at most three symbols for each content that they add
+abbrev pub PlacesFew : {C : Type 0} → State C → List (Call C) → State C → List Mark → Type 0
+PlacesFew old calls new cost =
+    All KeepsContents calls → placed_count cost + length old.contents ≤ 3 * length new.contents
+
+-- a call that shrinks nothing
+abbrev pub KeepsRoom : {C : Type 0} → Call C → Type 0
+KeepsRoom (ShrinkTo _) = ⊥
+KeepsRoom ShrinkToFit = ⊥
+KeepsRoom _ = Unit {0}
+
+-- contents and room together don't become fewer over such calls
+abbrev pub HoldsRoom : {C : Type 0} → State C → List (Call C) → State C → Type 0
+HoldsRoom old calls new = All KeepsRoom calls → length old.contents + old.room ≤ length new.contents + new.room
+
+-- as many contents as there is room for are interned without want of memory
+abbrev pub HonoursRoom : {C : Type 0} → State C → List (Call C) → List Reply → Type 0
+HonoursRoom {C} old calls replies =
+    (cs : List C) → calls ≡ map Intern cs → length cs ≤ old.room → All (λ r. r ≢ reply.NoMemory) replies
+
+-- a reply that refuses
+abbrev pub IsRefusal : Reply → Type 0
+IsRefusal reply.Overflow = Unit {0}
+IsRefusal reply.NoMemory = Unit {0}
+IsRefusal _ = ⊥
+
+-- internings alone, none refused, into an empty table reply the issued symbols
+abbrev pub IssuesInOrder : {C : Type 0} → (C → Key) → State C → List (Call C) → List Reply → Type 0
+IssuesInOrder {C} key old calls replies =
+    (cs : List C) → old.contents ≡ [] → calls ≡ map Intern cs → All (λ r. ¬ IsRefusal r) replies
+    → replies ≡ map (λ i. reply.Symbol (Some i)) (issue key cs)

@@ -1,0 +1,47 @@
+-- What callers see of a table.
+use Rattle.std.specs.Prelude.{◌≡◌, ◌≢◌, ℕ, ◌+◌, ◌^◌, ◌≤◌, Bool, if◌then◌else◌, List, [], ◌∷◌, length, map, Option, Some, None, option_map, AllPairs}
+use Rattle.std.specs.Str.{bytes_eq}
+use Rattle.std.specs.Cmp.Lexicographic.{pointwise}
+use Rattle.intaglio_content.specs.Key.{Key}
+
+-- the contents in the order of their symbols, the room for more of them, the number of buckets, and the most contents
+-- that are held
+pub record State (C : Type 0) : Type 0 where
+  pub contents : List C
+  pub room : ℕ
+  pub buckets : ℕ
+  pub limit : ℕ
+
+-- a table: its state and what makes its hashers
+pub record Table (C S : Type 0) : Type 0 where
+  pub state : State C
+  pub hasher : S
+
+-- whether two keys are equal
+abbrev pub key_eq : Key → Key → Bool
+key_eq = pointwise bytes_eq
+
+-- the first position of a key in a list of keys
+abbrev pub first_of : List Key → Key → Option ℕ
+first_of [] k = None
+first_of (x ∷ xs) k = if key_eq x k then Some 0 else option_map (λ i. 1 + i) (first_of xs k)
+
+-- no two positions hold equal keys
+abbrev pub AreDistinct : List Key → Type 0
+AreDistinct keys = AllPairs (λ a b. a ≢ b) keys
+
+module _ {C : Type 0} (key : C → Key) where
+  -- the first position of a content with a key
+  abbrev pub first : List C → Key → Option ℕ
+  first cs k = first_of (map key cs) k
+
+  -- no two positions hold equal contents
+  abbrev pub Distinct : List C → Type 0
+  Distinct cs = AreDistinct (map key cs)
+
+  -- what holds of every table
+  pub record IsValid (s : State C) : Type 0 where
+    pub distinct : Distinct s.contents
+    pub limited : length s.contents ≤ s.limit
+    pub buckets : length s.contents + s.room ≤ s.buckets
+    pub limit : s.limit ≤ 2 ^ 32

@@ -1,0 +1,146 @@
+//! What every symbol table does, for code that is generic in the table.
+ghost use Rattle.std.specs.Prelude.{◌≡◌, ℕ, length, slice_get, option_copied};
+ghost use Rattle.intaglio_content.specs.Key.{Key, key_hash};
+ghost use Rattle.intaglio_core.specs.State.{State, first, IsValid};
+ghost use Rattle.intaglio_core.specs.Change.{Interns, Reserves, Shrinks, TakesBack, Empties};
+ghost use Rattle.intaglio_core.specs.Cost.{Adds, InternCost, SearchCost, IsRoomCost};
+
+use crate::table_core::Core;
+use intaglio_content::{Content, Sought, Work};
+use intaglio_symbol::{InternError, Mark, RoomError, StaleMark, Symbol};
+use std::hash::BuildHasher;
+
+/// A symbol table, by its state: the contents in the order of their symbols, the room for more of
+/// them, the number of buckets, and the limit.
+///
+/// Each call that searches or places takes a [`Work`], to which it adds what it did. After every
+/// call no two contents are equal, and there are at least as many buckets as contents.
+pub trait Interner {
+    /// What the table stores.
+    type Content: Content + Drop;
+
+    ghost state: { Self → State Self.Content };
+
+    // The hash of a key under the table's builder, which no call changes.
+    ghost hash: { Self → Key → ℕ };
+
+    /// The symbol of the content, which is stored if no equal one is.
+    ///
+    /// # Errors
+    ///
+    /// `Overflow` where the table holds as many contents as its limit, `Memory` where a growth was
+    /// refused. Then the contents are as before, and the content is dropped.
+    fn intern_counted(
+        &mut self,
+        content: Self::Content,
+        work: &mut Work,
+    ) -> Result<Symbol, InternError>
+        ensures step { Interns Self.Content.key (state self.old) content result (state self.new) }
+        ensures cost { Adds work.old.marks work.new.marks (InternCost Self.Content.key (hash self.old) (state self.old) (Self.Content.key content) result (state self.new)) }
+        ensures same_hash { hash self.new ≡ hash self.old }
+        ensures valid { IsValid Self.Content.key (state self.new) };
+
+    /// The symbol of the content, if an equal one is stored.
+    fn search_counted(&self, sought: &Self::Content, work: &mut Work) -> Option<Symbol>
+        ensures found { result ≡ first Self.Content.key (state self.now).contents (Self.Content.key sought.now) }
+        ensures cost { Adds work.old.marks work.new.marks (SearchCost Self.Content.key (hash self.now) (state self.now) (Self.Content.key sought.now)) }
+        ensures valid { IsValid Self.Content.key (state self.now) };
+
+    /// Finds room for this many contents more.
+    ///
+    /// # Errors
+    ///
+    /// `CapacityOverflow` where they would be more than the limit, and then nothing changed;
+    /// `Memory` where a growth was refused, and then the contents are as before.
+    fn reserve_counted(&mut self, additional: usize, work: &mut Work) -> Result<(), RoomError>
+        ensures step { Reserves (state self.old) additional result (state self.new) }
+        ensures cost { Adds work.old.marks work.new.marks (IsRoomCost (state self.old)) }
+        ensures same_hash { hash self.new ≡ hash self.old }
+        ensures valid { IsValid Self.Content.key (state self.new) };
+
+    /// Gives room back that is above this capacity.
+    ///
+    /// # Errors
+    ///
+    /// `Memory` where the smaller buckets were refused, and then nothing changed.
+    fn shrink_counted(&mut self, min_capacity: usize, work: &mut Work) -> Result<(), RoomError>
+        ensures step { Shrinks (state self.old) min_capacity result (state self.new) }
+        ensures cost { Adds work.old.marks work.new.marks (IsRoomCost (state self.old)) }
+        ensures same_hash { hash self.new ≡ hash self.old }
+        ensures valid { IsValid Self.Content.key (state self.new) };
+
+    /// The content of a symbol.
+    fn content(&self, symbol: Symbol) -> Option<&Self::Content>
+        ensures content { option_copied result ≡ slice_get (state self.now).contents symbol }
+        ensures valid { IsValid Self.Content.key (state self.now) };
+
+    /// How many contents there are.
+    fn count(&self) -> usize
+        ensures count { result ≡ length (state self.now).contents }
+        ensures valid { IsValid Self.Content.key (state self.now) };
+
+    /// Drops all contents.
+    fn empty(&mut self)
+        ensures step { Empties (state self.old) (state self.new) }
+        ensures same_hash { hash self.new ≡ hash self.old }
+        ensures valid { IsValid Self.Content.key (state self.new) };
+
+    /// The mark of the contents that there are.
+    fn mark(&self) -> Mark
+        ensures mark { result ≡ length (state self.now).contents }
+        ensures valid { IsValid Self.Content.key (state self.now) };
+
+    /// Drops the contents that came after the mark.
+    ///
+    /// # Errors
+    ///
+    /// [`StaleMark`] where the mark is of more contents than there are, and then nothing changed.
+    fn take_back(&mut self, mark: Mark) -> Result<(), StaleMark>
+        ensures step { TakesBack (state self.old) mark result (state self.new) }
+        ensures same_hash { hash self.new ≡ hash self.old }
+        ensures valid { IsValid Self.Content.key (state self.new) };
+}
+
+impl<C: Content + Sought<C> + Drop, S: BuildHasher> Interner for Core<C, S> {
+    type Content = C;
+
+    ghost state = { λ t. t.state };
+
+    ghost hash = { λ t. key_hash S.Hasher.finish S.Hasher.write (S.build_hasher t.hasher) };
+
+    fn intern_counted(&mut self, content: C, work: &mut Work) -> Result<Symbol, InternError> {
+        self.intern(content, work)
+    }
+
+    fn search_counted(&self, sought: &C, work: &mut Work) -> Option<Symbol> {
+        self.search(sought, work)
+    }
+
+    fn reserve_counted(&mut self, additional: usize, work: &mut Work) -> Result<(), RoomError> {
+        self.reserve_with(additional, work)
+    }
+
+    fn shrink_counted(&mut self, min_capacity: usize, work: &mut Work) -> Result<(), RoomError> {
+        self.shrink_with(min_capacity, work)
+    }
+
+    fn content(&self, symbol: Symbol) -> Option<&C> {
+        self.get(symbol)
+    }
+
+    fn count(&self) -> usize {
+        self.len()
+    }
+
+    fn empty(&mut self) {
+        self.clear();
+    }
+
+    fn mark(&self) -> Mark {
+        Core::mark(self)
+    }
+
+    fn take_back(&mut self, mark: Mark) -> Result<(), StaleMark> {
+        Core::take_back(self, mark)
+    }
+}

@@ -1,0 +1,22 @@
+//! The engine of symbol tables: a list of contents with an index over it.
+//!
+//! [`Core`] gives each distinct content the next number, and the content back for it. It is what
+//! the tables of the crates above are thin types over. [`Interner`] says what every table does,
+//! and [`run`](run::run) makes a list of calls on any of them.
+#![tactic(auto)]
+
+pub mod interner;
+pub mod run;
+pub mod table_core;
+mod walk;
+
+pub use interner::Interner;
+pub use intaglio_content as content;
+pub use intaglio_content::{Content, Formed, Keyed, Sought, Spelled, Work};
+pub use intaglio_index::Index;
+pub use intaglio_symbol::{
+    AllSymbols, DEFAULT_SYMBOL_TABLE_CAPACITY, InternError, Mark, RoomError, StaleMark, Symbol,
+    SymbolOverflowError,
+};
+pub use run::{Call, Reply};
+pub use table_core::Core;

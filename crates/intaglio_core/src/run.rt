@@ -1,0 +1,208 @@
+//! A list of calls, made in order on any table.
+ghost use Rattle.std.specs.Prelude.{◌≡◌, ◌≢◌, [], IfOk, IsOk, OnErr};
+ghost use Rattle.intaglio_core.specs.State.{IsValid};
+ghost use Rattle.intaglio_core.specs.Cost.{Adds, SearchCost, hashed_keys};
+ghost use Rattle.intaglio_core.specs.Step.{Step, StepCost};
+ghost use Rattle.intaglio_core.specs.Run.{Runs, PlacesFew, HoldsRoom, HonoursRoom, IssuesInOrder, searched_keys};
+
+use crate::interner::Interner;
+use intaglio_content::{Spelled, Work};
+use intaglio_symbol::{InternError, Mark, RoomError, Symbol};
+use std::alloc::{AllocError, Global};
+
+/// A call on a table of contents of type `C`.
+#[derive(Drop)]
+pub enum Call<C> {
+    /// Interns the content.
+    Intern(C),
+    /// Looks the content up.
+    Check(C),
+    /// Looks the content up, with the spelling that is stored.
+    GetInterned(C),
+    /// Asks whether the content is stored.
+    IsInterned(C),
+    /// Asks whether the symbol was issued.
+    Contains(Symbol),
+    /// Gets the spelling of a symbol.
+    Get(Symbol),
+    /// Counts the contents.
+    Len,
+    /// Asks whether there is no content.
+    IsEmpty,
+    /// Drops all contents.
+    Clear,
+    /// Finds room for this many contents more.
+    Reserve(usize),
+    /// Gives room back that is above this capacity.
+    ShrinkTo(usize),
+    /// Gives back all room that no content needs.
+    ShrinkToFit,
+    /// Drops the contents that came after the mark.
+    TakeBack(Mark),
+}
+
+/// What a call answered.
+#[derive(Debug, Drop, PartialEq, Eq)]
+pub enum Reply {
+    /// The symbol of a content, if there is one.
+    Symbol(Option<Symbol>),
+    /// The symbol of a content with a copy of the stored spelling, if there is one.
+    Pair(Option<(Symbol, Vec<u8>)>),
+    /// The answer to a question.
+    Bool(bool),
+    /// A copy of a spelling, if the symbol was issued.
+    Spelling(Option<Vec<u8>>),
+    /// A number of contents.
+    Count(usize),
+    /// The call was made.
+    Done,
+    /// The table holds as many contents as its limit.
+    Overflow,
+    /// More contents than the limit were asked for.
+    CapacityOverflow,
+    /// A growth, a shrink or a copy was refused memory.
+    NoMemory,
+    /// The mark is of more contents than there are.
+    Stale,
+}
+
+/// Makes the calls in order, and answers their replies in the same order.
+///
+/// Replies and contents are those of a plain list that is scanned from the front, and `work` gets
+/// what the calls did. A call that is refused is a reply, and the run goes on after it.
+///
+/// # Errors
+///
+/// [`AllocError`] where the memory for the replies was refused. Then no call was made.
+pub fn run<T: Interner>(
+    alloc: Global,
+    table: &mut T,
+    calls: Vec<Call<T::Content>>,
+    work: &mut Work,
+) -> Result<Vec<Reply>, AllocError>
+where
+    T::Content: Spelled,
+    // Each call is a step of the plain list, at its cost, and leaves a table that is whole.
+    ensures ok { IfOk result (λ replies. Adds work.old.marks work.new.marks (λ cost. Runs T.Content.key T.Content.spelling (T.hash table.old) (T.state table.old) calls.items replies.items cost (T.state table.new))) }
+
+    // Over the whole run: which symbols are issued, what is hashed, what is placed, and which room is kept.
+    ensures issues { IfOk result (λ replies. IssuesInOrder T.Content.key (T.state table.old) calls.items replies.items) }
+    ensures hashes { IfOk result (λ _. Adds work.old.marks work.new.marks (λ cost. hashed_keys cost ≡ searched_keys T.Content.key calls.items)) }
+    ensures growth { IfOk result (λ _. Adds work.old.marks work.new.marks (PlacesFew (T.state table.old) calls.items (T.state table.new))) }
+    ensures capacity { IfOk result (λ _. HoldsRoom (T.state table.old) calls.items (T.state table.new)) }
+    ensures room { IfOk result (λ replies. HonoursRoom (T.state table.old) calls.items replies.items) }
+    ensures same_hash { T.hash table.new ≡ T.hash table.old }
+
+    // Where there is no memory for the replies, no call is made.
+    ensures err { OnErr result (T.state table.new ≡ T.state table.old) }
+    ensures no_cost { OnErr result (work.new.marks ≡ work.old.marks) }
+    ensures none_needed { calls.items ≡ [] → IsOk result }
+{
+    let mut replies = Vec::with_capacity(alloc, calls.len())?;
+    for call in calls {
+        replies.push_reserved(step(alloc, table, call, work));
+    }
+    Ok(replies)
+}
+
+// Makes one call.
+fn step<T: Interner>(
+    alloc: Global,
+    table: &mut T,
+    call: Call<T::Content>,
+    work: &mut Work,
+) -> Reply
+where
+    T::Content: Spelled,
+    ensures step { Step T.Content.key T.Content.spelling (T.state table.old) call result (T.state table.new) }
+    ensures cost { Adds work.old.marks work.new.marks (StepCost T.Content.key (T.hash table.old) (T.state table.old) call result (T.state table.new)) }
+    ensures same_hash { T.hash table.new ≡ T.hash table.old }
+    ensures valid { IsValid T.Content.key (T.state table.new) }
+{
+    match call {
+        Call::Intern(content) => match table.intern_counted(content, work) {
+            Ok(symbol) => Reply::Symbol(Some(symbol)),
+            Err(InternError::Overflow(_)) => Reply::Overflow,
+            Err(InternError::Memory(_)) => Reply::NoMemory,
+        },
+        Call::Check(content) => Reply::Symbol(table.search_counted(&content, work)),
+        Call::GetInterned(content) => get_interned(alloc, table, &content, work),
+        Call::IsInterned(content) => Reply::Bool(table.search_counted(&content, work).is_some()),
+        Call::Contains(symbol) => Reply::Bool((symbol.id() as usize) < table.count()),
+        Call::Get(symbol) => get(alloc, table, symbol),
+        Call::Len => Reply::Count(table.count()),
+        Call::IsEmpty => Reply::Bool(table.count() == 0),
+        Call::Clear => {
+            table.empty();
+            Reply::Done
+        }
+        Call::Reserve(additional) => match table.reserve_counted(additional, work) {
+            Ok(()) => Reply::Done,
+            Err(RoomError::CapacityOverflow) => Reply::CapacityOverflow,
+            Err(RoomError::Memory(_)) => Reply::NoMemory,
+        },
+        Call::ShrinkTo(min_capacity) => match table.shrink_counted(min_capacity, work) {
+            Ok(()) => Reply::Done,
+            Err(_) => Reply::NoMemory,
+        },
+        Call::ShrinkToFit => match table.shrink_counted(0, work) {
+            Ok(()) => Reply::Done,
+            Err(_) => Reply::NoMemory,
+        },
+        Call::TakeBack(mark) => match table.take_back(mark) {
+            Ok(()) => Reply::Done,
+            Err(_) => Reply::Stale,
+        },
+    }
+}
+
+// Looks a content up, and copies the spelling that is stored.
+fn get_interned<T: Interner>(
+    alloc: Global,
+    table: &T,
+    content: &T::Content,
+    work: &mut Work,
+) -> Reply
+where
+    T::Content: Spelled,
+    ensures step { Step T.Content.key T.Content.spelling (T.state table.now) (Call.GetInterned content.now) result (T.state table.now) }
+    ensures cost { Adds work.old.marks work.new.marks (SearchCost T.Content.key (T.hash table.now) (T.state table.now) (T.Content.key content.now)) }
+    ensures valid { IsValid T.Content.key (T.state table.now) }
+{
+    match table.search_counted(content, work) {
+        None => Reply::Pair(None),
+        Some(symbol) => match table.content(symbol) {
+            None => Reply::Pair(None),
+            Some(stored) => match copy_of(alloc, stored.spelling()) {
+                Ok(copy) => Reply::Pair(Some((symbol, copy))),
+                Err(_) => Reply::NoMemory,
+            },
+        },
+    }
+}
+
+// Copies the spelling of a symbol.
+fn get<T: Interner>(alloc: Global, table: &T, symbol: Symbol) -> Reply
+where
+    T::Content: Spelled,
+    ensures step { Step T.Content.key T.Content.spelling (T.state table.now) (Call.Get symbol) result (T.state table.now) }
+    ensures valid { IsValid T.Content.key (T.state table.now) }
+{
+    match table.content(symbol) {
+        None => Reply::Spelling(None),
+        Some(content) => match copy_of(alloc, content.spelling()) {
+            Ok(copy) => Reply::Spelling(Some(copy)),
+            Err(_) => Reply::NoMemory,
+        },
+    }
+}
+
+// A copy of some bytes. A copy of none needs no memory.
+fn copy_of(alloc: Global, bytes: &[u8]) -> Result<Vec<u8>, AllocError>
+    ensures ok { IfOk result (λ copy. copy.items ≡ bytes.now) }
+    ensures err { OnErr result (bytes.now ≢ []) }
+{
+    let mut copy = Vec::with_capacity(alloc, bytes.len())?;
+    copy.extend_from_slice(bytes)?;
+    Ok(copy)
+}

@@ -1,0 +1,210 @@
+//! A list of contents with an index over it.
+ghost use Rattle.std.specs.Prelude.{◌≡◌, ℕ, ◌+◌, ◌*◌, ◌^◌, ◌<◌, ◌≤◌, ◌++◌, ◌∷◌, ◌↔◌, List, [], map, length, min, max, replicate, slice_get, option_copied, vec_capacity, Some, None, IfSome, IsTrue, OnOk, OnErr};
+ghost use Rattle.intaglio_content.specs.Key.{Key, key_hash};
+ghost use Rattle.intaglio_content.specs.Work.{placed};
+ghost use Rattle.intaglio_symbol.specs.AllSymbols.{numbers_from};
+ghost use Rattle.intaglio_core.specs.State.{first, IsValid};
+ghost use Rattle.intaglio_core.specs.Change.{Interns, Takes};
+ghost use Rattle.intaglio_core.specs.Cost.{Adds, SearchCost, InternCost};
+ghost use Rattle.intaglio_core.specs.Indexed.{AddCost};
+
+mod make;
+mod room;
+
+use crate::walk::walk;
+use intaglio_content::{Keyed, Sought, Work};
+use intaglio_index::Index;
+use intaglio_symbol::{AllSymbols, InternError, Symbol, SymbolOverflowError};
+use std::alloc::AllocError;
+use std::hash::BuildHasher;
+use std::marker::Model;
+
+/// Contents in the order in which they came, no two equal, each with the number of its place.
+#[derive(Drop)]
+pub struct Core<C: Keyed, S: BuildHasher> {
+    list: Vec<C>,
+    index: Index,
+    hasher: S,
+    limit: usize,
+}
+
+impl<C: Keyed, S: BuildHasher> Model for Core<C, S> {
+    ghost use Rattle.std.specs.Prelude.{◌-◌, length, min, vec_capacity};
+    ghost use Rattle.intaglio_content.specs.Key.{key_hash};
+    ghost use Rattle.intaglio_core.specs.State.{Table};
+    ghost use Rattle.intaglio_core.specs.Indexed.{IsIndexed};
+
+    ghost Value = { Table C S };
+
+    ghost view = { λ t. record { state = record { contents = t.list.items; room = min (vec_capacity t.list) t.index.room - length t.list.items; buckets = t.index.count; limit = t.limit }; hasher = t.hasher } };
+
+    ghost invariant = { λ t. IsIndexed C.key (key_hash S.Hasher.finish S.Hasher.write (S.build_hasher t.hasher)) t.list.items t.index t.limit };
+}
+
+impl<C: Keyed, S: BuildHasher> Core<C, S> {
+    /// The builder of hashers that the table was made with.
+    pub fn hasher(&self) -> &S
+        ensures { result.now ≡ self.now.hasher }
+    {
+        &self.hasher
+    }
+
+    /// The most contents that the table holds: 2^32, unless it was made by
+    /// [`with_limit`](Core::with_limit).
+    pub fn limit(&self) -> usize
+        ensures { result ≡ self.now.state.limit }
+    {
+        self.limit
+    }
+
+    /// How many contents fit before anything has to grow.
+    pub fn capacity(&self) -> usize
+        ensures { result ≡ length self.now.state.contents + self.now.state.room }
+    {
+        self.list.capacity().min(self.index.room())
+    }
+
+    /// How many contents there are.
+    pub fn len(&self) -> usize
+        ensures count { result ≡ length self.now.state.contents }
+        ensures valid { IsValid C.key self.now.state }
+    {
+        self.list.len()
+    }
+
+    /// Whether there is no content.
+    pub fn is_empty(&self) -> bool
+        ensures { IsTrue result ↔ (self.now.state.contents ≡ []) }
+    {
+        self.list.is_empty()
+    }
+
+    /// Whether the symbol's number is below [`len`](Core::len), whoever issued it.
+    pub fn contains(&self, symbol: Symbol) -> bool
+        ensures { IsTrue result ↔ (symbol < length self.now.state.contents) }
+    {
+        (symbol.id() as usize) < self.list.len()
+    }
+
+    /// The content of a symbol.
+    pub fn get(&self, symbol: Symbol) -> Option<&C>
+        ensures content { option_copied result ≡ slice_get self.now.state.contents symbol }
+        ensures valid { IsValid C.key self.now.state }
+    {
+        self.list.get(symbol.id() as usize)
+    }
+
+    /// The contents in the order of their symbols.
+    pub fn contents(&self) -> &[C]
+        ensures all { result.now ≡ self.now.state.contents }
+        ensures bound { length result.now ≤ 2 ^ 32 }
+    {
+        &self.list
+    }
+
+    /// The symbols that were issued, in order.
+    pub fn all_symbols(&self) -> AllSymbols<'_>
+        ensures { result ≡ numbers_from 0 (length self.now.state.contents) }
+    {
+        AllSymbols::over(self, self.list.len())
+    }
+
+    /// The symbol of the content with the sought key, if there is one.
+    ///
+    /// Costs one hashing, and comparisons with contents of equal hash alone.
+    pub fn search<Q: Sought<C>>(&self, sought: &Q, work: &mut Work) -> Option<Symbol>
+        ensures found { result ≡ first C.key self.now.state.contents (Q.key sought.now) }
+        ensures within { IfSome result (λ symbol. symbol < length self.now.state.contents) }
+        ensures cost { Adds work.old.marks work.new.marks (SearchCost C.key (key_hash S.Hasher.finish S.Hasher.write (S.build_hasher self.now.hasher)) self.now.state (Q.key sought.now)) }
+        ensures valid { IsValid C.key self.now.state }
+    {
+        let hash = sought.hash_with(&self.hasher, work);
+        walk(&self.list, &self.index, &self.hasher, hash, sought, work)
+    }
+
+    /// The symbol of the content, which is stored if no equal one is.
+    ///
+    /// Costs one hashing, also where the buckets grow: they keep each content's hash.
+    ///
+    /// # Errors
+    ///
+    /// `Overflow` where a new content comes and the table holds as many as its limit; `Memory` where
+    /// a growth that it needs is refused, which never comes while [`capacity`](Core::capacity) is
+    /// above [`len`](Core::len). Then the contents are as before, and this one is dropped.
+    pub fn intern(&mut self, content: C, work: &mut Work) -> Result<Symbol, InternError>
+    where
+        C: Sought<C> + Drop,
+        ensures step { Interns C.key self.old.state content result self.new.state }
+        ensures cost { Adds work.old.marks work.new.marks (InternCost C.key (key_hash S.Hasher.finish S.Hasher.write (S.build_hasher self.old.hasher)) self.old.state (C.key content) result self.new.state) }
+        ensures hasher { self.new.hasher ≡ self.old.hasher }
+        ensures valid { IsValid C.key self.new.state }
+    {
+        let hash = content.hash_with(&self.hasher, work);
+        match walk(&self.list, &self.index, &self.hasher, hash, &content, work) {
+            Some(symbol) => Ok(symbol),
+            None => self.add(hash, content, work),
+        }
+    }
+
+    // Takes a content that isn't there.
+    fn add(&mut self, hash: u64, content: C, work: &mut Work) -> Result<Symbol, InternError>
+    where
+        C: Drop,
+        requires hash { hash ≡ key_hash S.Hasher.finish S.Hasher.write (S.build_hasher self.old.hasher) (C.key content) }
+        requires absent { first C.key self.old.state.contents (C.key content) ≡ None }
+        ensures step { Takes self.old.state content result self.new.state }
+        ensures cost { Adds work.old.marks work.new.marks (AddCost self.old.state result self.new.state) }
+        ensures hasher { self.new.hasher ≡ self.old.hasher }
+        ensures valid { IsValid C.key self.new.state }
+    {
+        let count = self.list.len();
+        if count >= self.limit {
+            return Err(InternError::Overflow(SymbolOverflowError::new()));
+        }
+        if let Err(refused) = find_room(&mut self.list, &mut self.index, self.limit, work) {
+            return Err(InternError::Memory(refused));
+        }
+        let symbol = Symbol::new(count as u32);
+        self.index.place(hash, symbol, work);
+        self.list.push_reserved(content);
+        Ok(symbol)
+    }
+}
+
+// Finds room for one content more: in the list, in the links and in the buckets. The index grows
+// last, so that a refused call adds no mark.
+fn find_room<C>(
+    list: &mut Vec<C>,
+    index: &mut Index,
+    limit: usize,
+    work: &mut Work,
+) -> Result<(), AllocError>
+    requires below { length list.old.items < limit }
+    requires numbered { limit ≤ 2 ^ 32 }
+    requires hashes { length index.old.hashes ≡ length list.old.items }
+    requires fits { index.old.room ≤ index.old.count }
+    requires within { length list.old.items ≤ index.old.room }
+    ensures items { list.new.items ≡ list.old.items }
+    ensures hashes { index.new.hashes ≡ index.old.hashes }
+    ensures capacity { vec_capacity list.old ≤ vec_capacity list.new }
+    ensures room { index.old.room ≤ index.new.room }
+    ensures fits { index.new.room ≤ index.new.count }
+    ensures free { OnOk result (length list.old.items < vec_capacity list.new) }
+    ensures placeable { OnOk result (length list.old.items < index.new.room) }
+    ensures full { OnErr result (min (vec_capacity list.old) index.old.room ≤ length list.old.items) }
+    ensures err { OnErr result (index.new.count ≡ index.old.count) }
+    ensures kept { length list.old.items < index.old.count → index.new.count ≡ index.old.count }
+    ensures grown { OnOk result (index.old.count ≤ length list.old.items → min limit (max 4 (2 * index.old.count)) ≤ index.new.count) }
+    ensures quiet { OnErr result (work.new.marks ≡ work.old.marks) }
+    ensures stays { length list.old.items < index.old.count → work.new.marks ≡ work.old.marks }
+    ensures places { OnOk result (index.old.count ≤ length list.old.items → work.new.marks ≡ work.old.marks ++ replicate (length list.old.items) placed) }
+{
+    list.reserve(1)?;
+    let count = list.len();
+    let buckets = index.bucket_count();
+    if count < buckets {
+        return index.reserve(count + 1, work);
+    }
+    let doubled = (2 * buckets).max(4);
+    index.reserve(limit.min(doubled), work)
+}

@@ -1,0 +1,151 @@
+//! Room, cuts and clearing.
+ghost use Rattle.std.specs.Prelude.{◌≡◌, ◌+◌, ◌<◌, ◌≤◌, [], length, IsOk};
+ghost use Rattle.intaglio_core.specs.State.{IsValid};
+ghost use Rattle.intaglio_core.specs.Change.{Empties, Reserves, Shrinks, TakesBack};
+ghost use Rattle.intaglio_core.specs.Cost.{Adds, IsRoomCost};
+
+use super::Core;
+use intaglio_content::{Keyed, Work};
+use intaglio_symbol::{Mark, RoomError, StaleMark};
+use std::hash::BuildHasher;
+
+impl<C: Keyed, S: BuildHasher> Core<C, S> {
+    /// Drops all contents. The capacity stays, and the next symbol is 0.
+    pub fn clear(&mut self)
+    where
+        C: Drop,
+        ensures step { Empties self.old.state self.new.state }
+        ensures hasher { self.new.hasher ≡ self.old.hasher }
+        ensures valid { IsValid C.key self.new.state }
+    {
+        self.list.clear();
+        self.index.clear();
+    }
+
+    /// The mark of the contents that there are, to which [`take_back`](Core::take_back) leads back.
+    pub fn mark(&self) -> Mark
+        ensures mark { result ≡ length self.now.state.contents }
+        ensures valid { IsValid C.key self.now.state }
+    {
+        Mark::new(self.list.len())
+    }
+
+    /// Drops the contents that came after the mark. The capacity stays, and nothing is hashed.
+    ///
+    /// # Errors
+    ///
+    /// [`StaleMark`] where the mark is of more contents than there are, and then nothing changed.
+    pub fn take_back(&mut self, mark: Mark) -> Result<(), StaleMark>
+    where
+        C: Drop,
+        ensures step { TakesBack self.old.state mark result self.new.state }
+        ensures hasher { self.new.hasher ≡ self.old.hasher }
+        ensures valid { IsValid C.key self.new.state }
+    {
+        // A proof reads the index's invariant here.
+        let _ = &self.index;
+        let count = mark.count();
+        let length = self.list.len();
+        if count > length {
+            return Err(StaleMark::new());
+        }
+        if count < length {
+            self.list.truncate(count);
+            self.index.cut(count);
+        }
+        Ok(())
+    }
+
+    /// Finds room for this many contents more, so that they are taken without refusal.
+    ///
+    /// # Errors
+    ///
+    /// `CapacityOverflow` where they would be more than the limit, which is told before memory is
+    /// asked for, and then nothing changed; `Memory` where a growth was refused, and then the
+    /// contents are as before and the capacity isn't lower.
+    pub fn reserve(&mut self, additional: usize) -> Result<(), RoomError>
+        ensures step { Reserves self.old.state additional result self.new.state }
+        ensures hasher { self.new.hasher ≡ self.old.hasher }
+        ensures valid { IsValid C.key self.new.state }
+    {
+        self.reserve_with(additional, &mut Work::new())
+    }
+
+    /// As [`reserve`](Core::reserve).
+    pub fn try_reserve(&mut self, additional: usize) -> Result<(), RoomError>
+        ensures step { Reserves self.old.state additional result self.new.state }
+        ensures hasher { self.new.hasher ≡ self.old.hasher }
+        ensures valid { IsValid C.key self.new.state }
+    {
+        self.reserve(additional)
+    }
+
+    /// As [`reserve`](Core::reserve), and adds to the work what it did.
+    pub fn reserve_with(&mut self, additional: usize, work: &mut Work) -> Result<(), RoomError>
+        ensures step { Reserves self.old.state additional result self.new.state }
+        ensures hasher { self.new.hasher ≡ self.old.hasher }
+        ensures cost { Adds work.old.marks work.new.marks (IsRoomCost self.old.state) }
+        ensures valid { IsValid C.key self.new.state }
+    {
+        let count = self.list.len();
+        if additional > self.limit - count {
+            return Err(RoomError::CapacityOverflow);
+        }
+        if additional <= self.list.capacity().min(self.index.room()) - count {
+            return Ok(());
+        }
+        if let Err(refused) = self.list.reserve(additional) {
+            return Err(RoomError::Memory(refused));
+        }
+        match self.index.reserve(count + additional, work) {
+            Ok(()) => Ok(()),
+            Err(refused) => Err(RoomError::Memory(refused)),
+        }
+    }
+
+    /// Lowers the capacity to this one, or to [`len`](Core::len) where that is more. Does nothing
+    /// where the capacity is no more than this.
+    ///
+    /// # Errors
+    ///
+    /// `Memory` where the smaller buckets were refused, and then nothing changed.
+    pub fn shrink_to(&mut self, min_capacity: usize) -> Result<(), RoomError>
+        ensures step { Shrinks self.old.state min_capacity result self.new.state }
+        ensures hasher { self.new.hasher ≡ self.old.hasher }
+        ensures valid { IsValid C.key self.new.state }
+    {
+        self.shrink_with(min_capacity, &mut Work::new())
+    }
+
+    /// Lowers the capacity to [`len`](Core::len).
+    ///
+    /// # Errors
+    ///
+    /// As [`shrink_to`](Core::shrink_to).
+    pub fn shrink_to_fit(&mut self) -> Result<(), RoomError>
+        ensures step { Shrinks self.old.state 0 result self.new.state }
+        ensures hasher { self.new.hasher ≡ self.old.hasher }
+        ensures valid { IsValid C.key self.new.state }
+    {
+        self.shrink_to(0)
+    }
+
+    /// As [`shrink_to`](Core::shrink_to), and adds to the work what it did.
+    pub fn shrink_with(&mut self, min_capacity: usize, work: &mut Work) -> Result<(), RoomError>
+        ensures step { Shrinks self.old.state min_capacity result self.new.state }
+        ensures hasher { self.new.hasher ≡ self.old.hasher }
+        ensures cost { Adds work.old.marks work.new.marks (IsRoomCost self.old.state) }
+        ensures valid { IsValid C.key self.new.state }
+    {
+        let count = self.list.len();
+        if self.list.capacity().min(self.index.room()) <= min_capacity {
+            return Ok(());
+        }
+        let buckets = count.max(min_capacity);
+        if let Err(refused) = self.index.remake(buckets, work) {
+            return Err(RoomError::Memory(refused));
+        }
+        self.list.shrink_to(buckets);
+        Ok(())
+    }
+}
