@@ -62,9 +62,10 @@ chain_from-each count b all before (h ∷ hs) met e a =
     let more : length (before ++ h ∷ []) ≡ length before + 1 = length-append before (h ∷ []) in
     let split : all ≡ (before ++ h ∷ []) ++ hs = e ∙ sym (append_assoc before (h ∷ []) hs) in
     let cases : (t : Bool) → eqb (h % count) b ≡ t → AllByRecursion (IsEntry count b all) (cond t (put (length before) h met) met) = elim [
-      true ↦ λ is. put-each (IsEntry count b all) (length before) h met
-        (rw e (omega (arith, length-append before (h ∷ hs))), λ d. rw e (get_or_at before h hs d (length before) refl), eqb-true _ _ is) a
-    | false ↦ λ is. a ] in
+      | true ↦ λ is. put-each (IsEntry count b all) (length before) h met
+          (rw e (omega (arith, length-append before (h ∷ hs))), λ d. rw e (get_or_at before h hs d (length before) refl), eqb-true _ _ is) a
+      | false ↦ λ is. a
+    ] in
     rw (← more) (chain_from-each count b all (before ++ h ∷ []) hs _ split (cases (eqb (h % count) b) refl))
 
 pub chain-each : (count b : ℕ) (hs : List ℕ) → AllByRecursion (IsEntry count b hs) (chain_from count b 0 [] hs)
@@ -75,17 +76,19 @@ put-permutation : (s h : ℕ) (es : List (ℕ × ℕ)) → IsPermutation (s ∷ 
 put-permutation s h [] = IsPermutation-refl (s ∷ [])
 put-permutation s h (e ∷ es) =
     elim (ltb e.1 h) as (λ t. IsPermutation (s ∷ e.0 ∷ symbols_of es) (symbols_of (cond t (e ∷ put s h es) ((s, h) ∷ e ∷ es)))) [
-      true ↦ IsPermutation-trans _ _ _ (IsPermutation-sym _ _ (IsPermutation-middle (e.0 ∷ []) s (symbols_of es))) (IsPermutation-cons e.0 _ _ (put-permutation s h es))
-    | false ↦ IsPermutation-refl _ ]
+      | true ↦ IsPermutation-trans _ _ _ (IsPermutation-sym _ _ (IsPermutation-middle (e.0 ∷ []) s (symbols_of es))) (IsPermutation-cons e.0 _ _ (put-permutation s h es))
+      | false ↦ IsPermutation-refl _
+    ]
 
 chain_from-permutation : (count b at : ℕ) (met : List (ℕ × ℕ)) (hs : List ℕ) → IsPermutation (places_from count b at hs ++ symbols_of met) (symbols_of (chain_from count b at met hs))
 chain_from-permutation count b at met [] = IsPermutation-refl (symbols_of met)
 chain_from-permutation count b at met (h ∷ hs) =
     elim (eqb (h % count) b) as (λ t. IsPermutation (cond t (at ∷ places_from count b (at + 1) hs) (places_from count b (at + 1) hs) ++ symbols_of met) (symbols_of (chain_from count b (at + 1) (cond t (put at h met) met) hs))) [
-      true ↦ IsPermutation-trans _ _ _
-        (IsPermutation-trans _ _ _ (IsPermutation-sym _ _ (IsPermutation-middle (places_from count b (at + 1) hs) at (symbols_of met))) (IsPermutation-append_right (places_from count b (at + 1) hs) _ _ (put-permutation at h met)))
-        (chain_from-permutation count b (at + 1) (put at h met) hs)
-    | false ↦ chain_from-permutation count b (at + 1) met hs ]
+      | true ↦ IsPermutation-trans _ _ _
+          (IsPermutation-trans _ _ _ (IsPermutation-sym _ _ (IsPermutation-middle (places_from count b (at + 1) hs) at (symbols_of met))) (IsPermutation-append_right (places_from count b (at + 1) hs) _ _ (put-permutation at h met)))
+          (chain_from-permutation count b (at + 1) (put at h met) hs)
+      | false ↦ chain_from-permutation count b (at + 1) met hs
+    ]
 
 pub chain-permutation : (v : Placed) (b : ℕ) → IsPermutation (members v b) (symbols_of (chain v b))
 unfolding chain
@@ -104,7 +107,7 @@ places-distinct count b at [] = tt
 places-distinct count b at (h ∷ hs) =
     let rest = places-distinct count b (at + 1) hs in
     let apart : AllByRecursion (λ y. eqb at y ≡ false) (places_from count b (at + 1) hs) =
-        Each-weaker (λ s. at + 1 ≤ s) (λ y. eqb at y ≡ false) (λ s l. eqb-unequal at s (λ e. omega arith)) _ (places-above count b (at + 1) hs) in
+    Each-weaker (λ s. at + 1 ≤ s) (λ y. eqb at y ≡ false) (λ s l. eqb-unequal at s (λ e. omega arith)) _ (places-above count b (at + 1) hs) in
     elim (eqb (h % count) b) as (λ t. IsDistinct eqb (cond t (at ∷ places_from count b (at + 1) hs) (places_from count b (at + 1) hs))) [ true ↦ (apart, rest) | false ↦ rest ]
 
 pub chain-distinct : (count b : ℕ) (hs : List ℕ) → IsDistinct eqb (symbols_of (chain_from count b 0 [] hs))
@@ -121,8 +124,9 @@ put-in_order : (s h : ℕ) (es : List (ℕ × ℕ)) → InOrder es → InOrder (
 put-in_order s h [] o = (tt, tt)
 put-in_order s h (e ∷ es) o =
     let cases : (t : Bool) → ltb e.1 h ≡ t → InOrder (cond t (e ∷ put s h es) ((s, h) ∷ e ∷ es)) = elim [
-      true ↦ λ is. (put-each (λ f. e.1 ≤ f.1) s h es (omega (arith, ltb-true e.1 h is)) o.0, put-in_order s h es o.1)
-    | false ↦ λ is. (let le : h ≤ e.1 = ltb-false e.1 h is in ((le, Each-weaker (λ (f : ℕ × ℕ). e.1 ≤ f.1) (λ (f : ℕ × ℕ). h ≤ f.1) (λ f l. omega arith) es o.0), o)) ] in
+      | true ↦ λ is. (put-each (λ f. e.1 ≤ f.1) s h es (omega (arith, ltb-true e.1 h is)) o.0, put-in_order s h es o.1)
+      | false ↦ λ is. (let le : h ≤ e.1 = ltb-false e.1 h is in ((le, Each-weaker (λ (f : ℕ × ℕ). e.1 ≤ f.1) (λ (f : ℕ × ℕ). h ≤ f.1) (λ f l. omega arith) es o.0), o))
+    ] in
     cases (ltb e.1 h) refl
 
 chain_from-in_order : (count b at : ℕ) (met : List (ℕ × ℕ)) (hs : List ℕ) → InOrder met → InOrder (chain_from count b at met hs)
@@ -151,7 +155,7 @@ places-complete count b at [] i d l e = absurd (omega arith)
 places-complete count b at (h ∷ hs) zero d l e = rw (eqb-equal (h % count) b e) (0, omega arith, omega arith)
 places-complete count b at (h ∷ hs) (suc i) d l e =
     let rest : Contains (places_from count b (at + 1) hs) (at + suc i) =
-        (let z : at + suc i ≡ (at + 1) + i = omega arith in rw z (places-complete count b (at + 1) hs i d (omega arith) e)) in
+    (let z : at + suc i ≡ (at + 1) + i = omega arith in rw z (places-complete count b (at + 1) hs i d (omega arith) e)) in
     elim (eqb (h % count) b) as (λ t. Contains (cond t (at ∷ places_from count b (at + 1) hs) (places_from count b (at + 1) hs)) (at + suc i)) [ true ↦ Contains-cons at _ _ rest | false ↦ rest ]
 
 pub chain-complete : (count b : ℕ) (hs : List ℕ) (i : ℕ) → i < length hs → get_or hs i 0 % count ≡ b → Contains (symbols_of (chain_from count b 0 [] hs)) i
@@ -164,8 +168,8 @@ pub entry_split : (es : List (ℕ × ℕ)) (s : ℕ) → Contains (symbols_of es
 entry_split [] s h = absurd (omega (arith, h.1))
 entry_split (x ∷ xs) s h =
     let cases : (k : ℕ) → k < length (symbols_of (x ∷ xs)) → get_or (symbols_of (x ∷ xs)) k s ≡ s → (before : List (ℕ × ℕ)) × (e : ℕ × ℕ) × (behind : List (ℕ × ℕ)) × (x ∷ xs ≡ before ++ e ∷ behind) × (e.0 ≡ s) = elim [
-      zero ↦ λ l q. ([], x, xs, refl, q)
-    | suc k ↦ λ l q. (let r = entry_split xs s (k, omega arith, q) in (x ∷ r.0, r.1, r.2, ap (λ ys. x ∷ ys) r.3, r.4))
+      | zero ↦ λ l q. ([], x, xs, refl, q)
+      | suc k ↦ λ l q. (let r = entry_split xs s (k, omega arith, q) in (x ∷ r.0, r.1, r.2, ap (λ ys. x ∷ ys) r.3, r.4))
     ] in
     cases h.0 h.1 h.2
 
@@ -176,18 +180,18 @@ unput s h [] [] behind e a l = ([], sym e, refl)
 unput s h [] (f ∷ fs) behind e a l = (let q : f ≡ (s, h) = cc in let r : f.1 ≡ h = ap (λ (x : ℕ × ℕ). x.1) q in absurd (omega (arith, r, a.0)))
 unput s h (x ∷ xs) [] behind e a l =
     let cases : (t : Bool) → ltb x.1 h ≡ t → cond t (x ∷ put s h xs) ((s, h) ∷ x ∷ xs) ≡ behind → (rest : List (ℕ × ℕ)) × (behind ≡ (s, h) ∷ rest) × (x ∷ xs ≡ rest) = elim [
-      true ↦ λ q e'. (let above : h ≤ x.1 = rw (← e') at l in absurd (omega (arith, above, ltb-true x.1 h q)))
-    | false ↦ λ q e'. (x ∷ xs, sym e', refl)
+      | true ↦ λ q e'. (let above : h ≤ x.1 = rw (← e') at l in absurd (omega (arith, above, ltb-true x.1 h q)))
+      | false ↦ λ q e'. (x ∷ xs, sym e', refl)
     ] in
     cases (ltb x.1 h) refl e
 unput s h (x ∷ xs) (f ∷ fs) behind e a l =
     let cases : (t : Bool) → cond t (x ∷ put s h xs) ((s, h) ∷ x ∷ xs) ≡ f ∷ fs ++ behind → (rest : List (ℕ × ℕ)) × (behind ≡ (s, h) ∷ rest) × (x ∷ xs ≡ f ∷ fs ++ rest) = elim [
-      true ↦ λ e'.
-        (let same : x ≡ f = cc in
-        let tail : put s h xs ≡ fs ++ behind = cc in
-        let r = unput s h xs fs behind tail a.1 l in
-        let q : xs ≡ fs ++ r.0 = r.2 in
-        (r.0, r.1, rw (same, q) refl))
-    | false ↦ λ e'. (let q : f ≡ (s, h) = cc in let r : f.1 ≡ h = ap (λ (y : ℕ × ℕ). y.1) q in absurd (omega (arith, r, a.0)))
+      | true ↦ λ e'.
+          (let same : x ≡ f = cc in
+          let tail : put s h xs ≡ fs ++ behind = cc in
+          let r = unput s h xs fs behind tail a.1 l in
+          let q : xs ≡ fs ++ r.0 = r.2 in
+          (r.0, r.1, rw (same, q) refl))
+      | false ↦ λ e'. (let q : f ≡ (s, h) = cc in let r : f.1 ≡ h = ap (λ (y : ℕ × ℕ). y.1) q in absurd (omega (arith, r, a.0)))
     ] in
     cases (ltb x.1 h) e

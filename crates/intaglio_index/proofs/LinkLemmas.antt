@@ -104,8 +104,8 @@ module _ (heads : List (Option Symbol)) (nodes : List Node) (linked : IsLinked h
       let path = rw (here.3, symbols_split here.0 here.1 here.2) at (linked.paths k) in
       let behind = rw here.4 at (path_behind (next_of nodes) _ (symbols_of here.0) here.1.0 (symbols_of here.2) path) in
       let cases : (es : List (ℕ × ℕ)) → AllByRecursion (IsEntry (length heads) k (hashes_of nodes)) es → IsPath (next_of nodes) (next_of nodes s) (symbols_of es) → t < length nodes = elim [
-        [] ↦ λ a h. cc
-      | e' ∷ es ↦ λ a h. (let q : t ≡ e'.0 = cc in omega (arith, q, a.0.0, length-map nodes (λ (n : Node). n.hash)))
+        | [] ↦ λ a h. cc
+        | e' ∷ es ↦ λ a h. (let q : t ≡ e'.0 = cc in omega (arith, q, a.0.0, length-map nodes (λ (n : Node). n.hash)))
       ] in
       cases here.2 rest behind
 
@@ -113,8 +113,8 @@ module _ (heads : List (Option Symbol)) (nodes : List Node) (linked : IsLinked h
   pub head_within : (b : ℕ) (s : Symbol) → get_or heads b None ≡ Some s → s < length nodes
   head_within b s e =
       let cases : (es : List (ℕ × ℕ)) → AllByRecursion (IsEntry (length heads) b (hashes_of nodes)) es → IsPath (next_of nodes) (get_or heads b None) (symbols_of es) → s < length nodes = elim [
-        [] ↦ λ a h. cc
-      | e' ∷ es ↦ λ a h. (let q : s ≡ e'.0 = cc in omega (arith, q, a.0.0, length-map nodes (λ (n : Node). n.hash)))
+        | [] ↦ λ a h. cc
+        | e' ∷ es ↦ λ a h. (let q : s ≡ e'.0 = cc in omega (arith, q, a.0.0, length-map nodes (λ (n : Node). n.hash)))
       ] in
       cases (bucket b) (bucket-each b) (linked.paths b)
 
@@ -144,14 +144,14 @@ module _ (heads : List (Option Symbol)) (nodes : List Node) (linked : IsLinked h
         let at_n : next_of more (length nodes) ≡ get_or heads k None = ap (λ (n : Node). n.next) (get_or_push nodes node none_node (length nodes) refl) ∙ is in
         let hashes : hashes_of more ≡ hashes_of nodes ++ hash ∷ [] = map-append (λ (n : Node). n.hash) nodes (node ∷ []) in
         let kept : (b : ℕ) → IsPath (next_of more) (get_or heads b None) (symbols_of (bucket b)) =
-            λ b. path_kept (next_of nodes) (next_of more) _ _ (Each-weaker (λ s. s < length nodes) (λ s. next_of more s ≡ next_of nodes s) same _ (below_of_entry b)) (linked.paths b) in
+        λ b. path_kept (next_of nodes) (next_of more) _ _ (Each-weaker (λ s. s < length nodes) (λ s. next_of more s ≡ next_of nodes s) same _ (below_of_entry b)) (linked.paths b) in
         let cases : (b : ℕ) (t : Bool) → eqb k b ≡ t → IsPath (next_of more) (get_or (set heads k (Some symbol)) b None) (symbols_of (cond t (put (length nodes) hash (bucket b)) (bucket b))) = λ b. elim [
-          true ↦ λ e.
-            (let q : k ≡ b = eqb-true k b e in
-            let put_is : put (length nodes) hash (bucket b) ≡ (length nodes, hash) ∷ bucket b = put-between (length nodes) hash [] (bucket b) tt (rw q at begins) in
-            let here : get_or (set heads k (Some symbol)) b None ≡ Some (length nodes) = rw (← q) (get_or-set_same heads k (Some symbol) None l) ∙ symbol_is in
-            rw put_is (here, rw (at_n, q) (kept b)))
-        | false ↦ λ e. (let other : b ≢ k = λ q. eqb-false k b e (sym q) in rw (get_or-set_other heads k b (Some symbol) None other) (kept b))
+          | true ↦ λ e.
+              (let q : k ≡ b = eqb-true k b e in
+              let put_is : put (length nodes) hash (bucket b) ≡ (length nodes, hash) ∷ bucket b = put-between (length nodes) hash [] (bucket b) tt (rw q at begins) in
+              let here : get_or (set heads k (Some symbol)) b None ≡ Some (length nodes) = rw (← q) (get_or-set_same heads k (Some symbol) None l) ∙ symbol_is in
+              rw put_is (here, rw (at_n, q) (kept b)))
+          | false ↦ λ e. (let other : b ≢ k = λ q. eqb-false k b e (sym q) in rw (get_or-set_other heads k b (Some symbol) None other) (kept b))
         ] in
         record {
           paths = λ b. (let size : length (set heads k (Some symbol)) ≡ length heads = length-set heads k (Some symbol) in rw (size, hashes, bucket-push hash b) (cases b (eqb k b) refl));
@@ -173,34 +173,34 @@ module _ (heads : List (Option Symbol)) (nodes : List Node) (linked : IsLinked h
         let at_p : next_of all p ≡ Some (length nodes) = ap (λ (n : Node). n.next) (get_or-set_same more p changed none_node lm) ∙ symbol_is in
         let apart : length nodes ≢ p = omega arith in
         let at_n : next_of all (length nodes) ≡ next_of nodes p =
-            ap (λ (n : Node). n.next) (get_or-set_other more p (length nodes) changed none_node apart ∙ get_or_push nodes node none_node (length nodes) refl) ∙ ap (λ (n : Node). n.next) is in
+        ap (λ (n : Node). n.next) (get_or-set_other more p (length nodes) changed none_node apart ∙ get_or_push nodes node none_node (length nodes) refl) ∙ ap (λ (n : Node). n.next) is in
         let same : (s : ℕ) → (s < length nodes) × (s ≢ p) → next_of all s ≡ next_of nodes s = λ s h.
-            ap (λ (n : Node). n.next) (get_or-set_other more p s changed none_node h.1 ∙ get_or_append_left nodes (node ∷ []) none_node s h.0) in
+        ap (λ (n : Node). n.next) (get_or-set_other more p s changed none_node h.1 ∙ get_or_append_left nodes (node ∷ []) none_node s h.0) in
         let hash_p : old.hash ≡ get_or (hashes_of more) p 0 =
-            ap (λ (n : Node). n.hash) is ∙ sym (ap (λ (n : Node). n.hash) (get_or_append_left nodes (node ∷ []) none_node p l)) ∙ sym (get_or-map (λ (n : Node). n.hash) more p none_node 0 lm) in
+        ap (λ (n : Node). n.hash) is ∙ sym (ap (λ (n : Node). n.hash) (get_or_append_left nodes (node ∷ []) none_node p l)) ∙ sym (get_or-map (λ (n : Node). n.hash) more p none_node 0 lm) in
         let hashes : hashes_of all ≡ hashes_of nodes ++ hash ∷ [] =
-            map-set (λ (n : Node). n.hash) more p changed ∙ ap (λ h. set (hashes_of more) p h) hash_p ∙ set-get_or (hashes_of more) p 0 ∙ map-append (λ (n : Node). n.hash) nodes (node ∷ []) in
+        map-set (λ (n : Node). n.hash) more p changed ∙ ap (λ h. set (hashes_of more) p h) hash_p ∙ set-get_or (hashes_of more) p 0 ∙ map-append (λ (n : Node). n.hash) nodes (node ∷ []) in
         let cases : (b : ℕ) (t : Bool) → eqb k b ≡ t → IsPath (next_of all) (get_or heads b None) (symbols_of (cond t (put (length nodes) hash (bucket b)) (bucket b))) = λ b. elim [
-          true ↦ λ e.
-            (let q : k ≡ b = eqb-true k b e in
-            let split : bucket b ≡ pred.front ++ (p, pred.hash) ∷ pred.behind = rw (← q) pred.split in
-            let joined : bucket b ≡ (pred.front ++ (p, pred.hash) ∷ []) ++ pred.behind = split ∙ sym (append_assoc pred.front ((p, pred.hash) ∷ []) pred.behind) in
-            let put_is : put (length nodes) hash (bucket b) ≡ pred.front ++ (p, pred.hash) ∷ (length nodes, hash) ∷ pred.behind =
-                rw joined (put-between (length nodes) hash (pred.front ++ (p, pred.hash) ∷ []) pred.behind pred.smaller pred.others ∙ append_assoc pred.front ((p, pred.hash) ∷ []) ((length nodes, hash) ∷ pred.behind)) in
-            let symbols = symbols_split pred.front (p, pred.hash) pred.behind in
-            let path = rw (split, symbols) at (linked.paths b) in
-            let below = rw (split, symbols) at (below_of_entry b) in
-            let beside = distinct_beside (symbols_of pred.front) p (symbols_of pred.behind) (rw (split, symbols) at (chain-distinct (length heads) b (hashes_of nodes))) in
-            let front = Each-weaker _ (λ s. next_of all s ≡ next_of nodes s) same _ (both (λ s. s < length nodes) (λ s. s ≢ p) _ (Each-left (λ s. s < length nodes) (symbols_of pred.front) (p ∷ symbols_of pred.behind) below) beside.0) in
-            let behind = Each-weaker _ (λ s. next_of all s ≡ next_of nodes s) same _ (both (λ s. s < length nodes) (λ s. s ≢ p) _ (Each-right (λ s. s < length nodes) (symbols_of pred.front) (p ∷ symbols_of pred.behind) below).1 beside.1) in
-            rw (put_is, symbols_split pred.front (p, pred.hash) ((length nodes, hash) ∷ pred.behind))
-            (path_put (next_of nodes) (next_of all) (length nodes) (get_or heads b None) (symbols_of pred.front) p (symbols_of pred.behind) front behind at_p at_n path))
-        | false ↦ λ e.
-            (let entry = (Each-right (IsEntry (length heads) k (hashes_of nodes)) pred.front ((p, pred.hash) ∷ pred.behind) (rw pred.split at (bucket-each k))).0 in
-            let differ : AllByRecursion (λ s. s ≢ p) (symbols_of (bucket b)) =
-                each_symbol (λ s. s ≢ p) (bucket b) (Each-weaker (IsEntry (length heads) b (hashes_of nodes)) (λ (x : ℕ × ℕ). x.0 ≢ p)
-                  (λ x h q. eqb-false k b e (sym entry.2 ∙ ap (λ v. v % length heads) (sym (entry.1 0) ∙ ap (λ s. get_or (hashes_of nodes) s 0) (sym q) ∙ h.1 0) ∙ h.2)) _ (bucket-each b)) in
-            path_kept (next_of nodes) (next_of all) _ _ (Each-weaker _ (λ s. next_of all s ≡ next_of nodes s) same _ (both (λ s. s < length nodes) (λ s. s ≢ p) _ (below_of_entry b) differ)) (linked.paths b))
+          | true ↦ λ e.
+              (let q : k ≡ b = eqb-true k b e in
+              let split : bucket b ≡ pred.front ++ (p, pred.hash) ∷ pred.behind = rw (← q) pred.split in
+              let joined : bucket b ≡ (pred.front ++ (p, pred.hash) ∷ []) ++ pred.behind = split ∙ sym (append_assoc pred.front ((p, pred.hash) ∷ []) pred.behind) in
+              let put_is : put (length nodes) hash (bucket b) ≡ pred.front ++ (p, pred.hash) ∷ (length nodes, hash) ∷ pred.behind =
+              rw joined (put-between (length nodes) hash (pred.front ++ (p, pred.hash) ∷ []) pred.behind pred.smaller pred.others ∙ append_assoc pred.front ((p, pred.hash) ∷ []) ((length nodes, hash) ∷ pred.behind)) in
+              let symbols = symbols_split pred.front (p, pred.hash) pred.behind in
+              let path = rw (split, symbols) at (linked.paths b) in
+              let below = rw (split, symbols) at (below_of_entry b) in
+              let beside = distinct_beside (symbols_of pred.front) p (symbols_of pred.behind) (rw (split, symbols) at (chain-distinct (length heads) b (hashes_of nodes))) in
+              let front = Each-weaker _ (λ s. next_of all s ≡ next_of nodes s) same _ (both (λ s. s < length nodes) (λ s. s ≢ p) _ (Each-left (λ s. s < length nodes) (symbols_of pred.front) (p ∷ symbols_of pred.behind) below) beside.0) in
+              let behind = Each-weaker _ (λ s. next_of all s ≡ next_of nodes s) same _ (both (λ s. s < length nodes) (λ s. s ≢ p) _ (Each-right (λ s. s < length nodes) (symbols_of pred.front) (p ∷ symbols_of pred.behind) below).1 beside.1) in
+              rw (put_is, symbols_split pred.front (p, pred.hash) ((length nodes, hash) ∷ pred.behind))
+              (path_put (next_of nodes) (next_of all) (length nodes) (get_or heads b None) (symbols_of pred.front) p (symbols_of pred.behind) front behind at_p at_n path))
+          | false ↦ λ e.
+              (let entry = (Each-right (IsEntry (length heads) k (hashes_of nodes)) pred.front ((p, pred.hash) ∷ pred.behind) (rw pred.split at (bucket-each k))).0 in
+              let differ : AllByRecursion (λ s. s ≢ p) (symbols_of (bucket b)) =
+              each_symbol (λ s. s ≢ p) (bucket b) (Each-weaker (IsEntry (length heads) b (hashes_of nodes)) (λ (x : ℕ × ℕ). x.0 ≢ p)
+              (λ x h q. eqb-false k b e (sym entry.2 ∙ ap (λ v. v % length heads) (sym (entry.1 0) ∙ ap (λ s. get_or (hashes_of nodes) s 0) (sym q) ∙ h.1 0) ∙ h.2)) _ (bucket-each b)) in
+              path_kept (next_of nodes) (next_of all) _ _ (Each-weaker _ (λ s. next_of all s ≡ next_of nodes s) same _ (both (λ s. s < length nodes) (λ s. s ≢ p) _ (below_of_entry b) differ)) (linked.paths b))
         ] in
         record {
           paths = λ b. rw (hashes, bucket-push hash b) (cases b (eqb k b) refl);
@@ -274,17 +274,17 @@ module _ (heads : List (Option Symbol)) (init : List Node) (node : Node) (linked
   unplace_first l begins =
       let k : ℕ = node.hash % length heads in
       let cases : (b : ℕ) (t : Bool) → eqb k b ≡ t → all_of b ≡ cond t (put (length init) node.hash (bucket_of b)) (bucket_of b) → IsPath (next_of init) (get_or (set heads k node.next) b None) (symbols_of (bucket_of b)) = λ b. elim [
-        true ↦ λ e is.
-          (let q : k ≡ b = eqb-true k b e in
-          let r = unput (length init) node.hash (bucket_of b) [] (all_of b) (sym is) tt (rw q at begins) in
-          let path = rw r.1 at (linked.paths b) in
-          let tail = rw last_is at path.1 in
-          let rest : IsPath (next_of whole) node.next (symbols_of (bucket_of b)) = rw r.2 tail in
-          let here : get_or (set heads k node.next) b None ≡ node.next = rw (← q) (get_or-set_same heads k node.next None l) in
-          rw here (init-kept b node.next rest))
-      | false ↦ λ e is.
-          (let other : b ≢ k = λ q. eqb-false k b e (sym q) in
-          rw (get_or-set_other heads k b node.next None other) (init-kept b (get_or heads b None) (rw is at (linked.paths b))))
+        | true ↦ λ e is.
+            (let q : k ≡ b = eqb-true k b e in
+            let r = unput (length init) node.hash (bucket_of b) [] (all_of b) (sym is) tt (rw q at begins) in
+            let path = rw r.1 at (linked.paths b) in
+            let tail = rw last_is at path.1 in
+            let rest : IsPath (next_of whole) node.next (symbols_of (bucket_of b)) = rw r.2 tail in
+            let here : get_or (set heads k node.next) b None ≡ node.next = rw (← q) (get_or-set_same heads k node.next None l) in
+            rw here (init-kept b node.next rest))
+        | false ↦ λ e is.
+            (let other : b ≢ k = λ q. eqb-false k b e (sym q) in
+            rw (get_or-set_other heads k b node.next None other) (init-kept b (get_or heads b None) (rw is at (linked.paths b))))
       ] in
       record {
         paths = λ b. (let size : length (set heads k node.next) ≡ length heads = length-set heads k node.next in rw size (cases b (eqb k b) refl (all_is b)));
@@ -300,33 +300,33 @@ module _ (heads : List (Option Symbol)) (init : List Node) (node : Node) (linked
       let left : List Node = set init p changed in
       let at_p : next_of left p ≡ next_of whole (length init) = ap (λ (n : Node). n.next) (get_or-set_same init p changed none_node l) ∙ sym last_is in
       let same : (s : ℕ) → (s < length init) × (s ≢ p) → next_of left s ≡ next_of whole s = λ s h.
-          ap (λ (n : Node). n.next) (get_or-set_other init p s changed none_node h.1) ∙ same_below s h.0 in
+      ap (λ (n : Node). n.next) (get_or-set_other init p s changed none_node h.1) ∙ same_below s h.0 in
       let hash_p : (node_at init p).hash ≡ get_or (hashes_of init) p 0 = sym (get_or-map (λ (n : Node). n.hash) init p none_node 0 l) in
       let hashes : hashes_of left ≡ hashes_of init =
-          map-set (λ (n : Node). n.hash) init p changed ∙ ap (λ h. set (hashes_of init) p h) hash_p ∙ set-get_or (hashes_of init) p 0 in
+      map-set (λ (n : Node). n.hash) init p changed ∙ ap (λ h. set (hashes_of init) p h) hash_p ∙ set-get_or (hashes_of init) p 0 in
       let cases : (b : ℕ) (t : Bool) → eqb k b ≡ t → all_of b ≡ cond t (put (length init) node.hash (bucket_of b)) (bucket_of b) → IsPath (next_of left) (get_or heads b None) (symbols_of (bucket_of b)) = λ b. elim [
-        true ↦ λ e is.
-          (let q : k ≡ b = eqb-true k b e in
-          let split : all_of b ≡ pred.front ++ (p, pred.hash) ∷ pred.behind = rw (← q) pred.split in
-          let joined : all_of b ≡ (pred.front ++ (p, pred.hash) ∷ []) ++ pred.behind = split ∙ sym (append_assoc pred.front ((p, pred.hash) ∷ []) pred.behind) in
-          let r = unput (length init) node.hash (bucket_of b) (pred.front ++ (p, pred.hash) ∷ []) pred.behind (sym is ∙ joined) pred.smaller pred.others in
-          let kept : bucket_of b ≡ pred.front ++ (p, pred.hash) ∷ r.0 = r.2 ∙ append_assoc pred.front ((p, pred.hash) ∷ []) r.0 in
-          let full : symbols_of (all_of b) ≡ symbols_of pred.front ++ p ∷ length init ∷ symbols_of r.0 =
-              ap symbols_of (split ∙ ap (λ x. pred.front ++ (p, pred.hash) ∷ x) r.1) ∙ symbols_split pred.front (p, pred.hash) ((length init, node.hash) ∷ r.0) in
-          let some : symbols_of (bucket_of b) ≡ symbols_of pred.front ++ p ∷ symbols_of r.0 = ap symbols_of kept ∙ symbols_split pred.front (p, pred.hash) r.0 in
-          let below = rw some at (init-below b) in
-          let beside = distinct_beside (symbols_of pred.front) p (symbols_of r.0) (rw some at (chain-distinct (length heads) b (hashes_of init))) in
-          let front = Each-weaker _ (λ s. next_of left s ≡ next_of whole s) same _ (both (λ s. s < length init) (λ s. s ≢ p) _ (Each-left (λ s. s < length init) (symbols_of pred.front) (p ∷ symbols_of r.0) below) beside.0) in
-          let behind = Each-weaker _ (λ s. next_of left s ≡ next_of whole s) same _ (both (λ s. s < length init) (λ s. s ≢ p) _ (Each-right (λ s. s < length init) (symbols_of pred.front) (p ∷ symbols_of r.0) below).1 beside.1) in
-          let path = rw full at (linked.paths b) in
-          rw some (path_cut (next_of whole) (next_of left) (get_or heads b None) (symbols_of pred.front) p (length init) (symbols_of r.0) front behind at_p path))
-      | false ↦ λ e is.
-          (let entry = (Each-right (IsEntry (length heads) k (hashes_of whole)) pred.front ((p, pred.hash) ∷ pred.behind) (rw pred.split at (chain-each (length heads) k (hashes_of whole)))).0 in
-          let differ : AllByRecursion (λ s. s ≢ p) (symbols_of (bucket_of b)) =
-              each_symbol (λ s. s ≢ p) (bucket_of b) (Each-weaker (IsEntry (length heads) b (hashes_of whole)) (λ (x : ℕ × ℕ). x.0 ≢ p)
-                (λ x h q. eqb-false k b e (sym entry.2 ∙ ap (λ v. v % length heads) (sym (entry.1 0) ∙ ap (λ s. get_or (hashes_of whole) s 0) (sym q) ∙ h.1 0) ∙ h.2)) _ (rw is at (chain-each (length heads) b (hashes_of whole)))) in
-          let path = rw is at (linked.paths b) in
-          path_kept (next_of whole) (next_of left) _ _ (Each-weaker _ (λ s. next_of left s ≡ next_of whole s) same _ (both (λ s. s < length init) (λ s. s ≢ p) _ (init-below b) differ)) path)
+        | true ↦ λ e is.
+            (let q : k ≡ b = eqb-true k b e in
+            let split : all_of b ≡ pred.front ++ (p, pred.hash) ∷ pred.behind = rw (← q) pred.split in
+            let joined : all_of b ≡ (pred.front ++ (p, pred.hash) ∷ []) ++ pred.behind = split ∙ sym (append_assoc pred.front ((p, pred.hash) ∷ []) pred.behind) in
+            let r = unput (length init) node.hash (bucket_of b) (pred.front ++ (p, pred.hash) ∷ []) pred.behind (sym is ∙ joined) pred.smaller pred.others in
+            let kept : bucket_of b ≡ pred.front ++ (p, pred.hash) ∷ r.0 = r.2 ∙ append_assoc pred.front ((p, pred.hash) ∷ []) r.0 in
+            let full : symbols_of (all_of b) ≡ symbols_of pred.front ++ p ∷ length init ∷ symbols_of r.0 =
+            ap symbols_of (split ∙ ap (λ x. pred.front ++ (p, pred.hash) ∷ x) r.1) ∙ symbols_split pred.front (p, pred.hash) ((length init, node.hash) ∷ r.0) in
+            let some : symbols_of (bucket_of b) ≡ symbols_of pred.front ++ p ∷ symbols_of r.0 = ap symbols_of kept ∙ symbols_split pred.front (p, pred.hash) r.0 in
+            let below = rw some at (init-below b) in
+            let beside = distinct_beside (symbols_of pred.front) p (symbols_of r.0) (rw some at (chain-distinct (length heads) b (hashes_of init))) in
+            let front = Each-weaker _ (λ s. next_of left s ≡ next_of whole s) same _ (both (λ s. s < length init) (λ s. s ≢ p) _ (Each-left (λ s. s < length init) (symbols_of pred.front) (p ∷ symbols_of r.0) below) beside.0) in
+            let behind = Each-weaker _ (λ s. next_of left s ≡ next_of whole s) same _ (both (λ s. s < length init) (λ s. s ≢ p) _ (Each-right (λ s. s < length init) (symbols_of pred.front) (p ∷ symbols_of r.0) below).1 beside.1) in
+            let path = rw full at (linked.paths b) in
+            rw some (path_cut (next_of whole) (next_of left) (get_or heads b None) (symbols_of pred.front) p (length init) (symbols_of r.0) front behind at_p path))
+        | false ↦ λ e is.
+            (let entry = (Each-right (IsEntry (length heads) k (hashes_of whole)) pred.front ((p, pred.hash) ∷ pred.behind) (rw pred.split at (chain-each (length heads) k (hashes_of whole)))).0 in
+            let differ : AllByRecursion (λ s. s ≢ p) (symbols_of (bucket_of b)) =
+            each_symbol (λ s. s ≢ p) (bucket_of b) (Each-weaker (IsEntry (length heads) b (hashes_of whole)) (λ (x : ℕ × ℕ). x.0 ≢ p)
+            (λ x h q. eqb-false k b e (sym entry.2 ∙ ap (λ v. v % length heads) (sym (entry.1 0) ∙ ap (λ s. get_or (hashes_of whole) s 0) (sym q) ∙ h.1 0) ∙ h.2)) _ (rw is at (chain-each (length heads) b (hashes_of whole)))) in
+            let path = rw is at (linked.paths b) in
+            path_kept (next_of whole) (next_of left) _ _ (Each-weaker _ (λ s. next_of left s ≡ next_of whole s) same _ (both (λ s. s < length init) (λ s. s ≢ p) _ (init-below b) differ)) path)
       ] in
       record {
         paths = λ b. rw hashes (cases b (eqb k b) refl (all_is b));
@@ -358,8 +358,8 @@ module _ (heads : List (Option Symbol)) (nodes : List Node) (linked : IsLinked h
       let smaller = (Each-right (λ (e : ℕ × ℕ). e.1 < node.hash) pred.front ((p, pred.hash) ∷ []) pred.smaller).0 in
       let li : i < length nodes = omega arith in
       elim (eqb_tells p i) [
-        inl q ↦ (let h : pred.hash ≡ node.hash = sym (entry.1 0) ∙ ap (λ s. get_or (hashes_of nodes) s 0) q.1 ∙ get_or-map (λ (n : Node). n.hash) nodes i node 0 li ∙ ap (λ (n : Node). n.hash) (sym read) in absurd (omega (arith, h, smaller)))
-      | inr n ↦ omega arith
+        | inl q ↦ (let h : pred.hash ≡ node.hash = sym (entry.1 0) ∙ ap (λ s. get_or (hashes_of nodes) s 0) q.1 ∙ get_or-map (λ (n : Node). n.hash) nodes i node 0 li ∙ ap (λ (n : Node). n.hash) (sym read) in absurd (omega (arith, h, smaller)))
+        | inr n ↦ omega arith
       ]
 
   pub cut_behind : (p : ℕ) → IsPredecessor node.hash (chain_from (length heads) (node.hash % length heads) 0 [] (hashes_of nodes)) p →

@@ -49,11 +49,13 @@ impl Index {
         self.heads.len()
     }
 
-    /// How many symbols can be placed in all: the lesser of the number of buckets and the capacity for links.
+    /// How many symbols can be placed in all: the lesser of the number of buckets and the capacity of their links.
     pub fn room(&self) -> usize
-        ensures { result ≡ self.now.room }
+        ensures room { result ≡ self.now.room }
+        ensures placed { length self.now.hashes ≤ result }
+        ensures fits { result ≤ self.now.count }
     {
-        self.heads.len().min(self.nodes.capacity())
+        self.nodes.capacity().min(self.heads.len())
     }
 
     fn placed(&self) -> usize

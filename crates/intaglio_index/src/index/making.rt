@@ -38,18 +38,17 @@ impl Index {
         ensures err { OnErr result (self.new.count ≡ self.old.count) }
         ensures kept { count ≤ self.old.count → self.new.count ≡ self.old.count }
         ensures none_needed { count ≤ self.old.room → IsOk result }
+        ensures unchanged { count ≤ self.old.room → self.new ≡ self.old }
         ensures quiet { OnErr result (work.new.marks ≡ work.old.marks) }
         ensures stays { count ≤ self.old.count → work.new.marks ≡ work.old.marks }
         ensures places { OnOk result (self.old.count < count → work.new.marks ≡ work.old.marks ++ replicate (length self.old.hashes) placed) }
     {
-        let placed = self.nodes.len();
-        if count <= self.heads.len() {
-            if placed < count {
-                self.nodes.reserve(count - placed)?;
-            }
-            return Ok(());
+        if count > self.heads.len() {
+            return self.remake(count, work);
         }
-        *self = self.rebuilt(count, work)?;
+        if count > self.nodes.capacity() {
+            self.nodes.reserve(count - self.nodes.len())?;
+        }
         Ok(())
     }
 

@@ -25,7 +25,7 @@ impl Index {
         ensures none { self.now.count ≡ 0 → result ≡ None }
         ensures marks { work.new.marks ≡ work.old.marks ++ step ∷ [] }
     {
-        work.step();
+        work.step(); // in an empty bucket too
         self.front(hash)
     }
 
@@ -35,7 +35,7 @@ impl Index {
         ensures next { (b hash : ℕ) (before behind : List (ℕ × ℕ)) → chain self.now b ≡ before ++ (symbol, hash) ∷ behind → result ≡ head_of behind }
         ensures marks { work.new.marks ≡ work.old.marks ++ step ∷ [] }
     {
-        work.step();
+        work.step(); // at the bucket's end too
         self.behind(symbol)
     }
 

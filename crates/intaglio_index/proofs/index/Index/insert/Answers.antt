@@ -44,7 +44,7 @@ invariant_of-self-in-Some c =
     let first : c.index.result.now ≡ node_at c.self.inside.nodes.items c.in-Some.last = get_or_read _ _ _ l (rw c.id-at.ensures at c.index.ensures) (record { hash = 0; next = None }) in
     let lm : c.in-Some.last < length (c.self.inside.nodes.items ++ record { hash = c.args.hash; next = c.index.result.now.next } ∷ []) = omega (arith, l, length-append c.self.inside.nodes.items (record { hash = c.args.hash; next = c.index.result.now.next } ∷ [])) in
     let second : c.index_mut-node.result.now ≡ node_at c.self.inside.nodes.items c.in-Some.last =
-        get_or_read _ _ _ lm (rw (c.id-at.ensures, items) at c.index_mut-node.ensures.value) (record { hash = 0; next = None }) ∙ get_or_append_left c.self.inside.nodes.items _ (record { hash = 0; next = None }) c.in-Some.last l in
+    get_or_read _ _ _ lm (rw (c.id-at.ensures, items) at c.index_mut-node.ensures.value) (record { hash = 0; next = None }) ∙ get_or_append_left c.self.inside.nodes.items _ (record { hash = 0; next = None }) c.in-Some.last l in
     let small : c.args.symbol < 2 ^ 32 = omega (arith, c.id-number.ensures, c.id-number.type_inv) in
     let room = rw (← c.self.view_is) at c.requires.room in
     let free : c.args.symbol < length c.self.inside.heads.items = omega (arith, room, c.self.inside.heads.ok.0) in
@@ -62,6 +62,6 @@ returns-in-Some-clause-hashes c =
     let first : c.index.result.now ≡ node_at c.self.inside.nodes.items c.in-Some.last = get_or_read _ _ _ l (rw c.id-at.ensures at c.index.ensures) (record { hash = 0; next = None }) in
     let lm : c.in-Some.last < length (c.self.inside.nodes.items ++ record { hash = c.args.hash; next = c.index.result.now.next } ∷ []) = omega (arith, l, length-append c.self.inside.nodes.items (record { hash = c.args.hash; next = c.index.result.now.next } ∷ [])) in
     let second : c.index_mut-node.result.now ≡ node_at c.self.inside.nodes.items c.in-Some.last =
-        get_or_read _ _ _ lm (rw (c.id-at.ensures, items) at c.index_mut-node.ensures.value) (record { hash = 0; next = None }) ∙ get_or_append_left c.self.inside.nodes.items _ (record { hash = 0; next = None }) c.in-Some.last l in
+    get_or_read _ _ _ lm (rw (c.id-at.ensures, items) at c.index_mut-node.ensures.value) (record { hash = 0; next = None }) ∙ get_or_append_left c.self.inside.nodes.items _ (record { hash = 0; next = None }) c.in-Some.last l in
     let kept = hashes_kept c.self.inside.nodes.items (record { hash = c.args.hash; next = c.index.result.now.next }) c.index.result.now c.in-Some.last (Some c.args.symbol) l (rw c.id-at.ensures at c.index.ensures) in
     rw (← c.self.view_is, items, c.id-at.ensures, second ∙ sym first) kept
