@@ -61,7 +61,7 @@ impl fmt::Display for InternError {
 
     fn fmt<W: fmt::Write>(&self, f: &mut fmt::Formatter<W>) -> fmt::Result {
         match self {
-            InternError::Overflow(full) => write!(f, "{full}"),
+            InternError::Overflow(overflow) => write!(f, "{overflow}"),
             InternError::Memory(_) => write!(f, "out of memory"),
         }
     }
