@@ -166,7 +166,7 @@ fn contents_keep_their_text_and_are_found_by_components(rt: HostRuntime) -> Resu
     let owned = PathContent::from("a/./b".to_string(rt.alloc())?);
     assert_eq!(&rt; borrowed.form().as_str(), "a//b");
     assert_eq!(&rt; owned.form().as_str(), "a/./b");
-    assert!(&rt; *owned.spelling() == *b"a/./b");
+    assert!(&rt; owned.spelling() == b"a/./b".as_slice());
     assert!(&rt; finds(&owned, &borrowed) && finds(&Path::new("a/b/"), &owned));
     assert!(&rt; !finds(&PathContent::from("./a/b"), &owned) && !finds(&Path::new("a"), &borrowed));
     Ok(())
@@ -176,7 +176,9 @@ fn contents_keep_their_text_and_are_found_by_components(rt: HostRuntime) -> Resu
 fn a_clone_goes_on_from_where_it_was_made(rt: HostRuntime) -> Result<(), Fail> {
     let mut rest = Path::new("/a").components();
     assert_eq!(&rt; rest.next(), Some(Component::RootDir));
-    assert_eq!(&rt; rest.clone()?.count(), 1);
+    let mut copy = rest.clone()?;
+    assert_eq!(&rt; copy.next(), Some(Component::Normal("a")));
+    assert_eq!(&rt; copy.next(), None);
     assert_eq!(&rt; rest.next(), Some(Component::Normal("a")));
     Ok(())
 }
