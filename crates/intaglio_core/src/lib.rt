@@ -11,8 +11,9 @@ pub mod table_core;
 mod walk;
 
 pub use interner::Interner;
-pub use intaglio_content as content;
-pub use intaglio_content::{Content, Formed, Keyed, Sought, Spelled, Work};
+pub use intaglio_content::{
+    BytesContent, Content, Formed, Forms, Keyed, Pairs, Sought, Spelled, StrContent, Work,
+};
 pub use intaglio_index::Index;
 pub use intaglio_symbol::{
     AllSymbols, DEFAULT_SYMBOL_TABLE_CAPACITY, InternError, Mark, RoomError, StaleMark, Symbol,

@@ -8,6 +8,7 @@ ghost use Rattle.intaglio_core.specs.Change.{Interns, Takes};
 ghost use Rattle.intaglio_core.specs.Cost.{Adds, SearchCost, InternCost};
 ghost use Rattle.intaglio_core.specs.Indexed.{AddCost};
 
+mod lending;
 mod make;
 mod room;
 
