@@ -21,3 +21,6 @@ pub use intaglio_symbol::{
 };
 pub use run::{Call, Reply};
 pub use table_core::Core;
+
+#[cfg(test)]
+mod tests;

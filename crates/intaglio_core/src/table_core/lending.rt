@@ -43,7 +43,8 @@ impl<'a, C: Formed<'a>, S: BuildHasher> Core<C, S> {
 
     /// The forms of all contents, in the order of their symbols.
     pub fn forms(&'a self) -> Forms<'a, C>
-        ensures { result ≡ map C.spelling self.now.state.contents }
+        ensures all { result ≡ map C.spelling self.now.state.contents }
+        ensures bound { length result ≤ 2 ^ 32 }
     {
         Forms::of(self.contents())
     }
