@@ -1,0 +1,17 @@
+//! Symbol tables: each distinct string gets a small stable number, and the number gives the string back.
+//!
+//! [`SymbolTable`] interns texts; the modules [`bytes`], [`bstr`], [`cstr`], [`osstr`] and [`path`] have a table each for
+//! byte strings, C strings, platform strings and paths. All are proved to mean a plain list of distinct contents, whose
+//! symbols are their places.
+#![tactic(auto)]
+
+pub mod laws;
+
+pub use intaglio_core::run;
+pub use intaglio_core::{
+    AllSymbols, Call, Content, Core, DEFAULT_SYMBOL_TABLE_CAPACITY, Formed, Forms, Index,
+    InternError, Interner, Keyed, Mark, Pairs, Reply, RoomError, Sought, Spelled, StaleMark,
+    StrContent, Symbol, SymbolOverflowError, Work,
+};
+pub use intaglio_text::osstr;
+pub use intaglio_text::{Iter, Strings, SymbolTable};
