@@ -19,6 +19,16 @@ pub(crate) struct Node {
 /// Symbols in buckets, by the hashes of their contents.
 ///
 /// A bucket takes 8 bytes and a placed symbol 16. No number of a symbol stands for "none": all 2^32 symbols can be placed.
+///
+/// ```
+/// let mut work = Work::new();
+/// let mut index = Index::with_buckets(alloc, 4)?;
+/// index.place(6, Symbol::new(0), &mut work);
+/// index.place(2, Symbol::new(1), &mut work);
+/// // Both are in bucket 2, as a symbol of hash 10 would be. The smaller hash comes first.
+/// assert_eq!(index.first(10, &mut work), Some((Symbol::new(1), 2)));
+/// assert_eq!(index.after(Symbol::new(1), &mut work), Some((Symbol::new(0), 6)));
+/// ```
 #[derive(Drop)]
 pub struct Index {
     heads: Vec<Option<Symbol>>,
@@ -36,7 +46,11 @@ impl Model for Index {
 
     ghost use Rattle.intaglio_index.specs.Links.{IsLinked, hashes_of};
 
-    ghost view = { λ index. record { count = length index.heads.items; hashes = hashes_of index.nodes.items; room = min (vec_len index.heads) (vec_capacity index.nodes) } };
+    ghost view = { λ index. record {
+      count = length index.heads.items;
+      hashes = hashes_of index.nodes.items;
+      room = min (vec_len index.heads) (vec_capacity index.nodes);
+    } };
 
     ghost invariant = { λ index. IsLinked index.heads.items index.nodes.items };
 }

@@ -26,7 +26,8 @@ impl Index {
 
     /// Finds room for `count` symbols, and at least as many buckets. What was placed stays placed.
     ///
-    /// New buckets are made only where there are fewer than `count`. Then all symbols are placed again, by their kept hashes.
+    /// New buckets are made only where there are fewer than `count`. Then all symbols are placed again, by their kept
+    /// hashes: a placement each.
     ///
     /// Errors where a request for memory is refused: then the buckets and the symbols in them are as before.
     pub fn reserve(&mut self, count: usize, work: &mut Work) -> Result<(), AllocError>
@@ -41,7 +42,8 @@ impl Index {
         ensures unchanged { count ≤ self.old.room → self.new ≡ self.old }
         ensures quiet { OnErr result (work.new.marks ≡ work.old.marks) }
         ensures stays { count ≤ self.old.count → work.new.marks ≡ work.old.marks }
-        ensures places { OnOk result (self.old.count < count → work.new.marks ≡ work.old.marks ++ replicate (length self.old.hashes) placed) }
+        ensures places { OnOk result (self.old.count < count →
+            work.new.marks ≡ work.old.marks ++ replicate (length self.old.hashes) placed) }
     {
         if count > self.heads.len() {
             return self.remake(count, work);
@@ -52,7 +54,8 @@ impl Index {
         Ok(())
     }
 
-    /// Makes exactly `count` buckets, with room for as many symbols. All symbols are placed again, by their kept hashes.
+    /// Makes exactly `count` buckets, with room for as many symbols. All symbols are placed again, by their kept hashes: a
+    /// placement each.
     ///
     /// Errors where a request for memory is refused: then the index is as before.
     pub fn remake(&mut self, count: usize, work: &mut Work) -> Result<(), AllocError>

@@ -18,9 +18,11 @@ impl Index {
     /// Where there are no buckets this is `None`.
     pub fn first(&self, hash: u64, work: &mut Work) -> Option<(Symbol, u64)>
         // The bucket has the symbols whose hashes fall in it, each once.
-        ensures members { IsPermutation (members self.now (hash % self.now.count)) (symbols_of (chain self.now (hash % self.now.count))) }
+        ensures members { IsPermutation (members self.now (hash % self.now.count))
+            (symbols_of (chain self.now (hash % self.now.count))) }
         ensures sorted { AreSorted (chain self.now (hash % self.now.count)) }
-        ensures hashes { AllByRecursion (IsEntry self.now.count (hash % self.now.count) self.now.hashes) (chain self.now (hash % self.now.count)) }
+        ensures hashes { AllByRecursion (IsEntry self.now.count (hash % self.now.count) self.now.hashes)
+            (chain self.now (hash % self.now.count)) }
         ensures first { result ≡ head_of (chain self.now (hash % self.now.count)) }
         ensures none { self.now.count ≡ 0 → result ≡ None }
         ensures marks { work.new.marks ≡ work.old.marks ++ step ∷ [] }
@@ -29,10 +31,11 @@ impl Index {
         self.front(hash)
     }
 
-    /// The symbol behind a placed one in its bucket, with its hash. One step.
+    /// The symbol behind a placed one in its bucket, with its hash; `None` behind the last one. One step.
     pub fn after(&self, symbol: Symbol, work: &mut Work) -> Option<(Symbol, u64)>
         requires { symbol < length self.now.hashes }
-        ensures next { (b hash : ℕ) (before behind : List (ℕ × ℕ)) → chain self.now b ≡ before ++ (symbol, hash) ∷ behind → result ≡ head_of behind }
+        ensures next { (b hash : ℕ) (before behind : List (ℕ × ℕ)) →
+            chain self.now b ≡ before ++ (symbol, hash) ∷ behind → result ≡ head_of behind }
         ensures marks { work.new.marks ≡ work.old.marks ++ step ∷ [] }
     {
         work.step(); // at the bucket's end too
@@ -52,14 +55,16 @@ impl Index {
 
     fn behind(&self, symbol: Symbol) -> Option<(Symbol, u64)>
         requires { symbol < length self.now.hashes }
-        ensures next { (b hash : ℕ) (before behind : List (ℕ × ℕ)) → chain self.now b ≡ before ++ (symbol, hash) ∷ behind → result ≡ head_of behind }
+        ensures next { (b hash : ℕ) (before behind : List (ℕ × ℕ)) →
+            chain self.now b ≡ before ++ (symbol, hash) ∷ behind → result ≡ head_of behind }
     {
         entry(&self.nodes, self.nodes[symbol.id() as usize].next)
     }
 
     // The last of the symbols at the bucket's front that have smaller hashes.
     pub(super) fn predecessor(&self, hash: u64) -> Option<Symbol>
-        ensures { MatchOption result (BeginsAtOrAbove hash (chain self.now (hash % self.now.count))) (λ last. IsPredecessor hash (chain self.now (hash % self.now.count)) last) }
+        ensures { MatchOption result (BeginsAtOrAbove hash (chain self.now (hash % self.now.count)))
+            (λ last. IsPredecessor hash (chain self.now (hash % self.now.count)) last) }
     {
         let mut last = None;
         let mut candidate = self.front(hash);
