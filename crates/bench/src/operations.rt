@@ -1,0 +1,63 @@
+//! What is measured. Each operation answers a sum that shows what it found.
+ghost use Rattle.std.specs.Prelude.{◌≡◌};
+
+use intaglio_content::StrContent;
+use intaglio_symbol::Symbol;
+use intaglio_text::SymbolTable;
+use std::hash::BuildHasher;
+
+/// Interns the words, and adds up the numbers of their symbols, each with 1.
+#[inline(never)]
+pub fn intern<S: BuildHasher>(table: &mut SymbolTable<S>, words: Vec<String>) -> u64 {
+    let mut sum = 0u64;
+    for word in words {
+        if let Ok(symbol) = table.intern(StrContent::from(word)) {
+            sum = sum.wrapping_add(symbol.id() as u64 + 1);
+        }
+    }
+    sum
+}
+
+/// Looks the words up, and adds up the numbers of the symbols that it finds, each with 1.
+#[inline(never)]
+pub fn look_up<S: BuildHasher>(table: &SymbolTable<S>, words: &[String]) -> u64 {
+    let mut sum = 0u64;
+    for word in words {
+        if let Some(symbol) = table.check_interned(word.as_str()) {
+            sum = sum.wrapping_add(symbol.id() as u64 + 1);
+        }
+    }
+    sum
+}
+
+/// Adds up the lengths of the texts of these symbols.
+#[inline(never)]
+pub fn get<S: BuildHasher>(table: &SymbolTable<S>, numbers: &[u32]) -> u64 {
+    let mut sum = 0u64;
+    for number in numbers {
+        if let Some(text) = table.get(Symbol::new(*number)) {
+            sum = sum.wrapping_add(text.len() as u64);
+        }
+    }
+    sum
+}
+
+/// Adds up the numbers of all symbols and the lengths of all texts.
+#[inline(never)]
+pub fn iterate<S: BuildHasher>(table: &SymbolTable<S>) -> u64 {
+    let mut sum = 0u64;
+    for (symbol, text) in table.iter() {
+        sum = sum.wrapping_add(symbol.id() as u64);
+        sum = sum.wrapping_add(text.len() as u64);
+    }
+    sum
+}
+
+/// Drops all texts, and answers how many are left.
+#[inline(never)]
+pub fn clear<S: BuildHasher>(table: &mut SymbolTable<S>) -> u64
+    ensures { result ≡ 0 }
+{
+    table.clear();
+    table.len() as u64
+}
