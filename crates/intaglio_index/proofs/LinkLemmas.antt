@@ -1,15 +1,15 @@
 -- Paths of links.
-use Rattle.std.proofs.Common.{◌≡◌, ◌≢◌, ℕ, zero, suc, ◌+◌, ◌<◌, ◌≤◌, ◌%◌, ◌^◌, List, [], ◌∷◌, ◌++◌, length, cond, true, false, Bool, refl, sym, ap, ◌∙◌, arith, eqb, Option, Some, None, get_or, set, map, replicate, append_assoc, length-append, inl, inr, take, subst}
+use Rattle.std.proofs.Common.{◌≡◌, ◌≢◌, ℕ, zero, suc, ◌+◌, ◌<◌, ◌≤◌, ◌%◌, ◌^◌, List, [], ◌∷◌, ◌++◌, length, cond, true, false, Bool, refl, sym, ap, ◌∙◌, arith, eqb, Option, Some, None, get_or, set, replicate, append_assoc, length-append, inl, inr, take, subst}
 use Rattle.std.specs.Option.{option_map}
 use Rattle.std.specs.List.{AllByRecursion, IsDistinct}
-use Rattle.std.proofs.lemmas.Bool.{eqb-true, eqb-false, cases_lt}
+use Rattle.std.proofs.lemmas.Bool.{eqb-true, eqb-false}
 use Rattle.std.proofs.lemmas.Bool.Decides.{eqb_tells}
-use Rattle.std.proofs.lemmas.List.{get_or-set_same, get_or-set_other, map-append, get_or_append_left, get_or_push, length-map, get_or_read, get_or_past, length-set, map-set, set-get_or, get_or-map, take_more, take_all, length-take-le}
+use Rattle.std.proofs.lemmas.List.{get_or-set_same, get_or-set_other, map-append, get_or_append_left, get_or_push, length-map, get_or_read, length-set, map-set, set-get_or, get_or-map, take_more, take_all, length-take-le}
 use Rattle.intaglio_symbol.specs.declared.symbol.Symbol.{Symbol}
 use Rattle.intaglio_index.specs.declared.index.Node.{Node}
 use Rattle.intaglio_index.specs.Placed.{chain_from, head_of, symbols_of, put, BeginsAtOrAbove, IsPredecessor, IsEntry}
 use Rattle.intaglio_index.specs.Links.{IsPath, IsLinked, entry_of, next_of, node_at, hashes_of}
-use Rattle.intaglio_index.proofs.ChainLemmas.{chain-each, chain-distinct, chain-complete, entry_split, unput, chain_from-push, put-between, Each-weaker, Each-left, Each-right, Each-append, eqb-equal}
+use Rattle.intaglio_index.proofs.ChainLemmas.{chain-each, chain-distinct, chain-complete, entry_split, unput, chain_from-push, put-between, Each-weaker, Each-left, Each-right}
 
 abbrev none_node : Node
 none_node = record { hash = 0; next = None }

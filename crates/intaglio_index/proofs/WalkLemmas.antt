@@ -1,9 +1,9 @@
 -- A walk along a bucket.
-use Rattle.std.proofs.Common.{◌≡◌, ◌≢◌, ℕ, zero, suc, ◌+◌, ◌<◌, ◌≤◌, ◌%◌, List, [], ◌∷◌, ◌++◌, length, cond, true, false, Bool, refl, sym, ap, ◌∙◌, arith, eqb, Option, Some, None, append_assoc, length-append}
+use Rattle.std.proofs.Common.{◌≡◌, ℕ, ◌<◌, ◌≤◌, List, [], ◌∷◌, ◌++◌, length, cond, false, refl, sym, ap, ◌∙◌, arith, eqb, Option, Some, None, append_assoc}
 use Rattle.std.specs.Option.{MatchOption}
 use Rattle.std.specs.List.{AllByRecursion, IsDistinct}
-use Rattle.std.proofs.lemmas.List.{map-append, append-nil}
-use Rattle.intaglio_index.specs.Placed.{Placed, chain, chain_from, head_of, symbols_of, BeginsAtOrAbove, IsPredecessor, IsEntry}
+use Rattle.std.proofs.lemmas.List.{map-append}
+use Rattle.intaglio_index.specs.Placed.{Placed, chain, head_of, symbols_of, BeginsAtOrAbove, IsPredecessor, IsEntry}
 use Rattle.intaglio_index.proofs.ChainLemmas.{chain-distinct, chain-each, eqb-equal, Each-right, Each-append}
 
 -- what is left of a path at a candidate

@@ -1,8 +1,8 @@
-use Rattle.std.proofs.Common.{◌≡◌, ◌<◌, ℕ, length, arith, sym, ap, ◌∙◌, get_or, None}
+use Rattle.std.proofs.Common.{◌<◌, length, arith, sym, ap, ◌∙◌, None}
 use Rattle.std.proofs.lemmas.List.{get_or_read, length-map}
 use Rattle.intaglio_index.specs.declared.index.Node.{Node}
 use Rattle.intaglio_index.specs.Placed.{chain}
-use Rattle.intaglio_index.specs.Links.{hashes_of, next_of}
+use Rattle.intaglio_index.specs.Links.{hashes_of}
 use Rattle.intaglio_index.proofs.LinkLemmas.{after_reads, link_within}
 use Rattle.intaglio_index.proofs.index.Index.behind.Goals as goal
 

@@ -1,4 +1,4 @@
-use Rattle.std.proofs.Common.{◌≡◌, ℕ, length, arith, sym, ◌∙◌, ap}
+use Rattle.std.proofs.Common.{◌≡◌, length, arith, ◌∙◌, ap}
 use Rattle.std.proofs.lemmas.List.{take_at}
 use Rattle.intaglio_index.proofs.LinkLemmas.{empty_links}
 use Rattle.intaglio_index.proofs.index.Index.clear.Goals as goal

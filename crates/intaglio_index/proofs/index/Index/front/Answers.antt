@@ -1,4 +1,4 @@
-use Rattle.std.proofs.Common.{◌≡◌, ◌<◌, ◌%◌, ℕ, length, arith, sym, ◌∙◌, get_or, None}
+use Rattle.std.proofs.Common.{◌≡◌, ◌<◌, ◌%◌, length, arith, sym, ◌∙◌, get_or, None}
 use Rattle.std.proofs.lemmas.List.{get_or_past, get_or_read}
 use Rattle.intaglio_index.specs.Placed.{chain}
 use Rattle.intaglio_index.proofs.LinkLemmas.{first_reads, head_within}

@@ -1,8 +1,8 @@
-use Rattle.std.proofs.Common.{◌≡◌, ◌<◌, ◌%◌, ◌^◌, ◌++◌, ◌∷◌, [], ℕ, List, length, arith, ◌∙◌, sym, ap, refl, None, Some, get_or, length-append}
+use Rattle.std.proofs.Common.{◌≡◌, ◌<◌, ◌%◌, ◌^◌, ◌++◌, ◌∷◌, [], length, arith, ◌∙◌, sym, refl, None, Some, length-append}
 use Rattle.std.proofs.lemmas.List.{length-map, get_or_read, get_or_append_left}
 use Rattle.intaglio_index.specs.declared.index.Node.{Node}
-use Rattle.intaglio_index.specs.Placed.{chain, chain_from, BeginsAtOrAbove, IsPredecessor}
-use Rattle.intaglio_index.specs.Links.{hashes_of, node_at}
+use Rattle.intaglio_index.specs.Placed.{chain}
+use Rattle.intaglio_index.specs.Links.{node_at}
 use Rattle.intaglio_index.proofs.LinkLemmas.{place_first, place_behind, predecessor_within, hashes_kept}
 use Rattle.intaglio_index.proofs.index.Index.insert.Goals as goal
 

@@ -1,5 +1,4 @@
-use Rattle.std.proofs.Common.{◌≡◌, ℕ, List}
-use Rattle.intaglio_index.proofs.WalkLemmas.{within, falls, goes_on, stops}
+use Rattle.intaglio_index.proofs.WalkLemmas.{within, falls, goes_on}
 use Rattle.intaglio_index.proofs.index.Index.predecessor.Goals as goal
 
 pub behind-candidate-requires : goal.behind-candidate-requires

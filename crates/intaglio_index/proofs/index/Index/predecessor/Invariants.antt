@@ -1,5 +1,4 @@
 use Rattle.std.proofs.Common.{◌%◌, length}
-use Rattle.std.specs.Option.{option_map}
 use Rattle.intaglio_index.specs.Placed.{chain}
 use Rattle.intaglio_index.proofs.WalkLemmas.{IsAt, rest_of}
 use Rattle.intaglio_index.proofs.index.Index.predecessor.Given as goal

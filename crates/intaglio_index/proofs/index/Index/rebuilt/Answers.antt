@@ -1,4 +1,4 @@
-use Rattle.std.proofs.Common.{◌≡◌, ℕ, ◌<◌, length, take, get_or, ◌+◌, ◌++◌, ◌∷◌, [], ◌∙◌, arith, ap, None, replicate, zero, suc, List, refl, append_assoc}
+use Rattle.std.proofs.Common.{◌≡◌, ℕ, ◌<◌, length, get_or, ◌+◌, ◌++◌, ◌∷◌, [], ◌∙◌, arith, None, replicate, List, refl, append_assoc}
 use Rattle.std.proofs.lemmas.List.{take_more, length-map, get_or-map, get_or_read}
 use Rattle.intaglio_index.specs.declared.index.Node.{Node}
 use Rattle.std.proofs.lemmas.Grind.{replicate_next}

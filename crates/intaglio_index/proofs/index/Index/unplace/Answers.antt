@@ -1,4 +1,4 @@
-use Rattle.std.proofs.Common.{◌≡◌, ◌<◌, ◌%◌, ◌+◌, ◌-◌, ℕ, length, take, arith, ◌∙◌, sym, ap, None, get_or}
+use Rattle.std.proofs.Common.{◌≡◌, ◌<◌, ◌%◌, ◌+◌, ◌-◌, length, take, arith, ◌∙◌, sym, None}
 use Rattle.std.proofs.lemmas.List.{length-map, get_or_read, length-take-le, take-map}
 use Rattle.intaglio_index.specs.declared.index.Node.{Node}
 use Rattle.intaglio_index.specs.Placed.{chain}
