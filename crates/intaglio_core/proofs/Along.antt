@@ -29,8 +29,8 @@ key_eq-apart a b differ e = let yes = (key_eq-decides a b).1 e in cc
 key_eq-flips : (a b : Key) → key_eq a b ≡ key_eq b a
 key_eq-flips a b =
     let cases : (t : Bool) → key_eq a b ≡ t → t ≡ key_eq b a = elim [
-      true ↦ λ e. sym ((key_eq-decides b a).1 (sym ((key_eq-decides a b).0 e)))
-    | false ↦ λ e. sym (key_eq-unequal b a (λ q. key_eq-apart a b e (sym q)))
+      | true ↦ λ e. sym ((key_eq-decides b a).1 (sym ((key_eq-decides a b).0 e)))
+      | false ↦ λ e. sym (key_eq-unequal b a (λ q. key_eq-apart a b e (sym q)))
     ] in
     cases (key_eq a b) refl
 
@@ -63,7 +63,7 @@ places-complete count b at [] i d l e = absurd (omega arith)
 places-complete count b at (h ∷ hs) zero d l e = rw (eqb-equal (h % count) b e) (0, omega arith, omega arith)
 places-complete count b at (h ∷ hs) (suc i) d l e =
     let rest : Contains (places_from count b (at + 1) hs) (at + suc i) =
-        (let z : at + suc i ≡ (at + 1) + i = omega arith in rw z (places-complete count b (at + 1) hs i d (omega arith) e)) in
+    (let z : at + suc i ≡ (at + 1) + i = omega arith in rw z (places-complete count b (at + 1) hs i d (omega arith) e)) in
     elim (eqb (h % count) b) as (λ t. Contains (cond t (at ∷ places_from count b (at + 1) hs) (places_from count b (at + 1) hs)) (at + suc i)) [ true ↦ Contains-cons at _ _ rest | false ↦ rest ]
 
 -- the keys of a bucket, by its positions
@@ -76,8 +76,9 @@ places-keys hash count k before (x ∷ xs) =
     let rest = rw (all, more) at (places-keys hash count k (before ++ x ∷ []) xs) in
     let here : get_or (before ++ x ∷ xs) (length before) [] ≡ x = get_or_at before x xs [] (length before) refl in
     elim (eqb (hash x % count) (hash k % count)) as (λ t. map (λ i. get_or (before ++ x ∷ xs) i []) (cond t (length before ∷ places_from count (hash k % count) (length before + 1) (map hash xs)) (places_from count (hash k % count) (length before + 1) (map hash xs))) ≡ cond t (x ∷ bucket_keys hash count xs k) (bucket_keys hash count xs k)) [
-      true ↦ rw (here, rest) refl
-    | false ↦ rest ]
+      | true ↦ rw (here, rest) refl
+      | false ↦ rest
+    ]
 
 bucket-each : (P : Key → Type 0) (hash : Key → ℕ) (count : ℕ) (keys : List Key) (k : Key) → AllByRecursion P keys → AllByRecursion P (bucket_keys hash count keys k)
 bucket-each P hash count [] k a = tt
@@ -136,9 +137,9 @@ some_rest (x ∷ xs) e q = (xs, cc)
 not_smaller : (seen : List (ℕ × ℕ)) (e : ℕ × ℕ) (behind : List (ℕ × ℕ)) → AreSorted (seen ++ e ∷ behind) → AllByRecursion (λ (f : ℕ × ℕ). e.1 ≤ f.1) behind
 not_smaller seen e behind o =
     recursion_from_All (λ (f : ℕ × ℕ). e.1 ≤ f.1) behind (λ j d l.
-      (let size : length (seen ++ e ∷ behind) ≡ length seen + length (e ∷ behind) = length-append seen (e ∷ behind) in
-      let at = o (length seen) (length seen + suc j) d (omega arith) (omega arith) in
-      rw (get_or_at seen e behind d (length seen) refl, get_or-append-add seen (e ∷ behind) (suc j) d) at at))
+    (let size : length (seen ++ e ∷ behind) ≡ length seen + length (e ∷ behind) = length-append seen (e ∷ behind) in
+    let at = o (length seen) (length seen + suc j) d (omega arith) (omega arith) in
+    rw (get_or_at seen e behind d (length seen) refl, get_or-append-add seen (e ∷ behind) (suc j) d) at at))
 
 module _ (hash : Key → ℕ) (keys : List Key) (k : Key) where
   abbrev pub key_at : ℕ → Key
@@ -158,15 +159,17 @@ module _ (hash : Key → ℕ) (keys : List Key) (k : Key) where
   walked-push [] e = refl
   walked-push (x ∷ seen) e =
       elim (eqb (hash k) x.1) as (λ t. cond t (compared k (key_at x.0) ∷ step ∷ walked (seen ++ e ∷ [])) (step ∷ walked (seen ++ e ∷ [])) ≡ cond t (compared k (key_at x.0) ∷ step ∷ walked seen) (step ∷ walked seen) ++ cond (eqb (hash k) e.1) (compared k (key_at e.0) ∷ step ∷ []) (step ∷ [])) [
-        true ↦ ap (λ ms. compared k (key_at x.0) ∷ step ∷ ms) (walked-push seen e)
-      | false ↦ ap (λ ms. step ∷ ms) (walked-push seen e) ]
+        | true ↦ ap (λ ms. compared k (key_at x.0) ∷ step ∷ ms) (walked-push seen e)
+        | false ↦ ap (λ ms. step ∷ ms) (walked-push seen e)
+      ]
 
   met-push : (seen : List (ℕ × ℕ)) (e : ℕ × ℕ) → met_keys (seen ++ e ∷ []) ≡ met_keys seen ++ cond (eqb (hash k) e.1) (key_at e.0 ∷ []) []
   met-push [] e = refl
   met-push (x ∷ seen) e =
       elim (eqb (hash k) x.1) as (λ t. cond t (key_at x.0 ∷ met_keys (seen ++ e ∷ [])) (met_keys (seen ++ e ∷ [])) ≡ cond t (key_at x.0 ∷ met_keys seen) (met_keys seen) ++ cond (eqb (hash k) e.1) (key_at e.0 ∷ []) []) [
-        true ↦ ap (λ ks. key_at x.0 ∷ ks) (met-push seen e)
-      | false ↦ met-push seen e ]
+        | true ↦ ap (λ ks. key_at x.0 ∷ ks) (met-push seen e)
+        | false ↦ met-push seen e
+      ]
 
   walked-hashed : (seen : List (ℕ × ℕ)) (last : List Mark) → hashed_keys (walked seen ++ last) ≡ hashed_keys last
   walked-hashed [] last = refl
@@ -182,13 +185,17 @@ module _ (hash : Key → ℕ) (keys : List Key) (k : Key) where
   walked-stored [] last = refl
   walked-stored (e ∷ seen) last =
       elim (eqb (hash k) e.1) as (λ t. stored_keys (cond t (compared k (key_at e.0) ∷ step ∷ walked seen) (step ∷ walked seen) ++ last) ≡ cond t (key_at e.0 ∷ met_keys seen) (met_keys seen) ++ stored_keys last) [
-        true ↦ ap (λ ks. key_at e.0 ∷ ks) (walked-stored seen last) | false ↦ walked-stored seen last ]
+        | true ↦ ap (λ ks. key_at e.0 ∷ ks) (walked-stored seen last)
+        | false ↦ walked-stored seen last
+      ]
 
   walked-steps : (seen : List (ℕ × ℕ)) (last : List Mark) → step_count (walked seen ++ last) ≡ length seen + step_count last
   walked-steps [] last = omega arith
   walked-steps (e ∷ seen) last =
       elim (eqb (hash k) e.1) as (λ t. step_count (cond t (compared k (key_at e.0) ∷ step ∷ walked seen) (step ∷ walked seen) ++ last) ≡ suc (length seen) + step_count last) [
-        true ↦ omega (arith, walked-steps seen last) | false ↦ omega (arith, walked-steps seen last) ]
+        | true ↦ omega (arith, walked-steps seen last)
+        | false ↦ omega (arith, walked-steps seen last)
+      ]
 
   walked-placed : (seen : List (ℕ × ℕ)) (last : List Mark) → placed_count (walked seen ++ last) ≡ placed_count last
   walked-placed [] last = refl
@@ -208,14 +215,17 @@ module _ (hash : Key → ℕ) (keys : List Key) (k : Key) where
   met-distinct [] d = tt
   met-distinct (e ∷ es) d =
       elim (eqb (hash k) e.1) as (λ t. IsDistinct key_eq (cond t (key_at e.0 ∷ met_keys es) (met_keys es))) [
-        true ↦ (met-each (λ y. key_eq (key_at e.0) y ≡ false) es d.0, met-distinct es d.1) | false ↦ met-distinct es d.1 ]
+        | true ↦ (met-each (λ y. key_eq (key_at e.0) y ≡ false) es d.0, met-distinct es d.1)
+        | false ↦ met-distinct es d.1
+      ]
 
   met-hashes : (es : List (ℕ × ℕ)) → AllByRecursion (λ (e : ℕ × ℕ). hash (key_at e.0) ≡ e.1) es → AllByRecursion (λ x. hash x ≡ hash k) (met_keys es)
   met-hashes [] a = tt
   met-hashes (e ∷ es) a =
       let cases : (t : Bool) → eqb (hash k) e.1 ≡ t → AllByRecursion (λ x. hash x ≡ hash k) (cond t (key_at e.0 ∷ met_keys es) (met_keys es)) = elim [
-        true ↦ λ q. (a.0 ∙ sym (eqb-true (hash k) e.1 q), met-hashes es a.1)
-      | false ↦ λ q. met-hashes es a.1 ] in
+        | true ↦ λ q. (a.0 ∙ sym (eqb-true (hash k) e.1 q), met-hashes es a.1)
+        | false ↦ λ q. met-hashes es a.1
+      ] in
       cases (eqb (hash k) e.1) refl
 
   -- distinct keys stand at distinct positions
@@ -263,7 +273,7 @@ module _ (hash : Key → ℕ) (count : ℕ) (keys : List Key) (k : Key) (path : 
   path_bucket : AllByRecursion (Contains (bucket_keys hash count keys k)) (keys_of hash keys k path)
   path_bucket =
       recursion_from_All _ _ (All-weaker (Contains (keys_of hash keys k path)) (Contains (bucket_keys hash count keys k))
-        (λ x h. Contains-permutation _ _ x (IsPermutation-sym _ _ bucket_same) h) _ (All-contains_itself (keys_of hash keys k path)))
+      (λ x h. Contains-permutation _ _ x (IsPermutation-sym _ _ bucket_same) h) _ (All-contains_itself (keys_of hash keys k path)))
 
   -- an entry is a position, with the hash of its key
   abbrev IsHashed : ℕ × ℕ → Type 0
@@ -326,11 +336,11 @@ module _ (hash : Key → ℕ) (count : ℕ) (keys : List Key) (k : Key) (path : 
       let all = Each-append (λ (e : ℕ × ℕ). key_at hash keys k e.0 ≢ k) at.seen at.rest at.others (rest_differs path at.seen at.rest candidate at.split at.next m) in
       let others : All (λ s. key_at hash keys k s ≢ k) (symbols_of path) = All-from_recursion (λ s. key_at hash keys k s ≢ k) (symbols_of path) (each_symbol (λ s. key_at hash keys k s ≢ k) path (rw at.split all)) in
       let none : (j : ℕ) → j < length keys → key_at hash keys k j ≢ k = λ j l e.
-          (let number : get_or (map hash keys) j 0 % count ≡ hash k % count = ap (λ h. h % count) (get_or-map hash keys j [] 0 l ∙ ap hash e) in
-          let l' : j < length (map hash keys) = omega (arith, l, length-map keys hash) in
-          let z : 0 + j ≡ j = omega arith in
-          let h = Contains-permutation _ _ j here.same (rw z at (places-complete count (hash k % count) 0 (map hash keys) j 0 l' number)) in
-          All-contains (λ s. key_at hash keys k s ≢ k) (symbols_of path) j others h e) in
+      (let number : get_or (map hash keys) j 0 % count ≡ hash k % count = ap (λ h. h % count) (get_or-map hash keys j [] 0 l ∙ ap hash e) in
+      let l' : j < length (map hash keys) = omega (arith, l, length-map keys hash) in
+      let z : 0 + j ≡ j = omega arith in
+      let h = Contains-permutation _ _ j here.same (rw z at (places-complete count (hash k % count) 0 (map hash keys) j 0 l' number)) in
+      All-contains (λ s. key_at hash keys k s ≢ k) (symbols_of path) j others h e) in
       let steps : length at.seen + 0 ≤ length path = omega (arith, ap length at.split, length-append at.seen at.rest) in
       let is = cost at.seen [] at.seen at.rest at.split (append-nil _) refl tt steps refl in
       (sym (first-none keys k none), rw at.walk (rw (append-nil (walked hash keys k at.seen)) at is))

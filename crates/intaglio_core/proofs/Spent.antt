@@ -56,8 +56,7 @@ add-cost old new s before between after below enough kept more stays places last
       | inl inside ↦ (placed ∷ [], rw (last, stays inside) refl, record { growth = []; parts = refl; grows = no-growth old new (kept inside) })
       | inr outside ↦
           let big = more outside in
-          let bigger : new.buckets ≢ old.buckets = λ e. absurd (omega (arith, e, big, below, enough)) in
-          (
+          let bigger : new.buckets ≢ old.buckets = λ e. absurd (omega (arith, e, big, below, enough)) in (
             replicate (length old.contents) placed ++ placed ∷ [],
             rw (last, places outside, append_assoc) refl,
             record { growth = replicate (length old.contents) placed; parts = refl; grows = grown old new bigger },

@@ -10,7 +10,6 @@ pub mod run;
 pub mod table_core;
 mod walk;
 
-pub use interner::Interner;
 pub use intaglio_content::{
     BytesContent, Content, Formed, Forms, Keyed, Pairs, Sought, Spelled, StrContent, Work,
 };
@@ -19,6 +18,7 @@ pub use intaglio_symbol::{
     AllSymbols, DEFAULT_SYMBOL_TABLE_CAPACITY, InternError, Mark, RoomError, StaleMark, Symbol,
     SymbolOverflowError,
 };
+pub use interner::Interner;
 pub use run::{Call, Reply};
 pub use table_core::Core;
 

@@ -106,12 +106,7 @@ where
 }
 
 // Makes one call.
-fn step<T: Interner>(
-    alloc: Global,
-    table: &mut T,
-    call: Call<T::Content>,
-    work: &mut Work,
-) -> Reply
+fn step<T: Interner>(alloc: Global, table: &mut T, call: Call<T::Content>, work: &mut Work) -> Reply
 where
     T::Content: Spelled,
     ensures step { Step T.Content.key T.Content.spelling (T.state table.old) call result (T.state table.new) }

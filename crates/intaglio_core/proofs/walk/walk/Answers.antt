@@ -86,19 +86,19 @@ loop-candidate-preserved g c =
     let within : c.in-Some.found.0 < length c.args.contents.now = (let l = in_range _ _ _ _ _ here c.in-Some.found.0 c.in-Some.found.1 _ at in omega (arith, l, length-map c.args.contents.now g.C.Keyed.key)) in
     let behind = λ (before behind : List (ℕ × ℕ)). c.after-candidate.ensures.next _ c.in-Some.found.1 before behind in
     elim c.if-hash-found-2.branch [
-      then-hash-found-2+else-same_as w ↦
-    let read : w.index-contents-id.result ≡ get_or c.args.contents.now c.in-Some.found.0 w.index-contents-id.result = rw (← w.id.ensures) w.index-contents-id.is in
-        let key = key_read g.C.Keyed.key c.args.contents.now c.in-Some.found.0 w.index-contents-id.result within read in
-    let differ : get_or (map g.C.Keyed.key c.args.contents.now) c.in-Some.found.0 [] ≢ g.Q.Keyed.key c.args.sought.now = λ e. false≢true (w.if-same_as.ensures.same.1 (sym e ∙ key)) in
-        let on = goes_on _ _ _ _ _ here c.in-Some.found.0 c.in-Some.found.1 _ _ at differ behind in
-        let equal : eqb (key_hash g.S.Hasher.Hasher.finish g.S.Hasher.Hasher.write (g.S.BuildHasher.build_hasher c.args.builder.now) (g.Q.Keyed.key c.args.sought.now)) c.in-Some.found.1 ≡ true = eqb-equal _ _ (sym c.requires.hash ∙ w.if-hash-found-2.true) in
-        let compares : w.same_as.new.work.marks ≡ c.loop-candidate.work.marks ++ compared (g.Q.Keyed.key c.args.sought.now) (get_or (map g.C.Keyed.key c.args.contents.now) c.in-Some.found.0 []) ∷ [] = rw key w.if-same_as.ensures.mark in
-        (_, joined_twice _ _ _ _ _ _ _ c.loop-candidate.invariant.1 compares (rw w.work-is at c.after-candidate.ensures.marks), rw equal at on)
-    | else-hash-found-2 w ↦
-        let unequal : key_hash g.S.Hasher.Hasher.finish g.S.Hasher.Hasher.write (g.S.BuildHasher.build_hasher c.args.builder.now) (g.Q.Keyed.key c.args.sought.now) ≢ c.in-Some.found.1 = λ e. w.if-hash-found-2.false (c.requires.hash ∙ e) in
-        let differ = hash_differs _ _ _ _ _ here c.in-Some.found.0 c.in-Some.found.1 _ at unequal in
-        let on = goes_on _ _ _ _ _ here c.in-Some.found.0 c.in-Some.found.1 _ _ at differ behind in
-        (_, joined _ _ _ _ _ c.loop-candidate.invariant.1 (rw w.work-is at c.after-candidate.ensures.marks), rw (eqb-unequal _ _ unequal) at on)
+      | then-hash-found-2+else-same_as w ↦
+          let read : w.index-contents-id.result ≡ get_or c.args.contents.now c.in-Some.found.0 w.index-contents-id.result = rw (← w.id.ensures) w.index-contents-id.is in
+          let key = key_read g.C.Keyed.key c.args.contents.now c.in-Some.found.0 w.index-contents-id.result within read in
+          let differ : get_or (map g.C.Keyed.key c.args.contents.now) c.in-Some.found.0 [] ≢ g.Q.Keyed.key c.args.sought.now = λ e. false≢true (w.if-same_as.ensures.same.1 (sym e ∙ key)) in
+          let on = goes_on _ _ _ _ _ here c.in-Some.found.0 c.in-Some.found.1 _ _ at differ behind in
+          let equal : eqb (key_hash g.S.Hasher.Hasher.finish g.S.Hasher.Hasher.write (g.S.BuildHasher.build_hasher c.args.builder.now) (g.Q.Keyed.key c.args.sought.now)) c.in-Some.found.1 ≡ true = eqb-equal _ _ (sym c.requires.hash ∙ w.if-hash-found-2.true) in
+          let compares : w.same_as.new.work.marks ≡ c.loop-candidate.work.marks ++ compared (g.Q.Keyed.key c.args.sought.now) (get_or (map g.C.Keyed.key c.args.contents.now) c.in-Some.found.0 []) ∷ [] = rw key w.if-same_as.ensures.mark in
+          (_, joined_twice _ _ _ _ _ _ _ c.loop-candidate.invariant.1 compares (rw w.work-is at c.after-candidate.ensures.marks), rw equal at on)
+      | else-hash-found-2 w ↦
+          let unequal : key_hash g.S.Hasher.Hasher.finish g.S.Hasher.Hasher.write (g.S.BuildHasher.build_hasher c.args.builder.now) (g.Q.Keyed.key c.args.sought.now) ≢ c.in-Some.found.1 = λ e. w.if-hash-found-2.false (c.requires.hash ∙ e) in
+          let differ = hash_differs _ _ _ _ _ here c.in-Some.found.0 c.in-Some.found.1 _ at unequal in
+          let on = goes_on _ _ _ _ _ here c.in-Some.found.0 c.in-Some.found.1 _ _ at differ behind in
+          (_, joined _ _ _ _ _ c.loop-candidate.invariant.1 (rw w.work-is at c.after-candidate.ensures.marks), rw (eqb-unequal _ _ unequal) at on)
     ]
 
 pub returns-clause-answer : goal.returns-clause-answer
