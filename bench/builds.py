@@ -1,0 +1,82 @@
+"""The two programs are built, and what they are built with is said."""
+
+import os
+import shutil
+import subprocess
+import sys
+from datetime import date
+
+# The processor that the toolchain compiles for, so that both programs may use the same instructions.
+PROCESSOR = "x86-64-v2"
+
+MANIFEST = """[package]
+name = "intaglio"
+version = "1.15.1"
+edition = "2024"
+
+[features]
+default = ["bytes", "cstr", "osstr", "path"]
+bytes = []
+bstr = []
+cstr = []
+osstr = []
+path = []
+"""
+
+
+def build_ours(top):
+    """Proves and builds the program in crates/bench."""
+    run(["rt", "run", "--", "check", "keyed", "0", "300", "1"], top / "crates/bench")
+    return top / "crates/bench/out/bench"
+
+
+def build_twin(top, scratch, upstream):
+    """Lays the Rust crate out in the scratch folder, and builds the twin over it."""
+    crate = scratch / "intaglio"
+    shutil.rmtree(crate, ignore_errors=True)
+    files = sorted(upstream.glob("src--src--*.rs.txt"))
+    if not files:
+        sys.exit(f"bench/run: no sources in {upstream}")
+    for file in files:
+        path = crate / file.name.removesuffix(".txt").removeprefix("src--").replace("--", "/")
+        path.parent.mkdir(parents=True, exist_ok=True)
+        shutil.copyfile(file, path)
+    (crate / "Cargo.toml").write_text(MANIFEST)
+    shutil.copytree(top / "bench/rust", scratch / "twin", dirs_exist_ok=True)
+    flags = {"RUSTFLAGS": f"-C target-cpu={PROCESSOR}"}
+    run(["cargo", "build", "--release", "--offline"], scratch / "twin", flags)
+    return scratch / "twin/target/release/twin"
+
+
+def run(command, folder, more=None):
+    """Runs a command, and ends with what it said where it fails."""
+    done = subprocess.run(
+        command, cwd=folder, env=os.environ | (more or {}), capture_output=True, text=True
+    )
+    if done.returncode != 0:
+        sys.exit(f"{done.stdout}{done.stderr}bench/run: {' '.join(command)} failed")
+    return done.stdout.strip()
+
+
+def conditions(top, ends=False):
+    """What the figures were made with, in lines."""
+    load = "%.1f, %.1f, %.1f" % os.getloadavg()
+    if ends:
+        return [f"- load averages at the end: {load}"]
+    return [
+        f"- made by `bench/run` on {date.today()}, of commit {run(['git', 'rev-parse', '--short', 'HEAD'], top)}",
+        f"- {run(['rt', 'version'], top)}",
+        f"- {run(['rustc', '--version'], top)}, opt-level 3, one codegen unit, link-time optimisation, {PROCESSOR}",
+        f"- {processor()}, {os.cpu_count()} processors",
+        "- the least time of all turns; both programs by turns, one at a time",
+        f"- load averages at the start: {load}",
+    ]
+
+
+def processor():
+    """The name of the processor."""
+    with open("/proc/cpuinfo") as lines:
+        for line in lines:
+            if line.startswith("model name"):
+                return line.split(":", 1)[1].strip()
+    return "processor unknown"
