@@ -1,19 +1,21 @@
-//! Paths by their components, and as contents of a table.
+//! Paths by their components, and the symbol table of paths.
 //!
 //! - [`Path`] is the text of a path. Two are equal where their components are.
 //! - [`Components`] gives each [`Component`] of a path, from the front.
-//! - [`PathContent`] is a path that a table stores.
+//! - [`PathContent`] is a path that a table stores, and [`SymbolTable`] the table.
 #![tactic(auto)]
 
 mod component;
 mod components;
 mod content;
 mod path;
+mod table;
 
 pub use component::Component;
 pub use components::Components;
 pub use content::PathContent;
 pub use path::Path;
+pub use table::{Iter, Paths, SymbolTable};
 
 #[cfg(test)]
 mod tests;

@@ -261,7 +261,7 @@ impl<S: BuildHasher> SymbolTable<S> {
     pub fn is_interned(&self, string: &str) -> bool
         ensures { result ≡ is_some (first text_key self.now.state.contents (string.now ∷ [])) }
     {
-        self.core.search(&string, &mut Work::new()).is_some()
+        self.check_interned(string).is_some()
     }
 
     /// Finds room for this many platform strings more, so that they are taken without refusal.

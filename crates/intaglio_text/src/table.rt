@@ -258,7 +258,7 @@ impl<S: BuildHasher> SymbolTable<S> {
     pub fn is_interned(&self, text: &str) -> bool
         ensures { result ≡ is_some (first text_key self.now.state.contents (text.now ∷ [])) }
     {
-        self.core.search(&text, &mut Work::new()).is_some()
+        self.check_interned(text).is_some()
     }
 
     /// Finds room for this many texts more, so that they are taken without refusal.
