@@ -1,0 +1,2 @@
+-- What the contracts of the crate cite, and those of the crates above.
+pub mod BStrContent

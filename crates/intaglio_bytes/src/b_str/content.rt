@@ -1,0 +1,109 @@
+//! Byte strings of the crate `bstr` as contents.
+ghost use Rattle.std.specs.Prelude.{◌≡◌, [], ◌∷◌, refl};
+ghost use Rattle.bstr.specs.BStr.{bstr_bytes};
+ghost use Rattle.intaglio_bytes.specs.BStrContent.{bstr_content_bytes};
+
+use bstr::{BStr, BString};
+use intaglio_content::{Content, Formed, Keyed, Sought, Spelled, Work, hash_bytes, same_bytes};
+use std::hash::BuildHasher;
+
+/// A byte string that a table stores. Its spelling is its bytes, and its key is that one item.
+///
+/// It is kept as it was handed in: nothing is copied, and an owned one keeps its spare capacity. It is looked up by the
+/// bytes, as `&[u8]`.
+///
+/// ```
+/// let content = BStrContent::from(BStr::new(b"abc"));
+/// assert!(content.form().as_bytes().len() == 3);
+/// ```
+#[derive(Drop)]
+pub enum BStrContent {
+    /// A byte string that lasts as long as the program.
+    Borrowed(BStr<'static>),
+    /// A byte string of the table's own.
+    Owned(BString),
+}
+
+impl BStrContent {
+    /// The byte string, borrowed.
+    pub fn form(&self) -> BStr<'_>
+        ensures { bstr_bytes result ≡ bstr_content_bytes self.now }
+    {
+        match self {
+            BStrContent::Borrowed(text) => *text,
+            BStrContent::Owned(text) => text.as_bstr(),
+        }
+    }
+}
+
+impl From<BStr<'static>> for BStrContent {
+    ghost use Rattle.intaglio_bytes.specs.declared.b_str.content.BStrContent.TheVariants.{Borrowed};
+
+    ghost from_gives = { λ text content. content ≡ Borrowed text };
+
+    fn from(text: BStr<'static>) -> BStrContent {
+        BStrContent::Borrowed(text)
+    }
+}
+
+impl From<BString> for BStrContent {
+    ghost use Rattle.intaglio_bytes.specs.declared.b_str.content.BStrContent.TheVariants.{Owned};
+
+    ghost from_gives = { λ text content. content ≡ Owned text };
+
+    fn from(text: BString) -> BStrContent {
+        BStrContent::Owned(text)
+    }
+}
+
+impl Keyed for BStrContent {
+    ghost key = { λ content. bstr_content_bytes content ∷ [] };
+}
+
+impl Content for BStrContent {
+    ghost spelling = { bstr_content_bytes };
+
+    ghost key_of = { λ bytes. bytes ∷ [] };
+
+    ghost key_of_spelling = { λ _. refl };
+}
+
+impl Spelled for BStrContent {
+    fn spelling(&self) -> &[u8] {
+        self.form().as_bytes()
+    }
+}
+
+impl<'a> Formed<'a> for BStrContent {
+    type Form = BStr<'a>;
+
+    ghost form_spelling = { bstr_bytes };
+
+    fn lend(&'a self) -> BStr<'a> {
+        self.form()
+    }
+}
+
+impl Sought<BStrContent> for BStrContent {
+    fn hash_with<S: BuildHasher>(&self, builder: &S, work: &mut Work) -> u64 {
+        work.hashed(self);
+        hash_bytes(self.form().as_bytes(), builder)
+    }
+
+    fn same_as(&self, stored: &BStrContent, work: &mut Work) -> bool {
+        work.compared(self, stored);
+        same_bytes(self.form().as_bytes(), stored.form().as_bytes())
+    }
+}
+
+impl Sought<BStrContent> for &[u8] {
+    fn hash_with<S: BuildHasher>(&self, builder: &S, work: &mut Work) -> u64 {
+        work.hashed(self);
+        hash_bytes(*self, builder)
+    }
+
+    fn same_as(&self, stored: &BStrContent, work: &mut Work) -> bool {
+        work.compared(self, stored);
+        same_bytes(*self, stored.form().as_bytes())
+    }
+}

@@ -1,0 +1,111 @@
+//! C strings as contents.
+ghost use Rattle.std.specs.Prelude.{◌≡◌, [], ◌∷◌, refl};
+ghost use Rattle.intaglio_cstr.specs.CStr.{c_str_spelling};
+ghost use Rattle.intaglio_cstr.specs.CStrContent.{c_str_content_bytes};
+
+use crate::c_str::CStr;
+use crate::c_string::CString;
+use intaglio_content::{Content, Formed, Keyed, Sought, Spelled, Work, hash_bytes, same_bytes};
+use std::hash::BuildHasher;
+
+/// A C string that a table stores. Its spelling is its bytes before the ending zero, and its key is that one item.
+///
+/// It is kept as it was handed in: nothing is copied, and an owned one keeps its spare capacity.
+///
+/// ```
+/// let content = CStrContent::from(CStr::from_bytes_with_nul(b"abc\x00")?);
+/// assert!(content.form().to_bytes() == b"abc".as_slice());
+/// ```
+#[derive(Drop)]
+pub enum CStrContent {
+    /// A C string that lasts as long as the program.
+    Borrowed(CStr<'static>),
+    /// A C string of the table's own.
+    Owned(CString),
+}
+
+impl CStrContent {
+    /// The C string, borrowed.
+    pub fn form(&self) -> CStr<'_>
+        ensures { c_str_spelling result ≡ c_str_content_bytes self.now }
+    {
+        match self {
+            CStrContent::Borrowed(text) => *text,
+            CStrContent::Owned(text) => text.as_c_str(),
+        }
+    }
+}
+
+impl From<CStr<'static>> for CStrContent {
+    ghost use Rattle.intaglio_cstr.specs.declared.content.CStrContent.TheVariants.{Borrowed};
+
+    ghost from_gives = { λ text content. content ≡ Borrowed text };
+
+    fn from(text: CStr<'static>) -> CStrContent {
+        CStrContent::Borrowed(text)
+    }
+}
+
+impl From<CString> for CStrContent {
+    ghost use Rattle.intaglio_cstr.specs.declared.content.CStrContent.TheVariants.{Owned};
+
+    ghost from_gives = { λ text content. content ≡ Owned text };
+
+    fn from(text: CString) -> CStrContent {
+        CStrContent::Owned(text)
+    }
+}
+
+impl Keyed for CStrContent {
+    ghost key = { λ content. c_str_content_bytes content ∷ [] };
+}
+
+impl<'a> Keyed for CStr<'a> {
+    ghost key = { λ text. c_str_spelling text ∷ [] };
+}
+
+impl Content for CStrContent {
+    ghost spelling = { c_str_content_bytes };
+
+    ghost key_of = { λ bytes. bytes ∷ [] };
+
+    ghost key_of_spelling = { λ _. refl };
+}
+
+impl Spelled for CStrContent {
+    fn spelling(&self) -> &[u8] {
+        self.form().to_bytes()
+    }
+}
+
+impl<'a> Formed<'a> for CStrContent {
+    type Form = CStr<'a>;
+
+    ghost form_spelling = { c_str_spelling };
+
+    fn lend(&'a self) -> CStr<'a> {
+        self.form()
+    }
+}
+
+impl Sought<CStrContent> for CStrContent {
+    fn hash_with<S: BuildHasher>(&self, builder: &S, work: &mut Work) -> u64 {
+        self.form().hash_with(builder, work)
+    }
+
+    fn same_as(&self, stored: &CStrContent, work: &mut Work) -> bool {
+        self.form().same_as(stored, work)
+    }
+}
+
+impl<'a> Sought<CStrContent> for CStr<'a> {
+    fn hash_with<S: BuildHasher>(&self, builder: &S, work: &mut Work) -> u64 {
+        work.hashed(self);
+        hash_bytes(self.to_bytes(), builder)
+    }
+
+    fn same_as(&self, stored: &CStrContent, work: &mut Work) -> bool {
+        work.compared(self, stored);
+        same_bytes(self.to_bytes(), stored.form().to_bytes())
+    }
+}
