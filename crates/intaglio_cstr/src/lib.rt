@@ -1,20 +1,22 @@
-//! C strings, and C strings as contents of a table.
+//! C strings, and the symbol table of C strings.
 //!
 //! - [`CStr`] is borrowed and [`CString`] owned: bytes whose only zero is the last byte.
 //! - [`CStrError`] and [`CStringError`] say why bytes were refused.
-//! - [`CStrContent`] is what a table stores. Its spelling is the bytes before the ending zero.
+//! - [`CStrContent`] is what [`SymbolTable`] stores. Its spelling is the bytes before the ending zero.
 #![tactic(auto)]
 
 mod c_str;
 mod c_string;
 mod content;
 mod error;
+mod table;
 mod zeros;
 
 pub use c_str::CStr;
 pub use c_string::CString;
 pub use content::CStrContent;
 pub use error::{CStrError, CStringError};
+pub use table::{CStrings, Iter, SymbolTable};
 
 #[cfg(test)]
 mod tests;
