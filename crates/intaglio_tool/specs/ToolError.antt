@@ -1,0 +1,51 @@
+-- What an error says.
+use Rattle.std.specs.Prelude.{ℕ, Result, Ok, Err}
+use Rattle.intaglio_symbol.specs.declared.error.InternError.{InternError}
+use Rattle.intaglio_symbol.specs.declared.error.InternError.TheVariants as intern_error
+use Rattle.intaglio_tool.specs.declared.error.ToolError.{ToolError}
+use Rattle.intaglio_tool.specs.declared.error.ToolError.TheVariants.{NotUtf8, ZeroByte, Memory, Overflow, Read}
+
+-- P holds of the line's number, if the error is that a line holds a zero byte
+abbrev pub IfZeroByte : ToolError → (ℕ → Type 0) → Type 0
+IfZeroByte (ZeroByte n) P = P n
+IfZeroByte _ P = Unit {0}
+
+-- a line became no content
+abbrev pub IsContentError : ToolError → Type 0
+IsContentError (ZeroByte n) = Unit {0}
+IsContentError Memory = Unit {0}
+IsContentError _ = ⊥
+
+-- a line wasn't interned
+abbrev pub IsTakingError : ToolError → Type 0
+IsTakingError (ZeroByte n) = Unit {0}
+IsTakingError Memory = Unit {0}
+IsTakingError Overflow = Unit {0}
+IsTakingError _ = ⊥
+
+-- reading fails by memory or by a read
+abbrev pub IsReadingError : ToolError → Type 0
+IsReadingError Memory = Unit {0}
+IsReadingError Read = Unit {0}
+IsReadingError _ = ⊥
+
+-- the output wasn't made
+abbrev pub IsOutputError : ToolError → Type 0
+IsOutputError NotUtf8 = Unit {0}
+IsOutputError (ZeroByte n) = Unit {0}
+IsOutputError Memory = Unit {0}
+IsOutputError Overflow = Unit {0}
+IsOutputError _ = ⊥
+
+-- the run ended because the input isn't text, or before its end was met
+abbrev pub IsNotUtf8OrUnread : {T : Type 0} → Result T ToolError → Type 0
+IsNotUtf8OrUnread (Ok x) = ⊥
+IsNotUtf8OrUnread (Err NotUtf8) = Unit {0}
+IsNotUtf8OrUnread (Err Memory) = Unit {0}
+IsNotUtf8OrUnread (Err Read) = Unit {0}
+IsNotUtf8OrUnread (Err _) = ⊥
+
+-- what a run says of a table's refusal
+abbrev pub refused_as : InternError → ToolError
+refused_as (intern_error.Overflow _) = Overflow
+refused_as (intern_error.Memory _) = Memory

@@ -1,0 +1,106 @@
+//! From the bytes that are read to the bytes that are written.
+ghost use Rattle.std.specs.Prelude.{◌≡◌, ◌≢◌, ◌+◌, ◌<◌, ◌≤◌, ◌^◌, [], not, length, OnOk, IfOk, IfErr, IfSome};
+ghost use Rattle.std.specs.List.{position_or_len};
+ghost use Rattle.std.specs.Io.KnownBytes.{Appends, IsAtEnd};
+ghost use Rattle.intaglio_core.specs.Issue.{interned_all};
+ghost use Rattle.intaglio_tool.specs.Encoded.{encoded, encoded_by};
+ghost use Rattle.intaglio_tool.specs.Kind.{Allows, key_of, is_fit};
+ghost use Rattle.intaglio_tool.specs.Lines.{lines_of};
+ghost use Rattle.intaglio_tool.specs.ToolError.{IfZeroByte, IsNotUtf8OrUnread, IsOutputError, IsTakingError};
+ghost use Rattle.intaglio_tool.specs.declared.error.ToolError.TheVariants.{NotUtf8, Overflow, Write as WriteFailed};
+
+use crate::error::ToolError;
+use crate::from_line::FromLine;
+use crate::kind::Kind;
+use crate::read::read_all;
+use crate::take::take_lines;
+use crate::write::{output, write_out};
+use intaglio_core::{Core, Interner, StrContent};
+use std::alloc::Global;
+use std::hash::BuildHasher;
+use std::io::{Read, Write};
+
+/// Interns the lines of the input into a table of that kind, and writes the symbol of each line, an
+/// empty line, and the spelling of each symbol.
+///
+/// All of the input is read before any line is taken, all of the output is made before any of it is
+/// written, and from the first write on no memory is asked for.
+///
+/// # Errors
+///
+/// Those of [`ToolError`], the first one that comes. After each but `Write` nothing was written.
+pub fn encode<S: BuildHasher + Drop, R: Read, W: Write>(
+    alloc: Global,
+    kind: Kind,
+    builder: S,
+    reader: &mut R,
+    writer: &mut W,
+) -> Result<(), ToolError>
+    ensures written { OnOk result (IfSome (R.remaining reader.old) (λ input. Appends (W.contents writer.old) (W.contents writer.new) (encoded kind input))) }
+    ensures all_read { OnOk result (IsAtEnd (R.remaining reader.new)) }
+
+    // Input that isn't UTF-8 is told exactly where the kind needs that and the end was met.
+    ensures not_utf8 { result ≡ Err NotUtf8 → IfSome (R.remaining reader.old) (λ input. ¬ (Allows kind input)) }
+    ensures end_met { result ≡ Err NotUtf8 → IsAtEnd (R.remaining reader.new) }
+    ensures refuses { IfSome (R.remaining reader.old) (λ input. ¬ (Allows kind input) → IsNotUtf8OrUnread result) }
+
+    // A line that doesn't fit is told by the number of the first one, and never passed over.
+    ensures zero { IfSome (R.remaining reader.old) (λ input. IfErr result (λ e. IfZeroByte e (λ n. (n ≡ position_or_len (λ line. not (is_fit kind line)) (lines_of input) + 1) × (n ≤ length (lines_of input))))) }
+    ensures fit { IfSome (R.remaining reader.old) (λ input. OnOk result (position_or_len (λ line. not (is_fit kind line)) (lines_of input) ≡ length (lines_of input))) }
+
+    ensures overflow { result ≡ Err Overflow → IfSome (R.remaining reader.old) (λ input. 2 ^ 32 < length (interned_all (key_of kind) [] (lines_of input))) }
+    ensures nothing_written { IfErr result (λ e. e ≢ WriteFailed → writer.new ≡ writer.old) }
+{
+    let input = read_all(alloc, reader)?;
+    let output = output_for(alloc, kind, builder, &input)?;
+    write_out(&output, writer)
+}
+
+// What is written for an input.
+fn output_for<S: BuildHasher + Drop>(
+    alloc: Global,
+    kind: Kind,
+    builder: S,
+    input: &[u8],
+) -> Result<Vec<u8>, ToolError>
+    ensures written { IfOk result (λ output. output.items ≡ encoded kind input.now) }
+    ensures not_utf8 { result ≡ Err NotUtf8 → ¬ (Allows kind input.now) }
+    ensures refuses { ¬ (Allows kind input.now) → result ≡ Err NotUtf8 }
+    ensures zero { IfErr result (λ e. IfZeroByte e (λ n. (n ≡ position_or_len (λ line. not (is_fit kind line)) (lines_of input.now) + 1) × (n ≤ length (lines_of input.now)))) }
+    ensures fit { OnOk result (position_or_len (λ line. not (is_fit kind line)) (lines_of input.now) ≡ length (lines_of input.now)) }
+    ensures overflow { result ≡ Err Overflow → 2 ^ 32 < length (interned_all (key_of kind) [] (lines_of input.now)) }
+    ensures err { IfErr result IsOutputError }
+{
+    if !kind.allows(input) {
+        return Err(ToolError::NotUtf8);
+    }
+    match kind {
+        Kind::Text => output_by(
+            alloc,
+            Core::<StrContent, S>::with_hasher(alloc, builder)?,
+            input,
+        ),
+    }
+}
+
+// What is written for an input whose lines are interned into this table.
+fn output_by<T: Interner + Drop>(
+    alloc: Global,
+    table: T,
+    input: &[u8],
+) -> Result<Vec<u8>, ToolError>
+where
+    T::Content: FromLine,
+    requires allowed { T.Content.allows input.now }
+    requires empty { (T.state table).contents ≡ [] }
+    requires limit { (T.state table).limit ≡ 2 ^ 32 }
+    ensures written { IfOk result (λ output. output.items ≡ encoded_by T.Content.key_of input.now) }
+    ensures zero { IfErr result (λ e. IfZeroByte e (λ n. (n ≡ position_or_len (λ line. not (T.Content.fits line)) (lines_of input.now) + 1) × (n ≤ length (lines_of input.now)))) }
+    ensures fit { OnOk result (position_or_len (λ line. not (T.Content.fits line)) (lines_of input.now) ≡ length (lines_of input.now)) }
+    ensures overflow { result ≡ Err Overflow → 2 ^ 32 < length (interned_all T.Content.key_of [] (lines_of input.now)) }
+    ensures err { IfErr result IsTakingError }
+{
+    let mut table = table;
+    let symbols = take_lines(alloc, &mut table, input)?;
+    Ok(output(alloc, &symbols, &table)?)
+}

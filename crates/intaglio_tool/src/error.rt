@@ -1,0 +1,68 @@
+//! Why a run ended before its end.
+ghost use Rattle.std.specs.Prelude.{◌≡◌};
+ghost use Rattle.intaglio_tool.specs.ToolError.{refused_as};
+ghost use Rattle.intaglio_tool.specs.declared.error.ToolError.TheVariants.{Memory};
+
+use intaglio_core::{InternError, RoomError};
+use std::alloc::{AllocError, AllocFailed};
+use thiserror::Error;
+
+/// Why a run ended before its end.
+#[derive(Debug, Drop, Error)]
+pub enum ToolError {
+    /// The input isn't UTF-8, and the kind needs that.
+    #[error("input is not UTF-8")]
+    NotUtf8,
+    /// A line that is to be a C string holds a zero byte. It is the first such line, and lines are
+    /// counted from 1.
+    #[error("line {0} holds a zero byte")]
+    ZeroByte(u64),
+    /// There are more distinct lines than symbols.
+    #[error("Symbol overflow")]
+    Overflow,
+    /// A growth was refused.
+    #[error("out of memory")]
+    Memory,
+    /// A read failed, or the input didn't end.
+    #[error("read failed")]
+    Read,
+    /// A write or the flush failed.
+    #[error("write failed")]
+    Write,
+}
+
+impl From<AllocError> for ToolError {
+    ghost from_gives = { λ _ error. error ≡ Memory };
+
+    fn from(_refused: AllocError) -> ToolError {
+        ToolError::Memory
+    }
+}
+
+impl<T: Drop> From<AllocFailed<T>> for ToolError {
+    ghost from_gives = { λ _ error. error ≡ Memory };
+
+    fn from(_refused: AllocFailed<T>) -> ToolError {
+        ToolError::Memory
+    }
+}
+
+/// The program's tables are of the usual capacity, which is never too large.
+impl From<RoomError> for ToolError {
+    ghost from_gives = { λ _ error. error ≡ Memory };
+
+    fn from(_refused: RoomError) -> ToolError {
+        ToolError::Memory
+    }
+}
+
+impl From<InternError> for ToolError {
+    ghost from_gives = { λ refused error. error ≡ refused_as refused };
+
+    fn from(refused: InternError) -> ToolError {
+        match refused {
+            InternError::Overflow(_) => ToolError::Overflow,
+            InternError::Memory(_) => ToolError::Memory,
+        }
+    }
+}

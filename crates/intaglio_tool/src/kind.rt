@@ -1,0 +1,42 @@
+//! What the lines of an input are interned as.
+ghost use Rattle.std.specs.Prelude.{◌≡◌, ◌↔◌, [], ◌∷◌, IsTrue, map, string_bytes};
+ghost use Rattle.intaglio_tool.specs.Kind.{Allows, kind_of_words};
+
+/// What the lines of an input are interned as.
+#[derive(Clone, Copy, Debug, PartialEq, Eq)]
+pub enum Kind {
+    /// Text, compared byte for byte.
+    Text,
+}
+
+impl Kind {
+    /// The kind that the arguments after the program's name ask for. There is one argument, the
+    /// kind's name.
+    pub fn from_words(words: &[String]) -> Option<Kind>
+        ensures { result ≡ kind_of_words (map string_bytes words.now) }
+    {
+        match words {
+            [word] => Kind::from_word(word.as_str()),
+            _ => None,
+        }
+    }
+
+    // The kind of a name.
+    fn from_word(word: &str) -> Option<Kind>
+        ensures { result ≡ kind_of_words (word.now ∷ []) }
+    {
+        match word {
+            "text" => Some(Kind::Text),
+            _ => None,
+        }
+    }
+
+    /// Whether an input can be cut into lines of this kind. Some kinds need UTF-8.
+    pub fn allows(self, input: &[u8]) -> bool
+        ensures { IsTrue result ↔ Allows self input.now }
+    {
+        match self {
+            Kind::Text => str::from_utf8(input).is_ok(),
+        }
+    }
+}

@@ -1,0 +1,24 @@
+//! The first line of an input.
+ghost use Rattle.std.specs.Prelude.{◌≡◌, ◌<◌, ◌==◌, ◌⊎◌, [], ◌++◌, ◌∷◌, length, position, IfSome};
+ghost use Rattle.intaglio_tool.specs.Lines.{lines_of};
+
+/// The first line of an input, and what stands after it and its byte 10.
+pub fn first_line(input: &[u8]) -> (&[u8], &[u8])
+    requires { 0 < length input.now }
+    ensures lines { lines_of input.now ≡ result.0.now ∷ lines_of result.1.now }
+    ensures whole { (input.now ≡ result.0.now ++ 10 ∷ result.1.now) ⊎ ((input.now ≡ result.0.now) × (result.1.now ≡ [])) }
+    ensures shorter { length result.1.now < length input.now }
+{
+    match end_of_line(input) {
+        Some(end) => (&input[..end], &input[end + 1..]),
+        None => (input, &[]),
+    }
+}
+
+// The place of the first byte 10.
+fn end_of_line(input: &[u8]) -> Option<usize>
+    ensures place { result ≡ position (λ b. b == 10) input.now }
+    ensures bound { IfSome result (λ end. end < length input.now) }
+{
+    input.iter().position(|b| *b == b'\n')
+}

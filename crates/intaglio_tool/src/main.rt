@@ -1,0 +1,63 @@
+//! Interns the lines of its input, and writes the symbol of each line and then each distinct line.
+#![tactic(auto)]
+
+mod encode;
+mod error;
+#[cfg(test)]
+mod fakes;
+mod from_line;
+mod kind;
+mod lines;
+mod read;
+mod serve;
+mod take;
+#[cfg(test)]
+mod tests;
+mod write;
+
+use error::ToolError;
+use serve::{serve, tell};
+use std::env;
+use std::hash::RandomState;
+use std::io::ErrorKind;
+use std::process::ExitCode;
+use std::rt::Env;
+
+fn main(rt: HostRuntime) -> ExitCode {
+    let builder = RandomState::new(&rt).ok();
+    let (mut input, mut output, mut faults) = (rt.stdin(), rt.stdout(), rt.stderr());
+    let status = match words(&rt) {
+        Ok(words) => serve(
+            rt.alloc(),
+            &words,
+            builder,
+            &mut input,
+            &mut output,
+            &mut faults,
+        ),
+        Err(fault) => tell(fault, &mut faults),
+    };
+    ExitCode::from(status)
+}
+
+// The arguments after the program's name. Where one of them isn't text there are none, so that it is
+// a usage fault.
+fn words<R: Env + AllocGlobal>(rt: &R) -> Result<Vec<String>, ToolError> {
+    match env::args(rt) {
+        Ok(args) => {
+            // A loop, since `collect` asks again for less where memory is refused.
+            let mut words = Vec::new(rt.alloc());
+            for word in args.skip(1) {
+                words.push(word)?;
+            }
+            Ok(words)
+        }
+        Err(e) => {
+            if e.kind() == ErrorKind::OutOfMemory {
+                Err(ToolError::Memory)
+            } else {
+                Ok(Vec::new(rt.alloc()))
+            }
+        }
+    }
+}

@@ -1,0 +1,42 @@
+//! Reads all of an input.
+ghost use Rattle.std.specs.Prelude.{◌≡◌, OnOk, IfOk, IfErr, IfSome};
+ghost use Rattle.std.specs.Io.KnownBytes.{IsAtEnd};
+ghost use Rattle.intaglio_tool.specs.ToolError.{IsReadingError};
+
+use crate::error::ToolError;
+use std::alloc::Global;
+use std::io::{ErrorKind, Read};
+
+// How many bytes a read may give.
+const BLOCK: usize = 64 * 1024;
+
+/// All bytes of the input, up to its end. A read that is interrupted is made again.
+///
+/// The room for what a read gives is reserved before the read, so that a refusal is never taken for
+/// a read that failed.
+///
+/// # Errors
+///
+/// `Memory` where the room was refused, `Read` where a read failed or there was no end after
+/// `u64::MAX` reads.
+pub fn read_all<R: Read>(alloc: Global, reader: &mut R) -> Result<Vec<u8>, ToolError>
+    ensures bytes { IfOk result (λ bytes. IfSome (R.remaining reader.old) (λ input. bytes.items ≡ input)) }
+    ensures end { OnOk result (IsAtEnd (R.remaining reader.new)) }
+    ensures err { IfErr result IsReadingError }
+{
+    let mut bytes = Vec::new(alloc);
+    let mut block = [0u8; BLOCK];
+    for _ in 0..u64::MAX {
+        bytes.reserve(BLOCK)?;
+        match reader.read(&mut block) {
+            Ok(0) => return Ok(bytes),
+            Ok(n) => bytes.extend_from_slice(&block[..n]).unwrap(),
+            Err(e) => {
+                if e.kind() != ErrorKind::Interrupted {
+                    return Err(ToolError::Read);
+                }
+            }
+        }
+    }
+    Err(ToolError::Read)
+}

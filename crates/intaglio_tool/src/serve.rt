@@ -1,0 +1,59 @@
+//! A run of the program over any input and output.
+ghost use Rattle.std.specs.Prelude.{◌≡◌, ◌≢◌, ◌≤◌, ◌↔◌, None, IfSome, map, string_bytes};
+ghost use Rattle.std.specs.Io.KnownBytes.{Appends, IsAtEnd};
+ghost use Rattle.intaglio_tool.specs.Encoded.{encoded};
+ghost use Rattle.intaglio_tool.specs.Kind.{kind_of_words};
+
+use crate::encode::encode;
+use crate::kind::Kind;
+use std::alloc::Global;
+use std::fmt::Display;
+use std::hash::BuildHasher;
+use std::io::{Read, Write};
+
+const USAGE: &str = "usage: intaglio_tool text|bytes|bstr|cstr|osstr|path";
+
+const NO_SEED: &str = "no random seed";
+
+/// Runs the program on the arguments after its name, and answers the status. A fault is told on the
+/// last writer, whose own failures are passed over.
+///
+/// The status is 0 after the whole output, 2 where the arguments name no kind, and else 1. Where they
+/// name none, or there is no builder, nothing is read or written.
+pub fn serve<S: BuildHasher + Drop, R: Read, W: Write, E: Write>(
+    alloc: Global,
+    words: &[String],
+    builder: Option<S>,
+    reader: &mut R,
+    writer: &mut W,
+    faults: &mut E,
+) -> u8
+    ensures statuses { result ≤ 2 }
+    ensures usage { (result ≡ 2) ↔ (kind_of_words (map string_bytes words.now) ≡ None) }
+    ensures unread { result ≡ 2 → reader.new ≡ reader.old }
+    ensures unwritten { result ≡ 2 → writer.new ≡ writer.old }
+    ensures seedless { builder ≡ None → (result ≢ 0) × (reader.new ≡ reader.old) × (writer.new ≡ writer.old) }
+    ensures written { result ≡ 0 → IfSome (kind_of_words (map string_bytes words.now)) (λ kind. IfSome (R.remaining reader.old) (λ input. Appends (W.contents writer.old) (W.contents writer.new) (encoded kind input))) }
+    ensures all_read { result ≡ 0 → IsAtEnd (R.remaining reader.new) }
+{
+    let Some(kind) = Kind::from_words(words) else {
+        let _ = writeln!(faults, "{USAGE}");
+        return 2;
+    };
+    let Some(builder) = builder else {
+        return tell(NO_SEED, faults);
+    };
+    match encode(alloc, kind, builder, reader, writer) {
+        Ok(()) => 0,
+        Err(fault) => tell(fault, faults),
+    }
+}
+
+/// Writes a fault's text and byte 10, and answers the status of a fault, 1. A failure to write it is
+/// passed over.
+pub fn tell<F: Display + Drop, E: Write>(fault: F, faults: &mut E) -> u8
+    ensures { result ≡ 1 }
+{
+    let _ = writeln!(faults, "{fault}");
+    1
+}

@@ -1,0 +1,176 @@
+//! Whole runs, their faults, and readers and writers that fail.
+use crate::encode::encode;
+use crate::error::ToolError;
+use crate::fakes::{SilentReader, SmallWriter, StuckWriter, TellingReader, UnflushedWriter};
+use crate::kind::Kind;
+use crate::serve::{serve, tell};
+use std::alloc::Global;
+use std::hash::{BuildHasherDefault, FoldHasher};
+use std::io::{ErrorKind, Read, Write};
+use std::process::Abort;
+use std::test::Fail;
+
+type Builder = BuildHasherDefault<FoldHasher>;
+
+const INPUT: &[u8] = b"b\na\nb";
+
+const OUTPUT: &[u8] = b"0\n1\n0\n\nb\na\n";
+
+const USAGE: &[u8] = b"usage: intaglio_tool text|bytes|bstr|cstr|osstr|path\n";
+
+fn run<R: Read, W: Write>(alloc: Global, reader: &mut R, writer: &mut W) -> Result<(), ToolError> {
+    let builder: Builder = BuildHasherDefault::new();
+    encode(alloc, Kind::Text, builder, reader, writer)
+}
+
+// What the program did: its status, what it wrote and what it told of faults.
+#[derive(Drop)]
+struct Served {
+    status: u8,
+    written: Vec<u8>,
+    told: Vec<u8>,
+}
+
+// Runs the program on the words of `arguments`.
+fn serve_words(
+    alloc: Global,
+    arguments: &str,
+    builder: Option<Builder>,
+    input: &[u8],
+) -> Result<Served, Fail> {
+    let mut words = Vec::new(alloc);
+    for word in arguments.split_whitespace() {
+        words.push(String::from_str(alloc, word)?)?;
+    }
+    let (mut written, mut told) = (Vec::new(alloc), Vec::new(alloc));
+    let mut reader = input;
+    let status = serve(alloc, &words, builder, &mut reader, &mut written, &mut told);
+    Ok(Served {
+        status,
+        written,
+        told,
+    })
+}
+
+// The output for the input, read at once and byte by byte.
+fn writes<Rt: Abort + AllocGlobal>(rt: &Rt, input: &[u8], output: &[u8]) -> Result<(), Fail> {
+    let mut written = Vec::new(rt.alloc());
+    run(rt.alloc(), &mut { input }, &mut written)?;
+    assert_eq!(rt; written.as_slice(), output);
+    let mut slowly = TellingReader {
+        rest: input,
+        step: 1,
+        reads: 0,
+        fails_at: 0,
+        kind: ErrorKind::Other,
+    };
+    written.clear();
+    run(rt.alloc(), &mut slowly, &mut written)?;
+    assert_eq!(rt; written.as_slice(), output);
+    Ok(())
+}
+
+#[test]
+fn lines_become_symbols_and_spellings(rt: HostRuntime) -> Result<(), Fail> {
+    writes(&rt, INPUT, OUTPUT)?;
+    writes(&rt, b"", b"\n")?;
+    writes(&rt, b"\n", b"0\n\n\n")?;
+    writes(&rt, b"\n\n", b"0\n0\n\n\n")?;
+    writes(&rt, b"a\r\na", b"0\n1\n\na\r\na\n")?;
+    writes(&rt, b"\0", b"0\n\n\0\n")
+}
+
+#[test]
+fn input_that_is_not_utf8_is_refused(rt: HostRuntime) -> Result<(), Fail> {
+    for input in [b"\xff".as_slice(), b"a\n\xc3".as_slice()] {
+        let builder: Builder = BuildHasherDefault::new();
+        let served = serve_words(rt.alloc(), "text", Some(builder), input)?;
+        assert_eq!(rt; served.status, 1);
+        assert_eq!(rt; served.written.len(), 0);
+        assert_eq!(rt; served.told.as_slice(), b"input is not UTF-8\n".as_slice());
+    }
+    Ok(())
+}
+
+#[test]
+fn wrong_arguments_are_told(rt: HostRuntime) -> Result<(), Fail> {
+    for arguments in ["", "xml", "text text"] {
+        let builder: Builder = BuildHasherDefault::new();
+        let served = serve_words(rt.alloc(), arguments, Some(builder), INPUT)?;
+        assert_eq!(rt; served.status, 2);
+        assert_eq!(rt; served.written.len(), 0);
+        assert_eq!(rt; served.told.as_slice(), USAGE);
+    }
+    Ok(())
+}
+
+#[test]
+fn a_run_with_a_seed_succeeds_and_one_without_is_told(rt: HostRuntime) -> Result<(), Fail> {
+    let builder: Builder = BuildHasherDefault::new();
+    let served = serve_words(rt.alloc(), "text", Some(builder), INPUT)?;
+    assert_eq!(rt; served.status, 0);
+    assert_eq!(rt; served.written.as_slice(), OUTPUT);
+    assert_eq!(rt; served.told.len(), 0);
+    let unseeded = serve_words(rt.alloc(), "text", None, INPUT)?;
+    assert_eq!(rt; unseeded.status, 1);
+    assert_eq!(rt; unseeded.written.len(), 0);
+    assert_eq!(rt; unseeded.told.as_slice(), b"no random seed\n".as_slice());
+    Ok(())
+}
+
+#[test]
+fn faults_have_their_texts(rt: HostRuntime) {
+    let mut told = Vec::new(rt.alloc());
+    tell(ToolError::NotUtf8, &mut told);
+    tell(ToolError::ZeroByte(2), &mut told);
+    tell(ToolError::Overflow, &mut told);
+    tell(ToolError::Memory, &mut told);
+    tell(ToolError::Read, &mut told);
+    tell(ToolError::Write, &mut told);
+    let texts =
+        b"input is not UTF-8\nline 2 holds a zero byte\nSymbol overflow\nout of memory\nread failed\nwrite failed\n";
+    assert_eq!(rt; told.as_slice(), texts.as_slice());
+}
+
+#[test]
+fn failed_reads_end_the_run_and_interrupted_ones_do_not(rt: HostRuntime) {
+    for fails_at in 1..7u64 {
+        let mut reader = SilentReader {
+            rest: INPUT,
+            step: 1,
+            reads: 0,
+            fails_at,
+            kind: ErrorKind::Other,
+        };
+        let mut written = Vec::new(rt.alloc());
+        let answer = run(rt.alloc(), &mut reader, &mut written);
+        assert!(rt; matches!(answer, Err(ToolError::Read)));
+        assert_eq!(rt; written.len(), 0);
+        let mut reader = SilentReader {
+            rest: INPUT,
+            step: 1,
+            reads: 0,
+            fails_at,
+            kind: ErrorKind::Interrupted,
+        };
+        let answer = run(rt.alloc(), &mut reader, &mut written);
+        assert!(rt; matches!(answer, Ok(())));
+        assert_eq!(rt; written.as_slice(), OUTPUT);
+    }
+}
+
+#[test]
+fn failed_writes_are_told(rt: HostRuntime) {
+    for room in 0..OUTPUT.len() {
+        let mut writer = SmallWriter {
+            taken: Vec::new(rt.alloc()),
+            room,
+        };
+        let answer = run(rt.alloc(), &mut { INPUT }, &mut writer);
+        assert!(rt; matches!(answer, Err(ToolError::Write)));
+    }
+    let stuck = run(rt.alloc(), &mut { INPUT }, &mut StuckWriter);
+    assert!(rt; matches!(stuck, Err(ToolError::Write)));
+    let unflushed = run(rt.alloc(), &mut { INPUT }, &mut UnflushedWriter);
+    assert!(rt; matches!(unflushed, Err(ToolError::Write)));
+}
