@@ -1,5 +1,5 @@
 //! How many comparisons and hashings a search makes, and what a table of one bucket answers.
-use super::builders::{Constant, FirstByte, Wanted};
+use super::builders::{AbcAlone, Constant, FirstByte};
 use super::counting::{Counting, intern, search};
 use crate::Core;
 use intaglio_content::StrContent;
@@ -89,11 +89,7 @@ fn equal_hashes_alone_are_compared(rt: HostRuntime) -> Result<(), Fail> {
 fn a_text_feeds_its_bytes_and_an_end(rt: HostRuntime) -> Result<(), Fail> {
     let compared = Cell::new(0);
     // Only `abc` has the hash 1.
-    let whole = Wanted {
-        writes: &[b"abc", b"\xff"],
-        heard: 0,
-    };
-    let mut table = Core::with_capacity_and_hasher(rt.alloc(), 1, whole)?;
+    let mut table = Core::with_capacity_and_hasher(rt.alloc(), 1, AbcAlone::new())?;
     for (text, number) in "abc xyz".split(' ').zip(0..2u32) {
         let answer = intern(&mut table, StrContent::from(text), &compared)?;
         assert_eq!(&rt; answer, (number, 0), "{text}");

@@ -1,6 +1,6 @@
 //! Builders of hashers whose hashes are known.
-ghost use Rattle.std.specs.Prelude.{◌+◌, ◌-◌, ◌^◌, ◌==◌, None, false, length, slice_get, if◌then◌else◌, unwrap_or};
-ghost use Rattle.std.specs.Option.{option_map_or, option_or};
+ghost use Rattle.std.specs.Prelude.{◌==◌, ◌&&◌, [], ◌∷◌, None, slice_get, if◌then◌else◌, unwrap_or};
+ghost use Rattle.std.specs.Option.{option_or};
 ghost use Rattle.std.specs.Cmp.Lexicographic.{pointwise};
 
 use std::cell::Cell;
@@ -71,40 +71,44 @@ impl<'a> BuildHasher for FirstByte<'a> {
     }
 }
 
-/// Finishes with 1 exactly where it was fed these writes in order and no other, and else with 0.
+/// Finishes with 1 exactly where it was fed `abc` and then the byte 255, and else with 0.
 #[derive(Clone, Copy)]
-pub struct Wanted {
-    pub writes: &'static [&'static [u8]],
-    pub heard: usize,
+pub struct AbcAlone {
+    heard: u8,
 }
 
-impl Hasher for Wanted {
-    ghost write = { λ state bytes. record state { heard = if option_map_or (λ wanted. pointwise ◌==◌ wanted.now bytes) (slice_get state.writes.now state.heard) false then state.heard + 1 else 2 ^ 64 - 1 } };
+impl AbcAlone {
+    pub fn new() -> AbcAlone {
+        AbcAlone { heard: 0 }
+    }
+}
 
-    ghost finish = { λ state. if state.heard == length state.writes.now then 1 else 0 };
+impl Hasher for AbcAlone {
+    ghost write = { λ state bytes. record { heard = if (state.heard == 0) && pointwise ◌==◌ bytes (97 ∷ 98 ∷ 99 ∷ []) then 1 else if (state.heard == 1) && pointwise ◌==◌ bytes (255 ∷ []) then 2 else 3 } };
+
+    ghost finish = { λ state. if state.heard == 2 then 1 else 0 };
 
     fn finish(&self) -> u64 {
-        if self.heard == self.writes.len() {
-            1
-        } else {
-            0
-        }
+        if self.heard == 2 { 1 } else { 0 }
     }
 
     fn write(&mut self, bytes: &[u8]) {
-        self.heard = match self.writes.get(self.heard) {
-            Some(wanted) if *wanted == bytes => self.heard + 1,
-            _ => usize::MAX,
+        self.heard = if self.heard == 0 && bytes == b"abc".as_slice() {
+            1
+        } else if self.heard == 1 && bytes == b"\xff".as_slice() {
+            2
+        } else {
+            3
         };
     }
 }
 
-impl BuildHasher for Wanted {
-    type Hasher = Wanted;
+impl BuildHasher for AbcAlone {
+    type Hasher = AbcAlone;
 
     ghost build_hasher = { λ state. state };
 
-    fn build_hasher(&self) -> Wanted {
+    fn build_hasher(&self) -> AbcAlone {
         *self
     }
 }
