@@ -1,4 +1,6 @@
-//! Byte strings that are text by convention: `BStr` and `BString` of the crate `bstr`.
+//! Byte strings that are text by convention, `BStr` and `BString` of the crate `bstr`, and their symbol table.
 mod content;
+mod table;
 
 pub use content::BStrContent;
+pub use table::{BStrings, Iter, SymbolTable};

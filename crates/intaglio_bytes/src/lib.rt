@@ -1,8 +1,10 @@
-//! Byte strings as contents of a table.
+//! Symbol tables of byte strings.
 //!
+//! - [`bytes`] is for plain bytes.
 //! - [`b_str`] is for the byte strings of the crate `bstr`. It can't have that crate's name here.
 #![tactic(auto)]
 
 pub mod b_str;
+pub mod bytes;
 #[cfg(test)]
 mod tests;
