@@ -1,5 +1,6 @@
 pub mod First
 pub mod Along
+pub mod Walking
 pub mod Kept
 pub mod Spent
 pub mod LookUps
