@@ -1,7 +1,7 @@
 //! Whole runs, their faults, and readers and writers that fail.
 use crate::encode::encode;
 use crate::error::ToolError;
-use crate::fakes::{SilentReader, SmallWriter, StuckWriter, TellingReader, UnflushedWriter};
+use crate::fakes::{SlowReader, SmallWriter, StuckWriter, UnflushedWriter};
 use crate::kind::Kind;
 use crate::serve::{serve, tell};
 use std::alloc::Global;
@@ -57,7 +57,7 @@ fn writes<Rt: Abort + AllocGlobal>(rt: &Rt, input: &[u8], output: &[u8]) -> Resu
     let mut written = Vec::new(rt.alloc());
     run(rt.alloc(), &mut { input }, &mut written)?;
     assert_eq!(rt; written.as_slice(), output);
-    let mut slowly = TellingReader {
+    let mut slowly = SlowReader {
         rest: input,
         step: 1,
         reads: 0,
@@ -135,7 +135,7 @@ fn faults_have_their_texts(rt: HostRuntime) {
 #[test]
 fn failed_reads_end_the_run_and_interrupted_ones_do_not(rt: HostRuntime) {
     for fails_at in 1..7u64 {
-        let mut reader = SilentReader {
+        let mut reader = SlowReader {
             rest: INPUT,
             step: 1,
             reads: 0,
@@ -143,18 +143,14 @@ fn failed_reads_end_the_run_and_interrupted_ones_do_not(rt: HostRuntime) {
             kind: ErrorKind::Other,
         };
         let mut written = Vec::new(rt.alloc());
-        let answer = run(rt.alloc(), &mut reader, &mut written);
-        assert!(rt; matches!(answer, Err(ToolError::Read)));
+        let failed = run(rt.alloc(), &mut reader, &mut written);
+        assert!(rt; matches!(failed, Err(ToolError::Read)));
         assert_eq!(rt; written.len(), 0);
-        let mut reader = SilentReader {
-            rest: INPUT,
-            step: 1,
-            reads: 0,
-            fails_at,
-            kind: ErrorKind::Interrupted,
-        };
-        let answer = run(rt.alloc(), &mut reader, &mut written);
-        assert!(rt; matches!(answer, Ok(())));
+        reader.rest = INPUT;
+        reader.reads = 0;
+        reader.kind = ErrorKind::Interrupted;
+        let ended = run(rt.alloc(), &mut reader, &mut written);
+        assert!(rt; matches!(ended, Ok(())));
         assert_eq!(rt; written.as_slice(), OUTPUT);
     }
 }
