@@ -75,6 +75,20 @@ fn symbols_and_contents_come_in_order(rt: HostRuntime) -> Result<(), Fail> {
     Ok(())
 }
 
+#[test]
+fn forms_of_what_is_stored_are_lent(rt: HostRuntime) -> Result<(), Fail> {
+    let mut table = Core::with_capacity(rt.alloc(), 4)?;
+    interns(&rt, &mut table, "abc xyz 123 789", 0)?;
+    let found = table.search_form(&"xyz", &mut Work::new());
+    assert_eq!(&rt; found, Some((Symbol::new(1), "xyz")));
+    assert_eq!(&rt; table.form(Symbol::new(2)), Some("123"));
+    assert_eq!(&rt; table.form(Symbol::new(4)), None);
+    assert_eq!(&rt; table.forms().nth(3), Some("789"));
+    assert_eq!(&rt; table.pairs().nth(3), Some((Symbol::new(3), "789")));
+    assert_eq!(&rt; table.pairs().count(), 4);
+    Ok(())
+}
+
 // The mark of any table.
 fn mark_of<T: Interner>(table: &T) -> Mark {
     table.mark()
