@@ -15,7 +15,7 @@ use crate::kind::Kind;
 use crate::read::read_all;
 use crate::take::take_lines;
 use crate::write::{output, write_out};
-use intaglio_core::{Core, Interner, StrContent};
+use intaglio::{Interner, SymbolTable, bstr, bytes, cstr, osstr, path};
 use std::alloc::Global;
 use std::hash::BuildHasher;
 use std::io::{Read, Write};
@@ -75,9 +75,30 @@ fn output_for<S: BuildHasher + Drop>(
         return Err(ToolError::NotUtf8);
     }
     match kind {
-        Kind::Text => output_by(
+        Kind::Text => output_by(alloc, SymbolTable::with_hasher(alloc, builder)?, input),
+        Kind::Bytes => output_by(
             alloc,
-            Core::<StrContent, S>::with_hasher(alloc, builder)?,
+            bytes::SymbolTable::with_hasher(alloc, builder)?,
+            input,
+        ),
+        Kind::BStr => output_by(
+            alloc,
+            bstr::SymbolTable::with_hasher(alloc, builder)?,
+            input,
+        ),
+        Kind::CStr => output_by(
+            alloc,
+            cstr::SymbolTable::with_hasher(alloc, builder)?,
+            input,
+        ),
+        Kind::OsStr => output_by(
+            alloc,
+            osstr::SymbolTable::with_hasher(alloc, builder)?,
+            input,
+        ),
+        Kind::Path => output_by(
+            alloc,
+            path::SymbolTable::with_hasher(alloc, builder)?,
             input,
         ),
     }

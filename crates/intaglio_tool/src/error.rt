@@ -3,7 +3,7 @@ ghost use Rattle.std.specs.Prelude.{◌≡◌};
 ghost use Rattle.intaglio_tool.specs.ToolError.{refused_as};
 ghost use Rattle.intaglio_tool.specs.declared.error.ToolError.TheVariants.{Memory};
 
-use intaglio_core::{InternError, RoomError};
+use intaglio::{InternError, RoomError};
 use std::alloc::{AllocError, AllocFailed};
 use thiserror::Error;
 

@@ -1,10 +1,15 @@
 //! How a line of an input becomes a content.
-ghost use Rattle.std.specs.Prelude.{◌≡◌, ℕ, List, [], ◌∷◌, ◌++◌, Bool, true, false, OnOk, IfOk, IsUtf8};
+ghost use Rattle.std.specs.Prelude.{◌≡◌, ℕ, List, [], ◌∷◌, ◌++◌, Bool, true, false, is_none, OnOk, IfOk, IsUtf8};
 ghost use Rattle.std.proofs.lemmas.Str.{IsUtf8-nil};
+ghost use Rattle.intaglio_cstr.specs.Zeros.{first_zero};
 ghost use Rattle.intaglio_tool.specs.Cuts.{IsUtf8-parts};
 ghost use Rattle.intaglio_tool.specs.declared.from_line.LineFault.TheVariants.{Memory, Zero};
 
-use intaglio_core::{Sought, Spelled, StrContent};
+use bstr::BString;
+use intaglio::bstr::BStrContent;
+use intaglio::cstr::{CStrContent, CString, CStringError};
+use intaglio::path::PathContent;
+use intaglio::{BytesContent, Sought, Spelled, StrContent};
 use std::alloc::{AllocError, Global};
 
 /// Why a line became no content.
@@ -61,5 +66,70 @@ impl FromLine for StrContent {
     fn from_line(alloc: Global, line: &[u8]) -> Result<StrContent, LineFault> {
         let bytes = Vec::from_slice(alloc, line)?;
         Ok(StrContent::Owned(String::from_utf8(bytes).unwrap()))
+    }
+}
+
+impl FromLine for PathContent {
+    ghost allows = { λ bytes. IsUtf8 bytes };
+
+    ghost fits = { λ _. true };
+
+    ghost allows_parts = { λ line rest text. IsUtf8-parts line rest text };
+
+    ghost allows_nothing = { IsUtf8-nil };
+
+    fn from_line(alloc: Global, line: &[u8]) -> Result<PathContent, LineFault> {
+        let bytes = Vec::from_slice(alloc, line)?;
+        Ok(PathContent::Owned(String::from_utf8(bytes).unwrap()))
+    }
+}
+
+impl FromLine for BytesContent {
+    ghost allows = { λ _. Unit {0} };
+
+    ghost fits = { λ _. true };
+
+    ghost allows_parts = { λ _ _ _. (tt, tt) };
+
+    ghost allows_nothing = { tt };
+
+    fn from_line(alloc: Global, line: &[u8]) -> Result<BytesContent, LineFault> {
+        Ok(BytesContent::Owned(Vec::from_slice(alloc, line)?))
+    }
+}
+
+impl FromLine for BStrContent {
+    ghost allows = { λ _. Unit {0} };
+
+    ghost fits = { λ _. true };
+
+    ghost allows_parts = { λ _ _ _. (tt, tt) };
+
+    ghost allows_nothing = { tt };
+
+    fn from_line(alloc: Global, line: &[u8]) -> Result<BStrContent, LineFault> {
+        Ok(BStrContent::Owned(BString::new(Vec::from_slice(
+            alloc, line,
+        )?)))
+    }
+}
+
+impl FromLine for CStrContent {
+    ghost allows = { λ _. Unit {0} };
+
+    ghost fits = { λ line. is_none (first_zero line) };
+
+    ghost allows_parts = { λ _ _ _. (tt, tt) };
+
+    ghost allows_nothing = { tt };
+
+    fn from_line(alloc: Global, line: &[u8]) -> Result<CStrContent, LineFault> {
+        let mut bytes = Vec::with_capacity(alloc, line.len() + 1)?;
+        bytes.extend_from_slice(line)?;
+        match CString::new(alloc, bytes) {
+            Ok(text) => Ok(CStrContent::Owned(text)),
+            Err(CStringError::InnerZero(_)) => Err(LineFault::Zero),
+            Err(CStringError::Memory(_)) => Err(LineFault::Memory),
+        }
     }
 }

@@ -5,8 +5,18 @@ ghost use Rattle.intaglio_tool.specs.Kind.{Allows, kind_of_words};
 /// What the lines of an input are interned as.
 #[derive(Clone, Copy, Debug, PartialEq, Eq)]
 pub enum Kind {
-    /// Text, compared byte for byte.
+    /// Texts.
     Text,
+    /// Bytes.
+    Bytes,
+    /// Byte strings that are text by convention.
+    BStr,
+    /// C strings.
+    CStr,
+    /// Platform strings.
+    OsStr,
+    /// Paths, compared by their components.
+    Path,
 }
 
 impl Kind {
@@ -27,6 +37,11 @@ impl Kind {
     {
         match word {
             "text" => Some(Kind::Text),
+            "bytes" => Some(Kind::Bytes),
+            "bstr" => Some(Kind::BStr),
+            "cstr" => Some(Kind::CStr),
+            "osstr" => Some(Kind::OsStr),
+            "path" => Some(Kind::Path),
             _ => None,
         }
     }
@@ -36,7 +51,8 @@ impl Kind {
         ensures { IsTrue result ↔ Allows self input.now }
     {
         match self {
-            Kind::Text => str::from_utf8(input).is_ok(),
+            Kind::Text | Kind::OsStr | Kind::Path => str::from_utf8(input).is_ok(),
+            Kind::Bytes | Kind::BStr | Kind::CStr => true,
         }
     }
 }

@@ -9,7 +9,7 @@ ghost use Rattle.intaglio_tool.specs.declared.error.ToolError.TheVariants.{Overf
 use crate::error::ToolError;
 use crate::from_line::{FromLine, LineFault};
 use crate::lines::first_line;
-use intaglio_core::{Interner, Symbol, Work};
+use intaglio::{Interner, Symbol, Work};
 use std::alloc::Global;
 
 /// Interns the lines of an input in order into an empty table, and answers their symbols.

@@ -6,7 +6,7 @@ ghost use Rattle.intaglio_tool.specs.Encoded.{output_of, number_line, spelling_l
 ghost use Rattle.intaglio_tool.specs.declared.error.ToolError.TheVariants.{Write as WriteFailed};
 
 use crate::error::ToolError;
-use intaglio_core::{Interner, Spelled, Symbol};
+use intaglio::{Interner, Spelled, Symbol};
 use std::alloc::{AllocError, Global};
 use std::io;
 use std::io::Write;

@@ -1,13 +1,37 @@
-use Rattle.std.proofs.Common.{◌≡◌, refl}
-use Rattle.intaglio_tool.specs.declared.kind.Kind.{Kind}
-use Rattle.intaglio_tool.specs.declared.kind.Kind.TheVariants.{Text}
 use Rattle.intaglio_tool.proofs.encode.output_for.Goals as goal
 
-only-text : (kind : Kind) → kind ≡ Text
-only-text Text = refl
+pub returns-in_ok-with_hasher-in-Text-clause-written : goal.returns-in_ok-with_hasher-in-Text-clause-written
+returns-in_ok-with_hasher-in-Text-clause-written g c = rw c.in-Text.is c.output_by.ensures.written
 
-pub returns-clause-written : goal.returns-clause-written
-returns-clause-written g c = rw (only-text c.args.kind) c.output_by.ensures.written
+pub returns-in_ok-with_hasher-in-Text-clause-zero : goal.returns-in_ok-with_hasher-in-Text-clause-zero
+returns-in_ok-with_hasher-in-Text-clause-zero g c = rw c.in-Text.is c.output_by.ensures.zero
 
-pub returns-clause-zero : goal.returns-clause-zero
-returns-clause-zero g c = rw (only-text c.args.kind) c.output_by.ensures.zero
+pub returns-in_ok-with_hasher-in-Bytes-clause-written : goal.returns-in_ok-with_hasher-in-Bytes-clause-written
+returns-in_ok-with_hasher-in-Bytes-clause-written g c = rw c.in-Bytes.is c.output_by-in-Bytes.ensures.written
+
+pub returns-in_ok-with_hasher-in-Bytes-clause-zero : goal.returns-in_ok-with_hasher-in-Bytes-clause-zero
+returns-in_ok-with_hasher-in-Bytes-clause-zero g c = rw c.in-Bytes.is c.output_by-in-Bytes.ensures.zero
+
+pub returns-in_ok-with_hasher-in-BStr-clause-written : goal.returns-in_ok-with_hasher-in-BStr-clause-written
+returns-in_ok-with_hasher-in-BStr-clause-written g c = rw c.in-BStr.is c.output_by-in-BStr.ensures.written
+
+pub returns-in_ok-with_hasher-in-BStr-clause-zero : goal.returns-in_ok-with_hasher-in-BStr-clause-zero
+returns-in_ok-with_hasher-in-BStr-clause-zero g c = rw c.in-BStr.is c.output_by-in-BStr.ensures.zero
+
+pub returns-in_ok-with_hasher-in-CStr-clause-written : goal.returns-in_ok-with_hasher-in-CStr-clause-written
+returns-in_ok-with_hasher-in-CStr-clause-written g c = rw c.in-CStr.is c.output_by-in-CStr.ensures.written
+
+pub returns-in_ok-with_hasher-in-CStr-clause-zero : goal.returns-in_ok-with_hasher-in-CStr-clause-zero
+returns-in_ok-with_hasher-in-CStr-clause-zero g c = rw c.in-CStr.is c.output_by-in-CStr.ensures.zero
+
+pub returns-in_ok-with_hasher-in-OsStr-clause-written : goal.returns-in_ok-with_hasher-in-OsStr-clause-written
+returns-in_ok-with_hasher-in-OsStr-clause-written g c = rw c.in-OsStr.is c.output_by-in-OsStr.ensures.written
+
+pub returns-in_ok-with_hasher-in-OsStr-clause-zero : goal.returns-in_ok-with_hasher-in-OsStr-clause-zero
+returns-in_ok-with_hasher-in-OsStr-clause-zero g c = rw c.in-OsStr.is c.output_by-in-OsStr.ensures.zero
+
+pub returns-in_ok-with_hasher-in-Path-clause-written : goal.returns-in_ok-with_hasher-in-Path-clause-written
+returns-in_ok-with_hasher-in-Path-clause-written g c = rw c.in-Path.is c.output_by-in-Path.ensures.written
+
+pub returns-in_ok-with_hasher-in-Path-clause-zero : goal.returns-in_ok-with_hasher-in-Path-clause-zero
+returns-in_ok-with_hasher-in-Path-clause-zero g c = rw c.in-Path.is c.output_by-in-Path.ensures.zero
