@@ -1,3 +1,4 @@
+#![tactic(auto)]
 //! Symbols in buckets: the index of a table of contents, which names no content.
 //!
 //! An [`Index`] holds symbols by the hashes of their contents. Among B buckets, hash h falls in bucket h mod B. A search
@@ -6,8 +7,6 @@
 //!
 //! A contract sees an index as the record `Placed`: the number of buckets, the hash of each placed symbol in the order of
 //! their numbers, and the room.
-#![tactic(auto)]
-
 mod index;
 
 pub use index::Index;
