@@ -1,0 +1,53 @@
+"""Runs the built programs with the library that refuses their requests for memory."""
+import os, shutil, subprocess, sys, tempfile
+
+TOP = os.path.join(os.path.dirname(os.path.abspath(__file__)), "..")
+SOURCE = "checks/refuse.c"
+BUILDS = ("", ".by-rattle")  # the two compilers' executables
+OUT_OF_MEMORY = (1, b"", ["out of memory"])
+
+# Words of the program, an input that each takes, and what it writes for it.
+LINES = (b"b\na\nb", b"0\n1\n0\n\nb\na\n")
+MODES = {word: LINES for word in ("text", "bytes", "bstr", "cstr", "osstr")}
+MODES["path"] = (b"a//b\na/b\n", b"0\n0\n\na//b\n")
+
+
+def compiler():
+    told = subprocess.run(["rt", "doc"], capture_output=True, text=True).stdout.strip()
+    for name in (os.path.join(os.path.dirname(told), "toolchain/bin/clang"), "clang", "cc", "gcc"):
+        if found := shutil.which(name):
+            return found
+    sys.exit("no C compiler")
+
+
+def compiled(folder):
+    library = f"{folder}/refuse.so"
+    subprocess.run([compiler(), "-O2", "-fPIC", "-shared", "-nostdlib", "-o", library, SOURCE], check=True)
+    return library
+
+
+def run(command, given=b"", **settings):
+    """The status, what went to standard output, and the lines of standard error."""
+    ran = subprocess.run(command, input=given, capture_output=True, env=settings, timeout=60)
+    return ran.returncode, ran.stdout, ran.stderr.decode(errors="replace").splitlines()
+
+
+def program(name, build):
+    return f"crates/{name}/out/{name}{build}"
+
+
+def modes(tool):
+    """The modes that the program takes: other words end in status 2."""
+    return [word for word in MODES if run([tool, word])[0] != 2]
+
+
+def judge(checks, names):
+    """Makes the checks, each of which yields what is wrong, and ends with the status."""
+    os.chdir(TOP)
+    missing = [it for it in (program(name, build) for name in names for build in BUILDS) if not os.access(it, os.X_OK)]
+    if missing:
+        sys.exit(f"not built: {' '.join(missing)}")
+    with tempfile.TemporaryDirectory() as folder:
+        wrong = list(checks(compiled(folder)))
+    print(*wrong, sep="\n", end="\n" * bool(wrong))
+    sys.exit(1 if wrong else 0)
