@@ -64,13 +64,20 @@ def conditions(top, ends=False):
     if ends:
         return [f"- load averages at the end: {load}"]
     return [
-        f"- made by `bench/run` on {date.today()}, of commit {run(['git', 'rev-parse', '--short', 'HEAD'], top)}",
+        f"- made by `bench/run` on {date.today()}, of {commit(top)}",
         f"- {run(['rt', 'version'], top)}",
         f"- {run(['rustc', '--version'], top)}, opt-level 3, one codegen unit, link-time optimisation, {PROCESSOR}",
         f"- {processor()}, {os.cpu_count()} processors",
         "- the least time of all turns; both programs by turns, one at a time",
         f"- load averages at the start: {load}",
     ]
+
+
+def commit(top):
+    """Which commit was measured."""
+    git = ["git", "-C", str(top), "describe", "--always", "--dirty"]
+    done = subprocess.run(git, capture_output=True, text=True)
+    return f"commit {done.stdout.strip()}" if done.returncode == 0 else "no commit"
 
 
 def processor():
