@@ -108,9 +108,7 @@ impl FromLine for BStrContent {
     ghost allows_nothing = { tt };
 
     fn from_line(alloc: Global, line: &[u8]) -> Result<BStrContent, LineFault> {
-        Ok(BStrContent::Owned(BString::new(Vec::from_slice(
-            alloc, line,
-        )?)))
+        Ok(BStrContent::Owned(BString::new(Vec::from_slice(alloc, line)?)))
     }
 }
 

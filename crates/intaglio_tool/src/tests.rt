@@ -170,3 +170,65 @@ fn failed_writes_are_told(rt: HostRuntime) {
     let unflushed = run(rt.alloc(), &mut { INPUT }, &mut UnflushedWriter);
     assert!(rt; matches!(unflushed, Err(ToolError::Write)));
 }
+
+#[test]
+fn each_mode_encodes_read_at_once_and_byte_by_byte(rt: HostRuntime) -> Result<(), Fail> {
+    for mode in ["text", "bytes", "bstr", "cstr", "osstr", "path"] {
+        let builder: Builder = BuildHasherDefault::new();
+        let served = serve_words(rt.alloc(), mode, Some(builder), INPUT)?;
+        assert_eq!(rt; served.status, 0);
+        assert_eq!(rt; served.written.as_slice(), OUTPUT);
+    }
+    for kind in [Kind::Bytes, Kind::BStr, Kind::CStr, Kind::OsStr, Kind::Path] {
+        let mut reader = SlowReader {
+            rest: INPUT,
+            step: 1,
+            reads: 0,
+            fails_at: 0,
+            kind: ErrorKind::Other,
+        };
+        let mut written = Vec::new(rt.alloc());
+        let builder: Builder = BuildHasherDefault::new();
+        encode(rt.alloc(), kind, builder, &mut reader, &mut written)?;
+        assert_eq!(rt; written.as_slice(), OUTPUT);
+    }
+    Ok(())
+}
+
+#[test]
+fn modes_take_what_their_kind_takes(rt: HostRuntime) -> Result<(), Fail> {
+    let builder: Builder = BuildHasherDefault::new();
+    let paths = serve_words(rt.alloc(), "path", Some(builder), b"a//b\na/b\n")?;
+    assert_eq!(rt; paths.written.as_slice(), b"0\n0\n\na//b\n".as_slice());
+    let builder: Builder = BuildHasherDefault::new();
+    let bytes = serve_words(rt.alloc(), "bytes", Some(builder), b"a\n\xc3")?;
+    assert_eq!(rt; bytes.written.as_slice(), b"0\n1\n\na\n\xc3\n".as_slice());
+    for mode in ["osstr", "path"] {
+        let builder: Builder = BuildHasherDefault::new();
+        let refused = serve_words(rt.alloc(), mode, Some(builder), b"\xff")?;
+        assert_eq!(rt; refused.status, 1);
+        assert_eq!(rt; refused.told.as_slice(), b"input is not UTF-8\n".as_slice());
+    }
+    Ok(())
+}
+
+#[test]
+fn a_zero_byte_is_told_by_the_first_line_that_holds_one(rt: HostRuntime) -> Result<(), Fail> {
+    let builder: Builder = BuildHasherDefault::new();
+    let second = serve_words(rt.alloc(), "cstr", Some(builder), b"a\nb\x00\n")?;
+    assert_eq!(rt; second.status, 1);
+    assert_eq!(rt; second.written.len(), 0);
+    assert_eq!(rt;
+        second.told.as_slice(),
+        b"line 2 holds a zero byte\n".as_slice()
+    );
+    let builder: Builder = BuildHasherDefault::new();
+    let first = serve_words(rt.alloc(), "cstr", Some(builder), b"\x00\n\x00")?;
+    assert_eq!(rt; first.status, 1);
+    assert_eq!(rt; first.written.len(), 0);
+    assert_eq!(rt;
+        first.told.as_slice(),
+        b"line 1 holds a zero byte\n".as_slice()
+    );
+    Ok(())
+}

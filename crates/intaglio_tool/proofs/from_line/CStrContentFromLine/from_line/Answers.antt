@@ -12,6 +12,6 @@ none-first (Some place) apart = absurd (apart place refl)
 pub returns-in-Ok-clause-fits : goal.returns-in-Ok-clause-fits
 returns-in-Ok-clause-fits c =
     none-first (first_zero c.args.line.now) (λ place found.
-      let same : c.extend_from_slice.new.self.items ≡ c.args.line.now = grind (arith, common_steps, c.in_ok-extend_from_slice.ensures.items, c.in_ok-bytes.ensures.items) in
-      let zero = (c.new.ensures.inner place).1 (rw same found) in
-      let fine = c.in-Ok.is in cc)
+    let same : c.extend_from_slice.new.self.items ≡ c.args.line.now = grind (arith, common_steps, c.in_ok-extend_from_slice.ensures.items, c.in_ok-bytes.ensures.items) in
+    let zero = (c.new.ensures.inner place).1 (rw same found) in
+    let fine = c.in-Ok.is in cc)
