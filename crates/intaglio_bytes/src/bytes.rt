@@ -11,8 +11,8 @@ ghost use Rattle.intaglio_core.specs.State.{first, IsValid};
 ghost use Rattle.intaglio_core.specs.Change.{Interns, Reserves, Shrinks, TakesBack, Empties};
 
 use intaglio_core::{
-    AllSymbols, BytesContent, Core, DEFAULT_SYMBOL_TABLE_CAPACITY, Forms, InternError, Interner, Mark, Pairs,
-    RoomError, StaleMark, Symbol, Work,
+    AllSymbols, BytesContent, Core, DEFAULT_SYMBOL_TABLE_CAPACITY, Forms, InternError, Interner,
+    Mark, Pairs, RoomError, StaleMark, Symbol, Work,
 };
 use std::alloc::Global;
 use std::hash::{BuildHasher, BuildHasherDefault, FoldHasher};
