@@ -1,0 +1,49 @@
+//! The table of platform strings.
+use crate::kind::{Kind, Making};
+use intaglio::osstr::{OsStrContent, SymbolTable};
+use intaglio::{InternError, RoomError, Symbol};
+use std::alloc::{AllocError, Global};
+use std::hash::BuildHasherDefault;
+
+impl Kind for SymbolTable {
+    fn make(alloc: Global, making: Making) -> Result<SymbolTable, RoomError> {
+        let hasher = BuildHasherDefault::new();
+        match making {
+            Making::New => SymbolTable::new(alloc),
+            Making::WithCapacity(capacity) => SymbolTable::with_capacity(alloc, capacity),
+            Making::WithHasher => SymbolTable::with_hasher(alloc, hasher),
+            Making::WithCapacityAndHasher(capacity) => SymbolTable::with_capacity_and_hasher(
+                alloc, capacity, hasher,
+            ),
+            Making::WithLimit(limit) => SymbolTable::with_limit(alloc, limit, hasher),
+        }
+    }
+
+    fn content_of(alloc: Global, number: u32) -> Result<OsStrContent, AllocError> {
+        Ok(OsStrContent::from(format!(in alloc; "{number}")?))
+    }
+
+    fn capacity(&self) -> usize {
+        self.capacity()
+    }
+
+    fn intern(&mut self, content: OsStrContent) -> Result<Symbol, InternError> {
+        self.intern(content)
+    }
+
+    fn check(&self, sought: &OsStrContent) -> Option<Symbol> {
+        self.check_interned(sought.form())
+    }
+
+    fn reserve(&mut self, additional: usize) -> Result<(), RoomError> {
+        self.reserve(additional)
+    }
+
+    fn shrink_to(&mut self, min_capacity: usize) -> Result<(), RoomError> {
+        self.shrink_to(min_capacity)
+    }
+
+    fn shrink_to_fit(&mut self) -> Result<(), RoomError> {
+        self.shrink_to_fit()
+    }
+}
