@@ -7,15 +7,15 @@
 
 pub mod laws;
 
-pub use intaglio_bytes::b_str as bstr;
-pub use intaglio_bytes::bytes;
-pub use intaglio_core::run;
+pub use intaglio_bytes::{b_str as bstr, bytes};
 pub use intaglio_core::{
     AllSymbols, BytesContent, Call, Content, Core, DEFAULT_SYMBOL_TABLE_CAPACITY, Formed, Forms,
     Index, InternError, Interner, Keyed, Mark, Pairs, Reply, RoomError, Sought, Spelled, StaleMark,
-    StrContent, Symbol, SymbolOverflowError, Work,
+    StrContent, Symbol, SymbolOverflowError, Work, run,
 };
 pub use intaglio_cstr as cstr;
 pub use intaglio_path as path;
-pub use intaglio_text::osstr;
-pub use intaglio_text::{Iter, Strings, SymbolTable};
+pub use intaglio_text::{Iter, Strings, SymbolTable, osstr};
+
+#[cfg(test)]
+mod tests;
