@@ -14,7 +14,7 @@ use std::marker::Model;
 /// The pairs of symbol and form that are still to come, from the first content to the last.
 ///
 /// Clauses see it as the list of their numbers and spellings. After the last pair only `None` comes. `size_hint` is exact, and
-/// a clone takes no memory. There is no `next_back` and no `len`: [`Forms`] and [`AllSymbols`] have the one each, as they stand.
+/// a clone takes no memory. There is no `next_back` and no `len`.
 ///
 /// ```
 /// let mut pairs = Pairs::of(&table, &contents);

@@ -1,7 +1,10 @@
 -- What holds at each turn of a walk, in the words of its function.
-use Rattle.std.proofs.Common.{◌≡◌, ◌≢◌, ℕ, ◌%◌, ◌<◌, List, [], ◌∷◌, ◌++◌, length, get_or, map, refl, sym, ◌∙◌, arith, Option, Some, None}
+use Rattle.std.proofs.Common.{◌≡◌, ◌≢◌, ℕ, ◌%◌, ◌<◌, List, [], ◌∷◌, ◌++◌, length, get_or, map, refl, sym, ap, ◌∙◌, arith, Option, Some, None}
 use Rattle.std.specs.Option.{MatchOption}
-use Rattle.std.proofs.lemmas.List.{length-map}
+use Rattle.std.proofs.lemmas.List.{length-map, get_or-map}
+use Rattle.std.proofs.lemmas.List.Elements.{All-from_recursion}
+use Rattle.std.proofs.lemmas.Simd.{map-map}
+use Rattle.intaglio_core.proofs.First.{first-none}
 use Rattle.intaglio_index.specs.Placed.{Placed, head_of, members, chain, symbols_of, AreSorted, IsEntry}
 use Rattle.std.specs.List.{AllByRecursion}
 use Rattle.std.specs.List.Sorted.{IsPermutation}
@@ -23,6 +26,18 @@ pub record IsWalking {C : Type 0} (key : C → Key) (hash : Key → ℕ) (index 
 -- an entry is followed by this one
 abbrev pub Precedes : List (ℕ × ℕ) → ℕ × ℕ → Option (ℕ × ℕ) → Type 0
 Precedes path e next = (before behind : List (ℕ × ℕ)) → path ≡ before ++ e ∷ behind → next ≡ head_of behind
+
+-- where no placed hash is that of the key, no content has the key
+pub absent : {C : Type 0} (key : C → Key) (hash : Key → ℕ) (index : Placed) (contents : List C) (k : Key) (h : ℕ) → index.hashes ≡ map (λ c. hash (key c)) contents → h ≡ hash k →
+    AllByRecursion (λ placed. placed ≢ h) index.hashes → None ≡ first_of (map key contents) k
+absent key hash index contents k h hashes known none =
+    let is : index.hashes ≡ map hash (map key contents) = hashes ∙ sym (map-map hash key contents) in
+    let all = All-from_recursion (λ placed. placed ≢ h) index.hashes none in
+    let differs : (j : ℕ) → j < length (map key contents) → get_or (map key contents) j [] ≢ k = λ j l e.
+    (let number : get_or index.hashes j 0 ≡ h = rw is (get_or-map hash (map key contents) j [] 0 l ∙ ap hash e ∙ sym known) in
+    let within : j < length index.hashes = rw is (omega (arith, l, length-map (map key contents) hash)) in
+    all j 0 within number) in
+    sym (first-none (map key contents) k differs)
 
 module _ {C : Type 0} {key : C → Key} {hash : Key → ℕ} {index : Placed} {contents : List C} {k : Key} {h : ℕ} {start now : List Mark} where
   pub begins : (first : Option (ℕ × ℕ)) → index.hashes ≡ map (λ c. hash (key c)) contents → AreDistinct (map key contents) → h ≡ hash k →

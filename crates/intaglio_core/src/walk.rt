@@ -28,7 +28,10 @@ pub fn walk<C: Keyed, S: BuildHasher, Q: Sought<C>>(
 {
     // The builder is only named by the contract.
     let _ = builder;
-    let mut candidate = index.first(hash, work);
+    let Some(start) = index.seek(hash, work) else {
+        return None;
+    };
+    let mut candidate = Some(start);
     while let Some(found) = candidate {
         if hash < found.1 {
             return None;

@@ -2,6 +2,7 @@
 ghost use Rattle.std.specs.Prelude.{◌≡◌, ◌%◌, ◌<◌, ◌≤◌, length};
 
 mod changing;
+mod filter;
 mod making;
 mod walking;
 
@@ -18,7 +19,7 @@ pub(crate) struct Node {
 
 /// Symbols in buckets, by the hashes of their contents.
 ///
-/// A bucket takes 8 bytes and a placed symbol 16. No number of a symbol stands for "none": all 2^32 symbols can be placed.
+/// A bucket takes 9 bytes and a placed symbol 16. No number of a symbol stands for "none": all 2^32 symbols can be placed.
 ///
 /// ```
 /// let mut work = Work::new();
@@ -33,6 +34,7 @@ pub(crate) struct Node {
 pub struct Index {
     heads: Vec<Option<Symbol>>,
     nodes: Vec<Node>,
+    filters: Vec<u8>,
     alloc: Global,
 }
 
@@ -45,6 +47,7 @@ impl Model for Index {
     ghost coded = { placed_code };
 
     ghost use Rattle.intaglio_index.specs.Links.{IsLinked, hashes_of};
+    ghost use Rattle.intaglio_index.specs.Filter.{IsFiltered};
 
     ghost view = { λ index. record {
       count = length index.heads.items;
@@ -52,7 +55,10 @@ impl Model for Index {
       room = min (vec_len index.heads) (vec_capacity index.nodes);
     } };
 
-    ghost invariant = { λ index. IsLinked index.heads.items index.nodes.items };
+    ghost invariant = { λ index. record {
+      linked : IsLinked index.heads.items index.nodes.items;
+      filtered : IsFiltered index.filters.items (length index.heads.items) (hashes_of index.nodes.items);
+    } };
 }
 
 impl Index {

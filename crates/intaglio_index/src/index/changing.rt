@@ -2,6 +2,7 @@
 ghost use Rattle.std.specs.Prelude.{◌≡◌, ◌-◌, ◌<◌, ◌≤◌, ◌++◌, ◌∷◌, [], length, replicate, take, None};
 ghost use Rattle.intaglio_content.specs.Work.{placed};
 
+use super::filter::marked;
 use super::{Index, Node, bucket};
 use intaglio_content::Work;
 use intaglio_symbol::Symbol;
@@ -32,9 +33,11 @@ impl Index {
     {
         // A proof learns here that the number fits.
         let _number = symbol.id();
-        match self.predecessor(hash) {
+        let bucket = bucket(hash, self.heads.len() as u64);
+        let place = self.predecessor(hash);
+        self.filters[bucket] = marked(self.filters[bucket], hash);
+        match place {
             None => {
-                let bucket = bucket(hash, self.heads.len() as u64);
                 let next = self.heads[bucket];
                 self.nodes.push_reserved(Node { hash, next });
                 self.heads[bucket] = Some(symbol);
@@ -55,7 +58,8 @@ impl Index {
         ensures count { self.new.count ≡ self.old.count }
         ensures room { self.new.room ≡ self.old.room }
     {
-        erase(&mut self.heads);
+        refill(&mut self.heads, None);
+        refill(&mut self.filters, 0);
         self.nodes.clear();
     }
 
@@ -97,11 +101,11 @@ impl Index {
     }
 }
 
-// Empties each bucket.
-fn erase(heads: &mut [Option<Symbol>])
-    ensures { heads.new ≡ replicate (length heads.old) None }
+// Puts a value into each place.
+fn refill<T: Copy>(list: &mut [T], value: T)
+    ensures { list.new ≡ replicate (length list.old) value }
 {
-    for head in heads.iter_mut() {
-        *head = None;
+    for place in list.iter_mut() {
+        *place = value;
     }
 }

@@ -10,16 +10,18 @@ use std::alloc::{AllocError, Global};
 impl Index {
     /// Exactly `count` empty buckets, with room for as many symbols. No buckets take no memory.
     ///
-    /// Errors where a request for memory is refused. There are two requests, and nothing is kept after a refusal.
+    /// Errors where a request for memory is refused. There are three requests, and nothing is kept after a refusal.
     pub fn with_buckets(alloc: Global, count: usize) -> Result<Index, AllocError>
         ensures made { IfOk result (λ index. index ≡ record { count = count; hashes = []; room = count }) }
         ensures none_needed { count ≡ 0 → IsOk result }
     {
-        let heads = empty_heads(alloc, count)?;
+        let heads = repeated(alloc, None, count)?;
+        let filters = repeated(alloc, 0, count)?;
         let nodes = Vec::with_capacity(alloc, count)?;
         Ok(Index {
             heads,
             nodes,
+            filters,
             alloc,
         })
     }
@@ -86,14 +88,14 @@ impl Index {
     }
 }
 
-// The heads of empty buckets.
-fn empty_heads(alloc: Global, count: usize) -> Result<Vec<Option<Symbol>>, AllocError>
-    ensures made { IfOk result (λ heads. heads.items ≡ replicate count None) }
+// A value so many times.
+fn repeated<T: Copy>(alloc: Global, value: T, count: usize) -> Result<Vec<T>, AllocError>
+    ensures made { IfOk result (λ list. list.items ≡ replicate count value) }
     ensures none_needed { count ≡ 0 → IsOk result }
 {
-    let mut heads = Vec::with_capacity(alloc, count)?;
+    let mut list = Vec::with_capacity(alloc, count)?;
     for _i in 0..count {
-        heads.push_reserved(None);
+        list.push_reserved(value);
     }
-    Ok(heads)
+    Ok(list)
 }

@@ -1,5 +1,5 @@
 //! A bucket is walked.
-ghost use Rattle.std.specs.Prelude.{◌≡◌, ◌%◌, ◌<◌, ◌++◌, ◌∷◌, [], List, ℕ, length, None, Some, MatchOption};
+ghost use Rattle.std.specs.Prelude.{◌≡◌, ◌≢◌, ◌%◌, ◌<◌, ◌++◌, ◌∷◌, [], List, ℕ, length, None, Some, All, MatchOption, IfSome, IsTrue};
 ghost use Rattle.std.specs.Option.{option_map};
 ghost use Rattle.std.specs.List.{AllByRecursion};
 ghost use Rattle.std.specs.List.Sorted.{IsPermutation};
@@ -8,6 +8,7 @@ ghost use Rattle.intaglio_index.specs.Placed.{chain, members, head_of, symbols_o
 ghost use Rattle.intaglio_index.specs.Links.{entry_of};
 ghost use Rattle.intaglio_symbol.specs.declared.symbol.Symbol.{Symbol};
 
+use super::filter::is_marked;
 use super::{Index, Node, bucket};
 use intaglio_content::Work;
 use intaglio_symbol::Symbol;
@@ -29,6 +30,35 @@ impl Index {
     {
         work.step(); // in an empty bucket too
         self.front(hash)
+    }
+
+    /// As [`first`](Index::first), for a search: `None` also where no placed symbol has this hash, if the bucket's filter
+    /// shows it. One step.
+    ///
+    /// The filter of a bucket is a byte. A look-up that finds nothing mostly reads no more than that.
+    pub fn seek(&self, hash: u64, work: &mut Work) -> Option<(Symbol, u64)>
+        ensures members { IsPermutation (members self.now (hash % self.now.count))
+            (symbols_of (chain self.now (hash % self.now.count))) }
+        ensures sorted { AreSorted (chain self.now (hash % self.now.count)) }
+        ensures hashes { AllByRecursion (IsEntry self.now.count (hash % self.now.count) self.now.hashes)
+            (chain self.now (hash % self.now.count)) }
+        ensures first { IfSome result (λ found. Some found ≡ head_of (chain self.now (hash % self.now.count))) }
+        ensures none { result ≡ None → AllByRecursion (λ placed. placed ≢ hash) self.now.hashes }
+        ensures marks { work.new.marks ≡ work.old.marks ++ step ∷ [] }
+    {
+        work.step(); // where the filter says no too
+        if self.is_absent(hash) {
+            return None;
+        }
+        self.front(hash)
+    }
+
+    // Whether a filter shows that no placed symbol has the hash.
+    fn is_absent(&self, hash: u64) -> bool
+        ensures { IsTrue result → AllByRecursion (λ placed. placed ≢ hash) self.now.hashes }
+    {
+        let count = self.filters.len();
+        count == 0 || !is_marked(self.filters[bucket(hash, count as u64)], hash)
     }
 
     /// The symbol behind a placed one in its bucket, with its hash; `None` behind the last one. One step.

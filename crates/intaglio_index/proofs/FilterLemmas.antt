@@ -1,0 +1,58 @@
+-- What filters tell of the hashes that were placed.
+use Rattle.std.proofs.Common.{◌≡◌, ◌≢◌, ℕ, ◌<◌, ◌%◌, List, [], ◌∷◌, ◌++◌, length, get_or, set, take, drop, refl, sym, ◌∙◌, arith, eqb, inl, inr, None, subst}
+use Rattle.std.specs.List.{AllByRecursion}
+use Rattle.std.proofs.lemmas.Bool.Decides.{eqb_tells}
+use Rattle.std.proofs.lemmas.List.{get_or-set_same, get_or-set_other, get_or_default, length-set, take-append-drop}
+use Rattle.std.proofs.lemmas.List.Elements.{recursion_from_All}
+use Rattle.intaglio_index.specs.Placed.{Placed, chain, chain_from, head_of, symbols_of}
+use Rattle.intaglio_index.specs.Filter.{IsMarked, IsFiltered}
+use Rattle.intaglio_index.proofs.ChainLemmas.{Each-weaker, Each-left, Each-append, chain-complete}
+
+-- no hash was placed
+pub filtered-none : (filters : List ℕ) (count : ℕ) (hashes : List ℕ) → length filters ≡ count → hashes ≡ [] → IsFiltered filters count hashes
+filtered-none filters count hashes size none = record { size = size; marks = rw none tt }
+
+-- one hash more, whose bit is set
+pub filtered-push : (filters : List ℕ) (count : ℕ) (hashes : List ℕ) (hash mark : ℕ) → IsFiltered filters count hashes → hash % count < count → IsMarked mark hash →
+    ((other : ℕ) → IsMarked (get_or filters (hash % count) 0) other → IsMarked mark other) → IsFiltered (set filters (hash % count) mark) count (hashes ++ hash ∷ [])
+filtered-push filters count hashes hash mark filtered within marked kept =
+    let b : ℕ = hash % count in
+    let l : b < length filters = omega (arith, within, filtered.size) in
+    let here : get_or (set filters b mark) b 0 ≡ mark = get_or-set_same filters b mark 0 l in
+    let stays : (other : ℕ) → IsMarked (get_or filters (other % count) 0) other → IsMarked (get_or (set filters b mark) (other % count) 0) other = λ other m.
+    elim (eqb_tells (other % count) b) [
+      | inl h ↦ rw (h.1, here) (kept other (rw h.1 at m))
+      | inr h ↦ rw (get_or-set_other filters b (other % count) mark 0 h.1) m
+    ] in
+    record {
+      size = length-set filters b mark ∙ filtered.size;
+      marks = Each-append (λ other. IsMarked (get_or (set filters b mark) (other % count) 0) other) hashes (hash ∷ []) (Each-weaker _ _ stays hashes filtered.marks) (rw here marked, tt);
+    }
+
+-- fewer hashes
+pub filtered-take : (filters : List ℕ) (count : ℕ) (hashes : List ℕ) (n : ℕ) → IsFiltered filters count hashes → IsFiltered filters count (take n hashes)
+filtered-take filters count hashes n filtered = record {
+  size = filtered.size;
+  marks = Each-left (λ hash. IsMarked (get_or filters (hash % count) 0) hash) (take n hashes) (drop n hashes) (rw (take-append-drop n hashes) filtered.marks);
+}
+
+-- a hash whose bit is not set was not placed
+pub not_marked : (filters : List ℕ) (count : ℕ) (hashes : List ℕ) (hash : ℕ) → IsFiltered filters count hashes → (IsMarked (get_or filters (hash % count) 0) hash → ⊥) →
+    AllByRecursion (λ placed. placed ≢ hash) hashes
+not_marked filters count hashes hash filtered unset =
+    Each-weaker _ _ (λ placed m e. unset (subst (λ p. IsMarked (get_or filters (p % count) 0) p) e m)) hashes filtered.marks
+
+nil_head : (es : List (ℕ × ℕ)) → None ≡ head_of es → es ≡ []
+nil_head [] e = refl
+nil_head (x ∷ xs) e = cc
+
+-- nor was one whose bucket is empty
+pub not_in_empty : (v : Placed) (hash : ℕ) → None ≡ head_of (chain v (hash % v.count)) → AllByRecursion (λ placed. placed ≢ hash) v.hashes
+unfolding chain
+not_in_empty v hash none =
+    let empty : chain_from v.count (hash % v.count) 0 [] v.hashes ≡ [] = nil_head _ none in
+    recursion_from_All (λ placed. placed ≢ hash) v.hashes (λ i d l e.
+    (let at : get_or v.hashes i 0 ≡ hash = get_or_default v.hashes i 0 d l ∙ e in
+    let found = chain-complete v.count (hash % v.count) v.hashes i l (rw at refl) in
+    let within : found.0 < length (symbols_of (chain_from v.count (hash % v.count) 0 [] v.hashes)) = found.1 in
+    absurd (omega (arith, rw empty at within))))

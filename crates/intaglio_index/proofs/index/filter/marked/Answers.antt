@@ -1,0 +1,20 @@
+use Rattle.std.proofs.Common.{◌≡◌, ◌<◌, ◌/◌, ◌^◌, sym, ◌∙◌, arith, inl, inr, ℕ, w8}
+use Rattle.std.specs.Int.{bit_at}
+use Rattle.std.specs.Int.RustNames.{bit_or}
+use Rattle.std.proofs.lemmas.Bool.Decides.{eqb_tells}
+use Rattle.std.proofs.lemmas.Nat.Bits.{bit_at_set_same, bit_at_set_other}
+use Rattle.intaglio_index.proofs.index.filter.marked.Goals as goal
+
+pub returns-clause-set : goal.returns-clause-set
+returns-clause-set c =
+    let within : c.args.hash / 2 ^ 61 < 8 = omega (arith, c.ranges.hash.fits) in
+    bit_at_set_same w8 c.args.filter (c.args.hash / 2 ^ 61) within
+
+pub returns-clause-kept : goal.returns-clause-kept
+returns-clause-kept c =
+    let k : ℕ = c.args.hash / 2 ^ 61 in
+    let within : k < 8 = omega (arith, c.ranges.hash.fits) in
+    λ other e. elim (eqb_tells (other / 2 ^ 61) k) [
+      | inl h ↦ rw h.1 (bit_at_set_same w8 c.args.filter k within)
+      | inr h ↦ bit_at_set_other w8 c.args.filter k within (other / 2 ^ 61) h.1 ∙ e
+    ]
