@@ -30,8 +30,14 @@ def build_ours(top):
     return top / "crates/bench/out/bench"
 
 
-def build_twin(top, scratch, upstream):
-    """Lays the Rust crate out in the scratch folder, and builds the twin over it."""
+def build_tool(top):
+    """Proves and builds the program in crates/intaglio_tool."""
+    run(["rt", "run", "--", "text"], top / "crates/intaglio_tool")
+    return top / "crates/intaglio_tool/out/intaglio_tool"
+
+
+def build_twin(top, scratch, upstream, name="twin"):
+    """Lays the Rust crate out in the scratch folder, and builds the twin's program of that name over it."""
     crate = scratch / "intaglio"
     shutil.rmtree(crate, ignore_errors=True)
     files = sorted(upstream.glob("src--src--*.rs.txt"))
@@ -45,13 +51,18 @@ def build_twin(top, scratch, upstream):
     shutil.copytree(top / "bench/rust", scratch / "twin", dirs_exist_ok=True)
     flags = {"RUSTFLAGS": f"-C target-cpu={PROCESSOR}"}
     run(["cargo", "build", "--release", "--offline"], scratch / "twin", flags)
-    return scratch / "twin/target/release/twin"
+    return scratch / "twin/target/release" / name
 
 
 def run(command, folder, more=None):
     """Runs a command, and ends with what it said where it fails."""
     done = subprocess.run(
-        command, cwd=folder, env=os.environ | (more or {}), capture_output=True, text=True
+        command,
+        cwd=folder,
+        env=os.environ | (more or {}),
+        stdin=subprocess.DEVNULL,
+        capture_output=True,
+        text=True,
     )
     if done.returncode != 0:
         sys.exit(f"{done.stdout}{done.stderr}bench/run: {' '.join(command)} failed")

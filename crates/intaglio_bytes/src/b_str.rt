@@ -3,4 +3,5 @@ mod content;
 mod table;
 
 pub use content::BStrContent;
+pub use intaglio_core::AllSymbols;
 pub use table::{BStrings, Iter, SymbolTable};

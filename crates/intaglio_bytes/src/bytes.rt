@@ -10,9 +10,10 @@ ghost use Rattle.intaglio_core.specs.Capacity.{IsRounded};
 ghost use Rattle.intaglio_core.specs.State.{first, IsValid};
 ghost use Rattle.intaglio_core.specs.Change.{Interns, Reserves, Shrinks, TakesBack, Empties};
 
+pub use intaglio_core::AllSymbols;
 use intaglio_core::{
-    AllSymbols, BytesContent, Core, DEFAULT_SYMBOL_TABLE_CAPACITY, Forms, InternError, Interner,
-    Mark, Pairs, RoomError, StaleMark, Symbol, Work,
+    BytesContent, Core, DEFAULT_SYMBOL_TABLE_CAPACITY, Forms, InternError, Interner, Mark, Pairs,
+    RoomError, StaleMark, Symbol, Work,
 };
 use std::alloc::Global;
 use std::hash::{BuildHasher, BuildHasherDefault, FoldHasher};

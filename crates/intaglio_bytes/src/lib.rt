@@ -6,5 +6,3 @@
 
 pub mod b_str;
 pub mod bytes;
-#[cfg(test)]
-mod tests;

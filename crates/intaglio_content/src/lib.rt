@@ -22,6 +22,3 @@ pub use forms::Forms;
 pub use pairs::Pairs;
 pub use str_content::StrContent;
 pub use work::Work;
-
-#[cfg(test)]
-mod tests;

@@ -16,7 +16,5 @@ pub use c_str::CStr;
 pub use c_string::CString;
 pub use content::CStrContent;
 pub use error::{CStrError, CStringError};
+pub use intaglio_core::AllSymbols;
 pub use table::{CStrings, Iter, SymbolTable};
-
-#[cfg(test)]
-mod tests;

@@ -14,8 +14,6 @@ mod table;
 pub use component::Component;
 pub use components::Components;
 pub use content::PathContent;
+pub use intaglio_core::AllSymbols;
 pub use path::Path;
 pub use table::{Iter, Paths, SymbolTable};
-
-#[cfg(test)]
-mod tests;

@@ -6,4 +6,5 @@
 pub mod osstr;
 mod table;
 
+pub use intaglio_core::AllSymbols;
 pub use table::{Iter, Strings, SymbolTable};

@@ -10,9 +10,10 @@ ghost use Rattle.intaglio_core.specs.State.{first, IsValid};
 ghost use Rattle.intaglio_core.specs.Change.{Interns, Reserves, Shrinks, TakesBack, Empties};
 ghost use Rattle.intaglio_text.specs.Text.{text_key};
 
+pub use intaglio_core::AllSymbols;
 use intaglio_core::{
-    AllSymbols, Core, DEFAULT_SYMBOL_TABLE_CAPACITY, Forms, InternError, Interner, Mark, Pairs,
-    RoomError, StaleMark, StrContent, Symbol, Work,
+    Core, DEFAULT_SYMBOL_TABLE_CAPACITY, Forms, InternError, Interner, Mark, Pairs, RoomError,
+    StaleMark, StrContent, Symbol, Work,
 };
 use std::alloc::Global;
 use std::hash::{BuildHasher, BuildHasherDefault, FoldHasher};

@@ -14,7 +14,7 @@ pub enum Change {
 
 impl Change {
     /// What the call is told as. Std's own shrink of a list keeps a refusal to itself, and the list then keeps its room, so
-    /// that of the two requests of a shrink only the first has an answer.
+    /// the last of the requests of a shrink has no answer.
     pub fn name(self) -> &'static str {
         match self {
             Change::Reserve(_) => "reserve",

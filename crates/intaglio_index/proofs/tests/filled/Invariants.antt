@@ -2,7 +2,7 @@ use Rattle.std.proofs.Common.{◌≡◌, length}
 use Rattle.intaglio_index.proofs.tests.filled.Given as goal
 
 abbrev pub invariant-loop-i : goal.invariant-loop-i
-invariant-loop-i l = record {
+invariant-loop-i g l = record {
   placed : length l.index.hashes ≡ l.i;
   room : l.index.room ≡ length l.hashes;
 }

@@ -2,7 +2,7 @@ use Rattle.std.proofs.Common.{◌≡◌, ◌≤◌, length}
 use Rattle.intaglio_index.proofs.tests.grow.Given as goal
 
 abbrev pub invariant-loop-number : goal.invariant-loop-number
-invariant-loop-number l = record {
+invariant-loop-number g l = record {
   placed : length l.index.hashes ≡ l.number;
   room : l.to ≤ l.index.room;
 }

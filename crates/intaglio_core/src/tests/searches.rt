@@ -1,0 +1,221 @@
+//! How many comparisons and hashings a search makes, and what a table of one bucket answers.
+use super::builder::{FirstByte, Seen};
+use super::counting::Counting;
+use super::same;
+use crate::{Core, StrContent, Symbol, Work};
+use std::alloc::Global;
+use std::fmt::Write;
+use std::process::Abort;
+
+type Table<'a> = Core<Counting, FirstByte<'a>>;
+
+// Texts of which many share a bucket, and how their searches go.
+#[derive(Drop)]
+struct Row<'a> {
+    // The hash of each text, or `None` where that is its first byte.
+    hash: Option<u8>,
+    capacity: usize,
+    // Texts that are interned, with a space between two.
+    texts: &'a str,
+    count: u32,
+    // The most comparisons that interning one of them makes.
+    most: usize,
+    // Missing texts whose hash is that of a stored one, one a line: they are compared once with each at most.
+    equal: &'a str,
+    // Missing texts of other hashes, one a line: they are compared with none.
+    other: &'a str,
+    // How many hashers are made until here.
+    hashers: usize,
+}
+
+fn enters<'a>(
+    rt: &impl Abort,
+    alloc: Global,
+    table: &mut Table<'a>,
+    text: &str,
+    wanted: u32,
+    most: usize,
+) {
+    let content = Counting::new(alloc, text).expect(rt, "memory");
+    let symbol = table
+        .intern(content, &mut Work::new())
+        .expect(rt, "a symbol");
+    let stored = table.get(symbol).expect(rt, "a content");
+    same(
+        rt,
+        (symbol.id(), stored.compared.get() <= most),
+        (wanted, true),
+    );
+}
+
+fn seeks<'a>(
+    rt: &impl Abort,
+    alloc: Global,
+    table: &Table<'a>,
+    text: &str,
+    wanted: Option<Symbol>,
+    most: usize,
+) {
+    let sought = Counting::new(alloc, text).expect(rt, "memory");
+    let symbol = table.search(&sought, &mut Work::new());
+    same(rt, (symbol, sought.compared.get() <= most), (wanted, true));
+}
+
+// Interns the texts, which get the numbers from 0 on.
+fn interns<'a>(rt: &impl Abort, alloc: Global, table: &mut Table<'a>, row: &Row) {
+    for (text, number) in row.texts.split(' ').zip(0..row.count) {
+        enters(rt, alloc, table, text, number, row.most);
+    }
+}
+
+// Finds the texts, from the last to the first.
+fn finds<'a>(rt: &impl Abort, alloc: Global, table: &Table<'a>, row: &Row) {
+    for (text, number) in row.texts.rsplit(' ').zip((0..row.count).rev()) {
+        seeks(
+            rt,
+            alloc,
+            table,
+            text,
+            Some(Symbol::new(number)),
+            row.count as usize,
+        );
+    }
+}
+
+fn misses<'a>(rt: &impl Abort, alloc: Global, table: &Table<'a>, texts: &str, most: usize) {
+    for text in texts.lines() {
+        seeks(rt, alloc, table, text, None, most);
+    }
+}
+
+fn tells_apart<'a>(rt: &impl Abort, alloc: Global, seen: &'a Seen, row: &Row) {
+    let builder = FirstByte {
+        first: row.hash,
+        seen,
+    };
+    let mut table = Core::with_capacity_and_hasher(alloc, row.capacity, builder).expect(
+        rt, "a table",
+    );
+    interns(rt, alloc, &mut table, row);
+    misses(rt, alloc, &table, row.equal, row.count as usize);
+    misses(rt, alloc, &table, row.other, 0);
+    same(rt, table.hasher().seen.made.get(), row.hashers);
+    finds(rt, alloc, &table, row);
+}
+
+#[test]
+fn five_equal_hashes_are_told_apart(rt: HostRuntime) {
+    let row = Row {
+        hash: Some(7),
+        capacity: 4096,
+        texts: "e0 e1 e2 e3 e4",
+        count: 5,
+        most: 4,
+        equal: "zz",
+        other: "",
+        hashers: 6,
+    };
+    tells_apart(&rt, rt.alloc(), &Seen::new(), &row);
+}
+
+#[test]
+fn unequal_hashes_of_one_bucket_are_not_compared(rt: HostRuntime) {
+    let row = Row {
+        hash: None,
+        capacity: 8,
+        texts: "a b i",
+        count: 3,
+        most: 0,
+        equal: "",
+        other: "q",
+        hashers: 4,
+    };
+    tells_apart(&rt, rt.alloc(), &Seen::new(), &row);
+}
+
+#[test]
+fn four_hashes_of_one_bucket_are_told_apart(rt: HostRuntime) {
+    let row = Row {
+        hash: None,
+        capacity: 8,
+        texts: "a i q y",
+        count: 4,
+        most: 0,
+        equal: "",
+        other: "b",
+        hashers: 5,
+    };
+    tells_apart(&rt, rt.alloc(), &Seen::new(), &row);
+}
+
+#[test]
+fn equal_hashes_alone_are_compared(rt: HostRuntime) {
+    let row = Row {
+        hash: None,
+        capacity: 8,
+        texts: "aa ab ac",
+        count: 3,
+        most: 2,
+        equal: "ad",
+        other: "i\nY",
+        hashers: 6,
+    };
+    tells_apart(&rt, rt.alloc(), &Seen::new(), &row);
+}
+
+// The decimal texts of the numbers below two thousand.
+fn two_thousand(rt: &impl Abort, alloc: Global) -> String {
+    let mut texts = "0".to_string(alloc).expect(rt, "memory");
+    for number in 1..2000u32 {
+        write!(texts, " {number}").expect(rt, "memory");
+    }
+    texts
+}
+
+#[test]
+fn two_thousand_equal_hashes_are_told_apart(rt: HostRuntime) {
+    let texts = two_thousand(&rt, rt.alloc());
+    let row = Row {
+        hash: Some(7),
+        capacity: 0,
+        texts: texts.as_str(),
+        count: 2000,
+        most: 1999,
+        equal: "2000",
+        other: "",
+        hashers: 2001,
+    };
+    tells_apart(&rt, rt.alloc(), &Seen::new(), &row);
+}
+
+#[test]
+fn two_thousand_first_bytes_are_told_apart(rt: HostRuntime) {
+    let texts = two_thousand(&rt, rt.alloc());
+    let row = Row {
+        hash: None,
+        capacity: 0,
+        texts: texts.as_str(),
+        count: 2000,
+        most: 1999,
+        equal: "2000",
+        other: "",
+        hashers: 2001,
+    };
+    tells_apart(&rt, rt.alloc(), &Seen::new(), &row);
+}
+
+// How many of the writes of the feed of `abc` are heard where a text is sought.
+fn heard<'a>(rt: &impl Abort, alloc: Global, seen: &'a Seen, text: &str) -> u8 {
+    let builder = FirstByte { first: None, seen };
+    let table: Core<StrContent, FirstByte<'a>> = Core::with_capacity_and_hasher(
+        alloc, 0, builder,
+    ).expect(rt, "a table");
+    let _ = table.search(&text, &mut Work::new());
+    seen.heard.get()
+}
+
+#[test]
+fn a_text_feeds_its_bytes_and_an_end(rt: HostRuntime) {
+    same(&rt, heard(&rt, rt.alloc(), &Seen::new(), "abc"), 2);
+    same(&rt, heard(&rt, rt.alloc(), &Seen::new(), "ab"), 3);
+}
