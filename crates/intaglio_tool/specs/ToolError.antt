@@ -3,7 +3,7 @@ use Rattle.std.specs.Prelude.{ℕ, Result, Ok, Err}
 use Rattle.intaglio_symbol.specs.declared.error.InternError.{InternError}
 use Rattle.intaglio_symbol.specs.declared.error.InternError.TheVariants as intern_error
 use Rattle.intaglio_tool.specs.declared.error.ToolError.{ToolError}
-use Rattle.intaglio_tool.specs.declared.error.ToolError.TheVariants.{NotUtf8, ZeroByte, Memory, Overflow, Read}
+use Rattle.intaglio_tool.specs.declared.error.ToolError.TheVariants.{NotUtf8, ZeroByte, Memory, Overflow, Read, Write}
 
 -- P holds of the line's number, if the error is that a line holds a zero byte
 abbrev pub IfZeroByte : ToolError → (ℕ → Type 0) → Type 0
@@ -29,13 +29,28 @@ IsReadingError Memory = Unit {0}
 IsReadingError Read = Unit {0}
 IsReadingError _ = ⊥
 
--- the output wasn't made
-abbrev pub IsOutputError : ToolError → Type 0
-IsOutputError NotUtf8 = Unit {0}
-IsOutputError (ZeroByte n) = Unit {0}
-IsOutputError Memory = Unit {0}
-IsOutputError Overflow = Unit {0}
-IsOutputError _ = ⊥
+-- writing fails by memory, before anything is written, or by a write
+abbrev pub IsWritingError : ToolError → Type 0
+IsWritingError Memory = Unit {0}
+IsWritingError Write = Unit {0}
+IsWritingError _ = ⊥
+
+-- the lines weren't taken, or what stands for them wasn't written
+abbrev pub IsTakingOrWritingError : ToolError → Type 0
+IsTakingOrWritingError (ZeroByte n) = Unit {0}
+IsTakingOrWritingError Memory = Unit {0}
+IsTakingOrWritingError Overflow = Unit {0}
+IsTakingOrWritingError Write = Unit {0}
+IsTakingOrWritingError _ = ⊥
+
+-- an input that was read wasn't encoded
+abbrev pub IsEncodingError : ToolError → Type 0
+IsEncodingError NotUtf8 = Unit {0}
+IsEncodingError (ZeroByte n) = Unit {0}
+IsEncodingError Memory = Unit {0}
+IsEncodingError Overflow = Unit {0}
+IsEncodingError Write = Unit {0}
+IsEncodingError _ = ⊥
 
 -- the run ended because the input isn't text, or before its end was met
 abbrev pub IsNotUtf8OrUnread : {T : Type 0} → Result T ToolError → Type 0

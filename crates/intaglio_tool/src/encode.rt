@@ -1,12 +1,12 @@
 //! From the bytes that are read to the bytes that are written.
-ghost use Rattle.std.specs.Prelude.{◌≡◌, ◌≢◌, ◌+◌, ◌<◌, ◌≤◌, ◌^◌, [], not, length, OnOk, IfOk, IfErr, IfSome};
+ghost use Rattle.std.specs.Prelude.{◌≡◌, ◌≢◌, ◌+◌, ◌<◌, ◌≤◌, ◌^◌, [], not, length, OnOk, IfErr, IfSome};
 ghost use Rattle.std.specs.List.{position_or_len};
 ghost use Rattle.std.specs.Io.KnownBytes.{Appends, IsAtEnd};
 ghost use Rattle.intaglio_core.specs.Issue.{interned_all};
 ghost use Rattle.intaglio_tool.specs.Encoded.{encoded, encoded_by};
 ghost use Rattle.intaglio_tool.specs.Kind.{Allows, key_of, is_fit};
 ghost use Rattle.intaglio_tool.specs.Lines.{lines_of};
-ghost use Rattle.intaglio_tool.specs.ToolError.{IfZeroByte, IsNotUtf8OrUnread, IsOutputError, IsTakingError};
+ghost use Rattle.intaglio_tool.specs.ToolError.{IfZeroByte, IsEncodingError, IsNotUtf8OrUnread, IsTakingOrWritingError};
 ghost use Rattle.intaglio_tool.specs.declared.error.ToolError.TheVariants.{NotUtf8, Overflow, Write as WriteFailed};
 
 use crate::error::ToolError;
@@ -14,7 +14,7 @@ use crate::from_line::FromLine;
 use crate::kind::Kind;
 use crate::read::read_all;
 use crate::take::take_lines;
-use crate::write::{output, write_out};
+use crate::write::write_output;
 use intaglio::{Interner, SymbolTable, bstr, bytes, cstr, osstr, path};
 use std::alloc::Global;
 use std::hash::BuildHasher;
@@ -23,7 +23,7 @@ use std::io::{Read, Write};
 /// Interns the lines of the input into a table of that kind, and writes the symbol of each line, an
 /// empty line, and the spelling of each symbol.
 ///
-/// All of the input is read before any line is taken, all of the output is made before any of it is
+/// All of the input is read before any line is taken, all lines are taken before anything is
 /// written, and from the first write on no memory is asked for.
 ///
 /// # Errors
@@ -52,76 +52,91 @@ pub fn encode<S: BuildHasher + Drop, R: Read, W: Write>(
     ensures nothing_written { IfErr result (λ e. e ≢ WriteFailed → writer.new ≡ writer.old) }
 {
     let input = read_all(alloc, reader)?;
-    let output = output_for(alloc, kind, builder, &input)?;
-    write_out(&output, writer)
+    encode_bytes(alloc, kind, builder, input, writer)
 }
 
-// What is written for an input.
-fn output_for<S: BuildHasher + Drop>(
+// The same for an input that was read.
+fn encode_bytes<S: BuildHasher + Drop, W: Write>(
     alloc: Global,
     kind: Kind,
     builder: S,
-    input: &[u8],
-) -> Result<Vec<u8>, ToolError>
-    ensures written { IfOk result (λ output. output.items ≡ encoded kind input.now) }
-    ensures not_utf8 { result ≡ Err NotUtf8 → ¬ (Allows kind input.now) }
-    ensures refuses { ¬ (Allows kind input.now) → result ≡ Err NotUtf8 }
-    ensures zero { IfErr result (λ e. IfZeroByte e (λ n. (n ≡ position_or_len (λ line. not (is_fit kind line)) (lines_of input.now) + 1) × (n ≤ length (lines_of input.now)))) }
-    ensures fit { OnOk result (position_or_len (λ line. not (is_fit kind line)) (lines_of input.now) ≡ length (lines_of input.now)) }
-    ensures overflow { result ≡ Err Overflow → 2 ^ 32 < length (interned_all (key_of kind) [] (lines_of input.now)) }
-    ensures err { IfErr result IsOutputError }
+    input: Vec<u8>,
+    writer: &mut W,
+) -> Result<(), ToolError>
+    ensures written { OnOk result (Appends (W.contents writer.old) (W.contents writer.new) (encoded kind input.items)) }
+    ensures not_utf8 { result ≡ Err NotUtf8 → ¬ (Allows kind input.items) }
+    ensures refuses { ¬ (Allows kind input.items) → result ≡ Err NotUtf8 }
+    ensures zero { IfErr result (λ e. IfZeroByte e (λ n. (n ≡ position_or_len (λ line. not (is_fit kind line)) (lines_of input.items) + 1) × (n ≤ length (lines_of input.items)))) }
+    ensures fit { OnOk result (position_or_len (λ line. not (is_fit kind line)) (lines_of input.items) ≡ length (lines_of input.items)) }
+    ensures overflow { result ≡ Err Overflow → 2 ^ 32 < length (interned_all (key_of kind) [] (lines_of input.items)) }
+    ensures nothing_written { IfErr result (λ e. e ≢ WriteFailed → writer.new ≡ writer.old) }
+    ensures err { IfErr result IsEncodingError }
 {
-    if !kind.allows(input) {
+    if !kind.allows(&input) {
         return Err(ToolError::NotUtf8);
     }
     match kind {
-        Kind::Text => output_by(alloc, SymbolTable::with_hasher(alloc, builder)?, input),
-        Kind::Bytes => output_by(
+        Kind::Text => encode_by(
+            alloc,
+            SymbolTable::with_hasher(alloc, builder)?,
+            input,
+            writer,
+        ),
+        Kind::Bytes => encode_by(
             alloc,
             bytes::SymbolTable::with_hasher(alloc, builder)?,
             input,
+            writer,
         ),
-        Kind::BStr => output_by(
+        Kind::BStr => encode_by(
             alloc,
             bstr::SymbolTable::with_hasher(alloc, builder)?,
             input,
+            writer,
         ),
-        Kind::CStr => output_by(
+        Kind::CStr => encode_by(
             alloc,
             cstr::SymbolTable::with_hasher(alloc, builder)?,
             input,
+            writer,
         ),
-        Kind::OsStr => output_by(
+        Kind::OsStr => encode_by(
             alloc,
             osstr::SymbolTable::with_hasher(alloc, builder)?,
             input,
+            writer,
         ),
-        Kind::Path => output_by(
+        Kind::Path => encode_by(
             alloc,
             path::SymbolTable::with_hasher(alloc, builder)?,
             input,
+            writer,
         ),
     }
 }
 
-// What is written for an input whose lines are interned into this table.
-fn output_by<T: Interner + Drop>(
+// The same for an input whose lines are interned into this table.
+fn encode_by<T: Interner + Drop, W: Write>(
     alloc: Global,
     table: T,
-    input: &[u8],
-) -> Result<Vec<u8>, ToolError>
+    input: Vec<u8>,
+    writer: &mut W,
+) -> Result<(), ToolError>
 where
     T::Content: FromLine,
-    requires allowed { T.Content.allows input.now }
+    requires allowed { T.Content.allows input.items }
     requires empty { (T.state table).contents ≡ [] }
     requires limit { (T.state table).limit ≡ 2 ^ 32 }
-    ensures written { IfOk result (λ output. output.items ≡ encoded_by T.Content.key_of input.now) }
-    ensures zero { IfErr result (λ e. IfZeroByte e (λ n. (n ≡ position_or_len (λ line. not (T.Content.fits line)) (lines_of input.now) + 1) × (n ≤ length (lines_of input.now)))) }
-    ensures fit { OnOk result (position_or_len (λ line. not (T.Content.fits line)) (lines_of input.now) ≡ length (lines_of input.now)) }
-    ensures overflow { result ≡ Err Overflow → 2 ^ 32 < length (interned_all T.Content.key_of [] (lines_of input.now)) }
-    ensures err { IfErr result IsTakingError }
+    ensures written { OnOk result (Appends (W.contents writer.old) (W.contents writer.new) (encoded_by T.Content.key_of input.items)) }
+    ensures zero { IfErr result (λ e. IfZeroByte e (λ n. (n ≡ position_or_len (λ line. not (T.Content.fits line)) (lines_of input.items) + 1) × (n ≤ length (lines_of input.items)))) }
+    ensures fit { OnOk result (position_or_len (λ line. not (T.Content.fits line)) (lines_of input.items) ≡ length (lines_of input.items)) }
+    ensures overflow { result ≡ Err Overflow → 2 ^ 32 < length (interned_all T.Content.key_of [] (lines_of input.items)) }
+    ensures nothing_written { IfErr result (λ e. e ≢ WriteFailed → writer.new ≡ writer.old) }
+    ensures err { IfErr result IsTakingOrWritingError }
 {
     let mut table = table;
-    let symbols = take_lines(alloc, &mut table, input)?;
-    Ok(output(alloc, &symbols, &table)?)
+    let symbols = take_lines(alloc, &mut table, &input)?;
+    // The table holds copies of its own.
+    drop(input);
+    write_output(alloc, &symbols, &table, writer)
 }
