@@ -102,18 +102,13 @@ fn reads(rt: &impl Abort, table: &Table) {
     same(rt, table.all_symbols().nth(3), Some(Symbol::new(3)));
 }
 
-fn is_pair(rt: &impl Abort, pair: Option<(Symbol, &str)>, number: u32, text: &str) {
-    let (symbol, form) = pair.expect(rt, "a pair");
-    same(rt, symbol.id(), number);
-    same(rt, form, text);
-}
-
 // What is lent of it.
 fn lends(rt: &impl Abort, table: &Table) {
     same(rt, table.form(Symbol::new(2)), Some("123"));
     same(rt, table.forms().nth(3), Some("789"));
-    is_pair(rt, table.search_form(&"xyz", &mut Work::new()), 1, "xyz");
-    is_pair(rt, table.pairs().nth(0), 0, "abc");
+    let found = table.search_form(&"xyz", &mut Work::new());
+    assert_eq!(rt; found, Some((Symbol::new(1), "xyz")));
+    assert_eq!(rt; table.pairs().nth(0), Some((Symbol::new(0), "abc")));
 }
 
 // What changes its room.

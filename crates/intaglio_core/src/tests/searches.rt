@@ -1,19 +1,17 @@
 //! How many comparisons and hashings a search makes, and what a table of one bucket answers.
-use super::builder::{FirstByte, Seen};
+use super::builder::Builder;
 use super::counting::Counting;
 use super::same;
-use crate::{Core, StrContent, Symbol, Work};
+use crate::{Core, Symbol, Work};
 use std::alloc::Global;
 use std::fmt::Write;
 use std::process::Abort;
 
-type Table<'a> = Core<Counting, FirstByte<'a>>;
+type Table = Core<Counting, Builder>;
 
 // Texts of which many share a bucket, and how their searches go.
 #[derive(Drop)]
 struct Row<'a> {
-    // The hash of each text, or `None` where that is its first byte.
-    hash: Option<u8>,
     capacity: usize,
     // Texts that are interned, with a space between two.
     texts: &'a str,
@@ -28,14 +26,7 @@ struct Row<'a> {
     hashers: usize,
 }
 
-fn enters<'a>(
-    rt: &impl Abort,
-    alloc: Global,
-    table: &mut Table<'a>,
-    text: &str,
-    wanted: u32,
-    most: usize,
-) {
+fn enters(rt: &impl Abort, alloc: Global, table: &mut Table, text: &str, wanted: u32, most: usize) {
     let content = Counting::new(alloc, text).expect(rt, "memory");
     let symbol = table
         .intern(content, &mut Work::new())
@@ -48,10 +39,10 @@ fn enters<'a>(
     );
 }
 
-fn seeks<'a>(
+fn seeks(
     rt: &impl Abort,
     alloc: Global,
-    table: &Table<'a>,
+    table: &Table,
     text: &str,
     wanted: Option<Symbol>,
     most: usize,
@@ -62,14 +53,14 @@ fn seeks<'a>(
 }
 
 // Interns the texts, which get the numbers from 0 on.
-fn interns<'a>(rt: &impl Abort, alloc: Global, table: &mut Table<'a>, row: &Row) {
+fn interns(rt: &impl Abort, alloc: Global, table: &mut Table, row: &Row) {
     for (text, number) in row.texts.split(' ').zip(0..row.count) {
         enters(rt, alloc, table, text, number, row.most);
     }
 }
 
 // Finds the texts, from the last to the first.
-fn finds<'a>(rt: &impl Abort, alloc: Global, table: &Table<'a>, row: &Row) {
+fn finds(rt: &impl Abort, alloc: Global, table: &Table, row: &Row) {
     for (text, number) in row.texts.rsplit(' ').zip((0..row.count).rev()) {
         seeks(
             rt,
@@ -82,31 +73,26 @@ fn finds<'a>(rt: &impl Abort, alloc: Global, table: &Table<'a>, row: &Row) {
     }
 }
 
-fn misses<'a>(rt: &impl Abort, alloc: Global, table: &Table<'a>, texts: &str, most: usize) {
+fn misses(rt: &impl Abort, alloc: Global, table: &Table, texts: &str, most: usize) {
     for text in texts.lines() {
         seeks(rt, alloc, table, text, None, most);
     }
 }
 
-fn tells_apart<'a>(rt: &impl Abort, alloc: Global, seen: &'a Seen, row: &Row) {
-    let builder = FirstByte {
-        first: row.hash,
-        seen,
-    };
+fn tells_apart(rt: &impl Abort, alloc: Global, builder: Builder, row: &Row) {
     let mut table = Core::with_capacity_and_hasher(alloc, row.capacity, builder).expect(
         rt, "a table",
     );
     interns(rt, alloc, &mut table, row);
     misses(rt, alloc, &table, row.equal, row.count as usize);
     misses(rt, alloc, &table, row.other, 0);
-    same(rt, table.hasher().seen.made.get(), row.hashers);
+    same(rt, table.hasher().made.get(), row.hashers);
     finds(rt, alloc, &table, row);
 }
 
 #[test]
 fn five_equal_hashes_are_told_apart(rt: HostRuntime) {
     let row = Row {
-        hash: Some(7),
         capacity: 4096,
         texts: "e0 e1 e2 e3 e4",
         count: 5,
@@ -115,13 +101,12 @@ fn five_equal_hashes_are_told_apart(rt: HostRuntime) {
         other: "",
         hashers: 6,
     };
-    tells_apart(&rt, rt.alloc(), &Seen::new(), &row);
+    tells_apart(&rt, rt.alloc(), Builder::constant(7), &row);
 }
 
 #[test]
 fn unequal_hashes_of_one_bucket_are_not_compared(rt: HostRuntime) {
     let row = Row {
-        hash: None,
         capacity: 8,
         texts: "a b i",
         count: 3,
@@ -130,13 +115,12 @@ fn unequal_hashes_of_one_bucket_are_not_compared(rt: HostRuntime) {
         other: "q",
         hashers: 4,
     };
-    tells_apart(&rt, rt.alloc(), &Seen::new(), &row);
+    tells_apart(&rt, rt.alloc(), Builder::first_byte(), &row);
 }
 
 #[test]
 fn four_hashes_of_one_bucket_are_told_apart(rt: HostRuntime) {
     let row = Row {
-        hash: None,
         capacity: 8,
         texts: "a i q y",
         count: 4,
@@ -145,13 +129,12 @@ fn four_hashes_of_one_bucket_are_told_apart(rt: HostRuntime) {
         other: "b",
         hashers: 5,
     };
-    tells_apart(&rt, rt.alloc(), &Seen::new(), &row);
+    tells_apart(&rt, rt.alloc(), Builder::first_byte(), &row);
 }
 
 #[test]
 fn equal_hashes_alone_are_compared(rt: HostRuntime) {
     let row = Row {
-        hash: None,
         capacity: 8,
         texts: "aa ab ac",
         count: 3,
@@ -160,62 +143,47 @@ fn equal_hashes_alone_are_compared(rt: HostRuntime) {
         other: "i\nY",
         hashers: 6,
     };
-    tells_apart(&rt, rt.alloc(), &Seen::new(), &row);
-}
-
-// The decimal texts of the numbers below two thousand.
-fn two_thousand(rt: &impl Abort, alloc: Global) -> String {
-    let mut texts = "0".to_string(alloc).expect(rt, "memory");
-    for number in 1..2000u32 {
-        write!(texts, " {number}").expect(rt, "memory");
-    }
-    texts
-}
-
-#[test]
-fn two_thousand_equal_hashes_are_told_apart(rt: HostRuntime) {
-    let texts = two_thousand(&rt, rt.alloc());
-    let row = Row {
-        hash: Some(7),
-        capacity: 0,
-        texts: texts.as_str(),
-        count: 2000,
-        most: 1999,
-        equal: "2000",
-        other: "",
-        hashers: 2001,
-    };
-    tells_apart(&rt, rt.alloc(), &Seen::new(), &row);
-}
-
-#[test]
-fn two_thousand_first_bytes_are_told_apart(rt: HostRuntime) {
-    let texts = two_thousand(&rt, rt.alloc());
-    let row = Row {
-        hash: None,
-        capacity: 0,
-        texts: texts.as_str(),
-        count: 2000,
-        most: 1999,
-        equal: "2000",
-        other: "",
-        hashers: 2001,
-    };
-    tells_apart(&rt, rt.alloc(), &Seen::new(), &row);
-}
-
-// How many of the writes of the feed of `abc` are heard where a text is sought.
-fn heard<'a>(rt: &impl Abort, alloc: Global, seen: &'a Seen, text: &str) -> u8 {
-    let builder = FirstByte { first: None, seen };
-    let table: Core<StrContent, FirstByte<'a>> = Core::with_capacity_and_hasher(
-        alloc, 0, builder,
-    ).expect(rt, "a table");
-    let _ = table.search(&text, &mut Work::new());
-    seen.heard.get()
+    tells_apart(&rt, rt.alloc(), Builder::first_byte(), &row);
 }
 
 #[test]
 fn a_text_feeds_its_bytes_and_an_end(rt: HostRuntime) {
-    same(&rt, heard(&rt, rt.alloc(), &Seen::new(), "abc"), 2);
-    same(&rt, heard(&rt, rt.alloc(), &Seen::new(), "ab"), 3);
+    let row = Row {
+        capacity: 1,
+        texts: "abc xyz",
+        count: 2,
+        most: 0,
+        equal: "ab",
+        other: "",
+        hashers: 3,
+    };
+    tells_apart(&rt, rt.alloc(), Builder::abc_alone(), &row);
+}
+
+// Interns the decimal texts of the numbers below two thousand, and finds them.
+fn tells_two_thousand_apart(rt: &impl Abort, alloc: Global, builder: Builder) {
+    let mut texts = "0".to_string(alloc).expect(rt, "memory");
+    for number in 1..2000u32 {
+        write!(texts, " {number}").expect(rt, "memory");
+    }
+    let row = Row {
+        capacity: 0,
+        texts: texts.as_str(),
+        count: 2000,
+        most: 1999,
+        equal: "2000",
+        other: "",
+        hashers: 2001,
+    };
+    tells_apart(rt, alloc, builder, &row);
+}
+
+#[test]
+fn two_thousand_equal_hashes_are_told_apart(rt: HostRuntime) {
+    tells_two_thousand_apart(&rt, rt.alloc(), Builder::constant(7));
+}
+
+#[test]
+fn two_thousand_first_bytes_are_told_apart(rt: HostRuntime) {
+    tells_two_thousand_apart(&rt, rt.alloc(), Builder::first_byte());
 }
