@@ -1,10 +1,23 @@
-//! What no clause says: outside vectors, the tests of the ported crate, and each public call made once.
+//! What no clause says: outside vectors, the tests of the ported crate, and each public call made once on each table.
 
 mod builders;
+mod c_strings;
+mod columns;
+mod components;
+mod contents;
 mod each;
+mod feeds;
+mod forms;
+mod hashers;
+mod hearing;
+mod iterators;
 mod kinds;
-mod made;
+mod loops;
+mod replies;
+mod rooms;
 mod runs;
+mod script;
+mod steps;
 mod table;
-mod text;
-mod words;
+mod telling;
+mod texts;

@@ -1,48 +1,82 @@
-//! Builders of hashers for tests.
+//! Builders of hashers.
+ghost use Rattle.std.specs.Prelude.{None, slice_get, unwrap_or};
+ghost use Rattle.std.specs.Option.{option_or};
+
 use std::cell::Cell;
-use std::hash::{BuildHasher, Hasher};
+use std::hash::{BuildHasher, BuildHasherDefault, FoldHasher, Hasher, RandomState};
 
-/// Finishes with 7.
+/// Std's builder of fixed seed.
+pub type Fold = BuildHasherDefault<FoldHasher>;
+
+/// A builder of hashers that may know how many it has made.
+pub trait Watched: BuildHasher + Drop {
+    /// How many it has made, if it counts them.
+    fn made(&self) -> Option<usize> {
+        None
+    }
+}
+
+impl Watched for BuildHasherDefault<FoldHasher> {}
+
+impl Watched for RandomState {}
+
+/// Finishes with a fixed number, if there is one, or else with the first byte that it was fed, or 0.
 #[derive(Clone, Copy)]
-pub struct Constant;
+pub struct Known {
+    fixed: Option<u64>,
+    first: Option<u8>,
+}
 
-impl Hasher for Constant {
-    ghost write = { λ state _. state };
+impl Hasher for Known {
+    ghost write = { λ state bytes. record { fixed = state.fixed; first = option_or state.first (slice_get bytes 0) } };
 
-    ghost finish = { λ _. 7 };
+    ghost finish = { λ state. unwrap_or state.fixed (unwrap_or state.first 0) };
 
     fn finish(&self) -> u64 {
-        7
+        let first = self.first.unwrap_or(0) as u64;
+        self.fixed.unwrap_or(first)
     }
 
-    fn write(&mut self, _bytes: &[u8]) {}
-}
-
-impl BuildHasher for Constant {
-    type Hasher = Constant;
-
-    ghost build_hasher = { λ state. state };
-
-    fn build_hasher(&self) -> Constant {
-        *self
+    fn write(&mut self, bytes: &[u8]) {
+        if self.first.is_none() {
+            self.first = bytes.first().copied();
+        }
     }
 }
 
-/// Counts the hashers that it makes.
-#[derive(Clone, Copy)]
-pub struct Counted<'a> {
-    pub made: &'a Cell<usize>,
+/// Makes hashers whose hashes are known, and counts them.
+#[derive(Drop)]
+pub struct Counted {
+    fixed: Option<u64>,
+    made: Cell<usize>,
 }
 
-impl<'a> BuildHasher for Counted<'a> {
-    type Hasher = Constant;
+impl Counted {
+    /// Of hashers that finish with this number, or with the first byte that they were fed.
+    pub fn new(fixed: Option<u64>) -> Counted {
+        Counted {
+            fixed,
+            made: Cell::new(0),
+        }
+    }
+}
 
-    ghost use Rattle.intaglio.specs.declared.tests.builders.Constant.{Constant as TheConstant};
+impl BuildHasher for Counted {
+    type Hasher = Known;
 
-    ghost build_hasher = { λ _. record {} };
+    ghost build_hasher = { λ builder. record { fixed = builder.fixed; first = None } };
 
-    fn build_hasher(&self) -> Constant {
+    fn build_hasher(&self) -> Known {
         self.made.set(self.made.get().wrapping_add(1));
-        Constant
+        Known {
+            fixed: self.fixed,
+            first: None,
+        }
+    }
+}
+
+impl Watched for Counted {
+    fn made(&self) -> Option<usize> {
+        Some(self.made.get())
     }
 }

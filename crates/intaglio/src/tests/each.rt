@@ -1,253 +1,179 @@
-//! Tests that are run on each of the six tables.
-use super::builders::{Constant, Counted};
-use super::made::Made;
-use super::table::{New, Table};
-use super::words::{finds, interns, misses, reads};
-use crate::{
-    InternError, Mark, RoomError, StaleMark, Symbol, SymbolOverflowError, SymbolTable, Work, bstr,
-    bytes, cstr, osstr, path,
-};
+//! Trials that are made on tables of each of the six kinds.
+use super::builders::Counted;
+use super::contents::{Made, content};
+use super::loops::{gives, keeps, numbered};
+use super::replies::{roomy, said};
+use super::runs::runs;
+use super::script::{Line, plays, same, way};
+use super::steps::{Steps, walks};
+use super::table::{Make, New, Table};
+use crate::{AllSymbols, Interner, Reply, SymbolTable, bstr, bytes, cstr, osstr, path};
 use std::alloc::Global;
-use std::cell::Cell;
 use std::hash::{BuildHasher, BuildHasherDefault, FoldHasher};
 use std::process::Abort;
-use std::test::Fail;
 
-// Calls a test on a table of each of the six kinds, which this constructor makes.
-macro_rules! on_each {
-    ($test:ident, $rt:expr, $made:ident($($argument:expr),*) $(, $more:expr)*) => {{
-        let alloc = $rt.alloc();
-        $test($rt, alloc, SymbolTable::$made(alloc $(, $argument)*)? $(, $more)*)?;
-        $test($rt, alloc, osstr::SymbolTable::$made(alloc $(, $argument)*)? $(, $more)*)?;
-        $test($rt, alloc, bytes::SymbolTable::$made(alloc $(, $argument)*)? $(, $more)*)?;
-        $test($rt, alloc, bstr::SymbolTable::$made(alloc $(, $argument)*)? $(, $more)*)?;
-        $test($rt, alloc, cstr::SymbolTable::$made(alloc $(, $argument)*)? $(, $more)*)?;
-        $test($rt, alloc, path::SymbolTable::$made(alloc $(, $argument)*)? $(, $more)*)?;
-    }};
+/// What can be tried on tables of any kind.
+pub trait Trial {
+    /// Tries it on tables of this type, which it makes.
+    fn try_on<T: New, R: Abort>(&self, rt: &R, alloc: Global);
 }
 
-fn keeps_its_capacity<T: Table>(rt: &impl Abort, alloc: Global, mut table: T) -> Result<(), Fail>
-where
-    T::Content: Made,
-{
-    interns(rt, alloc, &mut table, "a b c", 0)?;
-    table.empty();
-    assert_eq!(rt; table.fits(), 4096);
-    interns(rt, alloc, &mut table, "x", 0)?;
-    assert!(rt; reads(&table, 0, b"x"));
-    assert!(rt; table.spelled(Symbol::new(2)).is_none() && !table.issued(Symbol::new(2)));
-    misses(rt, alloc, &table, "a")
+/// Tries it on tables of each kind.
+pub fn on_each<Q: Trial>(rt: &impl Abort, alloc: Global, trial: &Q) {
+    trial.try_on::<SymbolTable, _>(rt, alloc);
+    trial.try_on::<osstr::SymbolTable, _>(rt, alloc);
+    trial.try_on::<bytes::SymbolTable, _>(rt, alloc);
+    trial.try_on::<bstr::SymbolTable, _>(rt, alloc);
+    trial.try_on::<cstr::SymbolTable, _>(rt, alloc);
+    trial.try_on::<path::SymbolTable, _>(rt, alloc);
 }
 
-#[test]
-fn a_cleared_table_keeps_its_capacity(rt: HostRuntime) -> Result<(), Fail> {
-    on_each!(keeps_its_capacity, &rt, with_hasher(Constant));
-    Ok(())
-}
+/// A script, in one part for each table: how it is made, and the calls on it.
+#[derive(Clone, Copy)]
+pub struct Script(pub &'static str);
 
-fn refuses_a_third<T: Table>(rt: &impl Abort, alloc: Global, mut table: T) -> Result<(), Fail>
-where
-    T::Content: Made,
-{
-    let full = InternError::Overflow(SymbolOverflowError::new());
-    interns(rt, alloc, &mut table, "a b", 0)?;
-    assert_eq!(rt; table.put(T::Content::owned(alloc, b"c")?), Err(full));
-    interns(rt, alloc, &mut table, "a", 0)?;
-    assert_eq!(rt; table.count(), 2);
-    Ok(())
-}
-
-#[test]
-fn a_full_table_still_finds(rt: HostRuntime) -> Result<(), Fail> {
-    on_each!(refuses_a_third, &rt, with_limit(2, Constant));
-    Ok(())
-}
-
-fn goes_back<T: Table>(rt: &impl Abort, alloc: Global, mut table: T) -> Result<(), Fail>
-where
-    T::Content: Made,
-{
-    interns(rt, alloc, &mut table, "a", 0)?;
-    let mark = table.mark();
-    interns(rt, alloc, &mut table, "b c", 1)?;
-    table.take_back(mark)?;
-    misses(rt, alloc, &table, "b")?;
-    interns(rt, alloc, &mut table, "c", 1)?;
-    assert!(rt; reads(&table, 1, b"c"));
-    assert_eq!(rt; table.take_back(Mark::new(5)), Err(StaleMark::new()));
-    assert_eq!(rt; table.count(), 2);
-    Ok(())
-}
-
-#[test]
-fn contents_after_a_mark_are_dropped(rt: HostRuntime) -> Result<(), Fail> {
-    on_each!(goes_back, &rt, with_hasher(Constant));
-    Ok(())
-}
-
-fn tells_equal_hashes_apart<T: Table>(
-    rt: &impl Abort,
-    alloc: Global,
-    mut table: T,
-    count: u32,
-) -> Result<(), Fail>
-where
-    T::Content: Made,
-{
-    for number in 0..count {
-        let text = format!(in alloc; "{number}")?;
-        let content = T::Content::owned(alloc, text.as_bytes())?;
-        assert_eq!(rt; table.put(content)?.id(), number);
+impl Trial for Script {
+    fn try_on<T: New, R: Abort>(&self, rt: &R, alloc: Global) {
+        on::<T>(rt, alloc, self.0);
     }
-    for number in (0..count).rev() {
-        let text = format!(in alloc; "{number}")?;
-        let content = T::Content::owned(alloc, text.as_bytes())?;
-        assert_eq!(rt; table.check(&content), Some(Symbol::new(number)));
+}
+
+/// Makes the calls of a script on tables of this type.
+pub fn on<T: New>(rt: &impl Abort, alloc: Global, script: &'static str) {
+    for part in script.split("\n\n") {
+        plays_part::<T>(rt, alloc, part);
     }
-    let text = format!(in alloc; "{count}")?;
-    misses(rt, alloc, &table, text.as_str())
 }
 
-#[test]
-fn two_hundred_equal_hashes_are_told_apart(rt: HostRuntime) -> Result<(), Fail> {
-    on_each!(
-        tells_equal_hashes_apart,
-        &rt,
-        with_capacity_and_hasher(0, Constant),
-        200
-    );
-    Ok(())
-}
-
-#[test]
-fn two_thousand_equal_hashes_are_told_apart(rt: HostRuntime) -> Result<(), Fail> {
-    let table = SymbolTable::with_capacity_and_hasher(rt.alloc(), 0, Constant)?;
-    tells_equal_hashes_apart(&rt, rt.alloc(), table, 2000)
-}
-
-fn hashes_once<T: Table>(
-    rt: &impl Abort,
-    alloc: Global,
-    mut table: T,
-    made: &Cell<usize>,
-) -> Result<(), Fail>
-where
-    T::Content: Made,
-{
-    made.set(0);
-    for number in 0..100u32 {
-        let text = format!(in alloc; "{number}")?;
-        table.put(T::Content::owned(alloc, text.as_bytes())?)?;
-    }
-    assert_eq!(rt; made.get(), 100);
-    for number in 0..100u32 {
-        let text = format!(in alloc; "{number}")?;
-        let sought = T::Content::owned(alloc, text.as_bytes())?;
-        let symbol = Symbol::new(number);
-        assert_eq!(rt; table.check(&sought), Some(symbol));
-        assert_eq!(rt; table.pair(&sought), Some((symbol, text.as_bytes())));
-        assert!(rt; table.has(&sought));
-    }
-    assert_eq!(rt; made.get(), 400);
-    table.reserve_counted(1000, &mut Work::new())?;
-    assert_eq!(rt; made.get(), 400);
-    Ok(())
-}
-
-#[test]
-fn a_call_hashes_once_and_a_growth_never(rt: HostRuntime) -> Result<(), Fail> {
-    let made = Cell::new(0);
-    on_each!(
-        hashes_once,
-        &rt,
-        with_capacity_and_hasher(0, Counted { made: &made }),
-        &made
-    );
-    Ok(())
-}
-
-fn keeps_long_texts<T: Table>(rt: &impl Abort, alloc: Global, mut table: T) -> Result<(), Fail>
-where
-    T::Content: Made,
-{
-    for number in 0..100u32 {
-        let text = format!(in alloc; "{number:0100}")?;
-        let sought = T::Content::owned(alloc, text.as_bytes())?;
-        for _ in 0..2 {
-            let symbol = table.put(T::Content::owned(alloc, text.as_bytes())?)?;
-            assert_eq!(rt; symbol.id(), number);
-            assert!(rt; table.has(&sought) && table.issued(symbol));
-            assert!(rt; reads(&table, number, text.as_bytes()));
+fn plays_part<T: New>(rt: &impl Abort, alloc: Global, part: &'static str) {
+    let (first, rest) = part.split_once('\n').unwrap_or((part, ""));
+    let line = Line::of(first).expect(rt, first);
+    match T::make(alloc, way(rt, line).expect(rt, first)) {
+        Ok(mut table) => {
+            same(rt, "done", line.wanted, first);
+            plays(rt, alloc, &mut table, rest);
+        }
+        Err(refused) => {
+            let answer = said(rt, alloc, &roomy(Err(refused)));
+            same(rt, answer.as_str(), line.wanted, first);
         }
     }
-    assert_eq!(rt;
-        table.spelled(Symbol::new(0)).map(|first| first.len()),
-        Some(100)
+}
+
+/// Words that are interned in a new table, and then the steps of its iterators.
+#[derive(Clone, Copy)]
+pub struct Walked {
+    pub words: &'static str,
+    pub steps: Steps,
+}
+
+impl Trial for Walked {
+    fn try_on<T: New, R: Abort>(&self, rt: &R, alloc: Global) {
+        let mut table: T = make(rt, alloc);
+        plays(rt, alloc, &mut table, self.words);
+        walks(rt, alloc, table.symbols(), self.steps.symbols);
+        table.go(rt, alloc, self.steps);
+    }
+}
+
+fn make<T: New>(rt: &impl Abort, alloc: Global) -> T {
+    T::make(alloc, Make::New).expect(rt, "no table")
+}
+
+/// Symbols that have run out, beside those of an empty table.
+#[derive(Clone, Copy)]
+pub struct RunOut;
+
+impl Trial for RunOut {
+    fn try_on<T: New, R: Abort>(&self, rt: &R, alloc: Global) {
+        let empty: T = make(rt, alloc);
+        let mut one: T = make(rt, alloc);
+        gives(rt, one.put(content(rt, alloc, b"a")), numbered(0));
+        let mut symbols = one.symbols();
+        assert!(rt; symbols.next().is_some());
+        alike(rt, symbols, empty.symbols());
+    }
+}
+
+fn alike(rt: &impl Abort, left: AllSymbols<'_>, right: AllSymbols<'_>) {
+    let builder = BuildHasherDefault::<FoldHasher>::new();
+    assert_eq!(rt; builder.hash_one(&left), builder.hash_one(&right));
+    assert!(rt; left == right);
+}
+
+/// A content, on a new table of its own.
+#[derive(Clone, Copy)]
+pub struct Kept<'a>(pub &'a [u8]);
+
+impl<'a> Trial for Kept<'a> {
+    fn try_on<T: New, R: Abort>(&self, rt: &R, alloc: Global) {
+        let mut table: T = make(rt, alloc);
+        let before = table.find(alloc, &content(rt, alloc, self.0));
+        gives(rt, before.is, Reply::Bool(false));
+        keeps(rt, alloc, &mut table, self.0, 0);
+        keeps(rt, alloc, &mut table, self.0, 0);
+    }
+}
+
+/// Makes the calls of a script on tables of this capacity, whose hashers finish with this number, or with the first
+/// byte that they were fed.
+pub fn on_each_with(
+    rt: &impl Abort,
+    alloc: Global,
+    capacity: usize,
+    fixed: Option<u64>,
+    script: &'static str,
+) {
+    plays_counted(
+        rt,
+        alloc,
+        SymbolTable::with_capacity_and_hasher(alloc, capacity, Counted::new(fixed)).expect(
+            rt, "no table",
+        ),
+        script,
     );
-    Ok(())
+    plays_counted(
+        rt,
+        alloc,
+        osstr::SymbolTable::with_capacity_and_hasher(alloc, capacity, Counted::new(fixed)).expect(
+            rt, "no table",
+        ),
+        script,
+    );
+    plays_counted(
+        rt,
+        alloc,
+        bytes::SymbolTable::with_capacity_and_hasher(alloc, capacity, Counted::new(fixed)).expect(
+            rt, "no table",
+        ),
+        script,
+    );
+    plays_counted(
+        rt,
+        alloc,
+        bstr::SymbolTable::with_capacity_and_hasher(alloc, capacity, Counted::new(fixed)).expect(
+            rt, "no table",
+        ),
+        script,
+    );
+    plays_counted(
+        rt,
+        alloc,
+        cstr::SymbolTable::with_capacity_and_hasher(alloc, capacity, Counted::new(fixed)).expect(
+            rt, "no table",
+        ),
+        script,
+    );
+    plays_counted(
+        rt,
+        alloc,
+        path::SymbolTable::with_capacity_and_hasher(alloc, capacity, Counted::new(fixed)).expect(
+            rt, "no table",
+        ),
+        script,
+    );
 }
 
-#[test]
-fn owned_texts_of_a_hundred_bytes_are_kept_once(rt: HostRuntime) -> Result<(), Fail> {
-    on_each!(keeps_long_texts, &rt, with_capacity(0));
-    Ok(())
-}
-
-// What holds of any content, on a table of its own.
-fn keeps_it<T: New>(rt: &impl Abort, alloc: Global, spelling: &[u8]) -> Result<(), Fail>
-where
-    T::Content: Made,
-{
-    let mut table = T::usual(alloc)?;
-    let sought = T::Content::owned(alloc, spelling)?;
-    assert!(rt; !table.has(&sought));
-    let symbol = table.put(T::Content::owned(alloc, spelling)?)?;
-    assert!(rt; table.has(&sought) && table.issued(symbol));
-    assert_eq!(rt; table.put(T::Content::owned(alloc, spelling)?)?, symbol);
-    assert_eq!(rt; table.spelled(symbol), Some(spelling));
-    Ok(())
-}
-
-fn keeps_all<T: New>(rt: &impl Abort, alloc: Global) -> Result<(), Fail>
-where
-    T::Content: Made,
-{
-    for text in " a abc a/b a//b \u{e4}".split(' ') {
-        keeps_it::<T>(rt, alloc, text.as_bytes())?;
-    }
-    let long = Vec::from_elem(alloc, b'x', 4096)?;
-    keeps_it::<T>(rt, alloc, &long)?;
-    let empty = T::usual(alloc)?;
-    for number in "0 1 17 4095 4096 4294967294 4294967295".split(' ') {
-        assert!(rt; !empty.issued(Symbol::new(number.parse()?)), "{number}");
-    }
-    Ok(())
-}
-
-#[test]
-fn each_content_of_the_list_is_kept(rt: HostRuntime) -> Result<(), Fail> {
-    let alloc = rt.alloc();
-    keeps_all::<SymbolTable>(&rt, alloc)?;
-    keeps_all::<osstr::SymbolTable>(&rt, alloc)?;
-    keeps_all::<bytes::SymbolTable>(&rt, alloc)?;
-    keeps_all::<bstr::SymbolTable>(&rt, alloc)?;
-    keeps_all::<cstr::SymbolTable>(&rt, alloc)?;
-    keeps_all::<path::SymbolTable>(&rt, alloc)
-}
-
-fn keeps_odd_bytes<T: New>(rt: &impl Abort, alloc: Global) -> Result<(), Fail>
-where
-    T::Content: Made,
-{
-    keeps_it::<T>(rt, alloc, b"\x00")?;
-    keeps_it::<T>(rt, alloc, b"\xff")?;
-    keeps_it::<T>(rt, alloc, b"\x00\xff\x00")
-}
-
-#[test]
-fn bytes_that_are_no_text_are_kept(rt: HostRuntime) -> Result<(), Fail> {
-    let alloc = rt.alloc();
-    keeps_odd_bytes::<bytes::SymbolTable>(&rt, alloc)?;
-    keeps_odd_bytes::<bstr::SymbolTable>(&rt, alloc)?;
-    keeps_it::<cstr::SymbolTable>(&rt, alloc, b"\xff")
+fn plays_counted<T: Table>(rt: &impl Abort, alloc: Global, mut table: T, script: &'static str) {
+    plays(rt, alloc, &mut table, script);
 }

@@ -1,41 +1,63 @@
-//! Columns of contents that are interned by a run.
-use super::made::Made;
-use super::table::New;
+//! Scripts whose calls are made in one run.
+use super::contents::{Made, content, lent};
+use super::replies::said;
+use super::script::{Line, same, size, symbol};
 use crate::run::run;
-use crate::{Call, Reply, Symbol, SymbolTable, Work, bstr, bytes, cstr, osstr, path};
+use crate::{Call, Interner, Mark, Reply, Work};
 use std::alloc::Global;
 use std::process::Abort;
-use std::test::Fail;
 
-// Interns the column in one run, whose words have their numbers behind them.
-fn issues<T: New>(rt: &impl Abort, alloc: Global, column: &str) -> Result<(), Fail>
+/// Makes the calls of a script in one run.
+pub fn runs<T: Interner + Drop>(rt: &impl Abort, alloc: Global, mut table: T, script: &'static str)
 where
     T::Content: Made,
 {
-    let mut table = T::usual(alloc)?;
-    let mut calls = Vec::new(alloc);
-    for line in column.lines() {
-        let (word, _) = line.split_once('>').ok_or("no number")?;
-        calls.push(Call::Intern(T::Content::owned(alloc, word.as_bytes())?))?;
-    }
-    let replies = run(alloc, &mut table, calls, &mut Work::new())?;
-    assert_eq!(rt; replies.len(), column.lines().count());
-    for (line, reply) in column.lines().zip(replies.iter()) {
-        let (_, number) = line.split_once('>').ok_or("no number")?;
-        let wanted = Reply::Symbol(Some(Symbol::new(number.parse()?)));
-        assert!(rt; *reply == wanted, "{line}");
-    }
-    Ok(())
+    let calls = calls_of(rt, alloc, script);
+    let replies = run(alloc, &mut table, calls, &mut Work::new()).expect(rt, "memory");
+    agree(rt, alloc, script, replies.as_slice());
 }
 
-#[test]
-fn equal_patterns_are_issued_equal_symbols(rt: HostRuntime) -> Result<(), Fail> {
-    let alloc = rt.alloc();
-    issues::<SymbolTable>(&rt, alloc, "a>0\nb>1\na>0")?;
-    issues::<path::SymbolTable>(&rt, alloc, "x/y>0\nx>1\nx//y>0")?;
-    issues::<SymbolTable>(&rt, alloc, "a>0\nb>1\nb>1")?;
-    issues::<osstr::SymbolTable>(&rt, alloc, "a>0\nb>1\na>0")?;
-    issues::<bytes::SymbolTable>(&rt, alloc, "a>0\nb>1\na>0")?;
-    issues::<bstr::SymbolTable>(&rt, alloc, "a>0\nb>1\na>0")?;
-    issues::<cstr::SymbolTable>(&rt, alloc, "a>0\nb>1\na>0")
+// Sees that the replies are those of the lines.
+fn agree(rt: &impl Abort, alloc: Global, script: &'static str, replies: &[Reply]) {
+    assert_eq!(rt; replies.len(), script.lines().count());
+    for (text, reply) in script.lines().zip(replies.iter()) {
+        let line = Line::of(text).expect(rt, text);
+        same(rt, said(rt, alloc, reply).as_str(), line.wanted, text);
+    }
+}
+
+fn calls_of<C: Made>(rt: &impl Abort, alloc: Global, script: &'static str) -> Vec<Call<C>> {
+    let mut calls = Vec::new(alloc);
+    for text in script.lines() {
+        let line = Line::of(text).expect(rt, text);
+        let call = call_of(rt, alloc, line).expect(rt, text);
+        calls.push(call).expect(rt, "memory");
+    }
+    calls
+}
+
+fn call_of<C: Made>(rt: &impl Abort, alloc: Global, line: Line) -> Option<Call<C>> {
+    match line.name {
+        "intern" => Some(Call::Intern(content(rt, alloc, line.word.as_bytes()))),
+        "lend" => Some(Call::Intern(lent(rt, line.word))),
+        "check" => Some(Call::Check(content(rt, alloc, line.word.as_bytes()))),
+        "get_interned" => Some(Call::GetInterned(content(rt, alloc, line.word.as_bytes()))),
+        "is_interned" => Some(Call::IsInterned(content(rt, alloc, line.word.as_bytes()))),
+        "contains" => Some(Call::Contains(symbol(rt, line.word))),
+        "get" => Some(Call::Get(symbol(rt, line.word))),
+        "reserve" => Some(Call::Reserve(size(rt, line.word))),
+        "shrink_to" => Some(Call::ShrinkTo(size(rt, line.word))),
+        "take_back" => Some(Call::TakeBack(Mark::new(size(rt, line.word)))),
+        name => plain_call(name),
+    }
+}
+
+fn plain_call<C>(name: &str) -> Option<Call<C>> {
+    match name {
+        "len" => Some(Call::Len),
+        "is_empty" => Some(Call::IsEmpty),
+        "clear" => Some(Call::Clear),
+        "shrink_to_fit" => Some(Call::ShrinkToFit),
+        _ => None,
+    }
 }

@@ -1,0 +1,97 @@
+//! The iterators of each table, from each end that they have.
+use super::each::{RunOut, Walked, on_each};
+use super::steps::Steps;
+
+const BOTH_ENDS: Steps = Steps {
+    symbols: "next > 0
+nth_back(2) > 1
+next > none",
+    contents: "next > abc
+nth_back(2) > xyz
+next > none",
+    pairs: "next > 0 abc
+next > 1 xyz
+next > 2 123
+next > 3 789
+next > none
+next > none",
+};
+
+#[test]
+fn iterators_go_from_both_ends(rt: HostRuntime) {
+    let words = "intern abc > 0
+intern xyz > 1
+intern 123 > 2
+intern 789 > 3";
+    on_each(
+        &rt,
+        rt.alloc(),
+        &Walked {
+            words,
+            steps: BOTH_ENDS,
+        },
+    );
+}
+
+const TURNS: Steps = Steps {
+    symbols: "next_back > 2
+next > 0
+next > 1
+next > none
+next_back > none",
+    contents: "len > 3
+next_back > c
+len > 2
+size_hint > (2, Some(2))
+next > a
+next > b
+next > none
+next_back > none",
+    pairs: "next > 0 a
+size_hint > (2, Some(2))
+next > 1 b
+next > 2 c
+next > none",
+};
+
+#[test]
+fn ends_are_taken_in_turn(rt: HostRuntime) {
+    let words = "intern a > 0
+intern b > 1
+intern c > 2";
+    on_each(
+        &rt,
+        rt.alloc(),
+        &Walked {
+            words,
+            steps: TURNS,
+        },
+    );
+}
+
+const NOTHING: Steps = Steps {
+    symbols: "size_hint > (0, Some(0))
+next > none",
+    contents: "len > 0
+next > none
+next_back > none",
+    pairs: "size_hint > (0, Some(0))
+next > none",
+};
+
+#[test]
+fn nothing_comes_of_an_empty_table(rt: HostRuntime) {
+    on_each(
+        &rt,
+        rt.alloc(),
+        &Walked {
+            words: "",
+            steps: NOTHING,
+        },
+    );
+}
+
+#[test]
+fn run_out_symbols_are_those_of_an_empty_table(rt: HostRuntime) {
+    on_each(&rt, rt.alloc(), &RunOut);
+}

@@ -1,0 +1,13 @@
+//! Assertions, each proved once: a call of one costs a test nothing to prove.
+use std::fmt::Debug;
+use std::process::Abort;
+
+/// Asserts that both are the same.
+pub fn same<T: PartialEq + Debug + Drop>(rt: &impl Abort, got: T, wanted: T) {
+    assert_eq!(rt; got, wanted);
+}
+
+/// Asserts that it holds.
+pub fn holds(rt: &impl Abort, value: bool) {
+    assert!(rt; value);
+}
