@@ -98,8 +98,17 @@ get_interned abc > 0 abc
 is_interned abc > true
 clear > done
 is_empty > true
-is_interned abc > false
-reserve 5000 > done
+is_interned abc > false",
+    );
+}
+
+#[test]
+fn room_and_marks_in_a_run(rt: HostRuntime) {
+    runs_on_each(
+        &rt,
+        rt.alloc(),
+        4294967296,
+        "reserve 5000 > done
 intern a > 0
 intern b > 1
 take_back 3 > stale mark

@@ -124,6 +124,17 @@ pub fn on_each_with(
     fixed: Option<u64>,
     script: &'static str,
 ) {
+    on_texts_with(rt, alloc, capacity, fixed, script);
+    on_bytes_with(rt, alloc, capacity, fixed, script);
+}
+
+fn on_texts_with(
+    rt: &impl Abort,
+    alloc: Global,
+    capacity: usize,
+    fixed: Option<u64>,
+    script: &'static str,
+) {
     plays_counted(
         rt,
         alloc,
@@ -140,6 +151,23 @@ pub fn on_each_with(
         ),
         script,
     );
+    plays_counted(
+        rt,
+        alloc,
+        path::SymbolTable::with_capacity_and_hasher(alloc, capacity, Counted::new(fixed)).expect(
+            rt, "no table",
+        ),
+        script,
+    );
+}
+
+fn on_bytes_with(
+    rt: &impl Abort,
+    alloc: Global,
+    capacity: usize,
+    fixed: Option<u64>,
+    script: &'static str,
+) {
     plays_counted(
         rt,
         alloc,
@@ -160,14 +188,6 @@ pub fn on_each_with(
         rt,
         alloc,
         cstr::SymbolTable::with_capacity_and_hasher(alloc, capacity, Counted::new(fixed)).expect(
-            rt, "no table",
-        ),
-        script,
-    );
-    plays_counted(
-        rt,
-        alloc,
-        path::SymbolTable::with_capacity_and_hasher(alloc, capacity, Counted::new(fixed)).expect(
             rt, "no table",
         ),
         script,
