@@ -26,29 +26,17 @@ struct Row<'a> {
     hashers: usize,
 }
 
-fn counting(rt: &impl Abort, alloc: Global, text: &str) -> Counting {
-    Counting::new(alloc, text).expect(rt, "memory")
-}
-
-// Whether a stored text was compared no more often than this when it was interned.
-fn came_by(table: &Table, symbol: Symbol, most: usize) -> bool {
-    match table.get(symbol) {
-        Some(stored) => stored.compared.get() <= most,
-        None => false,
-    }
-}
-
-fn enters(
-    rt: &impl Abort,
-    alloc: Global,
-    table: &mut Table,
-    text: &str,
-    wanted: Symbol,
-    most: usize,
-) {
-    let symbol = table.intern(counting(rt, alloc, text), &mut Work::new());
-    same(rt, symbol, Ok(wanted));
-    same(rt, came_by(table, wanted, most), true);
+fn enters(rt: &impl Abort, alloc: Global, table: &mut Table, text: &str, wanted: u32, most: usize) {
+    let content = Counting::new(alloc, text).expect(rt, "memory");
+    let symbol = table
+        .intern(content, &mut Work::new())
+        .expect(rt, "a symbol");
+    let stored = table.get(symbol).expect(rt, "a content");
+    same(
+        rt,
+        (symbol.id(), stored.compared.get() <= most),
+        (wanted, true),
+    );
 }
 
 fn seeks(
@@ -59,15 +47,15 @@ fn seeks(
     wanted: Option<Symbol>,
     most: usize,
 ) {
-    let sought = counting(rt, alloc, text);
-    same(rt, table.search(&sought, &mut Work::new()), wanted);
-    same(rt, sought.compared.get() <= most, true);
+    let sought = Counting::new(alloc, text).expect(rt, "memory");
+    let symbol = table.search(&sought, &mut Work::new());
+    same(rt, (symbol, sought.compared.get() <= most), (wanted, true));
 }
 
 // Interns the texts, which get the numbers from 0 on.
 fn interns(rt: &impl Abort, alloc: Global, table: &mut Table, row: &Row) {
     for (text, number) in row.texts.split(' ').zip(0..row.count) {
-        enters(rt, alloc, table, text, Symbol::new(number), row.most);
+        enters(rt, alloc, table, text, number, row.most);
     }
 }
 
