@@ -1,11 +1,16 @@
 //! What no clause says: outside vectors, the tests of the ported crate, and each public call made once on each table.
 
+mod buckets;
 mod builders;
 mod c_strings;
 mod columns;
 mod components;
 mod contents;
+mod conversions;
+mod core_calls;
+mod counting;
 mod each;
+mod errors;
 mod feeds;
 mod forms;
 mod hashers;
@@ -17,7 +22,9 @@ mod replies;
 mod rooms;
 mod runs;
 mod script;
+mod searches;
 mod steps;
+mod symbols_to_come;
 mod table;
 mod telling;
 mod texts;

@@ -21,6 +21,3 @@ pub use intaglio_symbol::{
 pub use interner::Interner;
 pub use run::{Call, Reply};
 pub use table_core::Core;
-
-#[cfg(test)]
-mod tests;

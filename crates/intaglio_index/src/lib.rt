@@ -10,6 +10,3 @@
 mod index;
 
 pub use index::Index;
-
-#[cfg(test)]
-mod tests;

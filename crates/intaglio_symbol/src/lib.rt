@@ -19,6 +19,3 @@ pub use symbol::Symbol;
 
 /// How many contents a table has room for where its constructor takes no capacity.
 pub const DEFAULT_SYMBOL_TABLE_CAPACITY: usize = 4096;
-
-#[cfg(test)]
-mod tests;

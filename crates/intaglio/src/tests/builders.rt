@@ -3,10 +3,15 @@ ghost use Rattle.std.specs.Prelude.{None, slice_get, unwrap_or};
 ghost use Rattle.std.specs.Option.{option_or};
 
 use std::cell::Cell;
-use std::hash::{BuildHasher, BuildHasherDefault, FoldHasher, Hasher, RandomState};
+use std::hash::{BuildHasher, BuildHasherDefault, FoldHasher, Hash, Hasher, RandomState};
 
 /// Std's builder of fixed seed.
 pub type Fold = BuildHasherDefault<FoldHasher>;
+
+/// What std's builder of fixed seed makes of a value.
+pub fn hash_of<T: Hash + Drop>(value: T) -> u64 {
+    Fold::new().hash_one(value)
+}
 
 /// A builder of hashers that may know how many it has made.
 pub trait Watched: BuildHasher + Drop {

@@ -3,6 +3,7 @@ ghost use Rattle.std.specs.Prelude.{◌+◌, ◌-◌, ◌^◌, ◌==◌, false, 
 ghost use Rattle.std.specs.Option.{option_map_or};
 ghost use Rattle.std.specs.Cmp.Lexicographic.{pointwise};
 
+use super::builders::Watched;
 use crate::{Keyed, Sought, Work};
 use std::hash::{BuildHasher, Hasher};
 use std::process::Abort;
@@ -13,6 +14,15 @@ pub struct Wanted {
     writes: &'static [&'static [u8]],
     heard: usize,
 }
+
+impl Wanted {
+    /// Waits for these writes.
+    pub fn of(writes: &'static [&'static [u8]]) -> Wanted {
+        Wanted { writes, heard: 0 }
+    }
+}
+
+impl Watched for Wanted {}
 
 impl Hasher for Wanted {
     ghost write = { λ state bytes. record state { heard = if option_map_or (λ wanted. pointwise ◌==◌ wanted.now bytes) (slice_get state.writes.now state.heard) false then state.heard + 1 else 2 ^ 64 - 1 } };
@@ -46,7 +56,7 @@ impl BuildHasher for Wanted {
 }
 
 fn hash<C: Keyed, Q: Sought<C>>(sought: &Q, writes: &'static [&'static [u8]]) -> u64 {
-    sought.hash_with(&Wanted { writes, heard: 0 }, &mut Work::new())
+    sought.hash_with(&Wanted::of(writes), &mut Work::new())
 }
 
 /// Asserts that hashing the value makes these writes and no other.

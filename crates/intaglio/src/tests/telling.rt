@@ -7,6 +7,11 @@ pub fn same<T: PartialEq + Debug + Drop>(rt: &impl Abort, got: T, wanted: T) {
     assert_eq!(rt; got, wanted);
 }
 
+/// The copy of a value.
+pub fn copy_of<T: Clone>(rt: &impl Abort, value: &T) -> T {
+    value.clone().expect(rt, "no memory")
+}
+
 /// Asserts that it holds.
 pub fn holds(rt: &impl Abort, value: bool) {
     assert!(rt; value);

@@ -1,17 +1,9 @@
-//! Buckets after each kind of change, with memory enough.
-//!
-//! A line of a test is a call of a helper, which is proved once; an assertion is proved anew wherever it is written.
+//! Buckets of an index after each kind of change, with memory enough.
 ghost use Rattle.std.specs.Prelude.{◌≡◌, ◌^◌, ◌≤◌, length};
 
-use crate::Index;
-use intaglio_content::Work;
-use intaglio_symbol::Symbol;
-use std::fmt::Debug;
+use super::telling::same;
+use crate::{Index, Symbol, Work};
 use std::process::Abort;
-
-fn same<T: PartialEq + Debug + Drop>(rt: &impl Abort, got: T, wanted: T) {
-    assert_eq!(rt; got, wanted);
-}
 
 // Symbols of these hashes, in as many buckets.
 fn filled<Rt: Abort + AllocGlobal>(rt: &Rt, hashes: &[u64]) -> Index
@@ -93,7 +85,7 @@ fn a_shrink_keeps_symbols(rt: HostRuntime) {
 }
 
 // A hash in each bucket now and then.
-fn hash_of(number: u32) -> u64 {
+fn spread(number: u32) -> u64 {
     (number as u64).wrapping_mul(0x9E37_79B9_7F4A_7C15) >> 7
 }
 
@@ -121,7 +113,7 @@ fn stands(rt: &impl Abort, index: &Index, count: u32)
     requires { count ≤ length index.now.hashes }
 {
     for number in 0..count {
-        let (_, found) = walk(rt, index, count, hash_of(number), number);
+        let (_, found) = walk(rt, index, count, spread(number), number);
         assert!(rt; found, "symbol {number} of {count}");
     }
     let mut placed = 0u32;
@@ -143,7 +135,7 @@ fn grow<Rt: Abort>(rt: &Rt, index: &mut Index, from: u32, to: u32)
         .reserve(to as usize, &mut work)
         .expect(rt, "no memory");
     for number in from..to {
-        index.place(hash_of(number), Symbol::new(number), &mut work);
+        index.place(spread(number), Symbol::new(number), &mut work);
     }
     stands(rt, index, to);
 }

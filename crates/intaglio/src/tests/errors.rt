@@ -1,5 +1,6 @@
 //! What the errors print, and that `SymbolOverflowError` has one value.
-use super::{copy_of, hash_of, holds, same};
+use super::builders::hash_of;
+use super::telling::{copy_of, holds, same};
 use crate::{InternError, RoomError, StaleMark, SymbolOverflowError};
 use std::alloc::AllocError;
 use std::cmp::Ordering;

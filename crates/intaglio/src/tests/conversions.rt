@@ -1,8 +1,17 @@
 //! Conversions between a symbol and a number.
-use super::{holds, same};
-use crate::{Symbol, SymbolOverflowError};
+use super::telling::{holds, same};
+use crate::{DEFAULT_SYMBOL_TABLE_CAPACITY, Mark, Symbol, SymbolOverflowError};
 use std::num::{NonZeroU8, NonZeroU16, NonZeroU32, NonZeroU64, NonZeroUsize};
 use std::process::Abort;
+
+#[test]
+fn numbers_are_kept(rt: HostRuntime) {
+    same(&rt, Symbol::new(263).id(), 263);
+    same(&rt, Symbol::new(263).is(263), true);
+    same(&rt, Symbol::new(263).is(262), false);
+    same(&rt, Mark::new(5).count(), 5);
+    same(&rt, DEFAULT_SYMBOL_TABLE_CAPACITY, 4096);
+}
 
 fn is(rt: &impl Abort, symbol: Symbol, number: u32) {
     same(rt, symbol.id(), number);

@@ -1,13 +1,12 @@
 //! How many comparisons and hashings a search makes, and what a table of one bucket answers.
-use super::builder::Builder;
+use super::builders::{Counted, Watched};
 use super::counting::Counting;
-use super::same;
+use super::hearing::Wanted;
+use super::telling::same;
 use crate::{Core, Symbol, Work};
 use std::alloc::Global;
 use std::fmt::Write;
 use std::process::Abort;
-
-type Table = Core<Counting, Builder>;
 
 // Texts of which many share a bucket, and how their searches go.
 #[derive(Drop)]
@@ -22,11 +21,18 @@ struct Row<'a> {
     equal: &'a str,
     // Missing texts of other hashes, one a line: they are compared with none.
     other: &'a str,
-    // How many hashers are made until here.
-    hashers: usize,
+    // How many hashers are made until here, where they are counted.
+    hashers: Option<usize>,
 }
 
-fn enters(rt: &impl Abort, alloc: Global, table: &mut Table, text: &str, wanted: u32, most: usize) {
+fn enters(
+    rt: &impl Abort,
+    alloc: Global,
+    table: &mut Core<Counting, impl Watched>,
+    text: &str,
+    wanted: u32,
+    most: usize,
+) {
     let content = Counting::new(alloc, text).expect(rt, "memory");
     let symbol = table
         .intern(content, &mut Work::new())
@@ -42,7 +48,7 @@ fn enters(rt: &impl Abort, alloc: Global, table: &mut Table, text: &str, wanted:
 fn seeks(
     rt: &impl Abort,
     alloc: Global,
-    table: &Table,
+    table: &Core<Counting, impl Watched>,
     text: &str,
     wanted: Option<Symbol>,
     most: usize,
@@ -53,14 +59,14 @@ fn seeks(
 }
 
 // Interns the texts, which get the numbers from 0 on.
-fn interns(rt: &impl Abort, alloc: Global, table: &mut Table, row: &Row) {
+fn interns(rt: &impl Abort, alloc: Global, table: &mut Core<Counting, impl Watched>, row: &Row) {
     for (text, number) in row.texts.split(' ').zip(0..row.count) {
         enters(rt, alloc, table, text, number, row.most);
     }
 }
 
 // Finds the texts, from the last to the first.
-fn finds(rt: &impl Abort, alloc: Global, table: &Table, row: &Row) {
+fn finds(rt: &impl Abort, alloc: Global, table: &Core<Counting, impl Watched>, row: &Row) {
     for (text, number) in row.texts.rsplit(' ').zip((0..row.count).rev()) {
         seeks(
             rt,
@@ -73,20 +79,26 @@ fn finds(rt: &impl Abort, alloc: Global, table: &Table, row: &Row) {
     }
 }
 
-fn misses(rt: &impl Abort, alloc: Global, table: &Table, texts: &str, most: usize) {
+fn misses(
+    rt: &impl Abort,
+    alloc: Global,
+    table: &Core<Counting, impl Watched>,
+    texts: &str,
+    most: usize,
+) {
     for text in texts.lines() {
         seeks(rt, alloc, table, text, None, most);
     }
 }
 
-fn tells_apart(rt: &impl Abort, alloc: Global, builder: Builder, row: &Row) {
+fn tells_apart(rt: &impl Abort, alloc: Global, builder: impl Watched, row: &Row) {
     let mut table = Core::with_capacity_and_hasher(alloc, row.capacity, builder).expect(
         rt, "a table",
     );
     interns(rt, alloc, &mut table, row);
     misses(rt, alloc, &table, row.equal, row.count as usize);
     misses(rt, alloc, &table, row.other, 0);
-    same(rt, table.hasher().made.get(), row.hashers);
+    same(rt, table.hasher().made(), row.hashers);
     finds(rt, alloc, &table, row);
 }
 
@@ -99,9 +111,9 @@ fn five_equal_hashes_are_told_apart(rt: HostRuntime) {
         most: 4,
         equal: "zz",
         other: "",
-        hashers: 6,
+        hashers: Some(6),
     };
-    tells_apart(&rt, rt.alloc(), Builder::constant(7), &row);
+    tells_apart(&rt, rt.alloc(), Counted::new(Some(7)), &row);
 }
 
 #[test]
@@ -113,9 +125,9 @@ fn unequal_hashes_of_one_bucket_are_not_compared(rt: HostRuntime) {
         most: 0,
         equal: "",
         other: "q",
-        hashers: 4,
+        hashers: Some(4),
     };
-    tells_apart(&rt, rt.alloc(), Builder::first_byte(), &row);
+    tells_apart(&rt, rt.alloc(), Counted::new(None), &row);
 }
 
 #[test]
@@ -127,9 +139,9 @@ fn four_hashes_of_one_bucket_are_told_apart(rt: HostRuntime) {
         most: 0,
         equal: "",
         other: "b",
-        hashers: 5,
+        hashers: Some(5),
     };
-    tells_apart(&rt, rt.alloc(), Builder::first_byte(), &row);
+    tells_apart(&rt, rt.alloc(), Counted::new(None), &row);
 }
 
 #[test]
@@ -141,9 +153,9 @@ fn equal_hashes_alone_are_compared(rt: HostRuntime) {
         most: 2,
         equal: "ad",
         other: "i\nY",
-        hashers: 6,
+        hashers: Some(6),
     };
-    tells_apart(&rt, rt.alloc(), Builder::first_byte(), &row);
+    tells_apart(&rt, rt.alloc(), Counted::new(None), &row);
 }
 
 #[test]
@@ -155,13 +167,13 @@ fn a_text_feeds_its_bytes_and_an_end(rt: HostRuntime) {
         most: 0,
         equal: "ab",
         other: "",
-        hashers: 3,
+        hashers: None,
     };
-    tells_apart(&rt, rt.alloc(), Builder::abc_alone(), &row);
+    tells_apart(&rt, rt.alloc(), Wanted::of(&[b"abc", b"\xff"]), &row);
 }
 
 // Interns the decimal texts of the numbers below two thousand, and finds them.
-fn tells_two_thousand_apart(rt: &impl Abort, alloc: Global, builder: Builder) {
+fn tells_two_thousand_apart(rt: &impl Abort, alloc: Global, builder: Counted) {
     let mut texts = "0".to_string(alloc).expect(rt, "memory");
     for number in 1..2000u32 {
         write!(texts, " {number}").expect(rt, "memory");
@@ -173,17 +185,17 @@ fn tells_two_thousand_apart(rt: &impl Abort, alloc: Global, builder: Builder) {
         most: 1999,
         equal: "2000",
         other: "",
-        hashers: 2001,
+        hashers: Some(2001),
     };
     tells_apart(rt, alloc, builder, &row);
 }
 
 #[test]
 fn two_thousand_equal_hashes_are_told_apart(rt: HostRuntime) {
-    tells_two_thousand_apart(&rt, rt.alloc(), Builder::constant(7));
+    tells_two_thousand_apart(&rt, rt.alloc(), Counted::new(Some(7)));
 }
 
 #[test]
 fn two_thousand_first_bytes_are_told_apart(rt: HostRuntime) {
-    tells_two_thousand_apart(&rt, rt.alloc(), Builder::first_byte());
+    tells_two_thousand_apart(&rt, rt.alloc(), Counted::new(None));
 }

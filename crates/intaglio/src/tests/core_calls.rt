@@ -1,17 +1,16 @@
-//! Each public call, made once on a table of random hashes.
-use super::same;
+//! Each public call of the core, made once on a table of random hashes.
+use super::builders::Fold;
+use super::telling::same;
 use crate::run::run;
 use crate::{Call, Core, Interner, Mark, RoomError, StrContent, Symbol, Work};
 use std::alloc::Global;
-use std::hash::{BuildHasherDefault, FoldHasher, RandomState};
+use std::hash::RandomState;
 use std::process::Abort;
 
 type Table = Core<StrContent, RandomState>;
 
 fn rounded(alloc: Global, capacity: usize) -> Result<usize, RoomError> {
-    let table: Core<StrContent, BuildHasherDefault<FoldHasher>> = Core::with_capacity(
-        alloc, capacity,
-    )?;
+    let table: Core<StrContent, Fold> = Core::with_capacity(alloc, capacity)?;
     Ok(table.capacity())
 }
 

@@ -1,5 +1,6 @@
 //! The symbols of a table, from both ends.
-use super::{copy_of, hash_of, holds, same};
+use super::builders::hash_of;
+use super::telling::{copy_of, holds, same};
 use crate::{AllSymbols, Symbol};
 
 #[test]

@@ -1,5 +1,5 @@
 use Rattle.std.proofs.Common.{◌≡◌, length}
-use Rattle.intaglio_index.proofs.tests.filled.Given as goal
+use Rattle.intaglio.proofs.tests.buckets.filled.Given as goal
 
 abbrev pub invariant-loop-i : goal.invariant-loop-i
 invariant-loop-i g l = record {
