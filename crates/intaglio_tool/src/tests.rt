@@ -74,6 +74,23 @@ fn lines_become_symbols_and_spellings(rt: HostRuntime) {
     writes(&rt, Kind::Text, b"\0", b"0\n\n\0\n");
 }
 
+fn repeated<Rt: Abort + AllocGlobal>(rt: &Rt, text: &str, count: usize) -> String {
+    text.repeat(rt.alloc(), count).expect(rt, "no memory")
+}
+
+// What is written of a line of 80,000 bytes, and of 40,000 lines: both are longer than a block.
+#[test]
+fn output_longer_than_a_block_is_written_whole(rt: HostRuntime) {
+    let line = repeated(&rt, "ab", 40_000);
+    let input = format!(in rt.alloc(); "b\n{line}\nb").expect(&rt, "no memory");
+    let output = format!(in rt.alloc(); "0\n1\n0\n\nb\n{line}\n").expect(&rt, "no memory");
+    writes(&rt, Kind::Text, input.as_bytes(), output.as_bytes());
+    let lines = repeated(&rt, "a\n", 40_000);
+    let symbols = repeated(&rt, "0\n", 40_000);
+    let output = format!(in rt.alloc(); "{symbols}\na\n").expect(&rt, "no memory");
+    writes(&rt, Kind::Text, lines.as_bytes(), output.as_bytes());
+}
+
 // What the program writes on the words of `arguments`, what it tells of faults, and its status.
 fn serves<Rt: Abort + AllocGlobal>(
     rt: &Rt,
