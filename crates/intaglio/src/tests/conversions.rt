@@ -1,4 +1,4 @@
-//! Conversions between a symbol and a number.
+//! The numbers of symbols and marks, and conversions between a symbol and a number.
 use super::telling::{holds, same};
 use crate::{DEFAULT_SYMBOL_TABLE_CAPACITY, Mark, Symbol, SymbolOverflowError};
 use std::num::{NonZeroU8, NonZeroU16, NonZeroU32, NonZeroU64, NonZeroUsize};
