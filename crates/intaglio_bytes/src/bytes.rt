@@ -387,6 +387,19 @@ impl<S: BuildHasher> Interner for SymbolTable<S> {
         self.core.intern_counted(content, work)
     }
 
+    fn hash_counted(&self, content: &BytesContent, work: &mut Work) -> u64 {
+        self.core.hash_counted(content, work)
+    }
+
+    fn intern_hashed(
+        &mut self,
+        known_hash: u64,
+        content: BytesContent,
+        work: &mut Work,
+    ) -> Result<Symbol, InternError> {
+        Interner::intern_hashed(&mut self.core, known_hash, content, work)
+    }
+
     fn search_counted(&self, sought: &BytesContent, work: &mut Work) -> Option<Symbol> {
         self.core.search_counted(sought, work)
     }

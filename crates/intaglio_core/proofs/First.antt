@@ -1,5 +1,5 @@
 -- The first position with a key, from what is known of each position.
-use Rattle.std.proofs.Common.{◌≡◌, ◌≢◌, ℕ, zero, suc, ◌+◌, ◌<◌, ◌≤◌, Bool, true, false, cond, List, [], ◌∷◌, ◌++◌, length, get_or, Option, Some, None, option_map, IfSome, map, sym, inl, inr, refl, ap, arith}
+use Rattle.std.proofs.Common.{◌≡◌, ◌≢◌, ℕ, zero, suc, ◌+◌, ◌<◌, Bool, true, false, cond, List, [], ◌∷◌, length, get_or, Option, Some, None, option_map, IfSome, map, sym, refl, ap, arith}
 use Rattle.std.proofs.lemmas.List.{length-map}
 use Rattle.intaglio_symbol.specs.declared.symbol.Symbol.{Symbol}
 use Rattle.std.specs.Cmp.Lexicographic.{pointwise_decides, bytes_decides}

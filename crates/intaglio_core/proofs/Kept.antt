@@ -6,7 +6,7 @@ use Rattle.std.proofs.lemmas.Bool.{cases_lt}
 use Rattle.std.proofs.lemmas.List.{map-append, length-map, take-map, length-take-le, get_or-take}
 use Rattle.intaglio_index.specs.Placed.{Placed}
 use Rattle.intaglio_content.specs.Key.{Key}
-use Rattle.intaglio_core.specs.State.{State, key_eq, first_of, AreDistinct, IsValid}
+use Rattle.intaglio_core.specs.State.{key_eq, first_of, AreDistinct, IsValid}
 use Rattle.intaglio_core.specs.Indexed.{IsIndexed}
 use Rattle.intaglio_core.proofs.First.{key_eq-decides}
 

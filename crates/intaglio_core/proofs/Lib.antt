@@ -9,3 +9,5 @@ pub mod Growth
 pub mod Room
 pub mod Rounded
 pub mod Runs
+pub mod Held
+pub mod Each

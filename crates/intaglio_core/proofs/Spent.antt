@@ -1,14 +1,14 @@
 -- What an interning costs, from the costs of its parts.
-use Rattle.std.proofs.Common.{◌≡◌, ◌≢◌, ℕ, zero, suc, ◌+◌, ◌*◌, ◌<◌, ◌≤◌, min, max, List, [], ◌∷◌, ◌++◌, length, map, replicate, Option, None, Result, Ok, Err, OnOk, OnErr, append_assoc, append-nil, inl, inr, refl, sym, ap, ◌∙◌, arith}
+use Rattle.std.proofs.Common.{◌≡◌, ◌≢◌, ℕ, zero, suc, ◌*◌, ◌<◌, ◌≤◌, min, max, List, [], ◌∷◌, ◌++◌, length, replicate, None, Result, Ok, Err, OnOk, OnErr, append_assoc, append-nil, inl, inr, refl, sym, ◌∙◌, arith}
 use Rattle.std.proofs.lemmas.Bool.{cases_lt}
 use Rattle.std.specs.declared.alloc.AllocError.{AllocError}
 use Rattle.intaglio_content.specs.Key.{Key}
-use Rattle.intaglio_content.specs.Work.{Mark, hashed, compared, step, placed}
+use Rattle.intaglio_content.specs.Work.{Mark, hashed, placed}
 use Rattle.intaglio_core.specs.State.{State, first}
 use Rattle.intaglio_core.specs.Cost.{hashed_keys, stored_keys, step_count, placed_count, Adds, SearchCost, IsGrowthCost, IsRoomCost, InternCost}
 use Rattle.intaglio_symbol.specs.declared.symbol.Symbol.{Symbol}
 use Rattle.intaglio_symbol.specs.declared.error.InternError.{InternError}
-use Rattle.intaglio_core.specs.Indexed.{AddCost, IsGrowthAndPlacement}
+use Rattle.intaglio_core.specs.Indexed.{AddCost}
 
 no-hashed : (n : ℕ) → hashed_keys (replicate n placed) ≡ []
 no-hashed zero = refl
@@ -96,13 +96,14 @@ mark-first P m before between after first_mark later =
     (m ∷ later.0, rw (later.1, first_mark) (append_assoc before (m ∷ []) later.0), later.2)
 
 module _ {C : Type 0} (key : C → Key) (hash : Key → ℕ) where
-  pub intern-cost : (result : Result Symbol InternError) (old new : State C) (k : Key) (before between walked after : List Mark)
-      → first key old.contents k ≡ None → between ≡ before ++ hashed k ∷ []
-      → Adds between walked (λ cost. SearchCost key hash old k (hashed k ∷ cost)) → Adds walked after (AddCost old result new)
-      → Adds before after (InternCost key hash old k result new)
-  intern-cost (Ok s) old new k before between walked after none first_mark walk spent = (
-    (hashed k ∷ walk.0) ++ spent.0,
-    rw (spent.1, walk.1, first_mark) (append_assoc (before ++ hashed k ∷ []) walk.0 spent.0 ∙ append_assoc before (hashed k ∷ []) (walk.0 ++ spent.0)),
+  -- what follows the hashing of an interning whose content wasn't found
+  pub intern-cost : (result : Result Symbol InternError) (old new : State C) (k : Key) (before walked after : List Mark)
+      → first key old.contents k ≡ None
+      → Adds before walked (λ cost. SearchCost key hash old k (hashed k ∷ cost)) → Adds walked after (AddCost old result new)
+      → Adds before after (λ cost. InternCost key hash old k result new (hashed k ∷ cost))
+  intern-cost (Ok s) old new k before walked after none walk spent = (
+    walk.0 ++ spent.0,
+    rw (spent.1, walk.1) (append_assoc before walk.0 spent.0),
     rw none (record {
       search = hashed k ∷ walk.0;
       growth = spent.2.growth;
@@ -111,5 +112,5 @@ module _ {C : Type 0} (key : C → Key) (hash : Key → ℕ) where
       grows = spent.2.grows;
     }),
   )
-  intern-cost (Err e) old new k before between walked after none first_mark walk spent =
-      (hashed k ∷ walk.0, rw (spent.1, spent.2, walk.1, first_mark) (append-nil _ ∙ append_assoc before (hashed k ∷ []) walk.0), walk.2)
+  intern-cost (Err e) old new k before walked after none walk spent =
+      (walk.0, rw (spent.1, spent.2, walk.1) (append-nil _), walk.2)

@@ -8,3 +8,4 @@ pub mod Run
 pub mod Issue
 pub mod Pattern
 pub mod Indexed
+pub mod Batch

@@ -1,5 +1,5 @@
 -- One call, its reply, and what it costs.
-use Rattle.std.specs.Prelude.{◌≡◌, ◌≢◌, ℕ, ◌+◌, ◌<◌, List, [], length, Option, Some, Ok, Err, is_some, nat_lt, nat_eq, option_map, option_and_then, slice_get, alloc_error, IsSomeAnd}
+use Rattle.std.specs.Prelude.{◌≡◌, ◌≢◌, ℕ, List, [], length, Option, Some, Ok, Err, is_some, nat_lt, nat_eq, option_map, option_and_then, slice_get, alloc_error, IsSomeAnd}
 use Rattle.intaglio_content.specs.Key.{Key}
 use Rattle.intaglio_content.specs.Work.{Mark}
 use Rattle.intaglio_core.specs.State.{State, first}

@@ -1,6 +1,7 @@
 //! What every symbol table does, for code that is generic in the table.
-ghost use Rattle.std.specs.Prelude.{◌≡◌, ℕ, length, slice_get, option_copied};
+ghost use Rattle.std.specs.Prelude.{◌≡◌, ℕ, ◌++◌, ◌∷◌, [], length, slice_get, option_copied};
 ghost use Rattle.intaglio_content.specs.Key.{Key, key_hash};
+ghost use Rattle.intaglio_content.specs.Work.{hashed};
 ghost use Rattle.intaglio_core.specs.State.{State, first, IsValid};
 ghost use Rattle.intaglio_core.specs.Change.{Interns, Reserves, Shrinks, TakesBack, Empties};
 ghost use Rattle.intaglio_core.specs.Cost.{Adds, InternCost, SearchCost, IsRoomCost};
@@ -37,6 +38,27 @@ pub trait Interner {
     ) -> Result<Symbol, InternError>
         ensures step { Interns Self.Content.key (state self.old) content result (state self.new) }
         ensures cost { Adds work.old.marks work.new.marks (InternCost Self.Content.key (hash self.old) (state self.old) (Self.Content.key content) result (state self.new)) }
+        ensures same_hash { hash self.new ≡ hash self.old }
+        ensures valid { IsValid Self.Content.key (state self.new) };
+
+    /// The hash of the content, for [`intern_hashed`](Interner::intern_hashed).
+    fn hash_counted(&self, content: &Self::Content, work: &mut Work) -> u64
+        ensures hash { result ≡ hash self.now (Self.Content.key content.now) }
+        ensures cost { work.new.marks ≡ work.old.marks ++ hashed (Self.Content.key content.now) ∷ [] };
+
+    /// As [`intern_counted`](Interner::intern_counted), for a content that was hashed.
+    ///
+    /// Where many contents are hashed before the first of them is interned, the processor waits for the memory of several
+    /// searches at once. [`intern_all`](crate::intern_all) does so.
+    fn intern_hashed(
+        &mut self,
+        known_hash: u64,
+        content: Self::Content,
+        work: &mut Work,
+    ) -> Result<Symbol, InternError>
+        requires known { known_hash ≡ hash self.old (Self.Content.key content) }
+        ensures step { Interns Self.Content.key (state self.old) content result (state self.new) }
+        ensures cost { Adds work.old.marks work.new.marks (λ cost. InternCost Self.Content.key (hash self.old) (state self.old) (Self.Content.key content) result (state self.new) (hashed (Self.Content.key content) ∷ cost)) }
         ensures same_hash { hash self.new ≡ hash self.old }
         ensures valid { IsValid Self.Content.key (state self.new) };
 
@@ -110,6 +132,19 @@ impl<C: Content + Sought<C> + Drop, S: BuildHasher> Interner for Core<C, S> {
 
     fn intern_counted(&mut self, content: C, work: &mut Work) -> Result<Symbol, InternError> {
         self.intern(content, work)
+    }
+
+    fn hash_counted(&self, content: &C, work: &mut Work) -> u64 {
+        content.hash_with(self.hasher(), work)
+    }
+
+    fn intern_hashed(
+        &mut self,
+        known_hash: u64,
+        content: C,
+        work: &mut Work,
+    ) -> Result<Symbol, InternError> {
+        Core::intern_hashed(self, known_hash, content, work)
     }
 
     fn search_counted(&self, sought: &C, work: &mut Work) -> Option<Symbol> {

@@ -5,11 +5,13 @@
 //! and [`run`](run::run) makes a list of calls on any of them.
 #![tactic(auto)]
 
+mod batch;
 pub mod interner;
 pub mod run;
 pub mod table_core;
 mod walk;
 
+pub use batch::intern_all;
 pub use intaglio_content::{
     BytesContent, Content, Formed, Forms, Keyed, Pairs, Sought, Spelled, StrContent, Work,
 };

@@ -1,7 +1,7 @@
 //! A list of contents with an index over it.
 ghost use Rattle.std.specs.Prelude.{◌≡◌, ℕ, ◌+◌, ◌*◌, ◌^◌, ◌<◌, ◌≤◌, ◌++◌, ◌∷◌, ◌↔◌, List, [], map, length, min, max, replicate, slice_get, option_copied, vec_capacity, Some, None, IfSome, IsTrue, OnOk, OnErr};
 ghost use Rattle.intaglio_content.specs.Key.{Key, key_hash};
-ghost use Rattle.intaglio_content.specs.Work.{placed};
+ghost use Rattle.intaglio_content.specs.Work.{hashed, placed};
 ghost use Rattle.intaglio_symbol.specs.AllSymbols.{numbers_from};
 ghost use Rattle.intaglio_core.specs.State.{first, IsValid};
 ghost use Rattle.intaglio_core.specs.Change.{Interns, Takes};
@@ -141,6 +141,24 @@ impl<C: Keyed, S: BuildHasher> Core<C, S> {
         ensures valid { IsValid C.key self.new.state }
     {
         let hash = content.hash_with(&self.hasher, work);
+        self.intern_hashed(hash, content, work)
+    }
+
+    // The same for a content whose hash is known.
+    pub(crate) fn intern_hashed(
+        &mut self,
+        hash: u64,
+        content: C,
+        work: &mut Work,
+    ) -> Result<Symbol, InternError>
+    where
+        C: Sought<C> + Drop,
+        requires hash { hash ≡ key_hash S.Hasher.finish S.Hasher.write (S.build_hasher self.old.hasher) (C.key content) }
+        ensures step { Interns C.key self.old.state content result self.new.state }
+        ensures cost { Adds work.old.marks work.new.marks (λ cost. InternCost C.key (key_hash S.Hasher.finish S.Hasher.write (S.build_hasher self.old.hasher)) self.old.state (C.key content) result self.new.state (hashed (C.key content) ∷ cost)) }
+        ensures hasher { self.new.hasher ≡ self.old.hasher }
+        ensures valid { IsValid C.key self.new.state }
+    {
         match walk(&self.list, &self.index, &self.hasher, hash, &content, work) {
             Some(symbol) => Ok(symbol),
             None => self.add(hash, content, work),

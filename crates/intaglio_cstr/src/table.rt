@@ -388,6 +388,19 @@ impl<S: BuildHasher> Interner for SymbolTable<S> {
         self.core.intern_counted(content, work)
     }
 
+    fn hash_counted(&self, content: &CStrContent, work: &mut Work) -> u64 {
+        self.core.hash_counted(content, work)
+    }
+
+    fn intern_hashed(
+        &mut self,
+        known_hash: u64,
+        content: CStrContent,
+        work: &mut Work,
+    ) -> Result<Symbol, InternError> {
+        Interner::intern_hashed(&mut self.core, known_hash, content, work)
+    }
+
     fn search_counted(&self, sought: &CStrContent, work: &mut Work) -> Option<Symbol> {
         self.core.search_counted(sought, work)
     }

@@ -1,4 +1,4 @@
-use Rattle.std.proofs.Common.{ℕ, List, ◌<◌, length, map, arith, refl, sym}
+use Rattle.std.proofs.Common.{ℕ, List, arith, refl}
 use Rattle.std.proofs.lemmas.Bool.{false≢true}
 use Rattle.std.proofs.lemmas.List.{length-map}
 use Rattle.intaglio_content.specs.Key.{key_hash}

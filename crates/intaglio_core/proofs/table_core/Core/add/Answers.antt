@@ -1,8 +1,6 @@
-use Rattle.std.proofs.Common.{◌≡◌, ℕ, ◌<◌, ◌≤◌, ◌*◌, ◌∙◌, min, max, length, sym, ap, arith, None, map, vec_capacity}
-use Rattle.std.proofs.lemmas.Grind.{common_steps}
+use Rattle.std.proofs.Common.{◌≡◌, ◌<◌, ◌≤◌, ◌*◌, ◌∙◌, min, max, length, arith, None, vec_capacity}
 use Rattle.intaglio_content.specs.Key.{key_hash}
 use Rattle.intaglio_core.specs.State.{first}
-use Rattle.intaglio_core.specs.Indexed.{IsIndexed}
 use Rattle.intaglio_core.proofs.Kept.{indexed-push, indexed-valid}
 use Rattle.intaglio_core.proofs.Spent.{add-cost}
 use Rattle.intaglio_core.proofs.table_core.Core.add.Goals as goal

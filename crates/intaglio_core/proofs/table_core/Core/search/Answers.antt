@@ -1,4 +1,3 @@
-use Rattle.std.proofs.Common.{◌≡◌}
 use Rattle.intaglio_content.specs.Key.{key_hash}
 use Rattle.intaglio_content.specs.Work.{hashed}
 use Rattle.intaglio_core.specs.Cost.{SearchCost}

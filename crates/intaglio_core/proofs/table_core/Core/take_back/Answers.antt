@@ -1,4 +1,4 @@
-use Rattle.std.proofs.Common.{◌≡◌, ◌≤◌, length, arith}
+use Rattle.std.proofs.Common.{arith}
 use Rattle.std.specs.Vec.{vec_capacity}
 use Rattle.intaglio_content.specs.Key.{key_hash}
 use Rattle.intaglio_core.proofs.Kept.{indexed-take, indexed-valid}

@@ -1,4 +1,4 @@
-use Rattle.std.proofs.Common.{◌≡◌, ◌≤◌, ◌^◌, arith}
+use Rattle.std.proofs.Common.{◌≤◌, ◌^◌, arith}
 use Rattle.intaglio_core.proofs.Rounded.{rounded-within}
 use Rattle.intaglio_core.proofs.table_core.make.Core+C+BuildHasherDefault+FoldHasher.with_capacity.Goals.{then-capacity-eq0, else-capacity-eq0}
 use Rattle.intaglio_core.proofs.table_core.make.Core+C+BuildHasherDefault+FoldHasher.with_capacity.Goals as goal

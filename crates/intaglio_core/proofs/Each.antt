@@ -1,0 +1,95 @@
+-- Contents that are interned in order, with what that costs, and one content more.
+use Rattle.std.proofs.Common.{◌≡◌, sym, ℕ, ◌<◌, cond, List, [], ◌∷◌, ◌++◌, length, take, Option, Some, None, Ok, Err, Result, MatchOption, is_some, length-append, append_assoc, append-nil, refl, ap, arith}
+use Rattle.intaglio_content.specs.Key.{Key}
+use Rattle.intaglio_content.specs.Work.{Mark, hashed}
+use Rattle.intaglio_core.specs.State.{State, first, IsValid}
+use Rattle.intaglio_core.specs.Change.{Interns, Takes}
+use Rattle.intaglio_core.specs.Cost.{Adds, InternCost}
+use Rattle.intaglio_core.specs.Issue.{interned, issue_from, interned_all}
+use Rattle.intaglio_core.specs.Batch.{IfOverflow, InternsEach}
+use Rattle.intaglio_core.proofs.Issue.{Interns-ok}
+use Rattle.intaglio_core.proofs.Held.{interned_all-begins, interned_all-longer, interned_all-append}
+use Rattle.intaglio_symbol.specs.declared.error.InternError.{InternError}
+use Rattle.intaglio_symbol.specs.declared.error.InternError.TheVariants as intern_error
+use Rattle.intaglio_symbol.specs.declared.error.SymbolOverflowError.{SymbolOverflowError}
+
+module _ {C : Type 0} (key : C → Key) where
+  taken-limit : (o : Option ℕ) (old new : State C) (c : C) (result : Result ℕ InternError) → MatchOption o (Takes old c result new) (λ i. (result ≡ Ok i) × (new ≡ old)) → new.limit ≡ old.limit
+  taken-limit None old new c (Ok i) h = h.limit
+  taken-limit None old new c (Err (intern_error.Overflow e)) h = ap (λ (s : State C). s.limit) h.1
+  taken-limit None old new c (Err (intern_error.Memory e)) h = h.limit
+  taken-limit (Some i) old new c result h = ap (λ (s : State C). s.limit) h.1
+
+  pub Interns-limit : (old new : State C) (c : C) (result : Result ℕ InternError) → Interns key old c result new → new.limit ≡ old.limit
+  Interns-limit old new c result h = taken-limit (first key old.contents (key c)) old new c result h
+
+  refused-by : (o : Option ℕ) (old new : State C) (c : C) (e : InternError) → MatchOption o (Takes old c (Err e) new) (λ i. (◌≡◌ {A = Result ℕ InternError} (Err e) (Ok i)) × (new ≡ old)) → new.contents ≡ old.contents
+  refused-by None old new c (intern_error.Overflow e) h = ap (λ (s : State C). s.contents) h.1
+  refused-by None old new c (intern_error.Memory e) h = h.contents
+  refused-by (Some i) old new c e h = ap (λ (s : State C). s.contents) h.1
+
+  -- a refused interning leaves the contents
+  pub Interns-refused : (old new : State C) (c : C) (e : InternError) → Interns key old c (Err e) new → new.contents ≡ old.contents
+  Interns-refused old new c e h = refused-by (first key old.contents (key c)) old new c e h
+
+  over-by : (o : Option ℕ) (old new : State C) (c : C) (e : SymbolOverflowError)
+      → MatchOption o (Takes old c (Err (intern_error.Overflow e)) new) (λ i. (◌≡◌ {A = Result ℕ InternError} (Err (intern_error.Overflow e)) (Ok i)) × (new ≡ old))
+      → old.limit < length (cond (is_some o) old.contents (old.contents ++ c ∷ []))
+  over-by None old new c e h = omega (arith, length-append old.contents (c ∷ []), h.0)
+  over-by (Some i) old new c e h = absurd (let never = h.0 in cc)
+
+  module _ (hash : Key → ℕ) where
+    pub InternsEach-push : (old : State C) (cs : List C) (is : List ℕ) (cost : List Mark) (mid : State C) (c : C) (i : ℕ) (now : List Mark) (new : State C)
+        → InternsEach key hash old cs is cost mid → Interns key mid c (Ok i) new → InternCost key hash mid (key c) (Ok i) new (hashed (key c) ∷ now) → IsValid key new
+        → InternsEach key hash old (cs ++ c ∷ []) (is ++ i ∷ []) (cost ++ now) new
+    InternsEach-push old [] [] cost mid c i now new run step spent valid =
+        (new, now, [], rw run.0 (sym (append-nil now)), rw (← run.1) step, rw (← run.1) spent, valid, (refl, refl))
+    InternsEach-push old [] (x ∷ is) cost mid c i now new run step spent valid = absurd run
+    InternsEach-push old (x ∷ cs) [] cost mid c i now new run step spent valid = absurd run
+    InternsEach-push old (x ∷ cs) (y ∷ is) cost mid c i now new run step spent valid = (
+      run.0,
+      run.1,
+      run.2 ++ now,
+      rw (run.3, append_assoc) refl,
+      run.4,
+      run.5,
+      run.6,
+      InternsEach-push run.0 cs is run.2 mid c i now new run.7 step spent valid,
+    )
+
+    -- with the marks that the parts add
+    pub Adds-each : (old : State C) (cs : List C) (is : List ℕ) (mid : State C) (c : C) (i : ℕ) (new : State C) (before between after : List Mark)
+        → Adds before between (λ cost. InternsEach key hash old cs is cost mid) → Interns key mid c (Ok i) new
+        → Adds between after (λ now. InternCost key hash mid (key c) (Ok i) new (hashed (key c) ∷ now)) → IsValid key new
+        → Adds before after (λ cost. InternsEach key hash old (cs ++ c ∷ []) (is ++ i ∷ []) cost new)
+    Adds-each old cs is mid c i new before between after run step spent valid =
+        (run.0 ++ spent.0, rw (spent.1, run.1, append_assoc) refl, InternsEach-push old cs is run.0 mid c i spent.0 new run.2 step spent.2 valid)
+
+    -- the symbols are those that are issued, and what is held is what internings one by one leave
+    pub InternsEach-issues : (old new : State C) (cs : List C) (is : List ℕ) (cost : List Mark) → InternsEach key hash old cs is cost new
+        → (is ≡ issue_from key old.contents cs) × (new.contents ≡ interned_all key old.contents cs)
+    InternsEach-issues old new [] [] cost run = (refl, ap (λ (s : State C). s.contents) run.1)
+    InternsEach-issues old new [] (i ∷ is) cost run = absurd run
+    InternsEach-issues old new (c ∷ cs) [] cost run = absurd run
+    InternsEach-issues old new (c ∷ cs) (i ∷ is) cost run =
+        let ok = Interns-ok key old run.0 c i run.4 in
+        let later = InternsEach-issues run.0 new cs is run.2 run.7 in
+        (rw (ok.0, later.0, ok.1) refl, rw (later.1, ok.1) refl)
+
+    -- where an interning is refused, what was held is still at the front
+    pub begins : (old mid new : State C) (cs : List C) (is : List ℕ) (cost : List Mark) (c : C) (e : InternError)
+        → InternsEach key hash old cs is cost mid → Interns key mid c (Err e) new → take (length old.contents) new.contents ≡ old.contents
+    begins old mid new cs is cost c e run step =
+        rw (Interns-refused mid new c e step, (InternsEach-issues old mid cs is cost run).1) (interned_all-begins key old.contents cs)
+
+    -- a symbol overflow comes only where all contents are more than the limit
+    pub overflows : (old mid new : State C) (cs rest all : List C) (is : List ℕ) (cost : List Mark) (c : C) (e : InternError)
+        → InternsEach key hash old cs is cost mid → Interns key mid c (Err e) new → mid.limit ≡ old.limit → cs ++ c ∷ rest ≡ all
+        → IfOverflow e (old.limit < length (interned_all key old.contents all))
+    overflows old mid new cs rest all is cost c (intern_error.Overflow e) run step limit whole =
+        let over : mid.limit < length (interned key mid.contents c) = over-by (first key mid.contents (key c)) mid new c e step in
+        let held : mid.contents ≡ interned_all key old.contents cs = (InternsEach-issues old mid cs is cost run).1 in
+        let parts : interned_all key old.contents all ≡ interned_all key (interned key mid.contents c) rest =
+        (rw (← whole, interned_all-append key old.contents cs (c ∷ rest), ← held) refl) in
+        omega (arith, over, limit, ap length parts, interned_all-longer key (interned key mid.contents c) rest)
+    overflows old mid new cs rest all is cost c (intern_error.Memory e) run step limit whole = tt

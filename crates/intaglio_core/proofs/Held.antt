@@ -1,0 +1,33 @@
+-- What is held while contents are interned in order.
+use Rattle.std.proofs.Common.{◌≡◌, ◌∙◌, sym, ◌≤◌, Bool, true, false, cond, List, [], ◌∷◌, ◌++◌, length, take, is_some, length-append, append_assoc, append-nil, refl, ap, arith}
+use Rattle.std.proofs.Math.Seq.{take-append_seam}
+use Rattle.intaglio_content.specs.Key.{Key}
+use Rattle.intaglio_core.specs.State.{first}
+use Rattle.intaglio_core.specs.Issue.{interned, interned_all}
+
+module _ {C : Type 0} (key : C → Key) where
+  -- what is held stays at the front
+  cond-begins : (found : Bool) (held : List C) (c : C) → (more : List C) × (cond found held (held ++ c ∷ []) ≡ held ++ more)
+  cond-begins true held c = ([], sym (append-nil held))
+  cond-begins false held c = (c ∷ [], refl)
+
+  interned_all-more : (held cs : List C) → (more : List C) × (interned_all key held cs ≡ held ++ more)
+  interned_all-more held [] = ([], sym (append-nil held))
+  interned_all-more held (c ∷ cs) =
+      let once = cond-begins (is_some (first key held (key c))) held c in
+      let all = interned_all-more (interned key held c) cs in
+      (once.0 ++ all.0, all.1 ∙ ap (λ t. t ++ all.0) once.1 ∙ append_assoc held once.0 all.0)
+
+  pub interned_all-begins : (held cs : List C) → take (length held) (interned_all key held cs) ≡ held
+  interned_all-begins held cs =
+      let more = interned_all-more held cs in
+      rw more.1 (take-append_seam held more.0)
+
+  pub interned_all-longer : (held cs : List C) → length held ≤ length (interned_all key held cs)
+  interned_all-longer held cs =
+      let more = interned_all-more held cs in
+      omega (arith, ap length more.1, length-append held more.0)
+
+  pub interned_all-append : (held xs ys : List C) → interned_all key held (xs ++ ys) ≡ interned_all key (interned_all key held xs) ys
+  interned_all-append held [] ys = refl
+  interned_all-append held (x ∷ xs) ys = interned_all-append (interned key held x) xs ys

@@ -1,0 +1,32 @@
+-- Contents that are interned in order, after all of them were hashed.
+use Rattle.std.specs.Prelude.{◌≡◌, ℕ, List, [], ◌∷◌, ◌++◌, map, Ok}
+use Rattle.intaglio_content.specs.Key.{Key}
+use Rattle.intaglio_content.specs.Work.{Mark, hashed}
+use Rattle.intaglio_core.specs.State.{State, IsValid}
+use Rattle.intaglio_core.specs.Change.{Interns}
+use Rattle.intaglio_core.specs.Cost.{InternCost}
+use Rattle.intaglio_symbol.specs.declared.error.InternError.{InternError}
+use Rattle.intaglio_symbol.specs.declared.error.InternError.TheVariants.{Overflow}
+
+-- P holds, if the error is that the table holds as many contents as its limit
+abbrev pub IfOverflow : InternError → Type 0 → Type 0
+IfOverflow (Overflow _) P = P
+IfOverflow _ P = Unit {0}
+
+module _ {C : Type 0} (key : C → Key) where
+  -- a hashing of each
+  abbrev pub hashings : List C → List Mark
+  hashings cs = map (λ c. hashed (key c)) cs
+
+  module _ (hash : Key → ℕ) where
+    -- contents in order, each with its symbol and with what its interning costs beside the hashing
+    abbrev pub InternsEach : State C → List C → List ℕ → List Mark → State C → Type 0
+    InternsEach old [] [] cost new = (cost ≡ []) × (new ≡ old)
+    InternsEach old (c ∷ cs) (i ∷ is) cost new =
+        (next : State C) × (now later : List Mark) × (cost ≡ now ++ later) × Interns key old c (Ok i) next
+        × InternCost key hash old (key c) (Ok i) next (hashed (key c) ∷ now) × IsValid key next × InternsEach next cs is later new
+    InternsEach old _ _ cost new = ⊥
+
+    -- a hashing of each, and then each interning
+    abbrev pub InternsHashed : State C → List C → List ℕ → List Mark → State C → Type 0
+    InternsHashed old cs is cost new = (rest : List Mark) × (cost ≡ hashings cs ++ rest) × InternsEach old cs is rest new

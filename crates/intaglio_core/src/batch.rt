@@ -1,0 +1,100 @@
+//! Many contents are interned at once.
+ghost use Rattle.std.specs.Prelude.{◌≡◌, ◌<◌, ◌++◌, length, map, take, IfOk, IfErr, OnOk, OnErr};
+ghost use Rattle.std.specs.List.{AllByRecursion};
+ghost use Rattle.intaglio_core.specs.State.{IsValid};
+ghost use Rattle.intaglio_core.specs.Cost.{Adds};
+ghost use Rattle.intaglio_core.specs.Issue.{issue_from, interned_all};
+ghost use Rattle.intaglio_core.specs.Batch.{IfOverflow, hashings, InternsEach, InternsHashed};
+
+use crate::interner::Interner;
+use intaglio_content::Work;
+use intaglio_symbol::{InternError, Symbol};
+use std::alloc::{AllocError, Global};
+
+// A content with its hash.
+#[derive(Drop)]
+struct Hashed<C> {
+    hash: u64,
+    content: C,
+}
+
+/// Interns the contents in order, and answers their symbols in the same order.
+///
+/// All of them are hashed before the first one is looked up, so that the processor waits for the memory of several look-ups
+/// at once. Where the table is large this takes half of the time of as many internings, best with some dozens of contents.
+///
+/// # Errors
+///
+/// `Overflow` where the table can't hold them all, `Memory` where the memory for the symbols or for a growth was refused.
+/// Then the table has the contents that it had before, and those handed in are dropped.
+pub fn intern_all<T: Interner>(
+    alloc: Global,
+    table: &mut T,
+    contents: Vec<T::Content>,
+    work: &mut Work,
+) -> Result<Vec<Symbol>, InternError>
+    // As internings one by one, but that all hashings come first.
+    ensures ok { IfOk result (λ symbols. Adds work.old.marks work.new.marks (λ cost. InternsHashed T.Content.key (T.hash table.old) (T.state table.old) contents.items symbols.items cost (T.state table.new))) }
+    ensures symbols { IfOk result (λ symbols. symbols.items ≡ issue_from T.Content.key (T.state table.old).contents contents.items) }
+    ensures held { OnOk result ((T.state table.new).contents ≡ interned_all T.Content.key (T.state table.old).contents contents.items) }
+
+    // All or none.
+    ensures refused { OnErr result ((T.state table.new).contents ≡ (T.state table.old).contents) }
+    ensures overflow { IfErr result (λ e. IfOverflow e ((T.state table.old).limit < length (interned_all T.Content.key (T.state table.old).contents contents.items))) }
+
+    ensures limit { (T.state table.new).limit ≡ (T.state table.old).limit }
+    ensures same_hash { T.hash table.new ≡ T.hash table.old }
+    ensures valid { IsValid T.Content.key (T.state table.new) }
+{
+    let mark = table.mark();
+    let hashed = hash_all(alloc, table, contents, work)?;
+    let taken = take_all(alloc, table, hashed, work);
+    if taken.is_err() {
+        let _ = table.take_back(mark);
+    }
+    taken
+}
+
+// Hashes the contents.
+fn hash_all<T: Interner>(
+    alloc: Global,
+    table: &T,
+    contents: Vec<T::Content>,
+    work: &mut Work,
+) -> Result<Vec<Hashed<T::Content>>, AllocError>
+    ensures contents { IfOk result (λ all. map (λ it. it.content) all.items ≡ contents.items) }
+    ensures hashes { IfOk result (λ all. AllByRecursion (λ it. it.hash ≡ T.hash table.now (T.Content.key it.content)) all.items) }
+    ensures cost { OnOk result (work.new.marks ≡ work.old.marks ++ hashings T.Content.key contents.items) }
+{
+    let mut all = Vec::with_capacity(alloc, contents.len())?;
+    for content in contents {
+        let hash = table.hash_counted(&content, work);
+        all.push_reserved(Hashed { hash, content });
+    }
+    Ok(all)
+}
+
+// Interns contents that were hashed. After an error those before the refused one are held.
+fn take_all<T: Interner>(
+    alloc: Global,
+    table: &mut T,
+    all: Vec<Hashed<T::Content>>,
+    work: &mut Work,
+) -> Result<Vec<Symbol>, InternError>
+    requires valid { IsValid T.Content.key (T.state table.old) }
+    requires hashes { AllByRecursion (λ it. it.hash ≡ T.hash table.old (T.Content.key it.content)) all.items }
+    ensures ok { IfOk result (λ symbols. Adds work.old.marks work.new.marks (λ cost. InternsEach T.Content.key (T.hash table.old) (T.state table.old) (map (λ it. it.content) all.items) symbols.items cost (T.state table.new))) }
+    ensures symbols { IfOk result (λ symbols. symbols.items ≡ issue_from T.Content.key (T.state table.old).contents (map (λ it. it.content) all.items)) }
+    ensures held { OnOk result ((T.state table.new).contents ≡ interned_all T.Content.key (T.state table.old).contents (map (λ it. it.content) all.items)) }
+    ensures begins { OnErr result (take (length (T.state table.old).contents) (T.state table.new).contents ≡ (T.state table.old).contents) }
+    ensures overflow { IfErr result (λ e. IfOverflow e ((T.state table.old).limit < length (interned_all T.Content.key (T.state table.old).contents (map (λ it. it.content) all.items)))) }
+    ensures limit { (T.state table.new).limit ≡ (T.state table.old).limit }
+    ensures same_hash { T.hash table.new ≡ T.hash table.old }
+    ensures valid { IsValid T.Content.key (T.state table.new) }
+{
+    let mut symbols = Vec::with_capacity(alloc, all.len())?;
+    for it in all {
+        symbols.push_reserved(table.intern_hashed(it.hash, it.content, work)?);
+    }
+    Ok(symbols)
+}
