@@ -11,7 +11,7 @@ pub use intaglio_bytes::{b_str as bstr, bytes};
 pub use intaglio_core::{
     AllSymbols, BytesContent, Call, Content, Core, DEFAULT_SYMBOL_TABLE_CAPACITY, Formed, Forms,
     Index, InternError, Interner, Keyed, Mark, Pairs, Reply, RoomError, Sought, Spelled, StaleMark,
-    StrContent, Symbol, SymbolOverflowError, Work, run,
+    StrContent, Symbol, SymbolOverflowError, Work, intern_all, run,
 };
 pub use intaglio_cstr as cstr;
 pub use intaglio_path as path;

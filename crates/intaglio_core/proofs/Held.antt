@@ -3,7 +3,7 @@ use Rattle.std.proofs.Common.{◌≡◌, ◌∙◌, sym, ◌≤◌, Bool, true, 
 use Rattle.std.proofs.Math.Seq.{take-append_seam}
 use Rattle.intaglio_content.specs.Key.{Key}
 use Rattle.intaglio_core.specs.State.{first}
-use Rattle.intaglio_core.specs.Issue.{interned, interned_all}
+use Rattle.intaglio_core.specs.Issue.{issued, interned, issue_from, interned_all}
 
 module _ {C : Type 0} (key : C → Key) where
   -- what is held stays at the front
@@ -31,3 +31,7 @@ module _ {C : Type 0} (key : C → Key) where
   pub interned_all-append : (held xs ys : List C) → interned_all key held (xs ++ ys) ≡ interned_all key (interned_all key held xs) ys
   interned_all-append held [] ys = refl
   interned_all-append held (x ∷ xs) ys = interned_all-append (interned key held x) xs ys
+
+  pub issue_from-append : (held xs ys : List C) → issue_from key held (xs ++ ys) ≡ issue_from key held xs ++ issue_from key (interned_all key held xs) ys
+  issue_from-append held [] ys = refl
+  issue_from-append held (x ∷ xs) ys = ap (λ t. issued key held x ∷ t) (issue_from-append (interned key held x) xs ys)

@@ -1,5 +1,5 @@
 -- Where a text is cut at its first slash.
-use Rattle.std.proofs.Common.{◌≡◌, ◌≢◌, ℕ, ◌<◌, false, nat_eq, List, [], ◌∷◌, ◌++◌, length, get_or, filter, refl, ap, ◌∙◌, rules, eqb, true, cond, arith}
+use Rattle.std.proofs.Common.{◌≡◌, ◌≢◌, ℕ, ◌<◌, false, nat_eq, List, [], ◌∷◌, ◌++◌, length, get_or, filter, refl, ap, ◌∙◌, eqb, true, cond, arith}
 use Rattle.std.proofs.lemmas.List.Elements.{All-from_get_or, filter-append}
 use Rattle.std.proofs.lemmas.List.Splits.{slice_split_at, slice_split_none}
 use borrow.Author.Tests.{ne_eqb, true-eqb}

@@ -1,5 +1,5 @@
 -- What a `Components` has left.
-use Rattle.std.proofs.Common.{◌≡◌, ℕ, [], List, Bool, true, false, length, nat_eq, refl, sym, ap, ◌∙◌, cond}
+use Rattle.std.proofs.Common.{◌≡◌, ℕ, [], List, true, false, length, nat_eq, ap, ◌∙◌, cond}
 use borrow.Author.Tests.{true-eqb}
 use Rattle.std.proofs.lemmas.List.{nil_from_length}
 use Rattle.intaglio_path.specs.declared.components.Components.{Components}

@@ -51,8 +51,11 @@ impl<'a> PartialEq for Path<'a> {
 
     ghost laws = { partial_equiv_from_equiv (on_equiv path_text same_components_equiv) };
 
-    /// Walks both texts side by side, up to the first component that differs.
+    /// Walks both texts side by side, up to the first component that differs. Equal texts aren't walked.
     fn eq(&self, other: &Path<'a>) -> bool {
+        if self.text == other.text {
+            return true;
+        }
         let mut left = self.components();
         let mut right = other.components();
         while let Some(ours) = left.next_item() {

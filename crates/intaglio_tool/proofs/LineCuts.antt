@@ -1,6 +1,6 @@
 -- The first line of bytes, and the lines of what stands after it.
 use Rattle.std.proofs.Common.{◌≡◌, ◌∙◌, sym, ap, ℕ, ◌+◌, ◌-◌, ◌<◌, Some, None, take, drop, List, [], ◌∷◌, Bool, true, false, eqb, ltb, eqb-true, subst, ◌++◌, cond, not, refl, length, get_or, arith, rules}
-use Rattle.std.specs.List.{slice_split, position, position_or_len, before_first, after_first, count_by}
+use Rattle.std.specs.List.{slice_split, position, position_or_len, before_first, after_first}
 use Rattle.std.proofs.lemmas.List.Splits.{slice_split_first, slice_split_none, length-slice_split}
 use Rattle.std.proofs.lemmas.List.Sums.{fails_before_first, passes_at_first, split_at_first, prefix_len-le-length}
 use Rattle.std.proofs.lemmas.List.Elements.{All-from_get_or}

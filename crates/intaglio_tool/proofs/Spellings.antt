@@ -1,16 +1,10 @@
 -- Contents are given the symbols that their spellings are given.
-use Rattle.std.proofs.Common.{◌≡◌, ◌∙◌, ℕ, ◌+◌, ◌<◌, Bool, true, false, cond, List, [], ◌∷◌, ◌++◌, length, map, Option, Some, None, Ok, Err, Result, MatchOption, is_some, length-append, refl, ap, arith}
+use Rattle.std.proofs.Common.{◌≡◌, ◌∙◌, ℕ, ◌<◌, Bool, true, false, cond, List, [], ◌∷◌, ◌++◌, length, map, is_some, refl, ap, arith}
 use Rattle.std.proofs.lemmas.List.{length-map, map-append}
 use Rattle.intaglio_content.specs.Key.{Key}
-use Rattle.intaglio_core.specs.State.{State, first}
-use Rattle.intaglio_core.specs.Change.{Interns}
-use Rattle.intaglio_core.specs.Issue.{issued, interned}
-use Rattle.intaglio_core.proofs.Issue.{Interns-ok}
-use Rattle.intaglio_symbol.specs.declared.error.InternError.{InternError}
-use Rattle.intaglio_symbol.specs.declared.error.InternError.TheVariants as intern_error
-use Rattle.intaglio_tool.specs.ToolError.{refused_as}
-use Rattle.intaglio_tool.specs.declared.error.ToolError.{ToolError}
-use Rattle.intaglio_tool.specs.declared.error.ToolError.TheVariants.{Overflow}
+use Rattle.intaglio_core.specs.State.{first}
+use Rattle.intaglio_core.specs.Issue.{issued, interned, issue_from, interned_all}
+use Rattle.intaglio_core.proofs.Held.{interned_all-append, interned_all-longer, issue_from-append}
 
 module _ {C : Type 0} (key : C → Key) (spelling : C → List ℕ) (key_of : List ℕ → Key) (law : (c : C) → key c ≡ key_of (spelling c)) where
   keys-spelled : (cs : List C) → map key cs ≡ map key_of (map spelling cs)
@@ -32,21 +26,27 @@ module _ {C : Type 0} (key : C → Key) (spelling : C → List ℕ) (key_of : Li
   interned-spelled : (cs : List C) (c : C) → map spelling (interned key cs c) ≡ interned key_of (map spelling cs) (spelling c)
   interned-spelled cs c = rw (← first-spelled cs c) (cond-spelled (is_some (first key cs (key c))) cs c)
 
-  module _ (old new : State C) (c : C) (line : List ℕ) (spelled : spelling c ≡ line) where
-    pub symbol-given : (i : ℕ) → Interns key old c (Ok i) new → i ≡ issued key_of (map spelling old.contents) line
-    symbol-given i h = rw (← spelled) ((Interns-ok key old new c i h).0 ∙ issued-spelled old.contents c)
+  issue-spelled : (held cs : List C) → issue_from key held cs ≡ issue_from key_of (map spelling held) (map spelling cs)
+  issue-spelled held [] = refl
+  issue-spelled held (c ∷ cs) = rw (issued-spelled held c, issue-spelled (interned key held c) cs, interned-spelled held c) refl
 
-    pub held-after : (i : ℕ) → Interns key old c (Ok i) new → map spelling new.contents ≡ interned key_of (map spelling old.contents) line
-    held-after i h = rw (← spelled) (ap (map spelling) (Interns-ok key old new c i h).1 ∙ interned-spelled old.contents c)
+  interned_all-spelled : (held cs : List C) → map spelling (interned_all key held cs) ≡ interned_all key_of (map spelling held) (map spelling cs)
+  interned_all-spelled held [] = refl
+  interned_all-spelled held (c ∷ cs) = interned_all-spelled (interned key held c) cs ∙ ap (λ t. interned_all key_of t (map spelling cs)) (interned-spelled held c)
 
-    over-by : (found : Option ℕ) (e : InternError) → MatchOption found ((length old.contents ≡ old.limit) × (new ≡ old)) (λ i. (◌≡◌ {A = Result ℕ InternError} (Err e) (Ok i)) × (new ≡ old))
-        → old.limit < length (cond (is_some found) old.contents (old.contents ++ c ∷ []))
-    over-by None e h = omega (arith, length-append old.contents (c ∷ []), h.0)
-    over-by (Some i) e h = absurd (let never = h.0 in cc)
+  -- the lines of a group, and those behind it
+  module _ (held cs : List C) (lines rest : List (List ℕ)) (parts : lines ≡ map spelling cs ++ rest) where
+    pub group-symbols : (new : List C) (taken : List ℕ) → taken ≡ issue_from key held cs → new ≡ interned_all key held cs
+        → issue_from key_of (map spelling held) lines ≡ taken ++ issue_from key_of (map spelling new) rest
+    group-symbols new taken given after =
+        rw (parts, given, after, issue-spelled held cs, interned_all-spelled held cs) (issue_from-append key_of (map spelling held) (map spelling cs) rest)
 
-    -- a symbol overflow comes only where one content more is held after the line than the limit
-    pub over-limit : (refused : InternError) → refused_as refused ≡ Overflow → Interns key old c (Err refused) new → old.limit < length (interned key_of (map spelling old.contents) line)
-    over-limit (intern_error.Overflow e) same h =
-        let more = over-by (first key old.contents (key c)) (intern_error.Overflow e) h in
-        rw (← spelled) (rw (← interned-spelled old.contents c) (rw (length-map (interned key old.contents c) spelling) more))
-    over-limit (intern_error.Memory e) same h = cc
+    pub group-held : (new : List C) → new ≡ interned_all key held cs → interned_all key_of (map spelling held) lines ≡ interned_all key_of (map spelling new) rest
+    group-held new after = rw (parts, after, interned_all-spelled held cs) (interned_all-append key_of (map spelling held) (map spelling cs) rest)
+
+    -- what is more than the limit after the group is more than it after all lines
+    pub group-over : (limit : ℕ) → limit < length (interned_all key held cs) → limit < length (interned_all key_of (map spelling held) lines)
+    group-over limit over =
+        let longer = interned_all-longer key_of (map spelling (interned_all key held cs)) rest in
+        let all = group-held (interned_all key held cs) refl in
+        omega (arith, over, longer, ap length all, length-map (interned_all key held cs) spelling)

@@ -1,16 +1,28 @@
 //! Interns the lines of an input.
-ghost use Rattle.std.specs.Prelude.{◌≡◌, ◌+◌, ◌<◌, ◌≤◌, true, false, not, [], length, map, OnOk, IfOk, IfErr};
+ghost use Rattle.std.specs.Prelude.{◌≡◌, ◌+◌, ◌<◌, ◌≤◌, ◌++◌, true, false, not, [], length, map, Some, None, OnOk, IfOk, IfErr, IfSome};
 ghost use Rattle.std.specs.List.{position_or_len};
-ghost use Rattle.intaglio_core.specs.Issue.{issued, interned, issue, interned_all};
+ghost use Rattle.intaglio_core.specs.Issue.{issue, interned_all};
 ghost use Rattle.intaglio_tool.specs.Lines.{lines_of};
-ghost use Rattle.intaglio_tool.specs.ToolError.{IfZeroByte, IsContentError, IsTakingError};
+ghost use Rattle.intaglio_tool.specs.ToolError.{IfZeroByte, IsTakingError};
 ghost use Rattle.intaglio_tool.specs.declared.error.ToolError.TheVariants.{Overflow};
+ghost use Rattle.intaglio_tool.specs.declared.from_line.LineFault.TheVariants.{Zero};
 
 use crate::error::ToolError;
 use crate::from_line::{FromLine, LineFault};
 use crate::lines::first_line;
-use intaglio::{Interner, Symbol, Work};
-use std::alloc::Global;
+use intaglio::{Interner, Symbol, Work, intern_all};
+use std::alloc::{AllocError, Global};
+
+// How many lines are interned at once. More are no faster, since a group then leaves the fast memory before it is interned.
+const GROUP: usize = 32;
+
+// The contents of some lines, what stands behind these lines, and why the next one is no content, if it isn't.
+#[derive(Drop)]
+struct Group<'a, C> {
+    contents: Vec<C>,
+    rest: &'a [u8],
+    fault: Option<LineFault>,
+}
 
 /// Interns the lines of an input in order into an empty table, and answers their symbols.
 ///
@@ -38,47 +50,49 @@ where
     let mut rest = input;
     let mut number = 0u64;
     while !rest.is_empty() {
-        let (line, after) = first_line(rest);
-        number += 1;
-        symbols.push(take_line(alloc, table, line, number)?)?;
-        rest = after;
+        let group = gather(alloc, rest)?;
+        number += group.contents.len() as u64;
+        let taken = intern_all(alloc, table, group.contents, &mut Work::new())?;
+        symbols.extend_from_slice(&taken)?;
+        match group.fault {
+            Some(LineFault::Zero) => return Err(ToolError::ZeroByte(number + 1)),
+            Some(LineFault::Memory) => return Err(ToolError::Memory),
+            None => rest = group.rest,
+        }
     }
     Ok(symbols)
 }
 
-// Interns one line, the one of that number.
-fn take_line<T: Interner>(
-    alloc: Global,
-    table: &mut T,
-    line: &[u8],
-    number: u64,
-) -> Result<Symbol, ToolError>
-where
-    T::Content: FromLine,
-    requires { T.Content.allows line.now }
-    ensures symbol { IfOk result (λ symbol. symbol ≡ issued T.Content.key_of (map T.Content.spelling (T.state table.old).contents) line.now) }
-    ensures held { OnOk result (map T.Content.spelling (T.state table.new).contents ≡ interned T.Content.key_of (map T.Content.spelling (T.state table.old).contents) line.now) }
-    ensures limit { OnOk result ((T.state table.new).limit ≡ (T.state table.old).limit) }
-    ensures fit { OnOk result (T.Content.fits line.now ≡ true) }
-    ensures zero { IfErr result (λ e. IfZeroByte e (λ n. (n ≡ number) × (T.Content.fits line.now ≡ false))) }
-    ensures overflow { result ≡ Err Overflow → (T.state table.old).limit < length (interned T.Content.key_of (map T.Content.spelling (T.state table.old).contents) line.now) }
-    ensures err { IfErr result IsTakingError }
+// The contents of the first lines of an input.
+fn gather<C: FromLine>(alloc: Global, input: &[u8]) -> Result<Group<'_, C>, AllocError>
+    requires allowed { C.allows input.now }
+    requires some { 0 < length input.now }
+    ensures allowed { IfOk result (λ group. C.allows group.rest.now) }
+    ensures lines { IfOk result (λ group. lines_of input.now ≡ map C.spelling group.contents.items ++ lines_of group.rest.now) }
+    ensures fit { IfOk result (λ group. position_or_len (λ line. not (C.fits line)) (lines_of input.now) ≡ length group.contents.items + position_or_len (λ line. not (C.fits line)) (lines_of group.rest.now)) }
+    ensures zero { IfOk result (λ group. group.fault ≡ Some Zero → (position_or_len (λ line. not (C.fits line)) (lines_of group.rest.now) ≡ 0) × (0 < length (lines_of group.rest.now))) }
+    ensures bytes { IfOk result (λ group. length group.contents.items + length group.rest.now ≤ length input.now) }
+    ensures shorter { IfOk result (λ group. group.fault ≡ None → length group.rest.now < length input.now) }
 {
-    let content = content_of(alloc, line, number)?;
-    Ok(table.intern_counted(content, &mut Work::new())?)
-}
-
-// The content of a line, the one of that number.
-fn content_of<C: FromLine>(alloc: Global, line: &[u8], number: u64) -> Result<C, ToolError>
-    requires { C.allows line.now }
-    ensures spelling { IfOk result (λ content. C.spelling content ≡ line.now) }
-    ensures fit { OnOk result (C.fits line.now ≡ true) }
-    ensures zero { IfErr result (λ e. IfZeroByte e (λ n. (n ≡ number) × (C.fits line.now ≡ false))) }
-    ensures err { IfErr result IsContentError }
-{
-    match C::from_line(alloc, line) {
-        Ok(content) => Ok(content),
-        Err(LineFault::Zero) => Err(ToolError::ZeroByte(number)),
-        Err(LineFault::Memory) => Err(ToolError::Memory),
+    let mut contents = Vec::with_capacity(alloc, GROUP)?;
+    let mut rest = input;
+    while contents.len() < GROUP && !rest.is_empty() {
+        let (line, after) = first_line(rest);
+        match C::from_line(alloc, line) {
+            Ok(content) => contents.push_reserved(content),
+            Err(fault) => {
+                return Ok(Group {
+                    contents,
+                    rest,
+                    fault: Some(fault),
+                });
+            }
+        }
+        rest = after;
     }
+    Ok(Group {
+        contents,
+        rest,
+        fault: None,
+    })
 }
