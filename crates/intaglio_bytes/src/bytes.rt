@@ -400,6 +400,15 @@ impl<S: BuildHasher> Interner for SymbolTable<S> {
         Interner::intern_hashed(&mut self.core, known_hash, content, work)
     }
 
+    fn search_hashed(
+        &self,
+        known_hash: u64,
+        sought: &BytesContent,
+        work: &mut Work,
+    ) -> Option<Symbol> {
+        self.core.search_hashed(known_hash, sought, work)
+    }
+
     fn search_counted(&self, sought: &BytesContent, work: &mut Work) -> Option<Symbol> {
         self.core.search_counted(sought, work)
     }

@@ -1,14 +1,14 @@
 -- Contents that are interned in order, with what that costs, and one content more.
-use Rattle.std.proofs.Common.{◌≡◌, sym, ℕ, ◌<◌, cond, List, [], ◌∷◌, ◌++◌, length, take, Option, Some, None, Ok, Err, Result, MatchOption, is_some, length-append, append_assoc, append-nil, refl, ap, arith}
+use Rattle.std.proofs.Common.{◌≡◌, IfSome, sym, ℕ, ◌<◌, cond, List, [], ◌∷◌, ◌++◌, length, take, Option, Some, None, Ok, Err, Result, MatchOption, is_some, length-append, append_assoc, append-nil, refl, ap, arith}
 use Rattle.intaglio_content.specs.Key.{Key}
 use Rattle.intaglio_content.specs.Work.{Mark, hashed}
 use Rattle.intaglio_core.specs.State.{State, first, IsValid}
 use Rattle.intaglio_core.specs.Change.{Interns, Takes}
-use Rattle.intaglio_core.specs.Cost.{Adds, InternCost}
+use Rattle.intaglio_core.specs.Cost.{Adds, IsSearchCost, KnownSearchCost, KnownInternCost}
 use Rattle.intaglio_core.specs.Issue.{interned, issue_from, interned_all}
-use Rattle.intaglio_core.specs.Batch.{IfOverflow, InternsEach}
+use Rattle.intaglio_core.specs.Batch.{IfOverflow, SearchesEach, InternsEach}
 use Rattle.intaglio_core.proofs.Issue.{Interns-ok}
-use Rattle.intaglio_core.proofs.Held.{interned_all-begins, interned_all-longer, interned_all-append}
+use Rattle.intaglio_core.proofs.Held.{interned_all-begins, interned_all-longer, interned_all-append, first-still}
 use Rattle.intaglio_symbol.specs.declared.error.InternError.{InternError}
 use Rattle.intaglio_symbol.specs.declared.error.InternError.TheVariants as intern_error
 use Rattle.intaglio_symbol.specs.declared.error.SymbolOverflowError.{SymbolOverflowError}
@@ -39,8 +39,21 @@ module _ {C : Type 0} (key : C → Key) where
   over-by (Some i) old new c e h = absurd (let never = h.0 in cc)
 
   module _ (hash : Key → ℕ) where
+    SearchesEach-push : (s : State C) (cs : List C) (cost : List Mark) (c : C) (now : List Mark)
+        → SearchesEach key hash s cs cost → KnownSearchCost key hash s (key c) now → SearchesEach key hash s (cs ++ c ∷ []) (cost ++ now)
+    SearchesEach-push s [] cost c now run spent = (now, [], rw run (sym (append-nil now)), spent, refl)
+    SearchesEach-push s (x ∷ cs) cost c now run spent =
+        (run.0, run.1 ++ now, rw (run.2, append_assoc) refl, run.3, SearchesEach-push s cs run.1 c now run.4 spent)
+
+    -- look-ups, and one more
+    pub Adds-search : (s : State C) (cs : List C) (c : C) (before between after : List Mark)
+        → Adds before between (SearchesEach key hash s cs) → Adds between after (KnownSearchCost key hash s (key c))
+        → Adds before after (SearchesEach key hash s (cs ++ c ∷ []))
+    Adds-search s cs c before between after run spent =
+        (run.0 ++ spent.0, rw (spent.1, run.1, append_assoc) refl, SearchesEach-push s cs run.0 c spent.0 run.2 spent.2)
+
     pub InternsEach-push : (old : State C) (cs : List C) (is : List ℕ) (cost : List Mark) (mid : State C) (c : C) (i : ℕ) (now : List Mark) (new : State C)
-        → InternsEach key hash old cs is cost mid → Interns key mid c (Ok i) new → InternCost key hash mid (key c) (Ok i) new (hashed (key c) ∷ now) → IsValid key new
+        → InternsEach key hash old cs is cost mid → Interns key mid c (Ok i) new → KnownInternCost key hash mid (key c) (Ok i) new now → IsValid key new
         → InternsEach key hash old (cs ++ c ∷ []) (is ++ i ∷ []) (cost ++ now) new
     InternsEach-push old [] [] cost mid c i now new run step spent valid =
         (new, now, [], rw run.0 (sym (append-nil now)), rw (← run.1) step, rw (← run.1) spent, valid, (refl, refl))
@@ -60,7 +73,7 @@ module _ {C : Type 0} (key : C → Key) where
     -- with the marks that the parts add
     pub Adds-each : (old : State C) (cs : List C) (is : List ℕ) (mid : State C) (c : C) (i : ℕ) (new : State C) (before between after : List Mark)
         → Adds before between (λ cost. InternsEach key hash old cs is cost mid) → Interns key mid c (Ok i) new
-        → Adds between after (λ now. InternCost key hash mid (key c) (Ok i) new (hashed (key c) ∷ now)) → IsValid key new
+        → Adds between after (KnownInternCost key hash mid (key c) (Ok i) new) → IsValid key new
         → Adds before after (λ cost. InternsEach key hash old (cs ++ c ∷ []) (is ++ i ∷ []) cost new)
     Adds-each old cs is mid c i new before between after run step spent valid =
         (run.0 ++ spent.0, rw (spent.1, run.1, append_assoc) refl, InternsEach-push old cs is run.0 mid c i spent.0 new run.2 step spent.2 valid)
@@ -75,6 +88,27 @@ module _ {C : Type 0} (key : C → Key) where
         let ok = Interns-ok key old run.0 c i run.4 in
         let later = InternsEach-issues run.0 new cs is run.2 run.7 in
         (rw (ok.0, later.0, ok.1) refl, rw (later.1, ok.1) refl)
+
+    nothing : (k : Key) (bucket : List Key) → IsSearchCost hash k bucket (hashed k ∷ [])
+    nothing k bucket = record {
+      hashings = refl;
+      sought = λ i d lt. absurd (omega arith);
+      once = λ i j d lt below. absurd (omega arith);
+      within = λ i d lt. absurd (omega arith);
+      equal_hashes = λ i d lt. absurd (omega arith);
+      steps = omega arith;
+      placements = refl;
+    }
+
+    -- a content that is known to be held is answered with no more work
+    pub found-cost : (s : State C) (k : Key) (i : ℕ) (marks : List Mark) → first key s.contents k ≡ Some i → Adds marks marks (KnownInternCost key hash s k (Ok i) s)
+    found-cost s k i marks found = ([], sym (append-nil marks), rw found (nothing k _))
+
+    -- what a look-up found is found there after internings
+    pub symbol-still : (old mid : State C) (cs : List C) (is : List ℕ) (cost : List Mark) (k : Key) (o : Option ℕ)
+        → InternsEach key hash old cs is cost mid → IfSome o (λ i. first key old.contents k ≡ Some i) → IfSome o (λ i. first key mid.contents k ≡ Some i)
+    symbol-still old mid cs is cost k None run found = tt
+    symbol-still old mid cs is cost k (Some i) run found = rw ((InternsEach-issues old mid cs is cost run).1) (first-still key old.contents cs k i found)
 
     -- where an interning is refused, what was held is still at the front
     pub begins : (old mid new : State C) (cs : List C) (is : List ℕ) (cost : List Mark) (c : C) (e : InternError)

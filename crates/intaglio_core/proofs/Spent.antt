@@ -5,7 +5,7 @@ use Rattle.std.specs.declared.alloc.AllocError.{AllocError}
 use Rattle.intaglio_content.specs.Key.{Key}
 use Rattle.intaglio_content.specs.Work.{Mark, hashed, placed}
 use Rattle.intaglio_core.specs.State.{State, first}
-use Rattle.intaglio_core.specs.Cost.{hashed_keys, stored_keys, step_count, placed_count, Adds, SearchCost, IsGrowthCost, IsRoomCost, InternCost}
+use Rattle.intaglio_core.specs.Cost.{hashed_keys, stored_keys, step_count, placed_count, Adds, IsGrowthCost, IsRoomCost, KnownSearchCost, KnownInternCost}
 use Rattle.intaglio_symbol.specs.declared.symbol.Symbol.{Symbol}
 use Rattle.intaglio_symbol.specs.declared.error.InternError.{InternError}
 use Rattle.intaglio_core.specs.Indexed.{AddCost}
@@ -99,8 +99,8 @@ module _ {C : Type 0} (key : C → Key) (hash : Key → ℕ) where
   -- what follows the hashing of an interning whose content wasn't found
   pub intern-cost : (result : Result Symbol InternError) (old new : State C) (k : Key) (before walked after : List Mark)
       → first key old.contents k ≡ None
-      → Adds before walked (λ cost. SearchCost key hash old k (hashed k ∷ cost)) → Adds walked after (AddCost old result new)
-      → Adds before after (λ cost. InternCost key hash old k result new (hashed k ∷ cost))
+      → Adds before walked (KnownSearchCost key hash old k) → Adds walked after (AddCost old result new)
+      → Adds before after (KnownInternCost key hash old k result new)
   intern-cost (Ok s) old new k before walked after none walk spent = (
     walk.0 ++ spent.0,
     rw (spent.1, walk.1) (append_assoc before walk.0 spent.0),

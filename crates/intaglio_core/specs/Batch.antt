@@ -1,10 +1,10 @@
--- Contents that are interned in order, after all of them were hashed.
+-- Contents that are interned in order, after all of them were hashed and looked up.
 use Rattle.std.specs.Prelude.{◌≡◌, ℕ, List, [], ◌∷◌, ◌++◌, map, Ok}
 use Rattle.intaglio_content.specs.Key.{Key}
 use Rattle.intaglio_content.specs.Work.{Mark, hashed}
 use Rattle.intaglio_core.specs.State.{State, IsValid}
 use Rattle.intaglio_core.specs.Change.{Interns}
-use Rattle.intaglio_core.specs.Cost.{InternCost}
+use Rattle.intaglio_core.specs.Cost.{KnownSearchCost, KnownInternCost}
 use Rattle.intaglio_symbol.specs.declared.error.InternError.{InternError}
 use Rattle.intaglio_symbol.specs.declared.error.InternError.TheVariants.{Overflow}
 
@@ -19,14 +19,20 @@ module _ {C : Type 0} (key : C → Key) where
   hashings cs = map (λ c. hashed (key c)) cs
 
   module _ (hash : Key → ℕ) where
+    -- what a look-up of each costs beside the hashing
+    abbrev pub SearchesEach : State C → List C → List Mark → Type 0
+    SearchesEach s [] cost = cost ≡ []
+    SearchesEach s (c ∷ cs) cost = (now later : List Mark) × (cost ≡ now ++ later) × KnownSearchCost key hash s (key c) now × SearchesEach s cs later
+
     -- contents in order, each with its symbol and with what its interning costs beside the hashing
     abbrev pub InternsEach : State C → List C → List ℕ → List Mark → State C → Type 0
     InternsEach old [] [] cost new = (cost ≡ []) × (new ≡ old)
     InternsEach old (c ∷ cs) (i ∷ is) cost new =
         (next : State C) × (now later : List Mark) × (cost ≡ now ++ later) × Interns key old c (Ok i) next
-        × InternCost key hash old (key c) (Ok i) next (hashed (key c) ∷ now) × IsValid key next × InternsEach next cs is later new
+        × KnownInternCost key hash old (key c) (Ok i) next now × IsValid key next × InternsEach next cs is later new
     InternsEach old _ _ cost new = ⊥
 
-    -- a hashing of each, and then each interning
-    abbrev pub InternsHashed : State C → List C → List ℕ → List Mark → State C → Type 0
-    InternsHashed old cs is cost new = (rest : List Mark) × (cost ≡ hashings cs ++ rest) × InternsEach old cs is rest new
+    -- a hashing of each, then a look-up of each, and then each interning
+    abbrev pub InternsAll : State C → List C → List ℕ → List Mark → State C → Type 0
+    InternsAll old cs is cost new =
+        (searches internings : List Mark) × (cost ≡ hashings cs ++ searches ++ internings) × SearchesEach old cs searches × InternsEach old cs is internings new

@@ -86,3 +86,10 @@ module _ {C : Type 0} (key : C → Key) (hash : Key → ℕ) where
   abbrev pub InternCost : State C → Key → Result ℕ InternError → State C → List Mark → Type 0
   InternCost old k (Err e) new cost = SearchCost old k cost
   InternCost old k (Ok i) new cost = MatchOption (first key old.contents k) (IsAddingCost old k new cost) (λ _. SearchCost old k cost)
+
+  -- the same where the hash of the key is known
+  abbrev pub KnownSearchCost : State C → Key → List Mark → Type 0
+  KnownSearchCost s k cost = SearchCost s k (hashed k ∷ cost)
+
+  abbrev pub KnownInternCost : State C → Key → Result ℕ InternError → State C → List Mark → Type 0
+  KnownInternCost old k result new cost = InternCost old k result new (hashed k ∷ cost)

@@ -1,10 +1,11 @@
 //! Many contents are interned at once.
-ghost use Rattle.std.specs.Prelude.{◌≡◌, ◌<◌, ◌++◌, length, map, take, IfOk, IfErr, OnOk, OnErr};
+ghost use Rattle.std.specs.Prelude.{◌≡◌, ◌<◌, ◌++◌, length, map, take, Some, IfOk, IfErr, IfSome, OnOk, OnErr};
 ghost use Rattle.std.specs.List.{AllByRecursion};
-ghost use Rattle.intaglio_core.specs.State.{IsValid};
-ghost use Rattle.intaglio_core.specs.Cost.{Adds};
+ghost use Rattle.intaglio_core.specs.State.{first, IsValid};
+ghost use Rattle.intaglio_core.specs.Change.{Interns};
+ghost use Rattle.intaglio_core.specs.Cost.{Adds, KnownInternCost};
 ghost use Rattle.intaglio_core.specs.Issue.{issue_from, interned_all};
-ghost use Rattle.intaglio_core.specs.Batch.{IfOverflow, hashings, InternsEach, InternsHashed};
+ghost use Rattle.intaglio_core.specs.Batch.{IfOverflow, hashings, SearchesEach, InternsEach, InternsAll};
 
 use crate::interner::Interner;
 use intaglio_content::Work;
@@ -18,10 +19,19 @@ struct Hashed<C> {
     content: C,
 }
 
+// The same with the symbol of an equal content that was stored before.
+#[derive(Drop)]
+struct LookedUp<C> {
+    hash: u64,
+    content: C,
+    symbol: Option<Symbol>,
+}
+
 /// Interns the contents in order, and answers their symbols in the same order.
 ///
-/// All of them are hashed before the first one is looked up, so that the processor waits for the memory of several look-ups
-/// at once. Where the table is large this takes half of the time of as many internings, best with some dozens of contents.
+/// All of them are hashed, then all are looked up, and then those that weren't found are interned, so that the processor waits
+/// for the memory of several look-ups at once. Where the table is large this takes half of the time of as many internings, best
+/// with some dozens of contents.
 ///
 /// # Errors
 ///
@@ -33,8 +43,8 @@ pub fn intern_all<T: Interner>(
     contents: Vec<T::Content>,
     work: &mut Work,
 ) -> Result<Vec<Symbol>, InternError>
-    // As internings one by one, but that all hashings come first.
-    ensures ok { IfOk result (λ symbols. Adds work.old.marks work.new.marks (λ cost. InternsHashed T.Content.key (T.hash table.old) (T.state table.old) contents.items symbols.items cost (T.state table.new))) }
+    // As internings one by one, but that all hashings come first, and then a look-up of each.
+    ensures ok { IfOk result (λ symbols. Adds work.old.marks work.new.marks (λ cost. InternsAll T.Content.key (T.hash table.old) (T.state table.old) contents.items symbols.items cost (T.state table.new))) }
     ensures symbols { IfOk result (λ symbols. symbols.items ≡ issue_from T.Content.key (T.state table.old).contents contents.items) }
     ensures held { OnOk result ((T.state table.new).contents ≡ interned_all T.Content.key (T.state table.old).contents contents.items) }
 
@@ -48,7 +58,8 @@ pub fn intern_all<T: Interner>(
 {
     let mark = table.mark();
     let hashed = hash_all(alloc, table, contents, work)?;
-    let taken = take_all(alloc, table, hashed, work);
+    let looked_up = search_all(alloc, table, hashed, work)?;
+    let taken = take_all(alloc, table, looked_up, work);
     if taken.is_err() {
         let _ = table.take_back(mark);
     }
@@ -74,15 +85,41 @@ fn hash_all<T: Interner>(
     Ok(all)
 }
 
-// Interns contents that were hashed. After an error those before the refused one are held.
+// Looks contents up that were hashed.
+fn search_all<T: Interner>(
+    alloc: Global,
+    table: &T,
+    all: Vec<Hashed<T::Content>>,
+    work: &mut Work,
+) -> Result<Vec<LookedUp<T::Content>>, AllocError>
+    requires hashes { AllByRecursion (λ it. it.hash ≡ T.hash table.now (T.Content.key it.content)) all.items }
+    ensures contents { IfOk result (λ found. map (λ it. it.content) found.items ≡ map (λ it. it.content) all.items) }
+    ensures hashes { IfOk result (λ found. AllByRecursion (λ it. it.hash ≡ T.hash table.now (T.Content.key it.content)) found.items) }
+    ensures symbols { IfOk result (λ found. AllByRecursion (λ it. IfSome it.symbol (λ s. first T.Content.key (T.state table.now).contents (T.Content.key it.content) ≡ Some s)) found.items) }
+    ensures cost { OnOk result (Adds work.old.marks work.new.marks (SearchesEach T.Content.key (T.hash table.now) (T.state table.now) (map (λ it. it.content) all.items))) }
+{
+    let mut found = Vec::with_capacity(alloc, all.len())?;
+    for it in all {
+        let symbol = table.search_hashed(it.hash, &it.content, work);
+        found.push_reserved(LookedUp {
+            hash: it.hash,
+            content: it.content,
+            symbol,
+        });
+    }
+    Ok(found)
+}
+
+// Interns contents that were looked up. After an error those before the refused one are held.
 fn take_all<T: Interner>(
     alloc: Global,
     table: &mut T,
-    all: Vec<Hashed<T::Content>>,
+    all: Vec<LookedUp<T::Content>>,
     work: &mut Work,
 ) -> Result<Vec<Symbol>, InternError>
     requires valid { IsValid T.Content.key (T.state table.old) }
     requires hashes { AllByRecursion (λ it. it.hash ≡ T.hash table.old (T.Content.key it.content)) all.items }
+    requires symbols { AllByRecursion (λ it. IfSome it.symbol (λ s. first T.Content.key (T.state table.old).contents (T.Content.key it.content) ≡ Some s)) all.items }
     ensures ok { IfOk result (λ symbols. Adds work.old.marks work.new.marks (λ cost. InternsEach T.Content.key (T.hash table.old) (T.state table.old) (map (λ it. it.content) all.items) symbols.items cost (T.state table.new))) }
     ensures symbols { IfOk result (λ symbols. symbols.items ≡ issue_from T.Content.key (T.state table.old).contents (map (λ it. it.content) all.items)) }
     ensures held { OnOk result ((T.state table.new).contents ≡ interned_all T.Content.key (T.state table.old).contents (map (λ it. it.content) all.items)) }
@@ -94,7 +131,27 @@ fn take_all<T: Interner>(
 {
     let mut symbols = Vec::with_capacity(alloc, all.len())?;
     for it in all {
-        symbols.push_reserved(table.intern_hashed(it.hash, it.content, work)?);
+        symbols.push_reserved(take(table, it, work)?);
     }
     Ok(symbols)
+}
+
+// Interns a content that was looked up.
+fn take<T: Interner>(
+    table: &mut T,
+    it: LookedUp<T::Content>,
+    work: &mut Work,
+) -> Result<Symbol, InternError>
+    requires valid { IsValid T.Content.key (T.state table.old) }
+    requires hash { it.hash ≡ T.hash table.old (T.Content.key it.content) }
+    requires symbol { IfSome it.symbol (λ s. first T.Content.key (T.state table.old).contents (T.Content.key it.content) ≡ Some s) }
+    ensures step { Interns T.Content.key (T.state table.old) it.content result (T.state table.new) }
+    ensures cost { Adds work.old.marks work.new.marks (KnownInternCost T.Content.key (T.hash table.old) (T.state table.old) (T.Content.key it.content) result (T.state table.new)) }
+    ensures same_hash { T.hash table.new ≡ T.hash table.old }
+    ensures valid { IsValid T.Content.key (T.state table.new) }
+{
+    match it.symbol {
+        Some(symbol) => Ok(symbol),
+        None => table.intern_hashed(it.hash, it.content, work),
+    }
 }

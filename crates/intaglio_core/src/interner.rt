@@ -4,7 +4,7 @@ ghost use Rattle.intaglio_content.specs.Key.{Key, key_hash};
 ghost use Rattle.intaglio_content.specs.Work.{hashed};
 ghost use Rattle.intaglio_core.specs.State.{State, first, IsValid};
 ghost use Rattle.intaglio_core.specs.Change.{Interns, Reserves, Shrinks, TakesBack, Empties};
-ghost use Rattle.intaglio_core.specs.Cost.{Adds, InternCost, SearchCost, IsRoomCost};
+ghost use Rattle.intaglio_core.specs.Cost.{Adds, InternCost, SearchCost, KnownInternCost, KnownSearchCost, IsRoomCost};
 
 use crate::table_core::Core;
 use intaglio_content::{Content, Sought, Work};
@@ -58,9 +58,21 @@ pub trait Interner {
     ) -> Result<Symbol, InternError>
         requires known { known_hash ≡ hash self.old (Self.Content.key content) }
         ensures step { Interns Self.Content.key (state self.old) content result (state self.new) }
-        ensures cost { Adds work.old.marks work.new.marks (λ cost. InternCost Self.Content.key (hash self.old) (state self.old) (Self.Content.key content) result (state self.new) (hashed (Self.Content.key content) ∷ cost)) }
+        ensures cost { Adds work.old.marks work.new.marks (KnownInternCost Self.Content.key (hash self.old) (state self.old) (Self.Content.key content) result (state self.new)) }
         ensures same_hash { hash self.new ≡ hash self.old }
         ensures valid { IsValid Self.Content.key (state self.new) };
+
+    /// As [`search_counted`](Interner::search_counted), for a content that was hashed.
+    fn search_hashed(
+        &self,
+        known_hash: u64,
+        sought: &Self::Content,
+        work: &mut Work,
+    ) -> Option<Symbol>
+        requires known { known_hash ≡ hash self.now (Self.Content.key sought.now) }
+        ensures found { result ≡ first Self.Content.key (state self.now).contents (Self.Content.key sought.now) }
+        ensures cost { Adds work.old.marks work.new.marks (KnownSearchCost Self.Content.key (hash self.now) (state self.now) (Self.Content.key sought.now)) }
+        ensures valid { IsValid Self.Content.key (state self.now) };
 
     /// The symbol of the content, if an equal one is stored.
     fn search_counted(&self, sought: &Self::Content, work: &mut Work) -> Option<Symbol>
@@ -145,6 +157,10 @@ impl<C: Content + Sought<C> + Drop, S: BuildHasher> Interner for Core<C, S> {
         work: &mut Work,
     ) -> Result<Symbol, InternError> {
         Core::intern_hashed(self, known_hash, content, work)
+    }
+
+    fn search_hashed(&self, known_hash: u64, sought: &C, work: &mut Work) -> Option<Symbol> {
+        Core::search_hashed(self, known_hash, sought, work)
     }
 
     fn search_counted(&self, sought: &C, work: &mut Work) -> Option<Symbol> {

@@ -1,11 +1,11 @@
 //! A list of contents with an index over it.
 ghost use Rattle.std.specs.Prelude.{◌≡◌, ℕ, ◌+◌, ◌*◌, ◌^◌, ◌<◌, ◌≤◌, ◌++◌, ◌∷◌, ◌↔◌, List, [], map, length, min, max, replicate, slice_get, option_copied, vec_capacity, Some, None, IfSome, IsTrue, OnOk, OnErr};
 ghost use Rattle.intaglio_content.specs.Key.{Key, key_hash};
-ghost use Rattle.intaglio_content.specs.Work.{hashed, placed};
+ghost use Rattle.intaglio_content.specs.Work.{placed};
 ghost use Rattle.intaglio_symbol.specs.AllSymbols.{numbers_from};
 ghost use Rattle.intaglio_core.specs.State.{first, IsValid};
 ghost use Rattle.intaglio_core.specs.Change.{Interns, Takes};
-ghost use Rattle.intaglio_core.specs.Cost.{Adds, SearchCost, InternCost};
+ghost use Rattle.intaglio_core.specs.Cost.{Adds, SearchCost, InternCost, KnownSearchCost, KnownInternCost};
 ghost use Rattle.intaglio_core.specs.Indexed.{AddCost};
 
 mod lending;
@@ -120,6 +120,21 @@ impl<C: Keyed, S: BuildHasher> Core<C, S> {
         ensures valid { IsValid C.key self.now.state }
     {
         let hash = sought.hash_with(&self.hasher, work);
+        self.search_hashed(hash, sought, work)
+    }
+
+    // The same for a key whose hash is known.
+    pub(crate) fn search_hashed<Q: Sought<C>>(
+        &self,
+        hash: u64,
+        sought: &Q,
+        work: &mut Work,
+    ) -> Option<Symbol>
+        requires hash { hash ≡ key_hash S.Hasher.finish S.Hasher.write (S.build_hasher self.now.hasher) (Q.key sought.now) }
+        ensures found { result ≡ first C.key self.now.state.contents (Q.key sought.now) }
+        ensures cost { Adds work.old.marks work.new.marks (KnownSearchCost C.key (key_hash S.Hasher.finish S.Hasher.write (S.build_hasher self.now.hasher)) self.now.state (Q.key sought.now)) }
+        ensures valid { IsValid C.key self.now.state }
+    {
         walk(&self.list, &self.index, &self.hasher, hash, sought, work)
     }
 
@@ -155,7 +170,7 @@ impl<C: Keyed, S: BuildHasher> Core<C, S> {
         C: Sought<C> + Drop,
         requires hash { hash ≡ key_hash S.Hasher.finish S.Hasher.write (S.build_hasher self.old.hasher) (C.key content) }
         ensures step { Interns C.key self.old.state content result self.new.state }
-        ensures cost { Adds work.old.marks work.new.marks (λ cost. InternCost C.key (key_hash S.Hasher.finish S.Hasher.write (S.build_hasher self.old.hasher)) self.old.state (C.key content) result self.new.state (hashed (C.key content) ∷ cost)) }
+        ensures cost { Adds work.old.marks work.new.marks (KnownInternCost C.key (key_hash S.Hasher.finish S.Hasher.write (S.build_hasher self.old.hasher)) self.old.state (C.key content) result self.new.state) }
         ensures hasher { self.new.hasher ≡ self.old.hasher }
         ensures valid { IsValid C.key self.new.state }
     {

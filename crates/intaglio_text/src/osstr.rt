@@ -403,6 +403,15 @@ impl<S: BuildHasher> Interner for SymbolTable<S> {
         Interner::intern_hashed(&mut self.core, known_hash, content, work)
     }
 
+    fn search_hashed(
+        &self,
+        known_hash: u64,
+        sought: &OsStrContent,
+        work: &mut Work,
+    ) -> Option<Symbol> {
+        self.core.search_hashed(known_hash, sought, work)
+    }
+
     fn search_counted(&self, sought: &OsStrContent, work: &mut Work) -> Option<Symbol> {
         self.core.search_counted(sought, work)
     }

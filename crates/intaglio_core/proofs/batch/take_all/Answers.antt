@@ -2,7 +2,7 @@ use Rattle.std.proofs.Common.{rules, ◌≡◌, ◌∙◌, [], map, Err, sym, ap
 use Rattle.std.proofs.lemmas.Grind.{common_steps}
 use Rattle.std.proofs.lemmas.List.{map-append}
 use Rattle.std.specs.Vec.Iter.{into_iter_items}
-use Rattle.intaglio_core.proofs.Each.{Adds-each, InternsEach-issues, Interns-limit, begins, overflows}
+use Rattle.intaglio_core.proofs.Each.{Adds-each, InternsEach-issues, Interns-limit, begins, overflows, symbol-still}
 use Rattle.intaglio_core.proofs.batch.take_all.Goals as goal
 
 pub loop-it-init : goal.loop-it-init
@@ -13,6 +13,7 @@ loop-it-init g c =
       finite = tt;
       ran = ([], sym (append-nil _), rw c.in_ok-symbols.ensures.items (refl, refl));
       hashes = rw all c.requires.hashes;
+      symbols = rw all c.requires.symbols;
       same_hash = refl;
       limit = refl;
       valid = c.requires.valid;
@@ -20,17 +21,24 @@ loop-it-init g c =
       room = search rules;
     }
 
+pub take-requires-clause-symbol : goal.take-requires-clause-symbol
+take-requires-clause-symbol g c =
+    let symbols = rw c.in-Some.ensures.steps.0 at c.loop-it.invariant.symbols in
+    symbol-still g.T.Content.Keyed.key (g.T.Interner.hash c.args.table.now) (g.T.Interner.state c.args.table.now) (g.T.Interner.state c.loop-it.table) _ _ _ _ c.in-Some.it.symbol c.loop-it.invariant.ran.2 symbols.0
+
 pub loop-it-preserved : goal.loop-it-preserved
 loop-it-preserved g c =
-    let each = rw c.in-Some.ensures.steps.0 at c.loop-it.invariant.hashes in
+    let hashes = rw c.in-Some.ensures.steps.0 at c.loop-it.invariant.hashes in
+    let symbols = rw c.in-Some.ensures.steps.0 at c.loop-it.invariant.symbols in
     record {
       can = tt;
       finite = tt;
-      ran = rw (c.push_reserved.ensures.items, map-append) (Adds-each g.T.Content.Keyed.key _ _ _ _ _ _ _ _ _ _ _ c.loop-it.invariant.ran c.in_ok-intern_hashed.ensures.step (rw c.loop-it.invariant.same_hash at c.in_ok-intern_hashed.ensures.cost) c.in_ok-intern_hashed.ensures.valid);
-      hashes = each.1;
-      same_hash = c.in_ok-intern_hashed.ensures.same_hash ∙ c.loop-it.invariant.same_hash;
-      limit = Interns-limit g.T.Content.Keyed.key (g.T.Interner.state c.loop-it.table) (g.T.Interner.state c.intern_hashed.new.self) c.in-Some.it.content c.intern_hashed.result c.intern_hashed.ensures.step ∙ c.loop-it.invariant.limit;
-      valid = c.in_ok-intern_hashed.ensures.valid;
+      ran = rw (c.push_reserved.ensures.items, map-append) (Adds-each g.T.Content.Keyed.key _ _ _ _ _ _ _ _ _ _ _ c.loop-it.invariant.ran c.in_ok-take.ensures.step (rw c.loop-it.invariant.same_hash at c.in_ok-take.ensures.cost) c.in_ok-take.ensures.valid);
+      hashes = hashes.1;
+      symbols = symbols.1;
+      same_hash = c.in_ok-take.ensures.same_hash ∙ c.loop-it.invariant.same_hash;
+      limit = Interns-limit g.T.Content.Keyed.key (g.T.Interner.state c.loop-it.table) (g.T.Interner.state c.take.new.table) c.in-Some.it.content c.take.result c.take.ensures.step ∙ c.loop-it.invariant.limit;
+      valid = c.in_ok-take.ensures.valid;
       whole = rw (append_assoc, ← c.in-Some.ensures.steps.0) c.loop-it.invariant.whole;
       room = omega (arith, c.in-Some.ensures.steps);
     }
@@ -47,16 +55,16 @@ returns-clause-held g c =
     let all : c.loop-it.yielded ≡ c.args.all.items = grind (arith, common_steps, c.in-None.ensures.steps, c.loop-it.invariant.whole) in
     rw (← all) ((InternsEach-issues g.T.Content.Keyed.key _ _ _ _ _ _ ran.2).1)
 
-pub returns-in_err-intern_hashed-clause-begins : goal.returns-in_err-intern_hashed-clause-begins
-returns-in_err-intern_hashed-clause-begins g c =
+pub returns-in_err-take-clause-begins : goal.returns-in_err-take-clause-begins
+returns-in_err-take-clause-begins g c =
     let ran = c.loop-it.invariant.ran in
-    let is : c.from_residual-in_err-intern_hashed.result ≡ Err c.in_err-intern_hashed.field-0.0 = search rules in
-    rw is (begins g.T.Content.Keyed.key (g.T.Interner.hash c.args.table.now) (g.T.Interner.state c.args.table.now) (g.T.Interner.state c.loop-it.table) (g.T.Interner.state c.intern_hashed.new.self) _ _ _ c.in-Some.it.content c.in_err-intern_hashed.field-0.0 ran.2 c.in_err-intern_hashed.ensures.step)
+    let is : c.from_residual-in_err-take.result ≡ Err c.in_err-take.field-0.0 = search rules in
+    rw is (begins g.T.Content.Keyed.key (g.T.Interner.hash c.args.table.now) (g.T.Interner.state c.args.table.now) (g.T.Interner.state c.loop-it.table) (g.T.Interner.state c.take.new.table) _ _ _ c.in-Some.it.content c.in_err-take.field-0.0 ran.2 c.in_err-take.ensures.step)
 
-pub returns-in_err-intern_hashed-clause-overflow : goal.returns-in_err-intern_hashed-clause-overflow
-returns-in_err-intern_hashed-clause-overflow g c =
+pub returns-in_err-take-clause-overflow : goal.returns-in_err-take-clause-overflow
+returns-in_err-take-clause-overflow g c =
     let ran = c.loop-it.invariant.ran in
     let contents = map (λ it. it.content) (into_iter_items c.next.new.self) in
-    let is : c.from_residual-in_err-intern_hashed.result ≡ Err c.in_err-intern_hashed.field-0.0 = search rules in
+    let is : c.from_residual-in_err-take.result ≡ Err c.in_err-take.field-0.0 = search rules in
     let whole = ap (λ all. map (λ it. it.content) all) (rw c.in-Some.ensures.steps.0 at c.loop-it.invariant.whole) in
-    rw is (overflows g.T.Content.Keyed.key (g.T.Interner.hash c.args.table.now) (g.T.Interner.state c.args.table.now) (g.T.Interner.state c.loop-it.table) (g.T.Interner.state c.intern_hashed.new.self) _ contents _ _ _ c.in-Some.it.content c.in_err-intern_hashed.field-0.0 ran.2 c.in_err-intern_hashed.ensures.step c.loop-it.invariant.limit (rw map-append at whole))
+    rw is (overflows g.T.Content.Keyed.key (g.T.Interner.hash c.args.table.now) (g.T.Interner.state c.args.table.now) (g.T.Interner.state c.loop-it.table) (g.T.Interner.state c.take.new.table) _ contents _ _ _ c.in-Some.it.content c.in_err-take.field-0.0 ran.2 c.in_err-take.ensures.step c.loop-it.invariant.limit (rw map-append at whole))

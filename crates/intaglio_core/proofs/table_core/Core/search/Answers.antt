@@ -7,9 +7,9 @@ use Rattle.intaglio_core.proofs.table_core.Core.search.Goals as goal
 
 pub returns-clause-within : goal.returns-clause-within
 returns-clause-within g c =
-    rw (← c.self.view_is) (found-within g.C.Keyed.key c.self.inside.list.items (g.Q.Keyed.key c.args.sought.now) c.walk.result (rw c.deref.ensures.value at c.walk.ensures.answer))
+    found-within g.C.Keyed.key c.args.self.now.state.contents (g.Q.Keyed.key c.args.sought.now) c.search_hashed.result c.search_hashed.ensures.found
 
 pub returns-clause-cost : goal.returns-clause-cost
 returns-clause-cost g c =
     let hash = key_hash g.S.Hasher.Hasher.finish g.S.Hasher.Hasher.write (g.S.BuildHasher.build_hasher c.args.self.now.hasher) in
-    mark-first (SearchCost g.C.Keyed.key hash c.args.self.now.state (g.Q.Keyed.key c.args.sought.now)) (hashed (g.Q.Keyed.key c.args.sought.now)) _ _ _ c.hash_with-hash.ensures.mark (rw (← c.self.view_is) (rw c.deref.ensures.value at c.walk.ensures.cost))
+    mark-first (SearchCost g.C.Keyed.key hash c.args.self.now.state (g.Q.Keyed.key c.args.sought.now)) (hashed (g.Q.Keyed.key c.args.sought.now)) _ _ _ c.hash_with-hash.ensures.mark c.search_hashed.ensures.cost
