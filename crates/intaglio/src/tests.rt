@@ -1,5 +1,6 @@
 //! What no clause says: outside vectors, the tests of the ported crate, and each public call made once on each table.
 
+mod batches;
 mod buckets;
 mod builders;
 mod c_strings;

@@ -13,8 +13,8 @@ use crate::lines::first_line;
 use intaglio::{Interner, Symbol, Work, intern_all};
 use std::alloc::{AllocError, Global};
 
-// How many lines are interned at once. More are no faster, since a group then leaves the fast memory before it is interned.
-const GROUP: usize = 32;
+// How many lines are interned at once: their memory is waited for together.
+const GROUP: usize = 64;
 
 // The contents of some lines, what stands behind these lines, and why the next one is no content, if it isn't.
 #[derive(Drop)]

@@ -10,7 +10,7 @@ invariant-loop-alloc g l = record {
   lines : lines_of l.input ≡ map g.C.Content.spelling l.contents.items ++ lines_of l.rest;
   fit : position_or_len (λ x. not (g.C.FromLine.fits x)) (lines_of l.input) ≡ length l.contents.items + position_or_len (λ x. not (g.C.FromLine.fits x)) (lines_of l.rest);
   bytes : length l.contents.items + length l.rest ≤ length l.input;
-  room : 32 ≤ vec_capacity l.contents;
+  room : 64 ≤ vec_capacity l.contents;
 }
 
 abbrev pub decreases-loop-alloc : goal.decreases-loop-alloc
