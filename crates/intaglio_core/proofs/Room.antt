@@ -1,13 +1,14 @@
 -- Room that was there stays, but for calls that shrink.
-use Rattle.std.proofs.Common.{◌≡◌, ℕ, suc, ◌+◌, ◌≤◌, List, [], ◌∷◌, length, All, Option, Some, None, Ok, Result, MatchOption, length-append, inl, inr, ap, arith}
+use Rattle.std.proofs.Common.{◌≡◌, ℕ, suc, ◌+◌, ◌≤◌, List, [], ◌∷◌, length, All, Option, Some, None, Ok, Err, Result, MatchOption, length-append, inl, inr, ap, arith}
 use Rattle.std.proofs.lemmas.Bool.{cases_lt}
 use Rattle.intaglio_content.specs.Key.{Key}
 use Rattle.intaglio_content.specs.Work.{Mark}
 use Rattle.intaglio_core.specs.State.{State, first}
-use Rattle.intaglio_core.specs.Change.{IsTaken, IsRefused}
+use Rattle.intaglio_core.specs.Change.{Interns, IsTaken, IsRefused}
 use Rattle.intaglio_core.specs.Step.{Step}
 use Rattle.intaglio_core.specs.Run.{Runs, KeepsRoom}
 use Rattle.intaglio_symbol.specs.declared.error.InternError.{InternError}
+use Rattle.intaglio_symbol.specs.declared.error.InternError.TheVariants as intern_error
 use Rattle.intaglio_core.specs.declared.run.Call.{Call}
 use Rattle.intaglio_core.specs.declared.run.Call.TheVariants.{Intern, Check, GetInterned, IsInterned, Contains, Get, Len, IsEmpty, Clear, Reserve, TakeBack}
 use Rattle.intaglio_core.specs.declared.run.Reply.{Reply}
@@ -44,6 +45,11 @@ module _ {C : Type 0} (key : C → Key) where
   refused-roomier : (o : Option ℕ) (old next : State C) (B : ℕ → Type 0) → MatchOption o (IsRefused old next) (λ j. B j × (next ≡ old)) → Roomier old next
   refused-roomier None old next B h = kept-roomier old next h.contents h.room
   refused-roomier (Some j) old next B h = same-roomier old next h.1
+
+  pub Interns-roomier : (old next : State C) (c : C) (result : Result ℕ InternError) → Interns key old c result next → length old.contents + old.room ≤ length next.contents + next.room
+  Interns-roomier old next c (Ok i) made = answered-roomier (first key old.contents (key c)) old next c i made
+  Interns-roomier old next c (Err (intern_error.Overflow e)) made = overflow-roomier (first key old.contents (key c)) old next _ _ made
+  Interns-roomier old next c (Err (intern_error.Memory e)) made = refused-roomier (first key old.contents (key c)) old next _ made
 
   module _ (spelling : C → List ℕ) where
     intern-roomier : (old next : State C) (c : C) (r : Reply) → Step key spelling old (Intern c) r next → Roomier old next

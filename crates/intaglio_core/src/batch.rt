@@ -1,5 +1,5 @@
 //! Many contents are interned at once.
-ghost use Rattle.std.specs.Prelude.{◌≡◌, ◌<◌, ◌++◌, length, map, take, Some, IfOk, IfErr, IfSome, OnOk, OnErr};
+ghost use Rattle.std.specs.Prelude.{◌≡◌, ◌+◌, ◌<◌, ◌≤◌, ◌++◌, length, map, take, Some, IfOk, IfErr, IfSome, OnOk, OnErr};
 ghost use Rattle.std.specs.List.{AllByRecursion};
 ghost use Rattle.intaglio_core.specs.State.{first, IsValid};
 ghost use Rattle.intaglio_core.specs.Change.{Interns};
@@ -36,7 +36,13 @@ struct LookedUp<C> {
 /// # Errors
 ///
 /// `Overflow` where the table can't hold them all, `Memory` where the memory for the symbols or for a growth was refused.
-/// Then the table has the contents that it had before, and those handed in are dropped.
+/// Then the table has the contents that it had before and no less room, and those handed in are dropped.
+///
+/// ```
+/// let words = vec![in alloc; StrContent::from("b"), StrContent::from("a"), StrContent::from("b")]?;
+/// let symbols = intern_all(alloc, &mut table, words, &mut Work::new())?;
+/// assert_eq!(symbols.as_slice(), [Symbol::new(0), Symbol::new(1), Symbol::new(0)].as_slice());
+/// ```
 pub fn intern_all<T: Interner>(
     alloc: Global,
     table: &mut T,
@@ -52,6 +58,7 @@ pub fn intern_all<T: Interner>(
     ensures refused { OnErr result ((T.state table.new).contents ≡ (T.state table.old).contents) }
     ensures overflow { IfErr result (λ e. IfOverflow e ((T.state table.old).limit < length (interned_all T.Content.key (T.state table.old).contents contents.items))) }
 
+    ensures capacity { length (T.state table.old).contents + (T.state table.old).room ≤ length (T.state table.new).contents + (T.state table.new).room }
     ensures limit { (T.state table.new).limit ≡ (T.state table.old).limit }
     ensures same_hash { T.hash table.new ≡ T.hash table.old }
     ensures valid { IsValid T.Content.key (T.state table.new) }
@@ -125,6 +132,7 @@ fn take_all<T: Interner>(
     ensures held { OnOk result ((T.state table.new).contents ≡ interned_all T.Content.key (T.state table.old).contents (map (λ it. it.content) all.items)) }
     ensures begins { OnErr result (take (length (T.state table.old).contents) (T.state table.new).contents ≡ (T.state table.old).contents) }
     ensures overflow { IfErr result (λ e. IfOverflow e ((T.state table.old).limit < length (interned_all T.Content.key (T.state table.old).contents (map (λ it. it.content) all.items)))) }
+    ensures capacity { length (T.state table.old).contents + (T.state table.old).room ≤ length (T.state table.new).contents + (T.state table.new).room }
     ensures limit { (T.state table.new).limit ≡ (T.state table.old).limit }
     ensures same_hash { T.hash table.new ≡ T.hash table.old }
     ensures valid { IsValid T.Content.key (T.state table.new) }

@@ -53,7 +53,7 @@ impl<'a> PartialEq for Path<'a> {
 
     /// Walks both texts side by side, up to the first component that differs. Equal texts aren't walked.
     fn eq(&self, other: &Path<'a>) -> bool {
-        if self.text == other.text {
+        if self.as_str() == other.as_str() {
             return true;
         }
         let mut left = self.components();

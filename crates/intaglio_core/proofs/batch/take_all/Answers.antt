@@ -1,8 +1,9 @@
-use Rattle.std.proofs.Common.{rules, ◌≡◌, ◌∙◌, [], map, Err, sym, ap, arith, append_assoc, append-nil, refl}
+use Rattle.std.proofs.Common.{rules, ◌≡◌, ◌∙◌, [], map, Err, sym, ap, le_refl, arith, append_assoc, append-nil, refl}
 use Rattle.std.proofs.lemmas.Grind.{common_steps}
 use Rattle.std.proofs.lemmas.List.{map-append}
 use Rattle.std.specs.Vec.Iter.{into_iter_items}
 use Rattle.intaglio_core.proofs.Each.{Adds-each, InternsEach-issues, Interns-limit, begins, overflows, symbol-still}
+use Rattle.intaglio_core.proofs.Room.{Interns-roomier}
 use Rattle.intaglio_core.proofs.batch.take_all.Goals as goal
 
 pub loop-it-init : goal.loop-it-init
@@ -16,6 +17,7 @@ loop-it-init g c =
       symbols = rw all c.requires.symbols;
       same_hash = refl;
       limit = refl;
+      capacity = le_refl _;
       valid = c.requires.valid;
       whole = all;
       room = search rules;
@@ -38,6 +40,7 @@ loop-it-preserved g c =
       symbols = symbols.1;
       same_hash = c.in_ok-take.ensures.same_hash ∙ c.loop-it.invariant.same_hash;
       limit = Interns-limit g.T.Content.Keyed.key (g.T.Interner.state c.loop-it.table) (g.T.Interner.state c.take.new.table) c.in-Some.it.content c.take.result c.take.ensures.step ∙ c.loop-it.invariant.limit;
+      capacity = omega (arith, c.loop-it.invariant.capacity, Interns-roomier g.T.Content.Keyed.key (g.T.Interner.state c.loop-it.table) (g.T.Interner.state c.take.new.table) c.in-Some.it.content c.take.result c.take.ensures.step);
       valid = c.in_ok-take.ensures.valid;
       whole = rw (append_assoc, ← c.in-Some.ensures.steps.0) c.loop-it.invariant.whole;
       room = omega (arith, c.in-Some.ensures.steps);
@@ -68,3 +71,7 @@ returns-in_err-take-clause-overflow g c =
     let is : c.from_residual-in_err-take.result ≡ Err c.in_err-take.field-0.0 = search rules in
     let whole = ap (λ all. map (λ it. it.content) all) (rw c.in-Some.ensures.steps.0 at c.loop-it.invariant.whole) in
     rw is (overflows g.T.Content.Keyed.key (g.T.Interner.hash c.args.table.now) (g.T.Interner.state c.args.table.now) (g.T.Interner.state c.loop-it.table) (g.T.Interner.state c.take.new.table) _ contents _ _ _ c.in-Some.it.content c.in_err-take.field-0.0 ran.2 c.in_err-take.ensures.step c.loop-it.invariant.limit (rw map-append at whole))
+
+pub returns-in_err-take-clause-capacity : goal.returns-in_err-take-clause-capacity
+returns-in_err-take-clause-capacity g c =
+    omega (arith, c.loop-it.invariant.capacity, Interns-roomier g.T.Content.Keyed.key (g.T.Interner.state c.loop-it.table) (g.T.Interner.state c.take.new.table) c.in-Some.it.content c.take.result c.take.ensures.step)

@@ -1,4 +1,4 @@
-use Rattle.std.proofs.Common.{◌≡◌, ◌++◌, ◌+◌, ◌≤◌, Some, IfSome, map, vec_len, vec_capacity}
+use Rattle.std.proofs.Common.{◌≡◌, ◌++◌, ◌+◌, ◌≤◌, Some, IfSome, length, map, vec_len, vec_capacity}
 use Rattle.std.specs.List.{AllByRecursion}
 use Rattle.std.specs.Vec.Iter.{into_iter_items, into_iter_len}
 use Rattle.intaglio_core.specs.State.{first, IsValid}
@@ -15,6 +15,7 @@ invariant-loop-it g l = record {
   symbols : AllByRecursion (λ it. IfSome it.symbol (λ s. first g.T.Content.Keyed.key (g.T.Interner.state l.initial.table).contents (g.T.Content.Keyed.key it.content) ≡ Some s)) (into_iter_items l.it-iterator);
   same_hash : g.T.Interner.hash l.table ≡ g.T.Interner.hash l.initial.table;
   limit : (g.T.Interner.state l.table).limit ≡ (g.T.Interner.state l.initial.table).limit;
+  capacity : length (g.T.Interner.state l.initial.table).contents + (g.T.Interner.state l.initial.table).room ≤ length (g.T.Interner.state l.table).contents + (g.T.Interner.state l.table).room;
   valid : IsValid g.T.Content.Keyed.key (g.T.Interner.state l.table);
   whole : l.yielded ++ into_iter_items l.it-iterator ≡ l.fn.all.items;
   room : vec_len l.symbols + into_iter_len l.it-iterator ≤ vec_capacity l.symbols;
