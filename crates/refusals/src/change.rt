@@ -1,61 +1,76 @@
-//! The calls that change a table.
-use crate::kind::Kind;
-use intaglio::{Call, InternError, Mark, Reply, RoomError};
+//! The calls that are made, each by the table's own call or by a run.
+use crate::kind::{Kind, Room};
+use intaglio::{Call, InternError, Mark, Reply, RoomError, Symbol};
 
 /// A call that takes no content and can be made again.
 #[derive(Clone, Copy)]
 pub enum Change {
-    Reserve(usize),
-    ShrinkTo(usize),
-    ShrinkToFit,
+    Room(Room),
     Clear,
     TakeBack(usize),
 }
 
-impl Change {
+/// A call.
+#[derive(Drop)]
+pub enum Ask<C> {
+    Intern(C),
+    GetInterned(C),
+    Change(Change),
+}
+
+impl<C> Ask<C> {
     /// What the call is told as. Std's own shrink of a list keeps a refusal to itself, and the list then keeps its room, so
     /// the last of the requests of a shrink has no answer.
-    pub fn name(self) -> &'static str {
+    pub fn name(&self) -> &'static str {
         match self {
-            Change::Reserve(_) => "reserve",
-            Change::ShrinkTo(_) | Change::ShrinkToFit => "shrink",
-            Change::Clear => "clear",
-            Change::TakeBack(_) => "take_back",
+            Ask::Intern(_) => "intern",
+            Ask::GetInterned(_) => "get_interned",
+            Ask::Change(Change::Room(Room::Reserve(_))) => "reserve",
+            Ask::Change(Change::Room(_)) => "shrink",
+            Ask::Change(Change::Clear) => "clear",
+            Ask::Change(Change::TakeBack(_)) => "take_back",
         }
     }
 
-    pub fn call<C>(self) -> Call<C> {
+    /// The same call for a run.
+    pub fn call(self) -> Call<C> {
         match self {
-            Change::Reserve(additional) => Call::Reserve(additional),
-            Change::ShrinkTo(min_capacity) => Call::ShrinkTo(min_capacity),
-            Change::ShrinkToFit => Call::ShrinkToFit,
-            Change::Clear => Call::Clear,
-            Change::TakeBack(count) => Call::TakeBack(Mark::new(count)),
+            Ask::Intern(content) => Call::Intern(content),
+            Ask::GetInterned(content) => Call::GetInterned(content),
+            Ask::Change(change) => match change {
+                Change::Room(Room::Reserve(additional)) => Call::Reserve(additional),
+                Change::Room(Room::ShrinkTo(min_capacity)) => Call::ShrinkTo(min_capacity),
+                Change::Room(Room::ShrinkToFit) => Call::ShrinkToFit,
+                Change::Clear => Call::Clear,
+                Change::TakeBack(count) => Call::TakeBack(Mark::new(count)),
+            },
         }
     }
 }
 
-/// Makes a call that changes the table by the table's own call of that name, and answers as a run does. Look-ups aren't made:
-/// they answer that the mark is stale.
-pub fn own<T: Kind>(table: &mut T, call: Call<T::Content>) -> Reply {
-    match call {
-        Call::Intern(content) => match table.intern(content) {
-            Ok(symbol) => Reply::Symbol(Some(symbol)),
-            Err(InternError::Overflow(_)) => Reply::Overflow,
-            Err(InternError::Memory(_)) => Reply::NoMemory,
-        },
-        Call::Reserve(additional) => reply_of(table.reserve(additional)),
-        Call::ShrinkTo(min_capacity) => reply_of(table.shrink_to(min_capacity)),
-        Call::ShrinkToFit => reply_of(table.shrink_to_fit()),
-        Call::Clear => {
+/// Makes a call by the table's own call of that name, and answers as a run does. Look-ups aren't made: they answer that the
+/// mark is stale.
+pub fn own<T: Kind>(table: &mut T, ask: Ask<T::Content>) -> Reply {
+    match ask {
+        Ask::Intern(content) => reply_of_intern(table.intern(content)),
+        Ask::GetInterned(_) => Reply::Stale,
+        Ask::Change(Change::Room(room)) => reply_of(table.resize(room)),
+        Ask::Change(Change::Clear) => {
             table.empty();
             Reply::Done
         }
-        Call::TakeBack(mark) => match table.take_back(mark) {
+        Ask::Change(Change::TakeBack(count)) => match table.take_back(Mark::new(count)) {
             Ok(()) => Reply::Done,
             Err(_) => Reply::Stale,
         },
-        _ => Reply::Stale,
+    }
+}
+
+fn reply_of_intern(answer: Result<Symbol, InternError>) -> Reply {
+    match answer {
+        Ok(symbol) => Reply::Symbol(Some(symbol)),
+        Err(InternError::Overflow(_)) => Reply::Overflow,
+        Err(InternError::Memory(_)) => Reply::NoMemory,
     }
 }
 

@@ -11,43 +11,64 @@ pub struct Contents<T: Kind> {
     /// A content of each, to look it up.
     pub sought: Vec<T::Content>,
     /// Two contents of each, the first number's on top: a refused interning drops the one handed in.
-    pub fresh: Vec<T::Content>,
+    pub fresh: Vec<(T::Content, T::Content)>,
     /// Two more of each, in the same order, for look-ups that take one.
-    pub asked: Vec<T::Content>,
+    pub asked: Vec<(T::Content, T::Content)>,
     /// Empty lists with room for one call each.
     pub lists: Vec<Vec<Call<T::Content>>>,
 }
 
 const LISTS: usize = 200;
 
-/// The contents of the numbers below a count.
-pub fn make_contents<T: Kind>(alloc: Global, count: u32) -> Result<Contents<T>, AllocError> {
-    let mut texts = Vec::new(alloc);
-    let mut sought = Vec::new(alloc);
-    for number in 0..count {
-        texts.push(format!(in alloc; "{number}")?)?;
-        sought.push(T::content_of(alloc, number)?)?;
+impl<T: Kind> Contents<T> {
+    /// The contents of the numbers below a count.
+    pub fn make(alloc: Global, count: u32) -> Result<Contents<T>, AllocError> {
+        let mut contents = Contents {
+            texts: Vec::new(alloc),
+            sought: Vec::new(alloc),
+            fresh: Vec::new(alloc),
+            asked: Vec::new(alloc),
+            lists: make_lists(alloc)?,
+        };
+        contents.fill(alloc, count)?;
+        contents.fresh.reverse();
+        contents.asked.reverse();
+        Ok(contents)
     }
-    let fresh = two_of_each::<T>(alloc, count)?;
-    let asked = two_of_each::<T>(alloc, count)?;
+
+    fn fill(&mut self, alloc: Global, count: u32) -> Result<(), AllocError> {
+        for number in 0..count {
+            self.add(alloc, number)?;
+        }
+        Ok(())
+    }
+
+    fn add(&mut self, alloc: Global, number: u32) -> Result<(), AllocError> {
+        self.texts.push(text_of(alloc, number)?)?;
+        self.sought.push(content_of::<T>(alloc, number)?)?;
+        self.fresh.push(two_of::<T>(alloc, number)?)?;
+        self.asked.push(two_of::<T>(alloc, number)?)?;
+        Ok(())
+    }
+}
+
+fn text_of(alloc: Global, number: u32) -> Result<String, AllocError> {
+    format!(in alloc; "{number}")
+}
+
+fn content_of<T: Kind>(alloc: Global, number: u32) -> Result<T::Content, AllocError> {
+    T::content_of(alloc, text_of(alloc, number)?)
+}
+
+fn two_of<T: Kind>(alloc: Global, number: u32) -> Result<(T::Content, T::Content), AllocError> {
+    let first = content_of::<T>(alloc, number)?;
+    Ok((first, content_of::<T>(alloc, number)?))
+}
+
+fn make_lists<C: Drop>(alloc: Global) -> Result<Vec<Vec<Call<C>>>, AllocError> {
     let mut lists = Vec::new(alloc);
     for _ in 0..LISTS {
         lists.push(Vec::with_capacity(alloc, 1)?)?;
     }
-    Ok(Contents {
-        texts,
-        sought,
-        fresh,
-        asked,
-        lists,
-    })
-}
-
-fn two_of_each<T: Kind>(alloc: Global, count: u32) -> Result<Vec<T::Content>, AllocError> {
-    let mut contents = Vec::new(alloc);
-    for number in (0..count).rev() {
-        contents.push(T::content_of(alloc, number)?)?;
-        contents.push(T::content_of(alloc, number)?)?;
-    }
-    Ok(contents)
+    Ok(lists)
 }

@@ -1,8 +1,8 @@
 //! Why a run isn't what the list says.
-use std::alloc::{AllocError, AllocFailed};
+use std::alloc::AllocError;
 
 /// Why a run isn't what the list says.
-#[derive(Debug, Drop)]
+#[derive(Clone, Copy, Debug)]
 pub enum Fault {
     /// The arguments name no run.
     Words,
@@ -18,12 +18,6 @@ pub enum Fault {
 
 impl From<AllocError> for Fault {
     fn from(_refused: AllocError) -> Fault {
-        Fault::Making
-    }
-}
-
-impl<T: Drop> From<AllocFailed<T>> for Fault {
-    fn from(_refused: AllocFailed<T>) -> Fault {
         Fault::Making
     }
 }

@@ -17,7 +17,7 @@ use fault::Fault;
 use intaglio::{SymbolTable, bstr, bytes, cstr, osstr, path};
 use kind::Kind;
 use making::make_all;
-use runs::{Run, calls, no_memory};
+use runs::{Calls, watch};
 use std::env;
 use std::process::ExitCode;
 use std::rt::Env;
@@ -25,15 +25,17 @@ use watched::Way;
 
 const TABLES: [&str; 6] = ["text", "osstr", "path", "bytes", "bstr", "cstr"];
 
+const RUNS: [&str; 6] = [
+    "calls",
+    "cut",
+    "replies",
+    "cut_replies",
+    "making",
+    "no_memory",
+];
+
 fn main(rt: HostRuntime) -> ExitCode {
-    let answer = match words(&rt) {
-        Ok(words) => match words.as_slice() {
-            [_, table, run] => one(&rt, table.as_str(), Run::named(run.as_str())),
-            _ => all(&rt),
-        },
-        Err(fault) => Err(fault),
-    };
-    match answer {
+    match asked(&rt) {
         Ok(()) => {
             let _ = println!(rt; "every answer is the list's");
             ExitCode::from(0)
@@ -45,34 +47,30 @@ fn main(rt: HostRuntime) -> ExitCode {
     }
 }
 
-fn words<R: Env + AllocGlobal>(rt: &R) -> Result<Vec<String>, Fault> {
-    let mut words = Vec::new(rt.alloc());
-    let Ok(args) = env::args(rt) else {
+// The run that the arguments name, or all.
+fn asked<R: Env + Eprint + AllocGlobal>(rt: &R) -> Result<(), Fault> {
+    let Ok(mut words) = env::args(rt) else {
         return Err(Fault::Making);
     };
-    for word in args {
-        words.push(word)?;
+    let _program = words.next();
+    let Some(table) = words.next() else {
+        return all(rt);
+    };
+    match words.next() {
+        Some(run) => one(rt, table.as_str(), run.as_str()),
+        None => Err(Fault::Words),
     }
-    Ok(words)
 }
 
 fn all(rt: &(impl Eprint + AllocGlobal)) -> Result<(), Fault> {
-    for table in TABLES {
-        one(rt, table, Some(Run::Calls))?;
-        one(rt, table, Some(Run::Cut))?;
-        one(rt, table, Some(Run::Replies))?;
-        one(rt, table, Some(Run::CutReplies))?;
-        one(rt, table, Some(Run::Making))?;
-        one(rt, table, Some(Run::NoMemory))?;
+    for i in 0..36usize {
+        one(rt, TABLES[i / 6], RUNS[i % 6])?;
     }
     Ok(())
 }
 
 // One run on one table.
-fn one(rt: &(impl Eprint + AllocGlobal), table: &str, run: Option<Run>) -> Result<(), Fault> {
-    let Some(run) = run else {
-        return Err(Fault::Words);
-    };
+fn one(rt: &(impl Eprint + AllocGlobal), table: &str, run: &str) -> Result<(), Fault> {
     match table {
         "text" => on::<SymbolTable>(rt, run),
         "osstr" => on::<osstr::SymbolTable>(rt, run),
@@ -84,16 +82,17 @@ fn one(rt: &(impl Eprint + AllocGlobal), table: &str, run: Option<Run>) -> Resul
     }
 }
 
-fn on<T: Kind>(rt: &(impl Eprint + AllocGlobal), run: Run) -> Result<(), Fault>
+fn on<T: Kind>(rt: &(impl Eprint + AllocGlobal), run: &str) -> Result<(), Fault>
 where
     T::Content: intaglio::Spelled,
 {
     match run {
-        Run::Calls => calls::<T>(rt, Way::Own, false),
-        Run::Cut => calls::<T>(rt, Way::Own, true),
-        Run::Replies => calls::<T>(rt, Way::Replies, false),
-        Run::CutReplies => calls::<T>(rt, Way::Replies, true),
-        Run::Making => make_all::<T>(rt),
-        Run::NoMemory => no_memory::<T>(rt),
+        "calls" => watch::<T>(rt, Way::Own, Calls::Plain),
+        "cut" => watch::<T>(rt, Way::Own, Calls::Cut),
+        "replies" => watch::<T>(rt, Way::Replies, Calls::Plain),
+        "cut_replies" => watch::<T>(rt, Way::Replies, Calls::Cut),
+        "making" => make_all::<T>(rt),
+        "no_memory" => watch::<T>(rt, Way::Own, Calls::NoMemory),
+        _ => Err(Fault::Words),
     }
 }

@@ -1,25 +1,52 @@
 //! Tables and C strings whose making is refused memory.
 use crate::fault::Fault;
-use crate::kind::{Kind, Making};
+use crate::kind::{Kind, Making, Room};
 use crate::watched::tell;
 use intaglio::cstr::{CString, CStringError};
 use intaglio::run::run;
-use intaglio::{RoomError, Work};
-use std::alloc::Global;
+use intaglio::{RoomError, Spelled, Work};
+use std::alloc::{AllocError, Global};
 
 // One more than the most contents that a table can hold.
 const TOO_MANY: usize = 4294967297;
+
+// What came of a making.
+#[derive(Clone, Copy)]
+enum Made {
+    Right,
+    Wrong,
+    NoMemory,
+    TooLarge,
+}
+
+impl Made {
+    fn is_right(self) -> bool {
+        matches!(self, Made::Right)
+    }
+
+    fn is_refused(self) -> bool {
+        matches!(self, Made::NoMemory)
+    }
+
+    fn is_too_large(self) -> bool {
+        matches!(self, Made::TooLarge)
+    }
+}
 
 /// Makes a table by each constructor, and a C string. A refused one makes none, and is made again.
 pub fn make_all<T: Kind>(rt: &(impl Eprint + AllocGlobal)) -> Result<(), Fault> {
     let full = full_bytes(rt.alloc())?;
     let again = full_bytes(rt.alloc())?;
     tell(rt, "table", 0);
+    make_tables::<T>(rt)?;
+    grow_c_string(rt, full, again)
+}
+
+fn make_tables<T: Kind>(rt: &(impl Eprint + AllocGlobal)) -> Result<(), Fault> {
     make::<T>(rt, Making::New, 1, 4096)?;
     make::<T>(rt, Making::WithCapacity(5), 2, 8)?;
     make::<T>(rt, Making::WithHasher, 3, 4096)?;
-    make::<T>(rt, Making::WithCapacityAndHasher(10), 4, 10)?;
-    grow_c_string(rt, full, again)
+    make::<T>(rt, Making::WithCapacityAndHasher(10), 4, 10)
 }
 
 fn make<T: Kind>(
@@ -29,56 +56,61 @@ fn make<T: Kind>(
     capacity: usize,
 ) -> Result<(), Fault> {
     tell(rt, "make", number);
-    let mut made = T::make(rt.alloc(), making);
-    if let Err(RoomError::Memory(_)) = &made {
+    let mut made = table_made::<T>(rt.alloc(), making, capacity);
+    if made.is_refused() {
         tell(rt, "refused", number);
         tell(rt, "make", number);
-        made = T::make(rt.alloc(), making);
+        made = table_made::<T>(rt.alloc(), making, capacity);
     }
-    match made {
-        Ok(table) if table.count() == 0 && table.capacity() == capacity => Ok(()),
-        _ => Err(Fault::Answer(number)),
+    if made.is_right() {
+        Ok(())
+    } else {
+        Err(Fault::Answer(number))
+    }
+}
+
+// Makes an empty table, which is to have that capacity.
+fn table_made<T: Kind>(alloc: Global, making: Making, capacity: usize) -> Made {
+    match T::make(alloc, making) {
+        Ok(table) if table.count() == 0 && table.capacity() == capacity => Made::Right,
+        Ok(_) => Made::Wrong,
+        Err(RoomError::Memory(_)) => Made::NoMemory,
+        Err(RoomError::CapacityOverflow) => Made::TooLarge,
     }
 }
 
 /// Makes what needs no memory: empty tables, and what is refused for its size.
-pub fn make_without_memory<T: Kind>(alloc: Global) -> Result<(), Fault>
+pub fn make_without_memory<T: Kind>(alloc: Global) -> bool
 where
-    T::Content: intaglio::Spelled,
+    T::Content: Spelled,
 {
-    let is_made = is_empty::<T>(alloc, Making::WithCapacity(0))
+    is_empty::<T>(alloc, Making::WithCapacity(0))
         && is_empty::<T>(alloc, Making::WithCapacityAndHasher(0))
         && is_empty::<T>(alloc, Making::WithLimit(1))
-        && is_empty::<T>(alloc, Making::WithLimit(TOO_MANY - 1));
-    let is_refused = is_too_large::<T>(alloc, Making::WithCapacity(TOO_MANY))
-        && is_too_large::<T>(alloc, Making::WithCapacityAndHasher(TOO_MANY))
-        && is_too_large::<T>(alloc, Making::WithLimit(TOO_MANY))
-        && is_too_large::<T>(alloc, Making::WithLimit(0));
-    if is_made && is_refused {
-        Ok(())
-    } else {
-        Err(Fault::Answer(0))
-    }
+        && is_empty::<T>(alloc, Making::WithLimit(TOO_MANY - 1))
+        && table_made::<T>(alloc, Making::WithCapacity(TOO_MANY), 0).is_too_large()
+        && table_made::<T>(alloc, Making::WithCapacityAndHasher(TOO_MANY), 0).is_too_large()
+        && table_made::<T>(alloc, Making::WithLimit(TOO_MANY), 0).is_too_large()
+        && table_made::<T>(alloc, Making::WithLimit(0), 0).is_too_large()
 }
 
 // Whether the constructor makes an empty table of capacity 0, on which a run of no call goes well.
 fn is_empty<T: Kind>(alloc: Global, making: Making) -> bool
 where
-    T::Content: intaglio::Spelled,
+    T::Content: Spelled,
 {
     match T::make(alloc, making) {
         Ok(mut table) => {
             table.count() == 0
                 && table.capacity() == 0
-                && matches!(table.reserve(TOO_MANY), Err(RoomError::CapacityOverflow))
+                && matches!(
+                    table.resize(Room::Reserve(TOO_MANY)),
+                    Err(RoomError::CapacityOverflow)
+                )
                 && run(alloc, &mut table, Vec::new(alloc), &mut Work::new()).is_ok()
         }
         Err(_) => false,
     }
-}
-
-fn is_too_large<T: Kind>(alloc: Global, making: Making) -> bool {
-    matches!(T::make(alloc, making), Err(RoomError::CapacityOverflow))
 }
 
 // Makes a C string of bytes with no spare capacity, so that the ending zero takes a growth.
@@ -88,19 +120,28 @@ fn grow_c_string(
     again: Vec<u8>,
 ) -> Result<(), Fault> {
     tell(rt, "c_string", 5);
-    let mut made = CString::new(rt.alloc(), full);
-    if let Err(CStringError::Memory(_)) = &made {
+    let mut made = c_string_made(rt.alloc(), full);
+    if made.is_refused() {
         tell(rt, "refused", 5);
         tell(rt, "c_string", 5);
-        made = CString::new(rt.alloc(), again);
+        made = c_string_made(rt.alloc(), again);
     }
-    match made {
-        Ok(string) if string.as_c_str().to_bytes() == b"abc".as_slice() => Ok(()),
-        _ => Err(Fault::Answer(5)),
+    if made.is_right() {
+        Ok(())
+    } else {
+        Err(Fault::Answer(5))
     }
 }
 
-fn full_bytes(alloc: Global) -> Result<Vec<u8>, Fault> {
+fn c_string_made(alloc: Global, bytes: Vec<u8>) -> Made {
+    match CString::new(alloc, bytes) {
+        Ok(string) if string.as_c_str().to_bytes() == b"abc".as_slice() => Made::Right,
+        Err(CStringError::Memory(_)) => Made::NoMemory,
+        _ => Made::Wrong,
+    }
+}
+
+fn full_bytes(alloc: Global) -> Result<Vec<u8>, AllocError> {
     let mut bytes = Vec::with_capacity(alloc, 3)?;
     bytes.extend_from_slice(b"abc")?;
     Ok(bytes)

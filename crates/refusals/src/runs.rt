@@ -1,80 +1,76 @@
 //! The runs.
 use crate::change::Change;
 use crate::fault::Fault;
-use crate::kind::Kind;
+use crate::kind::{Kind, Room};
 use crate::making::make_without_memory;
 use crate::watched::{Watched, Way, tell};
 use intaglio::Spelled;
 
 /// Which calls are made.
 #[derive(Clone, Copy)]
-pub enum Run {
+pub enum Calls {
     /// Internings, a reservation, shrinks and a clear.
-    Calls,
+    Plain,
     /// The same with a cut.
     Cut,
-    /// The first by runs of one call each.
-    Replies,
-    /// The second by runs of one call each.
-    CutReplies,
-    /// Each constructor.
-    Making,
     /// Calls that take no memory.
     NoMemory,
 }
 
-impl Run {
-    /// The run of a name.
-    pub fn named(name: &str) -> Option<Run> {
-        match name {
-            "calls" => Some(Run::Calls),
-            "cut" => Some(Run::Cut),
-            "replies" => Some(Run::Replies),
-            "cut_replies" => Some(Run::CutReplies),
-            "making" => Some(Run::Making),
-            "no_memory" => Some(Run::NoMemory),
-            _ => None,
-        }
-    }
-}
-
-/// Twenty contents into an empty table, room for forty more, twenty more contents, two shrinks, and five contents after a
-/// clear. Where it is asked for, all but ten contents are taken back before the reservation.
-pub fn calls<T: Kind>(rt: &(impl Eprint + AllocGlobal), way: Way, is_cut: bool) -> Result<(), Fault>
+/// Makes the calls on a new table.
+pub fn watch<T: Kind>(rt: &(impl Eprint + AllocGlobal), way: Way, calls: Calls) -> Result<(), Fault>
 where
     T::Content: Spelled,
 {
     let mut watched = Watched::<T>::start(rt, way)?;
-    watched.intern_more(rt, 20)?;
-    if let Way::Replies = way {
-        watched.look_up(rt, 20)?;
-    }
-    if is_cut {
-        watched.change(rt, Change::TakeBack(10))?;
-    }
-    watched.change(rt, Change::Reserve(40))?;
-    watched.intern_more(rt, 20)?;
-    watched.change(rt, Change::ShrinkTo(41))?;
-    watched.change(rt, Change::ShrinkToFit)?;
-    watched.change(rt, Change::Clear)?;
-    watched.intern_more(rt, 5)
+    let is_right = match calls {
+        Calls::Plain => fill(rt, &mut watched, way) && make_calls(rt, &mut watched),
+        Calls::Cut => {
+            fill(rt, &mut watched, way)
+                && watched.change(rt, Change::TakeBack(10))
+                && make_calls(rt, &mut watched)
+        }
+        Calls::NoMemory => no_memory(rt, &mut watched),
+    };
+    watched.answer(is_right)
 }
 
-/// From its line `none` on nothing takes memory: contents into granted room, look-ups, a cut, a clear, a reservation that is
-/// granted already, empty tables, and what is refused for its size.
-pub fn no_memory<T: Kind>(rt: &(impl Eprint + AllocGlobal)) -> Result<(), Fault>
+// Twenty contents into an empty table, which a run looks up again.
+fn fill<T: Kind>(rt: &(impl Eprint + AllocGlobal), watched: &mut Watched<T>, way: Way) -> bool
 where
     T::Content: Spelled,
 {
-    let mut watched = Watched::<T>::start(rt, Way::Own)?;
-    watched.intern_more(rt, 5)?;
-    watched.change(rt, Change::Reserve(10))?;
+    watched.intern_more(rt, 20) && (matches!(way, Way::Own) || watched.look_up(rt, 20))
+}
+
+// Room for forty more, twenty more contents, two shrinks, and five contents after a clear.
+fn make_calls<T: Kind>(rt: &(impl Eprint + AllocGlobal), watched: &mut Watched<T>) -> bool
+where
+    T::Content: Spelled,
+{
+    watched.change(rt, Change::Room(Room::Reserve(40)))
+        && watched.intern_more(rt, 20)
+        && watched.change(rt, Change::Room(Room::ShrinkTo(41)))
+        && watched.change(rt, Change::Room(Room::ShrinkToFit))
+        && watched.change(rt, Change::Clear)
+        && watched.intern_more(rt, 5)
+}
+
+// From its line `none` on nothing takes memory: contents into granted room, look-ups, a cut, a clear, a reservation that is
+// granted already, empty tables, and what is refused for its size.
+fn no_memory<T: Kind>(rt: &(impl Eprint + AllocGlobal), watched: &mut Watched<T>) -> bool
+where
+    T::Content: Spelled,
+{
+    let is_granted = watched.intern_more(rt, 5)
+        && watched.change(rt, Change::Room(Room::Reserve(10)));
     tell(rt, "none", 0);
-    watched.intern_more(rt, 10)?;
-    watched.change(rt, Change::TakeBack(4))?;
-    watched.intern_more(rt, 3)?;
-    watched.change(rt, Change::Clear)?;
-    watched.change(rt, Change::Reserve(15))?;
-    watched.intern_more(rt, 15)?;
-    make_without_memory::<T>(rt.alloc())
+    is_granted
+        && watched.intern_more(rt, 10)
+        && watched.change(rt, Change::TakeBack(4))
+        && watched.intern_more(rt, 3)
+        && watched.change(rt, Change::Clear)
+        && watched.change(rt, Change::Room(Room::Reserve(15)))
+        && watched.intern_more(rt, 15)
+        && make_without_memory::<T>(rt.alloc())
 }

@@ -1,6 +1,6 @@
 //! A table, and the list that each of its answers is compared with.
-use crate::change::{Change, own};
-use crate::contents::{Contents, make_contents};
+use crate::change::{Ask, Change, own};
+use crate::contents::Contents;
 use crate::fault::Fault;
 use crate::kind::{Kind, Making};
 use intaglio::run::run;
@@ -19,15 +19,17 @@ pub enum Way {
 /// A table beside its list, and what was told so far.
 #[derive(Drop)]
 pub struct Watched<T: Kind> {
-    pub table: T,
-    pub contents: Contents<T>,
+    table: T,
+    contents: Contents<T>,
     way: Way,
-    // the numbers whose contents the table holds, in the order of their symbols
+    // the numbers whose contents the table holds, in the order of their symbols, which is their own
     held: Vec<usize>,
     // the next number that comes in
     next: usize,
     calls: u32,
     is_answered: bool,
+    // what is wrong, where something is
+    fault: Fault,
 }
 
 const COUNT: u32 = 45;
@@ -43,8 +45,8 @@ where
 {
     /// Makes the contents, and then an empty table. What is asked for before the first call that is told isn't the table's.
     pub fn start(rt: &(impl Eprint + AllocGlobal), way: Way) -> Result<Watched<T>, Fault> {
-        let contents = make_contents::<T>(rt.alloc(), COUNT)?;
         let held = Vec::with_capacity(rt.alloc(), COUNT as usize)?;
+        let contents = Contents::<T>::make(rt.alloc(), COUNT)?;
         tell(rt, "table", 0);
         match T::make(rt.alloc(), Making::WithCapacityAndHasher(0)) {
             Ok(table) => Ok(Watched {
@@ -55,125 +57,128 @@ where
                 next: 0,
                 calls: 0,
                 is_answered: false,
+                fault: Fault::Making,
             }),
             Err(_) => Err(Fault::Answer(0)),
         }
     }
 
-    /// Interns the contents of so many numbers more. A refused interning is made again.
-    pub fn intern_more(
-        &mut self,
-        rt: &(impl Eprint + AllocGlobal),
-        more: usize,
-    ) -> Result<(), Fault> {
+    /// What a run answers whose calls were all right, or not.
+    pub fn answer(&self, is_right: bool) -> Result<(), Fault> {
+        if is_right { Ok(()) } else { Err(self.fault) }
+    }
+
+    /// Interns the contents of so many numbers more, and answers whether all was right, as the other calls do.
+    pub fn intern_more(&mut self, rt: &(impl Eprint + AllocGlobal), more: usize) -> bool {
+        let mut is_right = true;
         for _ in 0..more {
-            let (Some(first), Some(again)) = (self.contents.fresh.pop(), self.contents.fresh.pop())
-            else {
-                return Err(Fault::Making);
-            };
-            let mut reply = self.call(rt, "intern", Call::Intern(first))?;
-            if reply == Reply::NoMemory {
-                reply = self.call(rt, "intern", Call::Intern(again))?;
-            }
-            if reply != Reply::Symbol(Some(self.past())) {
-                return Err(Fault::Answer(self.calls));
-            }
-            self.held.push(self.next)?;
-            self.next = self.next.saturating_add(1);
-            self.compare()?;
+            is_right = is_right && self.intern_next(rt);
         }
-        Ok(())
+        is_right
+    }
+
+    fn intern_next(&mut self, rt: &(impl Eprint + AllocGlobal)) -> bool {
+        let Some((first, again)) = self.contents.fresh.pop() else {
+            return false;
+        };
+        let reply = self.make(rt, Ask::Intern(first), Ask::Intern(again));
+        is_symbol(reply, self.past()) && self.hold_next() && self.compare()
+    }
+
+    // Puts the next number into the list.
+    fn hold_next(&mut self) -> bool {
+        let number = self.next;
+        self.next = number.saturating_add(1);
+        self.held.push(number).is_ok()
     }
 
     /// Looks each of so many numbers up, with copies of the spellings, which the table's own calls don't make.
-    pub fn look_up(&mut self, rt: &(impl Eprint + AllocGlobal), count: u32) -> Result<(), Fault> {
+    pub fn look_up(&mut self, rt: &(impl Eprint + AllocGlobal), count: u32) -> bool {
+        let mut is_right = true;
         for number in 0..count {
-            let (Some(first), Some(again)) = (self.contents.asked.pop(), self.contents.asked.pop())
-            else {
-                return Err(Fault::Making);
-            };
-            let mut reply = self.call(rt, "get_interned", Call::GetInterned(first))?;
-            if reply == Reply::NoMemory {
-                reply = self.call(rt, "get_interned", Call::GetInterned(again))?;
-            }
-            let Some(text) = self.contents.texts.get(number as usize) else {
-                return Err(Fault::Making);
-            };
-            let symbol = Symbol::new(number);
-            let is_right = match &reply {
-                Reply::Pair(Some(found)) => {
-                    found.0 == symbol && found.1.as_slice() == text.as_bytes()
-                }
-                _ => false,
-            };
-            if !is_right {
-                return Err(Fault::Answer(self.calls));
-            }
+            is_right = is_right && self.look_one_up(rt, number);
         }
-        self.compare()
+        is_right && self.compare()
     }
 
-    /// Makes a call that answers nothing but that it was made, and makes it again where it was refused.
-    pub fn change(
-        &mut self,
-        rt: &(impl Eprint + AllocGlobal),
-        change: Change,
-    ) -> Result<(), Fault> {
-        let mut reply = self.call(rt, change.name(), change.call())?;
-        if reply == Reply::NoMemory {
-            reply = self.call(rt, change.name(), change.call())?;
-        }
-        if reply != Reply::Done {
-            return Err(Fault::Answer(self.calls));
-        }
+    fn look_one_up(&mut self, rt: &(impl Eprint + AllocGlobal), number: u32) -> bool {
+        let Some((first, again)) = self.contents.asked.pop() else {
+            return false;
+        };
+        let reply = self.make(rt, Ask::GetInterned(first), Ask::GetInterned(again));
+        is_pair(reply, Symbol::new(number), self.text(number as usize))
+    }
+
+    /// Makes a call that answers nothing but that it was made.
+    pub fn change(&mut self, rt: &(impl Eprint + AllocGlobal), change: Change) -> bool {
+        let reply = self.make(rt, Ask::Change(change), Ask::Change(change));
         match change {
+            Change::Room(_) => {}
             Change::Clear => self.held.clear(),
             Change::TakeBack(count) => self.held.truncate(count),
-            Change::Reserve(_) | Change::ShrinkTo(_) | Change::ShrinkToFit => {}
         }
-        self.compare()
+        is_done(reply) && self.compare()
     }
 
-    // Makes one call. After a refusal the table is the list still, and has no less room.
-    fn call(
+    // Makes a call, and the other in its place where it was refused.
+    fn make(
         &mut self,
         rt: &(impl Eprint + AllocGlobal),
-        name: &str,
-        call: Call<T::Content>,
-    ) -> Result<Reply, Fault> {
-        self.calls = self.calls.saturating_add(1);
-        let room = self.table.capacity();
-        tell(rt, name, self.calls);
-        let reply = match self.way {
-            Way::Own => own(&mut self.table, call),
-            Way::Replies => self.replied(rt.alloc(), call)?,
-        };
-        if reply == Reply::NoMemory {
-            tell(rt, "refused", self.calls);
-            if self.is_answered {
-                return Err(Fault::Twice(self.calls));
-            }
-            self.is_answered = true;
-            if self.table.capacity() < room {
-                return Err(Fault::State(self.calls));
-            }
-            self.compare()?;
+        first: Ask<T::Content>,
+        again: Ask<T::Content>,
+    ) -> Reply {
+        match self.make_once(rt, first) {
+            Reply::NoMemory => self.make_once(rt, again),
+            reply => reply,
         }
-        Ok(reply)
     }
 
-    // The reply of a run of this call alone. Where the replies' memory was refused, no call was made.
-    fn replied(&mut self, alloc: Global, call: Call<T::Content>) -> Result<Reply, Fault> {
-        let Some(mut calls) = self.contents.lists.pop() else {
-            return Err(Fault::Making);
-        };
-        calls.push(call)?;
+    fn make_once(&mut self, rt: &(impl Eprint + AllocGlobal), ask: Ask<T::Content>) -> Reply {
+        self.calls = self.calls.saturating_add(1);
+        self.fault = Fault::Answer(self.calls);
+        let room = self.table.capacity();
+        tell(rt, ask.name(), self.calls);
+        match self.reply(rt.alloc(), ask) {
+            Reply::NoMemory => self.refused(rt, room),
+            reply => reply,
+        }
+    }
+
+    // After a refusal the table is the list still, and has no less room, and only one call of a run is refused. Where it isn't
+    // so, the call is answered as none is.
+    fn refused(&mut self, rt: &impl Eprint, room: usize) -> Reply {
+        tell(rt, "refused", self.calls);
+        let was_answered = self.is_answered;
+        self.is_answered = true;
+        if was_answered {
+            self.fault = Fault::Twice(self.calls);
+            Reply::Stale
+        } else if self.compare() && self.table.capacity() >= room {
+            Reply::NoMemory
+        } else {
+            self.fault = Fault::State(self.calls);
+            Reply::Stale
+        }
+    }
+
+    fn reply(&mut self, alloc: Global, ask: Ask<T::Content>) -> Reply {
+        match self.way {
+            Way::Own => own(&mut self.table, ask),
+            Way::Replies => self.replied(alloc, ask.call()),
+        }
+    }
+
+    // The reply of a run of this call alone. Where the replies' memory was refused, no call was made. Where there is no list
+    // for the call, it is answered as none is.
+    fn replied(&mut self, alloc: Global, call: Call<T::Content>) -> Reply {
+        let mut calls = self.contents.lists.pop().unwrap_or(Vec::new(alloc));
+        match calls.push(call) {
+            Ok(()) => {}
+            Err(_) => return Reply::Stale,
+        }
         match run(alloc, &mut self.table, calls, &mut Work::new()) {
-            Ok(mut replies) => match replies.pop() {
-                Some(reply) => Ok(reply),
-                None => Err(Fault::Answer(self.calls)),
-            },
-            Err(_) => Ok(Reply::NoMemory),
+            Ok(mut replies) => replies.pop().unwrap_or(Reply::Stale),
+            Err(_) => Reply::NoMemory,
         }
     }
 
@@ -183,38 +188,64 @@ where
     }
 
     // Whether the table is the list: its length, its contents, and where each of all contents is found.
-    fn compare(&self) -> Result<(), Fault> {
-        let mut is_same = self.table.count() == self.held.len()
-            && self.table.content(self.past()).is_none();
-        for (place, number) in (0..u32::MAX).zip(self.held.iter()) {
-            let stored = match self.table.content(Symbol::new(place)) {
-                Some(content) => content.spelling(),
-                None => b"",
-            };
-            is_same = is_same
-                && match self.contents.texts.get(*number) {
-                    Some(text) => text.as_bytes() == stored,
-                    None => false,
-                };
+    fn compare(&mut self) -> bool {
+        let is_same = self.table.count() == self.held.len()
+            && self.table.content(self.past()).is_none()
+            && self.finds();
+        if !is_same {
+            self.fault = Fault::State(self.calls);
         }
-        if is_same && self.finds() {
-            Ok(())
-        } else {
-            Err(Fault::State(self.calls))
-        }
+        is_same
     }
 
-    // Whether each content is found where the list has it, and no other is found.
+    // Whether the contents that are found are those that are held, each at its place: both are in the order of their numbers.
     fn finds(&self) -> bool {
-        let mut is_found = true;
+        let mut is_same = true;
+        let mut place = 0usize;
         for (number, sought) in self.contents.sought.iter().enumerate() {
-            let place = self.held.iter().position(|held| *held == number);
-            let found = match self.table.check(sought) {
-                Some(symbol) => Some(symbol.id() as usize),
-                None => None,
-            };
-            is_found = is_found && found == place;
+            if let Some(symbol) = self.table.check(sought) {
+                is_same = is_same && symbol.id() as usize == place && self.holds(number, symbol);
+                place = place.saturating_add(1);
+            }
         }
-        is_found
+        is_same && place == self.held.len()
     }
+
+    // Whether the list holds this number at the symbol's place, and the table its digits.
+    fn holds(&self, number: usize, symbol: Symbol) -> bool {
+        let is_held = match self.held.get(symbol.id() as usize) {
+            Some(held) => *held == number,
+            None => false,
+        };
+        let is_spelled = match self.table.content(symbol) {
+            Some(content) => content.spelling() == self.text(number),
+            None => false,
+        };
+        is_held && is_spelled
+    }
+
+    fn text(&self, number: usize) -> &[u8] {
+        match self.contents.texts.get(number) {
+            Some(text) => text.as_bytes(),
+            None => b"",
+        }
+    }
+}
+
+fn is_symbol(reply: Reply, symbol: Symbol) -> bool {
+    match reply {
+        Reply::Symbol(Some(found)) => found == symbol,
+        _ => false,
+    }
+}
+
+fn is_pair(reply: Reply, symbol: Symbol, text: &[u8]) -> bool {
+    match &reply {
+        Reply::Pair(Some(found)) => found.0 == symbol && found.1.as_slice() == text,
+        _ => false,
+    }
+}
+
+fn is_done(reply: Reply) -> bool {
+    matches!(reply, Reply::Done)
 }

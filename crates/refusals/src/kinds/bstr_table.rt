@@ -1,5 +1,5 @@
 //! The table of byte strings that are text by convention.
-use crate::kind::{Kind, Making};
+use crate::kind::{Kind, Making, Room};
 use bstr::BString;
 use intaglio::bstr::{BStrContent, SymbolTable};
 use intaglio::{InternError, RoomError, Symbol};
@@ -20,8 +20,7 @@ impl Kind for SymbolTable {
         }
     }
 
-    fn content_of(alloc: Global, number: u32) -> Result<BStrContent, AllocError> {
-        let text = format!(in alloc; "{number}")?;
+    fn content_of(_alloc: Global, text: String) -> Result<BStrContent, AllocError> {
         Ok(BStrContent::from(BString::new(text.into_bytes())))
     }
 
@@ -37,15 +36,11 @@ impl Kind for SymbolTable {
         self.check_interned(sought.form())
     }
 
-    fn reserve(&mut self, additional: usize) -> Result<(), RoomError> {
-        self.reserve(additional)
-    }
-
-    fn shrink_to(&mut self, min_capacity: usize) -> Result<(), RoomError> {
-        self.shrink_to(min_capacity)
-    }
-
-    fn shrink_to_fit(&mut self) -> Result<(), RoomError> {
-        self.shrink_to_fit()
+    fn resize(&mut self, room: Room) -> Result<(), RoomError> {
+        match room {
+            Room::Reserve(additional) => self.reserve(additional),
+            Room::ShrinkTo(min_capacity) => self.shrink_to(min_capacity),
+            Room::ShrinkToFit => self.shrink_to_fit(),
+        }
     }
 }

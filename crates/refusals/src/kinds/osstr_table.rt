@@ -1,5 +1,5 @@
 //! The table of platform strings.
-use crate::kind::{Kind, Making};
+use crate::kind::{Kind, Making, Room};
 use intaglio::osstr::{OsStrContent, SymbolTable};
 use intaglio::{InternError, RoomError, Symbol};
 use std::alloc::{AllocError, Global};
@@ -19,8 +19,8 @@ impl Kind for SymbolTable {
         }
     }
 
-    fn content_of(alloc: Global, number: u32) -> Result<OsStrContent, AllocError> {
-        Ok(OsStrContent::from(format!(in alloc; "{number}")?))
+    fn content_of(_alloc: Global, text: String) -> Result<OsStrContent, AllocError> {
+        Ok(OsStrContent::from(text))
     }
 
     fn capacity(&self) -> usize {
@@ -35,15 +35,11 @@ impl Kind for SymbolTable {
         self.check_interned(sought.form())
     }
 
-    fn reserve(&mut self, additional: usize) -> Result<(), RoomError> {
-        self.reserve(additional)
-    }
-
-    fn shrink_to(&mut self, min_capacity: usize) -> Result<(), RoomError> {
-        self.shrink_to(min_capacity)
-    }
-
-    fn shrink_to_fit(&mut self) -> Result<(), RoomError> {
-        self.shrink_to_fit()
+    fn resize(&mut self, room: Room) -> Result<(), RoomError> {
+        match room {
+            Room::Reserve(additional) => self.reserve(additional),
+            Room::ShrinkTo(min_capacity) => self.shrink_to(min_capacity),
+            Room::ShrinkToFit => self.shrink_to_fit(),
+        }
     }
 }

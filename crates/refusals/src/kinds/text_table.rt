@@ -1,5 +1,5 @@
 //! The table of texts.
-use crate::kind::{Kind, Making};
+use crate::kind::{Kind, Making, Room};
 use intaglio::{InternError, RoomError, StrContent, Symbol, SymbolTable};
 use std::alloc::{AllocError, Global};
 use std::hash::BuildHasherDefault;
@@ -18,8 +18,8 @@ impl Kind for SymbolTable {
         }
     }
 
-    fn content_of(alloc: Global, number: u32) -> Result<StrContent, AllocError> {
-        Ok(StrContent::from(format!(in alloc; "{number}")?))
+    fn content_of(_alloc: Global, text: String) -> Result<StrContent, AllocError> {
+        Ok(StrContent::from(text))
     }
 
     fn capacity(&self) -> usize {
@@ -34,15 +34,11 @@ impl Kind for SymbolTable {
         self.check_interned(sought.form())
     }
 
-    fn reserve(&mut self, additional: usize) -> Result<(), RoomError> {
-        self.reserve(additional)
-    }
-
-    fn shrink_to(&mut self, min_capacity: usize) -> Result<(), RoomError> {
-        self.shrink_to(min_capacity)
-    }
-
-    fn shrink_to_fit(&mut self) -> Result<(), RoomError> {
-        self.shrink_to_fit()
+    fn resize(&mut self, room: Room) -> Result<(), RoomError> {
+        match room {
+            Room::Reserve(additional) => self.reserve(additional),
+            Room::ShrinkTo(min_capacity) => self.shrink_to(min_capacity),
+            Room::ShrinkToFit => self.shrink_to_fit(),
+        }
     }
 }
