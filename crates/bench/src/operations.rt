@@ -1,5 +1,5 @@
 //! What is measured. Each operation answers a sum that shows what it found.
-ghost use Rattle.std.specs.Prelude.{◌≡◌};
+ghost use Rattle.std.specs.Prelude.{◌≡◌, []};
 
 use intaglio_content::StrContent;
 use intaglio_symbol::Symbol;
@@ -56,7 +56,8 @@ pub fn iterate<S: BuildHasher>(table: &SymbolTable<S>) -> u64 {
 /// Drops all texts, and answers how many are left.
 #[inline(never)]
 pub fn clear<S: BuildHasher>(table: &mut SymbolTable<S>) -> u64
-    ensures { result ≡ 0 }
+    ensures dropped { table.new.state.contents ≡ [] }
+    ensures none_left { result ≡ 0 }
 {
     table.clear();
     table.len() as u64

@@ -28,13 +28,16 @@ pub struct Plan {
 impl Plan {
     /// Reads `check|time|hold usual|keyed CAPACITY SIZE TURNS`, behind the program's name.
     pub fn read(arguments: &[String]) -> Option<Plan> {
-        let (task, is_timed) = match arguments.get(1)?.as_str() {
+        let [_, task, builder, capacity, size, turns, ..] = arguments else {
+            return None;
+        };
+        let (task, is_timed) = match task.as_str() {
             "check" => (Task::Measure, false),
             "time" => (Task::Measure, true),
             "hold" => (Task::Hold, false),
             _ => return None,
         };
-        let is_keyed = match arguments.get(2)?.as_str() {
+        let is_keyed = match builder.as_str() {
             "usual" => false,
             "keyed" => true,
             _ => return None,
@@ -43,9 +46,9 @@ impl Plan {
             task,
             is_timed,
             is_keyed,
-            capacity: arguments.get(3)?.as_str().parse().ok()?,
-            size: arguments.get(4)?.as_str().parse().ok()?,
-            turns: arguments.get(5)?.as_str().parse().ok()?,
+            capacity: capacity.as_str().parse().ok()?,
+            size: size.as_str().parse().ok()?,
+            turns: turns.as_str().parse().ok()?,
         })
     }
 }

@@ -6,9 +6,32 @@ use crate::words::{numbers, shuffle, word, words};
 use anyhow::Result;
 use intaglio_content::StrContent;
 use intaglio_text::SymbolTable;
+use std::alloc::{AllocError, Global};
 use std::hash::BuildHasher;
 use std::rt::Clock;
 use std::time::Instant;
+
+/// What is measured.
+#[derive(Drop)]
+enum Operation<'a> {
+    Intern(Vec<String>),
+    LookUp(&'a [String]),
+    Get(&'a [u32]),
+    Iterate,
+    Clear,
+}
+
+impl<'a> Operation<'a> {
+    fn run<S: BuildHasher>(self, table: &mut SymbolTable<S>) -> u64 {
+        match self {
+            Operation::Intern(words) => intern(table, words),
+            Operation::LookUp(words) => look_up(table, words),
+            Operation::Get(numbers) => get(table, numbers),
+            Operation::Iterate => iterate(table),
+            Operation::Clear => clear(table),
+        }
+    }
+}
 
 /// Prints a line for each operation: its name, how many words, the nanoseconds for each of them
 /// unless the plan leaves times out, and the operation's sum.
@@ -22,26 +45,14 @@ pub fn turn<R: Print + Clock + AllocGlobal, S: BuildHasher>(
     let mut shuffled = numbers(alloc, 0, plan.size)?;
     shuffle(&mut shuffled);
     let fresh = words(alloc, &in_order)?;
-    let start = Instant::now(rt)?;
-    let sum = intern(table, fresh);
-    report(rt, plan, "new", start, sum)?;
+    measure(rt, table, plan, "new", Operation::Intern(fresh))?;
     let known = words(alloc, &shuffled)?;
-    let start = Instant::now(rt)?;
-    let sum = look_up(table, &known);
-    report(rt, plan, "hit", start, sum)?;
-    let start = Instant::now(rt)?;
-    let sum = intern(table, known);
-    report(rt, plan, "again", start, sum)?;
-    let absent = words(alloc, &numbers(alloc, plan.size, plan.size)?)?;
-    let start = Instant::now(rt)?;
-    let sum = look_up(table, &absent);
-    report(rt, plan, "miss", start, sum)?;
-    let start = Instant::now(rt)?;
-    let sum = get(table, &shuffled);
-    report(rt, plan, "get", start, sum)?;
-    let start = Instant::now(rt)?;
-    let sum = iterate(table);
-    report(rt, plan, "iterate", start, sum)?;
+    measure(rt, table, plan, "hit", Operation::LookUp(&known))?;
+    measure(rt, table, plan, "again", Operation::Intern(known))?;
+    let absent = other_words(alloc, plan)?;
+    measure(rt, table, plan, "miss", Operation::LookUp(&absent))?;
+    measure(rt, table, plan, "get", Operation::Get(&shuffled))?;
+    measure(rt, table, plan, "iterate", Operation::Iterate)?;
     refill(rt, table, plan)
 }
 
@@ -51,14 +62,26 @@ fn refill<R: Print + Clock + AllocGlobal, S: BuildHasher>(
     table: &mut SymbolTable<S>,
     plan: Plan,
 ) -> Result<()> {
-    let alloc = rt.alloc();
-    let fresh = words(alloc, &numbers(alloc, plan.size, plan.size)?)?;
+    let fresh = other_words(rt.alloc(), plan)?;
+    measure(rt, table, plan, "clear", Operation::Clear)?;
+    measure(rt, table, plan, "refill", Operation::Intern(fresh))
+}
+
+// Words that the first ones lack.
+fn other_words(alloc: Global, plan: Plan) -> Result<Vec<String>, AllocError> {
+    words(alloc, &numbers(alloc, plan.size, plan.size)?)
+}
+
+fn measure<R: Print + Clock, S: BuildHasher>(
+    rt: &R,
+    table: &mut SymbolTable<S>,
+    plan: Plan,
+    name: &str,
+    operation: Operation<'_>,
+) -> Result<()> {
     let start = Instant::now(rt)?;
-    let sum = clear(table);
-    report(rt, plan, "clear", start, sum)?;
-    let start = Instant::now(rt)?;
-    let sum = intern(table, fresh);
-    report(rt, plan, "refill", start, sum)
+    let sum = operation.run(table);
+    report(rt, plan, name, start, sum)
 }
 
 fn report<R: Print + Clock>(
