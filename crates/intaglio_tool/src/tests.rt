@@ -91,6 +91,22 @@ fn output_longer_than_a_block_is_written_whole(rt: HostRuntime) {
     writes(&rt, Kind::Text, lines.as_bytes(), output.as_bytes());
 }
 
+#[test]
+fn lines_of_several_groups_are_taken_in_order(rt: HostRuntime) {
+    let lines = repeated(&rt, "a\n", 100);
+    let symbols = repeated(&rt, "0\n", 100);
+    let input = format!(in rt.alloc(); "{lines}b\na").expect(&rt, "no memory");
+    let output = format!(in rt.alloc(); "{symbols}1\n0\n\na\nb\n").expect(&rt, "no memory");
+    writes(&rt, Kind::Text, input.as_bytes(), output.as_bytes());
+    let input = format!(in rt.alloc(); "{lines}b\0\n").expect(&rt, "no memory");
+    let told = (
+        1,
+        b"".as_slice(),
+        b"line 101 holds a zero byte\n".as_slice(),
+    );
+    seeded(&rt, "cstr", input.as_bytes(), told);
+}
+
 // What the program writes on the words of `arguments`, what it tells of faults, and its status.
 fn serves<Rt: Abort + AllocGlobal>(
     rt: &Rt,
