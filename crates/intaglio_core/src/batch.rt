@@ -30,12 +30,12 @@ struct LookedUp<C> {
 /// Interns the contents in order, and answers their symbols in the same order.
 ///
 /// All of them are hashed, then all are looked up, and then those that weren't found are interned, so that the processor waits
-/// for the memory of several look-ups at once. Where the table is large this takes half of the time of as many internings, best
-/// with some dozens of contents.
+/// for the memory of several look-ups at once. That pays where the table is large and most contents are in it, with some dozens
+/// of contents at a time. Three lists as long as the contents are made meanwhile.
 ///
 /// # Errors
 ///
-/// `Overflow` where the table can't hold them all, `Memory` where the memory for the symbols or for a growth was refused.
+/// `Overflow` where the table can't hold them all, `Memory` where the memory for one of the lists or for a growth was refused.
 /// Then the table has the contents that it had before and no less room, and those handed in are dropped.
 ///
 /// ```

@@ -16,7 +16,7 @@ use std::alloc::{AllocError, Global};
 // How many lines are interned at once: their memory is waited for together.
 const GROUP: usize = 64;
 
-// The contents of some lines, what stands behind these lines, and why the next one is no content, if it isn't.
+// The contents of some lines, what stands behind these lines, and the fault of the next one, if it became no content.
 #[derive(Drop)]
 struct Group<'a, C> {
     contents: Vec<C>,
