@@ -8,6 +8,7 @@ use Rattle.intaglio_core.specs.Cost.{Adds, IsSearchCost, KnownSearchCost, KnownI
 use Rattle.intaglio_core.specs.Issue.{interned, issue_from, interned_all}
 use Rattle.intaglio_core.specs.Batch.{IfOverflow, SearchesEach, InternsEach}
 use Rattle.intaglio_core.proofs.Issue.{Interns-ok}
+use Rattle.intaglio_core.proofs.Spent.{Adds-then}
 use Rattle.intaglio_core.proofs.Held.{interned_all-begins, interned_all-longer, interned_all-append, first-still}
 use Rattle.intaglio_symbol.specs.declared.error.InternError.{InternError}
 use Rattle.intaglio_symbol.specs.declared.error.InternError.TheVariants as intern_error
@@ -50,9 +51,9 @@ module _ {C : Type 0} (key : C → Key) where
         → Adds before between (SearchesEach key hash s cs) → Adds between after (KnownSearchCost key hash s (key c))
         → Adds before after (SearchesEach key hash s (cs ++ c ∷ []))
     Adds-search s cs c before between after run spent =
-        (run.0 ++ spent.0, rw (spent.1, run.1, append_assoc) refl, SearchesEach-push s cs run.0 c spent.0 run.2 spent.2)
+        Adds-then _ _ _ before between after (λ cost now ran costs. SearchesEach-push s cs cost c now ran costs) run spent
 
-    pub InternsEach-push : (old : State C) (cs : List C) (is : List ℕ) (cost : List Mark) (mid : State C) (c : C) (i : ℕ) (now : List Mark) (new : State C)
+    InternsEach-push : (old : State C) (cs : List C) (is : List ℕ) (cost : List Mark) (mid : State C) (c : C) (i : ℕ) (now : List Mark) (new : State C)
         → InternsEach key hash old cs is cost mid → Interns key mid c (Ok i) new → KnownInternCost key hash mid (key c) (Ok i) new now → IsValid key new
         → InternsEach key hash old (cs ++ c ∷ []) (is ++ i ∷ []) (cost ++ now) new
     InternsEach-push old [] [] cost mid c i now new run step spent valid =
@@ -76,7 +77,7 @@ module _ {C : Type 0} (key : C → Key) where
         → Adds between after (KnownInternCost key hash mid (key c) (Ok i) new) → IsValid key new
         → Adds before after (λ cost. InternsEach key hash old (cs ++ c ∷ []) (is ++ i ∷ []) cost new)
     Adds-each old cs is mid c i new before between after run step spent valid =
-        (run.0 ++ spent.0, rw (spent.1, run.1, append_assoc) refl, InternsEach-push old cs is run.0 mid c i spent.0 new run.2 step spent.2 valid)
+        Adds-then _ _ _ before between after (λ cost now ran costs. InternsEach-push old cs is cost mid c i now new ran step costs valid) run spent
 
     -- the symbols are those that are issued, and what is held is what internings one by one leave
     pub InternsEach-issues : (old new : State C) (cs : List C) (is : List ℕ) (cost : List Mark) → InternsEach key hash old cs is cost new
@@ -89,8 +90,9 @@ module _ {C : Type 0} (key : C → Key) where
         let later = InternsEach-issues run.0 new cs is run.2 run.7 in
         (rw (ok.0, later.0, ok.1) refl, rw (later.1, ok.1) refl)
 
-    nothing : (k : Key) (bucket : List Key) → IsSearchCost hash k bucket (hashed k ∷ [])
-    nothing k bucket = record {
+    -- a hashing alone is within what a search costs
+    hashing-alone : (k : Key) (bucket : List Key) → IsSearchCost hash k bucket (hashed k ∷ [])
+    hashing-alone k bucket = record {
       hashings = refl;
       sought = λ i d lt. absurd (omega arith);
       once = λ i j d lt below. absurd (omega arith);
@@ -102,7 +104,7 @@ module _ {C : Type 0} (key : C → Key) where
 
     -- a content that is known to be held is answered with no more work
     pub found-cost : (s : State C) (k : Key) (i : ℕ) (marks : List Mark) → first key s.contents k ≡ Some i → Adds marks marks (KnownInternCost key hash s k (Ok i) s)
-    found-cost s k i marks found = ([], sym (append-nil marks), rw found (nothing k _))
+    found-cost s k i marks found = ([], sym (append-nil marks), rw found (hashing-alone k _))
 
     -- what a look-up found is found there after internings
     pub symbol-still : (old mid : State C) (cs : List C) (is : List ℕ) (cost : List Mark) (k : Key) (o : Option ℕ)

@@ -1,10 +1,10 @@
 -- The first position with a key, from what is known of each position.
-use Rattle.std.proofs.Common.{◌≡◌, ◌≢◌, ℕ, zero, suc, ◌+◌, ◌<◌, Bool, true, false, cond, List, [], ◌∷◌, length, get_or, Option, Some, None, option_map, IfSome, map, sym, refl, ap, arith}
+use Rattle.std.proofs.Common.{◌≡◌, ◌≢◌, ℕ, zero, suc, ◌+◌, ◌<◌, Bool, true, false, cond, List, [], ◌∷◌, length, get_or, Option, Some, None, option_map, IfSome, map, sym, refl, ap, arith, ◌++◌}
 use Rattle.std.proofs.lemmas.List.{length-map}
 use Rattle.intaglio_symbol.specs.declared.symbol.Symbol.{Symbol}
 use Rattle.std.specs.Cmp.Lexicographic.{pointwise_decides, bytes_decides}
 use Rattle.intaglio_content.specs.Key.{Key}
-use Rattle.intaglio_core.specs.State.{key_eq, first_of}
+use Rattle.intaglio_core.specs.State.{key_eq, first_of, first}
 
 pub key_eq-decides : (a b : Key) → (key_eq a b ≡ true → a ≡ b) × (a ≡ b → key_eq a b ≡ true)
 key_eq-decides = pointwise_decides bytes_decides
@@ -43,3 +43,26 @@ some-below (x ∷ xs) k i e = case-some (key_eq x k) (first_of xs k) (length xs)
 pub found-within : {C : Type 0} (key : C → Key) (cs : List C) (k : Key) (r : Option Symbol) → r ≡ first_of (map key cs) k → IfSome r (λ s. s < length cs)
 found-within key cs k None e = tt
 found-within key cs k (Some s) e = omega (arith, some-below (map key cs) k s (sym e), length-map cs key)
+
+-- the first of two places, where the second is counted from behind the first list
+abbrev or_at : ℕ → Option ℕ → Option ℕ → Option ℕ
+or_at n None p = option_map (λ i. n + i) p
+or_at n (Some i) p = Some i
+
+from-zero : (p : Option ℕ) → p ≡ option_map (λ i. 0 + i) p
+from-zero None = refl
+from-zero (Some i) = ap Some (omega arith)
+
+from-next : (n : ℕ) (p : Option ℕ) → option_map (λ i. 1 + i) (option_map (λ i. n + i) p) ≡ option_map (λ i. suc n + i) p
+from-next n None = refl
+from-next n (Some i) = ap Some (omega arith)
+
+or_at-next : (b : Bool) (o p : Option ℕ) (n : ℕ) → cond b (Some 0) (option_map (λ i. 1 + i) (or_at n o p)) ≡ or_at (suc n) (cond b (Some 0) (option_map (λ i. 1 + i) o)) p
+or_at-next true o p n = refl
+or_at-next false None p n = from-next n p
+or_at-next false (Some i) p n = refl
+
+-- the first place in a list with another behind it
+pub first-append : {C : Type 0} (key : C → Key) (cs ds : List C) (k : Key) → first key (cs ++ ds) k ≡ or_at (length cs) (first key cs k) (first key ds k)
+first-append key [] ds k = from-zero (first key ds k)
+first-append key (c ∷ cs) ds k = rw (first-append key cs ds k) (or_at-next (key_eq (key c) k) (first key cs k) (first key ds k) (length cs))

@@ -1,23 +1,10 @@
 -- What is held while contents are interned in order.
-use Rattle.std.proofs.Common.{◌≡◌, ◌+◌, ℕ, ◌∙◌, sym, ◌≤◌, Bool, true, false, cond, List, [], ◌∷◌, ◌++◌, length, take, map, Option, Some, None, option_map, is_some, length-append, append_assoc, append-nil, refl, ap, arith}
+use Rattle.std.proofs.Common.{◌≡◌, ℕ, ◌∙◌, sym, ◌≤◌, Bool, true, false, cond, List, [], ◌∷◌, ◌++◌, length, take, Some, is_some, length-append, append_assoc, append-nil, refl, ap, arith}
 use Rattle.std.proofs.Math.Seq.{take-append_seam}
-use Rattle.std.proofs.lemmas.List.{map-append}
 use Rattle.intaglio_content.specs.Key.{Key}
-use Rattle.intaglio_core.specs.State.{key_eq, first_of, first}
+use Rattle.intaglio_core.specs.State.{first}
 use Rattle.intaglio_core.specs.Issue.{issued, interned, issue_from, interned_all}
-
-mapped-still : (o more : Option ℕ) (s : ℕ) → ((i : ℕ) → o ≡ Some i → more ≡ Some i) → option_map (λ i. 1 + i) o ≡ Some s → option_map (λ i. 1 + i) more ≡ Some s
-mapped-still None more s still is = cc
-mapped-still (Some i) more s still is = rw (still i refl) is
-
-some-still : (found : Bool) (o more : Option ℕ) (s : ℕ) → ((i : ℕ) → o ≡ Some i → more ≡ Some i) → cond found (Some 0) (option_map (λ i. 1 + i) o) ≡ Some s → cond found (Some 0) (option_map (λ i. 1 + i) more) ≡ Some s
-some-still true o more s still is = is
-some-still false o more s still is = mapped-still o more s still is
-
--- a key that is found is found there with more keys behind
-first_of-still : (keys more : List Key) (k : Key) (s : ℕ) → first_of keys k ≡ Some s → first_of (keys ++ more) k ≡ Some s
-first_of-still [] more k s is = cc
-first_of-still (x ∷ keys) more k s is = some-still (key_eq x k) (first_of keys k) (first_of (keys ++ more) k) s (λ i found. first_of-still keys more k i found) is
+use Rattle.intaglio_core.proofs.First.{first-append}
 
 module _ {C : Type 0} (key : C → Key) where
   -- what is held stays at the front
@@ -54,4 +41,4 @@ module _ {C : Type 0} (key : C → Key) where
   pub first-still : (held cs : List C) (k : Key) (s : ℕ) → first key held k ≡ Some s → first key (interned_all key held cs) k ≡ Some s
   first-still held cs k s is =
       let more = interned_all-more held cs in
-      rw (more.1, map-append key held more.0) (first_of-still (map key held) (map key more.0) k s is)
+      rw (more.1, first-append key held more.0 k, is) refl

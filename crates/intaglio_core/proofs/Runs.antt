@@ -6,6 +6,7 @@ use Rattle.intaglio_core.specs.State.{State, IsValid}
 use Rattle.intaglio_core.specs.Cost.{Adds}
 use Rattle.intaglio_core.specs.Step.{Step, StepCost}
 use Rattle.intaglio_core.specs.Run.{Runs}
+use Rattle.intaglio_core.proofs.Spent.{Adds-then}
 use Rattle.intaglio_core.specs.declared.run.Call.{Call}
 use Rattle.intaglio_core.specs.declared.run.Reply.{Reply}
 
@@ -35,4 +36,4 @@ module _ {C : Type 0} (key : C → Key) (spelling : C → List ℕ) (hash : Key 
       → Adds between after (λ now. StepCost key hash mid call reply new now) → IsValid key new
       → Adds before after (λ cost. Runs key spelling hash old (calls ++ call ∷ []) (replies ++ reply ∷ []) cost new)
   Adds-push old calls replies mid call reply new before between after run step spent valid =
-      (run.0 ++ spent.0, rw (spent.1, run.1, append_assoc) refl, Runs-push old calls replies run.0 mid call reply spent.0 new run.2 step spent.2 valid)
+      Adds-then _ _ _ before between after (λ cost now ran costs. Runs-push old calls replies cost mid call reply now new ran step costs valid) run spent

@@ -91,6 +91,12 @@ remake-cost s (Ok _) n before after le places quiet = room-cost s n before after
 remake-cost s (Err _) n before after le places quiet = no-room-cost s before after quiet
 
 -- a mark, and what is added after it
+-- what two parts add, one after the other
+pub Adds-then : (P Q R : List Mark → Type 0) (before between after : List Mark) → ((xs ys : List Mark) → P xs → Q ys → R (xs ++ ys))
+    → Adds before between P → Adds between after Q → Adds before after R
+Adds-then P Q R before between after joins first_part later =
+    (first_part.0 ++ later.0, rw (later.1, first_part.1, append_assoc) refl, joins first_part.0 later.0 first_part.2 later.2)
+
 pub mark-first : (P : List Mark → Type 0) (m : Mark) (before between after : List Mark) → between ≡ before ++ m ∷ [] → Adds between after (λ cost. P (m ∷ cost)) → Adds before after P
 mark-first P m before between after first_mark later =
     (m ∷ later.0, rw (later.1, first_mark) (append_assoc before (m ∷ []) later.0), later.2)

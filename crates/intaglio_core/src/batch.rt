@@ -139,13 +139,13 @@ fn take_all<T: Interner>(
 {
     let mut symbols = Vec::with_capacity(alloc, all.len())?;
     for it in all {
-        symbols.push_reserved(take(table, it, work)?);
+        symbols.push_reserved(take_one(table, it, work)?);
     }
     Ok(symbols)
 }
 
 // Interns a content that was looked up.
-fn take<T: Interner>(
+fn take_one<T: Interner>(
     table: &mut T,
     it: LookedUp<T::Content>,
     work: &mut Work,

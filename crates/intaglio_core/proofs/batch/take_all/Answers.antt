@@ -23,8 +23,8 @@ loop-it-init g c =
       room = search rules;
     }
 
-pub take-requires-clause-symbol : goal.take-requires-clause-symbol
-take-requires-clause-symbol g c =
+pub take_one-requires-clause-symbol : goal.take_one-requires-clause-symbol
+take_one-requires-clause-symbol g c =
     let symbols = rw c.in-Some.ensures.steps.0 at c.loop-it.invariant.symbols in
     symbol-still g.T.Content.Keyed.key (g.T.Interner.hash c.args.table.now) (g.T.Interner.state c.args.table.now) (g.T.Interner.state c.loop-it.table) _ _ _ _ c.in-Some.it.symbol c.loop-it.invariant.ran.2 symbols.0
 
@@ -35,13 +35,13 @@ loop-it-preserved g c =
     record {
       can = tt;
       finite = tt;
-      ran = rw (c.push_reserved.ensures.items, map-append) (Adds-each g.T.Content.Keyed.key _ _ _ _ _ _ _ _ _ _ _ c.loop-it.invariant.ran c.in_ok-take.ensures.step (rw c.loop-it.invariant.same_hash at c.in_ok-take.ensures.cost) c.in_ok-take.ensures.valid);
+      ran = rw (c.push_reserved.ensures.items, map-append) (Adds-each g.T.Content.Keyed.key _ _ _ _ _ _ _ _ _ _ _ c.loop-it.invariant.ran c.in_ok-take_one.ensures.step (rw c.loop-it.invariant.same_hash at c.in_ok-take_one.ensures.cost) c.in_ok-take_one.ensures.valid);
       hashes = hashes.1;
       symbols = symbols.1;
-      same_hash = c.in_ok-take.ensures.same_hash ∙ c.loop-it.invariant.same_hash;
-      limit = Interns-limit g.T.Content.Keyed.key (g.T.Interner.state c.loop-it.table) (g.T.Interner.state c.take.new.table) c.in-Some.it.content c.take.result c.take.ensures.step ∙ c.loop-it.invariant.limit;
-      capacity = omega (arith, c.loop-it.invariant.capacity, Interns-roomier g.T.Content.Keyed.key (g.T.Interner.state c.loop-it.table) (g.T.Interner.state c.take.new.table) c.in-Some.it.content c.take.result c.take.ensures.step);
-      valid = c.in_ok-take.ensures.valid;
+      same_hash = c.in_ok-take_one.ensures.same_hash ∙ c.loop-it.invariant.same_hash;
+      limit = Interns-limit g.T.Content.Keyed.key (g.T.Interner.state c.loop-it.table) (g.T.Interner.state c.take_one.new.table) c.in-Some.it.content c.take_one.result c.take_one.ensures.step ∙ c.loop-it.invariant.limit;
+      capacity = omega (arith, c.loop-it.invariant.capacity, Interns-roomier g.T.Content.Keyed.key (g.T.Interner.state c.loop-it.table) (g.T.Interner.state c.take_one.new.table) c.in-Some.it.content c.take_one.result c.take_one.ensures.step);
+      valid = c.in_ok-take_one.ensures.valid;
       whole = rw (append_assoc, ← c.in-Some.ensures.steps.0) c.loop-it.invariant.whole;
       room = omega (arith, c.in-Some.ensures.steps);
     }
@@ -58,20 +58,20 @@ returns-clause-held g c =
     let all : c.loop-it.yielded ≡ c.args.all.items = grind (arith, common_steps, c.in-None.ensures.steps, c.loop-it.invariant.whole) in
     rw (← all) ((InternsEach-issues g.T.Content.Keyed.key _ _ _ _ _ _ ran.2).1)
 
-pub returns-in_err-take-clause-begins : goal.returns-in_err-take-clause-begins
-returns-in_err-take-clause-begins g c =
+pub returns-in_err-take_one-clause-begins : goal.returns-in_err-take_one-clause-begins
+returns-in_err-take_one-clause-begins g c =
     let ran = c.loop-it.invariant.ran in
-    let is : c.from_residual-in_err-take.result ≡ Err c.in_err-take.field-0.0 = search rules in
-    rw is (begins g.T.Content.Keyed.key (g.T.Interner.hash c.args.table.now) (g.T.Interner.state c.args.table.now) (g.T.Interner.state c.loop-it.table) (g.T.Interner.state c.take.new.table) _ _ _ c.in-Some.it.content c.in_err-take.field-0.0 ran.2 c.in_err-take.ensures.step)
+    let is : c.from_residual-in_err-take_one.result ≡ Err c.in_err-take_one.field-0.0 = search rules in
+    rw is (begins g.T.Content.Keyed.key (g.T.Interner.hash c.args.table.now) (g.T.Interner.state c.args.table.now) (g.T.Interner.state c.loop-it.table) (g.T.Interner.state c.take_one.new.table) _ _ _ c.in-Some.it.content c.in_err-take_one.field-0.0 ran.2 c.in_err-take_one.ensures.step)
 
-pub returns-in_err-take-clause-overflow : goal.returns-in_err-take-clause-overflow
-returns-in_err-take-clause-overflow g c =
+pub returns-in_err-take_one-clause-overflow : goal.returns-in_err-take_one-clause-overflow
+returns-in_err-take_one-clause-overflow g c =
     let ran = c.loop-it.invariant.ran in
     let contents = map (λ it. it.content) (into_iter_items c.next.new.self) in
-    let is : c.from_residual-in_err-take.result ≡ Err c.in_err-take.field-0.0 = search rules in
+    let is : c.from_residual-in_err-take_one.result ≡ Err c.in_err-take_one.field-0.0 = search rules in
     let whole = ap (λ all. map (λ it. it.content) all) (rw c.in-Some.ensures.steps.0 at c.loop-it.invariant.whole) in
-    rw is (overflows g.T.Content.Keyed.key (g.T.Interner.hash c.args.table.now) (g.T.Interner.state c.args.table.now) (g.T.Interner.state c.loop-it.table) (g.T.Interner.state c.take.new.table) _ contents _ _ _ c.in-Some.it.content c.in_err-take.field-0.0 ran.2 c.in_err-take.ensures.step c.loop-it.invariant.limit (rw map-append at whole))
+    rw is (overflows g.T.Content.Keyed.key (g.T.Interner.hash c.args.table.now) (g.T.Interner.state c.args.table.now) (g.T.Interner.state c.loop-it.table) (g.T.Interner.state c.take_one.new.table) _ contents _ _ _ c.in-Some.it.content c.in_err-take_one.field-0.0 ran.2 c.in_err-take_one.ensures.step c.loop-it.invariant.limit (rw map-append at whole))
 
-pub returns-in_err-take-clause-capacity : goal.returns-in_err-take-clause-capacity
-returns-in_err-take-clause-capacity g c =
-    omega (arith, c.loop-it.invariant.capacity, Interns-roomier g.T.Content.Keyed.key (g.T.Interner.state c.loop-it.table) (g.T.Interner.state c.take.new.table) c.in-Some.it.content c.take.result c.take.ensures.step)
+pub returns-in_err-take_one-clause-capacity : goal.returns-in_err-take_one-clause-capacity
+returns-in_err-take_one-clause-capacity g c =
+    omega (arith, c.loop-it.invariant.capacity, Interns-roomier g.T.Content.Keyed.key (g.T.Interner.state c.loop-it.table) (g.T.Interner.state c.take_one.new.table) c.in-Some.it.content c.take_one.result c.take_one.ensures.step)

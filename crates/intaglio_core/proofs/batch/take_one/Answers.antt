@@ -1,7 +1,7 @@
 use Rattle.std.proofs.Common.{◌≡◌, Some, rules}
 use Rattle.intaglio_core.specs.State.{first}
 use Rattle.intaglio_core.proofs.Each.{found-cost}
-use Rattle.intaglio_core.proofs.batch.take.Goals as goal
+use Rattle.intaglio_core.proofs.batch.take_one.Goals as goal
 
 pub returns-in-Some-clause-cost : goal.returns-in-Some-clause-cost
 returns-in-Some-clause-cost g c =
