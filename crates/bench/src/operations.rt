@@ -1,9 +1,8 @@
 //! What is measured. Each operation answers a sum that shows what it found.
 ghost use Rattle.std.specs.Prelude.{◌≡◌, []};
 
-use intaglio_content::StrContent;
 use intaglio_symbol::Symbol;
-use intaglio_text::SymbolTable;
+use intaglio_text::{StrContent, SymbolTable};
 use std::hash::BuildHasher;
 
 /// Interns the words, and adds up the numbers of their symbols, each with 1.

@@ -1,21 +1,23 @@
 //! Symbol tables: each distinct string gets a small stable number, and the number gives the string back.
 //!
 //! [`SymbolTable`] interns texts; the modules [`bytes`], [`bstr`], [`cstr`], [`osstr`] and [`path`] have a table each for
-//! byte strings, C strings, platform strings and paths. All are proved to mean a plain list of distinct contents, whose
-//! symbols are their places.
+//! byte strings, C strings, platform strings and paths. Each is a [`Table`] of one kind of content, proved to mean a plain
+//! list of distinct contents, whose symbols are their places.
 #![tactic(auto)]
 
 pub mod laws;
 
 pub use intaglio_bytes::{b_str as bstr, bytes};
+pub use intaglio_core::run::run;
 pub use intaglio_core::{
-    AllSymbols, BytesContent, Call, Content, Core, DEFAULT_SYMBOL_TABLE_CAPACITY, Formed, Forms,
-    Index, InternError, Interner, Keyed, Mark, Pairs, Reply, RoomError, Sought, Spelled, StaleMark,
-    StrContent, Symbol, SymbolOverflowError, Work, intern_all, run,
+    AllSymbols, Call, Content, Core, DEFAULT_SYMBOL_TABLE_CAPACITY, Formed, Forms, Index,
+    InternError, Interner, Keyed, LookedUp, Mark, Pairs, Reply, RoomError, Sought, Spelled,
+    StaleMark, Symbol, SymbolOverflowError, Work, intern_all,
 };
 pub use intaglio_cstr as cstr;
 pub use intaglio_path as path;
-pub use intaglio_text::{Iter, Strings, SymbolTable, osstr};
+pub use intaglio_table::Table;
+pub use intaglio_text::{Iter, StrContent, Strings, SymbolTable, osstr};
 
 #[cfg(test)]
 mod tests;

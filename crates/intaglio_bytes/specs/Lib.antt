@@ -1,3 +1,3 @@
 -- What the contracts of the crate cite, and those of the crates above.
 pub mod BStrContent
-pub mod Keys
+pub mod BytesContent

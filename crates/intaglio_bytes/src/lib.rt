@@ -1,4 +1,4 @@
-//! Symbol tables of byte strings.
+//! Symbol tables of bytes.
 //!
 //! - [`bytes`] is for plain bytes.
 //! - [`b_str`] is for the byte strings of the crate `bstr`. It can't have that crate's name here.

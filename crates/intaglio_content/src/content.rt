@@ -39,6 +39,11 @@ pub trait Formed<'a>: Content {
         ensures { form_spelling result ≡ Self.spelling self.now };
 }
 
+/// A content that is looked up by values of one type, its borrowed form.
+pub trait LookedUp<'q>: Content {
+    type By: Sought<Self> + Drop;
+}
+
 /// A value that can be looked up among contents of type `C`.
 pub trait Sought<C: Keyed>: Keyed {
     /// Feeds the key to a new hasher of the builder, and answers what that finishes with.

@@ -13,7 +13,8 @@ mod walk;
 
 pub use batch::intern_all;
 pub use intaglio_content::{
-    BytesContent, Content, Formed, Forms, Keyed, Pairs, Sought, Spelled, StrContent, Work,
+    Content, Formed, Forms, Keyed, LookedUp, Pairs, Sought, Spelled, Work, feed_item, hash_bytes,
+    same_bytes,
 };
 pub use intaglio_index::Index;
 pub use intaglio_symbol::{

@@ -5,7 +5,9 @@ ghost use Rattle.intaglio_cstr.specs.CStrContent.{c_str_content_bytes};
 
 use crate::c_str::CStr;
 use crate::c_string::CString;
-use intaglio_content::{Content, Formed, Keyed, Sought, Spelled, Work, hash_bytes, same_bytes};
+use intaglio_content::{
+    Content, Formed, Keyed, LookedUp, Sought, Spelled, Work, hash_bytes, same_bytes,
+};
 use std::hash::BuildHasher;
 
 /// A C string that a table stores. Its spelling is its bytes before the ending zero, and its key is that one item.
@@ -86,6 +88,10 @@ impl<'a> Formed<'a> for CStrContent {
     fn lend(&'a self) -> CStr<'a> {
         self.form()
     }
+}
+
+impl<'q> LookedUp<'q> for CStrContent {
+    type By = CStr<'q>;
 }
 
 impl Sought<CStrContent> for CStrContent {

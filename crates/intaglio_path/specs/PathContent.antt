@@ -1,7 +1,5 @@
 -- What a clause reads of a `PathContent`.
 use Rattle.std.specs.Prelude.{ℕ, List, string_bytes}
-use Rattle.intaglio_content.specs.Key.{Key}
-use Rattle.intaglio_path.specs.Components.{components}
 use Rattle.intaglio_path.specs.declared.content.PathContent.{PathContent}
 use Rattle.intaglio_path.specs.declared.content.PathContent.TheVariants.{Borrowed, Owned}
 
@@ -9,7 +7,3 @@ use Rattle.intaglio_path.specs.declared.content.PathContent.TheVariants.{Borrowe
 abbrev pub path_content_bytes : PathContent → List ℕ
 path_content_bytes (Borrowed text) = text.now
 path_content_bytes (Owned text) = string_bytes text
-
--- the key of a path: its components
-abbrev pub path_key : PathContent → Key
-path_key content = components (path_content_bytes content)

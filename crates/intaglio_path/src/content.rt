@@ -5,7 +5,7 @@ ghost use Rattle.intaglio_path.specs.Path.{path_text};
 ghost use Rattle.intaglio_path.specs.PathContent.{path_content_bytes};
 
 use crate::path::Path;
-use intaglio_content::{Content, Formed, Keyed, Sought, Spelled, Work};
+use intaglio_content::{Content, Formed, Keyed, LookedUp, Sought, Spelled, Work};
 use std::hash::{BuildHasher, Hash, Hasher};
 
 /// A path that a table stores. Its spelling is the UTF-8 bytes of its text, and its key is their components.
@@ -86,6 +86,10 @@ impl<'a> Formed<'a> for PathContent {
     fn lend(&'a self) -> Path<'a> {
         PathContent::form(self)
     }
+}
+
+impl<'q> LookedUp<'q> for PathContent {
+    type By = Path<'q>;
 }
 
 impl<'a> Sought<PathContent> for Path<'a> {

@@ -1,2 +1,3 @@
--- What the contracts of the crate cite.
-pub mod Text
+-- What the contracts of the crate cite, and those of the crates above.
+pub mod OsStrContent
+pub mod StrContent

@@ -1,5 +1,5 @@
 //! How a line of an input becomes a content.
-ghost use Rattle.std.specs.Prelude.{◌≡◌, ℕ, List, [], ◌∷◌, ◌++◌, Bool, true, false, is_none, OnOk, IfOk, IsUtf8};
+ghost use Rattle.std.specs.Prelude.{◌≡◌, ℕ, List, [], ◌∷◌, ◌++◌, Bool, true, false, is_none, OnOk, IfOk, IsUtf8, string_bytes};
 ghost use Rattle.std.proofs.lemmas.Str.{IsUtf8-nil};
 ghost use Rattle.intaglio_cstr.specs.Zeros.{first_zero};
 ghost use Rattle.intaglio_tool.specs.Cuts.{IsUtf8-parts};
@@ -7,9 +7,11 @@ ghost use Rattle.intaglio_tool.specs.declared.from_line.LineFault.TheVariants.{M
 
 use bstr::BString;
 use intaglio::bstr::BStrContent;
+use intaglio::bytes::BytesContent;
 use intaglio::cstr::{CStrContent, CString, CStringError};
+use intaglio::osstr::OsStrContent;
 use intaglio::path::PathContent;
-use intaglio::{BytesContent, Sought, Spelled, StrContent};
+use intaglio::{Sought, Spelled, StrContent};
 use std::alloc::{AllocError, Global};
 
 /// Why a line became no content.
@@ -54,6 +56,15 @@ pub trait FromLine: Spelled + Sought<Self> + Drop {
     ghost allows_nothing: { allows [] };
 }
 
+// The line as a text of its own.
+fn text_of(alloc: Global, line: &[u8]) -> Result<String, AllocError>
+    requires { IsUtf8 line.now }
+    ensures { IfOk result (λ text. string_bytes text ≡ line.now) }
+{
+    let bytes = Vec::from_slice(alloc, line)?;
+    Ok(String::from_utf8(bytes).unwrap())
+}
+
 impl FromLine for StrContent {
     ghost allows = { λ bytes. IsUtf8 bytes };
 
@@ -64,8 +75,21 @@ impl FromLine for StrContent {
     ghost allows_nothing = { IsUtf8-nil };
 
     fn from_line(alloc: Global, line: &[u8]) -> Result<StrContent, LineFault> {
-        let bytes = Vec::from_slice(alloc, line)?;
-        Ok(StrContent::Owned(String::from_utf8(bytes).unwrap()))
+        Ok(StrContent::Owned(text_of(alloc, line)?))
+    }
+}
+
+impl FromLine for OsStrContent {
+    ghost allows = { λ bytes. IsUtf8 bytes };
+
+    ghost fits = { λ _. true };
+
+    ghost allows_parts = { λ line rest text. IsUtf8-parts line rest text };
+
+    ghost allows_nothing = { IsUtf8-nil };
+
+    fn from_line(alloc: Global, line: &[u8]) -> Result<OsStrContent, LineFault> {
+        Ok(OsStrContent::Owned(text_of(alloc, line)?))
     }
 }
 
@@ -79,8 +103,7 @@ impl FromLine for PathContent {
     ghost allows_nothing = { IsUtf8-nil };
 
     fn from_line(alloc: Global, line: &[u8]) -> Result<PathContent, LineFault> {
-        let bytes = Vec::from_slice(alloc, line)?;
-        Ok(PathContent::Owned(String::from_utf8(bytes).unwrap()))
+        Ok(PathContent::Owned(text_of(alloc, line)?))
     }
 }
 

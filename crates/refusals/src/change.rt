@@ -1,11 +1,13 @@
 //! The calls that are made, each by the table's own call or by a run.
-use crate::kind::{Kind, Room};
+use crate::kinds::{FixedTable, Stored};
 use intaglio::{Call, InternError, Mark, Reply, RoomError, Symbol};
 
 /// A call that takes no content and can be made again.
 #[derive(Clone, Copy)]
 pub enum Change {
-    Room(Room),
+    Reserve(usize),
+    ShrinkTo(usize),
+    ShrinkToFit,
     Clear,
     TakeBack(usize),
 }
@@ -25,8 +27,8 @@ impl<C> Ask<C> {
         match self {
             Ask::Intern(_) => "intern",
             Ask::GetInterned(_) => "get_interned",
-            Ask::Change(Change::Room(Room::Reserve(_))) => "reserve",
-            Ask::Change(Change::Room(_)) => "shrink",
+            Ask::Change(Change::Reserve(_)) => "reserve",
+            Ask::Change(Change::ShrinkTo(_) | Change::ShrinkToFit) => "shrink",
             Ask::Change(Change::Clear) => "clear",
             Ask::Change(Change::TakeBack(_)) => "take_back",
         }
@@ -38,9 +40,9 @@ impl<C> Ask<C> {
             Ask::Intern(content) => Call::Intern(content),
             Ask::GetInterned(content) => Call::GetInterned(content),
             Ask::Change(change) => match change {
-                Change::Room(Room::Reserve(additional)) => Call::Reserve(additional),
-                Change::Room(Room::ShrinkTo(min_capacity)) => Call::ShrinkTo(min_capacity),
-                Change::Room(Room::ShrinkToFit) => Call::ShrinkToFit,
+                Change::Reserve(additional) => Call::Reserve(additional),
+                Change::ShrinkTo(min_capacity) => Call::ShrinkTo(min_capacity),
+                Change::ShrinkToFit => Call::ShrinkToFit,
                 Change::Clear => Call::Clear,
                 Change::TakeBack(count) => Call::TakeBack(Mark::new(count)),
             },
@@ -50,16 +52,24 @@ impl<C> Ask<C> {
 
 /// Makes a call by the table's own call of that name, and answers as a run does. Look-ups aren't made: they answer that the
 /// mark is stale.
-pub fn own<T: Kind>(table: &mut T, ask: Ask<T::Content>) -> Reply {
+pub fn own<C: Stored>(table: &mut FixedTable<C>, ask: Ask<C>) -> Reply {
     match ask {
         Ask::Intern(content) => reply_of_intern(table.intern(content)),
         Ask::GetInterned(_) => Reply::Stale,
-        Ask::Change(Change::Room(room)) => reply_of(table.resize(room)),
-        Ask::Change(Change::Clear) => {
-            table.empty();
+        Ask::Change(change) => own_change(table, change),
+    }
+}
+
+fn own_change<C: Stored>(table: &mut FixedTable<C>, change: Change) -> Reply {
+    match change {
+        Change::Reserve(additional) => reply_of(table.reserve(additional)),
+        Change::ShrinkTo(min_capacity) => reply_of(table.shrink_to(min_capacity)),
+        Change::ShrinkToFit => reply_of(table.shrink_to_fit()),
+        Change::Clear => {
+            table.clear();
             Reply::Done
         }
-        Ask::Change(Change::TakeBack(count)) => match table.take_back(Mark::new(count)) {
+        Change::TakeBack(count) => match table.take_back(Mark::new(count)) {
             Ok(()) => Reply::Done,
             Err(_) => Reply::Stale,
         },

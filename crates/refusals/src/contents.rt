@@ -1,28 +1,28 @@
 //! The contents of a run, all made before its table.
-use crate::kind::Kind;
+use crate::kinds::Stored;
 use intaglio::Call;
 use std::alloc::{AllocError, Global};
 
 /// Decimal numbers as texts and as contents, and lists for calls.
 #[derive(Drop)]
-pub struct Contents<T: Kind> {
+pub struct Contents<C: Stored> {
     /// The numbers' digits.
     pub texts: Vec<String>,
     /// A content of each, to look it up.
-    pub sought: Vec<T::Content>,
+    pub sought: Vec<C>,
     /// Two contents of each, the first number's on top: a refused interning drops the one handed in.
-    pub fresh: Vec<(T::Content, T::Content)>,
+    pub fresh: Vec<(C, C)>,
     /// Two more of each, in the same order, for look-ups that take one.
-    pub asked: Vec<(T::Content, T::Content)>,
+    pub asked: Vec<(C, C)>,
     /// Empty lists with room for one call each.
-    pub lists: Vec<Vec<Call<T::Content>>>,
+    pub lists: Vec<Vec<Call<C>>>,
 }
 
 const LISTS: usize = 200;
 
-impl<T: Kind> Contents<T> {
+impl<C: Stored> Contents<C> {
     /// The contents of the numbers below a count.
-    pub fn make(alloc: Global, count: u32) -> Result<Contents<T>, AllocError> {
+    pub fn make(alloc: Global, count: u32) -> Result<Contents<C>, AllocError> {
         let mut contents = Contents {
             texts: Vec::new(alloc),
             sought: Vec::new(alloc),
@@ -45,9 +45,9 @@ impl<T: Kind> Contents<T> {
 
     fn add(&mut self, alloc: Global, number: u32) -> Result<(), AllocError> {
         self.texts.push(text_of(alloc, number)?)?;
-        self.sought.push(content_of::<T>(alloc, number)?)?;
-        self.fresh.push(two_of::<T>(alloc, number)?)?;
-        self.asked.push(two_of::<T>(alloc, number)?)?;
+        self.sought.push(content_of::<C>(alloc, number)?)?;
+        self.fresh.push(two_of::<C>(alloc, number)?)?;
+        self.asked.push(two_of::<C>(alloc, number)?)?;
         Ok(())
     }
 }
@@ -56,13 +56,13 @@ fn text_of(alloc: Global, number: u32) -> Result<String, AllocError> {
     format!(in alloc; "{number}")
 }
 
-fn content_of<T: Kind>(alloc: Global, number: u32) -> Result<T::Content, AllocError> {
-    T::content_of(alloc, text_of(alloc, number)?)
+fn content_of<C: Stored>(alloc: Global, number: u32) -> Result<C, AllocError> {
+    C::of_text(alloc, text_of(alloc, number)?)
 }
 
-fn two_of<T: Kind>(alloc: Global, number: u32) -> Result<(T::Content, T::Content), AllocError> {
-    let first = content_of::<T>(alloc, number)?;
-    Ok((first, content_of::<T>(alloc, number)?))
+fn two_of<C: Stored>(alloc: Global, number: u32) -> Result<(C, C), AllocError> {
+    let first = content_of::<C>(alloc, number)?;
+    Ok((first, content_of::<C>(alloc, number)?))
 }
 
 fn make_lists<C: Drop>(alloc: Global) -> Result<Vec<Vec<Call<C>>>, AllocError> {

@@ -7,15 +7,19 @@
 mod change;
 mod contents;
 mod fault;
-mod kind;
 mod kinds;
 mod making;
 mod runs;
 mod watched;
 
 use fault::Fault;
-use intaglio::{SymbolTable, bstr, bytes, cstr, osstr, path};
-use kind::Kind;
+use intaglio::StrContent;
+use intaglio::bstr::BStrContent;
+use intaglio::bytes::BytesContent;
+use intaglio::cstr::CStrContent;
+use intaglio::osstr::OsStrContent;
+use intaglio::path::PathContent;
+use kinds::Stored;
 use making::make_all;
 use runs::{Calls, watch};
 use std::env;
@@ -72,27 +76,24 @@ fn all(rt: &(impl Eprint + AllocGlobal)) -> Result<(), Fault> {
 // One run on one table.
 fn one(rt: &(impl Eprint + AllocGlobal), table: &str, run: &str) -> Result<(), Fault> {
     match table {
-        "text" => on::<SymbolTable>(rt, run),
-        "osstr" => on::<osstr::SymbolTable>(rt, run),
-        "path" => on::<path::SymbolTable>(rt, run),
-        "bytes" => on::<bytes::SymbolTable>(rt, run),
-        "bstr" => on::<bstr::SymbolTable>(rt, run),
-        "cstr" => on::<cstr::SymbolTable>(rt, run),
+        "text" => on::<StrContent>(rt, run),
+        "osstr" => on::<OsStrContent>(rt, run),
+        "path" => on::<PathContent>(rt, run),
+        "bytes" => on::<BytesContent>(rt, run),
+        "bstr" => on::<BStrContent>(rt, run),
+        "cstr" => on::<CStrContent>(rt, run),
         _ => Err(Fault::Words),
     }
 }
 
-fn on<T: Kind>(rt: &(impl Eprint + AllocGlobal), run: &str) -> Result<(), Fault>
-where
-    T::Content: intaglio::Spelled,
-{
+fn on<C: Stored>(rt: &(impl Eprint + AllocGlobal), run: &str) -> Result<(), Fault> {
     match run {
-        "calls" => watch::<T>(rt, Way::Own, Calls::Plain),
-        "cut" => watch::<T>(rt, Way::Own, Calls::Cut),
-        "replies" => watch::<T>(rt, Way::Replies, Calls::Plain),
-        "cut_replies" => watch::<T>(rt, Way::Replies, Calls::Cut),
-        "making" => make_all::<T>(rt),
-        "no_memory" => watch::<T>(rt, Way::Own, Calls::NoMemory),
+        "calls" => watch::<C>(rt, Way::Own, Calls::Plain),
+        "cut" => watch::<C>(rt, Way::Own, Calls::Cut),
+        "replies" => watch::<C>(rt, Way::Replies, Calls::Plain),
+        "cut_replies" => watch::<C>(rt, Way::Replies, Calls::Cut),
+        "making" => make_all::<C>(rt),
+        "no_memory" => watch::<C>(rt, Way::Own, Calls::NoMemory),
         _ => Err(Fault::Words),
     }
 }

@@ -1,10 +1,9 @@
 //! Tables and C strings whose making is refused memory.
 use crate::fault::Fault;
-use crate::kind::{Kind, Making, Room};
+use crate::kinds::{Making, Stored, make_table};
 use crate::watched::tell;
 use intaglio::cstr::{CString, CStringError};
-use intaglio::run::run;
-use intaglio::{RoomError, Spelled, Work};
+use intaglio::{RoomError, Work, run};
 use std::alloc::{AllocError, Global};
 
 // One more than the most contents that a table can hold.
@@ -34,33 +33,33 @@ impl Made {
 }
 
 /// Makes a table by each constructor, and a C string. A refused one makes none, and is made again.
-pub fn make_all<T: Kind>(rt: &(impl Eprint + AllocGlobal)) -> Result<(), Fault> {
+pub fn make_all<C: Stored>(rt: &(impl Eprint + AllocGlobal)) -> Result<(), Fault> {
     let full = full_bytes(rt.alloc())?;
     let again = full_bytes(rt.alloc())?;
     tell(rt, "table", 0);
-    make_tables::<T>(rt)?;
+    make_tables::<C>(rt)?;
     grow_c_string(rt, full, again)
 }
 
-fn make_tables<T: Kind>(rt: &(impl Eprint + AllocGlobal)) -> Result<(), Fault> {
-    make::<T>(rt, Making::New, 1, 4096)?;
-    make::<T>(rt, Making::WithCapacity(5), 2, 8)?;
-    make::<T>(rt, Making::WithHasher, 3, 4096)?;
-    make::<T>(rt, Making::WithCapacityAndHasher(10), 4, 10)
+fn make_tables<C: Stored>(rt: &(impl Eprint + AllocGlobal)) -> Result<(), Fault> {
+    make::<C>(rt, Making::New, 1, 4096)?;
+    make::<C>(rt, Making::WithCapacity(5), 2, 8)?;
+    make::<C>(rt, Making::WithHasher, 3, 4096)?;
+    make::<C>(rt, Making::WithCapacityAndHasher(10), 4, 10)
 }
 
-fn make<T: Kind>(
+fn make<C: Stored>(
     rt: &(impl Eprint + AllocGlobal),
     making: Making,
     number: u32,
     capacity: usize,
 ) -> Result<(), Fault> {
     tell(rt, "make", number);
-    let mut made = table_made::<T>(rt.alloc(), making, capacity);
+    let mut made = table_made::<C>(rt.alloc(), making, capacity);
     if made.is_refused() {
         tell(rt, "refused", number);
         tell(rt, "make", number);
-        made = table_made::<T>(rt.alloc(), making, capacity);
+        made = table_made::<C>(rt.alloc(), making, capacity);
     }
     if made.is_right() {
         Ok(())
@@ -70,9 +69,9 @@ fn make<T: Kind>(
 }
 
 // Makes an empty table, which is to have that capacity.
-fn table_made<T: Kind>(alloc: Global, making: Making, capacity: usize) -> Made {
-    match T::make(alloc, making) {
-        Ok(table) if table.count() == 0 && table.capacity() == capacity => Made::Right,
+fn table_made<C: Stored>(alloc: Global, making: Making, capacity: usize) -> Made {
+    match make_table::<C>(alloc, making) {
+        Ok(table) if table.is_empty() && table.capacity() == capacity => Made::Right,
         Ok(_) => Made::Wrong,
         Err(RoomError::Memory(_)) => Made::NoMemory,
         Err(RoomError::CapacityOverflow) => Made::TooLarge,
@@ -80,33 +79,24 @@ fn table_made<T: Kind>(alloc: Global, making: Making, capacity: usize) -> Made {
 }
 
 /// Makes what needs no memory: empty tables, and what is refused for its size.
-pub fn make_without_memory<T: Kind>(alloc: Global) -> bool
-where
-    T::Content: Spelled,
-{
-    is_empty::<T>(alloc, Making::WithCapacity(0))
-        && is_empty::<T>(alloc, Making::WithCapacityAndHasher(0))
-        && is_empty::<T>(alloc, Making::WithLimit(1))
-        && is_empty::<T>(alloc, Making::WithLimit(TOO_MANY - 1))
-        && table_made::<T>(alloc, Making::WithCapacity(TOO_MANY), 0).is_too_large()
-        && table_made::<T>(alloc, Making::WithCapacityAndHasher(TOO_MANY), 0).is_too_large()
-        && table_made::<T>(alloc, Making::WithLimit(TOO_MANY), 0).is_too_large()
-        && table_made::<T>(alloc, Making::WithLimit(0), 0).is_too_large()
+pub fn make_without_memory<C: Stored>(alloc: Global) -> bool {
+    is_empty::<C>(alloc, Making::WithCapacity(0))
+        && is_empty::<C>(alloc, Making::WithCapacityAndHasher(0))
+        && is_empty::<C>(alloc, Making::WithLimit(1))
+        && is_empty::<C>(alloc, Making::WithLimit(TOO_MANY - 1))
+        && table_made::<C>(alloc, Making::WithCapacity(TOO_MANY), 0).is_too_large()
+        && table_made::<C>(alloc, Making::WithCapacityAndHasher(TOO_MANY), 0).is_too_large()
+        && table_made::<C>(alloc, Making::WithLimit(TOO_MANY), 0).is_too_large()
+        && table_made::<C>(alloc, Making::WithLimit(0), 0).is_too_large()
 }
 
 // Whether the constructor makes an empty table of capacity 0, on which a run of no call goes well.
-fn is_empty<T: Kind>(alloc: Global, making: Making) -> bool
-where
-    T::Content: Spelled,
-{
-    match T::make(alloc, making) {
+fn is_empty<C: Stored>(alloc: Global, making: Making) -> bool {
+    match make_table::<C>(alloc, making) {
         Ok(mut table) => {
-            table.count() == 0
+            table.is_empty()
                 && table.capacity() == 0
-                && matches!(
-                    table.resize(Room::Reserve(TOO_MANY)),
-                    Err(RoomError::CapacityOverflow)
-                )
+                && matches!(table.reserve(TOO_MANY), Err(RoomError::CapacityOverflow))
                 && run(alloc, &mut table, Vec::new(alloc), &mut Work::new()).is_ok()
         }
         Err(_) => false,

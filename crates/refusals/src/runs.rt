@@ -1,10 +1,9 @@
 //! The runs.
 use crate::change::Change;
 use crate::fault::Fault;
-use crate::kind::{Kind, Room};
+use crate::kinds::Stored;
 use crate::making::make_without_memory;
 use crate::watched::{Watched, Way, tell};
-use intaglio::Spelled;
 
 /// Which calls are made.
 #[derive(Clone, Copy)]
@@ -18,11 +17,12 @@ pub enum Calls {
 }
 
 /// Makes the calls on a new table.
-pub fn watch<T: Kind>(rt: &(impl Eprint + AllocGlobal), way: Way, calls: Calls) -> Result<(), Fault>
-where
-    T::Content: Spelled,
-{
-    let mut watched = Watched::<T>::start(rt, way)?;
+pub fn watch<C: Stored>(
+    rt: &(impl Eprint + AllocGlobal),
+    way: Way,
+    calls: Calls,
+) -> Result<(), Fault> {
+    let mut watched = Watched::<C>::start(rt, way)?;
     let is_right = match calls {
         Calls::Plain => fill(rt, &mut watched, way) && make_calls(rt, &mut watched),
         Calls::Cut => {
@@ -36,41 +36,31 @@ where
 }
 
 // Twenty contents into an empty table, which a run looks up again.
-fn fill<T: Kind>(rt: &(impl Eprint + AllocGlobal), watched: &mut Watched<T>, way: Way) -> bool
-where
-    T::Content: Spelled,
-{
+fn fill<C: Stored>(rt: &(impl Eprint + AllocGlobal), watched: &mut Watched<C>, way: Way) -> bool {
     watched.intern_more(rt, 20) && (matches!(way, Way::Own) || watched.look_up(rt, 20))
 }
 
 // Room for forty more, twenty more contents, two shrinks, and five contents after a clear.
-fn make_calls<T: Kind>(rt: &(impl Eprint + AllocGlobal), watched: &mut Watched<T>) -> bool
-where
-    T::Content: Spelled,
-{
-    watched.change(rt, Change::Room(Room::Reserve(40)))
+fn make_calls<C: Stored>(rt: &(impl Eprint + AllocGlobal), watched: &mut Watched<C>) -> bool {
+    watched.change(rt, Change::Reserve(40))
         && watched.intern_more(rt, 20)
-        && watched.change(rt, Change::Room(Room::ShrinkTo(41)))
-        && watched.change(rt, Change::Room(Room::ShrinkToFit))
+        && watched.change(rt, Change::ShrinkTo(41))
+        && watched.change(rt, Change::ShrinkToFit)
         && watched.change(rt, Change::Clear)
         && watched.intern_more(rt, 5)
 }
 
 // From its line `none` on nothing takes memory: contents into granted room, look-ups, a cut, a clear, a reservation that is
 // granted already, empty tables, and what is refused for its size.
-fn no_memory<T: Kind>(rt: &(impl Eprint + AllocGlobal), watched: &mut Watched<T>) -> bool
-where
-    T::Content: Spelled,
-{
-    let is_granted = watched.intern_more(rt, 5)
-        && watched.change(rt, Change::Room(Room::Reserve(10)));
+fn no_memory<C: Stored>(rt: &(impl Eprint + AllocGlobal), watched: &mut Watched<C>) -> bool {
+    let is_granted = watched.intern_more(rt, 5) && watched.change(rt, Change::Reserve(10));
     tell(rt, "none", 0);
     is_granted
         && watched.intern_more(rt, 10)
         && watched.change(rt, Change::TakeBack(4))
         && watched.intern_more(rt, 3)
         && watched.change(rt, Change::Clear)
-        && watched.change(rt, Change::Room(Room::Reserve(15)))
+        && watched.change(rt, Change::Reserve(15))
         && watched.intern_more(rt, 15)
-        && make_without_memory::<T>(rt.alloc())
+        && make_without_memory::<C>(rt.alloc())
 }

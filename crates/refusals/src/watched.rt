@@ -2,9 +2,8 @@
 use crate::change::{Ask, Change, own};
 use crate::contents::Contents;
 use crate::fault::Fault;
-use crate::kind::{Kind, Making};
-use intaglio::run::run;
-use intaglio::{Call, Reply, Spelled, Symbol, Work};
+use crate::kinds::{FixedTable, Making, Stored, make_table};
+use intaglio::{Call, Interner, Reply, Symbol, Work, run};
 use std::alloc::Global;
 
 /// How the calls are made.
@@ -18,9 +17,9 @@ pub enum Way {
 
 /// A table beside its list, and what was told so far.
 #[derive(Drop)]
-pub struct Watched<T: Kind> {
-    table: T,
-    contents: Contents<T>,
+pub struct Watched<C: Stored> {
+    table: FixedTable<C>,
+    contents: Contents<C>,
     way: Way,
     // the numbers whose contents the table holds, in the order of their symbols, which is their own
     held: Vec<usize>,
@@ -39,16 +38,13 @@ pub fn tell(rt: &impl Eprint, what: &str, number: u32) {
     let _ = eprintln!(rt; "{what} {number}");
 }
 
-impl<T: Kind> Watched<T>
-where
-    T::Content: Spelled,
-{
+impl<C: Stored> Watched<C> {
     /// Makes the contents, and then an empty table. What is asked for before the first call that is told isn't the table's.
-    pub fn start(rt: &(impl Eprint + AllocGlobal), way: Way) -> Result<Watched<T>, Fault> {
+    pub fn start(rt: &(impl Eprint + AllocGlobal), way: Way) -> Result<Watched<C>, Fault> {
         let held = Vec::with_capacity(rt.alloc(), COUNT as usize)?;
-        let contents = Contents::<T>::make(rt.alloc(), COUNT)?;
+        let contents = Contents::<C>::make(rt.alloc(), COUNT)?;
         tell(rt, "table", 0);
-        match T::make(rt.alloc(), Making::WithCapacityAndHasher(0)) {
+        match make_table::<C>(rt.alloc(), Making::WithCapacityAndHasher(0)) {
             Ok(table) => Ok(Watched {
                 table,
                 contents,
@@ -113,7 +109,7 @@ where
     pub fn change(&mut self, rt: &(impl Eprint + AllocGlobal), change: Change) -> bool {
         let reply = self.make(rt, Ask::Change(change), Ask::Change(change));
         match change {
-            Change::Room(_) => {}
+            Change::Reserve(_) | Change::ShrinkTo(_) | Change::ShrinkToFit => {}
             Change::Clear => self.held.clear(),
             Change::TakeBack(count) => self.held.truncate(count),
         }
@@ -121,19 +117,14 @@ where
     }
 
     // Makes a call, and the other in its place where it was refused.
-    fn make(
-        &mut self,
-        rt: &(impl Eprint + AllocGlobal),
-        first: Ask<T::Content>,
-        again: Ask<T::Content>,
-    ) -> Reply {
+    fn make(&mut self, rt: &(impl Eprint + AllocGlobal), first: Ask<C>, again: Ask<C>) -> Reply {
         match self.make_once(rt, first) {
             Reply::NoMemory => self.make_once(rt, again),
             reply => reply,
         }
     }
 
-    fn make_once(&mut self, rt: &(impl Eprint + AllocGlobal), ask: Ask<T::Content>) -> Reply {
+    fn make_once(&mut self, rt: &(impl Eprint + AllocGlobal), ask: Ask<C>) -> Reply {
         self.calls = self.calls.saturating_add(1);
         self.fault = Fault::Answer(self.calls);
         let room = self.table.capacity();
@@ -161,7 +152,7 @@ where
         }
     }
 
-    fn reply(&mut self, alloc: Global, ask: Ask<T::Content>) -> Reply {
+    fn reply(&mut self, alloc: Global, ask: Ask<C>) -> Reply {
         match self.way {
             Way::Own => own(&mut self.table, ask),
             Way::Replies => self.replied(alloc, ask.call()),
@@ -170,7 +161,7 @@ where
 
     // The reply of a run of this call alone. Where the replies' memory was refused, no call was made. Where there is no list
     // for the call, it is answered as none is.
-    fn replied(&mut self, alloc: Global, call: Call<T::Content>) -> Reply {
+    fn replied(&mut self, alloc: Global, call: Call<C>) -> Reply {
         let mut calls = self.contents.lists.pop().unwrap_or(Vec::new(alloc));
         match calls.push(call) {
             Ok(()) => {}
@@ -203,7 +194,7 @@ where
         let mut is_same = true;
         let mut place = 0usize;
         for (number, sought) in self.contents.sought.iter().enumerate() {
-            if let Some(symbol) = self.table.check(sought) {
+            if let Some(symbol) = sought.check_in(&self.table) {
                 is_same = is_same && symbol.id() as usize == place && self.holds(number, symbol);
                 place = place.saturating_add(1);
             }

@@ -1,19 +1,38 @@
 //! Contents of each kind, made of their spelling, and the bytes of what is read back.
+use super::builders::Watched;
+use super::steps::{Steps, walks};
+use super::table::{Found, Read, look_at, look_up, walk_pairs};
 use crate::bstr::BStrContent;
+use crate::bytes::BytesContent;
 use crate::cstr::{CStr, CStrContent, CString};
+use crate::osstr::OsStrContent;
 use crate::path::{Path, PathContent};
-use crate::{BytesContent, Formed, Spelled, StrContent};
+use crate::{Formed, Sought, Spelled, StrContent, Symbol, Table};
 use std::alloc::Global;
 use std::process::Abort;
 use std::str;
 
-/// A content that can be made of any spelling of its kind.
-pub trait Made: Spelled + Drop {
+/// A content that can be made of any spelling of its kind, and what differs from kind to kind in a table of them.
+pub trait Made: Spelled + Sought<Self> + Drop {
     /// An owned content.
     fn owned(alloc: Global, spelling: &[u8]) -> Option<Self>;
 
     /// A borrowed content. A zero follows its spelling.
     fn borrowed(ended: &'static str) -> Option<Self>;
+
+    /// Looks it up by its borrowed form.
+    fn find_in<S: Watched>(&self, alloc: Global, table: &Table<Self, S>) -> Found;
+
+    /// Looks a symbol up.
+    fn read_in<S: Watched>(alloc: Global, table: &Table<Self, S>, symbol: Symbol) -> Read;
+
+    /// Goes through the iterators of forms by their steps.
+    fn go_through<R: Abort, S: Watched>(
+        rt: &R,
+        alloc: Global,
+        table: &Table<Self, S>,
+        steps: Steps,
+    );
 }
 
 fn text_of(alloc: Global, spelling: &[u8]) -> Option<String> {
@@ -28,6 +47,52 @@ impl Made for StrContent {
     fn borrowed(ended: &'static str) -> Option<StrContent> {
         Some(StrContent::from(ended.strip_suffix('\0')?))
     }
+
+    fn find_in<S: Watched>(&self, alloc: Global, table: &Table<StrContent, S>) -> Found {
+        look_up(table, alloc, self.form())
+    }
+
+    fn read_in<S: Watched>(alloc: Global, table: &Table<StrContent, S>, symbol: Symbol) -> Read {
+        look_at(table, alloc, symbol)
+    }
+
+    fn go_through<R: Abort, S: Watched>(
+        rt: &R,
+        alloc: Global,
+        table: &Table<StrContent, S>,
+        steps: Steps,
+    ) {
+        walks(rt, alloc, table.strings(), steps.contents);
+        walk_pairs(rt, alloc, table, steps.pairs);
+    }
+}
+
+impl Made for OsStrContent {
+    fn owned(alloc: Global, spelling: &[u8]) -> Option<OsStrContent> {
+        Some(OsStrContent::from(text_of(alloc, spelling)?))
+    }
+
+    fn borrowed(ended: &'static str) -> Option<OsStrContent> {
+        Some(OsStrContent::from(ended.strip_suffix('\0')?))
+    }
+
+    fn find_in<S: Watched>(&self, alloc: Global, table: &Table<OsStrContent, S>) -> Found {
+        look_up(table, alloc, self.form())
+    }
+
+    fn read_in<S: Watched>(alloc: Global, table: &Table<OsStrContent, S>, symbol: Symbol) -> Read {
+        look_at(table, alloc, symbol)
+    }
+
+    fn go_through<R: Abort, S: Watched>(
+        rt: &R,
+        alloc: Global,
+        table: &Table<OsStrContent, S>,
+        steps: Steps,
+    ) {
+        walks(rt, alloc, table.os_strings(), steps.contents);
+        walk_pairs(rt, alloc, table, steps.pairs);
+    }
 }
 
 impl Made for BytesContent {
@@ -38,6 +103,24 @@ impl Made for BytesContent {
     fn borrowed(ended: &'static str) -> Option<BytesContent> {
         Some(BytesContent::from(ended.strip_suffix('\0')?.as_bytes()))
     }
+
+    fn find_in<S: Watched>(&self, alloc: Global, table: &Table<BytesContent, S>) -> Found {
+        look_up(table, alloc, self.form())
+    }
+
+    fn read_in<S: Watched>(alloc: Global, table: &Table<BytesContent, S>, symbol: Symbol) -> Read {
+        look_at(table, alloc, symbol)
+    }
+
+    fn go_through<R: Abort, S: Watched>(
+        rt: &R,
+        alloc: Global,
+        table: &Table<BytesContent, S>,
+        steps: Steps,
+    ) {
+        walks(rt, alloc, table.bytestrings(), steps.contents);
+        walk_pairs(rt, alloc, table, steps.pairs);
+    }
 }
 
 impl Made for BStrContent {
@@ -47,6 +130,24 @@ impl Made for BStrContent {
 
     fn borrowed(ended: &'static str) -> Option<BStrContent> {
         Some(BStrContent::Borrowed(ended.strip_suffix('\0')?.into()))
+    }
+
+    fn find_in<S: Watched>(&self, alloc: Global, table: &Table<BStrContent, S>) -> Found {
+        look_up(table, alloc, self.form())
+    }
+
+    fn read_in<S: Watched>(alloc: Global, table: &Table<BStrContent, S>, symbol: Symbol) -> Read {
+        look_at(table, alloc, symbol)
+    }
+
+    fn go_through<R: Abort, S: Watched>(
+        rt: &R,
+        alloc: Global,
+        table: &Table<BStrContent, S>,
+        steps: Steps,
+    ) {
+        walks(rt, alloc, table.bstrings(), steps.contents);
+        walk_pairs(rt, alloc, table, steps.pairs);
     }
 }
 
@@ -59,6 +160,24 @@ impl Made for CStrContent {
     fn borrowed(ended: &'static str) -> Option<CStrContent> {
         Some(CStrContent::from(CStr::from_bytes_with_nul(ended.as_bytes()).ok()?))
     }
+
+    fn find_in<S: Watched>(&self, alloc: Global, table: &Table<CStrContent, S>) -> Found {
+        look_up(table, alloc, self.form())
+    }
+
+    fn read_in<S: Watched>(alloc: Global, table: &Table<CStrContent, S>, symbol: Symbol) -> Read {
+        look_at(table, alloc, symbol)
+    }
+
+    fn go_through<R: Abort, S: Watched>(
+        rt: &R,
+        alloc: Global,
+        table: &Table<CStrContent, S>,
+        steps: Steps,
+    ) {
+        walks(rt, alloc, table.c_strings(), steps.contents);
+        walk_pairs(rt, alloc, table, steps.pairs);
+    }
 }
 
 impl Made for PathContent {
@@ -68,6 +187,24 @@ impl Made for PathContent {
 
     fn borrowed(ended: &'static str) -> Option<PathContent> {
         Some(PathContent::from(ended.strip_suffix('\0')?))
+    }
+
+    fn find_in<S: Watched>(&self, alloc: Global, table: &Table<PathContent, S>) -> Found {
+        look_up(table, alloc, self.form())
+    }
+
+    fn read_in<S: Watched>(alloc: Global, table: &Table<PathContent, S>, symbol: Symbol) -> Read {
+        look_at(table, alloc, symbol)
+    }
+
+    fn go_through<R: Abort, S: Watched>(
+        rt: &R,
+        alloc: Global,
+        table: &Table<PathContent, S>,
+        steps: Steps,
+    ) {
+        walks(rt, alloc, table.paths(), steps.contents);
+        walk_pairs(rt, alloc, table, steps.pairs);
     }
 }
 

@@ -1,8 +1,7 @@
 //! Each public call of the core, made once on a table of random hashes.
 use super::builders::Fold;
 use super::telling::same;
-use crate::run::run;
-use crate::{Call, Core, Interner, Mark, RoomError, StrContent, Symbol, Work};
+use crate::{Call, Core, Interner, Mark, RoomError, StrContent, Symbol, Work, run};
 use std::alloc::Global;
 use std::hash::RandomState;
 use std::process::Abort;

@@ -1,10 +1,11 @@
 //! What a content feeds to a hasher: each item of its key, with a byte 255 after it.
 use super::hearing::{feeds, feeds_else};
 use crate::bstr::BStrContent;
+use crate::bytes::BytesContent;
 use crate::cstr::{CStr, CStrContent};
 use crate::osstr::OsStrContent;
 use crate::path::{Path, PathContent};
-use crate::{BytesContent, Keyed, Sought, StrContent, Work};
+use crate::{Formed, Keyed, Sought, StrContent, Work};
 use std::mem::size_of;
 use std::process::Abort;
 
@@ -36,7 +37,7 @@ fn bytes_feed_themselves_and_an_end(rt: HostRuntime) {
 fn byte_strings_feed_their_bytes_and_an_end(rt: HostRuntime) {
     let text = BStrContent::Borrowed(b"abc".as_slice().into());
     feeds::<BStrContent, BStrContent>(&rt, &text, &[b"abc", b"\xff"]);
-    feeds::<BStrContent, &[u8]>(&rt, &b"abc".as_slice(), &[b"abc", b"\xff"]);
+    feeds::<BStrContent, <BStrContent as Formed>::Form>(&rt, &text.form(), &[b"abc", b"\xff"]);
     feeds_else::<BStrContent, BStrContent>(&rt, &text, &[b"abc"]);
 }
 

@@ -1,9 +1,10 @@
 //! What contents give, and the iterators that all tables share.
 use super::telling::{holds, same};
 use crate::bstr::BStrContent;
+use crate::bytes::BytesContent;
 use crate::cstr::{CStr, CStrContent, CString};
 use crate::path::{Path, PathContent};
-use crate::{BytesContent, Formed, Forms, Keyed, Pairs, Sought, Spelled, StrContent, Symbol, Work};
+use crate::{Formed, Forms, Keyed, Pairs, Sought, Spelled, StrContent, Symbol, Work};
 use std::test::Fail;
 
 fn finds<C: Keyed, Q: Sought<C>>(sought: &Q, stored: &C) -> bool {
@@ -51,12 +52,13 @@ fn owned_and_borrowed_byte_strings_agree(rt: HostRuntime) -> Result<(), Fail> {
     same(&rt, owned.lend().as_bytes(), b"\x00\xff".as_slice());
     holds(&rt, is_spelled(&owned, b"\x00\xff"));
     holds(&rt, finds(&owned, &borrowed));
-    holds(&rt, finds(&owned.form().as_bytes(), &borrowed));
+    holds(&rt, finds(&owned.form(), &borrowed));
     holds(
         &rt,
         !finds(&BStrContent::Borrowed(b"\x00".as_slice().into()), &owned),
     );
-    holds(&rt, !finds(&b"".as_slice(), &borrowed));
+    let empty = BStrContent::Borrowed(b"".as_slice().into());
+    holds(&rt, !finds(&empty.form(), &borrowed));
     Ok(())
 }
 

@@ -2,8 +2,7 @@
 use super::contents::{Made, content, lent};
 use super::replies::said;
 use super::script::{Line, same, size, symbol};
-use crate::run::run;
-use crate::{Call, Interner, Mark, Reply, Work};
+use crate::{Call, Interner, Mark, Reply, Work, run};
 use std::alloc::Global;
 use std::process::Abort;
 

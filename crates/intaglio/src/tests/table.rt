@@ -1,17 +1,9 @@
-//! The calls of the six tables under one name, so that one test is run on each of them.
-//!
-//! Like calls stand together in one function, since each function is proved anew for each table.
+//! The calls of a table in a form that a script can make, for tables of any kind.
 use super::builders::{Fold, Watched};
-use super::contents::Made;
+use super::contents::{Made, Shown};
 use super::replies::{interned, paired, roomy, spelled, taken};
 use super::steps::{Steps, walks};
-use crate::bstr::BStrContent;
-use crate::cstr::CStrContent;
-use crate::path::PathContent;
-use crate::{
-    AllSymbols, BytesContent, Mark, Reply, RoomError, StrContent, Symbol, bstr, bytes, cstr, osstr,
-    path,
-};
+use crate::{AllSymbols, Formed, LookedUp, Mark, Reply, RoomError, Symbol};
 use std::alloc::Global;
 use std::process::Abort;
 
@@ -114,21 +106,66 @@ pub trait New: Table {
     fn make(alloc: Global, how: Make) -> Result<Self, RoomError>;
 }
 
-// What stands at the symbol as an index, if it was issued.
-macro_rules! at {
-    ($table:expr, $alloc:expr, $symbol:expr) => {
-        if $table.contains($symbol) {
-            spelled($alloc, Some($table[$symbol].form()))
-        } else {
-            Reply::Spelling(None)
-        }
+/// What the look-ups by a borrowed form answer.
+pub fn look_up<'a, C: Formed<'a> + LookedUp<'a>, S: Watched>(
+    table: &'a crate::Table<C, S>,
+    alloc: Global,
+    sought: <C as LookedUp<'a>>::By,
+) -> Found
+where
+    <C as LookedUp<'a>>::By: Copy,
+    C::Form: Shown,
+{
+    let check = Reply::Symbol(table.check_interned(sought));
+    let is = Reply::Bool(table.is_interned(sought));
+    let pair = match table.get_interned(sought) {
+        None => Reply::Pair(None),
+        Some((symbol, form)) => paired(alloc, symbol, form),
     };
+    Found { check, pair, is }
 }
 
-impl<S: Watched> Table for crate::SymbolTable<S> {
-    type Kind = StrContent;
+/// What the look-ups by a symbol answer.
+pub fn look_at<'a, C: Formed<'a>, S: Watched>(
+    table: &'a crate::Table<C, S>,
+    alloc: Global,
+    symbol: Symbol,
+) -> Read
+where
+    C::Form: Shown,
+{
+    let contains = table.contains(symbol);
+    let index = if contains {
+        spelled(alloc, Some(table[symbol].lend()))
+    } else {
+        Reply::Spelling(None)
+    };
+    let get = spelled(alloc, table.get(symbol));
+    Read {
+        contains,
+        get,
+        index,
+    }
+}
 
-    fn put(&mut self, content: StrContent) -> Reply {
+/// Goes through the symbols and forms of a table by steps.
+pub fn walk_pairs<'a, C: Formed<'a>, S: Watched>(
+    rt: &impl Abort,
+    alloc: Global,
+    table: &'a crate::Table<C, S>,
+    pairs: &str,
+)
+where
+    C::Form: Shown,
+{
+    walks(rt, alloc, table.iter(), pairs);
+    walks(rt, alloc, table.into_iter(), pairs);
+}
+
+impl<C: Made, S: Watched> Table for crate::Table<C, S> {
+    type Kind = C;
+
+    fn put(&mut self, content: C) -> Reply {
         interned(self.intern(content))
     }
 
@@ -146,22 +183,12 @@ impl<S: Watched> Table for crate::SymbolTable<S> {
         }
     }
 
-    fn find(&self, alloc: Global, sought: &StrContent) -> Found {
-        let check = Reply::Symbol(self.check_interned(sought.form()));
-        let is = Reply::Bool(self.is_interned(sought.form()));
-        let pair = match self.get_interned(sought.form()) {
-            None => Reply::Pair(None),
-            Some((symbol, form)) => paired(alloc, symbol, form),
-        };
-        Found { check, pair, is }
+    fn find(&self, alloc: Global, sought: &C) -> Found {
+        sought.find_in(alloc, self)
     }
 
     fn read(&self, alloc: Global, symbol: Symbol) -> Read {
-        Read {
-            contains: self.contains(symbol),
-            get: spelled(alloc, self.get(symbol)),
-            index: at!(self, alloc, symbol),
-        }
+        C::read_in(alloc, self, symbol)
     }
 
     fn counts(&self) -> Counts {
@@ -180,409 +207,22 @@ impl<S: Watched> Table for crate::SymbolTable<S> {
     }
 
     fn go<R: Abort>(&self, rt: &R, alloc: Global, steps: Steps) {
-        walks(rt, alloc, self.strings(), steps.contents);
-        walks(rt, alloc, self.iter(), steps.pairs);
-        walks(rt, alloc, self.into_iter(), steps.pairs);
+        C::go_through(rt, alloc, self, steps);
     }
 }
 
-impl New for crate::SymbolTable {
-    fn make(alloc: Global, how: Make) -> Result<crate::SymbolTable, RoomError> {
+impl<C: Made> New for crate::Table<C, Fold> {
+    fn make(alloc: Global, how: Make) -> Result<crate::Table<C, Fold>, RoomError> {
         match how {
-            Make::New => crate::SymbolTable::new(alloc),
-            Make::Rounded(capacity) => crate::SymbolTable::with_capacity(alloc, capacity),
-            Make::Usual => crate::SymbolTable::with_hasher(alloc, Fold::new()),
-            Make::Exact(capacity) => crate::SymbolTable::with_capacity_and_hasher(
+            Make::New => crate::Table::new(alloc),
+            Make::Rounded(capacity) => crate::Table::with_capacity(alloc, capacity),
+            Make::Usual => crate::Table::with_hasher(alloc, Fold::new()),
+            Make::Exact(capacity) => crate::Table::with_capacity_and_hasher(
                 alloc,
                 capacity,
                 Fold::new(),
             ),
-            Make::Limited(limit) => crate::SymbolTable::with_limit(alloc, limit, Fold::new()),
-        }
-    }
-}
-
-impl<S: Watched> Table for osstr::SymbolTable<S> {
-    type Kind = StrContent;
-
-    fn put(&mut self, content: StrContent) -> Reply {
-        interned(self.intern(content))
-    }
-
-    fn change(&mut self, change: Change) -> Reply {
-        match change {
-            Change::Reserve(additional) => roomy(self.reserve(additional)),
-            Change::TryReserve(additional) => roomy(self.try_reserve(additional)),
-            Change::ShrinkTo(capacity) => roomy(self.shrink_to(capacity)),
-            Change::ShrinkToFit => roomy(self.shrink_to_fit()),
-            Change::Clear => {
-                self.clear();
-                Reply::Done
-            }
-            Change::TakeBack(mark) => taken(self.take_back(mark)),
-        }
-    }
-
-    fn find(&self, alloc: Global, sought: &StrContent) -> Found {
-        let check = Reply::Symbol(self.check_interned(sought.form()));
-        let is = Reply::Bool(self.is_interned(sought.form()));
-        let pair = match self.get_interned(sought.form()) {
-            None => Reply::Pair(None),
-            Some((symbol, form)) => paired(alloc, symbol, form),
-        };
-        Found { check, pair, is }
-    }
-
-    fn read(&self, alloc: Global, symbol: Symbol) -> Read {
-        Read {
-            contains: self.contains(symbol),
-            get: spelled(alloc, self.get(symbol)),
-            index: at!(self, alloc, symbol),
-        }
-    }
-
-    fn counts(&self) -> Counts {
-        Counts {
-            len: self.len(),
-            is_empty: self.is_empty(),
-            capacity: self.capacity(),
-            limit: self.limit(),
-            mark: self.mark(),
-            hashers: self.hasher().made(),
-        }
-    }
-
-    fn symbols(&self) -> AllSymbols<'_> {
-        self.all_symbols()
-    }
-
-    fn go<R: Abort>(&self, rt: &R, alloc: Global, steps: Steps) {
-        walks(rt, alloc, self.os_strings(), steps.contents);
-        walks(rt, alloc, self.iter(), steps.pairs);
-        walks(rt, alloc, self.into_iter(), steps.pairs);
-    }
-}
-
-impl New for osstr::SymbolTable {
-    fn make(alloc: Global, how: Make) -> Result<osstr::SymbolTable, RoomError> {
-        match how {
-            Make::New => osstr::SymbolTable::new(alloc),
-            Make::Rounded(capacity) => osstr::SymbolTable::with_capacity(alloc, capacity),
-            Make::Usual => osstr::SymbolTable::with_hasher(alloc, Fold::new()),
-            Make::Exact(capacity) => osstr::SymbolTable::with_capacity_and_hasher(
-                alloc,
-                capacity,
-                Fold::new(),
-            ),
-            Make::Limited(limit) => osstr::SymbolTable::with_limit(alloc, limit, Fold::new()),
-        }
-    }
-}
-
-impl<S: Watched> Table for bytes::SymbolTable<S> {
-    type Kind = BytesContent;
-
-    fn put(&mut self, content: BytesContent) -> Reply {
-        interned(self.intern(content))
-    }
-
-    fn change(&mut self, change: Change) -> Reply {
-        match change {
-            Change::Reserve(additional) => roomy(self.reserve(additional)),
-            Change::TryReserve(additional) => roomy(self.try_reserve(additional)),
-            Change::ShrinkTo(capacity) => roomy(self.shrink_to(capacity)),
-            Change::ShrinkToFit => roomy(self.shrink_to_fit()),
-            Change::Clear => {
-                self.clear();
-                Reply::Done
-            }
-            Change::TakeBack(mark) => taken(self.take_back(mark)),
-        }
-    }
-
-    fn find(&self, alloc: Global, sought: &BytesContent) -> Found {
-        let check = Reply::Symbol(self.check_interned(sought.form()));
-        let is = Reply::Bool(self.is_interned(sought.form()));
-        let pair = match self.get_interned(sought.form()) {
-            None => Reply::Pair(None),
-            Some((symbol, form)) => paired(alloc, symbol, form),
-        };
-        Found { check, pair, is }
-    }
-
-    fn read(&self, alloc: Global, symbol: Symbol) -> Read {
-        Read {
-            contains: self.contains(symbol),
-            get: spelled(alloc, self.get(symbol)),
-            index: at!(self, alloc, symbol),
-        }
-    }
-
-    fn counts(&self) -> Counts {
-        Counts {
-            len: self.len(),
-            is_empty: self.is_empty(),
-            capacity: self.capacity(),
-            limit: self.limit(),
-            mark: self.mark(),
-            hashers: self.hasher().made(),
-        }
-    }
-
-    fn symbols(&self) -> AllSymbols<'_> {
-        self.all_symbols()
-    }
-
-    fn go<R: Abort>(&self, rt: &R, alloc: Global, steps: Steps) {
-        walks(rt, alloc, self.bytestrings(), steps.contents);
-        walks(rt, alloc, self.iter(), steps.pairs);
-        walks(rt, alloc, self.into_iter(), steps.pairs);
-    }
-}
-
-impl New for bytes::SymbolTable {
-    fn make(alloc: Global, how: Make) -> Result<bytes::SymbolTable, RoomError> {
-        match how {
-            Make::New => bytes::SymbolTable::new(alloc),
-            Make::Rounded(capacity) => bytes::SymbolTable::with_capacity(alloc, capacity),
-            Make::Usual => bytes::SymbolTable::with_hasher(alloc, Fold::new()),
-            Make::Exact(capacity) => bytes::SymbolTable::with_capacity_and_hasher(
-                alloc,
-                capacity,
-                Fold::new(),
-            ),
-            Make::Limited(limit) => bytes::SymbolTable::with_limit(alloc, limit, Fold::new()),
-        }
-    }
-}
-
-impl<S: Watched> Table for bstr::SymbolTable<S> {
-    type Kind = BStrContent;
-
-    fn put(&mut self, content: BStrContent) -> Reply {
-        interned(self.intern(content))
-    }
-
-    fn change(&mut self, change: Change) -> Reply {
-        match change {
-            Change::Reserve(additional) => roomy(self.reserve(additional)),
-            Change::TryReserve(additional) => roomy(self.try_reserve(additional)),
-            Change::ShrinkTo(capacity) => roomy(self.shrink_to(capacity)),
-            Change::ShrinkToFit => roomy(self.shrink_to_fit()),
-            Change::Clear => {
-                self.clear();
-                Reply::Done
-            }
-            Change::TakeBack(mark) => taken(self.take_back(mark)),
-        }
-    }
-
-    fn find(&self, alloc: Global, sought: &BStrContent) -> Found {
-        let check = Reply::Symbol(self.check_interned(sought.form()));
-        let is = Reply::Bool(self.is_interned(sought.form()));
-        let pair = match self.get_interned(sought.form()) {
-            None => Reply::Pair(None),
-            Some((symbol, form)) => paired(alloc, symbol, form),
-        };
-        Found { check, pair, is }
-    }
-
-    fn read(&self, alloc: Global, symbol: Symbol) -> Read {
-        Read {
-            contains: self.contains(symbol),
-            get: spelled(alloc, self.get(symbol)),
-            index: at!(self, alloc, symbol),
-        }
-    }
-
-    fn counts(&self) -> Counts {
-        Counts {
-            len: self.len(),
-            is_empty: self.is_empty(),
-            capacity: self.capacity(),
-            limit: self.limit(),
-            mark: self.mark(),
-            hashers: self.hasher().made(),
-        }
-    }
-
-    fn symbols(&self) -> AllSymbols<'_> {
-        self.all_symbols()
-    }
-
-    fn go<R: Abort>(&self, rt: &R, alloc: Global, steps: Steps) {
-        walks(rt, alloc, self.bstrings(), steps.contents);
-        walks(rt, alloc, self.iter(), steps.pairs);
-        walks(rt, alloc, self.into_iter(), steps.pairs);
-    }
-}
-
-impl New for bstr::SymbolTable {
-    fn make(alloc: Global, how: Make) -> Result<bstr::SymbolTable, RoomError> {
-        match how {
-            Make::New => bstr::SymbolTable::new(alloc),
-            Make::Rounded(capacity) => bstr::SymbolTable::with_capacity(alloc, capacity),
-            Make::Usual => bstr::SymbolTable::with_hasher(alloc, Fold::new()),
-            Make::Exact(capacity) => bstr::SymbolTable::with_capacity_and_hasher(
-                alloc,
-                capacity,
-                Fold::new(),
-            ),
-            Make::Limited(limit) => bstr::SymbolTable::with_limit(alloc, limit, Fold::new()),
-        }
-    }
-}
-
-impl<S: Watched> Table for cstr::SymbolTable<S> {
-    type Kind = CStrContent;
-
-    fn put(&mut self, content: CStrContent) -> Reply {
-        interned(self.intern(content))
-    }
-
-    fn change(&mut self, change: Change) -> Reply {
-        match change {
-            Change::Reserve(additional) => roomy(self.reserve(additional)),
-            Change::TryReserve(additional) => roomy(self.try_reserve(additional)),
-            Change::ShrinkTo(capacity) => roomy(self.shrink_to(capacity)),
-            Change::ShrinkToFit => roomy(self.shrink_to_fit()),
-            Change::Clear => {
-                self.clear();
-                Reply::Done
-            }
-            Change::TakeBack(mark) => taken(self.take_back(mark)),
-        }
-    }
-
-    fn find(&self, alloc: Global, sought: &CStrContent) -> Found {
-        let check = Reply::Symbol(self.check_interned(sought.form()));
-        let is = Reply::Bool(self.is_interned(sought.form()));
-        let pair = match self.get_interned(sought.form()) {
-            None => Reply::Pair(None),
-            Some((symbol, form)) => paired(alloc, symbol, form),
-        };
-        Found { check, pair, is }
-    }
-
-    fn read(&self, alloc: Global, symbol: Symbol) -> Read {
-        Read {
-            contains: self.contains(symbol),
-            get: spelled(alloc, self.get(symbol)),
-            index: at!(self, alloc, symbol),
-        }
-    }
-
-    fn counts(&self) -> Counts {
-        Counts {
-            len: self.len(),
-            is_empty: self.is_empty(),
-            capacity: self.capacity(),
-            limit: self.limit(),
-            mark: self.mark(),
-            hashers: self.hasher().made(),
-        }
-    }
-
-    fn symbols(&self) -> AllSymbols<'_> {
-        self.all_symbols()
-    }
-
-    fn go<R: Abort>(&self, rt: &R, alloc: Global, steps: Steps) {
-        walks(rt, alloc, self.c_strings(), steps.contents);
-        walks(rt, alloc, self.iter(), steps.pairs);
-        walks(rt, alloc, self.into_iter(), steps.pairs);
-    }
-}
-
-impl New for cstr::SymbolTable {
-    fn make(alloc: Global, how: Make) -> Result<cstr::SymbolTable, RoomError> {
-        match how {
-            Make::New => cstr::SymbolTable::new(alloc),
-            Make::Rounded(capacity) => cstr::SymbolTable::with_capacity(alloc, capacity),
-            Make::Usual => cstr::SymbolTable::with_hasher(alloc, Fold::new()),
-            Make::Exact(capacity) => cstr::SymbolTable::with_capacity_and_hasher(
-                alloc,
-                capacity,
-                Fold::new(),
-            ),
-            Make::Limited(limit) => cstr::SymbolTable::with_limit(alloc, limit, Fold::new()),
-        }
-    }
-}
-
-impl<S: Watched> Table for path::SymbolTable<S> {
-    type Kind = PathContent;
-
-    fn put(&mut self, content: PathContent) -> Reply {
-        interned(self.intern(content))
-    }
-
-    fn change(&mut self, change: Change) -> Reply {
-        match change {
-            Change::Reserve(additional) => roomy(self.reserve(additional)),
-            Change::TryReserve(additional) => roomy(self.try_reserve(additional)),
-            Change::ShrinkTo(capacity) => roomy(self.shrink_to(capacity)),
-            Change::ShrinkToFit => roomy(self.shrink_to_fit()),
-            Change::Clear => {
-                self.clear();
-                Reply::Done
-            }
-            Change::TakeBack(mark) => taken(self.take_back(mark)),
-        }
-    }
-
-    fn find(&self, alloc: Global, sought: &PathContent) -> Found {
-        let check = Reply::Symbol(self.check_interned(sought.form()));
-        let is = Reply::Bool(self.is_interned(sought.form()));
-        let pair = match self.get_interned(sought.form()) {
-            None => Reply::Pair(None),
-            Some((symbol, form)) => paired(alloc, symbol, form),
-        };
-        Found { check, pair, is }
-    }
-
-    fn read(&self, alloc: Global, symbol: Symbol) -> Read {
-        Read {
-            contains: self.contains(symbol),
-            get: spelled(alloc, self.get(symbol)),
-            index: at!(self, alloc, symbol),
-        }
-    }
-
-    fn counts(&self) -> Counts {
-        Counts {
-            len: self.len(),
-            is_empty: self.is_empty(),
-            capacity: self.capacity(),
-            limit: self.limit(),
-            mark: self.mark(),
-            hashers: self.hasher().made(),
-        }
-    }
-
-    fn symbols(&self) -> AllSymbols<'_> {
-        self.all_symbols()
-    }
-
-    fn go<R: Abort>(&self, rt: &R, alloc: Global, steps: Steps) {
-        walks(rt, alloc, self.paths(), steps.contents);
-        walks(rt, alloc, self.iter(), steps.pairs);
-        walks(rt, alloc, self.into_iter(), steps.pairs);
-    }
-}
-
-impl New for path::SymbolTable {
-    fn make(alloc: Global, how: Make) -> Result<path::SymbolTable, RoomError> {
-        match how {
-            Make::New => path::SymbolTable::new(alloc),
-            Make::Rounded(capacity) => path::SymbolTable::with_capacity(alloc, capacity),
-            Make::Usual => path::SymbolTable::with_hasher(alloc, Fold::new()),
-            Make::Exact(capacity) => path::SymbolTable::with_capacity_and_hasher(
-                alloc,
-                capacity,
-                Fold::new(),
-            ),
-            Make::Limited(limit) => path::SymbolTable::with_limit(alloc, limit, Fold::new()),
+            Make::Limited(limit) => crate::Table::with_limit(alloc, limit, Fold::new()),
         }
     }
 }

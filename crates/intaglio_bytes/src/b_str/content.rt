@@ -4,13 +4,14 @@ ghost use Rattle.bstr.specs.BStr.{bstr_bytes};
 ghost use Rattle.intaglio_bytes.specs.BStrContent.{bstr_content_bytes};
 
 use bstr::{BStr, BString};
-use intaglio_content::{Content, Formed, Keyed, Sought, Spelled, Work, hash_bytes, same_bytes};
+use intaglio_content::{
+    Content, Formed, Keyed, LookedUp, Sought, Spelled, Work, hash_bytes, same_bytes,
+};
 use std::hash::BuildHasher;
 
 /// A byte string that a table stores. Its spelling is its bytes, and its key is that one item.
 ///
-/// It is kept as it was handed in: nothing is copied, and an owned one keeps its spare capacity. It is looked up by the
-/// bytes, as `&[u8]`.
+/// It is kept as it was handed in: nothing is copied, and an owned one keeps its spare capacity.
 ///
 /// ```
 /// let content = BStrContent::from(BStr::new(b"abc"));
@@ -84,26 +85,28 @@ impl<'a> Formed<'a> for BStrContent {
     }
 }
 
+impl<'q> LookedUp<'q> for BStrContent {
+    type By = BStr<'q>;
+}
+
 impl Sought<BStrContent> for BStrContent {
     fn hash_with<S: BuildHasher>(&self, builder: &S, work: &mut Work) -> u64 {
-        work.hashed(self);
-        hash_bytes(self.form().as_bytes(), builder)
+        self.form().hash_with(builder, work)
     }
 
     fn same_as(&self, stored: &BStrContent, work: &mut Work) -> bool {
-        work.compared(self, stored);
-        same_bytes(self.form().as_bytes(), stored.form().as_bytes())
+        self.form().same_as(stored, work)
     }
 }
 
-impl Sought<BStrContent> for &[u8] {
+impl<'a> Sought<BStrContent> for BStr<'a> {
     fn hash_with<S: BuildHasher>(&self, builder: &S, work: &mut Work) -> u64 {
         work.hashed(self);
-        hash_bytes(*self, builder)
+        hash_bytes(self.as_bytes(), builder)
     }
 
     fn same_as(&self, stored: &BStrContent, work: &mut Work) -> bool {
         work.compared(self, stored);
-        same_bytes(*self, stored.form().as_bytes())
+        same_bytes(self.as_bytes(), stored.form().as_bytes())
     }
 }
