@@ -10,7 +10,7 @@ pub mod laws;
 pub use intaglio_bytes::{b_str as bstr, bytes};
 pub use intaglio_core::run::run;
 pub use intaglio_core::{
-    AllSymbols, Call, Content, Core, DEFAULT_SYMBOL_TABLE_CAPACITY, Formed, Forms, Index,
+    AllSymbols, Bytewise, Call, Content, Core, DEFAULT_SYMBOL_TABLE_CAPACITY, Formed, Forms, Index,
     InternError, Interner, Keyed, LookedUp, Mark, Pairs, Reply, RoomError, Sought, Spelled,
     StaleMark, Symbol, SymbolOverflowError, Work, intern_all,
 };

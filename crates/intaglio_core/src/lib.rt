@@ -13,8 +13,7 @@ mod walk;
 
 pub use batch::intern_all;
 pub use intaglio_content::{
-    Content, Formed, Forms, Keyed, LookedUp, Pairs, Sought, Spelled, Work, feed_item, hash_bytes,
-    same_bytes,
+    Bytewise, Content, Formed, Forms, Keyed, LookedUp, Pairs, Sought, Spelled, Work, feed_item,
 };
 pub use intaglio_index::Index;
 pub use intaglio_symbol::{

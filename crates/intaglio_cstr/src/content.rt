@@ -1,18 +1,15 @@
 //! C strings as contents.
-ghost use Rattle.std.specs.Prelude.{◌≡◌, [], ◌∷◌, refl};
+ghost use Rattle.std.specs.Prelude.{◌≡◌};
 ghost use Rattle.intaglio_cstr.specs.CStr.{c_str_spelling};
 ghost use Rattle.intaglio_cstr.specs.CStrContent.{c_str_content_bytes};
 
 use crate::c_str::CStr;
 use crate::c_string::CString;
-use intaglio_content::{
-    Content, Formed, Keyed, LookedUp, Sought, Spelled, Work, hash_bytes, same_bytes,
-};
-use std::hash::BuildHasher;
+use intaglio_content::{Bytewise, Formed, LookedUp};
 
 /// A C string that a table stores. Its spelling is its bytes before the ending zero, and its key is that one item.
 ///
-/// It is kept as it was handed in: nothing is copied, and an owned one keeps its spare capacity.
+/// It is kept as it was passed in: nothing is copied, and an owned one keeps its spare capacity.
 ///
 /// ```
 /// let content = CStrContent::from(CStr::from_bytes_with_nul(b"abc\x00")?);
@@ -58,24 +55,18 @@ impl From<CString> for CStrContent {
     }
 }
 
-impl Keyed for CStrContent {
-    ghost key = { λ content. c_str_content_bytes content ∷ [] };
+impl<'a> Bytewise for CStr<'a> {
+    ghost bytes = { c_str_spelling };
+
+    fn compared_bytes(&self) -> &[u8] {
+        self.to_bytes()
+    }
 }
 
-impl<'a> Keyed for CStr<'a> {
-    ghost key = { λ text. c_str_spelling text ∷ [] };
-}
+impl Bytewise for CStrContent {
+    ghost bytes = { c_str_content_bytes };
 
-impl Content for CStrContent {
-    ghost spelling = { c_str_content_bytes };
-
-    ghost key_of = { λ bytes. bytes ∷ [] };
-
-    ghost key_of_spelling = { λ _. refl };
-}
-
-impl Spelled for CStrContent {
-    fn spelling(&self) -> &[u8] {
+    fn compared_bytes(&self) -> &[u8] {
         self.form().to_bytes()
     }
 }
@@ -92,26 +83,4 @@ impl<'a> Formed<'a> for CStrContent {
 
 impl<'q> LookedUp<'q> for CStrContent {
     type By = CStr<'q>;
-}
-
-impl Sought<CStrContent> for CStrContent {
-    fn hash_with<S: BuildHasher>(&self, builder: &S, work: &mut Work) -> u64 {
-        self.form().hash_with(builder, work)
-    }
-
-    fn same_as(&self, stored: &CStrContent, work: &mut Work) -> bool {
-        self.form().same_as(stored, work)
-    }
-}
-
-impl<'a> Sought<CStrContent> for CStr<'a> {
-    fn hash_with<S: BuildHasher>(&self, builder: &S, work: &mut Work) -> u64 {
-        work.hashed(self);
-        hash_bytes(self.to_bytes(), builder)
-    }
-
-    fn same_as(&self, stored: &CStrContent, work: &mut Work) -> bool {
-        work.compared(self, stored);
-        same_bytes(self.to_bytes(), stored.form().to_bytes())
-    }
 }

@@ -1,15 +1,12 @@
 //! Texts as contents.
-ghost use Rattle.std.specs.Prelude.{◌≡◌, [], ◌∷◌, refl};
+ghost use Rattle.std.specs.Prelude.{◌≡◌};
 ghost use Rattle.intaglio_text.specs.StrContent.{str_content_bytes};
 
-use intaglio_content::{
-    Content, Formed, Keyed, LookedUp, Sought, Spelled, Work, hash_bytes, same_bytes,
-};
-use std::hash::BuildHasher;
+use intaglio_content::{Bytewise, Formed, LookedUp};
 
 /// A text that a table stores. Its spelling is its UTF-8 bytes, and its key is that one item.
 ///
-/// It is kept as it was handed in: nothing is copied, and an owned text keeps its spare capacity.
+/// It is kept as it was passed in: nothing is copied, and an owned text keeps its spare capacity.
 ///
 /// ```
 /// assert!(StrContent::from("abc").form() == "abc");
@@ -54,20 +51,10 @@ impl From<String> for StrContent {
     }
 }
 
-impl Keyed for StrContent {
-    ghost key = { λ content. str_content_bytes content ∷ [] };
-}
+impl Bytewise for StrContent {
+    ghost bytes = { str_content_bytes };
 
-impl Content for StrContent {
-    ghost spelling = { str_content_bytes };
-
-    ghost key_of = { λ bytes. bytes ∷ [] };
-
-    ghost key_of_spelling = { λ _. refl };
-}
-
-impl Spelled for StrContent {
-    fn spelling(&self) -> &[u8] {
+    fn compared_bytes(&self) -> &[u8] {
         self.form().as_bytes()
     }
 }
@@ -84,26 +71,4 @@ impl<'a> Formed<'a> for StrContent {
 
 impl<'q> LookedUp<'q> for StrContent {
     type By = &'q str;
-}
-
-impl Sought<StrContent> for StrContent {
-    fn hash_with<S: BuildHasher>(&self, builder: &S, work: &mut Work) -> u64 {
-        Sought::<StrContent>::hash_with(&self.form(), builder, work)
-    }
-
-    fn same_as(&self, stored: &StrContent, work: &mut Work) -> bool {
-        self.form().same_as(stored, work)
-    }
-}
-
-impl Sought<StrContent> for &str {
-    fn hash_with<S: BuildHasher>(&self, builder: &S, work: &mut Work) -> u64 {
-        work.hashed(self);
-        hash_bytes(self.as_bytes(), builder)
-    }
-
-    fn same_as(&self, stored: &StrContent, work: &mut Work) -> bool {
-        work.compared(self, stored);
-        same_bytes(self.as_bytes(), stored.form().as_bytes())
-    }
 }

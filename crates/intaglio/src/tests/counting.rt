@@ -30,7 +30,7 @@ impl Keyed for Counting {
 
 impl Sought<Counting> for Counting {
     fn hash_with<S: BuildHasher>(&self, builder: &S, work: &mut Work) -> u64 {
-        self.text.hash_with(builder, work)
+        Sought::<StrContent>::hash_with(&self.text, builder, work)
     }
 
     fn same_as(&self, stored: &Counting, work: &mut Work) -> bool {

@@ -1,17 +1,14 @@
 //! Byte strings of the crate `bstr` as contents.
-ghost use Rattle.std.specs.Prelude.{◌≡◌, [], ◌∷◌, refl};
+ghost use Rattle.std.specs.Prelude.{◌≡◌};
 ghost use Rattle.bstr.specs.BStr.{bstr_bytes};
 ghost use Rattle.intaglio_bytes.specs.BStrContent.{bstr_content_bytes};
 
 use bstr::{BStr, BString};
-use intaglio_content::{
-    Content, Formed, Keyed, LookedUp, Sought, Spelled, Work, hash_bytes, same_bytes,
-};
-use std::hash::BuildHasher;
+use intaglio_content::{Bytewise, Formed, LookedUp};
 
 /// A byte string that a table stores. Its spelling is its bytes, and its key is that one item.
 ///
-/// It is kept as it was handed in: nothing is copied, and an owned one keeps its spare capacity.
+/// It is kept as it was passed in: nothing is copied, and an owned one keeps its spare capacity.
 ///
 /// ```
 /// let content = BStrContent::from(BStr::new(b"abc"));
@@ -57,20 +54,10 @@ impl From<BString> for BStrContent {
     }
 }
 
-impl Keyed for BStrContent {
-    ghost key = { λ content. bstr_content_bytes content ∷ [] };
-}
+impl Bytewise for BStrContent {
+    ghost bytes = { bstr_content_bytes };
 
-impl Content for BStrContent {
-    ghost spelling = { bstr_content_bytes };
-
-    ghost key_of = { λ bytes. bytes ∷ [] };
-
-    ghost key_of_spelling = { λ _. refl };
-}
-
-impl Spelled for BStrContent {
-    fn spelling(&self) -> &[u8] {
+    fn compared_bytes(&self) -> &[u8] {
         self.form().as_bytes()
     }
 }
@@ -87,26 +74,4 @@ impl<'a> Formed<'a> for BStrContent {
 
 impl<'q> LookedUp<'q> for BStrContent {
     type By = BStr<'q>;
-}
-
-impl Sought<BStrContent> for BStrContent {
-    fn hash_with<S: BuildHasher>(&self, builder: &S, work: &mut Work) -> u64 {
-        self.form().hash_with(builder, work)
-    }
-
-    fn same_as(&self, stored: &BStrContent, work: &mut Work) -> bool {
-        self.form().same_as(stored, work)
-    }
-}
-
-impl<'a> Sought<BStrContent> for BStr<'a> {
-    fn hash_with<S: BuildHasher>(&self, builder: &S, work: &mut Work) -> u64 {
-        work.hashed(self);
-        hash_bytes(self.as_bytes(), builder)
-    }
-
-    fn same_as(&self, stored: &BStrContent, work: &mut Work) -> bool {
-        work.compared(self, stored);
-        same_bytes(self.as_bytes(), stored.form().as_bytes())
-    }
 }

@@ -1,15 +1,12 @@
 //! Byte strings as contents.
-ghost use Rattle.std.specs.Prelude.{◌≡◌, [], ◌∷◌, refl};
+ghost use Rattle.std.specs.Prelude.{◌≡◌};
 ghost use Rattle.intaglio_bytes.specs.BytesContent.{bytes_content_bytes};
 
-use intaglio_content::{
-    Content, Formed, Keyed, LookedUp, Sought, Spelled, Work, hash_bytes, same_bytes,
-};
-use std::hash::BuildHasher;
+use intaglio_content::{Bytewise, Formed, LookedUp};
 
 /// A byte string that a table stores. Its spelling is its bytes, and its key is that one item.
 ///
-/// It is kept as it was handed in: nothing is copied, and an owned vector keeps its spare capacity.
+/// It is kept as it was passed in: nothing is copied, and an owned vector keeps its spare capacity.
 ///
 /// ```
 /// assert!(BytesContent::from(b"\x00\xff".as_slice()).form().len() == 2);
@@ -54,20 +51,10 @@ impl From<Vec<u8>> for BytesContent {
     }
 }
 
-impl Keyed for BytesContent {
-    ghost key = { λ content. bytes_content_bytes content ∷ [] };
-}
+impl Bytewise for BytesContent {
+    ghost bytes = { bytes_content_bytes };
 
-impl Content for BytesContent {
-    ghost spelling = { bytes_content_bytes };
-
-    ghost key_of = { λ bytes. bytes ∷ [] };
-
-    ghost key_of_spelling = { λ _. refl };
-}
-
-impl Spelled for BytesContent {
-    fn spelling(&self) -> &[u8] {
+    fn compared_bytes(&self) -> &[u8] {
         self.form()
     }
 }
@@ -84,26 +71,4 @@ impl<'a> Formed<'a> for BytesContent {
 
 impl<'q> LookedUp<'q> for BytesContent {
     type By = &'q [u8];
-}
-
-impl Sought<BytesContent> for BytesContent {
-    fn hash_with<S: BuildHasher>(&self, builder: &S, work: &mut Work) -> u64 {
-        self.form().hash_with(builder, work)
-    }
-
-    fn same_as(&self, stored: &BytesContent, work: &mut Work) -> bool {
-        self.form().same_as(stored, work)
-    }
-}
-
-impl Sought<BytesContent> for &[u8] {
-    fn hash_with<S: BuildHasher>(&self, builder: &S, work: &mut Work) -> u64 {
-        work.hashed(self);
-        hash_bytes(*self, builder)
-    }
-
-    fn same_as(&self, stored: &BytesContent, work: &mut Work) -> bool {
-        work.compared(self, stored);
-        same_bytes(*self, stored.form())
-    }
 }

@@ -1,15 +1,12 @@
 //! Platform strings as contents. They are UTF-8 texts here.
-ghost use Rattle.std.specs.Prelude.{◌≡◌, [], ◌∷◌, refl};
+ghost use Rattle.std.specs.Prelude.{◌≡◌};
 ghost use Rattle.intaglio_text.specs.OsStrContent.{os_str_content_bytes};
 
-use intaglio_content::{
-    Content, Formed, Keyed, LookedUp, Sought, Spelled, Work, hash_bytes, same_bytes,
-};
-use std::hash::BuildHasher;
+use intaglio_content::{Bytewise, Formed, LookedUp};
 
 /// A platform string that a table stores: a UTF-8 text. Its spelling is its bytes, and its key is that one item.
 ///
-/// It is kept as it was handed in: nothing is copied, and an owned text keeps its spare capacity.
+/// It is kept as it was passed in: nothing is copied, and an owned text keeps its spare capacity.
 ///
 /// ```
 /// assert!(OsStrContent::from("abc").form() == "abc");
@@ -54,20 +51,10 @@ impl From<String> for OsStrContent {
     }
 }
 
-impl Keyed for OsStrContent {
-    ghost key = { λ content. os_str_content_bytes content ∷ [] };
-}
+impl Bytewise for OsStrContent {
+    ghost bytes = { os_str_content_bytes };
 
-impl Content for OsStrContent {
-    ghost spelling = { os_str_content_bytes };
-
-    ghost key_of = { λ bytes. bytes ∷ [] };
-
-    ghost key_of_spelling = { λ _. refl };
-}
-
-impl Spelled for OsStrContent {
-    fn spelling(&self) -> &[u8] {
+    fn compared_bytes(&self) -> &[u8] {
         self.form().as_bytes()
     }
 }
@@ -84,26 +71,4 @@ impl<'a> Formed<'a> for OsStrContent {
 
 impl<'q> LookedUp<'q> for OsStrContent {
     type By = &'q str;
-}
-
-impl Sought<OsStrContent> for OsStrContent {
-    fn hash_with<S: BuildHasher>(&self, builder: &S, work: &mut Work) -> u64 {
-        Sought::<OsStrContent>::hash_with(&self.form(), builder, work)
-    }
-
-    fn same_as(&self, stored: &OsStrContent, work: &mut Work) -> bool {
-        self.form().same_as(stored, work)
-    }
-}
-
-impl Sought<OsStrContent> for &str {
-    fn hash_with<S: BuildHasher>(&self, builder: &S, work: &mut Work) -> u64 {
-        work.hashed(self);
-        hash_bytes(self.as_bytes(), builder)
-    }
-
-    fn same_as(&self, stored: &OsStrContent, work: &mut Work) -> bool {
-        work.compared(self, stored);
-        same_bytes(self.as_bytes(), stored.form().as_bytes())
-    }
 }
