@@ -1,6 +1,6 @@
 //! A text that counts its comparisons, as a content and as a sought value.
 ghost use Rattle.std.specs.Prelude.{[], ◌∷◌};
-ghost use Rattle.intaglio_content.specs.StrContent.{str_content_bytes};
+ghost use Rattle.intaglio_text.specs.StrContent.{str_content_bytes};
 
 use crate::{Keyed, Sought, StrContent, Work};
 use std::alloc::{AllocError, Global};
