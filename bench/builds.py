@@ -5,6 +5,7 @@ import shutil
 import subprocess
 import sys
 from datetime import date
+from pathlib import Path
 
 # The processor that the toolchain compiles for, so that both programs may use the same instructions.
 PROCESSOR = "x86-64-v2"
@@ -23,10 +24,19 @@ osstr = []
 path = []
 """
 
+# Where Debian's packages of Rust crates put their sources. hashbrown is in librust-hashbrown-dev.
+REGISTRY = Path("/usr/share/cargo/registry")
+
+HASHBROWN = """
+[dependencies.hashbrown]
+version = "0.12"
+features = ["raw"]
+"""
+
 
 def build_ours(top):
     """Proves and builds the program in crates/bench."""
-    run(["rt", "run", "--", "check", "keyed", "0", "300", "1"], top / "crates/bench")
+    run(["rt", "run", "--", "check", "both", "keyed", "0", "300", "1"], top / "crates/bench")
     return top / "crates/bench/out/bench"
 
 
@@ -48,10 +58,23 @@ def build_twin(top, scratch, upstream, name="twin"):
         path.parent.mkdir(parents=True, exist_ok=True)
         shutil.copyfile(file, path)
     (crate / "Cargo.toml").write_text(MANIFEST)
-    shutil.copytree(top / "bench/rust", scratch / "twin", dirs_exist_ok=True)
-    flags = {"RUSTFLAGS": f"-C target-cpu={PROCESSOR}"}
-    run(["cargo", "build", "--release", "--offline"], scratch / "twin", flags)
-    return scratch / "twin/target/release" / name
+    twin = scratch / "twin"
+    shutil.rmtree(twin / "src", ignore_errors=True)
+    shutil.copytree(top / "bench/rust", twin, dirs_exist_ok=True)
+    build = ["cargo", "build", "--release", "--offline"]
+    if hashbrown():
+        with open(twin / "Cargo.toml", "a") as manifest:
+            manifest.write(HASHBROWN)
+        build += ["--features", "rivals", "--config", 'source.crates-io.replace-with="debian"']
+        build += ["--config", f'source.debian.directory="{REGISTRY}"']
+    (twin / "Cargo.lock").unlink(missing_ok=True)
+    run(build, twin, {"RUSTFLAGS": f"-C target-cpu={PROCESSOR}"})
+    return twin / "target/release" / name
+
+
+def hashbrown():
+    """Debian's hashbrown by its name and version, or None where it isn't there."""
+    return next((path.name for path in sorted(REGISTRY.glob("hashbrown-0.12.*"))), None)
 
 
 def run(command, folder, more=None):
@@ -75,11 +98,10 @@ def conditions(top, ends=False):
     if ends:
         return [f"- load averages at the end: {load}"]
     return [
-        f"- made by `bench/run` on {date.today()}, of {commit(top)}",
+        f"- made by `bench/{Path(sys.argv[0]).name}` on {date.today()}, of {commit(top)}",
         f"- {run(['rt', 'version'], top)}",
         f"- {run(['rustc', '--version'], top)}, opt-level 3, one codegen unit, link-time optimisation, {PROCESSOR}",
         f"- {processor()}, {os.cpu_count()} processors",
-        "- the least time of all turns; both programs by turns, one at a time",
         f"- load averages at the start: {load}",
     ]
 

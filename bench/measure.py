@@ -1,69 +1,66 @@
-"""Both programs are run in turn, and what they print is read."""
+"""The programs are run in turn, and what they print is read."""
 
 import os
 import subprocess
 import sys
 
-# Builder and capacity. `usual` is each side's default builder, `keyed` is `RandomState` on both sides.
-CONFIGURATIONS = [
-    ("usual", "grown"),
-    ("usual", "reserved"),
-    ("keyed", "grown"),
-    ("keyed", "reserved"),
-]
+from comparisons import CAPACITIES, COMPARISONS, HASHINGS, OURS, RIVALS, Run, runs_of
 
 # How many tables a process fills one after the other, so that each process takes long enough.
-TURNS = {1_000: 200, 10_000: 30, 100_000: 6, 1_000_000: 2, 4_000_000: 1}
+FILLS = {1_000: 200, 10_000: 30, 100_000: 6, 1_000_000: 2, 4_000_000: 1}
 
 
-def measure(programs, sizes, is_quick):
-    """The least nanoseconds by (operation, size, builder, capacity, side)."""
+def measure(programs, sizes, turns, has_rivals):
+    """Rows of turn, run, operation and its least nanoseconds; and the highest load average meanwhile."""
+    runs = [("time", run) for run in runs_of(sizes, has_rivals)]
+    runs += [("hash", run) for run in dict.fromkeys(run for _, *pair in HASHINGS for run in pair)]
+    rows, sums, load = [], {}, 0.0
+    for turn in range(1, turns + 1):
+        for task, run in runs:
+            print(f"turn {turn} of {turns}: {task} {' '.join(map(str, run))}", file=sys.stderr)
+            for operation, nanoseconds in least_times(programs, task, run, sums).items():
+                rows.append([turn, *run, operation, nanoseconds])
+            load = max(load, os.getloadavg()[0])
+    return rows, load
+
+
+def least_times(programs, task, run, sums):
+    """The least nanoseconds for each operation. The sum that an operation finds must be the same wherever it is run."""
     least = {}
-    for size in sizes:
-        for number in range(rounds(size, is_quick)):
-            for builder, capacity in CONFIGURATIONS:
-                words = [builder, room(builder, capacity, size), size, TURNS[size]]
-                sums = {}
-                for side, program in programs.items():
-                    print(f"{side} {size} {builder} {capacity}, round {number}", file=sys.stderr)
-                    for line in output([program, "time", *words]).splitlines():
-                        operation, _, nanoseconds, found = line.split()
-                        key = (operation, size, builder, capacity, side)
-                        least[key] = min(float(nanoseconds), least.get(key, float("inf")))
-                        if sums.setdefault(operation, found) != found:
-                            sys.exit(f"bench/run: the sums of {operation} differ: {line}")
+    for line in output([*command(programs, task, run), FILLS[run.size]]).splitlines():
+        operation, _, nanoseconds, found = line.split()
+        least[operation] = min(float(nanoseconds), least.get(operation, float("inf")))
+        # Hashes differ under random keys.
+        is_fixed = task != "hash" or run.hashing == "fold"
+        if is_fixed and sums.setdefault((operation, run.size), found) != found:
+            sys.exit(f"bench/run: the sums of {operation} differ: {run}, {line}")
     return least
 
 
-def rounds(size, is_quick):
-    """How often each program is run."""
-    if is_quick:
-        return 2
-    return 5 if size < 1_000_000 else 3
+def command(programs, task, run):
+    """The words that run a program, but for the last."""
+    program = programs["ours" if run.table in OURS else "rust"]
+    return [program, task, run.table, run.hashing, run.capacity, run.size]
 
 
-def room(builder, capacity, size):
-    """The capacity that a table begins with. `with_capacity` rounds it up to a power of two."""
-    if capacity == "grown":
-        return 0
-    return 1 << (size - 1).bit_length() if builder == "usual" else size
-
-
-def memory(programs, sizes):
-    """Bytes for each symbol by (size, capacity, side): resident at the end, and at most; and the texts' own bytes."""
-    held = {}
+def memory(programs, sizes, has_rivals):
+    """Rows of bytes for each symbol: resident at the end, and at most; and the texts' own bytes."""
+    comparison = COMPARISONS["sip"]
+    rows = []
     for size in sizes:
-        for capacity in ["grown", "reserved"]:
-            for side, program in programs.items():
-                empty = resident(program, 0, 0)
-                full = resident(program, room("keyed", capacity, size), size)
-                held[size, capacity, side] = [(full[i] - empty[i]) / size for i in range(3)]
-    return held
+        for capacity in CAPACITIES:
+            for side in [comparison.base, *comparison.sides[:3]]:
+                if has_rivals or side.table not in RIVALS:
+                    run = comparison.run(side, capacity, size)
+                    empty = resident(programs, Run(side.table, side.hashing, 0, 0))
+                    full = resident(programs, run)
+                    rows += [[1, *run, name, (full[name] - empty[name]) / size] for name in full]
+    return rows
 
 
-def resident(program, capacity, size):
+def resident(programs, run):
     """What a process holds that only fills a table, in bytes: at its end, at most, and of text."""
-    words = [program, "hold", "keyed", capacity, size, 1]
+    words = [*command(programs, "hold", run), 1]
     with subprocess.Popen(
         [str(word) for word in words], stdin=subprocess.PIPE, stdout=subprocess.PIPE, text=True
     ) as process:
@@ -71,7 +68,8 @@ def resident(program, capacity, size):
         with open(f"/proc/{process.pid}/status") as lines:
             status = dict(line.split(":", 1) for line in lines)
         process.communicate("")
-    return [int(status[name].split()[0]) * 1024 for name in ["VmRSS", "VmHWM"]] + [text]
+    held = {"resident": "VmRSS", "most": "VmHWM"}
+    return {name: int(status[line].split()[0]) * 1024 for name, line in held.items()} | {"text": text}
 
 
 def output(words):

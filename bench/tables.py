@@ -1,8 +1,16 @@
-"""Tables of what was measured."""
+#!/usr/bin/env python3
+"""Tables of what was measured.
+
+    bench/tables.py RESULTS
+
+prints them from the file results.csv that bench/run writes.
+"""
 
 import csv
+import sys
 
-from measure import CONFIGURATIONS
+sys.dont_write_bytecode = True
+from comparisons import CAPACITIES, COMPARISONS, HASHINGS, Run  # noqa: E402
 
 OPERATIONS = {
     "new": "intern new owned words",
@@ -15,45 +23,127 @@ OPERATIONS = {
     "refill": "fill again after clear",
 }
 
+COLUMNS = ["turn", "table", "hashing", "capacity", "size", "operation", "value"]
 
-def ratio_tables(times, sizes):
-    """A table for each configuration: the ratios, ours over Rust's, with both times in nanoseconds."""
-    lines = []
-    for builder, capacity in CONFIGURATIONS:
-        lines += [f"## builder {builder}, capacity {capacity}: ours over Rust's (nanoseconds for each word, ours / Rust's)", ""]
-        lines += ["| | " + " | ".join(f"{size:,}" for size in sizes) + " |"]
-        lines += ["|---|" + "---|" * len(sizes)]
-        for operation, name in OPERATIONS.items():
-            cells = []
-            for size in sizes:
-                ours = times[operation, size, builder, capacity, "ours"]
-                rust = times[operation, size, builder, capacity, "rust"]
-                cells.append(f"**{ours / max(rust, 0.01):.2f}** ({ours:.1f} / {rust:.1f})")
-            lines.append(f"| {name} | " + " | ".join(cells) + " |")
-        lines.append("")
-    return "\n".join(lines)
+LEGEND = """Each cell is a time over that of the Rust crate `intaglio` in the same row and column: the least of all turns over the least of
+all turns. Below 1 it is less than the Rust crate's. In brackets stand the Rust crate's nanoseconds for each word.
+
+- ours: the proved table
+- boxes: hashbrown's table of numbers beside a list of boxed strings
+- buffer: hashbrown's table of numbers beside one buffer of text, as the crates `string-interner` and `lasso` have it
+- grown: the table begins with no capacity; reserved: it begins with that of all words
+"""
 
 
-def memory_table(held):
-    """Bytes for each symbol."""
-    lines = ["## memory: resident bytes for each symbol (at most while it was filled)", ""]
-    lines += ["| words | capacity | ours | Rust | ratio | bytes of text |", "|---|---|---|---|---|---|"]
-    for size, capacity in sorted({key[:2] for key in held}):
-        ours, rust = held[size, capacity, "ours"], held[size, capacity, "rust"]
-        lines.append(
-            f"| {size:,} | {capacity} | {ours[0]:.1f} ({ours[1]:.1f}) | {rust[0]:.1f} ({rust[1]:.1f}) "
-            f"| {ours[0] / rust[0]:.2f} | {ours[2]:.1f} |"
-        )
-    return "\n".join(lines) + "\n"
-
-
-def write_csv(path, times, held):
-    """Each figure in a line."""
+def write_results(path, rows):
+    """Writes each figure in a line."""
     with open(path, "w", newline="") as file:
-        rows = csv.writer(file)
-        rows.writerow(["operation", "size", "builder", "capacity", "side", "value"])
-        for key, nanoseconds in sorted(times.items()):
-            rows.writerow([*key, nanoseconds])
-        for (size, capacity, side), (resident, most, _) in sorted(held.items()):
-            rows.writerow(["resident", size, "keyed", capacity, side, f"{resident:.1f}"])
-            rows.writerow(["most", size, "keyed", capacity, side, f"{most:.1f}"])
+        lines = csv.writer(file)
+        lines.writerow(COLUMNS)
+        lines.writerows(rows)
+
+
+def read_results(path):
+    """The least figure of all turns by run and operation."""
+    least = {}
+    with open(path, newline="") as file:
+        for row in csv.DictReader(file):
+            run = Run(row["table"], row["hashing"], int(row["capacity"]), int(row["size"]))
+            key = run, row["operation"]
+            least[key] = min(float(row["value"]), least.get(key, float("inf")))
+    return least
+
+
+def page(times):
+    """All tables."""
+    sizes = sorted({run.size for run, operation in times if operation == "new"})
+    parts = [LEGEND, "# One word a call", ""]
+    for comparison in COMPARISONS.values():
+        for capacity in CAPACITIES:
+            parts += single_table(times, comparison, capacity, sizes)
+    parts += ["# A batch of 64 words a call, beside the Rust crate's call for each word", ""]
+    for comparison in COMPARISONS.values():
+        for capacity in CAPACITIES:
+            parts += batch_table(times, comparison, capacity, sizes)
+    return "\n".join(parts + hash_table(times) + memory_table(times))
+
+
+def single_table(times, comparison, capacity, sizes):
+    """Ratios of single calls."""
+    sides = [side for side in comparison.sides if (comparison.run(side, capacity, sizes[0]), "new") in times]
+    said = " / ".join(side.name for side in sides)
+    lines = [f"## {comparison.title}; {capacity}", "", f"{said} (the Rust crate's nanoseconds)", "", *head(sizes)]
+    for operation, name in OPERATIONS.items():
+        cells = []
+        for size in sizes:
+            base = times[comparison.run(comparison.base, capacity, size), operation]
+            runs = [comparison.run(side, capacity, size) for side in sides]
+            ours, *others = [ratio(times[run, operation], base) for run in runs]
+            cells.append(" / ".join([f"**{ours}**", *others]) + f" ({base:.1f})")
+        lines.append(row(name, cells))
+    return lines + [""]
+
+
+def batch_table(times, comparison, capacity, sizes):
+    """Ratios of calls that take a batch."""
+    lines = [f"## {comparison.title}; {capacity}", "", "ours over the Rust crate's single calls / over our own", "", *head(sizes)]
+    for operation, name in OPERATIONS.items():
+        cells = []
+        for size in sizes:
+            sides = [comparison.batches(), comparison.base, comparison.sides[0]]
+            batch, *single = [times.get((comparison.run(side, capacity, size), operation)) for side in sides]
+            if batch is not None:
+                rust, ours = [ratio(batch, other) for other in single]
+                cells.append(f"**{rust}** / {ours}")
+        if cells:
+            lines.append(row(name, cells))
+    return lines + [""]
+
+
+def hash_table(times):
+    """Nanoseconds of hashing alone."""
+    lines = ["# Hashing alone", "", "| hasher | ours, nanoseconds a word | Rust's | ratio |", "|---|---|---|---|"]
+    for name, *runs in HASHINGS:
+        ours, rust = [times[run, "hash"] for run in runs]
+        lines.append(row(name, [f"{ours:.1f}", f"{rust:.1f}", ratio(ours, rust)]))
+    return lines + [""]
+
+
+def memory_table(times):
+    """Bytes for each symbol."""
+    comparison = COMPARISONS["sip"]
+    sides = [comparison.base, *comparison.sides]
+    sizes = sorted({run.size for run, operation in times if operation == "resident"})
+    held = [side for side in sides if sizes and (comparison.run(side, "grown", sizes[0]), "resident") in times]
+    names = [side.name for side in held]
+    lines = ["# Memory: resident bytes for each symbol (at most while it was filled)", ""]
+    lines += [row("words", ["capacity", *names, "ours over the Rust crate's", "bytes of text"])]
+    lines += ["|---" * (len(names) + 4) + "|"]
+    for size in sizes:
+        for capacity in CAPACITIES:
+            runs = [comparison.run(side, capacity, size) for side in held]
+            cells = [f"{times[run, 'resident']:.1f} ({times[run, 'most']:.1f})" for run in runs]
+            over = ratio(times[runs[1], "resident"], times[runs[0], "resident"])
+            lines.append(row(f"{size:,}", [capacity, *cells, over, f"{times[runs[0], 'text']:.1f}"]))
+    return lines + [""]
+
+
+def head(sizes):
+    """The first two lines of a table with a column for each size."""
+    return [row("words", [f"{size:,}" for size in sizes]), "|---" * (len(sizes) + 1) + "|"]
+
+
+def row(name, cells):
+    """A line of a table."""
+    return f"| {name} | " + " | ".join(cells) + " |"
+
+
+def ratio(one, other):
+    """One over the other."""
+    return f"{one / max(other, 0.01):.2f}"
+
+
+if __name__ == "__main__":
+    if len(sys.argv) != 2:
+        sys.exit("usage: bench/tables.py RESULTS")
+    print(page(read_results(sys.argv[1])))

@@ -1,32 +1,64 @@
-//! Measures the table of texts of the Rust crate `intaglio` on generated words, by the calls of the program in
-//! `crates/bench`. Names, words and lines are the same there.
-#![forbid(unsafe_code)]
+//! Measures tables of texts on generated words: that of the Rust crate `intaglio`, and two over hashbrown. The program in
+//! `crates/bench` makes the same calls on the same words, and prints the same lines.
 
+mod fold;
 mod operations;
+mod plan;
+#[cfg(feature = "rivals")]
+mod rivals;
+mod table;
 mod turn;
 mod words;
 
+use fold::FoldState;
 use intaglio::SymbolTable;
-use std::collections::hash_map::RandomState;
-use std::error::Error;
-use turn::{Plan, hold, turn};
+use plan::{Hashing, Kind, Plan, Task};
+use std::hash::{BuildHasher, RandomState};
+use std::io;
+use table::Table;
+use turn::{hash_alone, hold, turn};
 
-fn main() -> Result<(), Box<dyn Error>> {
+const USAGE: &str =
+    "check|time|hold|hash crate|boxes|buffer fold|std|hashbrown CAPACITY SIZE TURNS";
+
+fn main() -> io::Result<()> {
     let arguments: Vec<String> = std::env::args().collect();
     let Some(plan) = Plan::read(&arguments) else {
-        println!("usage: check|time|hold usual|keyed CAPACITY SIZE TURNS");
+        println!("usage: {USAGE}");
         return Ok(());
     };
+    match plan.hashing {
+        Hashing::Fold => with_builder(plan, || FoldState),
+        Hashing::Std => with_builder(plan, RandomState::new),
+        #[cfg(feature = "rivals")]
+        Hashing::Hashbrown => with_builder(plan, hashbrown::hash_map::DefaultHashBuilder::default),
+    }
+}
+
+fn with_builder<S: BuildHasher>(plan: Plan, builder: impl Fn() -> S) -> io::Result<()> {
+    let capacity = plan.capacity;
+    match plan.kind {
+        Kind::Crate => run(plan, || {
+            SymbolTable::with_capacity_and_hasher(capacity, builder())
+        }),
+        #[cfg(feature = "rivals")]
+        Kind::Boxes => run(plan, || {
+            rivals::Rival::<rivals::Boxes, S>::new(capacity, builder())
+        }),
+        #[cfg(feature = "rivals")]
+        Kind::Buffer => run(plan, || {
+            rivals::Rival::<rivals::Buffer, S>::new(capacity, builder())
+        }),
+    }
+}
+
+fn run<T: Table>(plan: Plan, make: impl Fn() -> T) -> io::Result<()> {
     for _ in 0..plan.turns {
-        let mut table = if plan.is_keyed {
-            SymbolTable::with_capacity_and_hasher(plan.capacity, RandomState::new())
-        } else {
-            SymbolTable::with_capacity(plan.capacity)
-        };
-        if plan.is_held {
-            hold(&mut table, plan)?;
-        } else {
-            turn(&mut table, plan);
+        let mut table = make();
+        match plan.task {
+            Task::Check | Task::Time => turn(&mut table, plan),
+            Task::Hold => hold(&mut table, plan)?,
+            Task::Hash => hash_alone(&table, plan),
         }
     }
     Ok(())

@@ -1,35 +1,44 @@
-//! What is measured. Each operation answers a sum that shows what it found.
+//! What is measured. Each operation returns a sum that shows what it found.
 
-use intaglio::{Symbol, SymbolTable};
+use crate::table::Table;
 use std::hash::BuildHasher;
 
 #[inline(never)]
-pub fn intern<S: BuildHasher>(table: &mut SymbolTable<S>, words: Vec<String>) -> u64 {
+pub fn hash<T: Table>(table: &T, words: &[String]) -> u64 {
     let mut sum = 0u64;
     for word in words {
-        if let Ok(symbol) = table.intern(word) {
-            sum = sum.wrapping_add(u64::from(symbol.id()) + 1);
+        sum = sum.wrapping_add(table.hasher().hash_one(word.as_str()));
+    }
+    sum
+}
+
+#[inline(never)]
+pub fn intern<T: Table>(table: &mut T, words: Vec<String>) -> u64 {
+    let mut sum = 0u64;
+    for word in words {
+        if let Some(number) = table.intern(word) {
+            sum = sum.wrapping_add(u64::from(number) + 1);
         }
     }
     sum
 }
 
 #[inline(never)]
-pub fn look_up<S: BuildHasher>(table: &SymbolTable<S>, words: &[String]) -> u64 {
+pub fn look_up<T: Table>(table: &T, words: &[String]) -> u64 {
     let mut sum = 0u64;
     for word in words {
-        if let Some(symbol) = table.check_interned(word.as_str()) {
-            sum = sum.wrapping_add(u64::from(symbol.id()) + 1);
+        if let Some(number) = table.find(word) {
+            sum = sum.wrapping_add(u64::from(number) + 1);
         }
     }
     sum
 }
 
 #[inline(never)]
-pub fn get<S: BuildHasher>(table: &SymbolTable<S>, numbers: &[u32]) -> u64 {
+pub fn get<T: Table>(table: &T, numbers: &[u32]) -> u64 {
     let mut sum = 0u64;
     for number in numbers {
-        if let Some(text) = table.get(Symbol::new(*number)) {
+        if let Some(text) = table.get(*number) {
             sum = sum.wrapping_add(text.len() as u64);
         }
     }
@@ -37,17 +46,17 @@ pub fn get<S: BuildHasher>(table: &SymbolTable<S>, numbers: &[u32]) -> u64 {
 }
 
 #[inline(never)]
-pub fn iterate<S: BuildHasher>(table: &SymbolTable<S>) -> u64 {
+pub fn iterate<T: Table>(table: &T) -> u64 {
     let mut sum = 0u64;
-    for (symbol, text) in table.iter() {
-        sum = sum.wrapping_add(u64::from(symbol.id()));
+    for (number, text) in table.iter() {
+        sum = sum.wrapping_add(u64::from(number));
         sum = sum.wrapping_add(text.len() as u64);
     }
     sum
 }
 
 #[inline(never)]
-pub fn clear<S: BuildHasher>(table: &mut SymbolTable<S>) -> u64 {
+pub fn clear<T: Table>(table: &mut T) -> u64 {
     table.clear();
     table.len() as u64
 }

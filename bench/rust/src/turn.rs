@@ -1,102 +1,58 @@
 //! One turn: each operation once, on a table that is empty at first.
 
-use crate::operations::{clear, get, intern, iterate, look_up};
+use crate::operations::{clear, get, hash, intern, iterate, look_up};
+use crate::plan::{Plan, Task};
+use crate::table::Table;
 use crate::words::{numbers, shuffle, word, words};
-use intaglio::SymbolTable;
-use std::error::Error;
-use std::hash::BuildHasher;
-use std::io::{Write, stdin, stdout};
+use std::io::{self, Write, stdin, stdout};
 use std::time::Instant;
 
-#[derive(Clone, Copy)]
-pub struct Plan {
-    pub is_held: bool,
-    pub is_timed: bool,
-    pub is_keyed: bool,
-    pub capacity: usize,
-    pub size: u32,
-    pub turns: u32,
-}
-
-impl Plan {
-    pub fn read(arguments: &[String]) -> Option<Plan> {
-        let (is_held, is_timed) = match arguments.get(1)?.as_str() {
-            "check" => (false, false),
-            "time" => (false, true),
-            "hold" => (true, false),
-            _ => return None,
-        };
-        let is_keyed = match arguments.get(2)?.as_str() {
-            "usual" => false,
-            "keyed" => true,
-            _ => return None,
-        };
-        Some(Plan {
-            is_held,
-            is_timed,
-            is_keyed,
-            capacity: arguments.get(3)?.parse().ok()?,
-            size: arguments.get(4)?.parse().ok()?,
-            turns: arguments.get(5)?.parse().ok()?,
-        })
-    }
-}
-
-pub fn turn<S: BuildHasher>(table: &mut SymbolTable<S>, plan: Plan) {
+/// Prints a line for each operation: its name, how many words, the nanoseconds for each of them unless the task is a check,
+/// and the operation's sum.
+pub fn turn<T: Table>(table: &mut T, plan: Plan) {
     let in_order = numbers(0, plan.size);
     let mut shuffled = numbers(0, plan.size);
     shuffle(&mut shuffled);
     let fresh = words(&in_order);
-    let start = Instant::now();
-    let sum = intern(table, fresh);
-    report(plan, "new", start, sum);
+    measure(plan, "new", || intern(table, fresh));
     let known = words(&shuffled);
-    let start = Instant::now();
-    let sum = look_up(table, &known);
-    report(plan, "hit", start, sum);
-    let start = Instant::now();
-    let sum = intern(table, known);
-    report(plan, "again", start, sum);
+    measure(plan, "hit", || look_up(table, &known));
+    measure(plan, "again", || intern(table, known));
     let absent = words(&numbers(plan.size, plan.size));
-    let start = Instant::now();
-    let sum = look_up(table, &absent);
-    report(plan, "miss", start, sum);
-    let start = Instant::now();
-    let sum = get(table, &shuffled);
-    report(plan, "get", start, sum);
-    let start = Instant::now();
-    let sum = iterate(table);
-    report(plan, "iterate", start, sum);
-    refill(table, plan);
+    measure(plan, "miss", || look_up(table, &absent));
+    measure(plan, "get", || get(table, &shuffled));
+    measure(plan, "iterate", || iterate(table));
+    measure(plan, "clear", || clear(table));
+    measure(plan, "refill", || intern(table, absent));
 }
 
-fn refill<S: BuildHasher>(table: &mut SymbolTable<S>, plan: Plan) {
-    let fresh = words(&numbers(plan.size, plan.size));
+fn measure(plan: Plan, name: &str, operation: impl FnOnce() -> u64) {
     let start = Instant::now();
-    let sum = clear(table);
-    report(plan, "clear", start, sum);
-    let start = Instant::now();
-    let sum = intern(table, fresh);
-    report(plan, "refill", start, sum);
-}
-
-fn report(plan: Plan, name: &str, start: Instant, sum: u64) {
+    let sum = operation();
     let seconds = start.elapsed().as_secs_f64();
     let size = plan.size;
-    if plan.is_timed {
+    if plan.task == Task::Check {
+        println!("{name} {size} {sum}");
+    } else {
         let nanoseconds = seconds * 1e9 / f64::from(size);
         println!("{name} {size} {nanoseconds:.2} {sum}");
-    } else {
-        println!("{name} {size} {sum}");
     }
 }
 
-pub fn hold<S: BuildHasher>(table: &mut SymbolTable<S>, plan: Plan) -> Result<(), Box<dyn Error>> {
+/// Prints the same line for hashing alone. The sum is that of the hashes.
+pub fn hash_alone<T: Table>(table: &T, plan: Plan) {
+    let fresh = words(&numbers(0, plan.size));
+    measure(plan, "hash", || hash(table, &fresh));
+}
+
+/// Fills the table with words that it makes one at a time, prints how many texts there are and how many bytes they have,
+/// and ends when the input ends.
+pub fn hold<T: Table>(table: &mut T, plan: Plan) -> io::Result<()> {
     let mut bytes = 0u64;
     for number in 0..plan.size {
         let text = word(number);
         bytes = bytes.wrapping_add(text.len() as u64);
-        table.intern(text)?;
+        table.intern(text);
     }
     println!("held {} {bytes}", table.len());
     stdout().flush()?;

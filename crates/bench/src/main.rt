@@ -1,4 +1,4 @@
-//! Measures the table of texts on generated words. Its twin in Rust makes the same calls on the same words.
+//! Measures the table of texts on generated words. Its twin in Rust, in `bench/rust`, makes the same calls on the same words.
 #![tactic(auto)]
 
 mod operations;
@@ -7,12 +7,15 @@ mod turn;
 mod words;
 
 use anyhow::Result;
+use intaglio_hash::KeyedState;
 use intaglio_text::SymbolTable;
-use plan::{Plan, Task};
+use plan::{Hashing, Plan, Task};
 use std::env;
 use std::hash::{BuildHasher, RandomState};
 use std::rt::{Clock, Env};
-use turn::{hold, turn};
+use turn::{hash_alone, hold, turn};
+
+const USAGE: &str = "check|time|hold|hash single|batch|both fold|keyed|std CAPACITY SIZE TURNS";
 
 fn main(rt: HostRuntime) -> Result<()> {
     let mut arguments = Vec::new(rt.alloc());
@@ -20,20 +23,23 @@ fn main(rt: HostRuntime) -> Result<()> {
         arguments.push(word)?;
     }
     let Some(plan) = Plan::read(&arguments) else {
-        println!(rt; "usage: check|time|hold usual|keyed CAPACITY SIZE TURNS")?;
+        println!(rt; "usage: {USAGE}")?;
         return Ok(());
     };
+    let (alloc, capacity) = (rt.alloc(), plan.capacity);
     for _ in 0..plan.turns {
-        if plan.is_keyed {
-            let builder = RandomState::new(&rt)?;
-            let table = SymbolTable::with_capacity_and_hasher(rt.alloc(), plan.capacity, builder)?;
-            run(&rt, table, plan)?;
-        } else {
-            run(
-                &rt,
-                SymbolTable::with_capacity(rt.alloc(), plan.capacity)?,
-                plan,
-            )?;
+        match plan.hashing {
+            Hashing::Fold => run(&rt, SymbolTable::with_capacity(alloc, capacity)?, plan)?,
+            Hashing::Keyed => {
+                let builder = KeyedState::from_random(&RandomState::new(&rt)?);
+                let table = SymbolTable::with_capacity_and_hasher(alloc, capacity, builder)?;
+                run(&rt, table, plan)?;
+            }
+            Hashing::Std => {
+                let builder = RandomState::new(&rt)?;
+                let table = SymbolTable::with_capacity_and_hasher(alloc, capacity, builder)?;
+                run(&rt, table, plan)?;
+            }
         }
     }
     Ok(())
@@ -45,7 +51,8 @@ fn run<R: Print + Input + Clock + AllocGlobal, S: BuildHasher + Drop>(
     plan: Plan,
 ) -> Result<()> {
     match plan.task {
-        Task::Measure => turn(rt, &mut table, plan),
+        Task::Check | Task::Time => turn(rt, &mut table, plan),
         Task::Hold => hold(rt, &mut table, plan),
+        Task::Hash => hash_alone(rt, &mut table, plan),
     }
 }

@@ -1,9 +1,24 @@
-//! What is measured. Each operation answers a sum that shows what it found.
+//! What is measured. Each operation returns a sum that shows what it found.
 ghost use Rattle.std.specs.Prelude.{◌≡◌, []};
 
-use intaglio_symbol::Symbol;
+use intaglio_core::{Work, intern_all};
+use intaglio_symbol::{InternError, Symbol};
 use intaglio_text::{StrContent, SymbolTable};
+use std::alloc::Global;
 use std::hash::BuildHasher;
+
+/// How many words a batch has.
+const BATCH: usize = 64;
+
+/// Hashes the words, and adds up their hashes.
+#[inline(never)]
+pub fn hash<S: BuildHasher>(table: &SymbolTable<S>, words: &[String]) -> u64 {
+    let mut sum = 0u64;
+    for word in words {
+        sum = sum.wrapping_add(table.hasher().hash_one(word.as_str()));
+    }
+    sum
+}
 
 /// Interns the words, and adds up the numbers of their symbols, each with 1.
 #[inline(never)]
@@ -15,6 +30,38 @@ pub fn intern<S: BuildHasher>(table: &mut SymbolTable<S>, words: Vec<String>) ->
         }
     }
     sum
+}
+
+/// The same in batches.
+#[inline(never)]
+pub fn intern_batches<S: BuildHasher>(
+    alloc: Global,
+    table: &mut SymbolTable<S>,
+    words: Vec<String>,
+) -> Result<u64, InternError> {
+    let mut sum = 0u64;
+    let mut batch = Vec::with_capacity(alloc, BATCH)?;
+    for word in words {
+        batch.reserve(1)?;
+        batch.push_reserved(StrContent::from(word));
+        if batch.len() == BATCH {
+            sum = sum.wrapping_add(intern_batch(alloc, table, batch)?);
+            batch = Vec::with_capacity(alloc, BATCH)?;
+        }
+    }
+    Ok(sum.wrapping_add(intern_batch(alloc, table, batch)?))
+}
+
+fn intern_batch<S: BuildHasher>(
+    alloc: Global,
+    table: &mut SymbolTable<S>,
+    batch: Vec<StrContent>,
+) -> Result<u64, InternError> {
+    let mut sum = 0u64;
+    for symbol in intern_all(alloc, table, batch, &mut Work::new())? {
+        sum = sum.wrapping_add(symbol.id() as u64 + 1);
+    }
+    Ok(sum)
 }
 
 /// Looks the words up, and adds up the numbers of the symbols that it finds, each with 1.
@@ -52,7 +99,7 @@ pub fn iterate<S: BuildHasher>(table: &SymbolTable<S>) -> u64 {
     sum
 }
 
-/// Drops all texts, and answers how many are left.
+/// Drops all texts, and returns how many are left.
 #[inline(never)]
 pub fn clear<S: BuildHasher>(table: &mut SymbolTable<S>) -> u64
     ensures dropped { table.new.state.contents ≡ [] }

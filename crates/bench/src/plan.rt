@@ -4,19 +4,43 @@
 #[derive(Clone, Copy)]
 pub enum Task {
     /// Each operation once.
-    Measure,
+    Check,
+    /// The same, and times are printed.
+    Time,
     /// The table is filled, and held until the input ends.
     Hold,
+    /// Words are hashed alone, and the time is printed.
+    Hash,
+}
+
+/// How many words a call takes.
+#[derive(Clone, Copy)]
+pub enum Calls {
+    /// One.
+    Single,
+    /// A batch.
+    Batch,
+    /// First the operations of single calls, then those of batches, on the same table.
+    Both,
+}
+
+/// Which hashers a table has.
+#[derive(Clone, Copy)]
+pub enum Hashing {
+    /// `FoldHasher`, with a fixed seed.
+    Fold,
+    /// `KeyedHasher`, with random keys.
+    Keyed,
+    /// std's `RandomState`.
+    Std,
 }
 
 /// What the arguments ask for.
 #[derive(Clone, Copy)]
 pub struct Plan {
     pub task: Task,
-    /// Whether times are printed.
-    pub is_timed: bool,
-    /// Whether hashers get random keys, and not the table's usual builder.
-    pub is_keyed: bool,
+    pub calls: Calls,
+    pub hashing: Hashing,
     /// The capacity that each table begins with.
     pub capacity: usize,
     /// How many distinct words.
@@ -26,29 +50,46 @@ pub struct Plan {
 }
 
 impl Plan {
-    /// Reads `check|time|hold usual|keyed CAPACITY SIZE TURNS`, behind the program's name.
+    /// Reads `check|time|hold|hash single|batch|both fold|keyed|std CAPACITY SIZE TURNS`, behind the program's name.
     pub fn read(arguments: &[String]) -> Option<Plan> {
-        let [_, task, builder, capacity, size, turns, ..] = arguments else {
+        let [_, task, calls, hashing, capacity, size, turns] = arguments else {
             return None;
         };
-        let (task, is_timed) = match task.as_str() {
-            "check" => (Task::Measure, false),
-            "time" => (Task::Measure, true),
-            "hold" => (Task::Hold, false),
-            _ => return None,
-        };
-        let is_keyed = match builder.as_str() {
-            "usual" => false,
-            "keyed" => true,
-            _ => return None,
-        };
         Some(Plan {
-            task,
-            is_timed,
-            is_keyed,
+            task: task_of(task)?,
+            calls: calls_of(calls)?,
+            hashing: hashing_of(hashing)?,
             capacity: capacity.as_str().parse().ok()?,
             size: size.as_str().parse().ok()?,
             turns: turns.as_str().parse().ok()?,
         })
+    }
+}
+
+fn task_of(word: &str) -> Option<Task> {
+    match word {
+        "check" => Some(Task::Check),
+        "time" => Some(Task::Time),
+        "hold" => Some(Task::Hold),
+        "hash" => Some(Task::Hash),
+        _ => None,
+    }
+}
+
+fn calls_of(word: &str) -> Option<Calls> {
+    match word {
+        "single" => Some(Calls::Single),
+        "batch" => Some(Calls::Batch),
+        "both" => Some(Calls::Both),
+        _ => None,
+    }
+}
+
+fn hashing_of(word: &str) -> Option<Hashing> {
+    match word {
+        "fold" => Some(Hashing::Fold),
+        "keyed" => Some(Hashing::Keyed),
+        "std" => Some(Hashing::Std),
+        _ => None,
     }
 }

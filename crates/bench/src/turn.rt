@@ -1,9 +1,10 @@
 //! One turn: each operation once, on a table that is empty at first.
 
-use crate::operations::{clear, get, intern, iterate, look_up};
-use crate::plan::Plan;
+use crate::operations::{clear, get, hash, intern, intern_batches, iterate, look_up};
+use crate::plan::{Calls, Plan, Task};
 use crate::words::{numbers, shuffle, word, words};
 use anyhow::Result;
+use intaglio_symbol::InternError;
 use intaglio_text::{StrContent, SymbolTable};
 use std::alloc::{AllocError, Global};
 use std::hash::BuildHasher;
@@ -13,7 +14,9 @@ use std::time::Instant;
 /// What is measured.
 #[derive(Drop)]
 enum Operation<'a> {
+    Hash(&'a [String]),
     Intern(Vec<String>),
+    InternBatches(Vec<String>),
     LookUp(&'a [String]),
     Get(&'a [u32]),
     Iterate,
@@ -21,29 +24,49 @@ enum Operation<'a> {
 }
 
 impl<'a> Operation<'a> {
-    fn run<S: BuildHasher>(self, table: &mut SymbolTable<S>) -> u64 {
+    fn run<S: BuildHasher>(
+        self,
+        alloc: Global,
+        table: &mut SymbolTable<S>,
+    ) -> Result<u64, InternError> {
         match self {
-            Operation::Intern(words) => intern(table, words),
-            Operation::LookUp(words) => look_up(table, words),
-            Operation::Get(numbers) => get(table, numbers),
-            Operation::Iterate => iterate(table),
-            Operation::Clear => clear(table),
+            Operation::Hash(words) => Ok(hash(table, words)),
+            Operation::Intern(words) => Ok(intern(table, words)),
+            Operation::InternBatches(words) => intern_batches(alloc, table, words),
+            Operation::LookUp(words) => Ok(look_up(table, words)),
+            Operation::Get(numbers) => Ok(get(table, numbers)),
+            Operation::Iterate => Ok(iterate(table)),
+            Operation::Clear => Ok(clear(table)),
         }
     }
 }
 
 /// Prints a line for each operation: its name, how many words, the nanoseconds for each of them
-/// unless the plan leaves times out, and the operation's sum.
+/// unless the task is a check, and the operation's sum.
 pub fn turn<R: Print + Clock + AllocGlobal, S: BuildHasher>(
     rt: &R,
     table: &mut SymbolTable<S>,
     plan: Plan,
 ) -> Result<()> {
+    match plan.calls {
+        Calls::Single => single_calls(rt, table, plan),
+        Calls::Batch => batches(rt, table, plan),
+        Calls::Both => {
+            single_calls(rt, table, plan)?;
+            table.clear();
+            batches(rt, table, plan)
+        }
+    }
+}
+
+fn single_calls<R: Print + Clock + AllocGlobal, S: BuildHasher>(
+    rt: &R,
+    table: &mut SymbolTable<S>,
+    plan: Plan,
+) -> Result<()> {
     let alloc = rt.alloc();
-    let in_order = numbers(alloc, 0, plan.size)?;
-    let mut shuffled = numbers(alloc, 0, plan.size)?;
-    shuffle(&mut shuffled);
-    let fresh = words(alloc, &in_order)?;
+    let shuffled = shuffled_numbers(alloc, plan)?;
+    let fresh = words(alloc, &numbers(alloc, 0, plan.size)?)?;
     measure(rt, table, plan, "new", Operation::Intern(fresh))?;
     let known = words(alloc, &shuffled)?;
     measure(rt, table, plan, "hit", Operation::LookUp(&known))?;
@@ -52,18 +75,30 @@ pub fn turn<R: Print + Clock + AllocGlobal, S: BuildHasher>(
     measure(rt, table, plan, "miss", Operation::LookUp(&absent))?;
     measure(rt, table, plan, "get", Operation::Get(&shuffled))?;
     measure(rt, table, plan, "iterate", Operation::Iterate)?;
-    refill(rt, table, plan)
+    measure(rt, table, plan, "clear", Operation::Clear)?;
+    measure(rt, table, plan, "refill", Operation::Intern(absent))
 }
 
-// Clears the table, and fills it with other words, which were made before.
-fn refill<R: Print + Clock + AllocGlobal, S: BuildHasher>(
+// What single calls do, as far as there are calls that take a batch.
+fn batches<R: Print + Clock + AllocGlobal, S: BuildHasher>(
     rt: &R,
     table: &mut SymbolTable<S>,
     plan: Plan,
 ) -> Result<()> {
-    let fresh = other_words(rt.alloc(), plan)?;
-    measure(rt, table, plan, "clear", Operation::Clear)?;
-    measure(rt, table, plan, "refill", Operation::Intern(fresh))
+    let alloc = rt.alloc();
+    let fresh = words(alloc, &numbers(alloc, 0, plan.size)?)?;
+    measure(rt, table, plan, "new", Operation::InternBatches(fresh))?;
+    let known = words(alloc, &shuffled_numbers(alloc, plan)?)?;
+    measure(rt, table, plan, "again", Operation::InternBatches(known))?;
+    let absent = other_words(alloc, plan)?;
+    table.clear();
+    measure(rt, table, plan, "refill", Operation::InternBatches(absent))
+}
+
+fn shuffled_numbers(alloc: Global, plan: Plan) -> Result<Vec<u32>, AllocError> {
+    let mut shuffled = numbers(alloc, 0, plan.size)?;
+    shuffle(&mut shuffled);
+    Ok(shuffled)
 }
 
 // Words that the first ones lack.
@@ -71,7 +106,7 @@ fn other_words(alloc: Global, plan: Plan) -> Result<Vec<String>, AllocError> {
     words(alloc, &numbers(alloc, plan.size, plan.size)?)
 }
 
-fn measure<R: Print + Clock, S: BuildHasher>(
+fn measure<R: Print + Clock + AllocGlobal, S: BuildHasher>(
     rt: &R,
     table: &mut SymbolTable<S>,
     plan: Plan,
@@ -79,7 +114,7 @@ fn measure<R: Print + Clock, S: BuildHasher>(
     operation: Operation<'_>,
 ) -> Result<()> {
     let start = Instant::now(rt)?;
-    let sum = operation.run(table);
+    let sum = operation.run(rt.alloc(), table)?;
     report(rt, plan, name, start, sum)
 }
 
@@ -92,13 +127,23 @@ fn report<R: Print + Clock>(
 ) -> Result<()> {
     let seconds = start.elapsed(rt)?.as_secs_f64();
     let size = plan.size;
-    if plan.is_timed {
+    if let Task::Check = plan.task {
+        println!(rt; "{name} {size} {sum}")?;
+    } else {
         let nanoseconds = seconds * 1e9 / size as f64;
         println!(rt; "{name} {size} {nanoseconds:.2} {sum}")?;
-    } else {
-        println!(rt; "{name} {size} {sum}")?;
     }
     Ok(())
+}
+
+/// Prints the same line for hashing alone. The sum is that of the hashes.
+pub fn hash_alone<R: Print + Clock + AllocGlobal, S: BuildHasher>(
+    rt: &R,
+    table: &mut SymbolTable<S>,
+    plan: Plan,
+) -> Result<()> {
+    let fresh = words(rt.alloc(), &numbers(rt.alloc(), 0, plan.size)?)?;
+    measure(rt, table, plan, "hash", Operation::Hash(&fresh))
 }
 
 /// Fills the table with words that it makes one at a time, prints how many texts there are and how

@@ -1,0 +1,94 @@
+"""What is compared with what."""
+
+from typing import NamedTuple
+
+# The tables by which the programs go: the proved program's by how many words a call takes, the Rust program's by what they
+# are. Rivals are tables that a user would write or pick where there were no crate `intaglio`.
+OURS = ["single", "batch"]
+RIVALS = ["boxes", "buffer"]
+
+# A table begins with no capacity, or with that of all words.
+CAPACITIES = ["grown", "reserved"]
+
+
+class Run(NamedTuple):
+    """What a program is asked for."""
+
+    table: str
+    hashing: str
+    capacity: int
+    size: int
+
+
+class Side(NamedTuple):
+    """A table with its hashers, and the name by which pages call it."""
+
+    name: str
+    table: str
+    hashing: str
+
+
+class Comparison(NamedTuple):
+    """Tables that are compared with that of the Rust crate."""
+
+    title: str
+    base: Side
+    sides: list[Side]
+    # Whether capacity is asked for as `with_capacity` does, which rounds it up to a power of two in ours and in the crate.
+    is_rounded: bool
+
+    def run(self, side, capacity, size):
+        """What a side is asked for, at one of CAPACITIES."""
+        room = 0 if capacity == "grown" else size
+        if room and self.is_rounded and side.table not in RIVALS:
+            room = 1 << (size - 1).bit_length()
+        return Run(side.table, side.hashing, room, size)
+
+    def batches(self):
+        """Our own table, with calls that take a batch."""
+        return self.sides[0]._replace(table="batch")
+
+
+COMPARISONS = {
+    "fold": Comparison(
+        "FoldHasher on all sides (a fixed seed)",
+        Side("the Rust crate", "crate", "fold"),
+        [Side("ours", "single", "fold"), Side("boxes", "boxes", "fold"), Side("buffer", "buffer", "fold")],
+        is_rounded=True,
+    ),
+    "sip": Comparison(
+        "SipHash-1-3 on all sides (random keys), ours by KeyedState",
+        Side("the Rust crate", "crate", "std"),
+        [
+            Side("ours", "single", "keyed"),
+            Side("boxes", "boxes", "std"),
+            Side("buffer", "buffer", "std"),
+            Side("ours by the toolchain's RandomState", "single", "std"),
+        ],
+        is_rounded=False,
+    ),
+    "default": Comparison(
+        "the default of each side: ours FoldHasher, the Rust crate RandomState, hashbrown ahash",
+        Side("the Rust crate", "crate", "std"),
+        [Side("ours", "single", "fold"), Side("boxes", "boxes", "hashbrown"), Side("buffer", "buffer", "hashbrown")],
+        is_rounded=True,
+    ),
+}
+
+# Hashing alone, on so few words that they stay in the processor's caches: ours and Rust's.
+HASHINGS = [
+    ("FoldHasher", Run("single", "fold", 0, 1_000), Run("crate", "fold", 0, 1_000)),
+    ("SipHash-1-3, ours by KeyedState", Run("single", "keyed", 0, 1_000), Run("crate", "std", 0, 1_000)),
+    ("SipHash-1-3, ours by the toolchain's RandomState", Run("single", "std", 0, 1_000), Run("crate", "std", 0, 1_000)),
+]
+
+
+def runs_of(sizes, has_rivals):
+    """Each run that the comparisons need, once."""
+    runs = []
+    for size in sizes:
+        for comparison in COMPARISONS.values():
+            for side in [comparison.base, *comparison.sides, comparison.batches()]:
+                if has_rivals or side.table not in RIVALS:
+                    runs += [comparison.run(side, capacity, size) for capacity in CAPACITIES]
+    return list(dict.fromkeys(runs))

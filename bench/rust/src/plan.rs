@@ -1,0 +1,86 @@
+//! What the arguments ask for.
+
+/// What is done with each table.
+#[derive(Clone, Copy, PartialEq)]
+pub enum Task {
+    /// Each operation once.
+    Check,
+    /// The same, and times are printed.
+    Time,
+    /// The table is filled, and held until the input ends.
+    Hold,
+    /// Words are hashed alone, and the time is printed.
+    Hash,
+}
+
+/// Which table.
+#[derive(Clone, Copy)]
+pub enum Kind {
+    /// That of the Rust crate `intaglio`.
+    Crate,
+    #[cfg(feature = "rivals")]
+    Boxes,
+    #[cfg(feature = "rivals")]
+    Buffer,
+}
+
+/// Which hashers.
+#[derive(Clone, Copy)]
+pub enum Hashing {
+    /// `FoldHasher`, with a fixed seed.
+    Fold,
+    /// std's `RandomState`.
+    Std,
+    /// The default builder of hashbrown.
+    #[cfg(feature = "rivals")]
+    Hashbrown,
+}
+
+#[derive(Clone, Copy)]
+pub struct Plan {
+    pub task: Task,
+    pub kind: Kind,
+    pub hashing: Hashing,
+    /// The capacity that each table begins with.
+    pub capacity: usize,
+    /// How many distinct words.
+    pub size: u32,
+    /// How many tables, one after the other.
+    pub turns: u32,
+}
+
+impl Plan {
+    /// Reads `check|time|hold|hash crate|boxes|buffer fold|std|hashbrown CAPACITY SIZE TURNS`.
+    pub fn read(arguments: &[String]) -> Option<Plan> {
+        let [_, task, kind, hashing, capacity, size, turns] = arguments else {
+            return None;
+        };
+        Some(Plan {
+            task: match task.as_str() {
+                "check" => Task::Check,
+                "time" => Task::Time,
+                "hold" => Task::Hold,
+                "hash" => Task::Hash,
+                _ => return None,
+            },
+            kind: match kind.as_str() {
+                "crate" => Kind::Crate,
+                #[cfg(feature = "rivals")]
+                "boxes" => Kind::Boxes,
+                #[cfg(feature = "rivals")]
+                "buffer" => Kind::Buffer,
+                _ => return None,
+            },
+            hashing: match hashing.as_str() {
+                "fold" => Hashing::Fold,
+                "std" => Hashing::Std,
+                #[cfg(feature = "rivals")]
+                "hashbrown" => Hashing::Hashbrown,
+                _ => return None,
+            },
+            capacity: capacity.parse().ok()?,
+            size: size.parse().ok()?,
+            turns: turns.parse().ok()?,
+        })
+    }
+}
