@@ -19,7 +19,7 @@ use std::hash::{BuildHasher, RandomState};
 /// let state = KeyedState::from_random(&RandomState::new(&rt)?);
 /// let mut counts = HashMap::with_hasher(alloc, state);
 /// counts.insert("word", 1)?;
-/// assert!(rt; counts.get("word") == Some(&1));
+/// assert!(rt; counts.get(&"word") == Some(&1));
 /// ```
 #[derive(Clone, Copy)]
 pub struct KeyedState {
