@@ -1,0 +1,117 @@
+"""All that the scripts here take from the toolchain's own `rt`, which promises none of it: names of its module, and sentences of its prover.
+
+It was written for the `rt version` below. Under another one `load` stops with a line that says so: see then that each name and each
+sentence still stands, and change the line.
+"""
+
+import functools
+import importlib.machinery
+import importlib.util
+import os
+import re
+import shutil
+import subprocess
+import sys
+import tempfile
+from pathlib import Path
+
+sys.dont_write_bytecode = True
+TOP = Path(__file__).resolve().parent.parent
+VERSION = "rattle-kit-13b logic dac8208d650f15bf"
+
+# What the prover says of a function, `fn CRATE::PATH: WORDS`, after the notes on its open goals.
+FUNCTION = re.compile(r"^fn (\S+): (.*)$")
+PROVED = re.compile(r"^proved\b")
+# The function's own goals may all be closed: it can't be told, or is told, while a function that it calls isn't proved.
+CALLS_UNPROVED = re.compile(r"^(not proved; |no proof: )it calls")
+OPEN_GOAL = re.compile(r"^note: \S+:\d+:\d+: it is not proved that")
+LEFT_OPEN = re.compile(r"`search` did not prove")
+# An error in the files of a function's proof: the path of the function, with / for ::. What is wrong may go on in lines that are indented.
+PROOF_ERROR = re.compile(r"^(?:\./)?proofs/(\S+)/(?:Answers|Invariants|Proof)\.antt:\d+:\d+: error: ")
+# An answer that names what an edit took away. That shows nothing of the contract, and `rt must-fail` says so too.
+BROKEN_NAME = re.compile(r"has no field|is not in scope|has no `|was not admitted")
+
+
+def version():
+    return subprocess.run(["rt", "version"], capture_output=True, text=True).stdout.strip()
+
+
+@functools.lru_cache(maxsize=None)
+def load():
+    """The toolchain's `rt`, as a module. What stands below a crate is read as statements, as under `rt ci`."""
+    found = shutil.which("rt") or sys.exit("there is no rt on the PATH")
+    if version() != VERSION:
+        sys.exit(f"checks/rt_names.py was written for '{VERSION}', and rt version says '{version()}': see that what it names still stands")
+    path = os.path.realpath(found)
+    sys.path.insert(0, os.path.dirname(path))
+    loader = importlib.machinery.SourceFileLoader("rt", path)
+    module = importlib.util.module_from_spec(importlib.util.spec_from_loader("rt", loader))
+    loader.exec_module(module)
+    module.Crate.cuts_libraries = True
+    module.rtlib.Crate = module.Crate
+    # Whatever it starts ends with this process. (The first call sets a signal's handler, which the main thread alone may.)
+    module.rtlib.guarded()
+    return module
+
+
+def crates(top=TOP):
+    """The crates of a repository, each after those that it stands on."""
+    return load().rtlib.crates_below(str(top))
+
+
+def processors():
+    return load().processors()
+
+
+def checked(crate, texts, functions, kept):
+    """What a check of these functions prints, of a copy of the crate with these texts in place of its own, over what `kept` holds."""
+    only = [word for function in functions for word in ("--only", function)]
+    return load().checked(crate, texts, ["--jobs", "1", *only], kept).stdout
+
+
+def messages(said):
+    """The lines that the prover printed, each with the indented ones that go on with it."""
+    return re.sub(r"\n +", " ", said).splitlines()
+
+
+def unreadable(said, texts):
+    """The first line by which the prover can't read an edited text, or a library's kept work can't be used."""
+    rt = load()
+    return next((line for line in said.splitlines() if rt.unread(line, texts) or rt.rtlib.STALE.search(line)), None)
+
+
+def crate_above(room, name):
+    """A crate in a scratch folder that lists every library of this repository, and of the kit, that crates.txt names."""
+    rt, below = load(), [it for it in crates() if it.makes_rlib()]
+    rlibs = {it.name: it.rlib for it in below}
+    if missing := [it for it in rlibs if not os.path.isdir(rlibs[it])]:
+        sys.exit(f"not built: {' '.join(missing)}")
+    of_kit = {dependency for it in crates() for dependency in it.of_kit if dependency != "std"}
+    rows = {it.name: [*(dep.name for dep in it.deps), *(dep for dep in it.of_kit if dep != "std")] for it in below}
+    rows[name] = [*rlibs, *sorted(of_kit)]
+    for row in rows:
+        os.makedirs(f"{room}/crates/{row}/src")
+    os.makedirs(f"{room}/crates/{name}/out")
+    Path(room, "crates.txt").write_text("".join(f"{row}: {' '.join(rows[row])}\n" for row in rows), encoding="utf-8")
+    crate = next(it for it in rt.rtlib.crates_below(room) if it.name == name)
+    for it in crate.below():
+        it.rlib = rlibs[it.name]
+    return crate
+
+
+def built_tests(crate):
+    """The status of proving and building the crate's tests, and what was printed."""
+    with tempfile.TemporaryFile("w+", errors="replace") as crate.out:
+        try:
+            status = crate.ci(["--jobs", str(processors())], True)
+        except SystemExit as stopped:
+            status = stopped.code
+        crate.out.seek(0)
+        return status, crate.out.read()
+
+
+def ran_tests(crate):
+    """The status of a run of the tests that were built, and what they printed."""
+    command = [load().rtlib.RUNNER, "--seconds", "60", f"{crate.folder}/out/{crate.name}_tests"]
+    ran = subprocess.run(command, stdin=subprocess.DEVNULL, stdout=subprocess.PIPE, stderr=subprocess.STDOUT, errors="replace")
+    return ran.returncode, ran.stdout
