@@ -1,40 +1,20 @@
-//! Values that are compared by their bytes: what they are as contents, and how they are looked up.
-ghost use Rattle.std.specs.Prelude.{◌≡◌, ℕ, List, [], ◌∷◌, refl};
+//! Values that are compared by their bytes, and how they are looked up.
+ghost use Rattle.std.specs.Prelude.{◌≡◌, [], ◌∷◌};
 ghost use Rattle.bstr.specs.BStr.{bstr_bytes};
 
-use crate::content::{Content, Keyed, Sought, Spelled};
+use crate::content::{Keyed, Sought};
 use crate::feed::feed_item;
 use crate::work::Work;
 use bstr::BStr;
 use std::hash::{BuildHasher, Hasher};
 
-/// A value that is compared by its bytes. They are its spelling, and the one item of its key.
+/// A value that is compared by its bytes: they are the one item of its key.
 ///
 /// Any such value can be looked up among contents that are compared by their bytes.
-pub trait Bytewise {
-    ghost bytes: { Self → List ℕ };
-
+pub trait Bytewise: Keyed {
     /// The bytes that it is compared by.
     fn compared_bytes(&self) -> &[u8]
-        ensures { result.now ≡ bytes self.now };
-}
-
-impl<Q: Bytewise> Keyed for Q {
-    ghost key = { λ value. Q.bytes value ∷ [] };
-}
-
-impl<C: Bytewise> Content for C {
-    ghost spelling = { C.bytes };
-
-    ghost key_of = { λ bytes. bytes ∷ [] };
-
-    ghost key_of_spelling = { λ _. refl };
-}
-
-impl<C: Bytewise> Spelled for C {
-    fn spelling(&self) -> &[u8] {
-        self.compared_bytes()
-    }
+        ensures { Self.key self.now ≡ result.now ∷ [] };
 }
 
 impl<Q: Bytewise, C: Bytewise> Sought<C> for Q {
@@ -51,25 +31,31 @@ impl<Q: Bytewise, C: Bytewise> Sought<C> for Q {
     }
 }
 
-impl Bytewise for &str {
-    ghost bytes = { λ text. text.now };
+impl Keyed for &str {
+    ghost key = { λ text. text.now ∷ [] };
+}
 
+impl Bytewise for &str {
     fn compared_bytes(&self) -> &[u8] {
         self.as_bytes()
     }
 }
 
-impl Bytewise for &[u8] {
-    ghost bytes = { λ bytes. bytes.now };
+impl Keyed for &[u8] {
+    ghost key = { λ bytes. bytes.now ∷ [] };
+}
 
+impl Bytewise for &[u8] {
     fn compared_bytes(&self) -> &[u8] {
         *self
     }
 }
 
-impl<'a> Bytewise for BStr<'a> {
-    ghost bytes = { bstr_bytes };
+impl<'a> Keyed for BStr<'a> {
+    ghost key = { λ string. bstr_bytes string ∷ [] };
+}
 
+impl<'a> Bytewise for BStr<'a> {
     fn compared_bytes(&self) -> &[u8] {
         self.as_bytes()
     }

@@ -1,11 +1,12 @@
 //! C strings as contents.
-ghost use Rattle.std.specs.Prelude.{◌≡◌};
+ghost use Rattle.std.specs.Prelude.{◌≡◌, [], ◌∷◌, refl};
 ghost use Rattle.intaglio_cstr.specs.CStr.{c_str_spelling};
 ghost use Rattle.intaglio_cstr.specs.CStrContent.{c_str_content_bytes};
+ghost use Rattle.intaglio_cstr.specs.declared.content.CStrContent.TheVariants.{Borrowed, Owned};
 
 use crate::c_str::CStr;
 use crate::c_string::CString;
-use intaglio_content::{Bytewise, Formed, LookedUp};
+use intaglio_content::{Bytewise, Content, Formed, Keyed, LookedUp, Spelled};
 
 /// A C string that a table stores. Its spelling is its bytes before the ending zero, and its key is that one item.
 ///
@@ -36,8 +37,6 @@ impl CStrContent {
 }
 
 impl From<CStr<'static>> for CStrContent {
-    ghost use Rattle.intaglio_cstr.specs.declared.content.CStrContent.TheVariants.{Borrowed};
-
     ghost from_gives = { λ text content. content ≡ Borrowed text };
 
     fn from(text: CStr<'static>) -> CStrContent {
@@ -46,8 +45,6 @@ impl From<CStr<'static>> for CStrContent {
 }
 
 impl From<CString> for CStrContent {
-    ghost use Rattle.intaglio_cstr.specs.declared.content.CStrContent.TheVariants.{Owned};
-
     ghost from_gives = { λ text content. content ≡ Owned text };
 
     fn from(text: CString) -> CStrContent {
@@ -55,19 +52,37 @@ impl From<CString> for CStrContent {
     }
 }
 
-impl<'a> Bytewise for CStr<'a> {
-    ghost bytes = { c_str_spelling };
+impl<'a> Keyed for CStr<'a> {
+    ghost key = { λ text. c_str_spelling text ∷ [] };
+}
 
+impl<'a> Bytewise for CStr<'a> {
     fn compared_bytes(&self) -> &[u8] {
         self.to_bytes()
     }
 }
 
-impl Bytewise for CStrContent {
-    ghost bytes = { c_str_content_bytes };
+impl Keyed for CStrContent {
+    ghost key = { λ content. c_str_content_bytes content ∷ [] };
+}
 
+impl Content for CStrContent {
+    ghost spelling = { c_str_content_bytes };
+
+    ghost key_of = { λ bytes. bytes ∷ [] };
+
+    ghost key_of_spelling = { λ _. refl };
+}
+
+impl Bytewise for CStrContent {
     fn compared_bytes(&self) -> &[u8] {
         self.form().to_bytes()
+    }
+}
+
+impl Spelled for CStrContent {
+    fn spelling(&self) -> &[u8] {
+        self.compared_bytes()
     }
 }
 

@@ -3,6 +3,7 @@ ghost use Rattle.std.specs.Prelude.{◌≡◌, refl};
 ghost use Rattle.intaglio_path.specs.Components.{components};
 ghost use Rattle.intaglio_path.specs.Path.{path_text};
 ghost use Rattle.intaglio_path.specs.PathContent.{path_content_bytes};
+ghost use Rattle.intaglio_path.specs.declared.content.PathContent.TheVariants.{Borrowed, Owned};
 
 use crate::path::Path;
 use intaglio_content::{Content, Formed, Keyed, LookedUp, Sought, Spelled, Work};
@@ -37,8 +38,6 @@ impl PathContent {
 }
 
 impl From<&'static str> for PathContent {
-    ghost use Rattle.intaglio_path.specs.declared.content.PathContent.TheVariants.{Borrowed};
-
     ghost from_gives = { λ text content. content ≡ Borrowed text };
 
     fn from(text: &'static str) -> PathContent {
@@ -47,8 +46,6 @@ impl From<&'static str> for PathContent {
 }
 
 impl From<String> for PathContent {
-    ghost use Rattle.intaglio_path.specs.declared.content.PathContent.TheVariants.{Owned};
-
     ghost from_gives = { λ text content. content ≡ Owned text };
 
     fn from(text: String) -> PathContent {

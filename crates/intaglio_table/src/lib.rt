@@ -5,8 +5,6 @@
 //! name that it has there.
 #![tactic(auto)]
 
-mod names;
 mod table;
 
-pub use names::{BStrings, Bytestrings, CStrings, OsStrings, Paths, Texts};
-pub use table::Table;
+pub use table::{BStrings, Bytestrings, CStrings, OsStrings, Paths, Table, Texts};

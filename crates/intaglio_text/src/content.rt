@@ -1,8 +1,9 @@
 //! Texts as contents.
-ghost use Rattle.std.specs.Prelude.{◌≡◌};
+ghost use Rattle.std.specs.Prelude.{◌≡◌, [], ◌∷◌, refl};
 ghost use Rattle.intaglio_text.specs.StrContent.{str_content_bytes};
+ghost use Rattle.intaglio_text.specs.declared.content.StrContent.TheVariants.{Borrowed, Owned};
 
-use intaglio_content::{Bytewise, Formed, LookedUp};
+use intaglio_content::{Bytewise, Content, Formed, Keyed, LookedUp, Spelled};
 
 /// A text that a table stores. Its spelling is its UTF-8 bytes, and its key is that one item.
 ///
@@ -32,8 +33,6 @@ impl StrContent {
 }
 
 impl From<&'static str> for StrContent {
-    ghost use Rattle.intaglio_text.specs.declared.content.StrContent.TheVariants.{Borrowed};
-
     ghost from_gives = { λ text content. content ≡ Borrowed text };
 
     fn from(text: &'static str) -> StrContent {
@@ -42,8 +41,6 @@ impl From<&'static str> for StrContent {
 }
 
 impl From<String> for StrContent {
-    ghost use Rattle.intaglio_text.specs.declared.content.StrContent.TheVariants.{Owned};
-
     ghost from_gives = { λ text content. content ≡ Owned text };
 
     fn from(text: String) -> StrContent {
@@ -51,11 +48,27 @@ impl From<String> for StrContent {
     }
 }
 
-impl Bytewise for StrContent {
-    ghost bytes = { str_content_bytes };
+impl Keyed for StrContent {
+    ghost key = { λ content. str_content_bytes content ∷ [] };
+}
 
+impl Content for StrContent {
+    ghost spelling = { str_content_bytes };
+
+    ghost key_of = { λ bytes. bytes ∷ [] };
+
+    ghost key_of_spelling = { λ _. refl };
+}
+
+impl Bytewise for StrContent {
     fn compared_bytes(&self) -> &[u8] {
         self.form().as_bytes()
+    }
+}
+
+impl Spelled for StrContent {
+    fn spelling(&self) -> &[u8] {
+        self.compared_bytes()
     }
 }
 

@@ -1,13 +1,14 @@
 //! Contents of each kind, made of their spelling, and the bytes of what is read back.
 use super::builders::Watched;
+use super::replies::paired;
 use super::steps::{Steps, walks};
-use super::table::{Found, Read, look_at, look_up, walk_pairs};
+use super::table::{Found, Read, read_at, walk_pairs};
 use crate::bstr::BStrContent;
 use crate::bytes::BytesContent;
 use crate::cstr::{CStr, CStrContent, CString};
 use crate::osstr::OsStrContent;
 use crate::path::{Path, PathContent};
-use crate::{Formed, Sought, Spelled, StrContent, Symbol, Table};
+use crate::{Formed, Reply, Sought, Spelled, StrContent, Symbol, Table};
 use std::alloc::Global;
 use std::process::Abort;
 use std::str;
@@ -49,11 +50,18 @@ impl Made for StrContent {
     }
 
     fn find_in<S: Watched>(&self, alloc: Global, table: &Table<StrContent, S>) -> Found {
-        look_up(table, alloc, self.form())
+        Found {
+            check: Reply::Symbol(table.check_interned(self.form())),
+            pair: match table.get_interned(self.form()) {
+                None => Reply::Pair(None),
+                Some((symbol, form)) => paired(alloc, symbol, form),
+            },
+            is: Reply::Bool(table.is_interned(self.form())),
+        }
     }
 
     fn read_in<S: Watched>(alloc: Global, table: &Table<StrContent, S>, symbol: Symbol) -> Read {
-        look_at(table, alloc, symbol)
+        read_at(table, alloc, symbol)
     }
 
     fn go_through<R: Abort, S: Watched>(
@@ -77,11 +85,18 @@ impl Made for OsStrContent {
     }
 
     fn find_in<S: Watched>(&self, alloc: Global, table: &Table<OsStrContent, S>) -> Found {
-        look_up(table, alloc, self.form())
+        Found {
+            check: Reply::Symbol(table.check_interned(self.form())),
+            pair: match table.get_interned(self.form()) {
+                None => Reply::Pair(None),
+                Some((symbol, form)) => paired(alloc, symbol, form),
+            },
+            is: Reply::Bool(table.is_interned(self.form())),
+        }
     }
 
     fn read_in<S: Watched>(alloc: Global, table: &Table<OsStrContent, S>, symbol: Symbol) -> Read {
-        look_at(table, alloc, symbol)
+        read_at(table, alloc, symbol)
     }
 
     fn go_through<R: Abort, S: Watched>(
@@ -105,11 +120,18 @@ impl Made for BytesContent {
     }
 
     fn find_in<S: Watched>(&self, alloc: Global, table: &Table<BytesContent, S>) -> Found {
-        look_up(table, alloc, self.form())
+        Found {
+            check: Reply::Symbol(table.check_interned(self.form())),
+            pair: match table.get_interned(self.form()) {
+                None => Reply::Pair(None),
+                Some((symbol, form)) => paired(alloc, symbol, form),
+            },
+            is: Reply::Bool(table.is_interned(self.form())),
+        }
     }
 
     fn read_in<S: Watched>(alloc: Global, table: &Table<BytesContent, S>, symbol: Symbol) -> Read {
-        look_at(table, alloc, symbol)
+        read_at(table, alloc, symbol)
     }
 
     fn go_through<R: Abort, S: Watched>(
@@ -133,11 +155,18 @@ impl Made for BStrContent {
     }
 
     fn find_in<S: Watched>(&self, alloc: Global, table: &Table<BStrContent, S>) -> Found {
-        look_up(table, alloc, self.form())
+        Found {
+            check: Reply::Symbol(table.check_interned(self.form())),
+            pair: match table.get_interned(self.form()) {
+                None => Reply::Pair(None),
+                Some((symbol, form)) => paired(alloc, symbol, form),
+            },
+            is: Reply::Bool(table.is_interned(self.form())),
+        }
     }
 
     fn read_in<S: Watched>(alloc: Global, table: &Table<BStrContent, S>, symbol: Symbol) -> Read {
-        look_at(table, alloc, symbol)
+        read_at(table, alloc, symbol)
     }
 
     fn go_through<R: Abort, S: Watched>(
@@ -162,11 +191,18 @@ impl Made for CStrContent {
     }
 
     fn find_in<S: Watched>(&self, alloc: Global, table: &Table<CStrContent, S>) -> Found {
-        look_up(table, alloc, self.form())
+        Found {
+            check: Reply::Symbol(table.check_interned(self.form())),
+            pair: match table.get_interned(self.form()) {
+                None => Reply::Pair(None),
+                Some((symbol, form)) => paired(alloc, symbol, form),
+            },
+            is: Reply::Bool(table.is_interned(self.form())),
+        }
     }
 
     fn read_in<S: Watched>(alloc: Global, table: &Table<CStrContent, S>, symbol: Symbol) -> Read {
-        look_at(table, alloc, symbol)
+        read_at(table, alloc, symbol)
     }
 
     fn go_through<R: Abort, S: Watched>(
@@ -190,11 +226,18 @@ impl Made for PathContent {
     }
 
     fn find_in<S: Watched>(&self, alloc: Global, table: &Table<PathContent, S>) -> Found {
-        look_up(table, alloc, self.form())
+        Found {
+            check: Reply::Symbol(table.check_interned(self.form())),
+            pair: match table.get_interned(self.form()) {
+                None => Reply::Pair(None),
+                Some((symbol, form)) => paired(alloc, symbol, form),
+            },
+            is: Reply::Bool(table.is_interned(self.form())),
+        }
     }
 
     fn read_in<S: Watched>(alloc: Global, table: &Table<PathContent, S>, symbol: Symbol) -> Read {
-        look_at(table, alloc, symbol)
+        read_at(table, alloc, symbol)
     }
 
     fn go_through<R: Abort, S: Watched>(

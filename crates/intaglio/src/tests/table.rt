@@ -1,9 +1,9 @@
 //! The calls of a table in a form that a script can make, for tables of any kind.
 use super::builders::{Fold, Watched};
 use super::contents::{Made, Shown};
-use super::replies::{interned, paired, roomy, spelled, taken};
+use super::replies::{interned, roomy, spelled, taken};
 use super::steps::{Steps, walks};
-use crate::{AllSymbols, Formed, LookedUp, Mark, Reply, RoomError, Symbol};
+use crate::{AllSymbols, Formed, Mark, Reply, RoomError, Symbol};
 use std::alloc::Global;
 use std::process::Abort;
 
@@ -106,27 +106,8 @@ pub trait New: Table {
     fn make(alloc: Global, how: Make) -> Result<Self, RoomError>;
 }
 
-/// What the look-ups by a borrowed form answer.
-pub fn look_up<'a, C: Formed<'a> + LookedUp<'a>, S: Watched>(
-    table: &'a crate::Table<C, S>,
-    alloc: Global,
-    sought: <C as LookedUp<'a>>::By,
-) -> Found
-where
-    <C as LookedUp<'a>>::By: Copy,
-    C::Form: Shown,
-{
-    let check = Reply::Symbol(table.check_interned(sought));
-    let is = Reply::Bool(table.is_interned(sought));
-    let pair = match table.get_interned(sought) {
-        None => Reply::Pair(None),
-        Some((symbol, form)) => paired(alloc, symbol, form),
-    };
-    Found { check, pair, is }
-}
-
 /// What the look-ups by a symbol answer.
-pub fn look_at<'a, C: Formed<'a>, S: Watched>(
+pub fn read_at<'a, C: Formed<'a>, S: Watched>(
     table: &'a crate::Table<C, S>,
     alloc: Global,
     symbol: Symbol,

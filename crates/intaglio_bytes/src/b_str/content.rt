@@ -1,10 +1,11 @@
 //! Byte strings of the crate `bstr` as contents.
-ghost use Rattle.std.specs.Prelude.{◌≡◌};
+ghost use Rattle.std.specs.Prelude.{◌≡◌, [], ◌∷◌, refl};
 ghost use Rattle.bstr.specs.BStr.{bstr_bytes};
 ghost use Rattle.intaglio_bytes.specs.BStrContent.{bstr_content_bytes};
+ghost use Rattle.intaglio_bytes.specs.declared.b_str.content.BStrContent.TheVariants.{Borrowed, Owned};
 
 use bstr::{BStr, BString};
-use intaglio_content::{Bytewise, Formed, LookedUp};
+use intaglio_content::{Bytewise, Content, Formed, Keyed, LookedUp, Spelled};
 
 /// A byte string that a table stores. Its spelling is its bytes, and its key is that one item.
 ///
@@ -35,8 +36,6 @@ impl BStrContent {
 }
 
 impl From<BStr<'static>> for BStrContent {
-    ghost use Rattle.intaglio_bytes.specs.declared.b_str.content.BStrContent.TheVariants.{Borrowed};
-
     ghost from_gives = { λ text content. content ≡ Borrowed text };
 
     fn from(text: BStr<'static>) -> BStrContent {
@@ -45,8 +44,6 @@ impl From<BStr<'static>> for BStrContent {
 }
 
 impl From<BString> for BStrContent {
-    ghost use Rattle.intaglio_bytes.specs.declared.b_str.content.BStrContent.TheVariants.{Owned};
-
     ghost from_gives = { λ text content. content ≡ Owned text };
 
     fn from(text: BString) -> BStrContent {
@@ -54,11 +51,27 @@ impl From<BString> for BStrContent {
     }
 }
 
-impl Bytewise for BStrContent {
-    ghost bytes = { bstr_content_bytes };
+impl Keyed for BStrContent {
+    ghost key = { λ content. bstr_content_bytes content ∷ [] };
+}
 
+impl Content for BStrContent {
+    ghost spelling = { bstr_content_bytes };
+
+    ghost key_of = { λ bytes. bytes ∷ [] };
+
+    ghost key_of_spelling = { λ _. refl };
+}
+
+impl Bytewise for BStrContent {
     fn compared_bytes(&self) -> &[u8] {
         self.form().as_bytes()
+    }
+}
+
+impl Spelled for BStrContent {
+    fn spelling(&self) -> &[u8] {
+        self.compared_bytes()
     }
 }
 

@@ -1,8 +1,9 @@
 //! Byte strings as contents.
-ghost use Rattle.std.specs.Prelude.{◌≡◌};
+ghost use Rattle.std.specs.Prelude.{◌≡◌, [], ◌∷◌, refl};
 ghost use Rattle.intaglio_bytes.specs.BytesContent.{bytes_content_bytes};
+ghost use Rattle.intaglio_bytes.specs.declared.bytes.content.BytesContent.TheVariants.{Borrowed, Owned};
 
-use intaglio_content::{Bytewise, Formed, LookedUp};
+use intaglio_content::{Bytewise, Content, Formed, Keyed, LookedUp, Spelled};
 
 /// A byte string that a table stores. Its spelling is its bytes, and its key is that one item.
 ///
@@ -32,8 +33,6 @@ impl BytesContent {
 }
 
 impl From<&'static [u8]> for BytesContent {
-    ghost use Rattle.intaglio_bytes.specs.declared.bytes.content.BytesContent.TheVariants.{Borrowed};
-
     ghost from_gives = { λ bytes content. content ≡ Borrowed bytes };
 
     fn from(bytes: &'static [u8]) -> BytesContent {
@@ -42,8 +41,6 @@ impl From<&'static [u8]> for BytesContent {
 }
 
 impl From<Vec<u8>> for BytesContent {
-    ghost use Rattle.intaglio_bytes.specs.declared.bytes.content.BytesContent.TheVariants.{Owned};
-
     ghost from_gives = { λ bytes content. content ≡ Owned bytes };
 
     fn from(bytes: Vec<u8>) -> BytesContent {
@@ -51,11 +48,27 @@ impl From<Vec<u8>> for BytesContent {
     }
 }
 
-impl Bytewise for BytesContent {
-    ghost bytes = { bytes_content_bytes };
+impl Keyed for BytesContent {
+    ghost key = { λ content. bytes_content_bytes content ∷ [] };
+}
 
+impl Content for BytesContent {
+    ghost spelling = { bytes_content_bytes };
+
+    ghost key_of = { λ bytes. bytes ∷ [] };
+
+    ghost key_of_spelling = { λ _. refl };
+}
+
+impl Bytewise for BytesContent {
     fn compared_bytes(&self) -> &[u8] {
         self.form()
+    }
+}
+
+impl Spelled for BytesContent {
+    fn spelling(&self) -> &[u8] {
+        self.compared_bytes()
     }
 }
 

@@ -1,8 +1,9 @@
 //! Platform strings as contents. They are UTF-8 texts here.
-ghost use Rattle.std.specs.Prelude.{◌≡◌};
+ghost use Rattle.std.specs.Prelude.{◌≡◌, [], ◌∷◌, refl};
 ghost use Rattle.intaglio_text.specs.OsStrContent.{os_str_content_bytes};
+ghost use Rattle.intaglio_text.specs.declared.osstr.content.OsStrContent.TheVariants.{Borrowed, Owned};
 
-use intaglio_content::{Bytewise, Formed, LookedUp};
+use intaglio_content::{Bytewise, Content, Formed, Keyed, LookedUp, Spelled};
 
 /// A platform string that a table stores: a UTF-8 text. Its spelling is its bytes, and its key is that one item.
 ///
@@ -32,8 +33,6 @@ impl OsStrContent {
 }
 
 impl From<&'static str> for OsStrContent {
-    ghost use Rattle.intaglio_text.specs.declared.osstr.content.OsStrContent.TheVariants.{Borrowed};
-
     ghost from_gives = { λ text content. content ≡ Borrowed text };
 
     fn from(text: &'static str) -> OsStrContent {
@@ -42,8 +41,6 @@ impl From<&'static str> for OsStrContent {
 }
 
 impl From<String> for OsStrContent {
-    ghost use Rattle.intaglio_text.specs.declared.osstr.content.OsStrContent.TheVariants.{Owned};
-
     ghost from_gives = { λ text content. content ≡ Owned text };
 
     fn from(text: String) -> OsStrContent {
@@ -51,11 +48,27 @@ impl From<String> for OsStrContent {
     }
 }
 
-impl Bytewise for OsStrContent {
-    ghost bytes = { os_str_content_bytes };
+impl Keyed for OsStrContent {
+    ghost key = { λ content. os_str_content_bytes content ∷ [] };
+}
 
+impl Content for OsStrContent {
+    ghost spelling = { os_str_content_bytes };
+
+    ghost key_of = { λ bytes. bytes ∷ [] };
+
+    ghost key_of_spelling = { λ _. refl };
+}
+
+impl Bytewise for OsStrContent {
     fn compared_bytes(&self) -> &[u8] {
         self.form().as_bytes()
+    }
+}
+
+impl Spelled for OsStrContent {
+    fn spelling(&self) -> &[u8] {
+        self.compared_bytes()
     }
 }
 

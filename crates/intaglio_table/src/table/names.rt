@@ -1,7 +1,7 @@
 //! The iterator over contents, by the name that each kind gives it.
 ghost use Rattle.std.specs.Prelude.{◌≡◌, ◌≤◌, ◌^◌, map, length};
 
-use crate::table::Table;
+use super::Table;
 use intaglio_core::{Content, Formed, Forms};
 use std::hash::BuildHasher;
 
@@ -29,7 +29,7 @@ impl<'a, C: Formed<'a> + Texts, S: BuildHasher> Table<C, S> {
         ensures all { result ≡ map C.spelling self.now.state.contents }
         ensures bound { length result ≤ 2 ^ 32 }
     {
-        self.forms()
+        self.core.forms()
     }
 }
 
@@ -39,7 +39,7 @@ impl<'a, C: Formed<'a> + Bytestrings, S: BuildHasher> Table<C, S> {
         ensures all { result ≡ map C.spelling self.now.state.contents }
         ensures bound { length result ≤ 2 ^ 32 }
     {
-        self.forms()
+        self.core.forms()
     }
 }
 
@@ -49,7 +49,7 @@ impl<'a, C: Formed<'a> + BStrings, S: BuildHasher> Table<C, S> {
         ensures all { result ≡ map C.spelling self.now.state.contents }
         ensures bound { length result ≤ 2 ^ 32 }
     {
-        self.forms()
+        self.core.forms()
     }
 }
 
@@ -59,7 +59,7 @@ impl<'a, C: Formed<'a> + CStrings, S: BuildHasher> Table<C, S> {
         ensures all { result ≡ map C.spelling self.now.state.contents }
         ensures bound { length result ≤ 2 ^ 32 }
     {
-        self.forms()
+        self.core.forms()
     }
 }
 
@@ -69,7 +69,7 @@ impl<'a, C: Formed<'a> + OsStrings, S: BuildHasher> Table<C, S> {
         ensures all { result ≡ map C.spelling self.now.state.contents }
         ensures bound { length result ≤ 2 ^ 32 }
     {
-        self.forms()
+        self.core.forms()
     }
 }
 
@@ -79,6 +79,6 @@ impl<'a, C: Formed<'a> + Paths, S: BuildHasher> Table<C, S> {
         ensures all { result ≡ map C.spelling self.now.state.contents }
         ensures bound { length result ≤ 2 ^ 32 }
     {
-        self.forms()
+        self.core.forms()
     }
 }
