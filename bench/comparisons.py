@@ -75,12 +75,14 @@ COMPARISONS = {
     ),
 }
 
-# Hashing alone, on so few words that they stay in the processor's caches: ours and Rust's.
-HASHINGS = [
-    ("FoldHasher", Run("single", "fold", 0, 1_000), Run("crate", "fold", 0, 1_000)),
-    ("SipHash-1-3, ours by KeyedState", Run("single", "keyed", 0, 1_000), Run("crate", "std", 0, 1_000)),
-    ("SipHash-1-3, ours by the toolchain's RandomState", Run("single", "std", 0, 1_000), Run("crate", "std", 0, 1_000)),
-]
+# Hashing alone, on so few words that they stay in the processor's caches. The last is what the others are compared with.
+HASHINGS = {
+    "ours: FoldHasher": Run("single", "fold", 0, 1_000),
+    "ours: KeyedState": Run("single", "keyed", 0, 1_000),
+    "ours: the toolchain's RandomState": Run("single", "std", 0, 1_000),
+    "Rust: the port of FoldHasher": Run("crate", "fold", 0, 1_000),
+    "Rust: RandomState": Run("crate", "std", 0, 1_000),
+}
 
 
 def runs_of(sizes, has_rivals):

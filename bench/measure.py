@@ -13,7 +13,7 @@ FILLS = {1_000: 200, 10_000: 30, 100_000: 6, 1_000_000: 2, 4_000_000: 1}
 def measure(programs, sizes, turns, has_rivals):
     """Rows of turn, run, operation and its least nanoseconds; and the highest load average meanwhile."""
     runs = [("time", run) for run in runs_of(sizes, has_rivals)]
-    runs += [("hash", run) for run in dict.fromkeys(run for _, *pair in HASHINGS for run in pair)]
+    runs += [("hash", run) for run in HASHINGS.values()]
     rows, sums, load = [], {}, 0.0
     for turn in range(1, turns + 1):
         for task, run in runs:

@@ -1,13 +1,12 @@
 //! What is measured. Each operation returns a sum that shows what it found.
 
-use crate::table::Table;
-use std::hash::BuildHasher;
+use crate::table::{Table, hash_of};
 
 #[inline(never)]
 pub fn hash<T: Table>(table: &T, words: &[String]) -> u64 {
     let mut sum = 0u64;
     for word in words {
-        sum = sum.wrapping_add(table.hasher().hash_one(word.as_str()));
+        sum = sum.wrapping_add(hash_of(table.hasher(), word));
     }
     sum
 }

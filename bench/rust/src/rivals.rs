@@ -1,7 +1,7 @@
 //! Two tables that a user would otherwise write or pick: hashbrown's table of numbers beside a list of boxed strings, and
 //! the same beside one buffer of text, as the crates `string-interner` and `lasso` have it. Growth hashes all texts again.
 
-use crate::table::Table;
+use crate::table::{Table, hash_of};
 use hashbrown::raw::RawTable;
 use std::hash::BuildHasher;
 
@@ -145,7 +145,7 @@ impl<T: Texts, S: BuildHasher> Table for Rival<T, S> {
 
     #[inline]
     fn intern(&mut self, text: String) -> Option<u32> {
-        let hash = self.builder.hash_one(&*text);
+        let hash = hash_of(&self.builder, &text);
         let found = self.find_hashed(hash, &text);
         if found.is_some() {
             return found;
@@ -154,14 +154,14 @@ impl<T: Texts, S: BuildHasher> Table for Rival<T, S> {
         self.texts.push(text);
         let (texts, builder) = (&self.texts, &self.builder);
         self.numbers.insert(hash, number, |it| {
-            builder.hash_one(texts.get(*it).unwrap_or_default())
+            hash_of(builder, texts.get(*it).unwrap_or_default())
         });
         Some(number)
     }
 
     #[inline]
     fn find(&self, text: &str) -> Option<u32> {
-        self.find_hashed(self.builder.hash_one(text), text)
+        self.find_hashed(hash_of(&self.builder, text), text)
     }
 
     #[inline]

@@ -1,7 +1,16 @@
 //! What the measured tables have in common, and the table of the Rust crate `intaglio`.
 
 use intaglio::{Symbol, SymbolTable};
-use std::hash::BuildHasher;
+use std::hash::{BuildHasher, Hasher};
+
+/// The hash of a text. These are the writes of `Hash` for `str`, which isn't always inlined.
+#[inline(always)]
+pub fn hash_of<S: BuildHasher>(builder: &S, text: &str) -> u64 {
+    let mut hasher = builder.build_hasher();
+    hasher.write(text.as_bytes());
+    hasher.write_u8(0xff);
+    hasher.finish()
+}
 
 /// A table that gives each distinct text a number.
 pub trait Table {

@@ -1,4 +1,5 @@
-//! Measures the table of texts on generated words. Its twin in Rust, in `bench/rust`, makes the same calls on the same words.
+//! Measures the table of texts on generated words. The program in `bench/rust` makes the same calls on
+//! the same words.
 #![tactic(auto)]
 
 mod operations;

@@ -174,7 +174,8 @@ impl Hasher for KeyedHasher {
 
     ghost finish = { sip_finish };
 
-    #[inline]
+    // Where this is a call of its own, the state goes through memory, and a hashing takes half as long again.
+    #[inline(always)]
     fn write(&mut self, bytes: &[u8]) {
         if bytes.len() < 8 {
             self.push(read_short(bytes), bytes.len() as u64);

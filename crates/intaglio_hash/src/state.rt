@@ -55,7 +55,8 @@ impl KeyedState {
     /// assert!(rt; state.hash_one("word") == KeyedState::from_random(&random).hash_one("word"));
     /// ```
     pub fn from_random(random: &RandomState) -> KeyedState
-        ensures { initial_hasher result ≡ with_keys (random_key random.now 0) (random_key random.now 1) }
+        ensures { let key = random_key random.now in
+            initial_hasher result ≡ with_keys (key 0) (key 1) }
     {
         KeyedState::with_keys(random.hash_one(0u64), random.hash_one(1u64))
     }
