@@ -25,8 +25,8 @@ OPERATIONS = {
 
 COLUMNS = ["turn", "table", "hashing", "capacity", "size", "operation", "value"]
 
-LEGEND = """Each cell is a time over that of the Rust crate `intaglio` in the same row and column: the least of all turns over the least of
-all turns. Below 1 it is less than the Rust crate's. In brackets stand the Rust crate's nanoseconds for each word.
+LEGEND = """Each cell is the least time of all turns over that of the Rust crate `intaglio` under the hashers that the heading names. Below 1
+it takes less than the Rust crate. In brackets stand the Rust crate's nanoseconds for each word.
 
 - ours: the proved table
 - boxes: hashbrown's table of numbers beside a list of boxed strings
@@ -57,11 +57,11 @@ def read_results(path):
 def page(times):
     """All tables."""
     sizes = sorted({run.size for run, operation in times if operation == "new"})
-    parts = [LEGEND, "# One word a call", ""]
+    parts = [LEGEND, "## One word a call", ""]
     for comparison in COMPARISONS.values():
         for capacity in CAPACITIES:
             parts += single_table(times, comparison, capacity, sizes)
-    parts += ["# A batch of 64 words a call, beside the Rust crate's call for each word", ""]
+    parts += ["## A batch of 64 words a call, beside the Rust crate's call for each word", ""]
     for comparison in COMPARISONS.values():
         for capacity in CAPACITIES:
             parts += batch_table(times, comparison, capacity, sizes)
@@ -72,7 +72,7 @@ def single_table(times, comparison, capacity, sizes):
     """Ratios of single calls."""
     sides = [side for side in comparison.sides if (comparison.run(side, capacity, sizes[0]), "new") in times]
     said = " / ".join(side.name for side in sides)
-    lines = [f"## {comparison.title}; {capacity}", "", f"{said} (the Rust crate's nanoseconds)", "", *head(sizes)]
+    lines = [f"### {comparison.title}; {capacity}", "", f"{said} (the Rust crate's nanoseconds)", "", *head(sizes)]
     for operation, name in OPERATIONS.items():
         cells = []
         for size in sizes:
@@ -86,7 +86,8 @@ def single_table(times, comparison, capacity, sizes):
 
 def batch_table(times, comparison, capacity, sizes):
     """Ratios of calls that take a batch."""
-    lines = [f"## {comparison.title}; {capacity}", "", "ours over the Rust crate's single calls / over our own", "", *head(sizes)]
+    said = "ours over the Rust crate's single calls / over our own"
+    lines = [f"### {comparison.title}; {capacity}", "", said, "", *head(sizes)]
     for operation, name in OPERATIONS.items():
         cells = []
         for size in sizes:
@@ -102,7 +103,7 @@ def batch_table(times, comparison, capacity, sizes):
 
 def hash_table(times):
     """Nanoseconds of hashing alone."""
-    lines = ["# Hashing alone", "", "| hasher | nanoseconds a word | over Rust's RandomState |", "|---|---|---|"]
+    lines = ["## Hashing alone", "", "| hasher | nanoseconds a word | over Rust's RandomState |", "|---|---|---|"]
     *_, base = HASHINGS.values()
     for name, run in HASHINGS.items():
         lines.append(row(name, [f"{times[run, 'hash']:.1f}", ratio(times[run, "hash"], times[base, "hash"])]))
@@ -116,7 +117,7 @@ def memory_table(times):
     sizes = sorted({run.size for run, operation in times if operation == "resident"})
     held = [side for side in sides if sizes and (comparison.run(side, "grown", sizes[0]), "resident") in times]
     names = [side.name for side in held]
-    lines = ["# Memory: resident bytes for each symbol (at most while it was filled)", ""]
+    lines = ["## Memory: resident bytes for each symbol (at most while it was filled)", ""]
     lines += [row("words", ["capacity", *names, "ours over the Rust crate's", "bytes of text"])]
     lines += ["|---" * (len(names) + 4) + "|"]
     for size in sizes:

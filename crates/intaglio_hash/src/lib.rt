@@ -1,3 +1,4 @@
+#![tactic(auto)]
 //! A hasher with two keys: SipHash-1-3, with the values of std's hashers.
 //!
 //! A table hashes contents with the hashers that its builder makes. These are the builders to choose from:
@@ -21,7 +22,6 @@
 //!
 //! What is proved is that the hashes are those of std's hasher under the same keys. That SipHash spreads hashes well and
 //! can't be predicted rests on the work of its authors.
-#![tactic(auto)]
 
 mod hasher;
 mod state;
