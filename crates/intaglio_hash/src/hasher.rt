@@ -18,6 +18,9 @@ use std::marker::Model;
 /// `Debug` doesn't print the state.
 ///
 /// ```
+/// use intaglio_hash::KeyedHasher;
+/// use std::hash::{DefaultHasher, Hasher};
+///
 /// let mut hasher = KeyedHasher::with_keys(0, 0);
 /// hasher.write(b"wo");
 /// hasher.write(b"rd");
@@ -51,6 +54,8 @@ impl KeyedHasher {
     /// A hasher with these two keys, to which nothing was written.
     ///
     /// ```
+    /// # use intaglio_hash::KeyedHasher;
+    /// # use std::hash::{DefaultHasher, Hasher};
     /// let hasher = KeyedHasher::with_keys(0, 0);
     /// assert!(rt; hasher.finish() == DefaultHasher::new().finish());
     /// ```

@@ -16,8 +16,12 @@ use std::hash::{BuildHasher, RandomState};
 /// Copies have the same keys. `Debug` doesn't print them.
 ///
 /// ```
+/// use intaglio_hash::KeyedState;
+/// use std::collections::HashMap;
+/// use std::hash::RandomState;
+///
 /// let state = KeyedState::from_random(&RandomState::new(&rt)?);
-/// let mut counts = HashMap::with_hasher(alloc, state);
+/// let mut counts = HashMap::with_hasher(rt.alloc(), state);
 /// counts.insert("word", 1)?;
 /// assert!(rt; counts.get(&"word") == Some(&1));
 /// ```
@@ -34,6 +38,8 @@ impl KeyedState {
     /// while they are random and secret.
     ///
     /// ```
+    /// # use intaglio_hash::KeyedState;
+    /// # use std::hash::BuildHasher;
     /// let state = KeyedState::with_keys(0, 0);
     /// assert!(rt; state.hash_one("word") == 0xcbb9_9deb_b8ab_baae);
     /// ```
@@ -50,6 +56,8 @@ impl KeyedState {
     /// doesn't show its keys. The same `random` always gives the same builder.
     ///
     /// ```
+    /// # use intaglio_hash::KeyedState;
+    /// # use std::hash::{BuildHasher, RandomState};
     /// let random = RandomState::new(&rt)?;
     /// let state = KeyedState::from_random(&random);
     /// assert!(rt; state.hash_one("word") == KeyedState::from_random(&random).hash_one("word"));
