@@ -115,3 +115,62 @@ def ran_tests(crate):
     command = [load().rtlib.RUNNER, "--seconds", "60", f"{crate.folder}/out/{crate.name}_tests"]
     ran = subprocess.run(command, stdin=subprocess.DEVNULL, stdout=subprocess.PIPE, stderr=subprocess.STDOUT, errors="replace")
     return ran.returncode, ran.stdout
+
+
+def lines_of(crate):
+    """How many lines the crate's source has, without its tests."""
+    files = (Path(it) for it in load().rtlib.files_of(crate.folder))
+    return sum(it.read_bytes().count(b"\n") for it in files if not {"tests", "tests.rt"} & {*it.parts})
+
+
+def of_program(name):
+    """The crates that a program stands on, and it, lowest first, each with what it writes in a place of its own."""
+    crate = next((it for it in crates() if it.name == name), None) or sys.exit(f"crates.txt lists no {name}")
+    found = [*crate.below(), crate]
+    for it in found:
+        it.rlib = f"{it.folder}/out/statements/{it.name}.rlib"
+    # No other rt works in them until this process ends.
+    of_program.held = load().rtlib.lock(found)
+    return found
+
+
+def is_proved(crate):
+    """Whether the crate was proved as it is now, with what stands below it."""
+    stamp = Path(crate.folder, "out/statements/stamp")
+    return stamp.is_file() and stamp.read_text(encoding="utf-8") == crate.stamp() and os.path.exists(made_of(crate))
+
+
+def made_of(crate):
+    return f"{crate.folder}/out/{crate.name}" if crate.is_program else crate.rlib
+
+
+def proved(crate, jobs):
+    """The status of proving the crate, and of building a program, from nothing, and what was printed."""
+    rt, stamp = load(), crate.stamp()
+    kept, made = os.path.dirname(crate.rlib), f"out/{crate.name}"
+    shutil.rmtree(kept, ignore_errors=True)
+    os.makedirs(kept)
+    words = crate.words(["--jobs", str(jobs)], keeps=False)
+    more = ["--toolchain", f"{rt.KIT}/toolchain", "--backend", "llvm", "-o", f"{made}.o"] if crate.is_program else ["--statements", "-o", crate.rlib]
+    with tempfile.TemporaryFile("w+", errors="replace") as crate.out:
+        try:
+            status = crate.prove(["build", *words, *more])
+            if not status and crate.is_program:
+                status = crate.link(f"{made}.o", made)
+        except SystemExit as stopped:
+            status = stopped.code or 2
+        if not status and stamp == crate.stamp():
+            Path(kept, "stamp").write_text(stamp, encoding="utf-8")
+        crate.out.seek(0)
+        return status, crate.out.read()
+
+
+def in_lanes(crates, prove):
+    """Proves these crates side by side, by `prove` of a crate and its jobs, each once those of them below it are proved, and returns whether all are."""
+    rt, names = load(), {it.name for it in crates}
+
+    def task(crate):
+        waits = [(it.name, "proof") for it in crate.below() if it.name in names]
+        return waits, lines_of(crate), rt.need(crate), lambda given, jobs: all(given[it] for it in waits) and prove(crate, jobs)
+
+    return all(rt.in_lanes({(it.name, "proof"): task(it) for it in crates}).values())
