@@ -25,9 +25,13 @@ PROVED = re.compile(r"^proved\b")
 # The function's own goals may all be closed: it can't be told, or is told, while a function that it calls isn't proved.
 CALLS_UNPROVED = re.compile(r"^(not proved; |no proof: )it calls")
 OPEN_GOAL = re.compile(r"^note: \S+:\d+:\d+: it is not proved that")
-LEFT_OPEN = re.compile(r"`search` did not prove")
+LEFT_OPEN = re.compile(r"`search` did not prove (?:`[^`]+`(?:, )?)+")
 # An error in the files of a function's proof: the path of the function, with / for ::. What is wrong may go on in lines that are indented.
 PROOF_ERROR = re.compile(r"^(?:\./)?proofs/(\S+)/(?:Answers|Invariants|Proof)\.antt:\d+:\d+: error: ")
+# The goal's name in a line of these, and what it is a goal of: of a clause, `clause-NAME`, or else by a word of its name.
+GOAL = re.compile(r"(?:error: `|\(`)([^`]+)`[:)]")
+OF_CLAUSE = re.compile(r"clause-([a-z]\w*)")
+OF_OTHERS = {"invariant_of": "invariant", "requires": "requires", "loop": "loop", "returns": "ensures"}
 # An answer that names what an edit took away. That shows nothing of the contract, and `rt must-fail` says so too.
 BROKEN_NAME = re.compile(r"has no field|is not in scope|has no `|was not admitted")
 
@@ -163,6 +167,11 @@ def proved(crate, jobs):
             Path(kept, "stamp").write_text(stamp, encoding="utf-8")
         crate.out.seek(0)
         return status, crate.out.read()
+
+
+def without_good_news(said):
+    """What a check printed, without the lines on what is proved and what was loaded."""
+    return re.sub(r"(?m)^(fn \S+: proved|statements |logic /|rt: chose ).*\n", "", said)
 
 
 def in_lanes(crates, prove):

@@ -1,0 +1,178 @@
+"""What the sources of the crates have: functions with their clauses, impls with their ghost members, definitions, tests, edits.
+
+It reads files as `rt fmt` lays them out, and nothing else.
+"""
+
+import re
+from pathlib import Path
+from typing import NamedTuple
+
+TOP = Path(__file__).resolve().parent.parent
+# How a clause without a name is cited, and what a type promises of each of its values.
+UNNAMED, INVARIANT = "ensures", "invariant"
+FN = re.compile(r"( *)(?:pub(?:\(\w+\))? )?(?:final |const |unsafe )*fn (\w+)")
+OWNER = re.compile(r"(?:pub(?:\(\w+\))? )?(?:unsafe )?(impl|trait)\b")
+TYPE = re.compile(r"(?:pub(?:\(\w+\))? )?(?:struct|enum|trait|type|mod|const|static) (\w+)")
+CLAUSE = re.compile(r"\s*(requires|ensures)\*?(?: (\w+))? \{ ?(.*?)(?: \};?)?$")
+MEMBER = re.compile(r" {4}(?:pub )?ghost (?!use\b)(\w+)")
+DEFINED = re.compile(r"(?:(?:pub|abbrev|record|data|opaque|unfoldable)\s+)*([^\s:(){},]+)\s*(?:[({].*)?:(?=\s|$)")
+FIELD = re.compile(r" +(?:pub )?(\w+) : ")
+
+
+class Function(NamedTuple):
+    """A function: where it is, the impl or trait that it stands in, and its clauses by their names."""
+
+    crate: str
+    file: str
+    line: int
+    owner: str
+    trait: str
+    name: str
+    clauses: dict
+    is_test: bool
+    text: str
+
+
+class Edit(NamedTuple):
+    """An edit: the function that it turns, the clauses by which it is refused, and the promise that it breaks."""
+
+    crate: str
+    folder: str
+    name: str
+    path: str
+    function: str
+    clauses: tuple
+    promise: str
+    beside: tuple
+    file: str
+    pairs: tuple
+
+
+def named(text):
+    """The last name of a path or type, without its arguments."""
+    return re.sub(r"<.*|\s.*", "", re.sub(r"^&+('\w+ )?(mut |dyn )?", "", text.strip())).split("::")[-1]
+
+
+def owner_of(header):
+    """The type and the trait of an impl's header, or a trait's own name twice."""
+    if found := re.search(r"\btrait (\w+)", header):
+        return found[1], found[1]
+    rest, depth = re.sub(r"^.*?\bimpl\b", "", header, count=1).strip(), 0
+    if rest.startswith("<"):
+        for at, letter in enumerate(rest):
+            depth += (letter == "<") - (letter == ">" and rest[at - 1] != "-")
+            if not depth:
+                rest = rest[at + 1 :].strip()
+                break
+    trait, _, owner = rest.partition(" for ")
+    owner, trait = (owner, trait) if owner else (trait, "")
+    return named(owner.partition(" where ")[0]), named(trait)
+
+
+def functions_in(crate, path):
+    """The functions of a file, and the ghost members of its impls by owner and trait."""
+    lines = path.read_text(encoding="utf-8").splitlines()
+    owner = trait = ""
+    functions, members, types, at = [], {}, set(), 0
+    while at < len(lines):
+        line = lines[at]
+        if OWNER.match(line):
+            header = line
+            while not re.search(r"[{;]\s*\}?$", header) and at + 1 < len(lines):
+                at += 1
+                header += " " + lines[at].strip()
+            owner, trait = owner_of(header)
+        elif line == "}":
+            owner = trait = ""
+        elif found := MEMBER.match(line):
+            members.setdefault((owner, trait), {})[found[1]] = line
+        elif found := FN.match(line):
+            start, indent = at, found[1]
+            clauses = {}
+            while True:
+                row = lines[at]
+                if clause := CLAUSE.fullmatch(row):
+                    name = clause[2] or (UNNAMED if clause[1] == "ensures" else "requires")
+                    clauses[name] = clause[3]
+                elif row.rstrip() == indent + "{" or row.rstrip().endswith(("{", "{}", ") {}")) or row.rstrip().endswith(";"):
+                    break
+                if row.rstrip().endswith("};"):
+                    break
+                at += 1
+            body = at
+            if lines[body].rstrip().endswith("{"):
+                while at + 1 < len(lines) and lines[at].rstrip() != indent + "}":
+                    at += 1
+            above = "\n".join(lines[max(0, start - 4) : start])
+            is_test = bool(re.search(r"#\[test\]\s*(#\[[^\n]*\]\s*)*$", above))
+            text = "\n".join(lines[start : at + 1])
+            functions.append(Function(crate, str(path.relative_to(TOP)), start + 1, owner, trait, found[2], clauses, is_test, text))
+        if found := TYPE.match(line):
+            types.add(found[1])
+        at += 1
+    return functions, members, types
+
+
+def definitions_in(path):
+    """The definitions of a file of specs, each with its text, and the fields of its records as RECORD.FIELD."""
+    found, name = {}, None
+    for line in path.read_text(encoding="utf-8").splitlines():
+        head = DEFINED.match(line)
+        if head and not line.startswith(("use ", "--")):
+            name = head[1]
+            found.setdefault(name, "")
+        elif name and (field := FIELD.match(line)) and " = " not in line[: field.end()]:
+            found[f"{name}.{field[1]}"] = line
+        if name and not line.startswith("--"):
+            found[name] += line + "\n"
+    return found
+
+
+def edits_in(crate, path):
+    text = path.read_text(encoding="utf-8")
+    line = lambda word: (re.search(rf"^{word}: (.*)$", text, re.M) or ["", ""])[1]
+    found = re.fullmatch(r"([\w, ]+): (.+)", line("promise"))
+    clauses = tuple(found[1].split(", ")) if found else ()
+    pairs = tuple(re.findall(r"^old: (.*)\nnew: ?(.*)$", text, re.M))
+    return Edit(crate, path.parent.name, path.stem, str(path.relative_to(TOP)), line("fn"), clauses, found[2] if found else "",
+                tuple(line("beside").split()), line("file"), pairs)
+
+
+class Sources:
+    """All of them."""
+
+    def __init__(self):
+        self.functions, self.members, self.types, self.definitions, self.edits = [], {}, set(), {}, []
+        for folder in sorted((TOP / "crates").iterdir()):
+            for path in sorted(folder.glob("src/**/*.rt")):
+                functions, members, types = functions_in(folder.name, path)
+                self.functions += functions
+                self.types |= types
+                for owner, own in members.items():
+                    self.members.setdefault((folder.name, *owner), {}).update(own)
+            for path in sorted(folder.glob("specs/**/*.antt")):
+                self.definitions.update(definitions_in(path))
+            for path in sorted(folder.glob("must-*/*.edit")):
+                self.edits.append(edits_in(folder.name, path))
+
+    def tests(self):
+        return [it for it in self.functions if it.is_test]
+
+    def clauses_of(self, function):
+        """The clauses of a function: its own, or its trait's; and the members of its impl."""
+        own = dict(function.clauses)
+        if function.trait and not own:
+            for it in self.functions:
+                if it.owner == it.trait == function.trait and it.name == function.name:
+                    own.update(it.clauses)
+        return {**own, **self.members.get((function.crate, function.owner, function.trait), {})}
+
+    def reached_from(self, text):
+        """The names of the definitions that a text cites, and of those that they cite."""
+        found, left = set(), [text]
+        while left:
+            for word in re.findall(r"[A-Za-z_][\w-]*", left.pop()):
+                if word in self.definitions and word not in found:
+                    found.add(word)
+                    left.append(self.definitions[word])
+        return found
