@@ -1,4 +1,3 @@
-pub mod LineCuts
 pub mod Known
 pub mod Spellings
 pub mod Written

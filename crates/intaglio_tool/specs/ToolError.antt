@@ -2,6 +2,8 @@
 use Rattle.std.specs.Prelude.{ℕ, Result, Ok, Err}
 use Rattle.intaglio_symbol.specs.declared.error.InternError.{InternError}
 use Rattle.intaglio_symbol.specs.declared.error.InternError.TheVariants as intern_error
+use Rattle.intaglio_lines.specs.declared.error.StreamError.{StreamError}
+use Rattle.intaglio_lines.specs.declared.error.StreamError.TheVariants as stream_error
 use Rattle.intaglio_tool.specs.declared.error.ToolError.{ToolError}
 use Rattle.intaglio_tool.specs.declared.error.ToolError.TheVariants.{NotUtf8, ZeroByte, Memory, Overflow, Read, Write}
 
@@ -22,18 +24,6 @@ IsTakingError (ZeroByte n) = Unit {0}
 IsTakingError Memory = Unit {0}
 IsTakingError Overflow = Unit {0}
 IsTakingError _ = ⊥
-
--- reading fails by memory or by a read
-abbrev pub IsReadingError : ToolError → Type 0
-IsReadingError Memory = Unit {0}
-IsReadingError Read = Unit {0}
-IsReadingError _ = ⊥
-
--- writing fails by memory, before anything is written, or by a write
-abbrev pub IsWritingError : ToolError → Type 0
-IsWritingError Memory = Unit {0}
-IsWritingError Write = Unit {0}
-IsWritingError _ = ⊥
 
 -- the lines weren't taken, or what stands for them wasn't written
 abbrev pub IsTakingOrWritingError : ToolError → Type 0
@@ -64,3 +54,9 @@ IsNotUtf8OrUnread (Err _) = ⊥
 abbrev pub refused_as : InternError → ToolError
 refused_as (intern_error.Overflow _) = Overflow
 refused_as (intern_error.Memory _) = Memory
+
+-- what a run says of a reader's or a writer's failure
+abbrev pub stopped_as : StreamError → ToolError
+stopped_as stream_error.Memory = Memory
+stopped_as stream_error.Read = Read
+stopped_as stream_error.Write = Write

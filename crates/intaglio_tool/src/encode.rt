@@ -3,19 +3,20 @@ ghost use Rattle.std.specs.Prelude.{◌≡◌, ◌≢◌, ◌+◌, ◌<◌, ◌�
 ghost use Rattle.std.specs.List.{position_or_len};
 ghost use Rattle.std.specs.Io.KnownBytes.{Appends, IsAtEnd};
 ghost use Rattle.intaglio_core.specs.Issue.{interned_all};
-ghost use Rattle.intaglio_tool.specs.Encoded.{encoded, encoded_by};
-ghost use Rattle.intaglio_tool.specs.Kind.{Allows, key_of, is_fit};
-ghost use Rattle.intaglio_tool.specs.Lines.{lines_of};
+ghost use Rattle.intaglio_lines.specs.Encoded.{encoded, encoded_by};
+ghost use Rattle.intaglio_lines.specs.Kind.{Allows, key_of, is_fit};
+ghost use Rattle.intaglio_lines.specs.Lines.{lines_of};
 ghost use Rattle.intaglio_tool.specs.ToolError.{IfZeroByte, IsEncodingError, IsNotUtf8OrUnread, IsTakingOrWritingError};
 ghost use Rattle.intaglio_tool.specs.declared.error.ToolError.TheVariants.{NotUtf8, Overflow, Write as WriteFailed};
 
 use crate::error::ToolError;
 use crate::from_line::FromLine;
-use crate::kind::Kind;
-use crate::read::read_all;
 use crate::take::take_lines;
-use crate::write::write_output;
+use crate::write::Encoding;
 use intaglio::{Interner, SymbolTable, bstr, bytes, cstr, osstr, path};
+use intaglio_lines::kind::Kind;
+use intaglio_lines::read::read_all;
+use intaglio_lines::write::write_output;
 use std::alloc::Global;
 use std::hash::BuildHasher;
 use std::io::{Read, Write};
@@ -138,5 +139,10 @@ where
     let symbols = take_lines(alloc, &mut table, &input)?;
     // The table holds copies of its own.
     drop(input);
-    write_output(alloc, &symbols, &table, writer)
+    let encoding = Encoding {
+        symbols: &symbols,
+        table: &table,
+    };
+    write_output(alloc, &encoding, writer)?;
+    Ok(())
 }

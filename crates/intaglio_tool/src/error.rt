@@ -1,9 +1,10 @@
 //! Why a run ended before its end.
 ghost use Rattle.std.specs.Prelude.{◌≡◌};
-ghost use Rattle.intaglio_tool.specs.ToolError.{refused_as};
+ghost use Rattle.intaglio_tool.specs.ToolError.{refused_as, stopped_as};
 ghost use Rattle.intaglio_tool.specs.declared.error.ToolError.TheVariants.{Memory};
 
 use intaglio::{InternError, RoomError};
+use intaglio_lines::error::StreamError;
 use std::alloc::{AllocError, AllocFailed};
 use thiserror::Error;
 
@@ -63,6 +64,18 @@ impl From<InternError> for ToolError {
         match refused {
             InternError::Overflow(_) => ToolError::Overflow,
             InternError::Memory(_) => ToolError::Memory,
+        }
+    }
+}
+
+impl From<StreamError> for ToolError {
+    ghost from_gives = { λ stopped error. error ≡ stopped_as stopped };
+
+    fn from(stopped: StreamError) -> ToolError {
+        match stopped {
+            StreamError::Memory => ToolError::Memory,
+            StreamError::Read => ToolError::Read,
+            StreamError::Write => ToolError::Write,
         }
     }
 }

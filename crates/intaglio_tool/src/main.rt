@@ -3,12 +3,7 @@
 
 mod encode;
 mod error;
-#[cfg(test)]
-mod fakes;
 mod from_line;
-mod kind;
-mod lines;
-mod read;
 mod serve;
 mod take;
 #[cfg(test)]
@@ -16,7 +11,8 @@ mod tests;
 mod write;
 
 use error::ToolError;
-use serve::{serve, tell};
+use intaglio_lines::error::report;
+use serve::serve;
 use std::env;
 use std::hash::RandomState;
 use std::io::ErrorKind;
@@ -35,7 +31,7 @@ fn main(rt: HostRuntime) -> ExitCode {
             &mut output,
             &mut faults,
         ),
-        Err(fault) => tell(fault, &mut faults),
+        Err(fault) => report(fault, &mut faults),
     };
     ExitCode::from(status)
 }

@@ -1,13 +1,13 @@
 //! A run of the program over any input and output.
 ghost use Rattle.std.specs.Prelude.{◌≡◌, ◌≢◌, ◌≤◌, ◌↔◌, None, IfSome, map, string_bytes};
 ghost use Rattle.std.specs.Io.KnownBytes.{Appends, IsAtEnd};
-ghost use Rattle.intaglio_tool.specs.Encoded.{encoded};
-ghost use Rattle.intaglio_tool.specs.Kind.{kind_of_words};
+ghost use Rattle.intaglio_lines.specs.Encoded.{encoded};
+ghost use Rattle.intaglio_lines.specs.Kind.{kind_of_words};
 
 use crate::encode::encode;
-use crate::kind::Kind;
+use intaglio_lines::error::report;
+use intaglio_lines::kind::Kind;
 use std::alloc::Global;
-use std::fmt::Display;
 use std::hash::BuildHasher;
 use std::io::{Read, Write};
 
@@ -41,19 +41,10 @@ pub fn serve<S: BuildHasher + Drop, R: Read, W: Write, E: Write>(
         return 2;
     };
     let Some(builder) = builder else {
-        return tell(NO_SEED, faults);
+        return report(NO_SEED, faults);
     };
     match encode(alloc, kind, builder, reader, writer) {
         Ok(()) => 0,
-        Err(fault) => tell(fault, faults),
+        Err(fault) => report(fault, faults),
     }
-}
-
-/// Writes a fault's text and byte 10, and answers the status of a fault, 1. A failure to write it is
-/// passed over.
-pub fn tell<F: Display + Drop, E: Write>(fault: F, faults: &mut E) -> u8
-    ensures { result ≡ 1 }
-{
-    let _ = writeln!(faults, "{fault}");
-    1
 }

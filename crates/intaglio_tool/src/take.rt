@@ -2,15 +2,15 @@
 ghost use Rattle.std.specs.Prelude.{◌≡◌, ◌+◌, ◌<◌, ◌≤◌, ◌++◌, true, false, not, [], length, map, Some, None, OnOk, IfOk, IfErr, IfSome};
 ghost use Rattle.std.specs.List.{position_or_len};
 ghost use Rattle.intaglio_core.specs.Issue.{issue, interned_all};
-ghost use Rattle.intaglio_tool.specs.Lines.{lines_of};
+ghost use Rattle.intaglio_lines.specs.Lines.{lines_of};
 ghost use Rattle.intaglio_tool.specs.ToolError.{IfZeroByte, IsTakingError};
 ghost use Rattle.intaglio_tool.specs.declared.error.ToolError.TheVariants.{Overflow};
 ghost use Rattle.intaglio_tool.specs.declared.from_line.LineFault.TheVariants.{Zero};
 
 use crate::error::ToolError;
 use crate::from_line::{FromLine, LineFault};
-use crate::lines::first_line;
 use intaglio::{Interner, Symbol, Work, intern_all};
+use intaglio_lines::lines::first_line;
 use std::alloc::{AllocError, Global};
 
 // How many lines are interned at once: their memory is waited for together.

@@ -3,9 +3,10 @@
 //! A line of a test is a call of a helper, which is proved once; an assertion is proved anew wherever it is written.
 use crate::encode::encode;
 use crate::error::ToolError;
-use crate::fakes::{SlowReader, SmallWriter, StuckWriter, UnflushedWriter};
-use crate::kind::Kind;
-use crate::serve::{serve, tell};
+use crate::serve::serve;
+use intaglio_lines::error::report;
+use intaglio_lines::fakes::{SlowReader, SmallWriter, StuckWriter, UnflushedWriter};
+use intaglio_lines::kind::Kind;
 use std::alloc::Global;
 use std::hash::{BuildHasherDefault, FoldHasher};
 use std::io::{ErrorKind, Read, Write};
@@ -172,7 +173,7 @@ fn a_run_with_a_seed_succeeds_and_one_without_is_told(rt: HostRuntime) {
 
 fn tells<Rt: Abort + AllocGlobal>(rt: &Rt, fault: ToolError, wanted: &[u8]) {
     let mut told = Vec::new(rt.alloc());
-    tell(fault, &mut told);
+    report(fault, &mut told);
     is(rt, &told, wanted);
 }
 

@@ -1,7 +1,7 @@
 -- The contents so far, and the lines of what is left, are the lines of the input.
 use Rattle.std.proofs.Common.{◌≡◌, ◌+◌, ◌≤◌, ◌++◌, length, map, not, vec_capacity}
 use Rattle.std.specs.List.{position_or_len}
-use Rattle.intaglio_tool.specs.Lines.{lines_of}
+use Rattle.intaglio_lines.specs.Lines.{lines_of}
 use Rattle.intaglio_tool.proofs.take.gather.Given as goal
 
 abbrev pub invariant-loop-alloc : goal.invariant-loop-alloc

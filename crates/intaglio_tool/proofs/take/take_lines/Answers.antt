@@ -1,7 +1,7 @@
 use Rattle.std.proofs.Common.{◌≡◌, ◌∙◌, ◌++◌, ◌+◌, ◌<◌, length, length-append, map, sym, ap, append_assoc, arith, rules}
 use Rattle.std.proofs.lemmas.List.{length-map}
 use Rattle.intaglio_core.specs.Issue.{interned_all}
-use Rattle.intaglio_tool.specs.Lines.{lines_of}
+use Rattle.intaglio_lines.specs.Lines.{lines_of}
 use Rattle.intaglio_tool.proofs.Spellings.{group-symbols, group-held, group-over}
 use Rattle.intaglio_tool.proofs.take.take_lines.Goals as goal
 

@@ -2,7 +2,7 @@
 use Rattle.std.proofs.Common.{◌≡◌, ◌+◌, ◌≤◌, [], ◌++◌, length, map, not}
 use Rattle.std.specs.List.{position_or_len}
 use Rattle.intaglio_core.specs.Issue.{issue, issue_from, interned_all}
-use Rattle.intaglio_tool.specs.Lines.{lines_of}
+use Rattle.intaglio_lines.specs.Lines.{lines_of}
 use Rattle.intaglio_tool.proofs.take.take_lines.Given as goal
 
 abbrev pub invariant-loop-rest : goal.invariant-loop-rest

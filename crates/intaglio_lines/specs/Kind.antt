@@ -4,8 +4,8 @@ use Rattle.std.specs.Str.{IsUtf8, bytes_eq}
 use Rattle.intaglio_content.specs.Key.{Key}
 use Rattle.intaglio_cstr.specs.Zeros.{first_zero}
 use Rattle.intaglio_path.specs.Components.{components}
-use Rattle.intaglio_tool.specs.declared.kind.Kind.{Kind}
-use Rattle.intaglio_tool.specs.declared.kind.Kind.TheVariants.{Text, Bytes, BStr, CStr, OsStr, Path}
+use Rattle.intaglio_lines.specs.declared.kind.Kind.{Kind}
+use Rattle.intaglio_lines.specs.declared.kind.Kind.TheVariants.{Text, Bytes, BStr, CStr, OsStr, Path}
 
 -- the kind that a name asks for
 abbrev pub kind_of_word : List ℕ → Option Kind

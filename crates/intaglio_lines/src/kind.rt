@@ -1,6 +1,6 @@
 //! What the lines of an input are interned as.
 ghost use Rattle.std.specs.Prelude.{◌≡◌, ◌↔◌, [], ◌∷◌, IsTrue, map, string_bytes};
-ghost use Rattle.intaglio_tool.specs.Kind.{Allows, kind_of_words};
+ghost use Rattle.intaglio_lines.specs.Kind.{Allows, kind_of_words};
 
 /// What the lines of an input are interned as.
 #[derive(Clone, Copy, Debug, PartialEq, Eq)]

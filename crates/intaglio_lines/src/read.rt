@@ -1,9 +1,9 @@
 //! Reads all of an input.
 ghost use Rattle.std.specs.Prelude.{◌≡◌, OnOk, IfOk, IfErr, IfSome};
 ghost use Rattle.std.specs.Io.KnownBytes.{IsAtEnd};
-ghost use Rattle.intaglio_tool.specs.ToolError.{IsReadingError};
+ghost use Rattle.intaglio_lines.specs.StreamError.{IsReadingError};
 
-use crate::error::ToolError;
+use crate::error::StreamError;
 use std::alloc::Global;
 use std::io::{ErrorKind, Read};
 
@@ -12,14 +12,14 @@ const BLOCK: usize = 64 * 1024;
 
 /// All bytes of the input, up to its end. A read that is interrupted is made again.
 ///
-/// The room for what a read gives is reserved before the read, so that a refusal is never taken for
-/// a read that failed.
+/// The memory for what a read gives is reserved before the read, so that an allocation failure is
+/// never taken for a read that failed.
 ///
 /// # Errors
 ///
-/// `Memory` where the room was refused, `Read` where a read failed or there was no end after
+/// `Memory` where an allocation failed, `Read` where a read failed or there was no end after
 /// `u64::MAX` reads.
-pub fn read_all<R: Read>(alloc: Global, reader: &mut R) -> Result<Vec<u8>, ToolError>
+pub fn read_all<R: Read>(alloc: Global, reader: &mut R) -> Result<Vec<u8>, StreamError>
     ensures bytes { IfOk result (λ bytes. IfSome (R.remaining reader.old) (λ input. bytes.items ≡ input)) }
     ensures end { OnOk result (IsAtEnd (R.remaining reader.new)) }
     ensures err { IfErr result IsReadingError }
@@ -33,10 +33,10 @@ pub fn read_all<R: Read>(alloc: Global, reader: &mut R) -> Result<Vec<u8>, ToolE
             Ok(n) => bytes.extend_from_slice(&block[..n]).unwrap(),
             Err(e) => {
                 if e.kind() != ErrorKind::Interrupted {
-                    return Err(ToolError::Read);
+                    return Err(StreamError::Read);
                 }
             }
         }
     }
-    Err(ToolError::Read)
+    Err(StreamError::Read)
 }

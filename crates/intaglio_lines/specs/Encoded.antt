@@ -4,9 +4,9 @@ use Rattle.std.specs.List.{flat_map}
 use Rattle.std.specs.Fmt.{decimal}
 use Rattle.intaglio_content.specs.Key.{Key}
 use Rattle.intaglio_core.specs.Issue.{issue, interned_all}
-use Rattle.intaglio_tool.specs.Lines.{lines_of}
-use Rattle.intaglio_tool.specs.Kind.{key_of}
-use Rattle.intaglio_tool.specs.declared.kind.Kind.{Kind}
+use Rattle.intaglio_lines.specs.Lines.{lines_of}
+use Rattle.intaglio_lines.specs.Kind.{key_of}
+use Rattle.intaglio_lines.specs.declared.kind.Kind.{Kind}
 
 -- a number in decimal, and byte 10
 abbrev pub number_line : ℕ → List ℕ

@@ -1,6 +1,6 @@
 //! The first line of an input.
 ghost use Rattle.std.specs.Prelude.{◌≡◌, ◌<◌, ◌==◌, ◌⊎◌, [], ◌++◌, ◌∷◌, length, position, IfSome};
-ghost use Rattle.intaglio_tool.specs.Lines.{lines_of};
+ghost use Rattle.intaglio_lines.specs.Lines.{lines_of};
 
 /// The first line of an input, and what stands after it and its byte 10.
 pub fn first_line(input: &[u8]) -> (&[u8], &[u8])

@@ -6,15 +6,15 @@ use Rattle.std.proofs.lemmas.List.Sums.{fails_before_first, passes_at_first, spl
 use Rattle.std.proofs.lemmas.List.Elements.{All-from_get_or}
 use Rattle.std.proofs.lemmas.List.{take_rest}
 use borrow.Author.Tests.{ltb-true, ltb-false}
-use Rattle.intaglio_tool.specs.Lines.{lines_of, without_empty_last}
+use Rattle.intaglio_lines.specs.Lines.{lines_of, without_empty_last}
 
 -- only the last piece may go
-without_empty_last-cons : (x : List ℕ) (xs : List (List ℕ)) → 0 < length xs → without_empty_last (x ∷ xs) ≡ x ∷ without_empty_last xs
+pub without_empty_last-cons : (x : List ℕ) (xs : List (List ℕ)) → 0 < length xs → without_empty_last (x ∷ xs) ≡ x ∷ without_empty_last xs
 without_empty_last-cons x [] h = absurd (omega arith)
 without_empty_last-cons x (y ∷ more) h = refl
 
 -- a lone piece stays where it has a byte
-without_empty_last_one : (x : List ℕ) → 0 < length x → without_empty_last (x ∷ []) ≡ x ∷ []
+pub without_empty_last_one : (x : List ℕ) → 0 < length x → without_empty_last (x ∷ []) ≡ x ∷ []
 without_empty_last_one [] h = absurd (omega arith)
 without_empty_last_one (b ∷ bs) h = search rules
 

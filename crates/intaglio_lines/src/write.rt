@@ -1,0 +1,113 @@
+//! Outputs that are written through a block of fixed size.
+ghost use Rattle.std.specs.Prelude.{◌≡◌, ◌≢◌, ◌+◌, ◌≤◌, ◌⊎◌, ℕ, List, [], OnOk, IfErr, vec_len, vec_capacity};
+ghost use Rattle.std.specs.Io.KnownBytes.{Appends, Keeps, append_known};
+ghost use Rattle.intaglio_lines.specs.Encoded.{spelling_line};
+ghost use Rattle.intaglio_lines.specs.StreamError.{IsWritingError};
+ghost use Rattle.intaglio_lines.specs.declared.error.StreamError.TheVariants.{Write as WriteFailed};
+
+use crate::error::StreamError;
+use std::alloc::Global;
+use std::io;
+use std::io::Write;
+
+// How many bytes are held before they are written.
+const BLOCK: usize = 64 * 1024;
+
+/// What is written piece by piece, through a block.
+pub trait Output {
+    ghost bytes: { Self → List ℕ };
+
+    // What holds of each value that is written.
+    ghost is_ready: { Self → Type 0 };
+
+    /// Puts all of its bytes, by [`put`].
+    fn put_all<W: Write>(&self, block: &mut Vec<u8>, writer: &mut W) -> io::Result<()>
+        requires { is_ready self.now }
+        ensures { OnOk result (Appends (append_known (W.contents writer.old) block.old.items) (append_known (W.contents writer.new) block.new.items) (bytes self.now)) };
+}
+
+/// Writes all bytes of an output, and flushes.
+///
+/// One block is allocated before the first write, and nothing from then on.
+///
+/// # Errors
+///
+/// `Memory` where the block wasn't allocated, and then nothing was written. `Write` where a write or
+/// the flush failed, and then nothing is known of how much was written.
+pub fn write_output<O: Output, W: Write>(
+    alloc: Global,
+    output: &O,
+    writer: &mut W,
+) -> Result<(), StreamError>
+    requires { O.is_ready output.now }
+    ensures written { OnOk result (Appends (W.contents writer.old) (W.contents writer.new) (O.bytes output.now)) }
+    ensures nothing_written { IfErr result (λ e. e ≢ WriteFailed → writer.new ≡ writer.old) }
+    ensures err { IfErr result IsWritingError }
+{
+    let mut block = Vec::with_capacity(alloc, BLOCK)?;
+    match write_through(output, &mut block, writer) {
+        Ok(()) => Ok(()),
+        Err(_) => Err(StreamError::Write),
+    }
+}
+
+// Writes all of an output through an empty block, and flushes.
+fn write_through<O: Output, W: Write>(
+    output: &O,
+    block: &mut Vec<u8>,
+    writer: &mut W,
+) -> io::Result<()>
+    requires ready { O.is_ready output.now }
+    requires empty { block.old.items ≡ [] }
+    ensures { OnOk result (Appends (W.contents writer.old) (W.contents writer.new) (O.bytes output.now)) }
+{
+    output.put_all(block, writer)?;
+    writer.write_all(block)?;
+    writer.flush()
+}
+
+/// Puts a line and byte 10.
+///
+/// # Errors
+///
+/// Those of the writer.
+pub fn put_line<W: Write>(line: &[u8], block: &mut Vec<u8>, writer: &mut W) -> io::Result<()>
+    ensures { OnOk result (Appends (append_known (W.contents writer.old) block.old.items) (append_known (W.contents writer.new) block.new.items) (spelling_line line.now)) }
+{
+    put(line, block, writer)?;
+    put(b"\n", block, writer)
+}
+
+/// Puts a piece behind what was put before: into the block, or straight to the writer where it is
+/// longer than the block.
+///
+/// # Errors
+///
+/// Those of the writer.
+pub fn put<W: Write>(piece: &[u8], block: &mut Vec<u8>, writer: &mut W) -> io::Result<()>
+    ensures { OnOk result (Appends (append_known (W.contents writer.old) block.old.items) (append_known (W.contents writer.new) block.new.items) piece.now) }
+{
+    make_room(piece.len(), block, writer)?;
+    if piece.len() > block.capacity() - block.len() {
+        return writer.write_all(piece);
+    }
+    block.extend_from_slice(piece).unwrap();
+    Ok(())
+}
+
+/// Where the block has no room for so many bytes more, writes what it holds. Then it has room for
+/// them or is empty.
+///
+/// # Errors
+///
+/// Those of the writer.
+pub fn make_room<W: Write>(count: usize, block: &mut Vec<u8>, writer: &mut W) -> io::Result<()>
+    ensures same { OnOk result (Keeps (append_known (W.contents writer.old) block.old.items) (append_known (W.contents writer.new) block.new.items)) }
+    ensures room { OnOk result ((block.new.items ≡ []) ⊎ (vec_len block.new + count ≤ vec_capacity block.new)) }
+{
+    if count > block.capacity() - block.len() {
+        writer.write_all(block)?;
+        block.clear();
+    }
+    Ok(())
+}
