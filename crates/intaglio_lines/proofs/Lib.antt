@@ -1,1 +1,6 @@
 pub mod LineCuts
+pub mod ByLines
+pub mod Numbers
+pub mod Reading
+pub mod FirstEqual
+pub mod InOrder

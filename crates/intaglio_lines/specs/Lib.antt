@@ -2,4 +2,7 @@
 pub mod Lines
 pub mod Kind
 pub mod Encoded
+pub mod Decoded
+pub mod Fault
+pub mod Laws
 pub mod StreamError

@@ -1,0 +1,108 @@
+-- What holds of the lines of bytes, line by line.
+use Rattle.std.proofs.Common.{◌≡◌, ◌≢◌, ◌∙◌, sym, ap, refl, subst, inl, inr, ℕ, suc, ◌<◌, ◌≤◌, Bool, true, false, cond, eqb, ne_eqb, List, [], ◌∷◌, ◌++◌, length, append_assoc, append-nil, length-append, arith}
+use Rattle.std.specs.List.{slice_split, flat_map, All, AllByRecursion}
+use Rattle.std.proofs.lemmas.List.Splits.{slice_split_at, slice_split_none, length-slice_split}
+use Rattle.std.proofs.lemmas.List.Elements.{All-nil, All-cons, All-append}
+use Rattle.std.proofs.lemmas.Bool.{cases_eq}
+use Rattle.intaglio_lines.specs.Lines.{lines_of, without_empty_last}
+use Rattle.intaglio_lines.specs.Encoded.{spelling_line}
+use Rattle.intaglio_lines.specs.Decoded.{IsLine, is_ended, with_last_line_ended}
+use Rattle.intaglio_lines.proofs.LineCuts.{without_empty_last-cons, without_empty_last_one}
+
+module _ (P : List ℕ → Type 0) (nothing : P []) (last : (line : List ℕ) → 0 < length line → IsLine line → P line)
+    (more : (line rest : List ℕ) → IsLine line → P rest → P (line ++ 10 ∷ rest)) where
+  no_more : (line : List ℕ) → IsLine line → P (line ++ [])
+  no_more [] is = nothing
+  no_more (byte ∷ line) is = subst P (sym (append-nil (byte ∷ line))) (last (byte ∷ line) (omega arith) is)
+
+  next_byte : (byte : ℕ) (bytes line : List ℕ) → IsLine line → ((front : List ℕ) → IsLine front → P (front ++ bytes)) → P (line ++ byte ∷ bytes)
+  next_byte byte bytes line is go =
+      elim (cases_eq byte 10) as (λ _. P (line ++ byte ∷ bytes)) [
+        | inl ten ↦ subst (λ b. P (line ++ b ∷ bytes)) (sym ten) (more line bytes is (go [] (All-nil (λ b. b ≢ 10))))
+        | inr other ↦ subst P (append_assoc line (byte ∷ []) bytes) (go (line ++ byte ∷ []) (All-append (λ b. b ≢ 10) line (byte ∷ []) is (All-cons (λ b. b ≢ 10) byte [] other (All-nil (λ b. b ≢ 10)))))
+      ]
+
+  -- behind a line that hasn't ended yet
+  behind : (bytes line : List ℕ) → IsLine line → P (line ++ bytes)
+  behind [] line is = no_more line is
+  behind (byte ∷ bytes) line is = next_byte byte bytes line is (behind bytes)
+
+  -- what holds of nothing, of a line that isn't ended, and of a line with byte 10 and bytes of which it holds, holds of all bytes
+  pub by_lines : (bytes : List ℕ) → P bytes
+  by_lines bytes = behind bytes [] (All-nil (λ b. b ≢ 10))
+
+no_ten : (line : List ℕ) → IsLine line → All (λ b. eqb b 10 ≡ false) line
+no_ten line is = λ k d lt. ne_eqb _ 10 (is k d lt)
+
+pub lines_of-more : (line rest : List ℕ) → IsLine line → lines_of (line ++ 10 ∷ rest) ≡ line ∷ lines_of rest
+lines_of-more line rest is =
+    let p : ℕ → Bool = λ b. eqb b 10 in
+    ap without_empty_last (slice_split_at p line 10 rest (no_ten line is) refl)
+    ∙ without_empty_last-cons line (slice_split p rest) (omega (arith, length-slice_split p rest))
+
+pub lines_of-last : (line : List ℕ) → 0 < length line → IsLine line → lines_of line ≡ line ∷ []
+lines_of-last line some is =
+    ap without_empty_last (slice_split_none (λ b. eqb b 10) line (no_ten line is)) ∙ without_empty_last_one line some
+
+-- no line holds a byte 10
+pub lines_of-are_lines : (bytes : List ℕ) → AllByRecursion IsLine (lines_of bytes)
+lines_of-are_lines =
+    by_lines (λ bytes. AllByRecursion IsLine (lines_of bytes)) tt
+    (λ line some is. rw (lines_of-last line some is) (is, tt))
+    (λ line rest is all. rw (lines_of-more line rest is) (is, all))
+
+-- a line has its byte 10 or is the last
+pub length-lines_of : (bytes : List ℕ) → length (lines_of bytes) ≤ length bytes
+length-lines_of =
+    by_lines (λ bytes. length (lines_of bytes) ≤ length bytes) (omega arith)
+    (λ line some is. rw (lines_of-last line some is) (omega arith))
+    (λ line rest is few. rw (lines_of-more line rest is) (omega (arith, length-append line (10 ∷ rest))))
+
+is_ended-line : (line : List ℕ) → 0 < length line → IsLine line → is_ended line ≡ false
+is_ended-line [] some is = absurd (omega arith)
+is_ended-line (byte ∷ []) some is = ne_eqb byte 10 (is 0 0 (omega arith))
+is_ended-line (byte ∷ next ∷ more) some is = is_ended-line (next ∷ more) (omega arith) (λ k d lt. is (suc k) d (omega arith))
+
+is_ended-append : (front : List ℕ) (byte : ℕ) (rest : List ℕ) → is_ended (front ++ byte ∷ rest) ≡ is_ended (byte ∷ rest)
+is_ended-append [] byte rest = refl
+is_ended-append (first ∷ []) byte rest = refl
+is_ended-append (first ∷ next ∷ front) byte rest = is_ended-append (next ∷ front) byte rest
+
+is_ended-ten : (rest : List ℕ) → is_ended (10 ∷ rest) ≡ is_ended rest
+is_ended-ten [] = refl
+is_ended-ten (byte ∷ rest) = refl
+
+is_ended-more : (line rest : List ℕ) → is_ended (line ++ 10 ∷ rest) ≡ is_ended rest
+is_ended-more line rest = is_ended-append line 10 rest ∙ is_ended-ten rest
+
+spelled-more : (line rest : List ℕ) → spelling_line line ++ rest ≡ line ++ 10 ∷ rest
+spelled-more line rest = append_assoc line (10 ∷ []) rest
+
+cond-ended : (b : Bool) (line rest : List ℕ) → line ++ 10 ∷ cond b rest (rest ++ 10 ∷ []) ≡ cond b (line ++ 10 ∷ rest) ((line ++ 10 ∷ rest) ++ 10 ∷ [])
+cond-ended true line rest = refl
+cond-ended false line rest = sym (append_assoc line (10 ∷ rest) (10 ∷ []))
+
+-- the lines, each ended, are the bytes with their last line ended
+pub flat_map-lines_of : (bytes : List ℕ) → flat_map spelling_line (lines_of bytes) ≡ with_last_line_ended bytes
+flat_map-lines_of =
+    by_lines (λ bytes. flat_map spelling_line (lines_of bytes) ≡ with_last_line_ended bytes) refl
+    (λ line some is. rw (lines_of-last line some is, is_ended-line line some is) (append-nil (spelling_line line)))
+    (λ line rest is same. rw (lines_of-more line rest is, is_ended-more line rest, same)
+    (spelled-more line (with_last_line_ended rest) ∙ cond-ended (is_ended rest) line rest))
+
+-- lines that are ended are those lines
+pub lines_of-flat_map : (lines : List (List ℕ)) → AllByRecursion IsLine lines → lines_of (flat_map spelling_line lines) ≡ lines
+lines_of-flat_map [] all = refl
+lines_of-flat_map (line ∷ lines) all =
+    ap lines_of (spelled-more line (flat_map spelling_line lines)) ∙ lines_of-more line (flat_map spelling_line lines) all.0 ∙ ap (λ t. line ∷ t) (lines_of-flat_map lines all.1)
+
+pub is_ended-flat_map : (lines : List (List ℕ)) → is_ended (flat_map spelling_line lines) ≡ true
+is_ended-flat_map [] = refl
+is_ended-flat_map (line ∷ lines) =
+    ap is_ended (spelled-more line (flat_map spelling_line lines)) ∙ is_ended-more line (flat_map spelling_line lines) ∙ is_ended-flat_map lines
+
+-- each line takes a byte at least
+pub length-le-flat_map : (lines : List (List ℕ)) → length lines ≤ length (flat_map spelling_line lines)
+length-le-flat_map [] = omega arith
+length-le-flat_map (line ∷ lines) =
+    omega (arith, length-append (spelling_line line) (flat_map spelling_line lines), length-append line (10 ∷ []), length-le-flat_map lines)

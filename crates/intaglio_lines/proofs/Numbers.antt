@@ -1,0 +1,58 @@
+-- A number in decimal is a line that is a number, and says that number.
+use Rattle.std.proofs.Common.{◌≡◌, ◌≢◌, refl, inl, inr, ℕ, ◌^◌, ◌<◌, true, false, not, eqb, ne_eqb, List, [], ◌∷◌, length, get_or, decimal, arith}
+use Rattle.std.specs.Str.{all_ascii_digits}
+use Rattle.std.specs.Str.Parse.{digits_value}
+use Rattle.std.proofs.lemmas.List.Elements.{All-from_get_or}
+use Rattle.std.proofs.lemmas.Bool.{and_parts, and_from, not-true, not_from_false, cases_eq}
+use Rattle.std.proofs.lemmas.Str.Parse.{IsNumeralModel, numerals_by_value, tells_all_ascii_digits, digit_at}
+use Rattle.std.proofs.lemmas.Fmt.{digits_decimal, digits_value-decimal, decimal_nonempty, first_decimal, decimal_digit, decimal-digits_value}
+use Rattle.intaglio_lines.specs.Decoded.{IsLine}
+use Rattle.intaglio_lines.specs.Fault.{is_number}
+
+-- a text of decimal digits, and the number that it says
+pub digits : IsNumeralModel (λ ds. all_ascii_digits ds ≡ true) (digits_value 10)
+digits = numerals_by_value (λ ds. all_ascii_digits ds ≡ true) tells_all_ascii_digits
+
+-- digits are a number where there is one, and where the first of several isn't 0
+pub is_number-from_digits : (ds : List ℕ) → all_ascii_digits ds ≡ true → 0 < length ds → (get_or ds 0 0 ≡ 48 → length ds ≡ 1) → is_number ds ≡ true
+is_number-from_digits [] all some first = absurd (omega arith)
+is_number-from_digits (d ∷ []) all some first = all
+is_number-from_digits (d ∷ e ∷ more) all some first =
+    and_from (not (eqb d 48)) (all_ascii_digits (d ∷ e ∷ more)) (not_from_false (eqb d 48) (ne_eqb d 48 (λ zero. absurd (omega (arith, first zero))))) all
+
+pub record IsNumber (ds : List ℕ) : Type 0 where
+  pub all : all_ascii_digits ds ≡ true
+  pub some : 0 < length ds
+  pub first : get_or ds 0 0 ≡ 48 → length ds ≡ 1
+
+not-zero : (d : ℕ) → not (eqb d 48) ≡ true → d ≡ 48 → ⊥
+not-zero d other zero = let no : eqb d 48 ≡ false = not-true (eqb d 48) other in let yes : eqb d 48 ≡ true = rw zero refl in cc
+
+pub digits-from_number : (ds : List ℕ) → is_number ds ≡ true → IsNumber ds
+digits-from_number [] is = cc
+digits-from_number (d ∷ []) is = record { all = is; some = omega arith; first = λ _. omega arith }
+digits-from_number (d ∷ e ∷ more) is =
+    let parts = and_parts (not (eqb d 48)) (all_ascii_digits (d ∷ e ∷ more)) is in
+    record { all = parts.1; some = omega arith; first = λ zero. absurd (not-zero d parts.0 zero) }
+
+decimal-first : (n : ℕ) → n < 2 ^ 64 → get_or (decimal n) 0 0 ≡ 48 → length (decimal n) ≡ 1
+decimal-first n small zero =
+    elim (cases_eq n 0) [
+      | inl none ↦ rw (none, decimal_digit 0 (omega arith)) refl
+      | inr some ↦ absurd (omega (arith, zero, first_decimal n (omega arith) small))
+    ]
+
+pub is_number-decimal : (n : ℕ) → n < 2 ^ 64 → is_number (decimal n) ≡ true
+is_number-decimal n small = is_number-from_digits (decimal n) (digits_decimal digits n small) (decimal_nonempty n small) (decimal-first n small)
+
+pub number-decimal : (n : ℕ) → n < 2 ^ 64 → digits_value 10 (decimal n) ≡ n
+number-decimal n small = digits_value-decimal digits n small
+
+-- and a line that is a number is that number in decimal
+pub decimal-number : (ds : List ℕ) → is_number ds ≡ true → digits_value 10 ds < 2 ^ 64 → decimal (digits_value 10 ds) ≡ ds
+decimal-number ds is small =
+    let parts = digits-from_number ds is in decimal-digits_value digits ds parts.all parts.some parts.first small
+
+-- digits hold no byte 10
+pub IsLine-digits : (ds : List ℕ) → all_ascii_digits ds ≡ true → IsLine ds
+IsLine-digits ds all = All-from_get_or (λ b. b ≢ 10) ds 0 (λ i lt ten. absurd (omega (arith, ten, digit_at ds i (digits.to ds all) lt)))

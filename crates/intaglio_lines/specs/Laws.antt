@@ -1,0 +1,64 @@
+-- What holds of encoded outputs.
+use Rattle.std.specs.Prelude.{◌≡◌, ◌≢◌, ◌↔◌, ℕ, ◌+◌, ◌^◌, ◌<◌, ◌≤◌, max, List, [], ◌∷◌, length, map, find, unwrap_or, None}
+use Rattle.std.specs.List.{flat_map}
+use Rattle.intaglio_content.specs.Key.{Key}
+use Rattle.intaglio_core.specs.State.{key_eq, Distinct}
+use Rattle.intaglio_lines.specs.Lines.{lines_of}
+use Rattle.intaglio_lines.specs.Kind.{key_of}
+use Rattle.intaglio_lines.specs.Encoded.{encoded, spelling_line}
+use Rattle.intaglio_lines.specs.Decoded.{Holds, Decodes, restored, with_last_line_ended}
+use Rattle.intaglio_lines.specs.Fault.{fault_of}
+use Rattle.intaglio_lines.specs.declared.kind.Kind.{Kind}
+use Rattle.intaglio_lines.specs.declared.kind.Kind.TheVariants.{Path}
+
+-- the first of the lines whose key is that of this line
+abbrev pub first_equal : (List ℕ → Key) → List (List ℕ) → List ℕ → List ℕ
+first_equal key lines line = unwrap_or (find (λ other. key_eq (key other) (key line)) lines) line
+
+-- each line in the spelling of the first line that is equal to it
+abbrev pub first_spellings : (List ℕ → Key) → List (List ℕ) → List (List ℕ)
+first_spellings key lines = map (first_equal key lines) lines
+
+-- where so many symbols came before, each is one that came before it or the next one, and at the end there are so many
+abbrev pub AreInOrder : ℕ → List ℕ → ℕ → Type 0
+AreInOrder next [] count = next ≡ count
+AreInOrder next (symbol ∷ more) count = (symbol ≤ next) × AreInOrder (max next (symbol + 1)) more count
+
+-- the symbols are issued in order, and no two spellings are equal
+pub record IsIssued (kind : Kind) (symbols : List ℕ) (spellings : List (List ℕ)) : Type 0 where
+  pub order : AreInOrder 0 symbols (length spellings)
+  pub distinct : Distinct (key_of kind) spellings
+
+-- bytes have no fault exactly if they hold symbols and spellings
+abbrev pub FaultsAreExact : Type 0
+FaultsAreExact = (bytes : List ℕ) → length bytes < 2 ^ 64
+    → (fault_of bytes ≡ None) ↔ ((symbols : List ℕ) × (spellings : List (List ℕ)) × Holds symbols spellings bytes)
+
+-- bytes hold one list of symbols and one of spellings at most
+abbrev pub IsReadInOneWay : Type 0
+IsReadInOneWay = (bytes symbols others : List ℕ) (spellings strings : List (List ℕ)) → length bytes < 2 ^ 64
+    → Holds symbols spellings bytes → Holds others strings bytes → (symbols ≡ others) × (spellings ≡ strings)
+
+-- what is encoded is decoded to each line in the spelling of the first line that is equal to it
+abbrev pub RestoresFirstSpellings : Type 0
+RestoresFirstSpellings = (kind : Kind) (input : List ℕ)
+    → Decodes (encoded kind input) (flat_map spelling_line (first_spellings (key_of kind) (lines_of input)))
+
+-- that is the input itself, its last line ended, of each kind but paths
+abbrev pub RestoresInput : Type 0
+RestoresInput = (kind : Kind) (input : List ℕ) → kind ≢ Path → Decodes (encoded kind input) (with_last_line_ended input)
+
+-- and of each kind it has the keys of the input's lines, line by line: of paths, their components
+abbrev pub RestoresKeys : Type 0
+RestoresKeys = (kind : Kind) (input : List ℕ)
+    → (output : List ℕ) × Decodes (encoded kind input) output × (map (key_of kind) (lines_of output) ≡ map (key_of kind) (lines_of input))
+
+-- what is encoded holds issued symbols
+abbrev pub EncodesInOrder : Type 0
+EncodesInOrder = (kind : Kind) (input : List ℕ)
+    → (symbols : List ℕ) × (spellings : List (List ℕ)) × Holds symbols spellings (encoded kind input) × IsIssued kind symbols spellings
+
+-- and what holds issued symbols is what its decoded output is encoded to
+abbrev pub EncodesRestored : Type 0
+EncodesRestored = (kind : Kind) (symbols : List ℕ) (spellings : List (List ℕ)) (bytes : List ℕ)
+    → Holds symbols spellings bytes → IsIssued kind symbols spellings → encoded kind (restored symbols spellings) ≡ bytes

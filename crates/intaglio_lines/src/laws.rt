@@ -1,0 +1,43 @@
+//! What holds of encoded outputs and of what they are decoded to.
+//!
+//! The calls do nothing: the contract of each is a law.
+ghost use Rattle.intaglio_lines.specs.Laws.{FaultsAreExact, IsReadInOneWay, RestoresFirstSpellings, RestoresInput, RestoresKeys, EncodesInOrder, EncodesRestored};
+
+/// Bytes have no fault exactly if they are well formed: symbols in decimal, an empty line, and
+/// strings, each line ended and each symbol the number of a string.
+pub fn faults_are_exact()
+    ensures { FaultsAreExact }
+{}
+
+/// Bytes are well formed in one way at most.
+pub fn bytes_are_read_in_one_way()
+    ensures { IsReadInOneWay }
+{}
+
+/// Decoding an encoded input gives each of its lines in the spelling of the first line that is equal
+/// to it, byte 10 after each.
+pub fn decoding_gives_first_spellings()
+    ensures { RestoresFirstSpellings }
+{}
+
+/// Decoding an encoded input gives the input, its last line ended, of each kind but paths.
+pub fn decoding_gives_the_input()
+    ensures { RestoresInput }
+{}
+
+/// Decoding an encoded input gives as many lines with the same keys: of paths, the same components.
+pub fn decoding_keeps_keys()
+    ensures { RestoresKeys }
+{}
+
+/// An encoded output is well formed, its symbols are issued in order, and no two of its strings are
+/// equal.
+pub fn encoding_is_in_order()
+    ensures { EncodesInOrder }
+{}
+
+/// Encoding what well-formed bytes are decoded to gives those bytes, where their symbols are issued in
+/// order and no two of their strings are equal.
+pub fn encoding_gives_the_bytes()
+    ensures { EncodesRestored }
+{}
