@@ -1,3 +1,4 @@
+pub mod Appended
 pub mod LineCuts
 pub mod ByLines
 pub mod Numbers

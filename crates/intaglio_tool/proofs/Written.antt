@@ -4,6 +4,7 @@ use Rattle.std.specs.List.{slice_get, flat_map}
 use Rattle.std.specs.Io.KnownBytes.{Appends}
 use Rattle.std.proofs.lemmas.List.{append-nil, map-append}
 use Rattle.std.proofs.lemmas.Grind.{flat_map-append}
+use Rattle.intaglio_lines.proofs.Appended.{Appends-append}
 
 take-next : {C : Type 0} (cs : List C) (n : ℕ) (c : C) → slice_get cs n ≡ Some c → take (suc n) cs ≡ take n cs ++ c ∷ []
 take-next [] n c at = cc
@@ -16,13 +17,7 @@ module _ {C : Type 0} (f : List ℕ → List ℕ) (spelling : C → List ℕ) (c
       rw (add-one n, take-next cs n c at, map-append spelling (take n cs) (c ∷ []), flat_map-append f (map spelling (take n cs)) (spelling c ∷ []))
       (ap (λ t. flat_map f (map spelling (take n cs)) ++ t) (append-nil (f (spelling c))))
 
-  joined : (old mid new : Option (List ℕ)) (front more : List ℕ) → Appends old mid front → Appends mid new more → Appends old new (front ++ more)
-  joined None mid new front more h1 h2 = tt
-  joined (Some xs) None new front more h1 h2 = absurd h1
-  joined (Some xs) (Some ys) None front more h1 h2 = absurd h2
-  joined (Some xs) (Some ys) (Some zs) front more h1 h2 = rw (h2, h1) (append_assoc xs front more)
-
   -- the lines so far, and that of one content more
   pub appends-next : (old mid new : Option (List ℕ)) (line : List ℕ) → slice_get cs n ≡ Some c → line ≡ spelling c
       → Appends old mid (flat_map f (map spelling (take n cs))) → Appends mid new (f line) → Appends old new (flat_map f (map spelling (take (n + 1) cs)))
-  appends-next old mid new line at spelled before next = rw (flat_map-next at) (joined old mid new _ _ before (rw spelled at next))
+  appends-next old mid new line at spelled before next = rw (flat_map-next at) (Appends-append old mid new _ _ before (rw spelled at next))

@@ -1,0 +1,17 @@
+-- What parts of an encoded output are.
+use Rattle.std.specs.Prelude.{ℕ, List, length, map}
+use Rattle.std.specs.Str.Parse.{digits_value}
+use Rattle.intaglio_lines.specs.Fault.{symbol_lines, AreKnown}
+use Rattle.intaglio_restore.specs.declared.parts.Parts.{Parts}
+
+-- the symbols: the numbers of the lines in front of the first empty one
+abbrev pub symbols_in : Parts → List ℕ
+symbols_in parts = map (digits_value 10) (symbol_lines parts.bytes.now)
+
+-- the string of each number
+abbrev pub strings_in : Parts → List (List ℕ)
+strings_in parts = map (λ string. string.now) parts.strings.items
+
+-- each symbol is the number of a string
+abbrev pub AreSound : Parts → Type 0
+AreSound parts = AreKnown (length (strings_in parts)) (symbol_lines parts.bytes.now)

@@ -1,0 +1,1 @@
+//! Whole runs, their faults, and readers and writers that fail.
