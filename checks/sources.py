@@ -4,6 +4,7 @@ It reads files as `rt fmt` lays them out, and nothing else.
 """
 
 import re
+from dataclasses import dataclass
 from pathlib import Path
 from typing import NamedTuple
 
@@ -15,11 +16,12 @@ OWNER = re.compile(r"(?:pub(?:\(\w+\))? )?(?:unsafe )?(impl|trait)\b")
 TYPE = re.compile(r"(?:pub(?:\(\w+\))? )?(?:struct|enum|trait|type|mod|const|static) (\w+)")
 CLAUSE = re.compile(r"\s*(requires|ensures)\*?(?: (\w+))? \{ ?(.*?)(?: \};?)?$")
 MEMBER = re.compile(r" {4}(?:pub )?ghost (?!use\b)(\w+)")
-DEFINED = re.compile(r"(?:(?:pub|abbrev|record|data|opaque|unfoldable)\s+)*([^\s:(){},]+)\s*(?:[({].*)?:(?=\s|$)")
+DEFINED = re.compile(r"(?: *(?:(?:pub|opaque) +)*(?:abbrev|record|data|unfoldable) +(?:pub +)?|pub +)([^\s:(){},]+)")
 FIELD = re.compile(r" +(?:pub )?(\w+) : ")
 
 
-class Function(NamedTuple):
+@dataclass(frozen=True, eq=False)
+class Function:
     """A function: where it is, the impl or trait that it stands in, and its clauses by their names."""
 
     crate: str
@@ -117,8 +119,7 @@ def definitions_in(path):
     """The definitions of a file of specs, each with its text, and the fields of its records as RECORD.FIELD."""
     found, name = {}, None
     for line in path.read_text(encoding="utf-8").splitlines():
-        head = DEFINED.match(line)
-        if head and not line.startswith(("use ", "--")):
+        if head := DEFINED.match(line):
             name = head[1]
             found.setdefault(name, "")
         elif name and (field := FIELD.match(line)) and " = " not in line[: field.end()]:
