@@ -8,6 +8,7 @@ use std::hash::Hasher;
 const END: u8 = 255;
 
 /// Feeds one item of a key: one write of its bytes, then one of the single byte 255.
+#[inline(always)]
 pub fn feed_item<H: Hasher>(item: &[u8], hasher: &mut H)
     ensures { hasher.new ≡ fold H.write hasher.old (feed (item.now ∷ [])) }
 {
