@@ -14,7 +14,7 @@ UNNAMED, INVARIANT = "ensures", "invariant"
 FN = re.compile(r"( *)(?:pub(?:\(\w+\))? )?(?:final |const |unsafe )*fn (\w+)")
 OWNER = re.compile(r"(?:pub(?:\(\w+\))? )?(?:unsafe )?(impl|trait)\b")
 TYPE = re.compile(r"(?:pub(?:\(\w+\))? )?(?:struct|enum|trait|type|mod|const|static) (\w+)")
-CLAUSE = re.compile(r"\s*(requires|ensures)\*?(?: (\w+))? \{ ?(.*?)(?: \};?)?$")
+CLAUSE = re.compile(r"\s*(requires|ensures)\*?(?: (\w+))? \{.*")
 MEMBER = re.compile(r" {4}(?:pub )?ghost (?!use\b)(\w+)")
 DEFINED = re.compile(r"(?: *(?:(?:pub|opaque) +)*(?:abbrev|record|data|unfoldable) +(?:pub +)?|pub +)([^\s:(){},]+)")
 FIELD = re.compile(r" +(?:pub )?(\w+) : ")
@@ -71,13 +71,32 @@ def owner_of(header):
     return named(owner.partition(" where ")[0]), named(trait)
 
 
+def clauses_from(lines, at, indent):
+    """The clauses of the function whose header begins at a line, by their names, and the line at which its header ends."""
+    clauses, name, depth = {}, None, 0
+    while True:
+        row = lines[at].rstrip()
+        clause = CLAUSE.fullmatch(row) if not depth else None
+        if clause:
+            name = clause[2] or (UNNAMED if clause[1] == "ensures" else clause[1])
+            clauses[name] = ""
+        if clause or depth:
+            clauses[name] += row + "\n"
+            depth += row.count("{") - row.count("}")
+        if not depth and (row.endswith(";") or not clause and (row == indent + "{" or row.endswith(("{", "{}")))):
+            return clauses, at
+        at += 1
+
+
 def functions_in(crate, path):
-    """The functions of a file, and the ghost members of its impls by owner and trait."""
+    """The functions of a file, the ghost members of its impls by owner and trait, and the types that it declares."""
     lines = path.read_text(encoding="utf-8").splitlines()
-    owner = trait = ""
     functions, members, types, at = [], {}, set(), 0
+    owner = trait = ""
     while at < len(lines):
         line = lines[at]
+        if found := TYPE.match(line):
+            types.add(found[1])
         if OWNER.match(line):
             header = line
             while not re.search(r"[{;]\s*\}?$", header) and at + 1 < len(lines):
@@ -89,28 +108,13 @@ def functions_in(crate, path):
         elif found := MEMBER.match(line):
             members.setdefault((owner, trait), {})[found[1]] = line
         elif found := FN.match(line):
-            start, indent = at, found[1]
-            clauses = {}
-            while True:
-                row = lines[at]
-                if clause := CLAUSE.fullmatch(row):
-                    name = clause[2] or (UNNAMED if clause[1] == "ensures" else "requires")
-                    clauses[name] = clause[3]
-                elif row.rstrip() == indent + "{" or row.rstrip().endswith(("{", "{}", ") {}")) or row.rstrip().endswith(";"):
-                    break
-                if row.rstrip().endswith("};"):
-                    break
-                at += 1
-            body = at
-            if lines[body].rstrip().endswith("{"):
-                while at + 1 < len(lines) and lines[at].rstrip() != indent + "}":
-                    at += 1
-            above = "\n".join(lines[max(0, start - 4) : start])
-            is_test = bool(re.search(r"#\[test\]\s*(#\[[^\n]*\]\s*)*$", above))
+            start = at
+            clauses, at = clauses_from(lines, at, found[1])
+            if lines[at].rstrip().endswith("{"):
+                at = next(i for i in range(at, len(lines)) if lines[i].rstrip() == found[1] + "}")
+            is_test = bool(re.search(r"#\[test\]\s*(#\[[^\n]*\]\s*)*$", "\n".join(lines[max(0, start - 4) : start])))
             text = "\n".join(lines[start : at + 1])
             functions.append(Function(crate, str(path.relative_to(TOP)), start + 1, owner, trait, found[2], clauses, is_test, text))
-        if found := TYPE.match(line):
-            types.add(found[1])
         at += 1
     return functions, members, types
 
