@@ -20,9 +20,11 @@ pub type Iter<'a> = Pairs<'a, BStrContent>;
 /// their bytes are.
 ///
 /// ```
-/// let mut table = SymbolTable::new(alloc)?;
+/// # use bstr::BStr;
+/// # use intaglio::bstr::{BStrContent, SymbolTable};
+/// let mut table = SymbolTable::new(rt.alloc())?;
 /// let symbol = table.intern(BStrContent::from(BStr::new(b"abc")))?;
-/// assert!(table.check_interned(BStr::new(b"abc")) == Some(symbol));
+/// assert!(rt; table.check_interned(BStr::new(b"abc")) == Some(symbol));
 /// ```
 pub type SymbolTable<S = BuildHasherDefault<FoldHasher>> = Table<BStrContent, S>;
 

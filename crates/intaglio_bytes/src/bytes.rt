@@ -18,9 +18,10 @@ pub type Iter<'a> = Pairs<'a, BytesContent>;
 /// Bytes are stored as a `&'static [u8]` or a `Vec<u8>`, and looked up by a `&[u8]`.
 ///
 /// ```
-/// let mut table = SymbolTable::new(alloc)?;
+/// # use intaglio::bytes::{BytesContent, SymbolTable};
+/// let mut table = SymbolTable::new(rt.alloc())?;
 /// let symbol = table.intern(BytesContent::from(b"\x00\xff".as_slice()))?;
-/// assert!(table.check_interned(b"\x00\xff") == Some(symbol));
+/// assert!(rt; table.check_interned(b"\x00\xff") == Some(symbol));
 /// ```
 pub type SymbolTable<S = BuildHasherDefault<FoldHasher>> = Table<BytesContent, S>;
 

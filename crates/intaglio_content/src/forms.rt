@@ -15,8 +15,10 @@ use std::slice;
 /// `size_hint` are exact, and a clone takes no memory.
 ///
 /// ```
+/// # use intaglio::{Forms, StrContent};
+/// let contents = [StrContent::from("a"), StrContent::from("b"), StrContent::from("c")];
 /// let mut forms = Forms::of(&contents);
-/// assert!(forms.next_back() == Some("c"));
+/// assert!(rt; forms.next_back() == Some("c"));
 /// ```
 #[derive(Drop)]
 pub struct Forms<'a, C: Content> {

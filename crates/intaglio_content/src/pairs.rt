@@ -17,8 +17,10 @@ use std::marker::Model;
 /// a clone takes no memory. There is no `next_back` and no `len`.
 ///
 /// ```
-/// let mut pairs = Pairs::of(&table, &contents);
-/// assert!(pairs.next() == Some((Symbol::new(0), "a")));
+/// # use intaglio::{Pairs, StrContent, Symbol};
+/// let contents = [StrContent::from("a"), StrContent::from("b")];
+/// let mut pairs = Pairs::of(&(), &contents);
+/// assert!(rt; pairs.next() == Some((Symbol::new(0), "a")));
 /// ```
 #[derive(Drop)]
 pub struct Pairs<'a, C: Content> {

@@ -42,9 +42,12 @@ struct LookedUp<C> {
 /// Then the table has the contents that it had before and no less room, and those handed in are dropped.
 ///
 /// ```
+/// # use intaglio::{StrContent, Symbol, SymbolTable, Work, intern_all};
+/// let alloc = rt.alloc();
+/// let mut table = SymbolTable::new(alloc)?;
 /// let words = vec![in alloc; StrContent::from("b"), StrContent::from("a"), StrContent::from("b")]?;
 /// let symbols = intern_all(alloc, &mut table, words, &mut Work::new())?;
-/// assert_eq!(symbols.as_slice(), [Symbol::new(0), Symbol::new(1), Symbol::new(0)].as_slice());
+/// assert_eq!(rt; symbols.as_slice(), [Symbol::new(0), Symbol::new(1), Symbol::new(0)].as_slice());
 /// ```
 pub fn intern_all<T: Interner>(
     alloc: Global,

@@ -14,8 +14,9 @@ use crate::zeros::find_fault;
 /// Two of them are equal if their bytes are.
 ///
 /// ```
+/// # use intaglio::cstr::CStr;
 /// let text = CStr::from_bytes_with_nul(b"abc\x00")?;
-/// assert!(text.to_bytes() == b"abc".as_slice());
+/// assert!(rt; text.to_bytes() == b"abc".as_slice());
 /// ```
 #[derive(Clone, Copy)]
 pub struct CStr<'a> {

@@ -13,8 +13,9 @@ use std::marker::Model;
 /// Owned bytes whose only zero is the last byte. Clauses see the bytes before it.
 ///
 /// ```
+/// # use intaglio::cstr::CString;
 /// let text = CString::new(rt.alloc(), b"abc".to_vec(rt.alloc())?)?;
-/// assert!(text.as_c_str().to_bytes_with_nul() == b"abc\x00".as_slice());
+/// assert!(rt; text.as_c_str().to_bytes_with_nul() == b"abc\x00".as_slice());
 /// ```
 #[derive(Drop)]
 pub struct CString {

@@ -13,8 +13,9 @@ use intaglio_content::{Bytewise, Content, Formed, Keyed, LookedUp, Spelled};
 /// It is kept as it was passed in: nothing is copied, and an owned one keeps its spare capacity.
 ///
 /// ```
+/// # use intaglio::cstr::{CStr, CStrContent};
 /// let content = CStrContent::from(CStr::from_bytes_with_nul(b"abc\x00")?);
-/// assert!(content.form().to_bytes() == b"abc".as_slice());
+/// assert!(rt; content.form().to_bytes() == b"abc".as_slice());
 /// ```
 #[derive(Drop)]
 pub enum CStrContent {

@@ -16,11 +16,11 @@ pub type Iter<'a> = Pairs<'a, CStrContent>;
 /// [`CString`](crate::CString), and looked up by a `CStr`. C strings are equal if their bytes are.
 ///
 /// ```
+/// # use intaglio::cstr::{CStr, CStrContent, SymbolTable};
 /// let abc = CStr::from_bytes_with_nul(b"abc\x00")?;
-/// let mut table = SymbolTable::new(alloc)?;
+/// let mut table = SymbolTable::new(rt.alloc())?;
 /// let symbol = table.intern(CStrContent::from(abc))?;
-/// assert!(table.get(symbol) == Some(abc));
-/// assert!(table.check_interned(abc) == Some(symbol));
+/// assert!(rt; table.check_interned(abc) == Some(symbol));
 /// ```
 pub type SymbolTable<S = BuildHasherDefault<FoldHasher>> = Table<CStrContent, S>;
 

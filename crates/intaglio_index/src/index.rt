@@ -24,13 +24,14 @@ pub(crate) struct Node {
 /// A bucket takes 9 bytes and a placed symbol 16. No number of a symbol stands for "none": all 2^32 symbols can be placed.
 ///
 /// ```
+/// # use intaglio::{Index, Symbol, Work};
 /// let mut work = Work::new();
-/// let mut index = Index::with_buckets(alloc, 4)?;
+/// let mut index = Index::with_buckets(rt.alloc(), 4)?;
 /// index.place(6, Symbol::new(0), &mut work);
 /// index.place(2, Symbol::new(1), &mut work);
 /// // Both are in bucket 2, as a symbol of hash 10 would be. The smaller hash comes first.
-/// assert_eq!(index.first(10, &mut work), Some((Symbol::new(1), 2)));
-/// assert_eq!(index.after(Symbol::new(1), &mut work), Some((Symbol::new(0), 6)));
+/// assert_eq!(rt; index.first(10, &mut work), Some((Symbol::new(1), 2)));
+/// assert_eq!(rt; index.after(Symbol::new(1), &mut work), Some((Symbol::new(0), 6)));
 /// ```
 #[derive(Drop)]
 pub struct Index {

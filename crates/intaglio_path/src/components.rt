@@ -13,9 +13,10 @@ use std::iter::FusedIterator;
 /// After the last one only `None` comes. A step reads the text up to the next component, and no list is built.
 ///
 /// ```
+/// # use intaglio::path::{Component, Path};
 /// let mut components = Path::new("/a//b").components();
-/// assert!(components.next() == Some(Component::RootDir));
-/// assert!(components.next() == Some(Component::Normal("a")));
+/// assert!(rt; components.next() == Some(Component::RootDir));
+/// assert!(rt; components.next() == Some(Component::Normal("a")));
 /// ```
 #[derive(Drop)]
 pub struct Components<'a> {

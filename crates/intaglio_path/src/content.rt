@@ -14,8 +14,9 @@ use std::hash::{BuildHasher, Hash, Hasher};
 /// It is kept as it was handed in: nothing is copied or cleaned up, and an owned text keeps its spare capacity.
 ///
 /// ```
-/// assert!(PathContent::from("a//b").form().as_str() == "a//b");
-/// assert!(PathContent::from("a//b").form() == Path::new("a/b"));
+/// # use intaglio::path::{Path, PathContent};
+/// assert!(rt; PathContent::from("a//b").form().as_str() == "a//b");
+/// assert!(rt; PathContent::from("a//b").form() == Path::new("a/b"));
 /// ```
 #[derive(Drop)]
 pub enum PathContent {

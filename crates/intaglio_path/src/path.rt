@@ -15,8 +15,9 @@ use std::hash::{Hash, Hasher};
 /// Nothing is looked up in a file system, and no `..` is resolved.
 ///
 /// ```
-/// assert!(Path::new("a//b/") == Path::new("a/./b"));
-/// assert!(Path::new("./a") != Path::new("a"));
+/// # use intaglio::path::Path;
+/// assert!(rt; Path::new("a//b/") == Path::new("a/./b"));
+/// assert!(rt; Path::new("./a") != Path::new("a"));
 /// ```
 #[derive(Clone, Copy, Debug)]
 pub struct Path<'a> {

@@ -16,10 +16,11 @@ pub type Iter<'a> = Pairs<'a, PathContent>;
 /// their components are; the first spelling is the one that is stored.
 ///
 /// ```
-/// let mut table = SymbolTable::new(alloc)?;
+/// # use intaglio::path::{Path, PathContent, SymbolTable};
+/// let mut table = SymbolTable::new(rt.alloc())?;
 /// let symbol = table.intern(PathContent::from("a//b"))?;
-/// assert!(table.check_interned(Path::new("a/./b")) == Some(symbol));
-/// assert!(table.get(symbol).map(|path| path.as_str()) == Some("a//b"));
+/// assert!(rt; table.check_interned(Path::new("a/./b")) == Some(symbol));
+/// assert!(rt; table.get(symbol).map(|path| path.as_str()) == Some("a//b"));
 /// ```
 pub type SymbolTable<S = BuildHasherDefault<FoldHasher>> = Table<PathContent, S>;
 

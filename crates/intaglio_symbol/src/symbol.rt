@@ -8,7 +8,8 @@ use std::marker::Model;
 /// Order, equality and hash are those of the number. A symbol is copied as one `u32` and knows nothing of its table.
 ///
 /// ```
-/// assert_eq!(Symbol::new(263).id(), 263);
+/// # use intaglio::Symbol;
+/// assert_eq!(rt; Symbol::new(263).id(), 263);
 /// ```
 #[derive(Debug, Clone, Copy, Hash, PartialEq, Eq, PartialOrd, Ord)]
 pub struct Symbol(u32);

@@ -10,7 +10,8 @@ use intaglio_content::{Bytewise, Content, Formed, Keyed, LookedUp, Spelled};
 /// It is kept as it was passed in: nothing is copied, and an owned text keeps its spare capacity.
 ///
 /// ```
-/// assert!(StrContent::from("abc").form() == "abc");
+/// # use intaglio::StrContent;
+/// assert!(rt; StrContent::from("abc").form() == "abc");
 /// ```
 #[derive(Drop)]
 pub enum StrContent {

@@ -19,10 +19,11 @@ pub type Iter<'a> = Pairs<'a, OsStrContent>;
 /// Platform strings are equal if their bytes are.
 ///
 /// ```
-/// let mut table = SymbolTable::new(alloc)?;
+/// # use intaglio::osstr::{OsStrContent, SymbolTable};
+/// let mut table = SymbolTable::new(rt.alloc())?;
 /// let symbol = table.intern(OsStrContent::from("abc"))?;
-/// assert!(table.get(symbol) == Some("abc"));
-/// assert!(table.check_interned("abc") == Some(symbol));
+/// assert!(rt; table.get(symbol) == Some("abc"));
+/// assert!(rt; table.check_interned("abc") == Some(symbol));
 /// ```
 pub type SymbolTable<S = BuildHasherDefault<FoldHasher>> = Table<OsStrContent, S>;
 

@@ -15,10 +15,11 @@ pub type Iter<'a> = Pairs<'a, StrContent>;
 /// A text is stored as a `&'static str` or a `String`, and looked up by a `&str`. Texts are equal if their bytes are.
 ///
 /// ```
-/// let mut table = SymbolTable::new(alloc)?;
+/// # use intaglio::{StrContent, SymbolTable};
+/// let mut table = SymbolTable::new(rt.alloc())?;
 /// let symbol = table.intern(StrContent::from("abc"))?;
-/// assert!(table.get(symbol) == Some("abc"));
-/// assert!(table.check_interned("abc") == Some(symbol));
+/// assert!(rt; table.get(symbol) == Some("abc"));
+/// assert!(rt; table.check_interned("abc") == Some(symbol));
 /// ```
 pub type SymbolTable<S = BuildHasherDefault<FoldHasher>> = Table<StrContent, S>;
 

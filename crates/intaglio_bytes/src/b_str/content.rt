@@ -12,8 +12,10 @@ use intaglio_content::{Bytewise, Content, Formed, Keyed, LookedUp, Spelled};
 /// It is kept as it was passed in: nothing is copied, and an owned one keeps its spare capacity.
 ///
 /// ```
+/// # use bstr::BStr;
+/// # use intaglio::bstr::BStrContent;
 /// let content = BStrContent::from(BStr::new(b"abc"));
-/// assert!(content.form().as_bytes().len() == 3);
+/// assert!(rt; content.form().as_bytes().len() == 3);
 /// ```
 #[derive(Drop)]
 pub enum BStrContent {

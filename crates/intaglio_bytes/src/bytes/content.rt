@@ -10,7 +10,8 @@ use intaglio_content::{Bytewise, Content, Formed, Keyed, LookedUp, Spelled};
 /// It is kept as it was passed in: nothing is copied, and an owned vector keeps its spare capacity.
 ///
 /// ```
-/// assert!(BytesContent::from(b"\x00\xff".as_slice()).form().len() == 2);
+/// # use intaglio::bytes::BytesContent;
+/// assert!(rt; BytesContent::from(b"\x00\xff".as_slice()).form().len() == 2);
 /// ```
 #[derive(Drop)]
 pub enum BytesContent {
