@@ -23,7 +23,7 @@ VERSION = "rattle-kit-13b logic dac8208d650f15bf"
 FUNCTION = re.compile(r"^fn (\S+): (.*)$")
 PROVED = re.compile(r"^proved\b")
 # The function's own goals may all be closed: it can't be told, or is told, while a function that it calls isn't proved.
-CALLS_UNPROVED = re.compile(r"^(not proved; |no proof: )it calls")
+CALLS_UNPROVED = re.compile(r"^(not proved; |no proof: )(it calls|the borrow checker's part in its proof is not made yet: a call of)")
 OPEN_GOAL = re.compile(r"^note: \S+:\d+:\d+: it is not proved that")
 LEFT_OPEN = re.compile(r"`search` did not prove (?:`[^`]+`(?:, )?)+")
 # An error in the files of a function's proof: the path of the function, with / for ::. What is wrong may go on in lines that are indented.
