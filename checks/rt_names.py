@@ -63,6 +63,24 @@ def crates(top=TOP):
     return load().rtlib.crates_below(str(top))
 
 
+def is_built(library):
+    """Whether the library is built from the sources as they are."""
+    stamp, made = Path(library.folder, "out/rlib/stamp"), Path(library.rlib, "format")
+    newest = max(os.path.getmtime(file) for file in load().rtlib.files_of(library.folder))
+    # (what `rt ci` builds has no stamp)
+    return made.is_file() and (library.is_built() if stamp.is_file() else newest <= made.stat().st_mtime)
+
+
+def build_missing(libraries):
+    """Builds those of these libraries, lowest first, that aren't there or are of other sources: `rt ci` gives back what was built before it."""
+    for it in libraries:
+        if not is_built(it):
+            print(f"{it.name} isn't built from the sources as they are: rt lib builds it", flush=True)
+            ran = subprocess.run(["rt", "lib"], cwd=it.folder, stdin=subprocess.DEVNULL, capture_output=True, text=True)
+            if ran.returncode:
+                sys.exit(f"{it.name} isn't proved:\n{without_good_news(ran.stdout + ran.stderr)[-3000:]}")
+
+
 def processors():
     return load().processors()
 
@@ -87,9 +105,8 @@ def unreadable(said, texts):
 def crate_above(room, name):
     """A crate in a scratch folder that lists every library of this repository, and of the kit, that crates.txt names."""
     rt, below = load(), [it for it in crates() if it.makes_rlib()]
+    build_missing(below)
     rlibs = {it.name: it.rlib for it in below}
-    if missing := [it for it in rlibs if not os.path.isdir(rlibs[it])]:
-        sys.exit(f"not built: {' '.join(missing)}")
     of_kit = {dependency for it in crates() for dependency in it.of_kit if dependency != "std"}
     rows = {it.name: [*(dep.name for dep in it.deps), *(dep for dep in it.of_kit if dep != "std")] for it in below}
     rows[name] = [*rlibs, *sorted(of_kit)]
