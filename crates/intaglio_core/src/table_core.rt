@@ -136,6 +136,7 @@ impl<C: Keyed, S: BuildHasher> Core<C, S> {
     }
 
     // The same for a key whose hash is known: goes along its bucket, to the first greater hash at most.
+    #[inline(always)]
     pub(crate) fn search_hashed<Q: Sought<C>>(
         &self,
         hash: u64,
@@ -193,6 +194,7 @@ impl<C: Keyed, S: BuildHasher> Core<C, S> {
     }
 
     // The same for a content whose hash is known.
+    #[inline(always)]
     pub(crate) fn intern_hashed(
         &mut self,
         hash: u64,
