@@ -17,7 +17,7 @@ eqb-unequal a b n = elim (eqb_tells a b) [ inl h ↦ absurd (n h.1) | inr h ↦ 
 pub eqb-equal : (a b : ℕ) → a ≡ b → eqb a b ≡ true
 eqb-equal a b e = elim (eqb_tells a b) [ inl h ↦ h.0 | inr h ↦ absurd (h.1 e) ]
 
-eqb-flips : (a b : ℕ) → eqb a b ≡ eqb b a
+pub eqb-flips : (a b : ℕ) → eqb a b ≡ eqb b a
 eqb-flips a b =
     elim (eqb_tells a b) [ inl h ↦ h.0 ∙ sym (eqb-equal b a (sym h.1)) | inr h ↦ h.0 ∙ sym (eqb-unequal b a (λ e. h.1 (sym e))) ]
 
@@ -147,10 +147,10 @@ unfolding chain
 chain-entries v b = chain-each v.count b v.hashes
 
 -- each place of a bucket is on its chain
-Contains-cons : (x : ℕ) (xs : List ℕ) (y : ℕ) → Contains xs y → Contains (x ∷ xs) y
+pub Contains-cons : (x : ℕ) (xs : List ℕ) (y : ℕ) → Contains xs y → Contains (x ∷ xs) y
 Contains-cons x xs y h = (suc h.0, omega (arith, h.1), h.2)
 
-places-complete : (count b at : ℕ) (hs : List ℕ) (i d : ℕ) → i < length hs → get_or hs i d % count ≡ b → Contains (places_from count b at hs) (at + i)
+pub places-complete : (count b at : ℕ) (hs : List ℕ) (i d : ℕ) → i < length hs → get_or hs i d % count ≡ b → Contains (places_from count b at hs) (at + i)
 places-complete count b at [] i d l e = absurd (omega arith)
 places-complete count b at (h ∷ hs) zero d l e = rw (eqb-equal (h % count) b e) (0, omega arith, omega arith)
 places-complete count b at (h ∷ hs) (suc i) d l e =

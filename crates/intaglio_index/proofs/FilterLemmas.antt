@@ -42,7 +42,7 @@ pub not_marked : (filters : List ℕ) (count : ℕ) (hashes : List ℕ) (hash : 
 not_marked filters count hashes hash filtered unset =
     Each-weaker _ _ (λ placed m e. unset (subst (λ p. IsMarked (get_or filters (p % count) 0) p) e m)) hashes filtered.marks
 
-nil_head : (es : List (ℕ × ℕ)) → None ≡ head_of es → es ≡ []
+pub nil_head : (es : List (ℕ × ℕ)) → None ≡ head_of es → es ≡ []
 nil_head [] e = refl
 nil_head (x ∷ xs) e = cc
 

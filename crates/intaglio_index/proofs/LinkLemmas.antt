@@ -35,7 +35,7 @@ path_behind next start (x ∷ before) s behind h = path_behind next (next x) bef
 symbols_split : (front : List (ℕ × ℕ)) (e : ℕ × ℕ) (behind : List (ℕ × ℕ)) → symbols_of (front ++ e ∷ behind) ≡ symbols_of front ++ e.0 ∷ symbols_of behind
 symbols_split front e behind = map-append (λ (e : ℕ × ℕ). e.0) front (e ∷ behind)
 
-each_symbol : (P : ℕ → Type 0) (es : List (ℕ × ℕ)) → AllByRecursion (λ (e : ℕ × ℕ). P e.0) es → AllByRecursion P (symbols_of es)
+pub each_symbol : (P : ℕ → Type 0) (es : List (ℕ × ℕ)) → AllByRecursion (λ (e : ℕ × ℕ). P e.0) es → AllByRecursion P (symbols_of es)
 each_symbol P [] a = tt
 each_symbol P (e ∷ es) a = (a.0, each_symbol P es a.1)
 
@@ -48,7 +48,7 @@ distinct_beside (x ∷ xs) p ys d =
     let no = Each-right (λ y. eqb x y ≡ false) xs (p ∷ ys) d.0 in
     ((eqb-false x p no.0, rest.0), rest.1)
 
-both : {X : Type 0} (P Q : X → Type 0) (xs : List X) → AllByRecursion P xs → AllByRecursion Q xs → AllByRecursion (λ x. P x × Q x) xs
+pub both : {X : Type 0} (P Q : X → Type 0) (xs : List X) → AllByRecursion P xs → AllByRecursion Q xs → AllByRecursion (λ x. P x × Q x) xs
 both P Q [] a b = tt
 both P Q (x ∷ xs) a b = ((a.0, b.0), both P Q xs a.1 b.1)
 

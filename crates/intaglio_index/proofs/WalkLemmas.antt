@@ -12,11 +12,11 @@ rest_of [] candidate = []
 rest_of (x ∷ xs) None = []
 rest_of (x ∷ xs) (Some e) = cond (eqb x.0 e.0) (x ∷ xs) (rest_of xs (Some e))
 
-rest_of-none : (path : List (ℕ × ℕ)) → rest_of path None ≡ []
+pub rest_of-none : (path : List (ℕ × ℕ)) → rest_of path None ≡ []
 rest_of-none [] = refl
 rest_of-none (x ∷ xs) = refl
 
-rest_of-split : (seen rest : List (ℕ × ℕ)) → IsDistinct eqb (symbols_of (seen ++ rest)) → rest_of (seen ++ rest) (head_of rest) ≡ rest
+pub rest_of-split : (seen rest : List (ℕ × ℕ)) → IsDistinct eqb (symbols_of (seen ++ rest)) → rest_of (seen ++ rest) (head_of rest) ≡ rest
 unfolding IsDistinct
 rest_of-split seen [] d = rest_of-none (seen ++ [])
 rest_of-split [] (e ∷ behind) d = rw (eqb-equal e.0 e.0 refl) refl
@@ -25,7 +25,7 @@ rest_of-split (x ∷ seen) (e ∷ behind) d =
     let no : eqb x.0 e.0 ≡ false = (Each-right (λ y. eqb x.0 y ≡ false) (symbols_of seen) (e.0 ∷ symbols_of behind) apart).0 in
     rw no (rest_of-split seen (e ∷ behind) d.1)
 
-rest_of-at : (path seen rest : List (ℕ × ℕ)) (candidate : Option (ℕ × ℕ)) → path ≡ seen ++ rest → IsDistinct eqb (symbols_of path) → candidate ≡ head_of rest → rest_of path candidate ≡ rest
+pub rest_of-at : (path seen rest : List (ℕ × ℕ)) (candidate : Option (ℕ × ℕ)) → path ≡ seen ++ rest → IsDistinct eqb (symbols_of path) → candidate ≡ head_of rest → rest_of path candidate ≡ rest
 rest_of-at path seen rest candidate split d next =
     rw (split, next) (rest_of-split seen rest (rw split at d))
 
@@ -38,7 +38,7 @@ pub record IsAt (h : ℕ) (path : List (ℕ × ℕ)) (last : Option ℕ) (candid
   pub smaller : AllByRecursion (λ (e : ℕ × ℕ). e.1 < h) front
   pub last_is : MatchOption last (front ≡ []) (λ p. (init : List (ℕ × ℕ)) × (hash : ℕ) × (front ≡ init ++ (p, hash) ∷ []))
 
-some_rest : (rest : List (ℕ × ℕ)) (e : ℕ × ℕ) → Some e ≡ head_of rest → (behind : List (ℕ × ℕ)) × (rest ≡ e ∷ behind)
+pub some_rest : (rest : List (ℕ × ℕ)) (e : ℕ × ℕ) → Some e ≡ head_of rest → (behind : List (ℕ × ℕ)) × (rest ≡ e ∷ behind)
 some_rest [] e q = cc
 some_rest (x ∷ xs) e q = (xs, cc)
 
