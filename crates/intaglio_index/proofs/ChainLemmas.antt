@@ -195,3 +195,8 @@ unput s h (x ∷ xs) (f ∷ fs) behind e a l =
       | false ↦ λ e'. (let q : f ≡ (s, h) = cc in let r : f.1 ≡ h = ap (λ (y : ℕ × ℕ). y.1) q in absurd (omega (arith, r, a.0)))
     ] in
     cases (ltb x.1 h) e
+
+-- where no hash was placed each bucket is empty
+pub none_placed : (v : Placed) (b : ℕ) → v.hashes ≡ [] → chain v b ≡ []
+unfolding chain
+none_placed v b none = rw none refl

@@ -1,5 +1,5 @@
 pub mod ChainLemmas
 pub mod FilterLemmas
 pub mod LinkLemmas
-pub mod Powers
+pub mod Remainders
 pub mod WalkLemmas

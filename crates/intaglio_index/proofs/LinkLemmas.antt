@@ -65,7 +65,15 @@ empty_links count heads nodes e none = record {
   numbered = rw none (omega arith);
 }
 
+no_hashes : (nodes : List Node) → length nodes ≤ 0 → hashes_of nodes ≡ []
+no_hashes [] l = refl
+no_hashes (n ∷ ns) l = absurd (omega arith)
+
 module _ (heads : List (Option Symbol)) (nodes : List Node) (linked : IsLinked heads nodes) where
+  -- where there are no buckets nothing is placed
+  pub no_buckets : length heads ≡ 0 → hashes_of nodes ≡ []
+  no_buckets none = no_hashes nodes (omega (arith, linked.few))
+
   abbrev bucket : ℕ → List (ℕ × ℕ)
   bucket b = chain_from (length heads) b 0 [] (hashes_of nodes)
 

@@ -1,12 +1,14 @@
 //! The index, and what can be read off it.
-ghost use Rattle.std.specs.Prelude.{◌≡◌, ◌%◌, ◌<◌, ◌≤◌, length};
+ghost use Rattle.std.specs.Prelude.{◌≡◌, ◌≤◌, length};
 
 mod changing;
 mod filter;
 mod making;
+mod modulus;
 mod walking;
 
 use intaglio_symbol::Symbol;
+use modulus::Modulus;
 use std::alloc::Global;
 use std::marker::Model;
 
@@ -35,11 +37,12 @@ pub struct Index {
     heads: Vec<Option<Symbol>>,
     nodes: Vec<Node>,
     filters: Vec<u8>,
+    modulus: Modulus,
     alloc: Global,
 }
 
 impl Model for Index {
-    ghost use Rattle.std.specs.Prelude.{min, length, vec_len, vec_capacity};
+    ghost use Rattle.std.specs.Prelude.{◌≡◌, min, length, vec_len, vec_capacity};
     ghost use Rattle.intaglio_index.specs.Placed.{Placed, placed_code};
 
     ghost Value = { Placed };
@@ -48,6 +51,7 @@ impl Model for Index {
 
     ghost use Rattle.intaglio_index.specs.Links.{IsLinked, hashes_of};
     ghost use Rattle.intaglio_index.specs.Filter.{IsFiltered};
+    ghost use Rattle.intaglio_index.specs.Modulus.{IsModulus};
 
     ghost view = { λ index. record {
       count = length index.heads.items;
@@ -56,6 +60,8 @@ impl Model for Index {
     } };
 
     ghost invariant = { λ index. record {
+      modulus : IsModulus index.modulus;
+      counted : index.modulus.count ≡ length index.heads.items;
       linked : IsLinked index.heads.items index.nodes.items;
       filtered : IsFiltered index.filters.items (length index.heads.items) (hashes_of index.nodes.items);
     } };
@@ -82,18 +88,5 @@ impl Index {
         ensures { result ≡ length self.now.hashes }
     {
         self.nodes.len()
-    }
-}
-
-// The bucket of a hash among `count`. Where that is a power of two this takes no division.
-#[tactic(auto, using(crate::proofs::Powers::masked_is))]
-fn bucket(hash: u64, count: u64) -> usize
-    requires { 0 < count }
-    ensures { result ≡ hash % count }
-{
-    if count & (count - 1) == 0 {
-        (hash & (count - 1)) as usize
-    } else {
-        (hash % count) as usize
     }
 }

@@ -3,7 +3,7 @@ ghost use Rattle.std.specs.Prelude.{◌≡◌, ◌-◌, ◌<◌, ◌≤◌, ◌+
 ghost use Rattle.intaglio_content.specs.Work.{placed};
 
 use super::filter::marked;
-use super::{Index, Node, bucket};
+use super::{Index, Node};
 use intaglio_content::Work;
 use intaglio_symbol::Symbol;
 
@@ -33,8 +33,8 @@ impl Index {
     {
         // A proof learns here that the number fits.
         let _number = symbol.id();
-        let bucket = bucket(hash, self.heads.len() as u64);
-        let place = self.predecessor(hash);
+        let bucket = self.modulus.bucket(hash);
+        let place = self.predecessor(bucket, hash);
         self.filters[bucket] = marked(self.filters[bucket], hash);
         match place {
             None => {
@@ -59,7 +59,7 @@ impl Index {
         ensures room { self.new.room ≡ self.old.room }
     {
         refill(&mut self.heads, None);
-        refill(&mut self.filters, 0);
+        self.filters.fill(0);
         self.nodes.clear();
     }
 
@@ -86,9 +86,9 @@ impl Index {
     {
         let last = self.placed() - 1;
         let Node { hash, next } = self.nodes[last];
-        match self.predecessor(hash) {
+        let bucket = self.modulus.bucket(hash);
+        match self.predecessor(bucket, hash) {
             None => {
-                let bucket = bucket(hash, self.heads.len() as u64);
                 self.heads[bucket] = next;
                 self.nodes.truncate(last);
             }

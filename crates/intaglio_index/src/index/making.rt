@@ -3,6 +3,7 @@ ghost use Rattle.std.specs.Prelude.{◌≡◌, ◌<◌, ◌≤◌, ◌++◌, [],
 ghost use Rattle.intaglio_content.specs.Work.{placed};
 
 use super::Index;
+use super::modulus::Modulus;
 use intaglio_content::Work;
 use intaglio_symbol::Symbol;
 use std::alloc::{AllocError, Global};
@@ -22,6 +23,7 @@ impl Index {
             heads,
             nodes,
             filters,
+            modulus: Modulus::new(count),
             alloc,
         })
     }

@@ -9,7 +9,7 @@ ghost use Rattle.intaglio_index.specs.Links.{entry_of};
 ghost use Rattle.intaglio_symbol.specs.declared.symbol.Symbol.{Symbol};
 
 use super::filter::is_marked;
-use super::{Index, Node, bucket};
+use super::{Index, Node};
 use intaglio_content::Work;
 use intaglio_symbol::Symbol;
 
@@ -29,7 +29,10 @@ impl Index {
         ensures marks { work.new.marks ≡ work.old.marks ++ step ∷ [] }
     {
         work.step(); // in an empty bucket too
-        self.front(hash)
+        if self.heads.is_empty() {
+            return None;
+        }
+        self.front(self.modulus.bucket(hash))
     }
 
     /// As [`first`](Index::first), for a search: `None` also where no placed symbol has this hash, if the bucket's filter
@@ -47,18 +50,14 @@ impl Index {
         ensures marks { work.new.marks ≡ work.old.marks ++ step ∷ [] }
     {
         work.step(); // where the filter says no too
-        if self.is_absent(hash) {
+        if self.heads.is_empty() {
             return None;
         }
-        self.front(hash)
-    }
-
-    // Whether a filter shows that no placed symbol has the hash.
-    fn is_absent(&self, hash: u64) -> bool
-        ensures { IsTrue result → AllByRecursion (λ placed. placed ≢ hash) self.now.hashes }
-    {
-        let count = self.filters.len();
-        count == 0 || !is_marked(self.filters[bucket(hash, count as u64)], hash)
+        let bucket = self.modulus.bucket(hash);
+        if !is_marked(self.filters[bucket], hash) {
+            return None;
+        }
+        self.front(bucket)
     }
 
     /// The symbol behind a placed one in its bucket, with its hash; `None` behind the last one. One step.
@@ -72,15 +71,12 @@ impl Index {
         self.behind(symbol)
     }
 
-    fn front(&self, hash: u64) -> Option<(Symbol, u64)>
-        ensures first { result ≡ head_of (chain self.now (hash % self.now.count)) }
-        ensures none { self.now.count ≡ 0 → result ≡ None }
+    // The first symbol of a bucket.
+    fn front(&self, bucket: usize) -> Option<(Symbol, u64)>
+        requires { bucket < self.now.count }
+        ensures { result ≡ head_of (chain self.now bucket) }
     {
-        let count = self.heads.len();
-        if count == 0 {
-            return None;
-        }
-        entry(&self.nodes, self.heads[bucket(hash, count as u64)])
+        entry(&self.nodes, self.heads[bucket])
     }
 
     fn behind(&self, symbol: Symbol) -> Option<(Symbol, u64)>
@@ -91,13 +87,14 @@ impl Index {
         entry(&self.nodes, self.nodes[symbol.id() as usize].next)
     }
 
-    // The last of the symbols at the bucket's front that have smaller hashes.
-    pub(super) fn predecessor(&self, hash: u64) -> Option<Symbol>
-        ensures { MatchOption result (BeginsAtOrAbove hash (chain self.now (hash % self.now.count)))
-            (λ last. IsPredecessor hash (chain self.now (hash % self.now.count)) last) }
+    // The last of the symbols at a bucket's front that have smaller hashes.
+    pub(super) fn predecessor(&self, bucket: usize, hash: u64) -> Option<Symbol>
+        requires { bucket < self.now.count }
+        ensures { MatchOption result (BeginsAtOrAbove hash (chain self.now bucket))
+            (λ last. IsPredecessor hash (chain self.now bucket) last) }
     {
         let mut last = None;
-        let mut candidate = self.front(hash);
+        let mut candidate = self.front(bucket);
         while let Some(found) = candidate {
             if hash <= found.1 {
                 break;

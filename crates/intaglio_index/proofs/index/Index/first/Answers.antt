@@ -1,5 +1,24 @@
-use Rattle.intaglio_index.proofs.ChainLemmas.{chain-permutation, chain-sorted, chain-entries}
+use Rattle.std.proofs.Common.{◌≡◌, ◌%◌, [], length, sym, ap, ◌∙◌, arith}
+use Rattle.std.proofs.lemmas.Bool.{eqb-true}
+use Rattle.intaglio_index.specs.Placed.{head_of}
+use Rattle.intaglio_index.proofs.ChainLemmas.{chain-permutation, chain-sorted, chain-entries, none_placed}
+use Rattle.intaglio_index.proofs.LinkLemmas.{no_buckets}
 use Rattle.intaglio_index.proofs.index.Index.first.Goals as goal
+
+pub returns-then-is_empty-clause-members : goal.returns-then-is_empty-clause-members
+returns-then-is_empty-clause-members c = chain-permutation _ _
+
+pub returns-then-is_empty-clause-sorted : goal.returns-then-is_empty-clause-sorted
+returns-then-is_empty-clause-sorted c = chain-sorted _ _
+
+pub returns-then-is_empty-clause-hashes : goal.returns-then-is_empty-clause-hashes
+returns-then-is_empty-clause-hashes c = chain-entries _ _
+
+pub returns-then-is_empty-clause-first : goal.returns-then-is_empty-clause-first
+returns-then-is_empty-clause-first c =
+    let empty : length c.self.inside.heads.items ≡ 0 = omega (arith, eqb-true _ _ (sym c.is_empty.ensures ∙ c.if-is_empty.true), c.self.inside.heads.ok.0) in
+    let none : c.args.self.now.hashes ≡ [] = rw (← c.self.view_is) (no_buckets c.self.inside.heads.items c.self.inside.nodes.items c.self.invariant.linked empty) in
+    sym (ap head_of (none_placed c.args.self.now (c.args.hash % c.args.self.now.count) none))
 
 pub returns-clause-members : goal.returns-clause-members
 returns-clause-members c = chain-permutation _ _

@@ -1,0 +1,65 @@
+//! The remainder by the number of buckets, without a division.
+ghost use Rattle.std.specs.Prelude.{◌≡◌, ◌↔◌, ◌+◌, ◌-◌, ◌/◌, ◌%◌, ◌^◌, ◌<◌, IsTrue};
+ghost use Rattle.intaglio_index.specs.Modulus.{IsModulus};
+
+/// A number of buckets, with what spares the division by it.
+#[derive(Clone, Copy)]
+pub struct Modulus {
+    count: u64,
+    // All bits below the least power of two that is not below the count.
+    mask: u64,
+    // (2^64 - 1) / count
+    inverse: u64,
+}
+
+impl Modulus {
+    pub fn new(count: usize) -> Modulus
+        ensures made { IsModulus result }
+        ensures count { result.count ≡ count }
+    {
+        let count = count as u64;
+        let mask = match count.checked_next_power_of_two() {
+            Some(power) => power - 1,
+            None => u64::MAX,
+        };
+        let inverse = if count == 0 { 0 } else { u64::MAX / count };
+        Modulus {
+            count,
+            mask,
+            inverse,
+        }
+    }
+
+    // Whether the count is a power of two.
+    pub fn is_power_of_two(self) -> bool
+        requires { IsModulus self }
+        ensures { IsTrue result ↔ (self.count ≡ self.mask + 1) }
+    {
+        self.mask < self.count
+    }
+
+    // The bucket of a hash.
+    #[inline]
+    pub fn bucket(self, hash: u64) -> usize
+        requires made { IsModulus self }
+        requires some { 0 < self.count }
+        ensures { result ≡ hash % self.count }
+    {
+        if self.is_power_of_two() {
+            (hash & self.mask) as usize
+        } else {
+            remainder(hash, self.count, self.inverse) as usize
+        }
+    }
+}
+
+// The quotient by the reciprocal is at most one too small.
+fn remainder(hash: u64, count: u64, inverse: u64) -> u64
+    requires some { 0 < count }
+    requires inverse { inverse ≡ (2 ^ 64 - 1) / count }
+    ensures { result ≡ hash % count }
+{
+    let quotient = ((u128::from(hash) * u128::from(inverse)) >> 64) as u64;
+    let rest = hash - quotient * count;
+    if rest < count { rest } else { rest - count }
+}
