@@ -1,12 +1,12 @@
 -- Contents that are interned in order, with what that costs, and one content more.
-use Rattle.std.proofs.Common.{◌≡◌, IfSome, sym, ℕ, ◌<◌, cond, List, [], ◌∷◌, ◌++◌, length, take, Option, Some, None, Ok, Err, Result, MatchOption, is_some, length-append, append_assoc, append-nil, refl, ap, arith}
+use Rattle.std.proofs.Common.{◌≡◌, ◌⊎◌, inr, IfSome, sym, ℕ, ◌<◌, cond, List, [], ◌∷◌, ◌++◌, length, take, Option, Some, None, Ok, Err, Result, MatchOption, is_some, length-append, append_assoc, append-nil, refl, ap, arith}
 use Rattle.intaglio_content.specs.Key.{Key}
 use Rattle.intaglio_content.specs.Work.{Mark, hashed}
 use Rattle.intaglio_core.specs.State.{State, first, IsValid}
 use Rattle.intaglio_core.specs.Change.{Interns, Takes}
 use Rattle.intaglio_core.specs.Cost.{Adds, IsSearchCost, KnownSearchCost, KnownInternCost}
 use Rattle.intaglio_core.specs.Issue.{interned, issue_from, interned_all}
-use Rattle.intaglio_core.specs.Batch.{IfOverflow, SearchesEach, InternsEach}
+use Rattle.intaglio_core.specs.Batch.{IfOverflow, SearchesEach, InternsEach, InternsSome}
 use Rattle.intaglio_core.proofs.Issue.{Interns-ok}
 use Rattle.intaglio_core.proofs.Spent.{Adds-then}
 use Rattle.intaglio_core.proofs.Held.{interned_all-begins, interned_all-longer, interned_all-append, first-still}
@@ -129,3 +129,22 @@ module _ {C : Type 0} (key : C → Key) where
         (rw (← whole, interned_all-append key old.contents cs (c ∷ rest), ← held) refl) in
         omega (arith, over, limit, ap length parts, interned_all-longer key (interned key mid.contents c) rest)
     overflows old mid new cs rest all is cost c (intern_error.Memory e) run step limit whole = tt
+
+    -- what internings cost up to a refused one
+    pub stops : (old mid : State C) (cs rest all : List C) (is : List ℕ) (c : C) (before between after : List Mark)
+        → Adds before between (λ cost. InternsEach key hash old cs is cost mid) → Adds between after (KnownSearchCost key hash mid (key c)) → cs ++ c ∷ rest ≡ all
+        → Adds before after (λ cost. (cost ≡ []) ⊎ InternsSome key hash old all cost)
+    stops old mid cs rest all is c before between after run spent whole =
+        Adds-then _ _ _ before between after (λ xs ys interns searches. inr (record {
+          before = cs;
+          refused = c;
+          after = rest;
+          contents = sym whole;
+          symbols = is;
+          held = mid;
+          internings = xs;
+          search = ys;
+          parts = refl;
+          interns = interns;
+          searches = searches;
+        })) run spent

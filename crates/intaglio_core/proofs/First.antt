@@ -45,7 +45,7 @@ found-within key cs k None e = tt
 found-within key cs k (Some s) e = omega (arith, some-below (map key cs) k s (sym e), length-map cs key)
 
 -- the first of two places, where the second is counted from behind the first list
-abbrev or_at : ℕ → Option ℕ → Option ℕ → Option ℕ
+abbrev pub or_at : ℕ → Option ℕ → Option ℕ → Option ℕ
 or_at n None p = option_map (λ i. n + i) p
 or_at n (Some i) p = Some i
 

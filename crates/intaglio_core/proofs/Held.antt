@@ -1,10 +1,17 @@
 -- What is held while contents are interned in order.
-use Rattle.std.proofs.Common.{◌≡◌, ℕ, ◌∙◌, sym, ◌≤◌, Bool, true, false, cond, List, [], ◌∷◌, ◌++◌, length, take, Some, is_some, length-append, append_assoc, append-nil, refl, ap, arith}
+use Rattle.std.proofs.Common.{◌≡◌, ℕ, zero, suc, ◌∙◌, sym, ◌≤◌, Bool, true, false, cond, List, [], ◌∷◌, ◌++◌, length, take, Some, is_some, length-append, append_assoc, append-nil, refl, ap, arith}
+use Rattle.std.specs.Prelude.{slice_get}
 use Rattle.std.proofs.Math.Seq.{take-append_seam}
 use Rattle.intaglio_content.specs.Key.{Key}
 use Rattle.intaglio_core.specs.State.{first}
 use Rattle.intaglio_core.specs.Issue.{issued, interned, issue_from, interned_all}
 use Rattle.intaglio_core.proofs.First.{first-append}
+
+-- what stands in a list stands there when more is put behind it
+pub slice_get-front : {X : Type 0} (xs ys : List X) (i : ℕ) (x : X) → slice_get xs i ≡ Some x → slice_get (xs ++ ys) i ≡ Some x
+slice_get-front [] ys i x e = cc
+slice_get-front (y ∷ xs) ys zero x e = e
+slice_get-front (y ∷ xs) ys (suc i) x e = slice_get-front xs ys i x e
 
 module _ {C : Type 0} (key : C → Key) where
   -- what is held stays at the front
@@ -42,3 +49,9 @@ module _ {C : Type 0} (key : C → Key) where
   first-still held cs k s is =
       let more = interned_all-more held cs in
       rw (more.1, first-append key held more.0 k, is) refl
+
+  -- what stands under a symbol stands there after internings
+  pub content-still : (held cs : List C) (i : ℕ) (c : C) → slice_get held i ≡ Some c → slice_get (interned_all key held cs) i ≡ Some c
+  content-still held cs i c is =
+      let more = interned_all-more held cs in
+      rw more.1 (slice_get-front held more.0 i c is)

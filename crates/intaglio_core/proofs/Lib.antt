@@ -11,3 +11,5 @@ pub mod Rounded
 pub mod Runs
 pub mod Held
 pub mod Each
+pub mod Laws
+pub mod Alike

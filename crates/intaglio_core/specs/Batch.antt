@@ -1,5 +1,5 @@
 -- Contents that are interned in order, after all of them were hashed and looked up.
-use Rattle.std.specs.Prelude.{◌≡◌, ℕ, List, [], ◌∷◌, ◌++◌, map, Ok}
+use Rattle.std.specs.Prelude.{◌≡◌, ◌⊎◌, ℕ, List, [], ◌∷◌, ◌++◌, map, Ok}
 use Rattle.intaglio_content.specs.Key.{Key}
 use Rattle.intaglio_content.specs.Work.{Mark, hashed}
 use Rattle.intaglio_core.specs.State.{State, IsValid}
@@ -36,3 +36,23 @@ module _ {C : Type 0} (key : C → Key) where
     abbrev pub InternsAll : State C → List C → List ℕ → List Mark → State C → Type 0
     InternsAll old cs is cost new =
         (searches internings : List Mark) × (cost ≡ hashings cs ++ searches ++ internings) × SearchesEach old cs searches × InternsEach old cs is internings new
+
+    -- the first contents interned, and the look-up of the next, which was refused
+    pub record InternsSome (old : State C) (cs : List C) (cost : List Mark) : Type 0 where
+      pub before : List C
+      pub refused : C
+      pub after : List C
+      pub contents : cs ≡ before ++ refused ∷ after
+      pub symbols : List ℕ
+      pub held : State C
+      pub internings : List Mark
+      pub search : List Mark
+      pub parts : cost ≡ internings ++ search
+      pub interns : InternsEach old before symbols internings held
+      pub searches : KnownSearchCost key hash held (key refused) search
+
+    -- contents that were refused together: nothing was done, or all were hashed, or then looked up, or then some were interned
+    abbrev pub RefusedCost : State C → List C → List Mark → Type 0
+    RefusedCost old cs cost =
+        (cost ≡ []) ⊎ (cost ≡ hashings cs)
+        ⊎ ((searches later : List Mark) × (cost ≡ hashings cs ++ searches ++ later) × SearchesEach old cs searches × ((later ≡ []) ⊎ InternsSome old cs later))

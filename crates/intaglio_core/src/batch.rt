@@ -1,11 +1,12 @@
 //! Many contents are interned at once.
-ghost use Rattle.std.specs.Prelude.{◌≡◌, ◌+◌, ◌<◌, ◌≤◌, ◌++◌, length, map, take, Some, IfOk, IfErr, IfSome, OnOk, OnErr};
+ghost use Rattle.std.specs.Prelude.{◌≡◌, ◌+◌, ◌<◌, ◌≤◌, ◌++◌, ◌⊎◌, [], length, map, take, Some, IfOk, IfErr, IfSome, OnOk, OnErr};
 ghost use Rattle.std.specs.List.{AllByRecursion};
 ghost use Rattle.intaglio_core.specs.State.{first, IsValid};
 ghost use Rattle.intaglio_core.specs.Change.{Interns};
+ghost use Rattle.intaglio_core.specs.Lookup.{Keeps, FindsEach};
 ghost use Rattle.intaglio_core.specs.Cost.{Adds, KnownInternCost};
 ghost use Rattle.intaglio_core.specs.Issue.{issue_from, interned_all};
-ghost use Rattle.intaglio_core.specs.Batch.{IfOverflow, hashings, SearchesEach, InternsEach, InternsAll};
+ghost use Rattle.intaglio_core.specs.Batch.{IfOverflow, hashings, SearchesEach, InternsEach, InternsAll, InternsSome, RefusedCost};
 
 use crate::interner::Interner;
 use intaglio_content::Work;
@@ -54,9 +55,14 @@ pub fn intern_all<T: Interner>(
     ensures symbols { IfOk result (λ symbols. symbols.items ≡ issue_from T.Content.key (T.state table.old).contents contents.items) }
     ensures held { OnOk result ((T.state table.new).contents ≡ interned_all T.Content.key (T.state table.old).contents contents.items) }
 
+    // Each is found at its symbol, and what stood before stands and is found where it was.
+    ensures found { IfOk result (λ symbols. FindsEach T.Content.key (T.state table.new) contents.items symbols.items) }
+    ensures kept { Keeps T.Content.key (T.state table.old) (T.state table.new) }
+
     // All or none.
     ensures refused { OnErr result ((T.state table.new).contents ≡ (T.state table.old).contents) }
     ensures overflow { IfErr result (λ e. IfOverflow e ((T.state table.old).limit < length (interned_all T.Content.key (T.state table.old).contents contents.items))) }
+    ensures refused_cost { OnErr result (Adds work.old.marks work.new.marks (RefusedCost T.Content.key (T.hash table.old) (T.state table.old) contents.items)) }
 
     ensures capacity { length (T.state table.old).contents + (T.state table.old).room ≤ length (T.state table.new).contents + (T.state table.new).room }
     ensures limit { (T.state table.new).limit ≡ (T.state table.old).limit }
@@ -83,6 +89,7 @@ fn hash_all<T: Interner>(
     ensures contents { IfOk result (λ all. map (λ it. it.content) all.items ≡ contents.items) }
     ensures hashes { IfOk result (λ all. AllByRecursion (λ it. it.hash ≡ T.hash table.now (T.Content.key it.content)) all.items) }
     ensures cost { OnOk result (work.new.marks ≡ work.old.marks ++ hashings T.Content.key contents.items) }
+    ensures no_cost { OnErr result (work.new.marks ≡ work.old.marks) }
 {
     let mut all = Vec::with_capacity(alloc, contents.len())?;
     for content in contents {
@@ -104,6 +111,7 @@ fn search_all<T: Interner>(
     ensures hashes { IfOk result (λ found. AllByRecursion (λ it. it.hash ≡ T.hash table.now (T.Content.key it.content)) found.items) }
     ensures symbols { IfOk result (λ found. AllByRecursion (λ it. IfSome it.symbol (λ s. first T.Content.key (T.state table.now).contents (T.Content.key it.content) ≡ Some s)) found.items) }
     ensures cost { OnOk result (Adds work.old.marks work.new.marks (SearchesEach T.Content.key (T.hash table.now) (T.state table.now) (map (λ it. it.content) all.items))) }
+    ensures no_cost { OnErr result (work.new.marks ≡ work.old.marks) }
 {
     let mut found = Vec::with_capacity(alloc, all.len())?;
     for it in all {
@@ -130,6 +138,7 @@ fn take_all<T: Interner>(
     ensures ok { IfOk result (λ symbols. Adds work.old.marks work.new.marks (λ cost. InternsEach T.Content.key (T.hash table.old) (T.state table.old) (map (λ it. it.content) all.items) symbols.items cost (T.state table.new))) }
     ensures symbols { IfOk result (λ symbols. symbols.items ≡ issue_from T.Content.key (T.state table.old).contents (map (λ it. it.content) all.items)) }
     ensures held { OnOk result ((T.state table.new).contents ≡ interned_all T.Content.key (T.state table.old).contents (map (λ it. it.content) all.items)) }
+    ensures refused_cost { OnErr result (Adds work.old.marks work.new.marks (λ cost. (cost ≡ []) ⊎ InternsSome T.Content.key (T.hash table.old) (T.state table.old) (map (λ it. it.content) all.items) cost)) }
     ensures begins { OnErr result (take (length (T.state table.old).contents) (T.state table.new).contents ≡ (T.state table.old).contents) }
     ensures overflow { IfErr result (λ e. IfOverflow e ((T.state table.old).limit < length (interned_all T.Content.key (T.state table.old).contents (map (λ it. it.content) all.items)))) }
     ensures capacity { length (T.state table.old).contents + (T.state table.old).room ≤ length (T.state table.new).contents + (T.state table.new).room }

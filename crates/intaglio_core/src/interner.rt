@@ -1,8 +1,9 @@
 //! What every symbol table does, for code that is generic in the table.
-ghost use Rattle.std.specs.Prelude.{◌≡◌, ℕ, ◌++◌, ◌∷◌, [], length, slice_get, option_copied};
+ghost use Rattle.std.specs.Prelude.{◌≡◌, ℕ, ◌++◌, ◌∷◌, [], length, slice_get, option_copied, IfOk, IfSome, OnOk, OnErr};
 ghost use Rattle.intaglio_content.specs.Key.{Key, key_hash};
 ghost use Rattle.intaglio_content.specs.Work.{hashed};
 ghost use Rattle.intaglio_core.specs.State.{State, first, IsValid};
+ghost use Rattle.intaglio_core.specs.Lookup.{IsFound, IsStored, Keeps, KeepsBelow, FindsOthers, FindsNothing};
 ghost use Rattle.intaglio_core.specs.Change.{Interns, Reserves, Shrinks, TakesBack, Empties};
 ghost use Rattle.intaglio_core.specs.Cost.{Adds, InternCost, SearchCost, KnownInternCost, KnownSearchCost, IsRoomCost};
 
@@ -37,6 +38,11 @@ pub trait Interner {
         work: &mut Work,
     ) -> Result<Symbol, InternError>
         ensures step { Interns Self.Content.key (state self.old) content result (state self.new) }
+        ensures found { IfOk result (IsFound Self.Content.key (state self.new) (Self.Content.key content)) }
+        ensures stored { IfOk result (IsStored Self.Content.key (state self.new) (Self.Content.key content)) }
+        ensures kept { Keeps Self.Content.key (state self.old) (state self.new) }
+        ensures others { FindsOthers Self.Content.key (state self.old) (Self.Content.key content) (state self.new) }
+        ensures refused { OnErr result ((state self.new).contents ≡ (state self.old).contents) }
         ensures cost { Adds work.old.marks work.new.marks (InternCost Self.Content.key (hash self.old) (state self.old) (Self.Content.key content) result (state self.new)) }
         ensures same_hash { hash self.new ≡ hash self.old }
         ensures valid { IsValid Self.Content.key (state self.new) };
@@ -58,6 +64,11 @@ pub trait Interner {
     ) -> Result<Symbol, InternError>
         requires known { known_hash ≡ hash self.old (Self.Content.key content) }
         ensures step { Interns Self.Content.key (state self.old) content result (state self.new) }
+        ensures found { IfOk result (IsFound Self.Content.key (state self.new) (Self.Content.key content)) }
+        ensures stored { IfOk result (IsStored Self.Content.key (state self.new) (Self.Content.key content)) }
+        ensures kept { Keeps Self.Content.key (state self.old) (state self.new) }
+        ensures others { FindsOthers Self.Content.key (state self.old) (Self.Content.key content) (state self.new) }
+        ensures refused { OnErr result ((state self.new).contents ≡ (state self.old).contents) }
         ensures cost { Adds work.old.marks work.new.marks (KnownInternCost Self.Content.key (hash self.old) (state self.old) (Self.Content.key content) result (state self.new)) }
         ensures same_hash { hash self.new ≡ hash self.old }
         ensures valid { IsValid Self.Content.key (state self.new) };
@@ -106,6 +117,7 @@ pub trait Interner {
     /// The content of a symbol.
     fn content(&self, symbol: Symbol) -> Option<&Self::Content>
         ensures content { option_copied result ≡ slice_get (state self.now).contents symbol }
+        ensures found { IfSome result (λ content. IsFound Self.Content.key (state self.now) (Self.Content.key content.now) symbol) }
         ensures valid { IsValid Self.Content.key (state self.now) };
 
     /// How many contents there are.
@@ -116,6 +128,7 @@ pub trait Interner {
     /// Drops all contents.
     fn empty(&mut self)
         ensures step { Empties (state self.old) (state self.new) }
+        ensures found { FindsNothing Self.Content.key (state self.new) }
         ensures same_hash { hash self.new ≡ hash self.old }
         ensures valid { IsValid Self.Content.key (state self.new) };
 
@@ -131,6 +144,8 @@ pub trait Interner {
     /// [`StaleMark`] where the mark is of more contents than there are, and then nothing changed.
     fn take_back(&mut self, mark: Mark) -> Result<(), StaleMark>
         ensures step { TakesBack (state self.old) mark result (state self.new) }
+        ensures kept { OnOk result (KeepsBelow Self.Content.key (state self.old) mark (state self.new)) }
+        ensures stale { OnErr result (state self.new ≡ state self.old) }
         ensures same_hash { hash self.new ≡ hash self.old }
         ensures valid { IsValid Self.Content.key (state self.new) };
 }

@@ -1,10 +1,11 @@
 //! A list of contents with an index over it.
-ghost use Rattle.std.specs.Prelude.{◌≡◌, ℕ, ◌+◌, ◌*◌, ◌^◌, ◌<◌, ◌≤◌, ◌++◌, ◌∷◌, ◌↔◌, List, [], map, length, min, max, replicate, slice_get, option_copied, vec_capacity, Some, None, IfSome, IsTrue, OnOk, OnErr};
+ghost use Rattle.std.specs.Prelude.{◌≡◌, ℕ, ◌+◌, ◌*◌, ◌^◌, ◌<◌, ◌≤◌, ◌++◌, ◌∷◌, ◌↔◌, List, [], map, length, min, max, replicate, slice_get, option_copied, vec_capacity, Some, None, IfSome, IfOk, IsTrue, OnOk, OnErr};
 ghost use Rattle.intaglio_content.specs.Key.{Key, key_hash};
 ghost use Rattle.intaglio_content.specs.Work.{placed};
 ghost use Rattle.intaglio_symbol.specs.AllSymbols.{numbers_from};
 ghost use Rattle.intaglio_core.specs.State.{first, IsValid};
 ghost use Rattle.intaglio_core.specs.Change.{Interns, Takes};
+ghost use Rattle.intaglio_core.specs.Lookup.{IsFound, IsStored, Keeps, FindsOthers};
 ghost use Rattle.intaglio_core.specs.Cost.{Adds, SearchCost, InternCost, KnownSearchCost, KnownInternCost};
 ghost use Rattle.intaglio_core.specs.Indexed.{AddCost};
 
@@ -90,6 +91,7 @@ impl<C: Keyed, S: BuildHasher> Core<C, S> {
     /// The content of a symbol.
     pub fn get(&self, symbol: Symbol) -> Option<&C>
         ensures content { option_copied result ≡ slice_get self.now.state.contents symbol }
+        ensures found { IfSome result (λ content. IsFound C.key self.now.state (C.key content.now) symbol) }
         ensures valid { IsValid C.key self.now.state }
     {
         self.list.get(symbol.id() as usize)
@@ -151,6 +153,11 @@ impl<C: Keyed, S: BuildHasher> Core<C, S> {
     where
         C: Sought<C> + Drop,
         ensures step { Interns C.key self.old.state content result self.new.state }
+        ensures found { IfOk result (IsFound C.key self.new.state (C.key content)) }
+        ensures stored { IfOk result (IsStored C.key self.new.state (C.key content)) }
+        ensures kept { Keeps C.key self.old.state self.new.state }
+        ensures others { FindsOthers C.key self.old.state (C.key content) self.new.state }
+        ensures refused { OnErr result (self.new.state.contents ≡ self.old.state.contents) }
         ensures cost { Adds work.old.marks work.new.marks (InternCost C.key (key_hash S.Hasher.finish S.Hasher.write (S.build_hasher self.old.hasher)) self.old.state (C.key content) result self.new.state) }
         ensures hasher { self.new.hasher ≡ self.old.hasher }
         ensures valid { IsValid C.key self.new.state }
@@ -170,6 +177,11 @@ impl<C: Keyed, S: BuildHasher> Core<C, S> {
         C: Sought<C> + Drop,
         requires hash { hash ≡ key_hash S.Hasher.finish S.Hasher.write (S.build_hasher self.old.hasher) (C.key content) }
         ensures step { Interns C.key self.old.state content result self.new.state }
+        ensures found { IfOk result (IsFound C.key self.new.state (C.key content)) }
+        ensures stored { IfOk result (IsStored C.key self.new.state (C.key content)) }
+        ensures kept { Keeps C.key self.old.state self.new.state }
+        ensures others { FindsOthers C.key self.old.state (C.key content) self.new.state }
+        ensures refused { OnErr result (self.new.state.contents ≡ self.old.state.contents) }
         ensures cost { Adds work.old.marks work.new.marks (KnownInternCost C.key (key_hash S.Hasher.finish S.Hasher.write (S.build_hasher self.old.hasher)) self.old.state (C.key content) result self.new.state) }
         ensures hasher { self.new.hasher ≡ self.old.hasher }
         ensures valid { IsValid C.key self.new.state }

@@ -1,6 +1,7 @@
 //! Room, cuts and clearing.
-ghost use Rattle.std.specs.Prelude.{◌≡◌, ◌+◌, ◌<◌, ◌≤◌, [], length, IsOk};
+ghost use Rattle.std.specs.Prelude.{◌≡◌, ◌+◌, ◌<◌, ◌≤◌, [], length, IsOk, OnOk, OnErr};
 ghost use Rattle.intaglio_core.specs.State.{IsValid};
+ghost use Rattle.intaglio_core.specs.Lookup.{FindsNothing, Keeps, KeepsBelow};
 ghost use Rattle.intaglio_core.specs.Change.{Empties, Reserves, Shrinks, TakesBack};
 ghost use Rattle.intaglio_core.specs.Cost.{Adds, IsRoomCost};
 
@@ -15,6 +16,7 @@ impl<C: Keyed, S: BuildHasher> Core<C, S> {
     where
         C: Drop,
         ensures step { Empties self.old.state self.new.state }
+        ensures found { FindsNothing C.key self.new.state }
         ensures hasher { self.new.hasher ≡ self.old.hasher }
         ensures valid { IsValid C.key self.new.state }
     {
@@ -39,6 +41,8 @@ impl<C: Keyed, S: BuildHasher> Core<C, S> {
     where
         C: Drop,
         ensures step { TakesBack self.old.state mark result self.new.state }
+        ensures kept { OnOk result (KeepsBelow C.key self.old.state mark self.new.state) }
+        ensures stale { OnErr result (self.new.state ≡ self.old.state) }
         ensures hasher { self.new.hasher ≡ self.old.hasher }
         ensures valid { IsValid C.key self.new.state }
     {

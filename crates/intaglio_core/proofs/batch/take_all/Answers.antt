@@ -2,7 +2,7 @@ use Rattle.std.proofs.Common.{rules, ◌≡◌, ◌∙◌, [], map, Err, sym, ap
 use Rattle.std.proofs.lemmas.Grind.{common_steps}
 use Rattle.std.proofs.lemmas.List.{map-append}
 use Rattle.std.specs.Vec.Iter.{into_iter_items}
-use Rattle.intaglio_core.proofs.Each.{Adds-each, InternsEach-issues, Interns-limit, begins, overflows, symbol-still}
+use Rattle.intaglio_core.proofs.Each.{Adds-each, InternsEach-issues, Interns-limit, begins, overflows, stops, symbol-still}
 use Rattle.intaglio_core.proofs.Room.{Interns-roomier}
 use Rattle.intaglio_core.proofs.batch.take_all.Goals as goal
 
@@ -75,3 +75,10 @@ returns-in_err-take_one-clause-overflow g c =
 pub returns-in_err-take_one-clause-capacity : goal.returns-in_err-take_one-clause-capacity
 returns-in_err-take_one-clause-capacity g c =
     omega (arith, c.loop-it.invariant.capacity, Interns-roomier g.T.Content.Keyed.key (g.T.Interner.state c.loop-it.table) (g.T.Interner.state c.take_one.new.table) c.in-Some.it.content c.take_one.result c.take_one.ensures.step)
+
+pub returns-in_err-take_one-clause-refused_cost : goal.returns-in_err-take_one-clause-refused_cost
+returns-in_err-take_one-clause-refused_cost g c =
+    let contents = map (λ it. it.content) (into_iter_items c.next.new.self) in
+    let is : c.from_residual-in_err-take_one.result ≡ Err c.in_err-take_one.field-0.0 = search rules in
+    let whole = ap (λ all. map (λ it. it.content) all) (rw c.in-Some.ensures.steps.0 at c.loop-it.invariant.whole) in
+    rw is (stops g.T.Content.Keyed.key (g.T.Interner.hash c.args.table.now) (g.T.Interner.state c.args.table.now) (g.T.Interner.state c.loop-it.table) _ contents _ _ c.in-Some.it.content _ _ _ c.loop-it.invariant.ran (rw c.loop-it.invariant.same_hash at c.in_err-take_one.ensures.cost) (rw map-append at whole))

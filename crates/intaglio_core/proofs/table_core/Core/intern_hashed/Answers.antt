@@ -1,8 +1,35 @@
-use Rattle.std.proofs.Common.{◌≡◌, None, sym}
+use Rattle.std.proofs.Common.{◌≡◌, None, sym, rules}
 use Rattle.intaglio_content.specs.Key.{key_hash}
 use Rattle.intaglio_core.specs.State.{first}
+use Rattle.intaglio_core.specs.Lookup.{IsFound}
+use Rattle.intaglio_core.proofs.Laws.{found-stored, taken}
 use Rattle.intaglio_core.proofs.Spent.{intern-cost}
 use Rattle.intaglio_core.proofs.table_core.Core.intern_hashed.Goals as goal
+
+pub returns-in-Some-clause-stored : goal.returns-in-Some-clause-stored
+returns-in-Some-clause-stored g c =
+    let found : IsFound g.C.Keyed.key c.args.self.now.state (g.C.Keyed.key c.args.content) c.in-Some.symbol = search rules in
+    found-stored g.C.Keyed.key c.args.self.now.state (g.C.Keyed.key c.args.content) c.in-Some.symbol found
+
+pub returns-in-None-clause-found : goal.returns-in-None-clause-found
+returns-in-None-clause-found g c =
+    let none : first g.C.Keyed.key c.args.self.now.state.contents (g.C.Keyed.key c.args.content) ≡ None = rw (← c.self.view_is) (rw c.deref.ensures.value at (sym c.in-None.ensures.answer)) in
+    (taken g.C.Keyed.key c.args.self.now.state c.add.new.self.state c.args.content c.add.result none c.add.ensures.step).found
+
+pub returns-in-None-clause-stored : goal.returns-in-None-clause-stored
+returns-in-None-clause-stored g c =
+    let none : first g.C.Keyed.key c.args.self.now.state.contents (g.C.Keyed.key c.args.content) ≡ None = rw (← c.self.view_is) (rw c.deref.ensures.value at (sym c.in-None.ensures.answer)) in
+    (taken g.C.Keyed.key c.args.self.now.state c.add.new.self.state c.args.content c.add.result none c.add.ensures.step).stored
+
+pub returns-in-None-clause-kept : goal.returns-in-None-clause-kept
+returns-in-None-clause-kept g c =
+    let none : first g.C.Keyed.key c.args.self.now.state.contents (g.C.Keyed.key c.args.content) ≡ None = rw (← c.self.view_is) (rw c.deref.ensures.value at (sym c.in-None.ensures.answer)) in
+    (taken g.C.Keyed.key c.args.self.now.state c.add.new.self.state c.args.content c.add.result none c.add.ensures.step).kept
+
+pub returns-in-None-clause-others : goal.returns-in-None-clause-others
+returns-in-None-clause-others g c =
+    let none : first g.C.Keyed.key c.args.self.now.state.contents (g.C.Keyed.key c.args.content) ≡ None = rw (← c.self.view_is) (rw c.deref.ensures.value at (sym c.in-None.ensures.answer)) in
+    (taken g.C.Keyed.key c.args.self.now.state c.add.new.self.state c.args.content c.add.result none c.add.ensures.step).others
 
 pub returns-in-None-clause-cost : goal.returns-in-None-clause-cost
 returns-in-None-clause-cost g c =

@@ -1,0 +1,40 @@
+-- What look-ups find, before and after a call.
+use Rattle.std.specs.Prelude.{◌≡◌, ◌≢◌, ℕ, ◌<◌, ◌≤◌, List, Some, None, slice_get}
+use Rattle.intaglio_content.specs.Key.{Key}
+use Rattle.intaglio_core.specs.State.{State, first}
+
+module _ {C : Type 0} (key : C → Key) where
+  -- a look-up of the key finds this symbol
+  abbrev pub IsFound : State C → Key → ℕ → Type 0
+  IsFound s k i = first key s.contents k ≡ Some i
+
+  -- no look-up finds a symbol
+  abbrev pub FindsNothing : State C → Type 0
+  FindsNothing s = (k : Key) → first key s.contents k ≡ None
+
+  -- look-ups of every other key find what they found before
+  abbrev pub FindsOthers : State C → Key → State C → Type 0
+  FindsOthers old k new = (other : Key) → other ≢ k → first key new.contents other ≡ first key old.contents other
+
+  -- the content of this symbol has the key
+  pub record IsStored (s : State C) (k : Key) (i : ℕ) : Type 0 where
+    pub content : C
+    pub stands : slice_get s.contents i ≡ Some content
+    pub same_key : key content ≡ k
+
+  -- each symbol keeps its content, and what was found is found at the same symbol
+  pub record Keeps (old new : State C) : Type 0 where
+    pub stored : (i : ℕ) (c : C) → slice_get old.contents i ≡ Some c → slice_get new.contents i ≡ Some c
+    pub found : (k : Key) (i : ℕ) → IsFound old k i → IsFound new k i
+
+  -- the same of the symbols below n, and no other is found
+  pub record KeepsBelow (old : State C) (n : ℕ) (new : State C) : Type 0 where
+    pub stored : (i : ℕ) (c : C) → i < n → slice_get old.contents i ≡ Some c → slice_get new.contents i ≡ Some c
+    pub found : (k : Key) (i : ℕ) → i < n → IsFound old k i → IsFound new k i
+    pub dropped : (k : Key) (i : ℕ) → n ≤ i → IsFound old k i → first key new.contents k ≡ None
+    pub absent : (k : Key) → first key old.contents k ≡ None → first key new.contents k ≡ None
+    pub below : (k : Key) (i : ℕ) → IsFound new k i → i < n
+
+  -- each of these contents is found at its symbol
+  abbrev pub FindsEach : State C → List C → List ℕ → Type 0
+  FindsEach s cs symbols = (n : ℕ) (c : C) (i : ℕ) → slice_get cs n ≡ Some c → slice_get symbols n ≡ Some i → IsFound s (key c) i
