@@ -1,13 +1,13 @@
 -- What holds of look-ups, for the proofs of callers: what is found after an interning, a rollback or a clear, and where.
-use Rattle.std.proofs.Common.{◌≡◌, ◌≢◌, ◌∙◌, sym, ap, refl, arith, ℕ, zero, suc, ◌+◌, ◌<◌, ◌≤◌, Bool, true, false, cond, List, [], ◌∷◌, ◌++◌, length, map, take, drop, get_or, Option, Some, None, option_map, option_copied, unwrap_or, is_some, Result, Ok, Err, IfSome, IfOk, OnOk, OnErr}
+use Rattle.std.proofs.Common.{◌≡◌, ◌≢◌, ◌∙◌, sym, ap, refl, arith, ℕ, zero, suc, ◌+◌, ◌<◌, ◌≤◌, Bool, true, false, cond, List, [], ◌∷◌, ◌++◌, length, map, take, drop, get_or, Option, Some, None, option_map, option_copied, unwrap_or, is_some, Result, Ok, Err, IfSome, IfOk, OnErr}
 use Rattle.std.specs.Prelude.{slice_get, ◌↔◌}
 use Rattle.std.specs.Borrow.{Bor}
-use Rattle.std.proofs.lemmas.Option.{slice_get_within, get_or_from_slice_get}
+use Rattle.std.proofs.lemmas.Option.{same_Some, slice_get_within, get_or_from_slice_get}
 use Rattle.std.proofs.lemmas.List.{length-map, get_or-map, length-take-le, take-append-drop}
 use Rattle.intaglio_content.specs.Key.{Key}
 use Rattle.intaglio_core.specs.State.{State, key_eq, first, IsValid}
 use Rattle.intaglio_core.specs.Change.{Interns, Takes, IsCut, Empties}
-use Rattle.intaglio_core.specs.Lookup.{IsFound, FindsNothing, FindsOthers, IsStored, Keeps, KeepsBelow, FindsEach}
+use Rattle.intaglio_core.specs.Lookup.{IsFound, FindsNothing, FindsOthers, IsStored, Keeps, KeepsBelow, FindsEach, StoresEach}
 use Rattle.intaglio_core.specs.Issue.{issued, interned, issue_from, interned_all}
 use Rattle.intaglio_core.proofs.First.{key_eq-decides, key_eq-unequal, first-append, first-some, some-below, or_at}
 use Rattle.intaglio_core.proofs.Held.{first-still, content-still, slice_get-front}
@@ -15,20 +15,18 @@ use Rattle.intaglio_core.proofs.Issue.{Interns-ok}
 use Rattle.intaglio_core.proofs.Each.{Interns-refused}
 use Rattle.intaglio_symbol.specs.declared.error.InternError.{InternError}
 
-some-same : {X : Type 0} (a b : X) → Some a ≡ Some b → a ≡ b
-some-same a b e = cc
-
 later-place : (o : Option ℕ) (s : ℕ) → option_map (λ i. 1 + i) o ≡ Some s → (i : ℕ) × (o ≡ Some i) × (s ≡ suc i)
 later-place None s e = cc
-later-place (Some i) s e = (i, refl, let h : 1 + i ≡ s = some-same (1 + i) s e in omega arith)
+later-place (Some i) s e = (i, refl, let h : 1 + i ≡ s = same_Some (1 + i) s e in omega arith)
 
 head-place : (b : Bool) (o : Option ℕ) (s : ℕ) (P : ℕ → Type 0) → cond b (Some 0) (option_map (λ i. 1 + i) o) ≡ Some s → (b ≡ true → P 0) → ((i : ℕ) → o ≡ Some i → P (suc i)) → P s
-head-place true o s P e here there = let h : 0 ≡ s = some-same 0 s e in rw (← h) (here refl)
+head-place true o s P e here there = let h : 0 ≡ s = same_Some 0 s e in rw (← h) (here refl)
 head-place false o s P e here there = let h = later-place o s e in rw h.2 (there h.0 h.1)
 
-mapped-some : {X Y : Type 0} (f : X → Y) (o : Option X) (y : Y) → option_map f o ≡ Some y → (x : X) × (o ≡ Some x) × (f x ≡ y)
+-- what a map gave came from something
+pub mapped-some : {X Y : Type 0} (f : X → Y) (o : Option X) (y : Y) → option_map f o ≡ Some y → (x : X) × (o ≡ Some x) × (f x ≡ y)
 mapped-some f None y e = cc
-mapped-some f (Some x) y e = (x, refl, some-same (f x) y e)
+mapped-some f (Some x) y e = (x, refl, same_Some (f x) y e)
 
 slice_get-take : {X : Type 0} (n : ℕ) (xs : List X) (i : ℕ) (x : X) → i < n → slice_get xs i ≡ Some x → slice_get (take n xs) i ≡ Some x
 slice_get-take zero xs i x lt e = absurd (omega arith)
@@ -40,19 +38,19 @@ take-front : {X : Type 0} (xs ys : List X) → ((i : ℕ) (x : X) → slice_get 
 take-front [] ys h = refl
 take-front (x ∷ xs) [] h = let no = h 0 x refl in cc
 take-front (x ∷ xs) (y ∷ ys) h =
-    let same : y ≡ x = some-same y x (h 0 x refl) in
+    let same : y ≡ x = same_Some y x (h 0 x refl) in
     rw (same, take-front xs ys (λ i z e. h (suc i) z e)) refl
 
 -- the first of two places, the second behind the first n
 or_at-below : (n : ℕ) (o p : Option ℕ) (i : ℕ) → i < n → or_at n o p ≡ Some i → o ≡ Some i
 or_at-below n None None i lt e = cc
-or_at-below n None (Some j) i lt e = let q : n + j ≡ i = some-same (n + j) i e in absurd (omega arith)
+or_at-below n None (Some j) i lt e = let q : n + j ≡ i = same_Some (n + j) i e in absurd (omega arith)
 or_at-below n (Some j) p i lt e = e
 
 or_at-above : (n : ℕ) (o p : Option ℕ) (i : ℕ) → ((j : ℕ) → o ≡ Some j → j < n) → n ≤ i → or_at n o p ≡ Some i → o ≡ None
 or_at-above n None p i below le e = refl
 or_at-above n (Some j) p i below le e =
-    let q : j ≡ i = some-same j i e in
+    let q : j ≡ i = same_Some j i e in
     let l = below j refl in
     absurd (omega arith)
 
@@ -99,8 +97,8 @@ module _ {C : Type 0} (key : C → Key) where
   -- equal contents have the same symbol, and different ones different symbols
   pub same_symbol : (s : State C) (k l : Key) (i j : ℕ) → IsFound key s k i → IsFound key s l j → (k ≡ l) ↔ (i ≡ j)
   same_symbol s k l i j a b = (
-    λ e. some-same i j (sym a ∙ ap (λ (x : Key). first key s.contents x) e ∙ b),
-    λ e. some-same k l (sym (first-key s.contents k i a) ∙ ap (λ (n : ℕ). option_map key (slice_get s.contents n)) e ∙ first-key s.contents l j b),
+    λ e. same_Some i j (sym a ∙ ap (λ (x : Key). first key s.contents x) e ∙ b),
+    λ e. same_Some k l (sym (first-key s.contents k i a) ∙ ap (λ (n : ℕ). option_map key (slice_get s.contents n)) e ∙ first-key s.contents l j b),
   )
 
   -- where there is no content, nothing is found
@@ -211,7 +209,7 @@ module _ {C : Type 0} (key : C → Key) where
   pub issued-each : (held cs : List C) (n : ℕ) (c : C) (i : ℕ) → slice_get cs n ≡ Some c → slice_get (issue_from key held cs) n ≡ Some i → first key (interned_all key held cs) (key c) ≡ Some i
   issued-each held [] n c i e f = cc
   issued-each held (x ∷ cs) zero c i e f =
-      let same : x ≡ c = some-same x c e in
+      let same : x ≡ c = same_Some x c e in
       rw (← same) (first-still key (interned key held x) cs (key x) i (issued-found held x ∙ f))
   issued-each held (x ∷ cs) (suc n) c i e f = issued-each (interned key held x) cs n c i e f
 
@@ -219,10 +217,10 @@ module _ {C : Type 0} (key : C → Key) where
   pub interned_all-found : (old new : State C) (cs : List C) (symbols : List ℕ) → symbols ≡ issue_from key old.contents cs → new.contents ≡ interned_all key old.contents cs → FindsEach key new cs symbols
   interned_all-found old new cs symbols is held n c i e f = rw held (issued-each old.contents cs n c i e (rw is at f))
 
-  pub interned_all-found-on_ok : {V E : Type 0} (items : V → List ℕ) (old new : State C) (cs : List C) (r : Result V E)
-      → IfOk r (λ symbols. items symbols ≡ issue_from key old.contents cs) → OnOk r (new.contents ≡ interned_all key old.contents cs) → IfOk r (λ symbols. FindsEach key new cs (items symbols))
-  interned_all-found-on_ok items old new cs (Ok symbols) is held = interned_all-found old new cs (items symbols) is held
-  interned_all-found-on_ok items old new cs (Err e) is held = tt
+  -- and the content of its symbol has its key
+  pub interned_all-stored : (old new : State C) (cs : List C) (symbols : List ℕ) → symbols ≡ issue_from key old.contents cs → new.contents ≡ interned_all key old.contents cs → StoresEach key new cs symbols
+  interned_all-stored old new cs symbols is held n c i e f =
+      found-stored new (key c) i (interned_all-found old new cs symbols is held n c i e f)
 
   -- internings in order keep each symbol's content, and what was found is found where it was
   pub interned_all-keeps : (old new : State C) (cs : List C) → new.contents ≡ interned_all key old.contents cs → Keeps key old new

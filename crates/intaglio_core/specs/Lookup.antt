@@ -38,3 +38,7 @@ module _ {C : Type 0} (key : C → Key) where
   -- each of these contents is found at its symbol
   abbrev pub FindsEach : State C → List C → List ℕ → Type 0
   FindsEach s cs symbols = (n : ℕ) (c : C) (i : ℕ) → slice_get cs n ≡ Some c → slice_get symbols n ≡ Some i → IsFound s (key c) i
+
+  -- and its symbol's content has its key
+  abbrev pub StoresEach : State C → List C → List ℕ → Type 0
+  StoresEach s cs symbols = (n : ℕ) (c : C) (i : ℕ) → slice_get cs n ≡ Some c → slice_get symbols n ≡ Some i → IsStored s (key c) i

@@ -3,7 +3,7 @@ ghost use Rattle.std.specs.Prelude.{◌≡◌, ◌+◌, ◌<◌, ◌≤◌, ◌+
 ghost use Rattle.std.specs.List.{AllByRecursion};
 ghost use Rattle.intaglio_core.specs.State.{first, IsValid};
 ghost use Rattle.intaglio_core.specs.Change.{Interns};
-ghost use Rattle.intaglio_core.specs.Lookup.{Keeps, FindsEach};
+ghost use Rattle.intaglio_core.specs.Lookup.{Keeps, FindsEach, StoresEach};
 ghost use Rattle.intaglio_core.specs.Cost.{Adds, KnownInternCost};
 ghost use Rattle.intaglio_core.specs.Issue.{issue_from, interned_all};
 ghost use Rattle.intaglio_core.specs.Batch.{IfOverflow, hashings, SearchesEach, InternsEach, InternsAll, InternsSome, RefusedCost};
@@ -57,6 +57,7 @@ pub fn intern_all<T: Interner>(
 
     // Each is found at its symbol, and what stood before stands and is found where it was.
     ensures found { IfOk result (λ symbols. FindsEach T.Content.key (T.state table.new) contents.items symbols.items) }
+    ensures stored { IfOk result (λ symbols. StoresEach T.Content.key (T.state table.new) contents.items symbols.items) }
     ensures kept { Keeps T.Content.key (T.state table.old) (T.state table.new) }
 
     // All or none.

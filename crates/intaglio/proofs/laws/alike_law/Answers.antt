@@ -1,0 +1,5 @@
+use Rattle.intaglio_core.proofs.Alike.{runs-alike}
+use Rattle.intaglio.proofs.laws.alike_law.Goals as goal
+
+pub returns : goal.returns
+returns g c = runs-alike g.C.Keyed.key g.C.Content.spelling
