@@ -1,11 +1,11 @@
 -- What a run replies and leaves follows from its calls, the contents before it and the limit, if it isn't refused memory.
-use Rattle.std.proofs.Common.{◌≡◌, ◌≢◌, ◌∙◌, sym, ap, refl, arith, ℕ, suc, ◌+◌, ◌<◌, ◌≤◌, Bool, true, false, cond, ltb, eqb, List, [], ◌∷◌, ◌++◌, length, map, take, All, Option, Some, None, option_map, is_some, MatchOption, Result, Ok, Err}
+use Rattle.std.proofs.Common.{◌≡◌, ◌≢◌, ◌∙◌, sym, ap, refl, arith, ℕ, suc, ◌+◌, cond, ltb, List, [], ◌∷◌, ◌++◌, length, map, take, Option, Some, None, option_map, is_some, MatchOption, Result, Ok}
 use Rattle.std.specs.Prelude.{slice_get, nat_lt, nat_eq}
 use Rattle.std.proofs.lemmas.Bool.{lt-ltb, le-ltb}
 use Rattle.intaglio_content.specs.Key.{Key}
 use Rattle.intaglio_content.specs.Work.{Mark}
 use Rattle.intaglio_core.specs.State.{State, first}
-use Rattle.intaglio_core.specs.Change.{Interns, IsTaken}
+use Rattle.intaglio_core.specs.Change.{IsTaken}
 use Rattle.intaglio_core.specs.Step.{Step, found}
 use Rattle.intaglio_core.specs.Run.{Runs}
 use Rattle.intaglio_core.specs.Alike.{Seen, symbol, pair, bool, spelling, count, done, overflow, capacity_overflow, stale, seen, HasMemory, AreAlike}
@@ -179,8 +179,8 @@ module _ {C : Type 0} (key : C → Key) (spells : C → List ℕ) where
   runs-plain hash old new [] (r ∷ replies) cost run memory = absurd run
   runs-plain hash old new (call ∷ calls) [] cost run memory = absurd run
   runs-plain hash old new (call ∷ calls) (r ∷ replies) cost run memory =
-      let one = step-plain old run.0 call r run.4 (memory 0 r (omega arith)) in
-      let rest = runs-plain hash run.0 new calls replies run.2 run.7 (λ k d lt. memory (suc k) d (omega arith)) in
+      let one = step-plain old run.0 call r run.4.0 (memory 0 r (omega arith)) in
+      let rest = runs-plain hash run.0 new calls replies run.2 run.5 (λ k d lt. memory (suc k) d (omega arith)) in
       (rw (one.reply, rest.0, one.contents, one.limit) refl, rw (rest.1, one.contents, one.limit) refl)
 
   -- two runs of the same calls say the same and leave the same contents

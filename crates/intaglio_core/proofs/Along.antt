@@ -1,27 +1,23 @@
 -- A walk along a sorted path of positions with their hashes.
-use Rattle.std.proofs.Common.{◌≡◌, ◌≢◌, ℕ, zero, suc, ◌+◌, ◌<◌, ◌≤◌, ◌%◌, Bool, true, false, cond, List, [], ◌∷◌, ◌++◌, length, get_or, map, refl, sym, ap, ◌∙◌, arith, eqb, append_assoc, Option, Some, None, inl, inr, length-append}
+use Rattle.std.proofs.Common.{◌≡◌, ◌≢◌, ℕ, suc, ◌+◌, ◌<◌, ◌≤◌, ◌%◌, Bool, true, false, cond, List, [], ◌∷◌, ◌++◌, length, get_or, map, refl, sym, ap, ◌∙◌, arith, eqb, append_assoc, Option, Some, None, length-append}
 use Rattle.std.specs.List.{All, Contains, AllByRecursion, IsDistinct}
 use Rattle.std.specs.List.Sorted.{IsPermutation}
 use Rattle.std.specs.Option.{MatchOption}
 use Rattle.std.proofs.lemmas.Bool.{eqb-true}
-use Rattle.std.proofs.lemmas.Bool.Decides.{eqb_tells}
 use Rattle.std.proofs.lemmas.Simd.{map-map}
 use Rattle.std.proofs.lemmas.List.{append-nil, get_or_at, get_or-append-add, get_or-map, length-map, map-append}
 use Rattle.std.proofs.lemmas.List.Elements.{All-from_recursion, recursion_from_All, All-contains_itself, All-weaker, All-contains}
 use Rattle.std.proofs.lemmas.List.Sorted.{Contains-permutation, IsPermutation-map, length_permutation, IsPermutation-sym}
 use Rattle.std.proofs.lemmas.Map.Keys.{apart_from_distinct, IsDistinct-from_apart, IsDistinct-IsPermutation}
+use Rattle.intaglio_index.proofs.ChainLemmas.{eqb-equal, eqb-unequal, Each-weaker, Each-left, Each-right, Each-append, places-complete}
+use Rattle.intaglio_index.proofs.LinkLemmas.{both, each_symbol}
+use Rattle.intaglio_index.proofs.WalkLemmas.{rest_of, rest_of-at, some_rest}
 use Rattle.intaglio_index.specs.Placed.{Placed, places_from, head_of, members, chain, symbols_of, AreSorted, IsEntry}
 use Rattle.intaglio_content.specs.Key.{Key}
 use Rattle.intaglio_content.specs.Work.{Mark, hashed, compared, step}
 use Rattle.intaglio_core.specs.State.{first_of, key_eq, AreDistinct}
 use Rattle.intaglio_core.specs.Cost.{hashed_keys, sought_keys, stored_keys, step_count, placed_count, bucket_keys, IsSearchCost}
 use Rattle.intaglio_core.proofs.First.{first-none, first-some, key_eq-decides, key_eq-unequal}
-
-pub eqb-unequal : (a b : ℕ) → a ≢ b → eqb a b ≡ false
-eqb-unequal a b n = elim (eqb_tells a b) [ inl h ↦ absurd (n h.1) | inr h ↦ h.0 ]
-
-pub eqb-equal : (a b : ℕ) → a ≡ b → eqb a b ≡ true
-eqb-equal a b e = elim (eqb_tells a b) [ inl h ↦ h.0 | inr h ↦ absurd (h.1 e) ]
 
 key_eq-apart : (a b : Key) → key_eq a b ≡ false → a ≢ b
 key_eq-apart a b differ e = let yes = (key_eq-decides a b).1 e in cc
@@ -34,37 +30,10 @@ key_eq-flips a b =
     ] in
     cases (key_eq a b) refl
 
-Each-weaker : {X : Type 0} (P Q : X → Type 0) → ((x : X) → P x → Q x) → (xs : List X) → AllByRecursion P xs → AllByRecursion Q xs
-Each-weaker P Q f [] h = tt
-Each-weaker P Q f (x ∷ xs) h = (f x h.0, Each-weaker P Q f xs h.1)
-
-Each-left : {X : Type 0} (P : X → Type 0) (xs ys : List X) → AllByRecursion P (xs ++ ys) → AllByRecursion P xs
-Each-left P [] ys h = tt
-Each-left P (x ∷ xs) ys h = (h.0, Each-left P xs ys h.1)
-
-Each-right : {X : Type 0} (P : X → Type 0) (xs ys : List X) → AllByRecursion P (xs ++ ys) → AllByRecursion P ys
-Each-right P [] ys h = h
-Each-right P (x ∷ xs) ys h = Each-right P xs ys h.1
-
-Each-append : {X : Type 0} (P : X → Type 0) (xs ys : List X) → AllByRecursion P xs → AllByRecursion P ys → AllByRecursion P (xs ++ ys)
-Each-append P [] ys h k = k
-Each-append P (x ∷ xs) ys h k = (h.0, Each-append P xs ys h.1 k)
-
 Distinct-left : (xs ys : List Key) → IsDistinct key_eq (xs ++ ys) → IsDistinct key_eq xs
 unfolding IsDistinct
 Distinct-left [] ys d = tt
 Distinct-left (x ∷ xs) ys d = (Each-left (λ y. key_eq x y ≡ false) xs ys d.0, Distinct-left xs ys d.1)
-
-Contains-cons : (x : ℕ) (xs : List ℕ) (y : ℕ) → Contains xs y → Contains (x ∷ xs) y
-Contains-cons x xs y h = (suc h.0, omega (arith, h.1), h.2)
-
-places-complete : (count b at : ℕ) (hs : List ℕ) (i d : ℕ) → i < length hs → get_or hs i d % count ≡ b → Contains (places_from count b at hs) (at + i)
-places-complete count b at [] i d l e = absurd (omega arith)
-places-complete count b at (h ∷ hs) zero d l e = rw (eqb-equal (h % count) b e) (0, omega arith, omega arith)
-places-complete count b at (h ∷ hs) (suc i) d l e =
-    let rest : Contains (places_from count b (at + 1) hs) (at + suc i) =
-    (let z : at + suc i ≡ (at + 1) + i = omega arith in rw z (places-complete count b (at + 1) hs i d (omega arith) e)) in
-    elim (eqb (h % count) b) as (λ t. Contains (cond t (at ∷ places_from count b (at + 1) hs) (places_from count b (at + 1) hs)) (at + suc i)) [ true ↦ Contains-cons at _ _ rest | false ↦ rest ]
 
 -- the keys of a bucket, by its positions
 places-keys : (hash : Key → ℕ) (count : ℕ) (k : Key) (before keys : List Key) →
@@ -93,45 +62,6 @@ bucket-distinct hash count (x ∷ xs) k d =
     let rest = bucket-distinct hash count xs k d.1 in
     let apart = bucket-each (λ y. key_eq x y ≡ false) hash count xs k d.0 in
     elim (eqb (hash x % count) (hash k % count)) as (λ t. IsDistinct key_eq (cond t (x ∷ bucket_keys hash count xs k) (bucket_keys hash count xs k))) [ true ↦ (apart, rest) | false ↦ rest ]
-
--- what is left of a path at a candidate
-abbrev pub rest_of : List (ℕ × ℕ) → Option (ℕ × ℕ) → List (ℕ × ℕ)
-rest_of [] candidate = []
-rest_of (x ∷ xs) None = []
-rest_of (x ∷ xs) (Some e) = cond (eqb x.0 e.0) (x ∷ xs) (rest_of xs (Some e))
-
-rest_of-none : (path : List (ℕ × ℕ)) → rest_of path None ≡ []
-rest_of-none [] = refl
-rest_of-none (x ∷ xs) = refl
-
-rest_of-split : (seen rest : List (ℕ × ℕ)) → IsDistinct eqb (symbols_of (seen ++ rest)) → rest_of (seen ++ rest) (head_of rest) ≡ rest
-unfolding IsDistinct
-rest_of-split seen [] d = rest_of-none (seen ++ [])
-rest_of-split [] (e ∷ behind) d = rw (eqb-equal e.0 e.0 refl) refl
-rest_of-split (x ∷ seen) (e ∷ behind) d =
-    let apart = rw (map-append (λ (e : ℕ × ℕ). e.0) seen (e ∷ behind)) at d.0 in
-    let no : eqb x.0 e.0 ≡ false = (Each-right (λ y. eqb x.0 y ≡ false) (symbols_of seen) (e.0 ∷ symbols_of behind) apart).0 in
-    rw no (rest_of-split seen (e ∷ behind) d.1)
-
-rest_of-at : (path seen rest : List (ℕ × ℕ)) (candidate : Option (ℕ × ℕ)) → path ≡ seen ++ rest → IsDistinct eqb (symbols_of path) → candidate ≡ head_of rest → rest_of path candidate ≡ rest
-rest_of-at path seen rest candidate split d next =
-    rw (split, next) (rest_of-split seen rest (rw split at d))
-
-both : {X : Type 0} (P Q : X → Type 0) (xs : List X) → AllByRecursion P xs → AllByRecursion Q xs → AllByRecursion (λ x. P x × Q x) xs
-both P Q [] a b = tt
-both P Q (x ∷ xs) a b = ((a.0, b.0), both P Q xs a.1 b.1)
-
-each_symbol : (P : ℕ → Type 0) (es : List (ℕ × ℕ)) → AllByRecursion (λ (e : ℕ × ℕ). P e.0) es → AllByRecursion P (symbols_of es)
-each_symbol P [] a = tt
-each_symbol P (e ∷ es) a = (a.0, each_symbol P es a.1)
-
-nil_rest : (rest : List (ℕ × ℕ)) → None ≡ head_of rest → rest ≡ []
-nil_rest [] e = refl
-nil_rest (x ∷ xs) e = cc
-
-some_rest : (rest : List (ℕ × ℕ)) (e : ℕ × ℕ) → Some e ≡ head_of rest → (behind : List (ℕ × ℕ)) × (rest ≡ e ∷ behind)
-some_rest [] e q = cc
-some_rest (x ∷ xs) e q = (xs, cc)
 
 -- behind an entry of a sorted path no hash is smaller
 not_smaller : (seen : List (ℕ × ℕ)) (e : ℕ × ℕ) (behind : List (ℕ × ℕ)) → AreSorted (seen ++ e ∷ behind) → AllByRecursion (λ (f : ℕ × ℕ). e.1 ≤ f.1) behind

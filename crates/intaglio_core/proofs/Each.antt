@@ -6,9 +6,10 @@ use Rattle.intaglio_core.specs.State.{State, first, IsValid}
 use Rattle.intaglio_core.specs.Change.{Interns, Takes}
 use Rattle.intaglio_core.specs.Cost.{Adds, IsSearchCost, KnownSearchCost, KnownInternCost}
 use Rattle.intaglio_core.specs.Issue.{interned, issue_from, interned_all}
-use Rattle.intaglio_core.specs.Batch.{IfOverflow, SearchesEach, InternsEach, InternsSome}
+use Rattle.intaglio_core.specs.Batch.{IfOverflow, SearchesEach, IsInterning, InternsEach, InternsSome}
 use Rattle.intaglio_core.proofs.Issue.{Interns-ok}
 use Rattle.intaglio_core.proofs.Spent.{Adds-then}
+use Rattle.intaglio_core.proofs.InOrder.{Adds-push}
 use Rattle.intaglio_core.proofs.Held.{interned_all-begins, interned_all-longer, interned_all-append, first-still}
 use Rattle.intaglio_symbol.specs.declared.error.InternError.{InternError}
 use Rattle.intaglio_symbol.specs.declared.error.InternError.TheVariants as intern_error
@@ -53,31 +54,13 @@ module _ {C : Type 0} (key : C → Key) where
     Adds-search s cs c before between after run spent =
         Adds-then _ _ _ before between after (λ cost now ran costs. SearchesEach-push s cs cost c now ran costs) run spent
 
-    InternsEach-push : (old : State C) (cs : List C) (is : List ℕ) (cost : List Mark) (mid : State C) (c : C) (i : ℕ) (now : List Mark) (new : State C)
-        → InternsEach key hash old cs is cost mid → Interns key mid c (Ok i) new → KnownInternCost key hash mid (key c) (Ok i) new now → IsValid key new
-        → InternsEach key hash old (cs ++ c ∷ []) (is ++ i ∷ []) (cost ++ now) new
-    InternsEach-push old [] [] cost mid c i now new run step spent valid =
-        (new, now, [], rw run.0 (sym (append-nil now)), rw (← run.1) step, rw (← run.1) spent, valid, (refl, refl))
-    InternsEach-push old [] (x ∷ is) cost mid c i now new run step spent valid = absurd run
-    InternsEach-push old (x ∷ cs) [] cost mid c i now new run step spent valid = absurd run
-    InternsEach-push old (x ∷ cs) (y ∷ is) cost mid c i now new run step spent valid = (
-      run.0,
-      run.1,
-      run.2 ++ now,
-      rw (run.3, append_assoc) refl,
-      run.4,
-      run.5,
-      run.6,
-      InternsEach-push run.0 cs is run.2 mid c i now new run.7 step spent valid,
-    )
-
-    -- with the marks that the parts add
+    -- internings, and one more
     pub Adds-each : (old : State C) (cs : List C) (is : List ℕ) (mid : State C) (c : C) (i : ℕ) (new : State C) (before between after : List Mark)
         → Adds before between (λ cost. InternsEach key hash old cs is cost mid) → Interns key mid c (Ok i) new
         → Adds between after (KnownInternCost key hash mid (key c) (Ok i) new) → IsValid key new
         → Adds before after (λ cost. InternsEach key hash old (cs ++ c ∷ []) (is ++ i ∷ []) cost new)
     Adds-each old cs is mid c i new before between after run step spent valid =
-        Adds-then _ _ _ before between after (λ cost now ran costs. InternsEach-push old cs is cost mid c i now new ran step costs valid) run spent
+        Adds-push (IsInterning key hash) old cs is mid c i new before between after run (spent.0, spent.1, (step, spent.2, valid))
 
     -- the symbols are those that are issued, and what is held is what internings one by one leave
     pub InternsEach-issues : (old new : State C) (cs : List C) (is : List ℕ) (cost : List Mark) → InternsEach key hash old cs is cost new
@@ -86,8 +69,8 @@ module _ {C : Type 0} (key : C → Key) where
     InternsEach-issues old new [] (i ∷ is) cost run = absurd run
     InternsEach-issues old new (c ∷ cs) [] cost run = absurd run
     InternsEach-issues old new (c ∷ cs) (i ∷ is) cost run =
-        let ok = Interns-ok key old run.0 c i run.4 in
-        let later = InternsEach-issues run.0 new cs is run.2 run.7 in
+        let ok = Interns-ok key old run.0 c i run.4.0 in
+        let later = InternsEach-issues run.0 new cs is run.2 run.5 in
         (rw (ok.0, later.0, ok.1) refl, rw (later.1, ok.1) refl)
 
     -- a hashing alone is within what a search costs

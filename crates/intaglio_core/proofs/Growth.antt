@@ -127,11 +127,11 @@ module _ {C : Type 0} (key : C → Key) (hash : Key → ℕ) where
     places old new [] (r ∷ replies) cost g all h run = absurd run
     places old new (c ∷ cs) [] cost g all h run = absurd run
     places old new (c ∷ cs) (r ∷ replies) cost g all h run =
-        let one = call-goes old run.0 c r run.1 g (all 0 c (omega arith)) run.4 run.5 h in
-        let rest = places run.0 new cs replies run.2 one.later (λ k d lt. all (suc k) d (omega arith)) one.holds run.7 in
+        let one = call-goes old run.0 c r run.1 g (all 0 c (omega arith)) run.4.0 run.4.1 h in
+        let rest = places run.0 new cs replies run.2 one.later (λ k d lt. all (suc k) d (omega arith)) one.holds run.5 in
         rw (run.3, placed_count-append run.1 run.2) (omega (arith, one.spent, rest))
 
-    -- internings and look-ups place at most three symbols for each content that they add
+    -- placements and contents before are at most three times the contents after
     pub Runs-place : (old new : State C) (calls : List (Call C)) (replies : List Reply) (cost : List Mark) → All KeepsContents calls → Runs key spelling hash old calls replies cost new
         → placed_count cost + length old.contents ≤ 3 * length new.contents
     Runs-place old new calls replies cost keep run =
@@ -153,14 +153,14 @@ module _ {C : Type 0} (key : C → Key) (hash : Key → ℕ) where
     taken-in-room old next c reply.NoMemory n made lt = absurd (had-room (first key old.contents (key c)) old next (λ j. ℕ) made (omega arith))
     taken-in-room old next c _ n made lt = absurd made
 
-    -- as many contents as there is room for are interned without a want of memory
+    -- as many contents as there is room for are interned without running out of memory
     pub Runs-room : (old new : State C) (cs : List C) (replies : List Reply) (cost : List Mark) → Runs key spelling hash old (map Intern cs) replies cost new → length cs ≤ old.room → All (λ r. r ≢ reply.NoMemory) replies
     Runs-room old new [] [] cost run le = λ k d lt. absurd (omega arith)
     Runs-room old new [] (r ∷ replies) cost run le = absurd run
     Runs-room old new (c ∷ cs) [] cost run le = absurd run
     Runs-room old new (c ∷ cs) (r ∷ replies) cost run le =
-        let one = taken-in-room old run.0 c r (length cs) run.4 le in
-        All-cons (λ (x : Reply). x ≢ reply.NoMemory) r replies one.0 (Runs-room run.0 new cs replies run.2 run.7 one.1)
+        let one = taken-in-room old run.0 c r (length cs) run.4.0 le in
+        All-cons (λ (x : Reply). x ≢ reply.NoMemory) r replies one.0 (Runs-room run.0 new cs replies run.2 run.5 one.1)
 
   added-hashes : (o : Option ℕ) (old next : State C) (k : Key) (now : List Mark)
       → MatchOption o (IsAddingCost key hash old k next now) (λ _. SearchCost key hash old k now) → hashed_keys now ≡ k ∷ []
@@ -191,4 +191,4 @@ module _ {C : Type 0} (key : C → Key) (hash : Key → ℕ) where
     Runs-hash old new [] (r ∷ replies) cost run = absurd run
     Runs-hash old new (c ∷ cs) [] cost run = absurd run
     Runs-hash old new (c ∷ cs) (r ∷ replies) cost run =
-        rw (run.3, hashed_keys-append run.1 run.2, Runs-hash run.0 new cs replies run.2 run.7) (step-hashes old run.0 c r run.1 cs run.5)
+        rw (run.3, hashed_keys-append run.1 run.2, Runs-hash run.0 new cs replies run.2 run.5) (step-hashes old run.0 c r run.1 cs run.4.1)

@@ -37,7 +37,7 @@ module _ {C : Type 0} (key : C → Key) where
     Runs-issue old new [] (r ∷ replies) cost run none = absurd run
     Runs-issue old new (c ∷ cs) [] cost run none = absurd run
     Runs-issue old new (c ∷ cs) (r ∷ replies) cost run none =
-        let given = accepted old run.0 c r run.4 (none 0 r (omega arith)) in
+        let given = accepted old run.0 c r run.4.0 (none 0 r (omega arith)) in
         let ok = Interns-ok old run.0 c given.0 given.2 in
-        let later = Runs-issue run.0 new cs replies run.2 run.7 (λ k d lt. none (suc k) d (omega arith)) in
+        let later = Runs-issue run.0 new cs replies run.2 run.5 (λ k d lt. none (suc k) d (omega arith)) in
         rw (given.1, ok.0, later, ok.1) refl

@@ -8,7 +8,7 @@ pub mod Issue
 pub mod Growth
 pub mod Room
 pub mod Rounded
-pub mod Runs
+pub mod InOrder
 pub mod Held
 pub mod Each
 pub mod Laws

@@ -4,7 +4,7 @@ use Rattle.std.proofs.lemmas.Bool.{cases_lt}
 use Rattle.intaglio_content.specs.Key.{Key}
 use Rattle.intaglio_content.specs.Work.{Mark}
 use Rattle.intaglio_core.specs.State.{State, first}
-use Rattle.intaglio_core.specs.Change.{Interns, IsTaken, IsRefused}
+use Rattle.intaglio_core.specs.Change.{HasNoLessRoom, Interns, IsTaken, IsRefused}
 use Rattle.intaglio_core.specs.Step.{Step}
 use Rattle.intaglio_core.specs.Run.{Runs, KeepsRoom}
 use Rattle.intaglio_symbol.specs.declared.error.InternError.{InternError}
@@ -15,21 +15,17 @@ use Rattle.intaglio_core.specs.declared.run.Reply.{Reply}
 use Rattle.intaglio_core.specs.declared.run.Reply.TheVariants as reply
 use Rattle.intaglio_core.proofs.LookUps.{check-same, get_interned-same, is_interned-same, contains-same, get-same, len-same, is_empty-same}
 
--- no fewer contents fit
-abbrev Roomier : {C : Type 0} → State C → State C → Type 0
-Roomier old next = length old.contents + old.room ≤ length next.contents + next.room
-
 module _ {C : Type 0} (key : C → Key) where
-  same-roomier : (old next : State C) → next ≡ old → Roomier old next
+  same-roomier : (old next : State C) → next ≡ old → HasNoLessRoom old next
   same-roomier old next same =
       let size : length next.contents ≡ length old.contents = ap (λ (s : State C). length s.contents) same in
       let room : next.room ≡ old.room = ap (λ (s : State C). s.room) same in
       omega arith
 
-  kept-roomier : (old next : State C) → next.contents ≡ old.contents → old.room ≤ next.room → Roomier old next
+  kept-roomier : (old next : State C) → next.contents ≡ old.contents → old.room ≤ next.room → HasNoLessRoom old next
   kept-roomier old next same more = let size : length next.contents ≡ length old.contents = ap (λ (cs : List C). length cs) same in omega arith
 
-  answered-roomier : (o : Option ℕ) (old next : State C) (c : C) (i : ℕ) → MatchOption o (IsTaken old c i next) (λ j. (◌≡◌ {A = Result ℕ InternError} (Ok i) (Ok j)) × (next ≡ old)) → Roomier old next
+  answered-roomier : (o : Option ℕ) (old next : State C) (c : C) (i : ℕ) → MatchOption o (IsTaken old c i next) (λ j. (◌≡◌ {A = Result ℕ InternError} (Ok i) (Ok j)) × (next ≡ old)) → HasNoLessRoom old next
   answered-roomier None old next c i taken =
       let size : length next.contents ≡ length old.contents + 1 = rw taken.contents (simp length-append (omega arith)) in
       elim (cases_lt 0 old.room) [
@@ -38,27 +34,27 @@ module _ {C : Type 0} (key : C → Key) where
       ]
   answered-roomier (Some j) old next c i found = same-roomier old next found.1
 
-  overflow-roomier : (o : Option ℕ) (old next : State C) (A : Type 0) (B : ℕ → Type 0) → MatchOption o (A × (next ≡ old)) (λ j. B j × (next ≡ old)) → Roomier old next
+  overflow-roomier : (o : Option ℕ) (old next : State C) (A : Type 0) (B : ℕ → Type 0) → MatchOption o (A × (next ≡ old)) (λ j. B j × (next ≡ old)) → HasNoLessRoom old next
   overflow-roomier None old next A B h = same-roomier old next h.1
   overflow-roomier (Some j) old next A B h = same-roomier old next h.1
 
-  refused-roomier : (o : Option ℕ) (old next : State C) (B : ℕ → Type 0) → MatchOption o (IsRefused old next) (λ j. B j × (next ≡ old)) → Roomier old next
+  refused-roomier : (o : Option ℕ) (old next : State C) (B : ℕ → Type 0) → MatchOption o (IsRefused old next) (λ j. B j × (next ≡ old)) → HasNoLessRoom old next
   refused-roomier None old next B h = kept-roomier old next h.contents h.room
   refused-roomier (Some j) old next B h = same-roomier old next h.1
 
-  pub Interns-roomier : (old next : State C) (c : C) (result : Result ℕ InternError) → Interns key old c result next → length old.contents + old.room ≤ length next.contents + next.room
+  pub Interns-roomier : (old next : State C) (c : C) (result : Result ℕ InternError) → Interns key old c result next → HasNoLessRoom old next
   Interns-roomier old next c (Ok i) made = answered-roomier (first key old.contents (key c)) old next c i made
   Interns-roomier old next c (Err (intern_error.Overflow e)) made = overflow-roomier (first key old.contents (key c)) old next _ _ made
   Interns-roomier old next c (Err (intern_error.Memory e)) made = refused-roomier (first key old.contents (key c)) old next _ made
 
   module _ (spelling : C → List ℕ) where
-    intern-roomier : (old next : State C) (c : C) (r : Reply) → Step key spelling old (Intern c) r next → Roomier old next
+    intern-roomier : (old next : State C) (c : C) (r : Reply) → Step key spelling old (Intern c) r next → HasNoLessRoom old next
     intern-roomier old next c (reply.Symbol (Some i)) made = answered-roomier (first key old.contents (key c)) old next c i made
     intern-roomier old next c reply.Overflow made = overflow-roomier (first key old.contents (key c)) old next _ _ (made (record { private = tt }))
     intern-roomier old next c reply.NoMemory made = refused-roomier (first key old.contents (key c)) old next _ made
     intern-roomier old next c _ made = absurd made
 
-    reserve-roomier : (old next : State C) (n : ℕ) (r : Reply) → Step key spelling old (Reserve n) r next → Roomier old next
+    reserve-roomier : (old next : State C) (n : ℕ) (r : Reply) → Step key spelling old (Reserve n) r next → HasNoLessRoom old next
     reserve-roomier old next n reply.Done made =
         elim (cases_lt old.room n) [
           | inl missing ↦ let more : n ≤ next.room = made.room in kept-roomier old next made.contents (omega arith)
@@ -68,18 +64,18 @@ module _ {C : Type 0} (key : C → Key) where
     reserve-roomier old next n reply.NoMemory made = kept-roomier old next made.contents made.room
     reserve-roomier old next n _ made = absurd made
 
-    clear-roomier : (old next : State C) (r : Reply) → Step key spelling old Clear r next → Roomier old next
+    clear-roomier : (old next : State C) (r : Reply) → Step key spelling old Clear r next → HasNoLessRoom old next
     clear-roomier old next reply.Done made =
         let none : length next.contents ≡ 0 = ap (λ (cs : List C). length cs) made.contents in
         let room : next.room ≡ length old.contents + old.room = made.room in omega arith
     clear-roomier old next _ made = absurd made
 
-    take_back-roomier : (old next : State C) (n : ℕ) (r : Reply) → Step key spelling old (TakeBack n) r next → Roomier old next
+    take_back-roomier : (old next : State C) (n : ℕ) (r : Reply) → Step key spelling old (TakeBack n) r next → HasNoLessRoom old next
     take_back-roomier old next n reply.Done made = let same : length next.contents + next.room ≡ length old.contents + old.room = made.room in omega arith
     take_back-roomier old next n reply.Stale made = same-roomier old next (made (record { private = tt })).1
     take_back-roomier old next n _ made = absurd made
 
-    call-roomier : (old next : State C) (call : Call C) (r : Reply) → KeepsRoom call → Step key spelling old call r next → Roomier old next
+    call-roomier : (old next : State C) (call : Call C) (r : Reply) → KeepsRoom call → Step key spelling old call r next → HasNoLessRoom old next
     call-roomier old next (Intern c) r keep made = intern-roomier old next c r made
     call-roomier old next (Check c) r keep made = same-roomier old next (check-same key spelling old next c r made)
     call-roomier old next (GetInterned c) r keep made = same-roomier old next (get_interned-same key spelling old next c r made)
@@ -95,11 +91,11 @@ module _ {C : Type 0} (key : C → Key) where
 
     -- capacity doesn't fall over a run that drops nothing and shrinks nothing
     pub Runs-roomier : (hash : Key → ℕ) (old new : State C) (calls : List (Call C)) (replies : List Reply) (cost : List Mark) → All KeepsRoom calls → Runs key spelling hash old calls replies cost new
-        → length old.contents + old.room ≤ length new.contents + new.room
+        → HasNoLessRoom old new
     Runs-roomier hash old new [] [] cost all run = rw run.1 (omega arith)
     Runs-roomier hash old new [] (r ∷ replies) cost all run = absurd run
     Runs-roomier hash old new (c ∷ cs) [] cost all run = absurd run
     Runs-roomier hash old new (c ∷ cs) (r ∷ replies) cost all run =
-        let one : Roomier old run.0 = call-roomier old run.0 c r (all 0 c (omega arith)) run.4 in
-        let rest : Roomier run.0 new = Runs-roomier hash run.0 new cs replies run.2 (λ k d lt. all (suc k) d (omega arith)) run.7 in
+        let one : HasNoLessRoom old run.0 = call-roomier old run.0 c r (all 0 c (omega arith)) run.4.0 in
+        let rest : HasNoLessRoom run.0 new = Runs-roomier hash run.0 new cs replies run.2 (λ k d lt. all (suc k) d (omega arith)) run.5 in
         omega arith

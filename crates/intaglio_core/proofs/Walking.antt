@@ -4,6 +4,8 @@ use Rattle.std.specs.Option.{MatchOption}
 use Rattle.std.proofs.lemmas.List.{length-map, get_or-map}
 use Rattle.std.proofs.lemmas.List.Elements.{All-from_recursion}
 use Rattle.std.proofs.lemmas.Simd.{map-map}
+use Rattle.intaglio_index.proofs.ChainLemmas.{eqb-equal, eqb-unequal}
+use Rattle.intaglio_index.proofs.WalkLemmas.{rest_of}
 use Rattle.intaglio_core.proofs.First.{first-none}
 use Rattle.intaglio_index.specs.Placed.{Placed, head_of, members, chain, symbols_of, AreSorted, IsEntry}
 use Rattle.std.specs.List.{AllByRecursion}
@@ -12,7 +14,7 @@ use Rattle.intaglio_content.specs.Key.{Key}
 use Rattle.intaglio_content.specs.Work.{Mark, hashed, compared, step}
 use Rattle.intaglio_core.specs.State.{first_of, AreDistinct}
 use Rattle.intaglio_core.specs.Cost.{Adds, bucket_keys, IsSearchCost}
-use Rattle.intaglio_core.proofs.Along.{IsAlong, IsBucketPath, bucket_path, key_read, rest_of, joined, joined_twice, eqb-equal, eqb-unequal, in_range, hash_differs}
+use Rattle.intaglio_core.proofs.Along.{IsAlong, IsBucketPath, bucket_path, key_read, joined, joined_twice, in_range, hash_differs}
 use Rattle.intaglio_core.proofs.Along as along
 
 -- a walk through the bucket of a key, with the marks that it added to those of its start

@@ -4,7 +4,7 @@ use Rattle.intaglio_content.specs.Key.{Key}
 use Rattle.intaglio_content.specs.Work.{Mark, hashed}
 use Rattle.intaglio_core.specs.State.{State, IsValid}
 use Rattle.intaglio_core.specs.Change.{Interns}
-use Rattle.intaglio_core.specs.Cost.{KnownSearchCost, KnownInternCost}
+use Rattle.intaglio_core.specs.Cost.{InOrder, KnownSearchCost, KnownInternCost}
 use Rattle.intaglio_symbol.specs.declared.error.InternError.{InternError}
 use Rattle.intaglio_symbol.specs.declared.error.InternError.TheVariants.{Overflow}
 
@@ -24,13 +24,13 @@ module _ {C : Type 0} (key : C → Key) where
     SearchesEach s [] cost = cost ≡ []
     SearchesEach s (c ∷ cs) cost = (now later : List Mark) × (cost ≡ now ++ later) × KnownSearchCost key hash s (key c) now × SearchesEach s cs later
 
-    -- contents in order, each with its symbol and with what its interning costs beside the hashing
+    -- one interning, with its symbol and what it costs beside the hashing, which leaves a valid state
+    abbrev pub IsInterning : State C → C → ℕ → List Mark → State C → Type 0
+    IsInterning old c i cost new = Interns key old c (Ok i) new × KnownInternCost key hash old (key c) (Ok i) new cost × IsValid key new
+
+    -- internings in order, from a state to a state
     abbrev pub InternsEach : State C → List C → List ℕ → List Mark → State C → Type 0
-    InternsEach old [] [] cost new = (cost ≡ []) × (new ≡ old)
-    InternsEach old (c ∷ cs) (i ∷ is) cost new =
-        (next : State C) × (now later : List Mark) × (cost ≡ now ++ later) × Interns key old c (Ok i) next
-        × KnownInternCost key hash old (key c) (Ok i) next now × IsValid key next × InternsEach next cs is later new
-    InternsEach old _ _ cost new = ⊥
+    InternsEach = InOrder IsInterning
 
     -- a hashing of each, then a look-up of each, and then each interning
     abbrev pub InternsAll : State C → List C → List ℕ → List Mark → State C → Type 0

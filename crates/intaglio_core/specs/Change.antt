@@ -8,6 +8,10 @@ use Rattle.intaglio_symbol.specs.declared.error.RoomError.{RoomError}
 use Rattle.intaglio_symbol.specs.declared.error.RoomError.TheVariants as room_error
 use Rattle.intaglio_symbol.specs.declared.error.StaleMark.{StaleMark}
 
+-- no fewer contents fit than before
+abbrev pub HasNoLessRoom : {C : Type 0} → State C → State C → Type 0
+HasNoLessRoom old new = length old.contents + old.room ≤ length new.contents + new.room
+
 -- a new content takes the next position. Room that was there is used, and a growth of the buckets doubles them
 pub record IsTaken {C : Type 0} (old : State C) (content : C) (symbol : ℕ) (new : State C) : Type 0 where
   pub below_limit : length old.contents < old.limit

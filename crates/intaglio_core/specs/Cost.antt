@@ -1,6 +1,7 @@
 -- What calls add to the marks of their work.
 use Rattle.std.specs.Prelude.{◌≡◌, ◌≢◌, ℕ, ◌+◌, ◌%◌, ◌≤◌, ◌==◌, List, [], ◌∷◌, ◌++◌, length, map, filter, All, Contains, Result, Ok, Err, MatchOption}
 use Rattle.intaglio_content.specs.Key.{Key}
+use Rattle.intaglio_content.specs.declared.work.Work.{Work}
 use Rattle.intaglio_content.specs.Work.{Mark, hashed, compared, step, placed}
 use Rattle.intaglio_core.specs.State.{State, first, AreDistinct}
 use Rattle.intaglio_symbol.specs.declared.error.InternError.{InternError}
@@ -38,6 +39,17 @@ placed_count (_ ∷ ms) = placed_count ms
 -- `after` is `before` and a cost more
 abbrev pub Adds : List Mark → List Mark → (List Mark → Type 0) → Type 0
 Adds before after P = (cost : List Mark) × (after ≡ before ++ cost) × P cost
+
+-- what a call adds to the marks of its work
+abbrev pub Costs : Work → Work → (List Mark → Type 0) → Type 0
+Costs old new P = Adds old.marks new.marks P
+
+-- steps in order, each with what it takes, what it gives and what it costs, from one state to another
+abbrev pub InOrder : {S X Y : Type 0} → (S → X → Y → List Mark → S → Type 0) → S → List X → List Y → List Mark → S → Type 0
+InOrder OneStep old [] [] cost new = (cost ≡ []) × (new ≡ old)
+InOrder {S} OneStep old (x ∷ xs) (y ∷ ys) cost new =
+    (next : S) × (now later : List Mark) × (cost ≡ now ++ later) × OneStep old x y now next × InOrder OneStep next xs ys later new
+InOrder OneStep old _ _ cost new = ⊥
 
 -- the keys whose hash falls in the bucket of a key, among this many buckets
 abbrev pub bucket_keys : (Key → ℕ) → ℕ → List Key → Key → List Key

@@ -1,6 +1,7 @@
 -- What holds between a list of contents and the index over it.
-use Rattle.std.specs.Prelude.{◌≡◌, ℕ, ◌^◌, ◌≤◌, List, [], ◌∷◌, ◌++◌, length, map, Result, Ok, Err}
+use Rattle.std.specs.Prelude.{◌≡◌, ℕ, ◌*◌, ◌^◌, ◌<◌, ◌≤◌, min, max, replicate, List, [], ◌∷◌, ◌++◌, length, map, Result, Ok, Err}
 use Rattle.intaglio_content.specs.Key.{Key}
+use Rattle.intaglio_content.specs.declared.work.Work.{Work}
 use Rattle.intaglio_content.specs.Work.{Mark, placed}
 use Rattle.intaglio_index.specs.Placed.{Placed}
 use Rattle.intaglio_core.specs.State.{State, AreDistinct}
@@ -27,3 +28,31 @@ pub record IsGrowthAndPlacement {C : Type 0} (old new : State C) (cost : List Ma
 abbrev pub AddCost : {C : Type 0} → State C → Result ℕ InternError → State C → List Mark → Type 0
 AddCost old (Ok s) new cost = IsGrowthAndPlacement old new cost
 AddCost old (Err e) new cost = cost ≡ []
+
+-- n contents are placed, and another may come
+pub record HasPlaces (n limit : ℕ) (index : Placed) : Type 0 where
+  pub below : n < limit
+  pub numbered : limit ≤ 2 ^ 32
+  pub hashes : length index.hashes ≡ n
+  pub fits : index.room ≤ index.count
+  pub within : n ≤ index.room
+
+-- what was placed stays, and there is no less room
+pub record KeepsPlaces (old new : Placed) : Type 0 where
+  pub hashes : new.hashes ≡ old.hashes
+  pub room : old.room ≤ new.room
+  pub fits : new.room ≤ new.count
+
+-- there is a place behind n. Where the buckets were full they grew, and everything was placed again
+pub record FindsPlace (n limit : ℕ) (old new : Placed) (before after : Work) : Type 0 where
+  pub free : n < new.room
+  pub kept : n < old.count → new.count ≡ old.count
+  pub quiet : n < old.count → after.marks ≡ before.marks
+  pub grown : old.count ≤ n → min limit (max 4 (2 * old.count)) ≤ new.count
+  pub placed_again : old.count ≤ n → after.marks ≡ before.marks ++ replicate n placed
+
+-- there was no memory for a place behind n
+pub record FindsNoPlace (n capacity : ℕ) (old new : Placed) (before after : Work) : Type 0 where
+  pub full : min capacity old.room ≤ n
+  pub kept : new.count ≡ old.count
+  pub quiet : after.marks ≡ before.marks

@@ -1,9 +1,10 @@
 -- A list of calls, made in order, and what holds over one.
-use Rattle.std.specs.Prelude.{◌≡◌, ◌≢◌, ℕ, ◌+◌, ◌*◌, ◌≤◌, List, [], ◌∷◌, ◌++◌, length, Some, All, map}
+use Rattle.std.specs.Prelude.{◌≡◌, ◌≢◌, ℕ, ◌+◌, ◌*◌, ◌≤◌, List, [], ◌∷◌, length, Some, All, map}
 use Rattle.intaglio_content.specs.Key.{Key}
 use Rattle.intaglio_content.specs.Work.{Mark}
 use Rattle.intaglio_core.specs.State.{State, IsValid}
-use Rattle.intaglio_core.specs.Cost.{placed_count}
+use Rattle.intaglio_core.specs.Change.{HasNoLessRoom}
+use Rattle.intaglio_core.specs.Cost.{InOrder, placed_count}
 use Rattle.intaglio_core.specs.Issue.{issue}
 use Rattle.intaglio_core.specs.Step.{Step, StepCost}
 use Rattle.intaglio_core.specs.declared.run.Call.{Call}
@@ -12,13 +13,14 @@ use Rattle.intaglio_core.specs.declared.run.Reply.{Reply}
 use Rattle.intaglio_core.specs.declared.run.Reply.TheVariants as reply
 
 module _ {C : Type 0} (key : C → Key) where
-  -- calls in order, each with its reply and its cost, from a state to a state, every one of them valid
+  -- one call, with its reply and its cost, which leaves a valid state
+  abbrev pub IsCall : (C → List ℕ) → (Key → ℕ) → State C → Call C → Reply → List Mark → State C → Type 0
+  IsCall spelling hash old call reply cost new =
+      Step key spelling old call reply new × StepCost key hash old call reply new cost × IsValid key new
+
+  -- calls in order, from a state to a state
   abbrev pub Runs : (C → List ℕ) → (Key → ℕ) → State C → List (Call C) → List Reply → List Mark → State C → Type 0
-  Runs spelling hash old [] [] cost new = (cost ≡ []) × (new ≡ old)
-  Runs spelling hash old (call ∷ calls) (r ∷ replies) cost new =
-      (next : State C) × (now later : List Mark) × (cost ≡ now ++ later) × Step key spelling old call r next
-      × StepCost key hash old call r next now × IsValid key next × Runs spelling hash next calls replies later new
-  Runs spelling hash old _ _ cost new = ⊥
+  Runs spelling hash = InOrder (IsCall spelling hash)
 
   -- the keys of the contents that calls look for
   abbrev pub searched_keys : List (Call C) → List Key
@@ -38,7 +40,8 @@ KeepsContents ShrinkToFit = ⊥
 KeepsContents (TakeBack _) = ⊥
 KeepsContents _ = Unit {0}
 
--- internings and look-ups place at most three symbols for each content that they add
+-- over internings and look-ups, the placements and the contents before are together at most three times the contents
+-- after. So from an empty table at most three symbols are placed for each content that comes
 abbrev pub PlacesFew : {C : Type 0} → State C → List (Call C) → State C → List Mark → Type 0
 PlacesFew old calls new cost =
     All KeepsContents calls → placed_count cost + length old.contents ≤ 3 * length new.contents
@@ -51,9 +54,9 @@ KeepsRoom _ = Unit {0}
 
 -- contents and room together don't become fewer over such calls
 abbrev pub HoldsRoom : {C : Type 0} → State C → List (Call C) → State C → Type 0
-HoldsRoom old calls new = All KeepsRoom calls → length old.contents + old.room ≤ length new.contents + new.room
+HoldsRoom old calls new = All KeepsRoom calls → HasNoLessRoom old new
 
--- as many contents as there is room for are interned without want of memory
+-- as many contents as there is room for are interned without running out of memory
 abbrev pub HonoursRoom : {C : Type 0} → State C → List (Call C) → List Reply → Type 0
 HonoursRoom {C} old calls replies =
     (cs : List C) → calls ≡ map Intern cs → length cs ≤ old.room → All (λ r. r ≢ reply.NoMemory) replies

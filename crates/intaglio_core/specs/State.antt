@@ -17,6 +17,11 @@ pub record Table (C S : Type 0) : Type 0 where
   pub state : State C
   pub hasher : S
 
+-- no contents yet, and room for as many as the capacity
+abbrev pub empty_table : {C S : Type 0} → ℕ → ℕ → S → Table C S
+empty_table capacity limit hasher =
+    record { state = record { contents = []; room = capacity; buckets = capacity; limit = limit }; hasher = hasher }
+
 -- whether two keys are equal
 abbrev pub key_eq : Key → Key → Bool
 key_eq = pointwise bytes_eq

@@ -1,12 +1,14 @@
 //! Many contents are interned at once.
-ghost use Rattle.std.specs.Prelude.{◌≡◌, ◌+◌, ◌<◌, ◌≤◌, ◌++◌, ◌⊎◌, [], length, map, take, Some, IfOk, IfErr, IfSome, OnOk, OnErr};
+ghost use Rattle.std.specs.Prelude.{◌≡◌, ◌<◌, ◌++◌, ◌⊎◌, [], length, map, take};
+ghost use Rattle.std.specs.Prelude.{IfOk, IfErr, IfSome, OnOk, OnErr};
 ghost use Rattle.std.specs.List.{AllByRecursion};
-ghost use Rattle.intaglio_core.specs.State.{first, IsValid};
-ghost use Rattle.intaglio_core.specs.Change.{Interns};
-ghost use Rattle.intaglio_core.specs.Lookup.{Keeps, FindsEach, StoresEach};
-ghost use Rattle.intaglio_core.specs.Cost.{Adds, KnownInternCost};
+ghost use Rattle.intaglio_core.specs.State.{IsValid};
+ghost use Rattle.intaglio_core.specs.Change.{Interns, HasNoLessRoom};
+ghost use Rattle.intaglio_core.specs.Lookup.{IsFound, Keeps, FindsEach, StoresEach};
+ghost use Rattle.intaglio_core.specs.Cost.{Costs, KnownInternCost};
 ghost use Rattle.intaglio_core.specs.Issue.{issue_from, interned_all};
-ghost use Rattle.intaglio_core.specs.Batch.{IfOverflow, hashings, SearchesEach, InternsEach, InternsAll, InternsSome, RefusedCost};
+ghost use Rattle.intaglio_core.specs.Batch.{IfOverflow, hashings, SearchesEach, InternsEach};
+ghost use Rattle.intaglio_core.specs.Batch.{InternsAll, InternsSome, RefusedCost};
 
 use crate::interner::Interner;
 use intaglio_content::Work;
@@ -51,21 +53,29 @@ pub fn intern_all<T: Interner>(
     work: &mut Work,
 ) -> Result<Vec<Symbol>, InternError>
     // As internings one by one, but that all hashings come first, and then a look-up of each.
-    ensures ok { IfOk result (λ symbols. Adds work.old.marks work.new.marks (λ cost. InternsAll T.Content.key (T.hash table.old) (T.state table.old) contents.items symbols.items cost (T.state table.new))) }
-    ensures symbols { IfOk result (λ symbols. symbols.items ≡ issue_from T.Content.key (T.state table.old).contents contents.items) }
-    ensures held { OnOk result ((T.state table.new).contents ≡ interned_all T.Content.key (T.state table.old).contents contents.items) }
+    ensures ok { IfOk result (λ symbols. Costs work.old work.new (λ cost.
+        InternsAll T.Content.key (T.hash table.old)
+        (T.state table.old) contents.items symbols.items cost (T.state table.new))) }
+    ensures symbols { IfOk result (λ symbols.
+        symbols.items ≡ issue_from T.Content.key (T.state table.old).contents contents.items) }
+    ensures held { let all = interned_all T.Content.key (T.state table.old).contents contents.items in
+        OnOk result ((T.state table.new).contents ≡ all) }
 
     // Each is found at its symbol, and what stood before stands and is found where it was.
-    ensures found { IfOk result (λ symbols. FindsEach T.Content.key (T.state table.new) contents.items symbols.items) }
-    ensures stored { IfOk result (λ symbols. StoresEach T.Content.key (T.state table.new) contents.items symbols.items) }
+    ensures found { IfOk result (λ symbols.
+        FindsEach T.Content.key (T.state table.new) contents.items symbols.items) }
+    ensures stored { IfOk result (λ symbols.
+        StoresEach T.Content.key (T.state table.new) contents.items symbols.items) }
     ensures kept { Keeps T.Content.key (T.state table.old) (T.state table.new) }
 
     // All or none.
     ensures refused { OnErr result ((T.state table.new).contents ≡ (T.state table.old).contents) }
-    ensures overflow { IfErr result (λ e. IfOverflow e ((T.state table.old).limit < length (interned_all T.Content.key (T.state table.old).contents contents.items))) }
-    ensures refused_cost { OnErr result (Adds work.old.marks work.new.marks (RefusedCost T.Content.key (T.hash table.old) (T.state table.old) contents.items)) }
+    ensures overflow { let all = interned_all T.Content.key (T.state table.old).contents contents.items in
+        IfErr result (λ e. IfOverflow e ((T.state table.old).limit < length all)) }
+    ensures refused_cost { OnErr result (Costs work.old work.new
+        (RefusedCost T.Content.key (T.hash table.old) (T.state table.old) contents.items)) }
 
-    ensures capacity { length (T.state table.old).contents + (T.state table.old).room ≤ length (T.state table.new).contents + (T.state table.new).room }
+    ensures capacity { HasNoLessRoom (T.state table.old) (T.state table.new) }
     ensures limit { (T.state table.new).limit ≡ (T.state table.old).limit }
     ensures same_hash { T.hash table.new ≡ T.hash table.old }
     ensures valid { IsValid T.Content.key (T.state table.new) }
@@ -88,7 +98,8 @@ fn hash_all<T: Interner>(
     work: &mut Work,
 ) -> Result<Vec<Hashed<T::Content>>, AllocError>
     ensures contents { IfOk result (λ all. map (λ it. it.content) all.items ≡ contents.items) }
-    ensures hashes { IfOk result (λ all. AllByRecursion (λ it. it.hash ≡ T.hash table.now (T.Content.key it.content)) all.items) }
+    ensures hashes { IfOk result (λ all.
+        AllByRecursion (λ it. it.hash ≡ T.hash table.now (T.Content.key it.content)) all.items) }
     ensures cost { OnOk result (work.new.marks ≡ work.old.marks ++ hashings T.Content.key contents.items) }
     ensures no_cost { OnErr result (work.new.marks ≡ work.old.marks) }
 {
@@ -108,10 +119,14 @@ fn search_all<T: Interner>(
     work: &mut Work,
 ) -> Result<Vec<LookedUp<T::Content>>, AllocError>
     requires hashes { AllByRecursion (λ it. it.hash ≡ T.hash table.now (T.Content.key it.content)) all.items }
-    ensures contents { IfOk result (λ found. map (λ it. it.content) found.items ≡ map (λ it. it.content) all.items) }
-    ensures hashes { IfOk result (λ found. AllByRecursion (λ it. it.hash ≡ T.hash table.now (T.Content.key it.content)) found.items) }
-    ensures symbols { IfOk result (λ found. AllByRecursion (λ it. IfSome it.symbol (λ s. first T.Content.key (T.state table.now).contents (T.Content.key it.content) ≡ Some s)) found.items) }
-    ensures cost { OnOk result (Adds work.old.marks work.new.marks (SearchesEach T.Content.key (T.hash table.now) (T.state table.now) (map (λ it. it.content) all.items))) }
+    ensures contents { IfOk result (λ found.
+        map (λ it. it.content) found.items ≡ map (λ it. it.content) all.items) }
+    ensures hashes { IfOk result (λ found.
+        AllByRecursion (λ it. it.hash ≡ T.hash table.now (T.Content.key it.content)) found.items) }
+    ensures symbols { IfOk result (λ found. AllByRecursion (λ it. IfSome it.symbol
+        (IsFound T.Content.key (T.state table.now) (T.Content.key it.content))) found.items) }
+    ensures cost { OnOk result (Costs work.old work.new (SearchesEach T.Content.key
+        (T.hash table.now) (T.state table.now) (map (λ it. it.content) all.items))) }
     ensures no_cost { OnErr result (work.new.marks ≡ work.old.marks) }
 {
     let mut found = Vec::with_capacity(alloc, all.len())?;
@@ -135,14 +150,23 @@ fn take_all<T: Interner>(
 ) -> Result<Vec<Symbol>, InternError>
     requires valid { IsValid T.Content.key (T.state table.old) }
     requires hashes { AllByRecursion (λ it. it.hash ≡ T.hash table.old (T.Content.key it.content)) all.items }
-    requires symbols { AllByRecursion (λ it. IfSome it.symbol (λ s. first T.Content.key (T.state table.old).contents (T.Content.key it.content) ≡ Some s)) all.items }
-    ensures ok { IfOk result (λ symbols. Adds work.old.marks work.new.marks (λ cost. InternsEach T.Content.key (T.hash table.old) (T.state table.old) (map (λ it. it.content) all.items) symbols.items cost (T.state table.new))) }
-    ensures symbols { IfOk result (λ symbols. symbols.items ≡ issue_from T.Content.key (T.state table.old).contents (map (λ it. it.content) all.items)) }
-    ensures held { OnOk result ((T.state table.new).contents ≡ interned_all T.Content.key (T.state table.old).contents (map (λ it. it.content) all.items)) }
-    ensures refused_cost { OnErr result (Adds work.old.marks work.new.marks (λ cost. (cost ≡ []) ⊎ InternsSome T.Content.key (T.hash table.old) (T.state table.old) (map (λ it. it.content) all.items) cost)) }
-    ensures begins { OnErr result (take (length (T.state table.old).contents) (T.state table.new).contents ≡ (T.state table.old).contents) }
-    ensures overflow { IfErr result (λ e. IfOverflow e ((T.state table.old).limit < length (interned_all T.Content.key (T.state table.old).contents (map (λ it. it.content) all.items)))) }
-    ensures capacity { length (T.state table.old).contents + (T.state table.old).room ≤ length (T.state table.new).contents + (T.state table.new).room }
+    requires symbols { AllByRecursion (λ it. IfSome it.symbol
+        (IsFound T.Content.key (T.state table.old) (T.Content.key it.content))) all.items }
+    ensures ok { IfOk result (λ symbols. Costs work.old work.new (λ cost.
+        InternsEach T.Content.key (T.hash table.old) (T.state table.old)
+        (map (λ it. it.content) all.items) symbols.items cost (T.state table.new))) }
+    ensures symbols { IfOk result (λ symbols. symbols.items
+        ≡ issue_from T.Content.key (T.state table.old).contents (map (λ it. it.content) all.items)) }
+    ensures held { OnOk result ((T.state table.new).contents
+        ≡ interned_all T.Content.key (T.state table.old).contents (map (λ it. it.content) all.items)) }
+    ensures refused_cost { OnErr result (Costs work.old work.new (λ cost. (cost ≡ [])
+        ⊎ InternsSome T.Content.key (T.hash table.old) (T.state table.old)
+        (map (λ it. it.content) all.items) cost)) }
+    ensures begins { let held = (T.state table.old).contents in
+        OnErr result (take (length held) (T.state table.new).contents ≡ held) }
+    ensures overflow { IfErr result (λ e. IfOverflow e ((T.state table.old).limit < length
+        (interned_all T.Content.key (T.state table.old).contents (map (λ it. it.content) all.items)))) }
+    ensures capacity { HasNoLessRoom (T.state table.old) (T.state table.new) }
     ensures limit { (T.state table.new).limit ≡ (T.state table.old).limit }
     ensures same_hash { T.hash table.new ≡ T.hash table.old }
     ensures valid { IsValid T.Content.key (T.state table.new) }
@@ -162,9 +186,11 @@ fn take_one<T: Interner>(
 ) -> Result<Symbol, InternError>
     requires valid { IsValid T.Content.key (T.state table.old) }
     requires hash { it.hash ≡ T.hash table.old (T.Content.key it.content) }
-    requires symbol { IfSome it.symbol (λ s. first T.Content.key (T.state table.old).contents (T.Content.key it.content) ≡ Some s) }
+    requires symbol { IfSome it.symbol (IsFound T.Content.key (T.state table.old) (T.Content.key it.content)) }
     ensures step { Interns T.Content.key (T.state table.old) it.content result (T.state table.new) }
-    ensures cost { Adds work.old.marks work.new.marks (KnownInternCost T.Content.key (T.hash table.old) (T.state table.old) (T.Content.key it.content) result (T.state table.new)) }
+    ensures cost { let k = T.Content.key it.content in
+        Costs work.old work.new
+        (KnownInternCost T.Content.key (T.hash table.old) (T.state table.old) k result (T.state table.new)) }
     ensures same_hash { T.hash table.new ≡ T.hash table.old }
     ensures valid { IsValid T.Content.key (T.state table.new) }
 {

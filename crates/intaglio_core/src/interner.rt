@@ -5,7 +5,8 @@ ghost use Rattle.intaglio_content.specs.Work.{hashed};
 ghost use Rattle.intaglio_core.specs.State.{State, first, IsValid};
 ghost use Rattle.intaglio_core.specs.Lookup.{IsFound, IsStored, Keeps, KeepsBelow, FindsOthers, FindsNothing};
 ghost use Rattle.intaglio_core.specs.Change.{Interns, Reserves, Shrinks, TakesBack, Empties};
-ghost use Rattle.intaglio_core.specs.Cost.{Adds, InternCost, SearchCost, KnownInternCost, KnownSearchCost, IsRoomCost};
+ghost use Rattle.intaglio_core.specs.Cost.{Costs, InternCost, SearchCost, IsRoomCost};
+ghost use Rattle.intaglio_core.specs.Cost.{KnownInternCost, KnownSearchCost};
 
 use crate::table_core::Core;
 use intaglio_content::{Content, Sought, Work};
@@ -43,7 +44,9 @@ pub trait Interner {
         ensures kept { Keeps Self.Content.key (state self.old) (state self.new) }
         ensures others { FindsOthers Self.Content.key (state self.old) (Self.Content.key content) (state self.new) }
         ensures refused { OnErr result ((state self.new).contents ≡ (state self.old).contents) }
-        ensures cost { Adds work.old.marks work.new.marks (InternCost Self.Content.key (hash self.old) (state self.old) (Self.Content.key content) result (state self.new)) }
+        ensures cost { let k = Self.Content.key content in
+            Costs work.old work.new
+            (InternCost Self.Content.key (hash self.old) (state self.old) k result (state self.new)) }
         ensures same_hash { hash self.new ≡ hash self.old }
         ensures valid { IsValid Self.Content.key (state self.new) };
 
@@ -69,7 +72,9 @@ pub trait Interner {
         ensures kept { Keeps Self.Content.key (state self.old) (state self.new) }
         ensures others { FindsOthers Self.Content.key (state self.old) (Self.Content.key content) (state self.new) }
         ensures refused { OnErr result ((state self.new).contents ≡ (state self.old).contents) }
-        ensures cost { Adds work.old.marks work.new.marks (KnownInternCost Self.Content.key (hash self.old) (state self.old) (Self.Content.key content) result (state self.new)) }
+        ensures cost { let k = Self.Content.key content in
+            Costs work.old work.new
+            (KnownInternCost Self.Content.key (hash self.old) (state self.old) k result (state self.new)) }
         ensures same_hash { hash self.new ≡ hash self.old }
         ensures valid { IsValid Self.Content.key (state self.new) };
 
@@ -82,13 +87,15 @@ pub trait Interner {
     ) -> Option<Symbol>
         requires known { known_hash ≡ hash self.now (Self.Content.key sought.now) }
         ensures found { result ≡ first Self.Content.key (state self.now).contents (Self.Content.key sought.now) }
-        ensures cost { Adds work.old.marks work.new.marks (KnownSearchCost Self.Content.key (hash self.now) (state self.now) (Self.Content.key sought.now)) }
+        ensures cost { let k = Self.Content.key sought.now in
+            Costs work.old work.new (KnownSearchCost Self.Content.key (hash self.now) (state self.now) k) }
         ensures valid { IsValid Self.Content.key (state self.now) };
 
     /// The symbol of the content, if an equal one is stored.
     fn search_counted(&self, sought: &Self::Content, work: &mut Work) -> Option<Symbol>
         ensures found { result ≡ first Self.Content.key (state self.now).contents (Self.Content.key sought.now) }
-        ensures cost { Adds work.old.marks work.new.marks (SearchCost Self.Content.key (hash self.now) (state self.now) (Self.Content.key sought.now)) }
+        ensures cost { let k = Self.Content.key sought.now in
+            Costs work.old work.new (SearchCost Self.Content.key (hash self.now) (state self.now) k) }
         ensures valid { IsValid Self.Content.key (state self.now) };
 
     /// Finds room for this many contents more.
@@ -99,7 +106,7 @@ pub trait Interner {
     /// `Memory` where a growth was refused, and then the contents are as before.
     fn reserve_counted(&mut self, additional: usize, work: &mut Work) -> Result<(), RoomError>
         ensures step { Reserves (state self.old) additional result (state self.new) }
-        ensures cost { Adds work.old.marks work.new.marks (IsRoomCost (state self.old)) }
+        ensures cost { Costs work.old work.new (IsRoomCost (state self.old)) }
         ensures same_hash { hash self.new ≡ hash self.old }
         ensures valid { IsValid Self.Content.key (state self.new) };
 
@@ -110,14 +117,15 @@ pub trait Interner {
     /// `Memory` where the smaller buckets were refused, and then nothing changed.
     fn shrink_counted(&mut self, min_capacity: usize, work: &mut Work) -> Result<(), RoomError>
         ensures step { Shrinks (state self.old) min_capacity result (state self.new) }
-        ensures cost { Adds work.old.marks work.new.marks (IsRoomCost (state self.old)) }
+        ensures cost { Costs work.old work.new (IsRoomCost (state self.old)) }
         ensures same_hash { hash self.new ≡ hash self.old }
         ensures valid { IsValid Self.Content.key (state self.new) };
 
     /// The content of a symbol.
     fn content(&self, symbol: Symbol) -> Option<&Self::Content>
         ensures content { option_copied result ≡ slice_get (state self.now).contents symbol }
-        ensures found { IfSome result (λ content. IsFound Self.Content.key (state self.now) (Self.Content.key content.now) symbol) }
+        ensures found { IfSome result (λ content.
+            IsFound Self.Content.key (state self.now) (Self.Content.key content.now) symbol) }
         ensures valid { IsValid Self.Content.key (state self.now) };
 
     /// How many contents there are.

@@ -9,7 +9,6 @@ mod batch;
 pub mod interner;
 pub mod run;
 pub mod table_core;
-mod walk;
 
 pub use batch::intern_all;
 pub use intaglio_content::{

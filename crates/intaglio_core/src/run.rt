@@ -1,9 +1,10 @@
 //! A list of calls, made in order on any table.
-ghost use Rattle.std.specs.Prelude.{◌≡◌, ◌≢◌, [], IfOk, IsOk, OnErr};
+ghost use Rattle.std.specs.Prelude.{◌≡◌, ◌≢◌, [], IfOk, IsOk, OnOk, OnErr};
 ghost use Rattle.intaglio_core.specs.State.{IsValid};
-ghost use Rattle.intaglio_core.specs.Cost.{Adds, SearchCost, hashed_keys};
+ghost use Rattle.intaglio_core.specs.Cost.{Costs, SearchCost, hashed_keys};
 ghost use Rattle.intaglio_core.specs.Step.{Step, StepCost};
-ghost use Rattle.intaglio_core.specs.Run.{Runs, PlacesFew, HoldsRoom, HonoursRoom, IssuesInOrder, searched_keys};
+ghost use Rattle.intaglio_core.specs.Run.{Runs, PlacesFew, HoldsRoom, HonoursRoom};
+ghost use Rattle.intaglio_core.specs.Run.{IssuesInOrder, searched_keys};
 
 use crate::interner::Interner;
 use intaglio_content::{Spelled, Work};
@@ -83,14 +84,20 @@ pub fn run<T: Interner>(
 where
     T::Content: Spelled,
     // Each call is a step of the plain list, at its cost, and leaves a table that is whole.
-    ensures ok { IfOk result (λ replies. Adds work.old.marks work.new.marks (λ cost. Runs T.Content.key T.Content.spelling (T.hash table.old) (T.state table.old) calls.items replies.items cost (T.state table.new))) }
+    ensures ok { IfOk result (λ replies. Costs work.old work.new (λ cost.
+        Runs T.Content.key T.Content.spelling (T.hash table.old)
+        (T.state table.old) calls.items replies.items cost (T.state table.new))) }
 
     // Over the whole run: which symbols are issued, what is hashed, what is placed, and which room is kept.
-    ensures issues { IfOk result (λ replies. IssuesInOrder T.Content.key (T.state table.old) calls.items replies.items) }
-    ensures hashes { IfOk result (λ _. Adds work.old.marks work.new.marks (λ cost. hashed_keys cost ≡ searched_keys T.Content.key calls.items)) }
-    ensures growth { IfOk result (λ _. Adds work.old.marks work.new.marks (PlacesFew (T.state table.old) calls.items (T.state table.new))) }
-    ensures capacity { IfOk result (λ _. HoldsRoom (T.state table.old) calls.items (T.state table.new)) }
-    ensures room { IfOk result (λ replies. HonoursRoom (T.state table.old) calls.items replies.items) }
+    ensures issues { IfOk result (λ replies.
+        IssuesInOrder T.Content.key (T.state table.old) calls.items replies.items) }
+    ensures hashes { OnOk result (Costs work.old work.new (λ cost.
+        hashed_keys cost ≡ searched_keys T.Content.key calls.items)) }
+    ensures growth { OnOk result
+        (Costs work.old work.new (PlacesFew (T.state table.old) calls.items (T.state table.new))) }
+    ensures capacity { OnOk result (HoldsRoom (T.state table.old) calls.items (T.state table.new)) }
+    ensures room { IfOk result (λ replies.
+        HonoursRoom (T.state table.old) calls.items replies.items) }
     ensures same_hash { T.hash table.new ≡ T.hash table.old }
 
     // Where there is no memory for the replies, no call is made.
@@ -110,7 +117,8 @@ fn step<T: Interner>(alloc: Global, table: &mut T, call: Call<T::Content>, work:
 where
     T::Content: Spelled,
     ensures step { Step T.Content.key T.Content.spelling (T.state table.old) call result (T.state table.new) }
-    ensures cost { Adds work.old.marks work.new.marks (StepCost T.Content.key (T.hash table.old) (T.state table.old) call result (T.state table.new)) }
+    ensures cost { Costs work.old work.new
+        (StepCost T.Content.key (T.hash table.old) (T.state table.old) call result (T.state table.new)) }
     ensures same_hash { T.hash table.new ≡ T.hash table.old }
     ensures valid { IsValid T.Content.key (T.state table.new) }
 {
@@ -160,8 +168,10 @@ fn get_interned<T: Interner>(
 ) -> Reply
 where
     T::Content: Spelled,
-    ensures step { Step T.Content.key T.Content.spelling (T.state table.now) (Call.GetInterned content.now) result (T.state table.now) }
-    ensures cost { Adds work.old.marks work.new.marks (SearchCost T.Content.key (T.hash table.now) (T.state table.now) (T.Content.key content.now)) }
+    ensures step { let state = T.state table.now in
+        Step T.Content.key T.Content.spelling state (Call.GetInterned content.now) result state }
+    ensures cost { let k = T.Content.key content.now in
+        Costs work.old work.new (SearchCost T.Content.key (T.hash table.now) (T.state table.now) k) }
     ensures valid { IsValid T.Content.key (T.state table.now) }
 {
     match table.search_counted(content, work) {
@@ -180,7 +190,8 @@ where
 fn get<T: Interner>(alloc: Global, table: &T, symbol: Symbol) -> Reply
 where
     T::Content: Spelled,
-    ensures step { Step T.Content.key T.Content.spelling (T.state table.now) (Call.Get symbol) result (T.state table.now) }
+    ensures step { let state = T.state table.now in
+        Step T.Content.key T.Content.spelling state (Call.Get symbol) result state }
     ensures valid { IsValid T.Content.key (T.state table.now) }
 {
     match table.content(symbol) {

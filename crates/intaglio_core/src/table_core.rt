@@ -1,19 +1,18 @@
 //! A list of contents with an index over it.
-ghost use Rattle.std.specs.Prelude.{◌≡◌, ℕ, ◌+◌, ◌*◌, ◌^◌, ◌<◌, ◌≤◌, ◌++◌, ◌∷◌, ◌↔◌, List, [], map, length, min, max, replicate, slice_get, option_copied, vec_capacity, Some, None, IfSome, IfOk, IsTrue, OnOk, OnErr};
+ghost use Rattle.std.specs.Prelude.{◌≡◌, ◌+◌, ◌^◌, ◌<◌, ◌≤◌, ◌↔◌, [], length, slice_get, vec_capacity};
+ghost use Rattle.std.specs.Prelude.{option_copied, None, IfSome, IfOk, IsTrue, OnOk, OnErr};
 ghost use Rattle.intaglio_content.specs.Key.{Key, key_hash};
-ghost use Rattle.intaglio_content.specs.Work.{placed};
 ghost use Rattle.intaglio_symbol.specs.AllSymbols.{numbers_from};
 ghost use Rattle.intaglio_core.specs.State.{first, IsValid};
 ghost use Rattle.intaglio_core.specs.Change.{Interns, Takes};
 ghost use Rattle.intaglio_core.specs.Lookup.{IsFound, IsStored, Keeps, FindsOthers};
-ghost use Rattle.intaglio_core.specs.Cost.{Adds, SearchCost, InternCost, KnownSearchCost, KnownInternCost};
-ghost use Rattle.intaglio_core.specs.Indexed.{AddCost};
+ghost use Rattle.intaglio_core.specs.Cost.{Costs, SearchCost, InternCost, KnownSearchCost, KnownInternCost};
+ghost use Rattle.intaglio_core.specs.Indexed.{AddCost, HasPlaces, KeepsPlaces, FindsPlace, FindsNoPlace};
 
 mod lending;
 mod make;
 mod room;
 
-use crate::walk::walk;
 use intaglio_content::{Keyed, Sought, Work};
 use intaglio_index::Index;
 use intaglio_symbol::{AllSymbols, InternError, Symbol, SymbolOverflowError};
@@ -38,9 +37,19 @@ impl<C: Keyed, S: BuildHasher> Model for Core<C, S> {
 
     ghost Value = { Table C S };
 
-    ghost view = { λ t. record { state = record { contents = t.list.items; room = min (vec_capacity t.list) t.index.room - length t.list.items; buckets = t.index.count; limit = t.limit }; hasher = t.hasher } };
+    ghost view = { λ t. record {
+      state = record {
+        contents = t.list.items;
+        room = min (vec_capacity t.list) t.index.room - length t.list.items;
+        buckets = t.index.count;
+        limit = t.limit;
+      };
+      hasher = t.hasher;
+    } };
 
-    ghost invariant = { λ t. IsIndexed C.key (key_hash S.Hasher.finish S.Hasher.write (S.build_hasher t.hasher)) t.list.items t.index t.limit };
+    ghost invariant = { λ t.
+        let hash = key_hash S.Hasher.finish S.Hasher.write (S.build_hasher t.hasher) in
+        IsIndexed C.key hash t.list.items t.index t.limit };
 }
 
 impl<C: Keyed, S: BuildHasher> Core<C, S> {
@@ -118,14 +127,15 @@ impl<C: Keyed, S: BuildHasher> Core<C, S> {
     pub fn search<Q: Sought<C>>(&self, sought: &Q, work: &mut Work) -> Option<Symbol>
         ensures found { result ≡ first C.key self.now.state.contents (Q.key sought.now) }
         ensures within { IfSome result (λ symbol. symbol < length self.now.state.contents) }
-        ensures cost { Adds work.old.marks work.new.marks (SearchCost C.key (key_hash S.Hasher.finish S.Hasher.write (S.build_hasher self.now.hasher)) self.now.state (Q.key sought.now)) }
+        ensures cost { let hash = key_hash S.Hasher.finish S.Hasher.write (S.build_hasher self.now.hasher) in
+            Costs work.old work.new (SearchCost C.key hash self.now.state (Q.key sought.now)) }
         ensures valid { IsValid C.key self.now.state }
     {
         let hash = sought.hash_with(&self.hasher, work);
         self.search_hashed(hash, sought, work)
     }
 
-    // The same for a key whose hash is known.
+    // The same for a key whose hash is known: goes along its bucket, to the first greater hash at most.
     pub(crate) fn search_hashed<Q: Sought<C>>(
         &self,
         hash: u64,
@@ -134,10 +144,25 @@ impl<C: Keyed, S: BuildHasher> Core<C, S> {
     ) -> Option<Symbol>
         requires hash { hash ≡ key_hash S.Hasher.finish S.Hasher.write (S.build_hasher self.now.hasher) (Q.key sought.now) }
         ensures found { result ≡ first C.key self.now.state.contents (Q.key sought.now) }
-        ensures cost { Adds work.old.marks work.new.marks (KnownSearchCost C.key (key_hash S.Hasher.finish S.Hasher.write (S.build_hasher self.now.hasher)) self.now.state (Q.key sought.now)) }
+        ensures cost { let hash = key_hash S.Hasher.finish S.Hasher.write (S.build_hasher self.now.hasher) in
+            Costs work.old work.new (KnownSearchCost C.key hash self.now.state (Q.key sought.now)) }
         ensures valid { IsValid C.key self.now.state }
     {
-        walk(&self.list, &self.index, &self.hasher, hash, sought, work)
+        let index = &self.index;
+        let contents = self.list.as_slice();
+        let mut candidate = Some(index.seek(hash, work)?);
+        while let Some(found) = candidate {
+            if hash < found.1 {
+                return None;
+            }
+            if hash == found.1 {
+                if sought.same_as(&contents[found.0.id() as usize], work) {
+                    return Some(found.0);
+                }
+            }
+            candidate = index.after(found.0, work);
+        }
+        None
     }
 
     /// The symbol of the content, which is stored if no equal one is.
@@ -158,7 +183,8 @@ impl<C: Keyed, S: BuildHasher> Core<C, S> {
         ensures kept { Keeps C.key self.old.state self.new.state }
         ensures others { FindsOthers C.key self.old.state (C.key content) self.new.state }
         ensures refused { OnErr result (self.new.state.contents ≡ self.old.state.contents) }
-        ensures cost { Adds work.old.marks work.new.marks (InternCost C.key (key_hash S.Hasher.finish S.Hasher.write (S.build_hasher self.old.hasher)) self.old.state (C.key content) result self.new.state) }
+        ensures cost { let hash = key_hash S.Hasher.finish S.Hasher.write (S.build_hasher self.old.hasher) in
+            Costs work.old work.new (InternCost C.key hash self.old.state (C.key content) result self.new.state) }
         ensures hasher { self.new.hasher ≡ self.old.hasher }
         ensures valid { IsValid C.key self.new.state }
     {
@@ -182,11 +208,12 @@ impl<C: Keyed, S: BuildHasher> Core<C, S> {
         ensures kept { Keeps C.key self.old.state self.new.state }
         ensures others { FindsOthers C.key self.old.state (C.key content) self.new.state }
         ensures refused { OnErr result (self.new.state.contents ≡ self.old.state.contents) }
-        ensures cost { Adds work.old.marks work.new.marks (KnownInternCost C.key (key_hash S.Hasher.finish S.Hasher.write (S.build_hasher self.old.hasher)) self.old.state (C.key content) result self.new.state) }
+        ensures cost { let hash = key_hash S.Hasher.finish S.Hasher.write (S.build_hasher self.old.hasher) in
+            Costs work.old work.new (KnownInternCost C.key hash self.old.state (C.key content) result self.new.state) }
         ensures hasher { self.new.hasher ≡ self.old.hasher }
         ensures valid { IsValid C.key self.new.state }
     {
-        match walk(&self.list, &self.index, &self.hasher, hash, &content, work) {
+        match self.search_hashed(hash, &content, work) {
             Some(symbol) => Ok(symbol),
             None => self.add(hash, content, work),
         }
@@ -199,7 +226,7 @@ impl<C: Keyed, S: BuildHasher> Core<C, S> {
         requires hash { hash ≡ key_hash S.Hasher.finish S.Hasher.write (S.build_hasher self.old.hasher) (C.key content) }
         requires absent { first C.key self.old.state.contents (C.key content) ≡ None }
         ensures step { Takes self.old.state content result self.new.state }
-        ensures cost { Adds work.old.marks work.new.marks (AddCost self.old.state result self.new.state) }
+        ensures cost { Costs work.old work.new (AddCost self.old.state result self.new.state) }
         ensures hasher { self.new.hasher ≡ self.old.hasher }
         ensures valid { IsValid C.key self.new.state }
     {
@@ -207,9 +234,7 @@ impl<C: Keyed, S: BuildHasher> Core<C, S> {
         if count >= self.limit {
             return Err(InternError::Overflow(SymbolOverflowError::new()));
         }
-        if let Err(refused) = find_room(&mut self.list, &mut self.index, self.limit, work) {
-            return Err(InternError::Memory(refused));
-        }
+        find_room(&mut self.list, &mut self.index, self.limit, work)?;
         let symbol = Symbol::new(count as u32);
         self.index.place(hash, symbol, work);
         self.list.push_reserved(content);
@@ -225,25 +250,15 @@ fn find_room<C>(
     limit: usize,
     work: &mut Work,
 ) -> Result<(), AllocError>
-    requires below { length list.old.items < limit }
-    requires numbered { limit ≤ 2 ^ 32 }
-    requires hashes { length index.old.hashes ≡ length list.old.items }
-    requires fits { index.old.room ≤ index.old.count }
-    requires within { length list.old.items ≤ index.old.room }
+    requires placed { HasPlaces (length list.old.items) limit index.old }
     ensures items { list.new.items ≡ list.old.items }
-    ensures hashes { index.new.hashes ≡ index.old.hashes }
     ensures capacity { vec_capacity list.old ≤ vec_capacity list.new }
-    ensures room { index.old.room ≤ index.new.room }
-    ensures fits { index.new.room ≤ index.new.count }
+    ensures index { KeepsPlaces index.old index.new }
     ensures free { OnOk result (length list.old.items < vec_capacity list.new) }
-    ensures placeable { OnOk result (length list.old.items < index.new.room) }
-    ensures full { OnErr result (min (vec_capacity list.old) index.old.room ≤ length list.old.items) }
-    ensures err { OnErr result (index.new.count ≡ index.old.count) }
-    ensures kept { length list.old.items < index.old.count → index.new.count ≡ index.old.count }
-    ensures grown { OnOk result (index.old.count ≤ length list.old.items → min limit (max 4 (2 * index.old.count)) ≤ index.new.count) }
-    ensures quiet { OnErr result (work.new.marks ≡ work.old.marks) }
-    ensures stays { length list.old.items < index.old.count → work.new.marks ≡ work.old.marks }
-    ensures places { OnOk result (index.old.count ≤ length list.old.items → work.new.marks ≡ work.old.marks ++ replicate (length list.old.items) placed) }
+    ensures place { let n = length list.old.items in
+        OnOk result (FindsPlace n limit index.old index.new work.old work.new) }
+    ensures refused { let n = length list.old.items in
+        OnErr result (FindsNoPlace n (vec_capacity list.old) index.old index.new work.old work.new) }
 {
     list.reserve(1)?;
     let count = list.len();

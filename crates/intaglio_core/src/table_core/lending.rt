@@ -4,7 +4,7 @@ ghost use Rattle.std.specs.Option.{option_map};
 ghost use Rattle.intaglio_symbol.specs.AllSymbols.{numbers_from};
 ghost use Rattle.intaglio_content.specs.Key.{key_hash};
 ghost use Rattle.intaglio_core.specs.State.{first};
-ghost use Rattle.intaglio_core.specs.Cost.{Adds, SearchCost};
+ghost use Rattle.intaglio_core.specs.Cost.{Costs, SearchCost};
 
 use super::Core;
 use intaglio_content::{Formed, Forms, Pairs, Sought, Work};
@@ -14,12 +14,10 @@ use std::hash::BuildHasher;
 impl<'a, C: Formed<'a>, S: BuildHasher> Core<C, S> {
     /// The form of a symbol's content.
     pub fn form(&'a self, symbol: Symbol) -> Option<C::Form>
-        ensures { option_map C.form_spelling result ≡ option_map C.spelling (slice_get self.now.state.contents symbol) }
+        ensures { option_map C.form_spelling result
+            ≡ option_map C.spelling (slice_get self.now.state.contents symbol) }
     {
-        match self.get(symbol) {
-            Some(content) => Some(content.lend()),
-            None => None,
-        }
+        Some(self.get(symbol)?.lend())
     }
 
     /// The symbol of the content with the sought key, and the form of what is stored.
@@ -29,16 +27,13 @@ impl<'a, C: Formed<'a>, S: BuildHasher> Core<C, S> {
         work: &mut Work,
     ) -> Option<(Symbol, C::Form)>
         ensures found { option_map (λ pair. pair.0) result ≡ first C.key self.now.state.contents (Q.key sought.now) }
-        ensures stored { IfSome result (λ pair. Some (C.form_spelling pair.1) ≡ option_map C.spelling (slice_get self.now.state.contents pair.0)) }
-        ensures cost { Adds work.old.marks work.new.marks (SearchCost C.key (key_hash S.Hasher.finish S.Hasher.write (S.build_hasher self.now.hasher)) self.now.state (Q.key sought.now)) }
+        ensures stored { IfSome result (λ pair.
+            Some (C.form_spelling pair.1) ≡ option_map C.spelling (slice_get self.now.state.contents pair.0)) }
+        ensures cost { let hash = key_hash S.Hasher.finish S.Hasher.write (S.build_hasher self.now.hasher) in
+            Costs work.old work.new (SearchCost C.key hash self.now.state (Q.key sought.now)) }
     {
-        match self.search(sought, work) {
-            Some(symbol) => match self.form(symbol) {
-                Some(form) => Some((symbol, form)),
-                None => None,
-            },
-            None => None,
-        }
+        let symbol = self.search(sought, work)?;
+        Some((symbol, self.form(symbol)?))
     }
 
     /// The forms of all contents, in the order of their symbols.
@@ -51,7 +46,8 @@ impl<'a, C: Formed<'a>, S: BuildHasher> Core<C, S> {
 
     /// The symbols of all contents with their forms, in order.
     pub fn pairs(&'a self) -> Pairs<'a, C>
-        ensures all { result ≡ zip (numbers_from 0 (length self.now.state.contents)) (map C.spelling self.now.state.contents) }
+        ensures all { let contents = self.now.state.contents in
+            result ≡ zip (numbers_from 0 (length contents)) (map C.spelling contents) }
         ensures bound { length result ≤ 2 ^ 32 }
     {
         Pairs::of(self, self.contents())

@@ -1,7 +1,7 @@
 //! Tables are made.
 ghost use Rattle.std.specs.Prelude.{◌≡◌, ◌^◌, ◌<◌, ◌≤◌, ◌⊎◌, ◌↔◌, [], Ok, Err, IfOk, IsOk};
 ghost use Rattle.intaglio_symbol.specs.declared.error.RoomError.TheVariants.{CapacityOverflow};
-ghost use Rattle.intaglio_core.specs.State.{IsValid};
+ghost use Rattle.intaglio_core.specs.State.{IsValid, empty_table};
 ghost use Rattle.intaglio_core.specs.Capacity.{IsRounded};
 
 use super::Core;
@@ -58,7 +58,7 @@ impl<C: Keyed, S: BuildHasher> Core<C, S> {
     where
         C: Drop,
         S: Drop,
-        ensures made { IfOk result (λ t. t ≡ record { state = record { contents = []; room = 4096; buckets = 4096; limit = 2 ^ 32 }; hasher = hasher }) }
+        ensures made { IfOk result (λ t. t ≡ empty_table 4096 (2 ^ 32) hasher) }
         ensures valid { IfOk result (λ t. IsValid C.key t.state) }
         ensures only_memory { ¬ (result ≡ Err CapacityOverflow) }
     {
@@ -79,7 +79,7 @@ impl<C: Keyed, S: BuildHasher> Core<C, S> {
     where
         C: Drop,
         S: Drop,
-        ensures made { IfOk result (λ t. t ≡ record { state = record { contents = []; room = capacity; buckets = capacity; limit = 2 ^ 32 }; hasher = hasher }) }
+        ensures made { IfOk result (λ t. t ≡ empty_table capacity (2 ^ 32) hasher) }
         ensures valid { IfOk result (λ t. IsValid C.key t.state) }
         ensures overflow { (result ≡ Err CapacityOverflow) ↔ (2 ^ 32 < capacity) }
         ensures none_needed { capacity ≡ 0 → IsOk result }
@@ -87,14 +87,8 @@ impl<C: Keyed, S: BuildHasher> Core<C, S> {
         if capacity > SYMBOLS {
             return Err(RoomError::CapacityOverflow);
         }
-        let index = match Index::with_buckets(alloc, capacity) {
-            Ok(index) => index,
-            Err(refused) => return Err(RoomError::Memory(refused)),
-        };
-        let list = match Vec::with_capacity(alloc, capacity) {
-            Ok(list) => list,
-            Err(refused) => return Err(RoomError::Memory(refused)),
-        };
+        let index = Index::with_buckets(alloc, capacity)?;
+        let list = Vec::with_capacity(alloc, capacity)?;
         Ok(Core {
             list,
             index,
@@ -112,7 +106,7 @@ impl<C: Keyed, S: BuildHasher> Core<C, S> {
     where
         C: Drop,
         S: Drop,
-        ensures made { IfOk result (λ t. t ≡ record { state = record { contents = []; room = 0; buckets = 0; limit = limit }; hasher = hasher }) }
+        ensures made { IfOk result (λ t. t ≡ empty_table 0 limit hasher) }
         ensures valid { IfOk result (λ t. IsValid C.key t.state) }
         ensures overflow { (result ≡ Err CapacityOverflow) ↔ ((limit ≡ 0) ⊎ (2 ^ 32 < limit)) }
         ensures good { 0 < limit → limit ≤ 2 ^ 32 → IsOk result }

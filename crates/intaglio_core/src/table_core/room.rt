@@ -3,7 +3,7 @@ ghost use Rattle.std.specs.Prelude.{◌≡◌, ◌+◌, ◌<◌, ◌≤◌, [], 
 ghost use Rattle.intaglio_core.specs.State.{IsValid};
 ghost use Rattle.intaglio_core.specs.Lookup.{FindsNothing, Keeps, KeepsBelow};
 ghost use Rattle.intaglio_core.specs.Change.{Empties, Reserves, Shrinks, TakesBack};
-ghost use Rattle.intaglio_core.specs.Cost.{Adds, IsRoomCost};
+ghost use Rattle.intaglio_core.specs.Cost.{Costs, IsRoomCost};
 
 use super::Core;
 use intaglio_content::{Keyed, Work};
@@ -46,8 +46,6 @@ impl<C: Keyed, S: BuildHasher> Core<C, S> {
         ensures hasher { self.new.hasher ≡ self.old.hasher }
         ensures valid { IsValid C.key self.new.state }
     {
-        // A proof reads the index's invariant here.
-        let _ = &self.index;
         let count = mark.count();
         let length = self.list.len();
         if count > length {
@@ -88,7 +86,7 @@ impl<C: Keyed, S: BuildHasher> Core<C, S> {
     pub fn reserve_with(&mut self, additional: usize, work: &mut Work) -> Result<(), RoomError>
         ensures step { Reserves self.old.state additional result self.new.state }
         ensures hasher { self.new.hasher ≡ self.old.hasher }
-        ensures cost { Adds work.old.marks work.new.marks (IsRoomCost self.old.state) }
+        ensures cost { Costs work.old work.new (IsRoomCost self.old.state) }
         ensures valid { IsValid C.key self.new.state }
     {
         let count = self.list.len();
@@ -98,13 +96,9 @@ impl<C: Keyed, S: BuildHasher> Core<C, S> {
         if additional <= self.list.capacity().min(self.index.room()) - count {
             return Ok(());
         }
-        if let Err(refused) = self.list.reserve(additional) {
-            return Err(RoomError::Memory(refused));
-        }
-        match self.index.reserve(count + additional, work) {
-            Ok(()) => Ok(()),
-            Err(refused) => Err(RoomError::Memory(refused)),
-        }
+        self.list.reserve(additional)?;
+        self.index.reserve(count + additional, work)?;
+        Ok(())
     }
 
     /// Lowers the capacity to this one, or to [`len`](Core::len) where that is more. Does nothing
@@ -138,7 +132,7 @@ impl<C: Keyed, S: BuildHasher> Core<C, S> {
     pub fn shrink_with(&mut self, min_capacity: usize, work: &mut Work) -> Result<(), RoomError>
         ensures step { Shrinks self.old.state min_capacity result self.new.state }
         ensures hasher { self.new.hasher ≡ self.old.hasher }
-        ensures cost { Adds work.old.marks work.new.marks (IsRoomCost self.old.state) }
+        ensures cost { Costs work.old work.new (IsRoomCost self.old.state) }
         ensures valid { IsValid C.key self.new.state }
     {
         let count = self.list.len();
@@ -146,9 +140,7 @@ impl<C: Keyed, S: BuildHasher> Core<C, S> {
             return Ok(());
         }
         let buckets = count.max(min_capacity);
-        if let Err(refused) = self.index.remake(buckets, work) {
-            return Err(RoomError::Memory(refused));
-        }
+        self.index.remake(buckets, work)?;
         self.list.shrink_to(buckets);
         Ok(())
     }

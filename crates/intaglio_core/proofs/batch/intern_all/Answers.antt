@@ -1,4 +1,4 @@
-use Rattle.std.proofs.Common.{◌≡◌, Bool, false, Result, Ok, Err, IfOk, OnOk, is_err, rules}
+use Rattle.std.proofs.Common.{◌≡◌, false, Result, Ok, Err, IfOk, OnOk, is_err, rules}
 use Rattle.intaglio_core.specs.Issue.{issue_from, interned_all}
 use Rattle.intaglio_core.proofs.Laws.{interned_all-found, interned_all-stored, interned_all-keeps}
 use Rattle.intaglio_core.proofs.batch.intern_all.Goals as goal

@@ -4,14 +4,14 @@ use Rattle.intaglio_core.specs.declared.run.Call.TheVariants.{Intern}
 use Rattle.intaglio_core.proofs.Growth.{Runs-hash, Runs-place, Runs-room}
 use Rattle.intaglio_core.proofs.Issue.{Runs-issue}
 use Rattle.intaglio_core.proofs.Room.{Runs-roomier}
-use Rattle.intaglio_core.proofs.Runs.{Adds-push}
+use Rattle.intaglio_core.proofs.InOrder.{Adds-push}
 use Rattle.intaglio_core.proofs.run.run.Goals as goal
 
 pub loop-call-preserved : goal.loop-call-preserved
 loop-call-preserved g c = record {
   can = tt;
   finite = tt;
-  ran = rw c.push_reserved.ensures.items (Adds-push g.T.Content.Keyed.key g.T.Content.Content.spelling _ _ _ _ _ _ _ _ _ _ _ c.loop-call.invariant.ran c.step.ensures.step (rw c.loop-call.invariant.same_hash at c.step.ensures.cost) c.step.ensures.valid);
+  ran = rw c.push_reserved.ensures.items (Adds-push _ _ _ _ _ _ _ _ _ _ _ c.loop-call.invariant.ran (let spent = rw c.loop-call.invariant.same_hash at c.step.ensures.cost in (spent.0, spent.1, (c.step.ensures.step, spent.2, c.step.ensures.valid))));
   same_hash = c.step.ensures.same_hash ∙ c.loop-call.invariant.same_hash;
   whole = rw (append_assoc, ← c.in-Some.ensures.steps.0) c.loop-call.invariant.whole;
   room = omega (arith, c.in-Some.ensures.steps);

@@ -10,24 +10,24 @@ invariant_of-self-2 g c =
     let none : first g.C.Keyed.key c.self.inside.list.items (g.C.Keyed.key c.args.content) ≡ None = rw (← c.self.view_is) at c.requires.absent in
     let hash = rw (← c.self.view_is) at c.requires.hash in
     let below : length c.self.inside.list.items < c.self.inside.limit = omega (arith, c.if-count-self.false, c.len-count.ensures, c.self.inside.list.ok.0) in
-    let free : length c.self.inside.list.items < c.place.new.self.room = omega (arith, c.in_default.ensures.placeable, c.place.ensures.room) in
+    let free : length c.self.inside.list.items < c.place.new.self.room = omega (arith, c.in_ok-find_room.ensures.place.free, c.place.ensures.room) in
     rw (c.push_reserved.ensures.items, c.find_room.ensures.items)
-    (indexed-push g.C.Keyed.key (key_hash g.S.Hasher.Hasher.finish g.S.Hasher.Hasher.write (g.S.BuildHasher.build_hasher c.self.inside.hasher)) c.self.inside.list.items c.args.content c.self.inside.index c.place.new.self c.self.inside.limit c.args.hash c.self.invariant none below hash (rw c.find_room.ensures.hashes at c.place.ensures.hashes) c.place.ensures.fits free)
+    (indexed-push g.C.Keyed.key (key_hash g.S.Hasher.Hasher.finish g.S.Hasher.Hasher.write (g.S.BuildHasher.build_hasher c.self.inside.hasher)) c.self.inside.list.items c.args.content c.self.inside.index c.place.new.self c.self.inside.limit c.args.hash c.self.invariant none below hash (rw c.find_room.ensures.index.hashes at c.place.ensures.hashes) c.place.ensures.fits free)
 
 pub returns-clause-valid : goal.returns-clause-valid
 returns-clause-valid g c =
     let none : first g.C.Keyed.key c.self.inside.list.items (g.C.Keyed.key c.args.content) ≡ None = rw (← c.self.view_is) at c.requires.absent in
     let hash = rw (← c.self.view_is) at c.requires.hash in
     let below : length c.self.inside.list.items < c.self.inside.limit = omega (arith, c.if-count-self.false, c.len-count.ensures, c.self.inside.list.ok.0) in
-    let free : length c.self.inside.list.items < c.place.new.self.room = omega (arith, c.in_default.ensures.placeable, c.place.ensures.room) in
+    let free : length c.self.inside.list.items < c.place.new.self.room = omega (arith, c.in_ok-find_room.ensures.place.free, c.place.ensures.room) in
     indexed-valid g.C.Keyed.key (key_hash g.S.Hasher.Hasher.finish g.S.Hasher.Hasher.write (g.S.BuildHasher.build_hasher c.self.inside.hasher)) c.push_reserved.new.self.items c.place.new.self c.self.inside.limit (vec_capacity c.push_reserved.new.self)
     (rw (c.push_reserved.ensures.items, c.find_room.ensures.items)
-    (indexed-push g.C.Keyed.key (key_hash g.S.Hasher.Hasher.finish g.S.Hasher.Hasher.write (g.S.BuildHasher.build_hasher c.self.inside.hasher)) c.self.inside.list.items c.args.content c.self.inside.index c.place.new.self c.self.inside.limit c.args.hash c.self.invariant none below hash (rw c.find_room.ensures.hashes at c.place.ensures.hashes) c.place.ensures.fits free))
+    (indexed-push g.C.Keyed.key (key_hash g.S.Hasher.Hasher.finish g.S.Hasher.Hasher.write (g.S.BuildHasher.build_hasher c.self.inside.hasher)) c.self.inside.list.items c.args.content c.self.inside.index c.place.new.self c.self.inside.limit c.args.hash c.self.invariant none below hash (rw c.find_room.ensures.index.hashes at c.place.ensures.hashes) c.place.ensures.fits free))
 
 pub returns-clause-cost : goal.returns-clause-cost
 returns-clause-cost g c =
     let below : length c.self.inside.list.items < c.self.inside.limit = omega (arith, c.if-count-self.false, c.len-count.ensures, c.self.inside.list.ok.0) in
     let enough : length c.self.inside.list.items ≤ c.self.inside.index.count = omega (arith, c.self.invariant.within, c.self.invariant.fits) in
-    let kept : length c.self.inside.list.items < c.self.inside.index.count → c.place.new.self.count ≡ c.self.inside.index.count = λ h. c.place.ensures.count ∙ c.find_room.ensures.kept h in
-    let more : c.self.inside.index.count ≤ length c.self.inside.list.items → min c.self.inside.limit (max 4 (2 * c.self.inside.index.count)) ≤ c.place.new.self.count = λ h. rw c.place.ensures.count (c.in_default.ensures.grown h) in
-    rw (← c.self.view_is) (add-cost _ _ c.new-symbol.result c.args.work.now.marks c.find_room.new.work.marks c.place.new.work.marks below enough kept more c.find_room.ensures.stays c.in_default.ensures.places c.place.ensures.marks)
+    let kept : length c.self.inside.list.items < c.self.inside.index.count → c.place.new.self.count ≡ c.self.inside.index.count = λ h. c.place.ensures.count ∙ c.in_ok-find_room.ensures.place.kept h in
+    let more : c.self.inside.index.count ≤ length c.self.inside.list.items → min c.self.inside.limit (max 4 (2 * c.self.inside.index.count)) ≤ c.place.new.self.count = λ h. rw c.place.ensures.count (c.in_ok-find_room.ensures.place.grown h) in
+    rw (← c.self.view_is) (add-cost _ _ c.new-symbol.result c.args.work.now.marks c.find_room.new.work.marks c.place.new.work.marks below enough kept more c.in_ok-find_room.ensures.place.quiet c.in_ok-find_room.ensures.place.placed_again c.place.ensures.marks)

@@ -1,6 +1,5 @@
-use Rattle.std.proofs.Common.{◌≡◌, None, sym, rules}
+use Rattle.std.proofs.Common.{sym, rules}
 use Rattle.intaglio_content.specs.Key.{key_hash}
-use Rattle.intaglio_core.specs.State.{first}
 use Rattle.intaglio_core.specs.Lookup.{IsFound}
 use Rattle.intaglio_core.proofs.Laws.{found-stored, taken}
 use Rattle.intaglio_core.proofs.Spent.{intern-cost}
@@ -13,25 +12,20 @@ returns-in-Some-clause-stored g c =
 
 pub returns-in-None-clause-found : goal.returns-in-None-clause-found
 returns-in-None-clause-found g c =
-    let none : first g.C.Keyed.key c.args.self.now.state.contents (g.C.Keyed.key c.args.content) ≡ None = rw (← c.self.view_is) (rw c.deref.ensures.value at (sym c.in-None.ensures.answer)) in
-    (taken g.C.Keyed.key c.args.self.now.state c.add.new.self.state c.args.content c.add.result none c.add.ensures.step).found
+    (taken g.C.Keyed.key c.args.self.now.state c.add.new.self.state c.args.content c.add.result (sym c.in-None.ensures.found) c.add.ensures.step).found
 
 pub returns-in-None-clause-stored : goal.returns-in-None-clause-stored
 returns-in-None-clause-stored g c =
-    let none : first g.C.Keyed.key c.args.self.now.state.contents (g.C.Keyed.key c.args.content) ≡ None = rw (← c.self.view_is) (rw c.deref.ensures.value at (sym c.in-None.ensures.answer)) in
-    (taken g.C.Keyed.key c.args.self.now.state c.add.new.self.state c.args.content c.add.result none c.add.ensures.step).stored
+    (taken g.C.Keyed.key c.args.self.now.state c.add.new.self.state c.args.content c.add.result (sym c.in-None.ensures.found) c.add.ensures.step).stored
 
 pub returns-in-None-clause-kept : goal.returns-in-None-clause-kept
 returns-in-None-clause-kept g c =
-    let none : first g.C.Keyed.key c.args.self.now.state.contents (g.C.Keyed.key c.args.content) ≡ None = rw (← c.self.view_is) (rw c.deref.ensures.value at (sym c.in-None.ensures.answer)) in
-    (taken g.C.Keyed.key c.args.self.now.state c.add.new.self.state c.args.content c.add.result none c.add.ensures.step).kept
+    (taken g.C.Keyed.key c.args.self.now.state c.add.new.self.state c.args.content c.add.result (sym c.in-None.ensures.found) c.add.ensures.step).kept
 
 pub returns-in-None-clause-others : goal.returns-in-None-clause-others
 returns-in-None-clause-others g c =
-    let none : first g.C.Keyed.key c.args.self.now.state.contents (g.C.Keyed.key c.args.content) ≡ None = rw (← c.self.view_is) (rw c.deref.ensures.value at (sym c.in-None.ensures.answer)) in
-    (taken g.C.Keyed.key c.args.self.now.state c.add.new.self.state c.args.content c.add.result none c.add.ensures.step).others
+    (taken g.C.Keyed.key c.args.self.now.state c.add.new.self.state c.args.content c.add.result (sym c.in-None.ensures.found) c.add.ensures.step).others
 
 pub returns-in-None-clause-cost : goal.returns-in-None-clause-cost
 returns-in-None-clause-cost g c =
-    let none : first g.C.Keyed.key c.args.self.now.state.contents (g.C.Keyed.key c.args.content) ≡ None = rw (← c.self.view_is) (rw c.deref.ensures.value at (sym c.in-None.ensures.answer)) in
-    intern-cost g.C.Keyed.key (key_hash g.S.Hasher.Hasher.finish g.S.Hasher.Hasher.write (g.S.BuildHasher.build_hasher c.args.self.now.hasher)) c.add.result c.args.self.now.state c.add.new.self.state (g.C.Keyed.key c.args.content) c.args.work.now.marks c.walk.new.work.marks c.add.new.work.marks none (rw (← c.self.view_is) (rw c.deref.ensures.value at c.in-None.ensures.cost)) c.add.ensures.cost
+    intern-cost g.C.Keyed.key (key_hash g.S.Hasher.Hasher.finish g.S.Hasher.Hasher.write (g.S.BuildHasher.build_hasher c.args.self.now.hasher)) c.add.result c.args.self.now.state c.add.new.self.state (g.C.Keyed.key c.args.content) c.args.work.now.marks c.search_hashed.new.work.marks c.add.new.work.marks (sym c.in-None.ensures.found) c.in-None.ensures.cost c.add.ensures.cost
