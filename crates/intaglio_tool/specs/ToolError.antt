@@ -10,12 +10,6 @@ abbrev pub IfZeroByte : ToolError → (ℕ → Type 0) → Type 0
 IfZeroByte (ZeroByte n) P = P n
 IfZeroByte _ P = Unit {0}
 
--- a line became no content
-abbrev pub IsContentError : ToolError → Type 0
-IsContentError (ZeroByte n) = Unit {0}
-IsContentError Memory = Unit {0}
-IsContentError _ = ⊥
-
 -- a line wasn't interned
 abbrev pub IsTakingError : ToolError → Type 0
 IsTakingError (ZeroByte n) = Unit {0}
