@@ -1,5 +1,5 @@
 -- What holds of look-ups, for the proofs of callers: what is found after an interning, a rollback or a clear, and where.
-use Rattle.std.proofs.Common.{◌≡◌, ◌≢◌, ◌∙◌, sym, ap, refl, arith, ℕ, zero, suc, ◌+◌, ◌<◌, ◌≤◌, Bool, true, false, cond, List, [], ◌∷◌, ◌++◌, length, map, take, drop, get_or, Option, Some, None, option_map, option_copied, unwrap_or, is_some, Result, Ok, Err, IfSome, IfOk, OnErr}
+use Rattle.std.proofs.Common.{◌≡◌, ◌≢◌, ◌∙◌, sym, ap, refl, arith, ℕ, zero, suc, ◌+◌, ◌<◌, ◌≤◌, Bool, true, false, cond, List, [], ◌∷◌, ◌++◌, length, map, take, drop, get_or, Option, Some, None, option_map, option_copied, unwrap_or, is_some, Result, Ok, Err, IfSome, IfOk}
 use Rattle.std.specs.Prelude.{slice_get, ◌↔◌}
 use Rattle.std.specs.Borrow.{Bor}
 use Rattle.std.proofs.lemmas.Option.{same_Some, slice_get_within, get_or_from_slice_get}
@@ -46,17 +46,6 @@ or_at-below : (n : ℕ) (o p : Option ℕ) (i : ℕ) → i < n → or_at n o p �
 or_at-below n None None i lt e = cc
 or_at-below n None (Some j) i lt e = let q : n + j ≡ i = same_Some (n + j) i e in absurd (omega arith)
 or_at-below n (Some j) p i lt e = e
-
-or_at-above : (n : ℕ) (o p : Option ℕ) (i : ℕ) → ((j : ℕ) → o ≡ Some j → j < n) → n ≤ i → or_at n o p ≡ Some i → o ≡ None
-or_at-above n None p i below le e = refl
-or_at-above n (Some j) p i below le e =
-    let q : j ≡ i = same_Some j i e in
-    let l = below j refl in
-    absurd (omega arith)
-
-or_at-none : (n : ℕ) (o p : Option ℕ) → or_at n o p ≡ None → o ≡ None
-or_at-none n None p e = refl
-or_at-none n (Some j) p e = cc
 
 or_at-left : (n : ℕ) (o : Option ℕ) → or_at n o None ≡ o
 or_at-left n None = refl
@@ -140,6 +129,10 @@ module _ {C : Type 0} (key : C → Key) where
   pub same_contents-keeps : (old new : State C) → new.contents ≡ old.contents → Keeps key old new
   same_contents-keeps old new e = record { stored = λ i c h. rw e h; found = λ k i h. rw e h }
 
+  -- a refused interning leaves the contents
+  pub interned-refused : (old new : State C) (c : C) (e : InternError) → Interns key old c (Err e) new → new.contents ≡ old.contents
+  interned-refused old new c e step = Interns-refused key old new c e step
+
   -- an interning, refused or not, keeps each symbol's content, and what was found is found where it was
   pub interned-keeps : (old new : State C) (c : C) (r : Result ℕ InternError) → Interns key old c r new → Keeps key old new
   interned-keeps old new c (Ok i) step =
@@ -162,7 +155,6 @@ module _ {C : Type 0} (key : C → Key) where
     pub stored : IfOk r (IsStored key new (key c))
     pub kept : Keeps key old new
     pub others : FindsOthers key old (key c) new
-    pub refused : OnErr r (new.contents ≡ old.contents)
 
   -- whatever it returned
   pub interned_clauses : (old new : State C) (c : C) (r : Result ℕ InternError) → Interns key old c r new → IsInterned old c r new
@@ -171,14 +163,12 @@ module _ {C : Type 0} (key : C → Key) where
     stored = interned-stored old new c i step;
     kept = interned-keeps old new c (Ok i) step;
     others = interned-others old new c (Ok i) step;
-    refused = tt;
   }
   interned_clauses old new c (Err e) step = record {
     found = tt;
     stored = tt;
     kept = interned-keeps old new c (Err e) step;
     others = interned-others old new c (Err e) step;
-    refused = Interns-refused key old new c e step;
   }
 
   -- also where the content isn't there yet
@@ -196,8 +186,7 @@ module _ {C : Type 0} (key : C → Key) where
       record {
         stored = λ i c lt e. rw cut (slice_get-take n old.contents i c lt e);
         found = λ k i lt e. rw cut (or_at-below n _ _ i lt (sym (parts k) ∙ e));
-        dropped = λ k i le e. rw cut (or_at-above n _ _ i (below k) le (sym (parts k) ∙ e));
-        absent = λ k e. rw cut (or_at-none n _ _ (sym (parts k) ∙ e));
+        before = λ k i e. parts k ∙ ap (λ (o : Option ℕ). or_at n o (first key (drop n old.contents) k)) (rw cut at e);
         below = λ k i e. below k i (rw cut at e);
       }
 

@@ -1,5 +1,5 @@
 -- What look-ups find, before and after a call.
-use Rattle.std.specs.Prelude.{◌≡◌, ◌≢◌, ℕ, ◌<◌, ◌≤◌, List, Some, None, slice_get}
+use Rattle.std.specs.Prelude.{◌≡◌, ◌≢◌, ℕ, ◌<◌, List, Some, None, slice_get}
 use Rattle.intaglio_content.specs.Key.{Key}
 use Rattle.intaglio_core.specs.State.{State, first}
 
@@ -27,12 +27,11 @@ module _ {C : Type 0} (key : C → Key) where
     pub stored : (i : ℕ) (c : C) → slice_get old.contents i ≡ Some c → slice_get new.contents i ≡ Some c
     pub found : (k : Key) (i : ℕ) → IsFound old k i → IsFound new k i
 
-  -- the same of the symbols below n, and no other is found
+  -- the same of the symbols below n, and nothing else is found
   pub record KeepsBelow (old : State C) (n : ℕ) (new : State C) : Type 0 where
     pub stored : (i : ℕ) (c : C) → i < n → slice_get old.contents i ≡ Some c → slice_get new.contents i ≡ Some c
     pub found : (k : Key) (i : ℕ) → i < n → IsFound old k i → IsFound new k i
-    pub dropped : (k : Key) (i : ℕ) → n ≤ i → IsFound old k i → first key new.contents k ≡ None
-    pub absent : (k : Key) → first key old.contents k ≡ None → first key new.contents k ≡ None
+    pub before : (k : Key) (i : ℕ) → IsFound new k i → IsFound old k i
     pub below : (k : Key) (i : ℕ) → IsFound new k i → i < n
 
   -- each of these contents is found at its symbol

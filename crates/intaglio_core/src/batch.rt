@@ -30,16 +30,19 @@ struct LookedUp<C> {
     symbol: Option<Symbol>,
 }
 
-/// Interns the contents in order, and answers their symbols in the same order.
+/// Interns the contents in order, and returns their symbols in the same order.
 ///
-/// All of them are hashed, then all are looked up, and then those that weren't found are interned, so that the processor waits
-/// for the memory of several look-ups at once. That pays where the table is large and most contents are in it, with some dozens
-/// of contents at a time. Three lists as long as the contents are made meanwhile.
+/// All of them are hashed, then all are looked up, and then those that weren't found are interned,
+/// so that the cache misses of several look-ups overlap. That pays where the table is large and most
+/// contents are in it, with some dozens of contents at a time. Meanwhile three lists as long as the
+/// contents are held.
 ///
 /// # Errors
 ///
-/// `Overflow` where the table can't hold them all, `Memory` where the memory for one of the lists or for a growth was refused.
-/// Then the table has the contents that it had before and no less room, and those handed in are dropped.
+/// `Overflow` if the table can't hold them all, `Memory` if an allocation for one of the lists or
+/// for the table fails. The table then has the contents that it had before and no less room, and
+/// the arguments are dropped. A failed call costs the hashings, the look-ups and the internings
+/// that were done before the failure, and one look-up more.
 ///
 /// ```
 /// let words = vec![in alloc; StrContent::from("b"), StrContent::from("a"), StrContent::from("b")]?;

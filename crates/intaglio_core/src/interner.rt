@@ -1,5 +1,5 @@
 //! What every symbol table does, for code that is generic in the table.
-ghost use Rattle.std.specs.Prelude.{◌≡◌, ℕ, ◌++◌, ◌∷◌, [], length, slice_get, option_copied, IfOk, IfSome, OnOk, OnErr};
+ghost use Rattle.std.specs.Prelude.{◌≡◌, ℕ, ◌++◌, ◌∷◌, [], length, slice_get, option_copied, IfOk, IfSome, OnOk};
 ghost use Rattle.intaglio_content.specs.Key.{Key, key_hash};
 ghost use Rattle.intaglio_content.specs.Work.{hashed};
 ghost use Rattle.intaglio_core.specs.State.{State, first, IsValid};
@@ -43,7 +43,6 @@ pub trait Interner {
         ensures stored { IfOk result (IsStored Self.Content.key (state self.new) (Self.Content.key content)) }
         ensures kept { Keeps Self.Content.key (state self.old) (state self.new) }
         ensures others { FindsOthers Self.Content.key (state self.old) (Self.Content.key content) (state self.new) }
-        ensures refused { OnErr result ((state self.new).contents ≡ (state self.old).contents) }
         ensures cost { let k = Self.Content.key content in
             Costs work.old work.new
             (InternCost Self.Content.key (hash self.old) (state self.old) k result (state self.new)) }
@@ -57,8 +56,8 @@ pub trait Interner {
 
     /// As [`intern_counted`](Interner::intern_counted), for a content that was hashed.
     ///
-    /// Where many contents are hashed before the first of them is interned, the processor waits for the memory of several
-    /// searches at once. [`intern_all`](crate::intern_all) does so.
+    /// Where many contents are hashed before the first of them is interned, the cache misses of
+    /// several searches overlap. [`intern_all`](crate::intern_all) does so.
     fn intern_hashed(
         &mut self,
         known_hash: u64,
@@ -71,7 +70,6 @@ pub trait Interner {
         ensures stored { IfOk result (IsStored Self.Content.key (state self.new) (Self.Content.key content)) }
         ensures kept { Keeps Self.Content.key (state self.old) (state self.new) }
         ensures others { FindsOthers Self.Content.key (state self.old) (Self.Content.key content) (state self.new) }
-        ensures refused { OnErr result ((state self.new).contents ≡ (state self.old).contents) }
         ensures cost { let k = Self.Content.key content in
             Costs work.old work.new
             (KnownInternCost Self.Content.key (hash self.old) (state self.old) k result (state self.new)) }
@@ -153,7 +151,6 @@ pub trait Interner {
     fn take_back(&mut self, mark: Mark) -> Result<(), StaleMark>
         ensures step { TakesBack (state self.old) mark result (state self.new) }
         ensures kept { OnOk result (KeepsBelow Self.Content.key (state self.old) mark (state self.new)) }
-        ensures stale { OnErr result (state self.new ≡ state self.old) }
         ensures same_hash { hash self.new ≡ hash self.old }
         ensures valid { IsValid Self.Content.key (state self.new) };
 }

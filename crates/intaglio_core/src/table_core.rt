@@ -135,7 +135,7 @@ impl<C: Keyed, S: BuildHasher> Core<C, S> {
         self.search_hashed(hash, sought, work)
     }
 
-    // The same for a key whose hash is known: goes along its bucket, to the first greater hash at most.
+    // The same for a key whose hash is known: goes along its bucket, up to the first greater hash.
     pub(crate) fn search_hashed<Q: Sought<C>>(
         &self,
         hash: u64,
@@ -167,13 +167,18 @@ impl<C: Keyed, S: BuildHasher> Core<C, S> {
 
     /// The symbol of the content, which is stored if no equal one is.
     ///
+    /// A look-up of the content then finds this symbol, and the symbol's content has its key. Every
+    /// symbol that was issued before keeps its content, and look-ups of other keys find what they
+    /// found.
+    ///
     /// Costs one hashing, also where the buckets grow: they keep each content's hash.
     ///
     /// # Errors
     ///
-    /// `Overflow` where a new content comes and the table holds as many as its limit; `Memory` where
-    /// a growth that it needs is refused, which never comes while [`capacity`](Core::capacity) is
-    /// above [`len`](Core::len). Then the contents are as before, and this one is dropped.
+    /// `Overflow` if a new content comes and the table holds as many as its limit; `Memory` if it
+    /// has to grow and an allocation fails, which never happens while
+    /// [`capacity`](Core::capacity) is above [`len`](Core::len). The contents are then as before,
+    /// and this one is dropped.
     pub fn intern(&mut self, content: C, work: &mut Work) -> Result<Symbol, InternError>
     where
         C: Sought<C> + Drop,
@@ -182,7 +187,6 @@ impl<C: Keyed, S: BuildHasher> Core<C, S> {
         ensures stored { IfOk result (IsStored C.key self.new.state (C.key content)) }
         ensures kept { Keeps C.key self.old.state self.new.state }
         ensures others { FindsOthers C.key self.old.state (C.key content) self.new.state }
-        ensures refused { OnErr result (self.new.state.contents ≡ self.old.state.contents) }
         ensures cost { let hash = key_hash S.Hasher.finish S.Hasher.write (S.build_hasher self.old.hasher) in
             Costs work.old work.new (InternCost C.key hash self.old.state (C.key content) result self.new.state) }
         ensures hasher { self.new.hasher ≡ self.old.hasher }
@@ -207,7 +211,6 @@ impl<C: Keyed, S: BuildHasher> Core<C, S> {
         ensures stored { IfOk result (IsStored C.key self.new.state (C.key content)) }
         ensures kept { Keeps C.key self.old.state self.new.state }
         ensures others { FindsOthers C.key self.old.state (C.key content) self.new.state }
-        ensures refused { OnErr result (self.new.state.contents ≡ self.old.state.contents) }
         ensures cost { let hash = key_hash S.Hasher.finish S.Hasher.write (S.build_hasher self.old.hasher) in
             Costs work.old work.new (KnownInternCost C.key hash self.old.state (C.key content) result self.new.state) }
         ensures hasher { self.new.hasher ≡ self.old.hasher }

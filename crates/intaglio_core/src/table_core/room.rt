@@ -1,5 +1,5 @@
 //! Room, cuts and clearing.
-ghost use Rattle.std.specs.Prelude.{◌≡◌, ◌+◌, ◌<◌, ◌≤◌, [], length, IsOk, OnOk, OnErr};
+ghost use Rattle.std.specs.Prelude.{◌≡◌, ◌+◌, ◌<◌, ◌≤◌, [], length, IsOk, OnOk};
 ghost use Rattle.intaglio_core.specs.State.{IsValid};
 ghost use Rattle.intaglio_core.specs.Lookup.{FindsNothing, Keeps, KeepsBelow};
 ghost use Rattle.intaglio_core.specs.Change.{Empties, Reserves, Shrinks, TakesBack};
@@ -11,7 +11,8 @@ use intaglio_symbol::{Mark, RoomError, StaleMark};
 use std::hash::BuildHasher;
 
 impl<C: Keyed, S: BuildHasher> Core<C, S> {
-    /// Drops all contents. The capacity stays, and the next symbol is 0.
+    /// Drops all contents, so that no look-up finds anything. The capacity stays, and the next
+    /// symbol is 0.
     pub fn clear(&mut self)
     where
         C: Drop,
@@ -32,7 +33,8 @@ impl<C: Keyed, S: BuildHasher> Core<C, S> {
         Mark::new(self.list.len())
     }
 
-    /// Drops the contents that came after the mark. The capacity stays, and nothing is hashed.
+    /// Drops the contents that came after the mark. The symbols below it keep their contents and
+    /// are found as before, and no other is found. The capacity stays, and nothing is hashed.
     ///
     /// # Errors
     ///
@@ -42,7 +44,6 @@ impl<C: Keyed, S: BuildHasher> Core<C, S> {
         C: Drop,
         ensures step { TakesBack self.old.state mark result self.new.state }
         ensures kept { OnOk result (KeepsBelow C.key self.old.state mark self.new.state) }
-        ensures stale { OnErr result (self.new.state ≡ self.old.state) }
         ensures hasher { self.new.hasher ≡ self.old.hasher }
         ensures valid { IsValid C.key self.new.state }
     {
