@@ -1,0 +1,3 @@
+//! What C calls: for each kind of tables the same.
+
+mod text;
