@@ -12,7 +12,7 @@ use Rattle.intaglio_core.proofs.First.{key_eq-decides, some-below, first-append}
 use Rattle.intaglio_core.proofs.Held.{first-still}
 use Rattle.intaglio_lines.specs.Lines.{lines_of}
 use Rattle.intaglio_lines.specs.Encoded.{spelling_line, encoded_by}
-use Rattle.intaglio_lines.specs.Decoded.{IsLine, Holds, restored, Decodes}
+use Rattle.intaglio_lines.specs.Decoded.{IsLine, Holds, decoded, Decodes}
 use Rattle.intaglio_lines.specs.Laws.{first_equal, first_spellings}
 use Rattle.intaglio_lines.proofs.ByLines.{lines_of-are_lines, lines_of-flat_map}
 
@@ -41,9 +41,9 @@ map-itself f same [] = refl
 map-itself f same (x ∷ xs) = rw (same x, map-itself f same xs) refl
 
 -- the spellings of symbols, each ended
-pub restored-map : (symbols : List ℕ) (spellings : List (List ℕ)) → restored symbols spellings ≡ flat_map spelling_line (map (λ n. get_or spellings n []) symbols)
-restored-map [] spellings = refl
-restored-map (n ∷ symbols) spellings = ap (λ t. spelling_line (get_or spellings n []) ++ t) (restored-map symbols spellings)
+pub decoded-map : (symbols : List ℕ) (spellings : List (List ℕ)) → decoded symbols spellings ≡ flat_map spelling_line (map (λ n. get_or spellings n []) symbols)
+decoded-map [] spellings = refl
+decoded-map (n ∷ symbols) spellings = ap (λ t. spelling_line (get_or spellings n []) ++ t) (decoded-map symbols spellings)
 
 module _ (key : List ℕ → Key) where
   -- the first of the spellings with a key
@@ -115,8 +115,8 @@ module _ (key : List ℕ → Key) where
       ∙ ap (option_or (found held k)) (sym (or-cond (key_eq (key c) k) c None (found cs k)))
 
   -- the symbols of lines are those of the first spellings that are equal to them
-  pub restored-first : (lines : List (List ℕ)) → map (λ n. get_or (interned_all key [] lines) n []) (issue key lines) ≡ first_spellings key lines
-  restored-first lines =
+  pub decoded-first : (lines : List (List ℕ)) → map (λ n. get_or (interned_all key [] lines) n []) (issue key lines) ≡ first_spellings key lines
+  decoded-first lines =
       issued-spellings (interned_all key [] lines) [] lines refl
       ∙ map-same (λ c. unwrap_or (found (interned_all key [] lines) (key c)) c) (first_equal key lines) (λ c. ap (λ t. unwrap_or t c) (found-all [] lines (key c))) lines
 
@@ -148,7 +148,7 @@ module _ (key : List ℕ → Key) where
         symbols = issue key lines;
         spellings = interned_all key [] lines;
         holds = holds-encoded input;
-        same = ap (flat_map spelling_line) (sym (restored-first lines)) ∙ sym (restored-map (issue key lines) (interned_all key [] lines));
+        same = ap (flat_map spelling_line) (sym (decoded-first lines)) ∙ sym (decoded-map (issue key lines) (interned_all key [] lines));
       }
 
   cond-key : (here : Bool) (x c : List ℕ) (o : Option (List ℕ)) (k : Key) → (here ≡ true → key x ≡ k) → key (unwrap_or o c) ≡ k → key (unwrap_or (cond here (Some x) o) c) ≡ k
@@ -179,9 +179,9 @@ module _ (key : List ℕ → Key) where
   map-keys lines [] = refl
   map-keys lines (line ∷ rest) = rw (key-first_equal lines line, map-keys lines rest) refl
 
-  -- line by line, what is restored has the keys of the input
-  pub restored-keys : (input : List ℕ) → map key (lines_of (flat_map spelling_line (first_spellings key (lines_of input)))) ≡ map key (lines_of input)
-  restored-keys input =
+  -- line by line, what is decoded has the keys of the input
+  pub decoded-keys : (input : List ℕ) → map key (lines_of (flat_map spelling_line (first_spellings key (lines_of input)))) ≡ map key (lines_of input)
+  decoded-keys input =
       let lines = lines_of input in
       let all = lines_of-are_lines input in
       ap (map key) (lines_of-flat_map (first_spellings key lines) (firsts-lines lines lines all all)) ∙ map-keys lines lines

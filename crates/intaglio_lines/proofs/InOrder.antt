@@ -11,10 +11,10 @@ use Rattle.intaglio_core.proofs.First.{first-none, first-some, some-below}
 use Rattle.intaglio_core.proofs.Kept.{distinct-push}
 use Rattle.intaglio_lines.specs.Lines.{lines_of}
 use Rattle.intaglio_lines.specs.Encoded.{output_of, encoded_by}
-use Rattle.intaglio_lines.specs.Decoded.{IsLine, Holds, restored}
+use Rattle.intaglio_lines.specs.Decoded.{IsLine, Holds, decoded}
 use Rattle.intaglio_lines.specs.Laws.{AreInOrder}
 use Rattle.intaglio_lines.proofs.ByLines.{lines_of-flat_map}
-use Rattle.intaglio_lines.proofs.FirstEqual.{restored-map}
+use Rattle.intaglio_lines.proofs.FirstEqual.{decoded-map}
 
 module _ (key : List ℕ → Key) (spellings : List (List ℕ)) (distinct : Distinct key spellings) where
   abbrev spelling_at : ℕ → List ℕ
@@ -93,12 +93,12 @@ module _ (key : List ℕ → Key) (spellings : List (List ℕ)) (distinct : Dist
   spelled-lines [] lines known = tt
   spelled-lines (n ∷ symbols) lines known = (lines n [] known.0, spelled-lines symbols lines known.1)
 
-  pub encodes-restored : (symbols bytes : List ℕ) → Holds symbols spellings bytes → AreInOrder 0 symbols (length spellings)
-      → encoded_by key (restored symbols spellings) ≡ bytes
-  encodes-restored symbols bytes holds order =
+  pub encodes-decoded : (symbols bytes : List ℕ) → Holds symbols spellings bytes → AreInOrder 0 symbols (length spellings)
+      → encoded_by key (decoded symbols spellings) ≡ bytes
+  encodes-decoded symbols bytes holds order =
       let known = recursion_from_All (λ symbol. symbol < length spellings) symbols holds.known in
-      let lines : lines_of (restored symbols spellings) ≡ map spelling_at symbols =
-      ap lines_of (restored-map symbols spellings) ∙ lines_of-flat_map (map spelling_at symbols) (spelled-lines symbols holds.lines known) in
+      let lines : lines_of (decoded symbols spellings) ≡ map spelling_at symbols =
+      ap lines_of (decoded-map symbols spellings) ∙ lines_of-flat_map (map spelling_at symbols) (spelled-lines symbols holds.lines known) in
       let go = goes 0 symbols (omega arith) known order in
       ap (λ t. output_of (issue key t) (interned_all key [] t)) lines
       ∙ ap (λ t. output_of t (interned_all key [] (map spelling_at symbols))) go.same

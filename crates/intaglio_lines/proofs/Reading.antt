@@ -12,7 +12,7 @@ use Rattle.std.proofs.lemmas.Bool.{or_right}
 use Rattle.intaglio_lines.specs.Lines.{lines_of}
 use Rattle.intaglio_lines.specs.Encoded.{number_line, spelling_line, output_of}
 use Rattle.intaglio_lines.specs.Decoded.{IsLine, Holds, is_ended, with_last_line_ended}
-use Rattle.intaglio_lines.specs.Fault.{Fault, is_blank, symbol_lines, strings_of, string_count, is_number, line_fault, first_fault, end_fault, fault_of, AreKnown}
+use Rattle.intaglio_lines.specs.Fault.{Fault, is_blank, symbol_lines, spellings_of, spelling_count, is_number, line_fault, first_fault, end_fault, fault_of, AreKnown}
 use Rattle.intaglio_lines.proofs.ByLines.{lines_of-are_lines, length-lines_of, lines_of-flat_map, flat_map-lines_of, is_ended-flat_map, length-le-flat_map}
 use Rattle.intaglio_lines.proofs.Numbers.{digits-from_number, IsLine-digits, is_number-decimal, number-decimal, decimal-number}
 
@@ -115,7 +115,7 @@ reads-symbols symbols spellings bytes read =
     ap (λ t. map (digits_value 10) (before_first is_blank t)) read.lines
     ∙ ap (map (digits_value 10)) (before-blank (map decimal symbols) spellings (written-decimal symbols read.small)) ∙ numbers-decimal symbols read.small
 
-reads-spellings : (symbols : List ℕ) (spellings : List (List ℕ)) (bytes : List ℕ) → Reads symbols spellings bytes → strings_of bytes ≡ spellings
+reads-spellings : (symbols : List ℕ) (spellings : List (List ℕ)) (bytes : List ℕ) → Reads symbols spellings bytes → spellings_of bytes ≡ spellings
 reads-spellings symbols spellings bytes read =
     ap (after_first is_blank) read.lines ∙ after-blank (map decimal symbols) spellings (written-decimal symbols read.small)
 
@@ -147,8 +147,8 @@ no-fault bytes symbols spellings few holds =
     let any : list_any is_blank (lines_of bytes) ≡ true = ap (list_any is_blank) read.lines ∙ any-blank (map decimal symbols) spellings in
     let front : symbol_lines bytes ≡ map decimal symbols = ap (before_first is_blank) read.lines ∙ before-blank (map decimal symbols) spellings written in
     let ended : is_ended bytes ≡ true = ap is_ended read.whole ∙ is_ended-flat_map (output_lines symbols spellings) in
-    let count : string_count bytes ≡ Some (length spellings) = rw (any, reads-spellings symbols spellings bytes read) refl in
-    let first : first_fault (string_count bytes) 1 (symbol_lines bytes) ≡ None = rw (count, front) (first-right (length spellings) 1 symbols read.small read.known) in
+    let count : spelling_count bytes ≡ Some (length spellings) = rw (any, reads-spellings symbols spellings bytes read) refl in
+    let first : first_fault (spelling_count bytes) 1 (symbol_lines bytes) ≡ None = rw (count, front) (first-right (length spellings) 1 symbols read.small read.known) in
     rw (first, ended, any) refl
 
 or-none : (a b : Option Fault) → option_or a b ≡ None → (a ≡ None) × (b ≡ None)
@@ -203,27 +203,27 @@ all-back P [] ys all = all
 all-back P (x ∷ xs) ys all = all-back P xs ys all.1
 
 -- what has no fault holds the numbers of its lines, and its strings
-pub holds-read : (bytes : List ℕ) → length bytes < 2 ^ 64 → fault_of bytes ≡ None → Holds (map (digits_value 10) (symbol_lines bytes)) (strings_of bytes) bytes
+pub holds-read : (bytes : List ℕ) → length bytes < 2 ^ 64 → fault_of bytes ≡ None → Holds (map (digits_value 10) (symbol_lines bytes)) (spellings_of bytes) bytes
 holds-read bytes few none =
-    let parts = or-none (first_fault (string_count bytes) 1 (symbol_lines bytes)) (end_fault bytes) none in
+    let parts = or-none (first_fault (spelling_count bytes) 1 (symbol_lines bytes)) (end_fault bytes) none in
     let end = end-none (is_ended bytes) (list_any is_blank (lines_of bytes)) Fault.not_ended Fault.no_empty_line parts.1 in
-    let count : string_count bytes ≡ Some (length (strings_of bytes)) = rw end.1 refl in
-    let first : first_fault (Some (length (strings_of bytes))) 1 (symbol_lines bytes) ≡ None = ap (λ t. first_fault t 1 (symbol_lines bytes)) (sym count) ∙ parts.0 in
-    let known = known-lines (length (strings_of bytes)) 1 (symbol_lines bytes) first in
+    let count : spelling_count bytes ≡ Some (length (spellings_of bytes)) = rw end.1 refl in
+    let first : first_fault (Some (length (spellings_of bytes))) 1 (symbol_lines bytes) ≡ None = ap (λ t. first_fault t 1 (symbol_lines bytes)) (sym count) ∙ parts.0 in
+    let known = known-lines (length (spellings_of bytes)) 1 (symbol_lines bytes) first in
     let split = at-blank (lines_of bytes) end.1 in
-    let fits : length (strings_of bytes) < 2 ^ 64 = omega (arith, length-lines_of bytes, length-drop (position_or_len is_blank (lines_of bytes) + 1) (lines_of bytes)) in
-    let numbers : map decimal (map (digits_value 10) (symbol_lines bytes)) ≡ symbol_lines bytes = decimal-lines (length (strings_of bytes)) (symbol_lines bytes) fits known in
+    let fits : length (spellings_of bytes) < 2 ^ 64 = omega (arith, length-lines_of bytes, length-drop (position_or_len is_blank (lines_of bytes) + 1) (lines_of bytes)) in
+    let numbers : map decimal (map (digits_value 10) (symbol_lines bytes)) ≡ symbol_lines bytes = decimal-lines (length (spellings_of bytes)) (symbol_lines bytes) fits known in
     let ended : with_last_line_ended bytes ≡ bytes = rw end.0 refl in
-    let again : lines_of bytes ≡ output_lines (map (digits_value 10) (symbol_lines bytes)) (strings_of bytes) = split ∙ ap (λ t. t ++ [] ∷ strings_of bytes) (sym numbers) in
+    let again : lines_of bytes ≡ output_lines (map (digits_value 10) (symbol_lines bytes)) (spellings_of bytes) = split ∙ ap (λ t. t ++ [] ∷ spellings_of bytes) (sym numbers) in
     record {
-      whole = sym ended ∙ sym (flat_map-lines_of bytes) ∙ ap (flat_map spelling_line) again ∙ sym (output-lines (map (digits_value 10) (symbol_lines bytes)) (strings_of bytes));
-      lines = All-from_recursion IsLine (strings_of bytes) (all-back IsLine (symbol_lines bytes ++ [] ∷ []) (strings_of bytes) (subst (AllByRecursion IsLine) (split ∙ sym (append_assoc (symbol_lines bytes) ([] ∷ []) (strings_of bytes))) (lines_of-are_lines bytes)));
-      known = All-from_recursion (λ symbol. symbol < length (strings_of bytes)) (map (digits_value 10) (symbol_lines bytes)) (known-numbers (length (strings_of bytes)) (symbol_lines bytes) known);
+      whole = sym ended ∙ sym (flat_map-lines_of bytes) ∙ ap (flat_map spelling_line) again ∙ sym (output-lines (map (digits_value 10) (symbol_lines bytes)) (spellings_of bytes));
+      lines = All-from_recursion IsLine (spellings_of bytes) (all-back IsLine (symbol_lines bytes ++ [] ∷ []) (spellings_of bytes) (subst (AllByRecursion IsLine) (split ∙ sym (append_assoc (symbol_lines bytes) ([] ∷ []) (spellings_of bytes))) (lines_of-are_lines bytes)));
+      known = All-from_recursion (λ symbol. symbol < length (spellings_of bytes)) (map (digits_value 10) (symbol_lines bytes)) (known-numbers (length (spellings_of bytes)) (symbol_lines bytes) known);
     }
 
 pub faults-exact : (bytes : List ℕ) → length bytes < 2 ^ 64
     → (fault_of bytes ≡ None) ↔ ((symbols : List ℕ) × (spellings : List (List ℕ)) × Holds symbols spellings bytes)
 faults-exact bytes few = (
-  λ none. (map (digits_value 10) (symbol_lines bytes), strings_of bytes, holds-read bytes few none),
+  λ none. (map (digits_value 10) (symbol_lines bytes), spellings_of bytes, holds-read bytes few none),
   λ held. no-fault bytes held.0 held.1 few held.2,
 )

@@ -16,15 +16,15 @@ pub record Holds (symbols : List ℕ) (spellings : List (List ℕ)) (bytes : Lis
   pub known : All (λ symbol. symbol < length spellings) symbols
 
 -- the spelling of each symbol, and byte 10 behind it
-abbrev pub restored : List ℕ → List (List ℕ) → List ℕ
-restored symbols spellings = flat_map (λ symbol. spelling_line (slice_index_or spellings symbol [])) symbols
+abbrev pub decoded : List ℕ → List (List ℕ) → List ℕ
+decoded symbols spellings = flat_map (λ symbol. spelling_line (slice_index_or spellings symbol [])) symbols
 
 -- the bytes are well formed, and are decoded to this output
 pub record Decodes (bytes output : List ℕ) : Type 0 where
   pub symbols : List ℕ
   pub spellings : List (List ℕ)
   pub holds : Holds symbols spellings bytes
-  pub same : output ≡ restored symbols spellings
+  pub same : output ≡ decoded symbols spellings
 
 -- known bytes grow by what the bytes are decoded to
 abbrev pub AppendsDecoded : List ℕ → Option (List ℕ) → Option (List ℕ) → Type 0

@@ -8,9 +8,9 @@ use Rattle.intaglio_lines.specs.Lines.{lines_of}
 use Rattle.intaglio_lines.specs.Decoded.{is_ended}
 
 pub data Fault : Type 0 where
-  -- the line of this number, counted from 1, is to be a symbol and is no number
+  -- the line at this place, counted from 1, is to be a symbol and is no number
   not_a_number : ℕ → Fault
-  -- there is no string of the number that the line of this number is
+  -- the line at this place is this number, and there is no spelling of it
   no_string : ℕ → List ℕ → Fault
   -- no line is empty
   no_empty_line : Fault
@@ -25,12 +25,12 @@ abbrev pub symbol_lines : List ℕ → List (List ℕ)
 symbol_lines bytes = before_first is_blank (lines_of bytes)
 
 -- the lines behind the first empty one
-abbrev pub strings_of : List ℕ → List (List ℕ)
-strings_of bytes = after_first is_blank (lines_of bytes)
+abbrev pub spellings_of : List ℕ → List (List ℕ)
+spellings_of bytes = after_first is_blank (lines_of bytes)
 
--- how many strings there are, if an empty line shows where they begin
-abbrev pub string_count : List ℕ → Option ℕ
-string_count bytes = if list_any is_blank (lines_of bytes) then Some (length (strings_of bytes)) else None
+-- how many spellings there are, if an empty line shows where they begin
+abbrev pub spelling_count : List ℕ → Option ℕ
+spelling_count bytes = if list_any is_blank (lines_of bytes) then Some (length (spellings_of bytes)) else None
 
 -- one decimal digit, or several of which the first isn't 0
 abbrev pub is_number : List ℕ → Bool
@@ -38,22 +38,22 @@ is_number [] = false
 is_number (digit ∷ []) = all_ascii_digits (digit ∷ [])
 is_number (digit ∷ next ∷ more) = not (digit == 48) && all_ascii_digits (digit ∷ next ∷ more)
 
--- whether a number is known to be none of so many strings
+-- whether a number is known to be none of so many spellings
 abbrev pub is_beyond : Option ℕ → ℕ → Bool
 is_beyond None number = false
 is_beyond (Some count) number = not (nat_lt number count)
 
--- what is wrong with the line of this number
+-- what is wrong with the line at this place
 abbrev pub line_fault : Option ℕ → ℕ → List ℕ → Option Fault
-line_fault count number line =
-    if not (is_number line) then Some (not_a_number number)
-    else if is_beyond count (digits_value 10 line) then Some (no_string number line)
+line_fault count place line =
+    if not (is_number line) then Some (not_a_number place)
+    else if is_beyond count (digits_value 10 line) then Some (no_string place line)
     else None
 
--- the first fault of lines that are counted from this number on
+-- the first fault of lines, of which the first is at this place
 abbrev pub first_fault : Option ℕ → ℕ → List (List ℕ) → Option Fault
-first_fault count number [] = None
-first_fault count number (line ∷ more) = option_or (line_fault count number line) (first_fault count (number + 1) more)
+first_fault count place [] = None
+first_fault count place (line ∷ more) = option_or (line_fault count place line) (first_fault count (place + 1) more)
 
 -- what is wrong with the end of bytes whose symbols are right
 abbrev pub end_fault : List ℕ → Option Fault
@@ -64,8 +64,8 @@ end_fault bytes =
 
 -- what is wrong with the first line that is wrong
 abbrev pub fault_of : List ℕ → Option Fault
-fault_of bytes = option_or (first_fault (string_count bytes) 1 (symbol_lines bytes)) (end_fault bytes)
+fault_of bytes = option_or (first_fault (spelling_count bytes) 1 (symbol_lines bytes)) (end_fault bytes)
 
--- each line is the number of one of so many strings
+-- each line is the number of one of so many spellings
 abbrev pub AreKnown : ℕ → List (List ℕ) → Type 0
 AreKnown count lines = AllByRecursion (λ line. (is_number line ≡ true) × (digits_value 10 line < count)) lines

@@ -6,7 +6,7 @@ use Rattle.intaglio_core.specs.State.{key_eq, Distinct}
 use Rattle.intaglio_lines.specs.Lines.{lines_of}
 use Rattle.intaglio_lines.specs.Kind.{key_of}
 use Rattle.intaglio_lines.specs.Encoded.{encoded, spelling_line}
-use Rattle.intaglio_lines.specs.Decoded.{Holds, Decodes, restored, with_last_line_ended}
+use Rattle.intaglio_lines.specs.Decoded.{Holds, Decodes, decoded, with_last_line_ended}
 use Rattle.intaglio_lines.specs.Fault.{fault_of}
 use Rattle.intaglio_lines.specs.declared.kind.Kind.{Kind}
 use Rattle.intaglio_lines.specs.declared.kind.Kind.TheVariants.{Path}
@@ -36,29 +36,29 @@ FaultsAreExact = (bytes : List ℕ) → length bytes < 2 ^ 64
 
 -- bytes hold one list of symbols and one of spellings at most
 abbrev pub IsReadInOneWay : Type 0
-IsReadInOneWay = (bytes symbols others : List ℕ) (spellings strings : List (List ℕ)) → length bytes < 2 ^ 64
-    → Holds symbols spellings bytes → Holds others strings bytes → (symbols ≡ others) × (spellings ≡ strings)
+IsReadInOneWay = (bytes symbols others : List ℕ) (spellings others_spelled : List (List ℕ)) → length bytes < 2 ^ 64
+    → Holds symbols spellings bytes → Holds others others_spelled bytes → (symbols ≡ others) × (spellings ≡ others_spelled)
 
 -- what is encoded is decoded to each line in the spelling of the first line that is equal to it
-abbrev pub RestoresFirstSpellings : Type 0
-RestoresFirstSpellings = (kind : Kind) (input : List ℕ)
+abbrev pub DecodingGivesFirstSpellings : Type 0
+DecodingGivesFirstSpellings = (kind : Kind) (input : List ℕ)
     → Decodes (encoded kind input) (flat_map spelling_line (first_spellings (key_of kind) (lines_of input)))
 
 -- that is the input itself, its last line ended, of each kind but paths
-abbrev pub RestoresInput : Type 0
-RestoresInput = (kind : Kind) (input : List ℕ) → kind ≢ Path → Decodes (encoded kind input) (with_last_line_ended input)
+abbrev pub DecodingGivesInput : Type 0
+DecodingGivesInput = (kind : Kind) (input : List ℕ) → kind ≢ Path → Decodes (encoded kind input) (with_last_line_ended input)
 
 -- and of each kind it has the keys of the input's lines, line by line: of paths, their components
-abbrev pub RestoresKeys : Type 0
-RestoresKeys = (kind : Kind) (input : List ℕ)
+abbrev pub DecodingKeepsKeys : Type 0
+DecodingKeepsKeys = (kind : Kind) (input : List ℕ)
     → (output : List ℕ) × Decodes (encoded kind input) output × (map (key_of kind) (lines_of output) ≡ map (key_of kind) (lines_of input))
 
 -- what is encoded holds issued symbols
-abbrev pub EncodesInOrder : Type 0
-EncodesInOrder = (kind : Kind) (input : List ℕ)
+abbrev pub EncodingIsInOrder : Type 0
+EncodingIsInOrder = (kind : Kind) (input : List ℕ)
     → (symbols : List ℕ) × (spellings : List (List ℕ)) × Holds symbols spellings (encoded kind input) × IsIssued kind symbols spellings
 
 -- and what holds issued symbols is what its decoded output is encoded to
-abbrev pub EncodesRestored : Type 0
-EncodesRestored = (kind : Kind) (symbols : List ℕ) (spellings : List (List ℕ)) (bytes : List ℕ)
-    → Holds symbols spellings bytes → IsIssued kind symbols spellings → encoded kind (restored symbols spellings) ≡ bytes
+abbrev pub EncodingGivesBytes : Type 0
+EncodingGivesBytes = (kind : Kind) (symbols : List ℕ) (spellings : List (List ℕ)) (bytes : List ℕ)
+    → Holds symbols spellings bytes → IsIssued kind symbols spellings → encoded kind (decoded symbols spellings) ≡ bytes

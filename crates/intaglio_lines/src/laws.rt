@@ -1,7 +1,7 @@
 //! What holds of encoded outputs and of what they are decoded to.
 //!
 //! The calls do nothing: the contract of each is a law.
-ghost use Rattle.intaglio_lines.specs.Laws.{FaultsAreExact, IsReadInOneWay, RestoresFirstSpellings, RestoresInput, RestoresKeys, EncodesInOrder, EncodesRestored};
+ghost use Rattle.intaglio_lines.specs.Laws.{FaultsAreExact, IsReadInOneWay, DecodingGivesFirstSpellings, DecodingGivesInput, DecodingKeepsKeys, EncodingIsInOrder, EncodingGivesBytes};
 
 /// Bytes have no fault exactly if they are well formed: symbols in decimal, an empty line, and
 /// strings, each line ended and each symbol the number of a string.
@@ -17,27 +17,27 @@ pub fn bytes_are_read_in_one_way()
 /// Decoding an encoded input gives each of its lines in the spelling of the first line that is equal
 /// to it, byte 10 after each.
 pub fn decoding_gives_first_spellings()
-    ensures { RestoresFirstSpellings }
+    ensures { DecodingGivesFirstSpellings }
 {}
 
 /// Decoding an encoded input gives the input, its last line ended, of each kind but paths.
 pub fn decoding_gives_the_input()
-    ensures { RestoresInput }
+    ensures { DecodingGivesInput }
 {}
 
 /// Decoding an encoded input gives as many lines with the same keys: of paths, the same components.
 pub fn decoding_keeps_keys()
-    ensures { RestoresKeys }
+    ensures { DecodingKeepsKeys }
 {}
 
 /// An encoded output is well formed, its symbols are issued in order, and no two of its strings are
 /// equal.
 pub fn encoding_is_in_order()
-    ensures { EncodesInOrder }
+    ensures { EncodingIsInOrder }
 {}
 
 /// Encoding what well-formed bytes are decoded to gives those bytes, where their symbols are issued in
 /// order and no two of their strings are equal.
 pub fn encoding_gives_the_bytes()
-    ensures { EncodesRestored }
+    ensures { EncodingGivesBytes }
 {}

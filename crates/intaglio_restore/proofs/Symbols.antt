@@ -6,8 +6,8 @@ use Rattle.std.specs.Str.Parse.{digits_value}
 use Rattle.std.proofs.lemmas.List.{get_or-map}
 use Rattle.intaglio_lines.specs.Lines.{lines_of}
 use Rattle.intaglio_lines.specs.Encoded.{spelling_line}
-use Rattle.intaglio_lines.specs.Decoded.{Holds, restored, is_ended}
-use Rattle.intaglio_lines.specs.Fault.{Fault, is_blank, is_number, symbol_lines, strings_of, string_count, line_fault, first_fault, fault_of, AreKnown}
+use Rattle.intaglio_lines.specs.Decoded.{Holds, decoded, is_ended}
+use Rattle.intaglio_lines.specs.Fault.{Fault, is_blank, is_number, symbol_lines, spellings_of, spelling_count, line_fault, first_fault, fault_of, AreKnown}
 use Rattle.intaglio_lines.proofs.Reading.{holds-read}
 use Rattle.intaglio_restore.specs.RestoreError.{Reports}
 use Rattle.intaglio_restore.specs.declared.error.RestoreError.{RestoreError}
@@ -51,35 +51,35 @@ module _ (bytes line after : List ℕ) (lines : lines_of bytes ≡ line ∷ line
   known-more count known = subst (AreKnown count) (symbol_lines-more bytes line after lines written) known
 
   -- what the symbols stand for begins with what the first one stands for
-  pub restored-more : (strings : List (List ℕ)) (done : List ℕ)
-      → (done ++ spelling_line (get_or strings (digits_value 10 line) [])) ++ restored (map (digits_value 10) (symbol_lines after)) strings
-      ≡ done ++ restored (map (digits_value 10) (symbol_lines bytes)) strings
-  restored-more strings done =
-      append_assoc done (spelling_line (get_or strings (digits_value 10 line) [])) (restored (map (digits_value 10) (symbol_lines after)) strings)
-      ∙ ap (λ t. done ++ restored (map (digits_value 10) t) strings) (sym (symbol_lines-more bytes line after lines written))
+  pub decoded-more : (spellings : List (List ℕ)) (done : List ℕ)
+      → (done ++ spelling_line (get_or spellings (digits_value 10 line) [])) ++ decoded (map (digits_value 10) (symbol_lines after)) spellings
+      ≡ done ++ decoded (map (digits_value 10) (symbol_lines bytes)) spellings
+  decoded-more spellings done =
+      append_assoc done (spelling_line (get_or spellings (digits_value 10 line) [])) (decoded (map (digits_value 10) (symbol_lines after)) spellings)
+      ∙ ap (λ t. done ++ decoded (map (digits_value 10) t) spellings) (sym (symbol_lines-more bytes line after lines written))
 
--- the number that a known line says, and the string of that number
+-- the number that a known line says, and the spelling of that number
 pub number-known : (line : List ℕ) (result : Option ℕ) → result ≡ cond (is_number line) (Some (min (digits_value 10 line) (2 ^ 64 - 1))) None
     → is_number line ≡ true → result ≡ Some (min (digits_value 10 line) (2 ^ 64 - 1))
 number-known line result gives is = rw is at gives
 
-pub string-at : (strings : List (Bor (List ℕ))) (number symbol : ℕ) (string : Bor (List ℕ)) → symbol ≡ min number (2 ^ 64 - 1) → number < length strings → length strings < 2 ^ 64
-    → string ≡ get_or strings symbol string → string.now ≡ get_or (map (λ s. s.now) strings) number []
-string-at strings number symbol string is below few at =
+pub spelling-at : (spellings : List (Bor (List ℕ))) (number symbol : ℕ) (spelling : Bor (List ℕ)) → symbol ≡ min number (2 ^ 64 - 1) → number < length spellings → length spellings < 2 ^ 64
+    → spelling ≡ get_or spellings symbol spelling → spelling.now ≡ get_or (map (λ s. s.now) spellings) number []
+spelling-at spellings number symbol spelling is below few at =
     let same : symbol ≡ number = omega arith in
-    ap (λ s. s.now) (rw same at at) ∙ sym (get_or-map (λ (s : Bor (List ℕ)). s.now) strings number string [] below)
+    ap (λ s. s.now) (rw same at at) ∙ sym (get_or-map (λ (s : Bor (List ℕ)). s.now) spellings number spelling [] below)
 
 -- what is wrong with nothing isn't wrong
-pub no-fault-read : (bytes : List ℕ) → list_any is_blank (lines_of bytes) ≡ true → first_fault (Some (length (strings_of bytes))) 1 (symbol_lines bytes) ≡ None
+pub no-fault-read : (bytes : List ℕ) → list_any is_blank (lines_of bytes) ≡ true → first_fault (Some (length (spellings_of bytes))) 1 (symbol_lines bytes) ≡ None
     → is_ended bytes ≡ true → fault_of bytes ≡ None
 no-fault-read bytes any first ended =
-    let count : string_count bytes ≡ Some (length (strings_of bytes)) = rw any refl in
-    let front : first_fault (string_count bytes) 1 (symbol_lines bytes) ≡ None = ap (λ t. first_fault t 1 (symbol_lines bytes)) count ∙ first in
+    let count : spelling_count bytes ≡ Some (length (spellings_of bytes)) = rw any refl in
+    let front : first_fault (spelling_count bytes) 1 (symbol_lines bytes) ≡ None = ap (λ t. first_fault t 1 (symbol_lines bytes)) count ∙ first in
     rw (front, ended, any) refl
 
 -- and is read whole
-pub holds-parts : (bytes : List ℕ) (strings : List (List ℕ)) → length bytes < 2 ^ 64 → list_any is_blank (lines_of bytes) ≡ true → strings ≡ strings_of bytes
-    → first_fault (Some (length strings)) 1 (symbol_lines bytes) ≡ None → is_ended bytes ≡ true → Holds (map (digits_value 10) (symbol_lines bytes)) strings bytes
-holds-parts bytes strings few any same first ended =
+pub holds-parts : (bytes : List ℕ) (spellings : List (List ℕ)) → length bytes < 2 ^ 64 → list_any is_blank (lines_of bytes) ≡ true → spellings ≡ spellings_of bytes
+    → first_fault (Some (length spellings)) 1 (symbol_lines bytes) ≡ None → is_ended bytes ≡ true → Holds (map (digits_value 10) (symbol_lines bytes)) spellings bytes
+holds-parts bytes spellings few any same first ended =
     subst (λ t. Holds (map (digits_value 10) (symbol_lines bytes)) t bytes) (sym same)
     (holds-read bytes few (no-fault-read bytes any (ap (λ t. first_fault (Some (length t)) 1 (symbol_lines bytes)) (sym same) ∙ first) ended))

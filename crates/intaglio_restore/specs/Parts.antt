@@ -8,10 +8,10 @@ use Rattle.intaglio_restore.specs.declared.parts.Parts.{Parts}
 abbrev pub symbols_in : Parts → List ℕ
 symbols_in parts = map (digits_value 10) (symbol_lines parts.bytes.now)
 
--- the string of each number
-abbrev pub strings_in : Parts → List (List ℕ)
-strings_in parts = map (λ string. string.now) parts.strings.items
+-- the spelling of each number
+abbrev pub spellings_in : Parts → List (List ℕ)
+spellings_in parts = map (λ spelling. spelling.now) parts.spellings.items
 
--- each symbol is the number of a string
+-- each symbol is the number of a spelling
 abbrev pub AreSound : Parts → Type 0
-AreSound parts = AreKnown (length (strings_in parts)) (symbol_lines parts.bytes.now)
+AreSound parts = AreKnown (length (spellings_in parts)) (symbol_lines parts.bytes.now)

@@ -13,7 +13,7 @@ pub enum RestoreError {
     /// This line is to be a symbol, and is no decimal number without sign and leading zeros.
     #[error("line {0}: not a number")]
     NotANumber(u64),
-    /// The input has no string of the number that a line is.
+    /// There is no string of the number that a line is.
     #[error("line {line}: no string {number}")]
     NoString {
         /// The line's number.
@@ -21,14 +21,14 @@ pub enum RestoreError {
         /// What the line says.
         number: String,
     },
-    /// No line is empty, so that the input has no strings.
+    /// No line is empty, so that there are no strings.
     #[error("no empty line")]
     NoEmptyLine,
     /// There is no byte 10 behind the last line.
     #[error("last line not ended")]
     NotEnded,
     /// The input wasn't read, or the output wasn't written.
-    #[error("{0}")]
+    #[error(transparent)]
     Stream(StreamError),
 }
 

@@ -2,9 +2,9 @@
 ghost use Rattle.std.specs.Prelude.{◌≡◌, map, is_some, None, OnOk, IfOk, IfErr, IfSome};
 ghost use Rattle.std.specs.List.{list_any};
 ghost use Rattle.intaglio_lines.specs.Lines.{lines_of};
-ghost use Rattle.intaglio_lines.specs.Decoded.{Holds, restored, is_ended};
-ghost use Rattle.intaglio_lines.specs.Fault.{fault_of, first_fault, line_fault, is_blank, strings_of, symbol_lines};
-ghost use Rattle.intaglio_restore.specs.Parts.{symbols_in, strings_in, AreSound};
+ghost use Rattle.intaglio_lines.specs.Decoded.{Holds, decoded, is_ended};
+ghost use Rattle.intaglio_lines.specs.Fault.{fault_of, first_fault, line_fault, is_blank, spellings_of, symbol_lines};
+ghost use Rattle.intaglio_restore.specs.Parts.{symbols_in, spellings_in, AreSound};
 ghost use Rattle.intaglio_restore.specs.RestoreError.{IsParsingError, Reports};
 
 use crate::error::RestoreError;
@@ -15,13 +15,13 @@ use std::alloc::{AllocError, Global};
 use std::io;
 use std::io::Write;
 
-/// The symbols of an encoded output, and its strings.
+/// The symbols of an encoded output, and its spellings.
 #[derive(Drop)]
 pub struct Parts<'a> {
     // The output. Its lines in front of the first empty one are the symbols.
     bytes: &'a [u8],
-    // The string of each number.
-    strings: Vec<&'a [u8]>,
+    // The spelling of each number.
+    spellings: Vec<&'a [u8]>,
 }
 
 /// Takes an encoded output apart.
@@ -30,7 +30,7 @@ pub struct Parts<'a> {
 ///
 /// What is wrong with the first line that is wrong, or `Memory`.
 pub fn parse(alloc: Global, bytes: &[u8]) -> Result<Parts<'_>, RestoreError>
-    ensures holds { IfOk result (λ parts. Holds (symbols_in parts) (strings_in parts) bytes.now) }
+    ensures holds { IfOk result (λ parts. Holds (symbols_in parts) (spellings_in parts) bytes.now) }
     ensures sound { IfOk result AreSound }
     ensures right { OnOk result (fault_of bytes.now ≡ None) }
     ensures fault { IfErr result (λ e. Reports e (fault_of bytes.now)) }
@@ -44,18 +44,18 @@ pub fn parse(alloc: Global, bytes: &[u8]) -> Result<Parts<'_>, RestoreError>
             RestoreError::NotEnded
         });
     };
-    let strings = lines(alloc, behind)?;
-    check_symbols(alloc, bytes, Some(strings.len() as u64))?;
+    let spellings = lines(alloc, behind)?;
+    check_symbols(alloc, bytes, Some(spellings.len() as u64))?;
     if !ends_line(bytes) {
         return Err(RestoreError::NotEnded);
     }
-    Ok(Parts { bytes, strings })
+    Ok(Parts { bytes, spellings })
 }
 
 // What stands behind the first empty line.
 fn behind_blank(bytes: &[u8]) -> Option<&[u8]>
     ensures any { is_some result ≡ list_any is_blank (lines_of bytes.now) }
-    ensures behind { IfSome result (λ behind. lines_of behind.now ≡ strings_of bytes.now) }
+    ensures behind { IfSome result (λ behind. lines_of behind.now ≡ spellings_of bytes.now) }
 {
     let mut rest = bytes;
     while !rest.is_empty() {
@@ -83,7 +83,7 @@ fn lines(alloc: Global, bytes: &[u8]) -> Result<Vec<&[u8]>, AllocError>
     Ok(lines)
 }
 
-// Whether each symbol is a number, and that of one of so many strings.
+// Whether each symbol is a number, and below the count of spellings where that is known.
 fn check_symbols(alloc: Global, bytes: &[u8], count: Option<u64>) -> Result<(), RestoreError>
     ensures right { OnOk result (first_fault count 1 (symbol_lines bytes.now) ≡ None) }
     ensures fault { IfErr result (λ e. Reports e (first_fault count 1 (symbol_lines bytes.now))) }
@@ -137,7 +137,7 @@ fn ends_line(bytes: &[u8]) -> bool
 }
 
 impl Output for Parts<'_> {
-    ghost bytes = { λ parts. restored (symbols_in parts) (strings_in parts) };
+    ghost bytes = { λ parts. decoded (symbols_in parts) (spellings_in parts) };
 
     ghost is_ready = { λ parts. AreSound parts };
 
@@ -149,7 +149,7 @@ impl Output for Parts<'_> {
                 return Ok(());
             }
             let symbol = number_of(line).unwrap();
-            put_line(self.strings[symbol as usize], block, writer)?;
+            put_line(self.spellings[symbol as usize], block, writer)?;
             rest = after;
         }
         Ok(())

@@ -2,17 +2,17 @@
 use Rattle.std.proofs.Common.{◌≡◌, ℕ, List, ◌++◌, length, map}
 use Rattle.std.specs.Io.KnownBytes.{Appends, append_known}
 use Rattle.std.specs.Str.Parse.{digits_value}
-use Rattle.intaglio_lines.specs.Decoded.{restored}
+use Rattle.intaglio_lines.specs.Decoded.{decoded}
 use Rattle.intaglio_lines.specs.Fault.{symbol_lines, AreKnown}
 use Rattle.intaglio_restore.proofs.parts.PartsOutput.put_all.Given as goal
 
 abbrev pub invariant-loop-rest : goal.invariant-loop-rest
 invariant-loop-rest g l =
-    let strings = map (λ string. string.now) l.self.strings.items in
+    let spellings = map (λ spelling. spelling.now) l.self.spellings.items in
     record {
-      known : AreKnown (length strings) (symbol_lines l.rest);
+      known : AreKnown (length spellings) (symbol_lines l.rest);
       put : (done : List ℕ) × Appends (append_known (g.W.Write.contents l.initial.writer) l.initial.block.items) (append_known (g.W.Write.contents l.writer) l.block.items) done
-          × (done ++ restored (map (digits_value 10) (symbol_lines l.rest)) strings ≡ restored (map (digits_value 10) (symbol_lines l.self.bytes.now)) strings);
+          × (done ++ decoded (map (digits_value 10) (symbol_lines l.rest)) spellings ≡ decoded (map (digits_value 10) (symbol_lines l.self.bytes.now)) spellings);
     }
 
 abbrev pub decreases-loop-rest : goal.decreases-loop-rest
