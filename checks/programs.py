@@ -6,10 +6,14 @@ SOURCE = "checks/refuse.c"
 BUILDS = ("", ".by-rattle")  # the two compilers' executables
 OUT_OF_MEMORY = (1, b"", ["out of memory"])
 
-# Words of the program, an input that each takes, and what it writes for it.
+PROGRAMS = ("intaglio_tool", "intaglio_restore")
+
+# Words of the first program, an input that each takes, and what it writes for it.
 LINES = (b"b\na\nb", b"0\n1\n0\n\nb\na\n")
 MODES = {word: LINES for word in ("text", "bytes", "bstr", "cstr", "osstr")}
 MODES["path"] = (b"a//b\na/b\n", b"0\n0\n\na//b\n")
+# An input of the second program, and what it writes for it.
+ENCODED = (b"0\n1\n0\n\nb\na\n", b"b\na\nb\n")
 
 
 def compiler():
@@ -39,6 +43,12 @@ def program(name, build):
 def modes(tool):
     """The modes that the program takes: other words end in status 2."""
     return [word for word in MODES if run([tool, word])[0] != 2]
+
+
+def commands(build):
+    """What is run of the programs: the command, an input, and what it writes for it."""
+    tool, restore = (program(name, build) for name in PROGRAMS)
+    return [([tool, mode], *MODES[mode]) for mode in modes(tool)] + [([restore], *ENCODED)]
 
 
 def judge(checks, names):
