@@ -46,6 +46,12 @@ def build_tool(top):
     return top / "crates/intaglio_tool/out/intaglio_tool"
 
 
+def build_restore(top):
+    """Proves and builds the program in crates/intaglio_restore, which is run on the least input that is well formed."""
+    run(["rt", "run"], top / "crates/intaglio_restore", given="\n")
+    return top / "crates/intaglio_restore/out/intaglio_restore"
+
+
 def build_twin(top, scratch, upstream, name="twin"):
     """Lays the Rust crate out in the scratch folder, and builds the twin's program of that name over it."""
     crate = scratch / "intaglio"
@@ -77,13 +83,13 @@ def hashbrown():
     return next((path.name for path in sorted(REGISTRY.glob("hashbrown-0.12.*"))), None)
 
 
-def run(command, folder, more=None):
+def run(command, folder, more=None, given=""):
     """Runs a command, and ends with what it said where it fails."""
     done = subprocess.run(
         command,
         cwd=folder,
         env=os.environ | (more or {}),
-        stdin=subprocess.DEVNULL,
+        input=given,
         capture_output=True,
         text=True,
     )
