@@ -5,3 +5,4 @@ pub mod Numbers
 pub mod Reading
 pub mod FirstEqual
 pub mod InOrder
+pub mod Input

@@ -11,7 +11,7 @@ use Rattle.std.proofs.lemmas.List.Elements.{All-from_recursion, recursion_from_A
 use Rattle.std.proofs.lemmas.Bool.{or_right}
 use Rattle.intaglio_lines.specs.Lines.{lines_of}
 use Rattle.intaglio_lines.specs.Encoded.{number_line, spelling_line, output_of}
-use Rattle.intaglio_lines.specs.Decoded.{IsLine, Holds, is_ended, with_last_line_ended}
+use Rattle.intaglio_lines.specs.Decoded.{IsLine, Holds, Decodes, decoded, is_ended, with_last_line_ended}
 use Rattle.intaglio_lines.specs.Fault.{Fault, is_blank, symbol_lines, spellings_of, spelling_count, is_number, line_fault, first_fault, end_fault, fault_of, AreKnown}
 use Rattle.intaglio_lines.proofs.ByLines.{lines_of-are_lines, length-lines_of, lines_of-flat_map, flat_map-lines_of, is_ended-flat_map, length-le-flat_map}
 use Rattle.intaglio_lines.proofs.Numbers.{digits-from_number, IsLine-digits, is_number-decimal, number-decimal, decimal-number}
@@ -128,6 +128,12 @@ one-reading bytes symbols others spellings strings few left right =
       sym (reads-symbols symbols spellings bytes a) ∙ reads-symbols others strings bytes b,
       sym (reads-spellings symbols spellings bytes a) ∙ reads-spellings others strings bytes b,
     )
+
+-- and decoded in one way
+pub one-output : (bytes output other : List ℕ) → length bytes < 2 ^ 64 → Decodes bytes output → Decodes bytes other → output ≡ other
+one-output bytes output other few left right =
+    let same = one-reading bytes left.symbols right.symbols left.spellings right.spellings few left.holds right.holds in
+    left.same ∙ ap (λ t. decoded t left.spellings) same.0 ∙ ap (decoded right.symbols) same.1 ∙ sym right.same
 
 -- no line of known symbols is wrong
 line-right : (count number n : ℕ) → n < 2 ^ 64 → n < count → line_fault (Some count) number (decimal n) ≡ None

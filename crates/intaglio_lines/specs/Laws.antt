@@ -1,6 +1,7 @@
 -- What holds of encoded outputs.
-use Rattle.std.specs.Prelude.{◌≡◌, ◌≢◌, ◌↔◌, ℕ, ◌+◌, ◌^◌, ◌<◌, ◌≤◌, max, List, [], ◌∷◌, length, map, find, unwrap_or, None}
+use Rattle.std.specs.Prelude.{◌≡◌, ◌≢◌, ◌↔◌, ℕ, ◌+◌, ◌^◌, ◌<◌, ◌≤◌, max, List, [], ◌∷◌, length, map, drop, find, unwrap_or, None, Some}
 use Rattle.std.specs.List.{flat_map}
+use Rattle.std.specs.Io.KnownBytes.{Appends}
 use Rattle.intaglio_content.specs.Key.{Key}
 use Rattle.intaglio_core.specs.State.{key_eq, Distinct}
 use Rattle.intaglio_lines.specs.Lines.{lines_of}
@@ -39,6 +40,16 @@ abbrev pub IsReadInOneWay : Type 0
 IsReadInOneWay = (bytes symbols others : List ℕ) (spellings others_spelled : List (List ℕ)) → length bytes < 2 ^ 64
     → Holds symbols spellings bytes → Holds others others_spelled bytes → (symbols ≡ others) × (spellings ≡ others_spelled)
 
+-- so bytes are decoded to one output
+abbrev pub DecodingIsAFunction : Type 0
+DecodingIsAFunction = (bytes output other : List ℕ) → length bytes < 2 ^ 64 → Decodes bytes output → Decodes bytes other → output ≡ other
+
+-- and an input is encoded to one output: two runs that wrote behind these bytes what is promised wrote the same
+abbrev pub EncodingIsAFunction : Type 0
+EncodingIsAFunction = (kind : Kind) (input old new other_old other_new : List ℕ)
+    → Appends (Some old) (Some new) (encoded kind input) → Appends (Some other_old) (Some other_new) (encoded kind input)
+    → drop (length old) new ≡ drop (length other_old) other_new
+
 -- what is encoded is decoded to each line in the spelling of the first line that is equal to it
 abbrev pub DecodingGivesFirstSpellings : Type 0
 DecodingGivesFirstSpellings = (kind : Kind) (input : List ℕ)
@@ -48,7 +59,12 @@ DecodingGivesFirstSpellings = (kind : Kind) (input : List ℕ)
 abbrev pub DecodingGivesInput : Type 0
 DecodingGivesInput = (kind : Kind) (input : List ℕ) → kind ≢ Path → Decodes (encoded kind input) (with_last_line_ended input)
 
--- and of each kind it has the keys of the input's lines, line by line: of paths, their components
+-- so of each kind but paths, inputs that are encoded alike are alike, their last lines ended
+abbrev pub EncodingKeepsInput : Type 0
+EncodingKeepsInput = (kind : Kind) (input other : List ℕ) → kind ≢ Path → length (encoded kind input) < 2 ^ 64
+    → encoded kind input ≡ encoded kind other → with_last_line_ended input ≡ with_last_line_ended other
+
+-- of each kind what is decoded has the keys of the input's lines, line by line: of paths, their components
 abbrev pub DecodingKeepsKeys : Type 0
 DecodingKeepsKeys = (kind : Kind) (input : List ℕ)
     → (output : List ℕ) × Decodes (encoded kind input) output × (map (key_of kind) (lines_of output) ≡ map (key_of kind) (lines_of input))

@@ -1,7 +1,7 @@
 //! What holds of encoded outputs and of what they are decoded to.
 //!
 //! The calls do nothing: the contract of each is a law.
-ghost use Rattle.intaglio_lines.specs.Laws.{FaultsAreExact, IsReadInOneWay, DecodingGivesFirstSpellings, DecodingGivesInput, DecodingKeepsKeys, EncodingIsInOrder, EncodingGivesBytes};
+ghost use Rattle.intaglio_lines.specs.Laws.{FaultsAreExact, IsReadInOneWay, DecodingIsAFunction, EncodingIsAFunction, DecodingGivesFirstSpellings, DecodingGivesInput, EncodingKeepsInput, DecodingKeepsKeys, EncodingIsInOrder, EncodingGivesBytes};
 
 /// Bytes have no fault exactly if they are well formed: symbols in decimal, an empty line, and
 /// strings, each line ended and each symbol the number of a string.
@@ -14,6 +14,17 @@ pub fn bytes_are_read_in_one_way()
     ensures { IsReadInOneWay }
 {}
 
+/// What bytes are decoded to is a function of the bytes.
+pub fn decoding_is_a_function()
+    ensures { DecodingIsAFunction }
+{}
+
+/// What is written for an input is a function of the input and the kind: two runs that succeed write
+/// the same, whatever stood before it, and whatever tables and hashers they use.
+pub fn encoding_is_a_function()
+    ensures { EncodingIsAFunction }
+{}
+
 /// Decoding an encoded input gives each of its lines in the spelling of the first line that is equal
 /// to it, byte 10 after each.
 pub fn decoding_gives_first_spellings()
@@ -23,6 +34,11 @@ pub fn decoding_gives_first_spellings()
 /// Decoding an encoded input gives the input, its last line ended, of each kind but paths.
 pub fn decoding_gives_the_input()
     ensures { DecodingGivesInput }
+{}
+
+/// Inputs that are encoded alike are alike, their last lines ended, of each kind but paths.
+pub fn encoding_keeps_the_input()
+    ensures { EncodingKeepsInput }
 {}
 
 /// Decoding an encoded input gives as many lines with the same keys: of paths, the same components.

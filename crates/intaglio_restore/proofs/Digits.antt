@@ -31,7 +31,7 @@ more-digits bs i within is all =
     digits_more 10 bs i within all (omega (arith, range, digit-value (get_or bs i 0) is))
 
 pub more-value : (bs : List ℕ) (i value : ℕ) → i < length bs → is_ascii_digit (get_or bs i 0) ≡ true → value ≡ min (digits_value 10 (take i bs)) (2 ^ 64 - 1)
-    → min (min (value * 10) (2 ^ 64 - 1) + (get_or bs i 0 - 48)) (2 ^ 64 - 1) ≡ min (digits_value 10 (take (i + 1) bs)) (2 ^ 64 - 1)
+    → min (value * 10 + (get_or bs i 0 - 48)) (2 ^ 64 - 1) ≡ min (digits_value 10 (take (i + 1) bs)) (2 ^ 64 - 1)
 more-value bs i value within is so =
     omega (arith, so, digits_value_more 10 bs i within, digit-value (get_or bs i 0) is)
 

@@ -1,5 +1,6 @@
 //! The number that a line says.
-ghost use Rattle.std.specs.Prelude.{◌≡◌, ◌-◌, ◌^◌, min, if◌then◌else◌};
+ghost use Rattle.std.specs.Prelude.{◌≡◌, ◌+◌, ◌*◌, ◌-◌, ◌^◌, min, true, if◌then◌else◌};
+ghost use Rattle.std.specs.Char.{is_ascii_digit};
 ghost use Rattle.std.specs.Str.{all_ascii_digits};
 ghost use Rattle.std.specs.Str.Parse.{digits_value};
 ghost use Rattle.intaglio_lines.specs.Fault.{is_number};
@@ -26,9 +27,16 @@ fn value_of(digits: &[u8]) -> Option<u64>
         if !digit.is_ascii_digit() {
             return None;
         }
-        value = value
-            .saturating_mul(10)
-            .saturating_add(u64::from(*digit - b'0'));
+        value = with_digit(value, *digit);
     }
     Some(value)
+}
+
+// The number that these digits and one more say.
+fn with_digit(value: u64, digit: u8) -> u64
+    requires { is_ascii_digit digit ≡ true }
+    ensures { result ≡ min (value * 10 + (digit - 48)) (2 ^ 64 - 1) }
+{
+    let tens = value.saturating_mul(10);
+    tens.saturating_add(u64::from(digit - b'0'))
 }

@@ -40,7 +40,8 @@ pub fn encode<S: BuildHasher + Drop, R: Read, W: Write>(
     ensures written { OnOk result (IfSome (R.remaining reader.old) (λ input. Appends (W.contents writer.old) (W.contents writer.new) (encoded kind input))) }
     ensures all_read { OnOk result (IsAtEnd (R.remaining reader.new)) }
 
-    // Input that isn't UTF-8 is told exactly where the kind needs that and the end was met.
+    // Input that isn't UTF-8 is told exactly where the kind needs that and the end was met. No contract tells whether a reader
+    // was asked once more at its end, so that memory may have run out there: `encode_input` is exact.
     ensures not_utf8 { result ≡ Err NotUtf8 → IfSome (R.remaining reader.old) (λ input. ¬ (Allows kind input)) }
     ensures end_met { result ≡ Err NotUtf8 → IsAtEnd (R.remaining reader.new) }
     ensures refuses { IfSome (R.remaining reader.old) (λ input. ¬ (Allows kind input) → IsNotUtf8OrUnread result) }
@@ -53,11 +54,17 @@ pub fn encode<S: BuildHasher + Drop, R: Read, W: Write>(
     ensures nothing_written { IfErr result (λ e. e ≢ WriteFailed → writer.new ≡ writer.old) }
 {
     let input = read_all(alloc, reader)?;
-    encode_bytes(alloc, kind, builder, input, writer)
+    encode_input(alloc, kind, builder, input, writer)
 }
 
-// The same for an input that was read.
-fn encode_bytes<S: BuildHasher + Drop, W: Write>(
+/// The same for an input that was read: it is refused as `NotUtf8` exactly where the kind doesn't
+/// allow it.
+///
+/// # Errors
+///
+/// Those of [`ToolError`] but `Read`, the first one that comes. After each but `Write` nothing was
+/// written.
+pub fn encode_input<S: BuildHasher + Drop, W: Write>(
     alloc: Global,
     kind: Kind,
     builder: S,

@@ -1,6 +1,7 @@
 //! Why a run ended before its end.
 ghost use Rattle.std.specs.Prelude.{◌≡◌};
 ghost use Rattle.intaglio_tool.specs.ToolError.{refused_as, stopped_as};
+ghost use Rattle.intaglio_tool.specs.declared.error.RunError.TheVariants.{Encode};
 ghost use Rattle.intaglio_tool.specs.declared.error.ToolError.TheVariants.{Memory};
 
 use intaglio::{InternError, RoomError};
@@ -77,5 +78,24 @@ impl From<StreamError> for ToolError {
             StreamError::Read => ToolError::Read,
             StreamError::Write => ToolError::Write,
         }
+    }
+}
+
+/// Why a run whose arguments name a kind ended before its end.
+#[derive(Debug, Drop, Error)]
+pub enum RunError {
+    /// There is no builder, since the runtime gave no random seed.
+    #[error("no random seed")]
+    NoSeed,
+    /// The input wasn't encoded.
+    #[error(transparent)]
+    Encode(ToolError),
+}
+
+impl From<ToolError> for RunError {
+    ghost from_gives = { λ fault error. error ≡ Encode fault };
+
+    fn from(fault: ToolError) -> RunError {
+        RunError::Encode(fault)
     }
 }

@@ -1,10 +1,12 @@
 //! A run of the program over any input and output.
-ghost use Rattle.std.specs.Prelude.{◌≡◌, ◌≢◌, ◌≤◌, ◌↔◌, None, IfSome, map, string_bytes};
+ghost use Rattle.std.specs.Prelude.{◌≡◌, ◌≢◌, ◌≤◌, ◌↔◌, None, OnOk, IfSome, map, string_bytes};
 ghost use Rattle.std.specs.Io.KnownBytes.{Appends, IsAtEnd};
 ghost use Rattle.intaglio_lines.specs.Encoded.{encoded};
 ghost use Rattle.intaglio_lines.specs.Kind.{kind_of_words};
+ghost use Rattle.intaglio_tool.specs.declared.error.RunError.TheVariants.{NoSeed};
 
 use crate::encode::encode;
+use crate::error::RunError;
 use intaglio_lines::error::report;
 use intaglio_lines::kind::Kind;
 use std::alloc::Global;
@@ -12,8 +14,6 @@ use std::hash::BuildHasher;
 use std::io::{Read, Write};
 
 const USAGE: &str = "usage: intaglio_tool text|bytes|bstr|cstr|osstr|path";
-
-const NO_SEED: &str = "no random seed";
 
 /// Runs the program on the arguments after its name, and answers the status. A fault is told on the
 /// last writer, whose own failures are passed over.
@@ -40,11 +40,34 @@ pub fn serve<S: BuildHasher + Drop, R: Read, W: Write, E: Write>(
         let _ = writeln!(faults, "{USAGE}");
         return 2;
     };
-    let Some(builder) = builder else {
-        return report(NO_SEED, faults);
-    };
-    match encode(alloc, kind, builder, reader, writer) {
+    match run(alloc, kind, builder, reader, writer) {
         Ok(()) => 0,
         Err(fault) => report(fault, faults),
     }
+}
+
+/// Encodes the input, where there is a builder.
+///
+/// # Errors
+///
+/// `NoSeed` exactly where there is none, and then nothing was read or written; else the error of
+/// [`encode`].
+pub fn run<S: BuildHasher + Drop, R: Read, W: Write>(
+    alloc: Global,
+    kind: Kind,
+    builder: Option<S>,
+    reader: &mut R,
+    writer: &mut W,
+) -> Result<(), RunError>
+    ensures no_seed { (result ≡ Err NoSeed) ↔ (builder ≡ None) }
+    ensures unread { result ≡ Err NoSeed → reader.new ≡ reader.old }
+    ensures unwritten { result ≡ Err NoSeed → writer.new ≡ writer.old }
+    ensures written { OnOk result (IfSome (R.remaining reader.old) (λ input. Appends (W.contents writer.old) (W.contents writer.new) (encoded kind input))) }
+    ensures all_read { OnOk result (IsAtEnd (R.remaining reader.new)) }
+{
+    let Some(builder) = builder else {
+        return Err(RunError::NoSeed);
+    };
+    encode(alloc, kind, builder, reader, writer)?;
+    Ok(())
 }

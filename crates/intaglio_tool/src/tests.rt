@@ -109,11 +109,11 @@ fn lines_of_several_groups_are_taken_in_order(rt: HostRuntime) {
 }
 
 // What the program writes on the words of `arguments`, what it tells of faults, and its status.
-fn serves<Rt: Abort + AllocGlobal>(
+fn serves<Rt: Abort + AllocGlobal, R: Read>(
     rt: &Rt,
     arguments: &str,
     builder: Option<Builder>,
-    input: &[u8],
+    reader: &mut R,
     wanted: (u8, &[u8], &[u8]),
 ) {
     let mut words = Vec::new(rt.alloc());
@@ -122,32 +122,33 @@ fn serves<Rt: Abort + AllocGlobal>(
         words.push(word).expect(rt, "no memory");
     }
     let (mut written, mut told) = (Vec::new(rt.alloc()), Vec::new(rt.alloc()));
-    let mut reader = input;
-    let status = serve(
-        rt.alloc(),
-        &words,
-        builder,
-        &mut reader,
-        &mut written,
-        &mut told,
-    );
+    let status = serve(rt.alloc(), &words, builder, reader, &mut written, &mut told);
     holds(rt, status == wanted.0);
     is(rt, &written, wanted.1);
     is(rt, &told, wanted.2);
 }
 
-// The same with a seed.
+// The same with a seed, read at once and byte by byte.
 fn seeded<Rt: Abort + AllocGlobal>(
     rt: &Rt,
     arguments: &str,
     input: &[u8],
     wanted: (u8, &[u8], &[u8]),
 ) {
+    let at_once = &mut { input };
     serves(
         rt,
         arguments,
         Some(BuildHasherDefault::new()),
-        input,
+        at_once,
+        wanted,
+    );
+    let in_bytes = &mut slow(input);
+    serves(
+        rt,
+        arguments,
+        Some(BuildHasherDefault::new()),
+        in_bytes,
         wanted,
     );
 }
@@ -168,7 +169,8 @@ fn wrong_arguments_are_told(rt: HostRuntime) {
 #[test]
 fn a_run_with_a_seed_succeeds_and_one_without_is_told(rt: HostRuntime) {
     seeded(&rt, "text", INPUT, (0, OUTPUT, b""));
-    serves(&rt, "text", None, INPUT, (1, b"", b"no random seed\n"));
+    let told = (1, b"".as_slice(), b"no random seed\n".as_slice());
+    serves(&rt, "text", None, &mut { INPUT }, told);
 }
 
 fn tells<Rt: Abort + AllocGlobal>(rt: &Rt, fault: ToolError, wanted: &[u8]) {
@@ -232,11 +234,6 @@ fn each_mode_encodes_read_at_once_and_byte_by_byte(rt: HostRuntime) {
     for mode in ["text", "bytes", "bstr", "cstr", "osstr", "path"] {
         seeded(&rt, mode, INPUT, (0, OUTPUT, b""));
     }
-    writes(&rt, Kind::Bytes, INPUT, OUTPUT);
-    writes(&rt, Kind::BStr, INPUT, OUTPUT);
-    writes(&rt, Kind::CStr, INPUT, OUTPUT);
-    writes(&rt, Kind::OsStr, INPUT, OUTPUT);
-    writes(&rt, Kind::Path, INPUT, OUTPUT);
 }
 
 #[test]

@@ -1,26 +1,5 @@
-use Rattle.std.proofs.Common.{◌≡◌, ◌≢◌, ◌∙◌, ap, refl, subst, List, ℕ}
-use Rattle.std.specs.List.{flat_map}
-use Rattle.intaglio_lines.specs.Lines.{lines_of}
-use Rattle.intaglio_lines.specs.Kind.{key_of}
-use Rattle.intaglio_lines.specs.Encoded.{encoded, spelling_line}
-use Rattle.intaglio_lines.specs.Decoded.{Decodes}
-use Rattle.intaglio_lines.specs.declared.kind.Kind.{Kind}
-use Rattle.intaglio_lines.specs.declared.kind.Kind.TheVariants.{Text, Bytes, BStr, CStr, OsStr, Path}
-use Rattle.intaglio_lines.proofs.ByLines.{flat_map-lines_of}
-use Rattle.intaglio_lines.proofs.FirstEqual.{decodes-first, first_spellings-same}
+use Rattle.intaglio_lines.proofs.Input.{decodes-input}
 use Rattle.intaglio_lines.proofs.laws.decoding_gives_the_input.Goals as goal
 
--- equal contents are spelled alike, but paths
-spelled-alike : (kind : Kind) → kind ≢ Path → (a b : List ℕ) → key_of kind a ≡ key_of kind b → a ≡ b
-spelled-alike Text other a b same = cc
-spelled-alike Bytes other a b same = cc
-spelled-alike BStr other a b same = cc
-spelled-alike CStr other a b same = cc
-spelled-alike OsStr other a b same = cc
-spelled-alike Path other a b same = absurd (other refl)
-
 pub returns : goal.returns
-returns c = λ kind input other.
-    subst (Decodes (encoded kind input))
-    (ap (flat_map spelling_line) (first_spellings-same (key_of kind) (spelled-alike kind other) (lines_of input)) ∙ flat_map-lines_of input)
-    (decodes-first (key_of kind) input)
+returns c = decodes-input

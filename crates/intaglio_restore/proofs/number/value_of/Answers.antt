@@ -12,7 +12,7 @@ loop-digit-preserved c =
     let is = sym c.is_ascii_digit.ensures.value ∙ c.if-not-is_ascii_digit.false in
     record {
       all = more-digits c.args.digits.now c.loop-digit.digit-index c.loop-digit-test.true is c.loop-digit.invariant.all;
-      value = rw (c.saturating_add-value.ensures, c.saturating_mul.ensures, c.from.ensures) (more-value c.args.digits.now c.loop-digit.digit-index c.loop-digit.value c.loop-digit-test.true is c.loop-digit.invariant.value);
+      value = rw c.with_digit-value.ensures (more-value c.args.digits.now c.loop-digit.digit-index c.loop-digit.value c.loop-digit-test.true is c.loop-digit.invariant.value);
     }
 
 pub returns : goal.returns

@@ -1,4 +1,4 @@
-use Rattle.intaglio_tool.proofs.encode.encode_bytes.Goals as goal
+use Rattle.intaglio_tool.proofs.encode.encode_input.Goals as goal
 
 pub returns-in_ok-with_hasher-in-Text-clause-written : goal.returns-in_ok-with_hasher-in-Text-clause-written
 returns-in_ok-with_hasher-in-Text-clause-written g c = rw c.in-Text.is c.encode_by.ensures.written
