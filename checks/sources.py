@@ -143,6 +143,12 @@ def edits_in(crate, path):
                 tuple(line("beside").split()), line("file"), pairs)
 
 
+def is_of_type(edit):
+    """Whether an edit turns a type, which stands before all functions of its file, and no body."""
+    text = (TOP / "crates" / edit.crate / edit.file).read_text(encoding="utf-8")
+    return any(old in text and not re.search(r"\bfn ", text[: text.index(old)]) for old, _ in edit.pairs)
+
+
 class Sources:
     """All of them."""
 

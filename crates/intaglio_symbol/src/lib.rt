@@ -4,11 +4,13 @@
 //! - [`SymbolOverflowError`], [`InternError`], [`RoomError`] and [`StaleMark`] say what was refused.
 //! - [`Mark`] is a number of contents to which a table can be taken back.
 //! - [`AllSymbols`] gives the symbols of a table in order.
+//! - [`laws`] says what holds of the traits that symbols and marks derive.
 #![tactic(auto)]
 
 mod all_symbols;
 mod convert;
 mod error;
+pub mod laws;
 mod mark;
 mod symbol;
 
