@@ -17,14 +17,14 @@ use Rattle.intaglio_core.specs.declared.run.Call.TheVariants.{Intern, Check, Get
 use Rattle.intaglio_core.specs.declared.run.Reply.{Reply}
 use Rattle.intaglio_core.specs.declared.run.Reply.TheVariants as reply
 
-placed_count-append : (a b : List Mark) → placed_count (a ++ b) ≡ placed_count a + placed_count b
+pub placed_count-append : (a b : List Mark) → placed_count (a ++ b) ≡ placed_count a + placed_count b
 placed_count-append [] b = omega arith
 placed_count-append (hashed k ∷ a) b = placed_count-append a b
 placed_count-append (compared k l ∷ a) b = placed_count-append a b
 placed_count-append (step ∷ a) b = placed_count-append a b
 placed_count-append (placed ∷ a) b = let e : placed_count (a ++ b) ≡ placed_count a + placed_count b = placed_count-append a b in omega arith
 
-hashed_keys-append : (a b : List Mark) → hashed_keys (a ++ b) ≡ hashed_keys a ++ hashed_keys b
+pub hashed_keys-append : (a b : List Mark) → hashed_keys (a ++ b) ≡ hashed_keys a ++ hashed_keys b
 hashed_keys-append [] b = refl
 hashed_keys-append (hashed k ∷ a) b = ap (λ (ks : List Key). k ∷ ks) (hashed_keys-append a b)
 hashed_keys-append (compared k l ∷ a) b = hashed_keys-append a b
