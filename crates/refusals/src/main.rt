@@ -1,7 +1,8 @@
 //! Makes fixed runs of calls on each of the six tables, and compares every answer with a list made before.
 //!
 //! Each call is told on standard error, and each refusal that a call answered, so that a judge that refuses requests for
-//! memory sees which call answered for which. With no argument all runs are made; with a table's name and a run's, that one.
+//! memory sees which call answered for which. With no argument all runs are made; with a table's name and a run's, that one, and
+//! with `rows` in place of a table's name the rows whose texts are given.
 #![tactic(auto)]
 
 mod change;
@@ -9,6 +10,7 @@ mod contents;
 mod fault;
 mod kinds;
 mod making;
+mod rows;
 mod runs;
 mod watched;
 
@@ -21,6 +23,7 @@ use intaglio::osstr::OsStrContent;
 use intaglio::path::PathContent;
 use kinds::Stored;
 use making::make_all;
+use rows::{intern_first, without_memory};
 use runs::{Calls, watch};
 use std::env;
 use std::process::ExitCode;
@@ -70,7 +73,8 @@ fn all(rt: &(impl Eprint + AllocGlobal)) -> Result<(), Fault> {
     for i in 0..36usize {
         one(rt, TABLES[i / 6], RUNS[i % 6])?;
     }
-    Ok(())
+    one(rt, "rows", "calls")?;
+    one(rt, "rows", "no_memory")
 }
 
 // One run on one table.
@@ -82,6 +86,16 @@ fn one(rt: &(impl Eprint + AllocGlobal), table: &str, run: &str) -> Result<(), F
         "bytes" => on::<BytesContent>(rt, run),
         "bstr" => on::<BStrContent>(rt, run),
         "cstr" => on::<CStrContent>(rt, run),
+        "rows" => row(rt, run),
+        _ => Err(Fault::Words),
+    }
+}
+
+// The rows whose texts are given.
+fn row(rt: &(impl Eprint + AllocGlobal), run: &str) -> Result<(), Fault> {
+    match run {
+        "calls" => intern_first(rt),
+        "no_memory" => without_memory(rt),
         _ => Err(Fault::Words),
     }
 }

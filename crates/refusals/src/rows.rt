@@ -1,0 +1,166 @@
+//! Runs of a few calls on tables of texts, with the texts and the answers that stand in docs/ROWS.md.
+use crate::fault::Fault;
+use crate::watched::tell;
+use intaglio::{InternError, Mark, StrContent, Symbol, SymbolTable};
+use std::alloc::Global;
+use std::hash::{BuildHasher, Hasher};
+
+const NEW: [&str; 10] = ["b", "c", "d", "e", "f", "g", "h", "i", "j", "k"];
+
+const EQUAL: [&str; 10] = ["e0", "e1", "e2", "e3", "e4", "e5", "e6", "e7", "e8", "e9"];
+
+// A hasher that finishes with 7, and its builder.
+#[derive(Clone, Copy)]
+struct Constant;
+
+impl Hasher for Constant {
+    ghost write = { λ state _. state };
+
+    ghost finish = { λ _. 7 };
+
+    fn finish(&self) -> u64 {
+        7
+    }
+
+    fn write(&mut self, _bytes: &[u8]) {}
+}
+
+impl BuildHasher for Constant {
+    type Hasher = Constant;
+
+    ghost build_hasher = { λ builder. builder };
+
+    fn build_hasher(&self) -> Constant {
+        *self
+    }
+}
+
+/// Interns a text into a table of capacity 0, and again where it was refused: the table is empty then.
+pub fn intern_first(rt: &(impl Eprint + AllocGlobal)) -> Result<(), Fault> {
+    tell(rt, "table", 0);
+    match SymbolTable::with_capacity(rt.alloc(), 0) {
+        Ok(mut table) => intern_abc(rt, &mut table),
+        Err(_) => Err(Fault::Answer(0)),
+    }
+}
+
+fn intern_abc(rt: &impl Eprint, table: &mut SymbolTable) -> Result<(), Fault> {
+    tell(rt, "intern", 1);
+    match table.intern(StrContent::from("abc")) {
+        Err(InternError::Memory(_)) => {
+            tell(rt, "refused", 1);
+            intern_again(rt, table)
+        }
+        answer => sees(is_symbol(answer, 0), 1),
+    }
+}
+
+fn intern_again(rt: &impl Eprint, table: &mut SymbolTable) -> Result<(), Fault> {
+    if table.len() != 0 {
+        return Err(Fault::State(1));
+    }
+    tell(rt, "intern", 2);
+    sees(is_symbol(table.intern(StrContent::from("abc")), 0), 2)
+}
+
+/// Makes three tables, and from its line `none` on calls on them that take no memory.
+pub fn without_memory(rt: &(impl Eprint + AllocGlobal)) -> Result<(), Fault> {
+    let mut tables = Tables::make(rt.alloc())?;
+    let owned = "abc".to_string(rt.alloc())?;
+    let is_filled = tables.fill();
+    tell(rt, "table", 0);
+    tell(rt, "none", 0);
+    sees(is_filled && tables.take_more(StrContent::from(owned)), 1)
+}
+
+// A table with granted room, a usual one, and one of equal hashes.
+#[derive(Drop)]
+struct Tables {
+    roomy: SymbolTable,
+    usual: SymbolTable,
+    equal: SymbolTable<Constant>,
+}
+
+impl Tables {
+    fn make(alloc: Global) -> Result<Tables, Fault> {
+        let roomy = made(SymbolTable::with_capacity(alloc, 1))?;
+        let usual = made(SymbolTable::new(alloc))?;
+        let equal = made(SymbolTable::with_hasher(alloc, Constant))?;
+        Ok(Tables {
+            roomy,
+            usual,
+            equal,
+        })
+    }
+
+    fn fill(&mut self) -> bool {
+        is_symbol(self.roomy.intern(StrContent::from("abc")), 0)
+            && self.roomy.reserve(10).is_ok()
+            && self.roomy.capacity() >= 11
+            && is_symbol(self.usual.intern(StrContent::from("abc")), 0)
+            && interns(&mut self.equal, &EQUAL, 0)
+    }
+
+    fn take_more(&mut self, owned: StrContent) -> bool {
+        interns(&mut self.roomy, &NEW, 1)
+            && is_symbol(self.usual.intern(owned), 0)
+            && lends(&self.usual, "abc", 0)
+            && self.equal.take_back(Mark::new(4)).is_ok()
+            && self.equal.capacity() == 4096
+            && finds_first(&self.equal, &EQUAL, 4)
+    }
+}
+
+fn made<T, E: Drop>(table: Result<T, E>) -> Result<T, Fault> {
+    match table {
+        Ok(table) => Ok(table),
+        Err(_) => Err(Fault::Making),
+    }
+}
+
+fn sees(is_right: bool, number: u32) -> Result<(), Fault> {
+    if is_right {
+        Ok(())
+    } else {
+        Err(Fault::Answer(number))
+    }
+}
+
+fn is_symbol(answer: Result<Symbol, InternError>, number: u32) -> bool {
+    match answer {
+        Ok(symbol) => symbol.is(number),
+        Err(_) => false,
+    }
+}
+
+// Interns borrowed texts, which are to get the symbols from this number on.
+fn interns<S: BuildHasher>(table: &mut SymbolTable<S>, texts: &[&'static str], from: u32) -> bool {
+    let mut is_right = true;
+    for (number, text) in (from..u32::MAX).zip(texts.iter()) {
+        is_right = is_symbol(table.intern(StrContent::from(*text)), number) && is_right;
+    }
+    is_right
+}
+
+// Whether a text is found with this symbol and its own spelling.
+fn lends<S: BuildHasher>(table: &SymbolTable<S>, text: &str, number: u32) -> bool {
+    match table.get_interned(text) {
+        Some((symbol, spelling)) => symbol.is(number) && spelling == text,
+        None => false,
+    }
+}
+
+// Whether so many of the texts are found, at their places, and no other.
+fn finds_first<S: BuildHasher>(table: &SymbolTable<S>, texts: &[&str], count: u32) -> bool {
+    let mut is_right = true;
+    for (number, text) in (0..u32::MAX).zip(texts.iter()) {
+        let found = table.check_interned(text);
+        let wanted = if number < count {
+            Some(Symbol::new(number))
+        } else {
+            None
+        };
+        is_right = found == wanted && is_right;
+    }
+    is_right
+}
