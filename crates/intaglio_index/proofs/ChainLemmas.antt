@@ -49,12 +49,30 @@ put-between s h [] [] a l = refl
 put-between s h [] (e ∷ es) a l = rw (le-ltb e.1 h l) refl
 put-between s h (e ∷ es) behind a l = rw (lt-ltb e.1 h a.0, put-between s h es behind a.1 l) refl
 
+pub put_some : (s h : ℕ) (es : List (ℕ × ℕ)) → put s h es ≡ [] → ⊥
+put_some s h [] e = cc
+put_some s h (x ∷ xs) e =
+    (elim (ltb x.1 h) as (λ t. cond t (x ∷ put s h xs) ((s, h) ∷ x ∷ xs) ≡ [] → ⊥) [ true ↦ λ q. cc | false ↦ λ q. cc ]) e
+
 -- one more hash at the end
 pub chain_from-push : (count b at : ℕ) (met : List (ℕ × ℕ)) (hs : List ℕ) (h : ℕ) → chain_from count b at met (hs ++ h ∷ []) ≡ cond (eqb (h % count) b) (put (at + length hs) h (chain_from count b at met hs)) (chain_from count b at met hs)
 chain_from-push count b at met [] h = let e : at + 0 ≡ at = omega arith in rw e refl
 chain_from-push count b at met (y ∷ ys) h =
     let e : (at + 1) + length ys ≡ at + suc (length ys) = omega arith in
     rw (← e) (chain_from-push count b (at + 1) (cond (eqb (y % count) b) (put at y met) met) ys h)
+
+-- the hash's own bucket has one symbol more, and the others stay
+pub chain_grows : (count : ℕ) (hs : List ℕ) (h : ℕ) → chain_from count (h % count) 0 [] (hs ++ h ∷ []) ≡ put (length hs) h (chain_from count (h % count) 0 [] hs)
+chain_grows count hs h =
+    let n_is : 0 + length hs ≡ length hs = omega arith in
+    chain_from-push count (h % count) 0 [] hs h
+    ∙ ap (λ t. cond t (put (0 + length hs) h (chain_from count (h % count) 0 [] hs)) (chain_from count (h % count) 0 [] hs)) (eqb-equal (h % count) (h % count) refl)
+    ∙ ap (λ n. put n h (chain_from count (h % count) 0 [] hs)) n_is
+
+pub chain_stays : (count b : ℕ) (hs : List ℕ) (h : ℕ) → b ≢ h % count → chain_from count b 0 [] (hs ++ h ∷ []) ≡ chain_from count b 0 [] hs
+chain_stays count b hs h other =
+    chain_from-push count b 0 [] hs h
+    ∙ ap (λ t. cond t (put (0 + length hs) h (chain_from count b 0 [] hs)) (chain_from count b 0 [] hs)) (eqb-unequal (h % count) b (λ e. other (sym e)))
 
 chain_from-each : (count b : ℕ) (all before hs : List ℕ) (met : List (ℕ × ℕ)) → all ≡ before ++ hs → AllByRecursion (IsEntry count b all) met → AllByRecursion (IsEntry count b all) (chain_from count b (length before) met hs)
 chain_from-each count b all before [] met e a = a
@@ -116,7 +134,7 @@ chain-distinct count b hs =
     IsDistinct-IsPermutation eqb eqb-flips _ _ (rw e at (chain_from-permutation count b 0 [] hs)) (places-distinct count b 0 hs)
 
 -- the hashes along a chain do not decrease
-abbrev InOrder : List (ℕ × ℕ) → Type 0
+abbrev pub InOrder : List (ℕ × ℕ) → Type 0
 InOrder [] = Unit {0}
 InOrder (e ∷ es) = AllByRecursion (λ (f : ℕ × ℕ). e.1 ≤ f.1) es × InOrder es
 
@@ -141,6 +159,15 @@ sorted_from_order (e ∷ es) o = AllPairs-cons (λ (e f : ℕ × ℕ). e.1 ≤ f
 pub chain-sorted : (v : Placed) (b : ℕ) → AreSorted (chain v b)
 unfolding chain
 chain-sorted v b = sorted_from_order _ (chain_from-in_order v.count b 0 [] v.hashes tt)
+
+pub chain-in_order : (v : Placed) (b : ℕ) → InOrder (chain v b)
+unfolding chain
+chain-in_order v b = chain_from-in_order v.count b 0 [] v.hashes tt
+
+-- behind an entry no hash is smaller
+pub InOrder-behind : (front : List (ℕ × ℕ)) (e : ℕ × ℕ) (behind : List (ℕ × ℕ)) → InOrder (front ++ e ∷ behind) → AllByRecursion (λ (f : ℕ × ℕ). e.1 ≤ f.1) behind
+InOrder-behind [] e behind o = o.0
+InOrder-behind (x ∷ front) e behind o = InOrder-behind front e behind o.1
 
 pub chain-entries : (v : Placed) (b : ℕ) → AllByRecursion (IsEntry v.count b v.hashes) (chain v b)
 unfolding chain

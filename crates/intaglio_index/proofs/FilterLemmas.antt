@@ -1,9 +1,11 @@
 -- What filters tell of the hashes that were placed.
-use Rattle.std.proofs.Common.{◌≡◌, ◌≢◌, ℕ, ◌<◌, ◌%◌, List, [], ◌∷◌, ◌++◌, length, get_or, set, take, drop, refl, ◌∙◌, arith, inl, inr, None, subst}
+use Rattle.std.proofs.Common.{◌≡◌, ◌≢◌, ℕ, zero, suc, replicate, ◌<◌, ◌/◌, ◌%◌, ◌^◌, List, [], ◌∷◌, ◌++◌, length, get_or, set, take, drop, refl, ◌∙◌, arith, inl, inr, None, subst, ap}
 use Rattle.std.specs.List.{AllByRecursion}
 use Rattle.std.proofs.lemmas.Bool.Decides.{eqb_tells}
 use Rattle.std.proofs.lemmas.List.{get_or-set_same, get_or-set_other, get_or_default, length-set, take-append-drop}
-use Rattle.std.proofs.lemmas.List.Elements.{recursion_from_All}
+use Rattle.std.specs.Int.{bit_at}
+use Rattle.std.proofs.lemmas.Nat.Bits.{bit_at-zero}
+use Rattle.std.proofs.lemmas.List.Elements.{recursion_from_All, All-from_recursion}
 use Rattle.intaglio_index.specs.Placed.{Placed, chain, chain_from, head_of, symbols_of}
 use Rattle.intaglio_index.specs.Filter.{IsMarked, IsFiltered}
 use Rattle.intaglio_index.proofs.ChainLemmas.{Each-weaker, Each-left, Each-append, chain-complete}
@@ -46,6 +48,25 @@ pub nil_head : (es : List (ℕ × ℕ)) → None ≡ head_of es → es ≡ []
 nil_head [] e = refl
 nil_head (x ∷ xs) e = cc
 
+-- a filter whose bucket is empty needs no bit
+pub filtered_vacated : (filters : List ℕ) (count : ℕ) (hashes : List ℕ) (k : ℕ) → IsFiltered filters count hashes → chain_from count k 0 [] hashes ≡ [] → IsFiltered (set filters k 0) count hashes
+filtered_vacated filters count hashes k filtered none =
+    let P : ℕ → Type 0 = λ hash. IsMarked (get_or (set filters k 0) (hash % count) 0) hash in
+    let marked = All-from_recursion (λ hash. IsMarked (get_or filters (hash % count) 0) hash) hashes filtered.marks in
+    record {
+      size = length-set filters k 0 ∙ filtered.size;
+      marks = recursion_from_All P hashes (λ i d l.
+          (let other : get_or hashes i d % count ≢ k = λ e.
+          (let found = chain-complete count k hashes i l (ap (λ n. n % count) (get_or_default hashes i 0 d l) ∙ e) in
+          let within : found.0 < length (symbols_of (chain_from count k 0 [] hashes)) = found.1 in
+          absurd (omega (arith, rw none at within))) in
+          rw (get_or-set_other filters k (get_or hashes i d % count) 0 0 other) (marked i d l)));
+    }
+
+-- a filter with a bit is not 0
+pub marked_some : (filter hash : ℕ) → IsMarked filter hash → filter ≡ 0 → ⊥
+marked_some filter hash m none = (let zero_bit : bit_at 0 (hash / 2 ^ 61) ≡ 0 = bit_at-zero (hash / 2 ^ 61) in let one : bit_at 0 (hash / 2 ^ 61) ≡ 1 = rw none at m in omega arith)
+
 -- nor was one whose bucket is empty
 pub not_in_empty : (v : Placed) (hash : ℕ) → None ≡ head_of (chain v (hash % v.count)) → AllByRecursion (λ placed. placed ≢ hash) v.hashes
 unfolding chain
@@ -56,3 +77,11 @@ not_in_empty v hash none =
     let found = chain-complete v.count (hash % v.count) v.hashes i l (rw at refl) in
     let within : found.0 < length (symbols_of (chain_from v.count (hash % v.count) 0 [] v.hashes)) = found.1 in
     absurd (omega (arith, rw empty at within))))
+
+zero_at : (n b : ℕ) → ◌≡◌ {A = ℕ} (get_or (replicate n 0) b 0) 0
+zero_at zero b = refl
+zero_at (suc n) zero = refl
+zero_at (suc n) (suc b) = zero_at n b
+
+pub zero_filters : (filters : List ℕ) (n : ℕ) → filters ≡ replicate n 0 → (b : ℕ) → get_or filters b 0 ≡ 0
+zero_filters filters n e b = rw e (zero_at n b)

@@ -1,5 +1,5 @@
 -- Paths of links.
-use Rattle.std.proofs.Common.{◌≡◌, ◌≢◌, ℕ, zero, suc, ◌+◌, ◌<◌, ◌≤◌, ◌%◌, ◌^◌, List, [], ◌∷◌, ◌++◌, length, cond, true, false, Bool, refl, sym, ap, ◌∙◌, arith, eqb, Option, Some, None, get_or, set, replicate, append_assoc, length-append, inl, inr, take, subst}
+use Rattle.std.proofs.Common.{◌≡◌, ◌≢◌, ℕ, ◌+◌, ◌<◌, ◌≤◌, ◌%◌, ◌^◌, List, [], ◌∷◌, ◌++◌, length, cond, true, false, Bool, refl, sym, ap, ◌∙◌, arith, eqb, Option, Some, None, get_or, set, append_assoc, length-append, inl, inr, take, subst}
 use Rattle.std.specs.Option.{option_map}
 use Rattle.std.specs.List.{AllByRecursion, IsDistinct}
 use Rattle.std.proofs.lemmas.Bool.{eqb-true, eqb-false}
@@ -7,9 +7,9 @@ use Rattle.std.proofs.lemmas.Bool.Decides.{eqb_tells}
 use Rattle.std.proofs.lemmas.List.{get_or-set_same, get_or-set_other, map-append, get_or_append_left, get_or_push, length-map, get_or_read, length-set, map-set, set-get_or, get_or-map, take_more, take_all, length-take-le}
 use Rattle.intaglio_symbol.specs.declared.symbol.Symbol.{Symbol}
 use Rattle.intaglio_index.specs.declared.index.Node.{Node}
-use Rattle.intaglio_index.specs.Placed.{chain_from, head_of, symbols_of, put, BeginsAtOrAbove, IsPredecessor, IsEntry}
-use Rattle.intaglio_index.specs.Links.{IsPath, IsLinked, entry_of, next_of, node_at, hashes_of}
-use Rattle.intaglio_index.proofs.ChainLemmas.{chain-each, chain-distinct, chain-complete, entry_split, unput, chain_from-push, put-between, Each-weaker, Each-left, Each-right}
+use Rattle.intaglio_index.specs.Placed.{chain_from, head_of, leader_of, symbols_of, put, BeginsAtOrAbove, IsPredecessor, IsEntry}
+use Rattle.intaglio_index.specs.Links.{IsPath, IsThread, IsLinked, entry_of, next_of, node_at, hashes_of}
+use Rattle.intaglio_index.proofs.ChainLemmas.{eqb-equal, put_some, chain_grows, chain_stays, chain-each, chain-distinct, chain-complete, entry_split, unput, chain_from-push, put-between, Each-weaker, Each-left, Each-right}
 
 abbrev none_node : Node
 none_node = record { hash = 0; next = None }
@@ -52,131 +52,139 @@ pub both : {X : Type 0} (P Q : X → Type 0) (xs : List X) → AllByRecursion P 
 both P Q [] a b = tt
 both P Q (x ∷ xs) a b = ((a.0, b.0), both P Q xs a.1 b.1)
 
-get_or-replicate_none : (n b : ℕ) → get_or (replicate n (let none : Option Symbol = None in none)) b None ≡ None
-get_or-replicate_none zero b = refl
-get_or-replicate_none (suc n) zero = refl
-get_or-replicate_none (suc n) (suc b) = get_or-replicate_none n b
+-- a path begins where its list does
+pub path_leader : (next : ℕ → Option Symbol) (start : Option Symbol) (es : List (ℕ × ℕ)) → IsPath next start (symbols_of es) → start ≡ leader_of es
+path_leader next start [] h = h
+path_leader next start (e ∷ es) h = h.0
+
+-- what stands behind an entry changes nothing of where its list begins
+pub leader_same : (front : List (ℕ × ℕ)) (e : ℕ × ℕ) (xs ys : List (ℕ × ℕ)) → leader_of (front ++ e ∷ xs) ≡ leader_of (front ++ e ∷ ys)
+leader_same [] e xs ys = refl
+leader_same (x ∷ front) e xs ys = refl
 
 -- no symbol in any bucket
-pub empty_links : (count : ℕ) (heads : List (Option Symbol)) (nodes : List Node) → heads ≡ replicate count None → nodes ≡ [] → IsLinked heads nodes
-empty_links count heads nodes e none = record {
-  paths = λ b. rw (none, e) (get_or-replicate_none count b);
-  few = rw none (omega arith);
-  numbered = rw none (omega arith);
-}
+pub empty_links : (count : ℕ) (nodes : List Node) → nodes ≡ [] → IsLinked count nodes
+empty_links count nodes e = record { paths = λ b. rw e refl; few = rw e (omega arith); numbered = rw e (omega arith) }
 
 no_hashes : (nodes : List Node) → length nodes ≤ 0 → hashes_of nodes ≡ []
 no_hashes [] l = refl
 no_hashes (n ∷ ns) l = absurd (omega arith)
 
-module _ (heads : List (Option Symbol)) (nodes : List Node) (linked : IsLinked heads nodes) where
+module _ (count : ℕ) (nodes : List Node) (linked : IsLinked count nodes) where
   -- where there are no buckets nothing is placed
-  pub no_buckets : length heads ≡ 0 → hashes_of nodes ≡ []
+  pub no_buckets : count ≡ 0 → hashes_of nodes ≡ []
   no_buckets none = no_hashes nodes (omega (arith, linked.few))
 
   abbrev bucket : ℕ → List (ℕ × ℕ)
-  bucket b = chain_from (length heads) b 0 [] (hashes_of nodes)
+  bucket b = chain_from count b 0 [] (hashes_of nodes)
 
-  bucket-each : (b : ℕ) → AllByRecursion (IsEntry (length heads) b (hashes_of nodes)) (bucket b)
-  bucket-each b = chain-each (length heads) b (hashes_of nodes)
+  bucket-each : (b : ℕ) → AllByRecursion (IsEntry count b (hashes_of nodes)) (bucket b)
+  bucket-each b = chain-each count b (hashes_of nodes)
 
   hash_at : (s : ℕ) → s < length nodes → (d : ℕ) → get_or (hashes_of nodes) s d ≡ (node_at nodes s).hash
   hash_at s l d = get_or-map (λ (n : Node). n.hash) nodes s none_node d l
 
   -- the first entry of a path, where its hashes are those of the nodes
-  read_path : (start : Option Symbol) (b : ℕ) (es : List (ℕ × ℕ)) → AllByRecursion (IsEntry (length heads) b (hashes_of nodes)) es → IsPath (next_of nodes) start (symbols_of es) → option_map (entry_of nodes) start ≡ head_of es
+  read_path : (start : Option Symbol) (b : ℕ) (es : List (ℕ × ℕ)) → AllByRecursion (IsEntry count b (hashes_of nodes)) es → IsPath (next_of nodes) start (symbols_of es) → option_map (entry_of nodes) start ≡ head_of es
   read_path start b [] a h = ap (option_map (entry_of nodes)) h
   read_path start b (e ∷ es) a h =
       let l : e.0 < length nodes = omega (arith, a.0.0, length-map nodes (λ (n : Node). n.hash)) in
       ap (option_map (entry_of nodes)) h.0 ∙ ap (λ k. Some (e.0, k)) (sym (hash_at e.0 l 0) ∙ a.0.1 0)
 
-  -- the first entry of a bucket, read off its head
-  pub first_reads : (b : ℕ) (head : Option Symbol) → head ≡ get_or heads b None → option_map (entry_of nodes) head ≡ head_of (bucket b)
-  first_reads b head e = rw e (read_path (get_or heads b None) b (bucket b) (bucket-each b) (linked.paths b))
+  -- the first entry of a bucket
+  pub first_reads : (b : ℕ) → option_map (entry_of nodes) (leader_of (bucket b)) ≡ head_of (bucket b)
+  first_reads b = read_path (leader_of (bucket b)) b (bucket b) (bucket-each b) (linked.paths b)
+
+  pub thread_of : (b : ℕ) → IsThread nodes (leader_of (bucket b)) (bucket b)
+  thread_of b =
+      let each : AllByRecursion (λ (e : ℕ × ℕ). (e.0 < length nodes) × ((node_at nodes e.0).hash ≡ e.1)) (bucket b) =
+      Each-weaker (IsEntry count b (hashes_of nodes)) (λ (e : ℕ × ℕ). (e.0 < length nodes) × ((node_at nodes e.0).hash ≡ e.1))
+      (λ e h. (let l : e.0 < length nodes = omega (arith, h.0, length-map nodes (λ (n : Node). n.hash)) in (l, sym (hash_at e.0 l 0) ∙ h.1 0))) _ (bucket-each b) in
+      record { path = linked.paths b; read = each }
 
   pub after_reads : (s : ℕ) (next : Option Symbol) → next ≡ next_of nodes s → (b hash : ℕ) (before behind : List (ℕ × ℕ)) → bucket b ≡ before ++ (s, hash) ∷ behind → option_map (entry_of nodes) next ≡ head_of behind
   after_reads s next e b hash before behind split =
       let each = rw split at (bucket-each b) in
-      let rest = (Each-right (IsEntry (length heads) b (hashes_of nodes)) before ((s, hash) ∷ behind) each).1 in
+      let rest = (Each-right (IsEntry count b (hashes_of nodes)) before ((s, hash) ∷ behind) each).1 in
       let path = rw (split, symbols_split before (s, hash) behind) at (linked.paths b) in
       rw e (read_path (next_of nodes s) b behind rest (path_behind (next_of nodes) _ (symbols_of before) s (symbols_of behind) path))
 
   -- each node is on the path of its bucket, so no link leads past the nodes
   pub link_within : (s : ℕ) (t : Symbol) → s < length nodes → next_of nodes s ≡ Some t → t < length nodes
   link_within s t l e =
-      let k : ℕ = (node_at nodes s).hash % length heads in
+      let k : ℕ = (node_at nodes s).hash % count in
       let lh : s < length (hashes_of nodes) = omega (arith, l, length-map nodes (λ (n : Node). n.hash)) in
-      let here = entry_split (bucket k) s (chain-complete (length heads) k (hashes_of nodes) s lh (ap (λ h. h % length heads) (hash_at s l 0))) in
+      let here = entry_split (bucket k) s (chain-complete (count) k (hashes_of nodes) s lh (ap (λ h. h % count) (hash_at s l 0))) in
       let each = rw here.3 at (bucket-each k) in
-      let rest = (Each-right (IsEntry (length heads) k (hashes_of nodes)) here.0 (here.1 ∷ here.2) each).1 in
+      let rest = (Each-right (IsEntry count k (hashes_of nodes)) here.0 (here.1 ∷ here.2) each).1 in
       let path = rw (here.3, symbols_split here.0 here.1 here.2) at (linked.paths k) in
       let behind = rw here.4 at (path_behind (next_of nodes) _ (symbols_of here.0) here.1.0 (symbols_of here.2) path) in
-      let cases : (es : List (ℕ × ℕ)) → AllByRecursion (IsEntry (length heads) k (hashes_of nodes)) es → IsPath (next_of nodes) (next_of nodes s) (symbols_of es) → t < length nodes = elim [
+      let cases : (es : List (ℕ × ℕ)) → AllByRecursion (IsEntry count k (hashes_of nodes)) es → IsPath (next_of nodes) (next_of nodes s) (symbols_of es) → t < length nodes = elim [
         | [] ↦ λ a h. cc
         | e' ∷ es ↦ λ a h. (let q : t ≡ e'.0 = cc in omega (arith, q, a.0.0, length-map nodes (λ (n : Node). n.hash)))
       ] in
       cases here.2 rest behind
 
   -- a bucket's first symbol is among the nodes
-  pub head_within : (b : ℕ) (s : Symbol) → get_or heads b None ≡ Some s → s < length nodes
-  head_within b s e =
-      let cases : (es : List (ℕ × ℕ)) → AllByRecursion (IsEntry (length heads) b (hashes_of nodes)) es → IsPath (next_of nodes) (get_or heads b None) (symbols_of es) → s < length nodes = elim [
+  pub leader_within : (b : ℕ) (s : Symbol) → leader_of (bucket b) ≡ Some s → s < length nodes
+  leader_within b s e =
+      let cases : (es : List (ℕ × ℕ)) → AllByRecursion (IsEntry count b (hashes_of nodes)) es → leader_of es ≡ Some s → s < length nodes = elim [
         | [] ↦ λ a h. cc
         | e' ∷ es ↦ λ a h. (let q : s ≡ e'.0 = cc in omega (arith, q, a.0.0, length-map nodes (λ (n : Node). n.hash)))
       ] in
-      cases (bucket b) (bucket-each b) (linked.paths b)
+      cases (bucket b) (bucket-each b) e
 
   below_of_entry : (b : ℕ) → AllByRecursion (λ s. s < length nodes) (symbols_of (bucket b))
   below_of_entry b =
       each_symbol (λ s. s < length nodes) (bucket b)
-      (Each-weaker (IsEntry (length heads) b (hashes_of nodes)) (λ (e : ℕ × ℕ). e.0 < length nodes) (λ e h. omega (arith, h.0, length-map nodes (λ (n : Node). n.hash))) _ (bucket-each b))
+      (Each-weaker (IsEntry count b (hashes_of nodes)) (λ (e : ℕ × ℕ). e.0 < length nodes) (λ e h. omega (arith, h.0, length-map nodes (λ (n : Node). n.hash))) _ (bucket-each b))
 
   -- one more hash
-  bucket-push : (hash b : ℕ) → chain_from (length heads) b 0 [] (hashes_of nodes ++ hash ∷ []) ≡ cond (eqb (hash % length heads) b) (put (length nodes) hash (bucket b)) (bucket b)
+  bucket-push : (hash b : ℕ) → chain_from count b 0 [] (hashes_of nodes ++ hash ∷ []) ≡ cond (eqb (hash % count) b) (put (length nodes) hash (bucket b)) (bucket b)
   bucket-push hash b =
       let n_is : 0 + length (hashes_of nodes) ≡ length nodes = omega (arith, length-map nodes (λ (n : Node). n.hash)) in
-      chain_from-push (length heads) b 0 [] (hashes_of nodes) hash ∙ ap (λ n. cond (eqb (hash % length heads) b) (put n hash (bucket b)) (bucket b)) n_is
+      chain_from-push (count) b 0 [] (hashes_of nodes) hash ∙ ap (λ n. cond (eqb (hash % count) b) (put n hash (bucket b)) (bucket b)) n_is
 
-  module _ (hash : ℕ) (symbol : Symbol) (numbered : symbol ≡ length nodes) (small : symbol < 2 ^ 32) (free : symbol < length heads) where
+  module _ (hash : ℕ) (symbol : Symbol) (numbered : symbol ≡ length nodes) (small : symbol < 2 ^ 32) (free : symbol < count) where
     symbol_is : Some symbol ≡ Some (length nodes)
     symbol_is = ap (λ n. Some n) numbered
 
     -- where nothing in front is smaller, the symbol becomes the bucket's first
-    pub place_first : (next : Option Symbol) → hash % length heads < length heads → next ≡ get_or heads (hash % length heads) None → BeginsAtOrAbove hash (bucket (hash % length heads)) →
-        IsLinked (set heads (hash % length heads) (Some symbol)) (nodes ++ record { hash = hash; next = next } ∷ [])
-    place_first next l is begins =
+    pub place_first : (next : Option Symbol) → next ≡ leader_of (bucket (hash % count)) → BeginsAtOrAbove hash (bucket (hash % count)) →
+        IsLinked count (nodes ++ record { hash = hash; next = next } ∷ [])
+    place_first next is begins =
         let node : Node = record { hash = hash; next = next } in
         let more : List Node = nodes ++ node ∷ [] in
-        let k : ℕ = hash % length heads in
+        let k : ℕ = hash % count in
         let same : (s : ℕ) → s < length nodes → next_of more s ≡ next_of nodes s = λ s ls. ap (λ (n : Node). n.next) (get_or_append_left nodes (node ∷ []) none_node s ls) in
-        let at_n : next_of more (length nodes) ≡ get_or heads k None = ap (λ (n : Node). n.next) (get_or_push nodes node none_node (length nodes) refl) ∙ is in
+        let at_n : next_of more (length nodes) ≡ leader_of (bucket k) = ap (λ (n : Node). n.next) (get_or_push nodes node none_node (length nodes) refl) ∙ is in
         let hashes : hashes_of more ≡ hashes_of nodes ++ hash ∷ [] = map-append (λ (n : Node). n.hash) nodes (node ∷ []) in
-        let kept : (b : ℕ) → IsPath (next_of more) (get_or heads b None) (symbols_of (bucket b)) =
+        let kept : (b : ℕ) → IsPath (next_of more) (leader_of (bucket b)) (symbols_of (bucket b)) =
         λ b. path_kept (next_of nodes) (next_of more) _ _ (Each-weaker (λ s. s < length nodes) (λ s. next_of more s ≡ next_of nodes s) same _ (below_of_entry b)) (linked.paths b) in
-        let cases : (b : ℕ) (t : Bool) → eqb k b ≡ t → IsPath (next_of more) (get_or (set heads k (Some symbol)) b None) (symbols_of (cond t (put (length nodes) hash (bucket b)) (bucket b))) = λ b. elim [
+        let cases : (b : ℕ) (t : Bool) → eqb k b ≡ t →
+        IsPath (next_of more) (leader_of (cond t (put (length nodes) hash (bucket b)) (bucket b))) (symbols_of (cond t (put (length nodes) hash (bucket b)) (bucket b))) = λ b. elim [
           | true ↦ λ e.
               (let q : k ≡ b = eqb-true k b e in
               let put_is : put (length nodes) hash (bucket b) ≡ (length nodes, hash) ∷ bucket b = put-between (length nodes) hash [] (bucket b) tt (rw q at begins) in
-              let here : get_or (set heads k (Some symbol)) b None ≡ Some (length nodes) = rw (← q) (get_or-set_same heads k (Some symbol) None l) ∙ symbol_is in
-              rw put_is (here, rw (at_n, q) (kept b)))
-          | false ↦ λ e. (let other : b ≢ k = λ q. eqb-false k b e (sym q) in rw (get_or-set_other heads k b (Some symbol) None other) (kept b))
+              rw put_is (refl, rw (at_n, q) (kept b)))
+          | false ↦ λ e. kept b
         ] in
         record {
-          paths = λ b. (let size : length (set heads k (Some symbol)) ≡ length heads = length-set heads k (Some symbol) in rw (size, hashes, bucket-push hash b) (cases b (eqb k b) refl));
-          few = omega (arith, free, numbered, length-append nodes (node ∷ []), length-set heads k (Some symbol));
+          paths = λ b. rw (hashes, bucket-push hash b) (cases b (eqb k b) refl);
+          few = omega (arith, free, numbered, length-append nodes (node ∷ []));
           numbered = omega (arith, small, numbered, length-append nodes (node ∷ []));
         }
 
     -- where p is the last of those with smaller hashes, the symbol comes behind it
-    pub place_behind : (p : ℕ) (old : Node) → p < length nodes → old ≡ node_at nodes p → IsPredecessor hash (bucket (hash % length heads)) p →
-        IsLinked heads (set (nodes ++ record { hash = hash; next = old.next } ∷ []) p (record { hash = old.hash; next = Some symbol }))
+    pub place_behind : (p : ℕ) (old : Node) → p < length nodes → old ≡ node_at nodes p → IsPredecessor hash (bucket (hash % count)) p →
+        IsLinked count (set (nodes ++ record { hash = hash; next = old.next } ∷ []) p (record { hash = old.hash; next = Some symbol }))
     place_behind p old l is pred =
         let node : Node = record { hash = hash; next = old.next } in
         let changed : Node = record { hash = old.hash; next = Some symbol } in
         let more : List Node = nodes ++ node ∷ [] in
         let size : length more ≡ length nodes + 1 = length-append nodes (node ∷ []) in
         let lm : p < length more = omega arith in
-        let k : ℕ = hash % length heads in
+        let k : ℕ = hash % count in
         let all : List Node = set more p changed in
         let at_p : next_of all p ≡ Some (length nodes) = ap (λ (n : Node). n.next) (get_or-set_same more p changed none_node lm) ∙ symbol_is in
         let apart : length nodes ≢ p = omega arith in
@@ -188,7 +196,8 @@ module _ (heads : List (Option Symbol)) (nodes : List Node) (linked : IsLinked h
         ap (λ (n : Node). n.hash) is ∙ sym (ap (λ (n : Node). n.hash) (get_or_append_left nodes (node ∷ []) none_node p l)) ∙ sym (get_or-map (λ (n : Node). n.hash) more p none_node 0 lm) in
         let hashes : hashes_of all ≡ hashes_of nodes ++ hash ∷ [] =
         map-set (λ (n : Node). n.hash) more p changed ∙ ap (λ h. set (hashes_of more) p h) hash_p ∙ set-get_or (hashes_of more) p 0 ∙ map-append (λ (n : Node). n.hash) nodes (node ∷ []) in
-        let cases : (b : ℕ) (t : Bool) → eqb k b ≡ t → IsPath (next_of all) (get_or heads b None) (symbols_of (cond t (put (length nodes) hash (bucket b)) (bucket b))) = λ b. elim [
+        let cases : (b : ℕ) (t : Bool) → eqb k b ≡ t →
+        IsPath (next_of all) (leader_of (cond t (put (length nodes) hash (bucket b)) (bucket b))) (symbols_of (cond t (put (length nodes) hash (bucket b)) (bucket b))) = λ b. elim [
           | true ↦ λ e.
               (let q : k ≡ b = eqb-true k b e in
               let split : bucket b ≡ pred.front ++ (p, pred.hash) ∷ pred.behind = rw (← q) pred.split in
@@ -198,16 +207,16 @@ module _ (heads : List (Option Symbol)) (nodes : List Node) (linked : IsLinked h
               let symbols = symbols_split pred.front (p, pred.hash) pred.behind in
               let path = rw (split, symbols) at (linked.paths b) in
               let below = rw (split, symbols) at (below_of_entry b) in
-              let beside = distinct_beside (symbols_of pred.front) p (symbols_of pred.behind) (rw (split, symbols) at (chain-distinct (length heads) b (hashes_of nodes))) in
+              let beside = distinct_beside (symbols_of pred.front) p (symbols_of pred.behind) (rw (split, symbols) at (chain-distinct count b (hashes_of nodes))) in
               let front = Each-weaker _ (λ s. next_of all s ≡ next_of nodes s) same _ (both (λ s. s < length nodes) (λ s. s ≢ p) _ (Each-left (λ s. s < length nodes) (symbols_of pred.front) (p ∷ symbols_of pred.behind) below) beside.0) in
               let behind = Each-weaker _ (λ s. next_of all s ≡ next_of nodes s) same _ (both (λ s. s < length nodes) (λ s. s ≢ p) _ (Each-right (λ s. s < length nodes) (symbols_of pred.front) (p ∷ symbols_of pred.behind) below).1 beside.1) in
-              rw (put_is, symbols_split pred.front (p, pred.hash) ((length nodes, hash) ∷ pred.behind))
-              (path_put (next_of nodes) (next_of all) (length nodes) (get_or heads b None) (symbols_of pred.front) p (symbols_of pred.behind) front behind at_p at_n path))
+              rw (put_is, symbols_split pred.front (p, pred.hash) ((length nodes, hash) ∷ pred.behind), leader_same pred.front (p, pred.hash) ((length nodes, hash) ∷ pred.behind) pred.behind)
+              (path_put (next_of nodes) (next_of all) (length nodes) (leader_of (pred.front ++ (p, pred.hash) ∷ pred.behind)) (symbols_of pred.front) p (symbols_of pred.behind) front behind at_p at_n path))
           | false ↦ λ e.
-              (let entry = (Each-right (IsEntry (length heads) k (hashes_of nodes)) pred.front ((p, pred.hash) ∷ pred.behind) (rw pred.split at (bucket-each k))).0 in
+              (let entry = (Each-right (IsEntry count k (hashes_of nodes)) pred.front ((p, pred.hash) ∷ pred.behind) (rw pred.split at (bucket-each k))).0 in
               let differ : AllByRecursion (λ s. s ≢ p) (symbols_of (bucket b)) =
-              each_symbol (λ s. s ≢ p) (bucket b) (Each-weaker (IsEntry (length heads) b (hashes_of nodes)) (λ (x : ℕ × ℕ). x.0 ≢ p)
-              (λ x h q. eqb-false k b e (sym entry.2 ∙ ap (λ v. v % length heads) (sym (entry.1 0) ∙ ap (λ s. get_or (hashes_of nodes) s 0) (sym q) ∙ h.1 0) ∙ h.2)) _ (bucket-each b)) in
+              each_symbol (λ s. s ≢ p) (bucket b) (Each-weaker (IsEntry count b (hashes_of nodes)) (λ (x : ℕ × ℕ). x.0 ≢ p)
+              (λ x h q. eqb-false k b e (sym entry.2 ∙ ap (λ v. v % count) (sym (entry.1 0) ∙ ap (λ s. get_or (hashes_of nodes) s 0) (sym q) ∙ h.1 0) ∙ h.2)) _ (bucket-each b)) in
               path_kept (next_of nodes) (next_of all) _ _ (Each-weaker _ (λ s. next_of all s ≡ next_of nodes s) same _ (both (λ s. s < length nodes) (λ s. s ≢ p) _ (below_of_entry b) differ)) (linked.paths b))
         ] in
         record {
@@ -219,7 +228,7 @@ module _ (heads : List (Option Symbol)) (nodes : List Node) (linked : IsLinked h
   -- a predecessor is among the nodes
   pub predecessor_within : (hash b p : ℕ) → IsPredecessor hash (bucket b) p → p < length nodes
   predecessor_within hash b p pred =
-      let entry = (Each-right (IsEntry (length heads) b (hashes_of nodes)) pred.front ((p, pred.hash) ∷ pred.behind) (rw pred.split at (bucket-each b))).0 in
+      let entry = (Each-right (IsEntry count b (hashes_of nodes)) pred.front ((p, pred.hash) ∷ pred.behind) (rw pred.split at (bucket-each b))).0 in
       omega (arith, entry.0, length-map nodes (λ (n : Node). n.hash))
 
 -- the hashes once a link was changed and a node added
@@ -240,27 +249,27 @@ path_cut next other start [] p m behind f a at_p h = (h.0, rw at_p (path_kept ne
 path_cut next other start (s ∷ front) p m behind f a at_p h = (h.0, rw f.0 (path_cut next other (next s) front p m behind f.1 a at_p h.1))
 
 -- the last node is taken out of its bucket
-module _ (heads : List (Option Symbol)) (init : List Node) (node : Node) (linked : IsLinked heads (init ++ node ∷ [])) where
+module _ (count : ℕ) (init : List Node) (node : Node) (linked : IsLinked count (init ++ node ∷ [])) where
   abbrev whole : List Node
   whole = init ++ node ∷ []
 
   abbrev bucket_of : ℕ → List (ℕ × ℕ)
-  bucket_of b = chain_from (length heads) b 0 [] (hashes_of init)
+  bucket_of b = chain_from count b 0 [] (hashes_of init)
 
   abbrev all_of : ℕ → List (ℕ × ℕ)
-  all_of b = chain_from (length heads) b 0 [] (hashes_of whole)
+  all_of b = chain_from count b 0 [] (hashes_of whole)
 
-  all_is : (b : ℕ) → all_of b ≡ cond (eqb (node.hash % length heads) b) (put (length init) node.hash (bucket_of b)) (bucket_of b)
+  all_is : (b : ℕ) → all_of b ≡ cond (eqb (node.hash % count) b) (put (length init) node.hash (bucket_of b)) (bucket_of b)
   all_is b =
       let n_is : 0 + length (hashes_of init) ≡ length init = omega (arith, length-map init (λ (n : Node). n.hash)) in
-      ap (chain_from (length heads) b 0 []) (map-append (λ (n : Node). n.hash) init (node ∷ []))
-      ∙ chain_from-push (length heads) b 0 [] (hashes_of init) node.hash
-      ∙ ap (λ n. cond (eqb (node.hash % length heads) b) (put n node.hash (bucket_of b)) (bucket_of b)) n_is
+      ap (chain_from count b 0 []) (map-append (λ (n : Node). n.hash) init (node ∷ []))
+      ∙ chain_from-push (count) b 0 [] (hashes_of init) node.hash
+      ∙ ap (λ n. cond (eqb (node.hash % count) b) (put n node.hash (bucket_of b)) (bucket_of b)) n_is
 
   init-below : (b : ℕ) → AllByRecursion (λ s. s < length init) (symbols_of (bucket_of b))
   init-below b =
       each_symbol (λ s. s < length init) (bucket_of b)
-      (Each-weaker (IsEntry (length heads) b (hashes_of init)) (λ (e : ℕ × ℕ). e.0 < length init) (λ e h. omega (arith, h.0, length-map init (λ (n : Node). n.hash))) _ (chain-each (length heads) b (hashes_of init)))
+      (Each-weaker (IsEntry count b (hashes_of init)) (λ (e : ℕ × ℕ). e.0 < length init) (λ e h. omega (arith, h.0, length-map init (λ (n : Node). n.hash))) _ (chain-each count b (hashes_of init)))
 
   same_below : (s : ℕ) → s < length init → next_of init s ≡ next_of whole s
   same_below s l = ap (λ (n : Node). n.next) (sym (get_or_append_left init (node ∷ []) none_node s l))
@@ -272,38 +281,48 @@ module _ (heads : List (Option Symbol)) (init : List Node) (node : Node) (linked
   init-kept b start h =
       path_kept (next_of whole) (next_of init) start _ (Each-weaker (λ s. s < length init) (λ s. next_of init s ≡ next_of whole s) same_below _ (init-below b)) h
 
-  few_left : length init ≤ length heads
+  few_left : length init ≤ count
   few_left = omega (arith, linked.few, length-append init (node ∷ []))
 
   numbered_left : length init ≤ 2 ^ 32
   numbered_left = omega (arith, linked.numbered, length-append init (node ∷ []))
 
-  pub unplace_first : node.hash % length heads < length heads → BeginsAtOrAbove node.hash (all_of (node.hash % length heads)) → IsLinked (set heads (node.hash % length heads) node.next) init
-  unplace_first l begins =
-      let k : ℕ = node.hash % length heads in
-      let cases : (b : ℕ) (t : Bool) → eqb k b ≡ t → all_of b ≡ cond t (put (length init) node.hash (bucket_of b)) (bucket_of b) → IsPath (next_of init) (get_or (set heads k node.next) b None) (symbols_of (bucket_of b)) = λ b. elim [
-        | true ↦ λ e is.
-            (let q : k ≡ b = eqb-true k b e in
-            let r = unput (length init) node.hash (bucket_of b) [] (all_of b) (sym is) tt (rw q at begins) in
-            let path = rw r.1 at (linked.paths b) in
-            let tail = rw last_is at path.1 in
-            let rest : IsPath (next_of whole) node.next (symbols_of (bucket_of b)) = rw r.2 tail in
-            let here : get_or (set heads k node.next) b None ≡ node.next = rw (← q) (get_or-set_same heads k node.next None l) in
-            rw here (init-kept b node.next rest))
-        | false ↦ λ e is.
-            (let other : b ≢ k = λ q. eqb-false k b e (sym q) in
-            rw (get_or-set_other heads k b node.next None other) (init-kept b (get_or heads b None) (rw is at (linked.paths b))))
-      ] in
-      record {
-        paths = λ b. (let size : length (set heads k node.next) ≡ length heads = length-set heads k node.next in rw size (cases b (eqb k b) refl (all_is b)));
-        few = omega (arith, few_left, length-set heads k node.next);
-        numbered = numbered_left;
-      }
+  -- where the last node is the first of its bucket, the others begin at its link
+  first_parts : BeginsAtOrAbove node.hash (all_of (node.hash % count)) →
+      (all_of (node.hash % count) ≡ (length init, node.hash) ∷ bucket_of (node.hash % count)) × IsPath (next_of init) node.next (symbols_of (bucket_of (node.hash % count)))
+  first_parts begins =
+      let k : ℕ = node.hash % count in
+      let is : all_of k ≡ put (length init) node.hash (bucket_of k) = all_is k ∙ ap (λ t. cond t (put (length init) node.hash (bucket_of k)) (bucket_of k)) (eqb-equal k k refl) in
+      let r = unput (length init) node.hash (bucket_of k) [] (all_of k) (sym is) tt begins in
+      let split : all_of k ≡ (length init, node.hash) ∷ bucket_of k = r.1 ∙ ap (λ es. (length init, node.hash) ∷ es) (sym r.2) in
+      let path = rw split at (linked.paths k) in
+      (split, init-kept k node.next (rw last_is at path.1))
 
-  pub unplace_behind : (p : ℕ) → p < length init → IsPredecessor node.hash (all_of (node.hash % length heads)) p →
-      IsLinked heads (set init p (record { hash = (node_at init p).hash; next = node.next }))
+  pub unplace_first : BeginsAtOrAbove node.hash (all_of (node.hash % count)) → IsLinked count init × (node.next ≡ leader_of (bucket_of (node.hash % count)))
+  unplace_first begins =
+      let k : ℕ = node.hash % count in
+      let parts = first_parts begins in
+      let leads : node.next ≡ leader_of (bucket_of k) = path_leader (next_of init) node.next (bucket_of k) parts.1 in
+      let cases : (b : ℕ) (t : Bool) → eqb k b ≡ t → all_of b ≡ cond t (put (length init) node.hash (bucket_of b)) (bucket_of b) → IsPath (next_of init) (leader_of (bucket_of b)) (symbols_of (bucket_of b)) = λ b. elim [
+        | true ↦ λ e is. (let q : k ≡ b = eqb-true k b e in rw (← q) (rw leads at parts.1))
+        | false ↦ λ e is. init-kept b (leader_of (bucket_of b)) (rw is at (linked.paths b))
+      ] in
+      (record { paths = λ b. cases b (eqb k b) refl (all_is b); few = few_left; numbered = numbered_left }, leads)
+
+  -- the first symbol of the last node's bucket stays where another stands in front of the node
+  pub leader_stays : (p : ℕ) → IsPredecessor node.hash (all_of (node.hash % count)) p → leader_of (bucket_of (node.hash % count)) ≡ leader_of (all_of (node.hash % count))
+  leader_stays p pred =
+      let k : ℕ = node.hash % count in
+      let is : all_of k ≡ put (length init) node.hash (bucket_of k) = all_is k ∙ ap (λ t. cond t (put (length init) node.hash (bucket_of k)) (bucket_of k)) (eqb-equal k k refl) in
+      let joined : all_of k ≡ (pred.front ++ (p, pred.hash) ∷ []) ++ pred.behind = pred.split ∙ sym (append_assoc pred.front ((p, pred.hash) ∷ []) pred.behind) in
+      let r = unput (length init) node.hash (bucket_of k) (pred.front ++ (p, pred.hash) ∷ []) pred.behind (sym is ∙ joined) pred.smaller pred.others in
+      let kept : bucket_of k ≡ pred.front ++ (p, pred.hash) ∷ r.0 = r.2 ∙ append_assoc pred.front ((p, pred.hash) ∷ []) r.0 in
+      ap leader_of kept ∙ leader_same pred.front (p, pred.hash) r.0 pred.behind ∙ ap leader_of (sym pred.split)
+
+  pub unplace_behind : (p : ℕ) → p < length init → IsPredecessor node.hash (all_of (node.hash % count)) p →
+      IsLinked count (set init p (record { hash = (node_at init p).hash; next = node.next }))
   unplace_behind p l pred =
-      let k : ℕ = node.hash % length heads in
+      let k : ℕ = node.hash % count in
       let changed : Node = record { hash = (node_at init p).hash; next = node.next } in
       let left : List Node = set init p changed in
       let at_p : next_of left p ≡ next_of whole (length init) = ap (λ (n : Node). n.next) (get_or-set_same init p changed none_node l) ∙ sym last_is in
@@ -312,7 +331,7 @@ module _ (heads : List (Option Symbol)) (init : List Node) (node : Node) (linked
       let hash_p : (node_at init p).hash ≡ get_or (hashes_of init) p 0 = sym (get_or-map (λ (n : Node). n.hash) init p none_node 0 l) in
       let hashes : hashes_of left ≡ hashes_of init =
       map-set (λ (n : Node). n.hash) init p changed ∙ ap (λ h. set (hashes_of init) p h) hash_p ∙ set-get_or (hashes_of init) p 0 in
-      let cases : (b : ℕ) (t : Bool) → eqb k b ≡ t → all_of b ≡ cond t (put (length init) node.hash (bucket_of b)) (bucket_of b) → IsPath (next_of left) (get_or heads b None) (symbols_of (bucket_of b)) = λ b. elim [
+      let cases : (b : ℕ) (t : Bool) → eqb k b ≡ t → all_of b ≡ cond t (put (length init) node.hash (bucket_of b)) (bucket_of b) → IsPath (next_of left) (leader_of (bucket_of b)) (symbols_of (bucket_of b)) = λ b. elim [
         | true ↦ λ e is.
             (let q : k ≡ b = eqb-true k b e in
             let split : all_of b ≡ pred.front ++ (p, pred.hash) ∷ pred.behind = rw (← q) pred.split in
@@ -323,16 +342,17 @@ module _ (heads : List (Option Symbol)) (init : List Node) (node : Node) (linked
             ap symbols_of (split ∙ ap (λ x. pred.front ++ (p, pred.hash) ∷ x) r.1) ∙ symbols_split pred.front (p, pred.hash) ((length init, node.hash) ∷ r.0) in
             let some : symbols_of (bucket_of b) ≡ symbols_of pred.front ++ p ∷ symbols_of r.0 = ap symbols_of kept ∙ symbols_split pred.front (p, pred.hash) r.0 in
             let below = rw some at (init-below b) in
-            let beside = distinct_beside (symbols_of pred.front) p (symbols_of r.0) (rw some at (chain-distinct (length heads) b (hashes_of init))) in
+            let beside = distinct_beside (symbols_of pred.front) p (symbols_of r.0) (rw some at (chain-distinct count b (hashes_of init))) in
             let front = Each-weaker _ (λ s. next_of left s ≡ next_of whole s) same _ (both (λ s. s < length init) (λ s. s ≢ p) _ (Each-left (λ s. s < length init) (symbols_of pred.front) (p ∷ symbols_of r.0) below) beside.0) in
             let behind = Each-weaker _ (λ s. next_of left s ≡ next_of whole s) same _ (both (λ s. s < length init) (λ s. s ≢ p) _ (Each-right (λ s. s < length init) (symbols_of pred.front) (p ∷ symbols_of r.0) below).1 beside.1) in
+            let leads : leader_of (bucket_of b) ≡ leader_of (all_of b) = ap leader_of kept ∙ leader_same pred.front (p, pred.hash) r.0 pred.behind ∙ ap leader_of (sym split) in
             let path = rw full at (linked.paths b) in
-            rw some (path_cut (next_of whole) (next_of left) (get_or heads b None) (symbols_of pred.front) p (length init) (symbols_of r.0) front behind at_p path))
+            rw (some, leads) (path_cut (next_of whole) (next_of left) (leader_of (all_of b)) (symbols_of pred.front) p (length init) (symbols_of r.0) front behind at_p path))
         | false ↦ λ e is.
-            (let entry = (Each-right (IsEntry (length heads) k (hashes_of whole)) pred.front ((p, pred.hash) ∷ pred.behind) (rw pred.split at (chain-each (length heads) k (hashes_of whole)))).0 in
+            (let entry = (Each-right (IsEntry count k (hashes_of whole)) pred.front ((p, pred.hash) ∷ pred.behind) (rw pred.split at (chain-each count k (hashes_of whole)))).0 in
             let differ : AllByRecursion (λ s. s ≢ p) (symbols_of (bucket_of b)) =
-            each_symbol (λ s. s ≢ p) (bucket_of b) (Each-weaker (IsEntry (length heads) b (hashes_of whole)) (λ (x : ℕ × ℕ). x.0 ≢ p)
-            (λ x h q. eqb-false k b e (sym entry.2 ∙ ap (λ v. v % length heads) (sym (entry.1 0) ∙ ap (λ s. get_or (hashes_of whole) s 0) (sym q) ∙ h.1 0) ∙ h.2)) _ (rw is at (chain-each (length heads) b (hashes_of whole)))) in
+            each_symbol (λ s. s ≢ p) (bucket_of b) (Each-weaker (IsEntry count b (hashes_of whole)) (λ (x : ℕ × ℕ). x.0 ≢ p)
+            (λ x h q. eqb-false k b e (sym entry.2 ∙ ap (λ v. v % count) (sym (entry.1 0) ∙ ap (λ s. get_or (hashes_of whole) s 0) (sym q) ∙ h.1 0) ∙ h.2)) _ (rw is at (chain-each count b (hashes_of whole)))) in
             let path = rw is at (linked.paths b) in
             path_kept (next_of whole) (next_of left) _ _ (Each-weaker _ (λ s. next_of left s ≡ next_of whole s) same _ (both (λ s. s < length init) (λ s. s ≢ p) _ (init-below b) differ)) path)
       ] in
@@ -348,21 +368,34 @@ init_split nodes node i e read =
     let all : take (i + 1) nodes ≡ nodes = take_all (i + 1) nodes (omega arith) in
     sym all ∙ rw (← read) at (take_more nodes i node l)
 
-module _ (heads : List (Option Symbol)) (nodes : List Node) (linked : IsLinked heads nodes) (node : Node) (i : ℕ) (last : i + 1 ≡ length nodes) (read : node ≡ get_or nodes i node) where
-  split_linked : IsLinked heads (take i nodes ++ node ∷ [])
-  split_linked = (let P : List Node → Type 0 = λ ns. IsLinked heads ns in subst P (init_split nodes node i last read) linked)
+module _ (count : ℕ) (nodes : List Node) (linked : IsLinked count nodes) (node : Node) (i : ℕ) (last : i + 1 ≡ length nodes) (read : node ≡ get_or nodes i node) where
+  split_linked : IsLinked count (take i nodes ++ node ∷ [])
+  split_linked = (let P : List Node → Type 0 = λ ns. IsLinked count ns in subst P (init_split nodes node i last read) linked)
 
-  pub cut_first : node.hash % length heads < length heads → BeginsAtOrAbove node.hash (chain_from (length heads) (node.hash % length heads) 0 [] (hashes_of nodes)) →
-      IsLinked (set heads (node.hash % length heads) node.next) (take i nodes)
-  cut_first l begins =
-      let P : List Node → Type 0 = λ ns. BeginsAtOrAbove node.hash (chain_from (length heads) (node.hash % length heads) 0 [] (hashes_of ns)) in
-      unplace_first heads (take i nodes) node split_linked l (subst P (init_split nodes node i last read) begins)
+  abbrev last_bucket : List Node → List (ℕ × ℕ)
+  last_bucket ns = chain_from count (node.hash % count) 0 [] (hashes_of ns)
+
+  split_hashes : hashes_of nodes ≡ hashes_of (take i nodes) ++ node.hash ∷ []
+  split_hashes = ap hashes_of (init_split nodes node i last read) ∙ map-append (λ (n : Node). n.hash) (take i nodes) (node ∷ [])
+
+  -- the other buckets stay, and this one isn't empty before
+  pub others_stay : (b : ℕ) → b ≢ node.hash % count → chain_from count b 0 [] (hashes_of (take i nodes)) ≡ chain_from count b 0 [] (hashes_of nodes)
+  others_stay b other = sym (ap (chain_from count b 0 []) split_hashes ∙ chain_stays count b (hashes_of (take i nodes)) node.hash other)
+
+  pub last_some : last_bucket nodes ≡ [] → ⊥
+  last_some none =
+      put_some (length (hashes_of (take i nodes))) node.hash (last_bucket (take i nodes)) (sym (ap (chain_from count (node.hash % count) 0 []) split_hashes ∙ chain_grows count (hashes_of (take i nodes)) node.hash) ∙ none)
+
+  pub cut_first : BeginsAtOrAbove node.hash (last_bucket nodes) → IsLinked count (take i nodes) × (node.next ≡ leader_of (last_bucket (take i nodes)))
+  cut_first begins =
+      let P : List Node → Type 0 = λ ns. BeginsAtOrAbove node.hash (last_bucket ns) in
+      unplace_first count (take i nodes) node split_linked (subst P (init_split nodes node i last read) begins)
 
   -- the predecessor is not the last node itself
-  pub predecessor_below : (p : ℕ) → IsPredecessor node.hash (chain_from (length heads) (node.hash % length heads) 0 [] (hashes_of nodes)) p → p < i
+  pub predecessor_below : (p : ℕ) → IsPredecessor node.hash (last_bucket nodes) p → p < i
   predecessor_below p pred =
-      let l = predecessor_within heads nodes linked node.hash (node.hash % length heads) p pred in
-      let entry = (Each-right (IsEntry (length heads) (node.hash % length heads) (hashes_of nodes)) pred.front ((p, pred.hash) ∷ pred.behind) (rw pred.split at (chain-each (length heads) (node.hash % length heads) (hashes_of nodes)))).0 in
+      let l = predecessor_within count nodes linked node.hash (node.hash % count) p pred in
+      let entry = (Each-right (IsEntry count (node.hash % count) (hashes_of nodes)) pred.front ((p, pred.hash) ∷ pred.behind) (rw pred.split at (chain-each count (node.hash % count) (hashes_of nodes)))).0 in
       let smaller = (Each-right (λ (e : ℕ × ℕ). e.1 < node.hash) pred.front ((p, pred.hash) ∷ []) pred.smaller).0 in
       let li : i < length nodes = omega arith in
       elim (eqb_tells p i) [
@@ -370,12 +403,14 @@ module _ (heads : List (Option Symbol)) (nodes : List Node) (linked : IsLinked h
         | inr n ↦ omega arith
       ]
 
-  pub cut_behind : (p : ℕ) → IsPredecessor node.hash (chain_from (length heads) (node.hash % length heads) 0 [] (hashes_of nodes)) p →
-      IsLinked heads (set (take i nodes) p (record { hash = (node_at (take i nodes) p).hash; next = node.next }))
+  pub cut_behind : (p : ℕ) → IsPredecessor node.hash (last_bucket nodes) p →
+      IsLinked count (set (take i nodes) p (record { hash = (node_at (take i nodes) p).hash; next = node.next })) × (leader_of (last_bucket (take i nodes)) ≡ leader_of (last_bucket nodes))
   cut_behind p pred =
-      let P : List Node → Type 0 = λ ns. IsPredecessor node.hash (chain_from (length heads) (node.hash % length heads) 0 [] (hashes_of ns)) p in
+      let P : List Node → Type 0 = λ ns. IsPredecessor node.hash (last_bucket ns) p in
+      let split = init_split nodes node i last read in
       let l : p < length (take i nodes) = omega (arith, predecessor_below p pred, length-take-le i nodes (omega arith)) in
-      unplace_behind heads (take i nodes) node split_linked p l (subst P (init_split nodes node i last read) pred)
+      let parted : IsPredecessor node.hash (last_bucket (take i nodes ++ node ∷ [])) p = subst P split pred in
+      (unplace_behind count (take i nodes) node split_linked p l parted, leader_stays count (take i nodes) node split_linked p parted ∙ ap (λ ns. leader_of (last_bucket ns)) (sym split))
 
 -- the hashes once a link was changed
 pub hashes_relinked : (nodes : List Node) (old : Node) (p : ℕ) (next : Option Symbol) → p < length nodes → old ≡ node_at nodes p →

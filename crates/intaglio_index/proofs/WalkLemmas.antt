@@ -1,8 +1,9 @@
 -- A walk along a bucket.
 use Rattle.std.proofs.Common.{◌≡◌, ℕ, ◌<◌, ◌≤◌, List, [], ◌∷◌, ◌++◌, length, cond, false, refl, sym, ap, ◌∙◌, arith, eqb, Option, Some, None, append_assoc}
 use Rattle.std.specs.Option.{MatchOption}
-use Rattle.std.specs.List.{AllByRecursion, IsDistinct}
+use Rattle.std.specs.List.{IsDistinct}
 use Rattle.std.proofs.lemmas.List.{map-append}
+use Rattle.intaglio_index.specs.Found.{IsAt}
 use Rattle.intaglio_index.specs.Placed.{Placed, chain, head_of, symbols_of, BeginsAtOrAbove, IsPredecessor, IsEntry}
 use Rattle.intaglio_index.proofs.ChainLemmas.{chain-distinct, chain-each, eqb-equal, Each-right, Each-append}
 
@@ -29,15 +30,6 @@ pub rest_of-at : (path seen rest : List (ℕ × ℕ)) (candidate : Option (ℕ �
 rest_of-at path seen rest candidate split d next =
     rw (split, next) (rest_of-split seen rest (rw split at d))
 
--- where the search for the predecessor stands
-pub record IsAt (h : ℕ) (path : List (ℕ × ℕ)) (last : Option ℕ) (candidate : Option (ℕ × ℕ)) : Type 0 where
-  pub front : List (ℕ × ℕ)
-  pub rest : List (ℕ × ℕ)
-  pub split : path ≡ front ++ rest
-  pub next : candidate ≡ head_of rest
-  pub smaller : AllByRecursion (λ (e : ℕ × ℕ). e.1 < h) front
-  pub last_is : MatchOption last (front ≡ []) (λ p. (init : List (ℕ × ℕ)) × (hash : ℕ) × (front ≡ init ++ (p, hash) ∷ []))
-
 pub some_rest : (rest : List (ℕ × ℕ)) (e : ℕ × ℕ) → Some e ≡ head_of rest → (behind : List (ℕ × ℕ)) × (rest ≡ e ∷ behind)
 some_rest [] e q = cc
 some_rest (x ∷ xs) e q = (xs, cc)
@@ -51,7 +43,7 @@ module _ (v : Placed) (b : ℕ) where
       let rest = some_rest at.rest e at.next in
       (rest.0, at.split ∙ ap (λ r. at.front ++ r) rest.1)
 
-  distinct : IsDistinct eqb (symbols_of (chain v b))
+  pub distinct : IsDistinct eqb (symbols_of (chain v b))
   unfolding chain
   distinct = chain-distinct v.count b v.hashes
 
@@ -69,15 +61,22 @@ module _ (v : Placed) (b : ℕ) where
         last_is = (at.front, k, refl);
       }
 
+  -- behind an entry there is less of the path than from it on
+  pub nearer : (front : List (ℕ × ℕ)) (s k : ℕ) (behind : List (ℕ × ℕ)) (next : Option (ℕ × ℕ)) → chain v b ≡ front ++ (s, k) ∷ behind →
+      ((before behind : List (ℕ × ℕ)) → chain v b ≡ before ++ (s, k) ∷ behind → next ≡ head_of behind) →
+      length (rest_of (chain v b) next) < length (rest_of (chain v b) (Some (s, k)))
+  nearer front s k behind next split after =
+      let now : rest_of (chain v b) (Some (s, k)) ≡ (s, k) ∷ behind = rest_of-at (chain v b) front ((s, k) ∷ behind) (Some (s, k)) split distinct refl in
+      let later : chain v b ≡ (front ++ (s, k) ∷ []) ++ behind = split ∙ sym (append_assoc front ((s, k) ∷ []) behind) in
+      let then : rest_of (chain v b) next ≡ behind = rest_of-at (chain v b) (front ++ (s, k) ∷ []) behind next later distinct (after front behind split) in
+      rw (now, then) (omega arith)
+
   pub falls : (h : ℕ) (last : Option ℕ) (s k : ℕ) (next : Option (ℕ × ℕ)) → IsAt h (chain v b) last (Some (s, k)) →
       ((before behind : List (ℕ × ℕ)) → chain v b ≡ before ++ (s, k) ∷ behind → next ≡ head_of behind) →
       length (rest_of (chain v b) next) < length (rest_of (chain v b) (Some (s, k)))
   falls h last s k next at after =
       let rest = standing h last (s, k) at in
-      let now : rest_of (chain v b) (Some (s, k)) ≡ (s, k) ∷ rest.0 = rest_of-at (chain v b) at.front ((s, k) ∷ rest.0) (Some (s, k)) rest.1 distinct refl in
-      let later : chain v b ≡ (at.front ++ (s, k) ∷ []) ++ rest.0 = rest.1 ∙ sym (append_assoc at.front ((s, k) ∷ []) rest.0) in
-      let then : rest_of (chain v b) next ≡ rest.0 = rest_of-at (chain v b) (at.front ++ (s, k) ∷ []) rest.0 next later distinct (after at.front rest.0 rest.1) in
-      rw (now, then) (omega arith)
+      nearer at.front s k rest.0 next rest.1 after
 
   -- the walk stops: nothing is left, or a hash that is not smaller
   begins : (h : ℕ) (rest : List (ℕ × ℕ)) (candidate : Option (ℕ × ℕ)) → candidate ≡ head_of rest → MatchOption candidate (Unit {0}) (λ e. h ≤ e.1) → BeginsAtOrAbove h rest

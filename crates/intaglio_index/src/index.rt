@@ -3,10 +3,12 @@ ghost use Rattle.std.specs.Prelude.{◌≡◌, ◌≤◌, length};
 
 mod changing;
 mod filter;
+mod head;
 mod making;
 mod modulus;
 mod walking;
 
+use head::Head;
 use intaglio_symbol::Symbol;
 use modulus::Modulus;
 use std::alloc::Global;
@@ -21,7 +23,7 @@ pub(crate) struct Node {
 
 /// Symbols in buckets, by the hashes of their contents.
 ///
-/// A bucket takes 9 bytes and a placed symbol 16. No number of a symbol stands for "none": all 2^32 symbols can be placed.
+/// A bucket takes 17 bytes and a placed symbol 16. No number of a symbol stands for "none": all 2^32 symbols can be placed.
 ///
 /// ```
 /// # use intaglio::{Index, Symbol, Work};
@@ -35,7 +37,7 @@ pub(crate) struct Node {
 /// ```
 #[derive(Drop)]
 pub struct Index {
-    heads: Vec<Option<Symbol>>,
+    heads: Vec<Head>,
     nodes: Vec<Node>,
     filters: Vec<u8>,
     modulus: Modulus,
@@ -43,7 +45,7 @@ pub struct Index {
 }
 
 impl Model for Index {
-    ghost use Rattle.std.specs.Prelude.{◌≡◌, min, length, vec_len, vec_capacity};
+    ghost use Rattle.std.specs.Prelude.{◌≡◌, ◌+◌, min, length, vec_len, vec_capacity};
     ghost use Rattle.intaglio_index.specs.Placed.{Placed, placed_code};
 
     ghost Value = { Placed };
@@ -52,6 +54,7 @@ impl Model for Index {
 
     ghost use Rattle.intaglio_index.specs.Links.{IsLinked, hashes_of};
     ghost use Rattle.intaglio_index.specs.Filter.{IsFiltered};
+    ghost use Rattle.intaglio_index.specs.Heads.{IsHeaded};
     ghost use Rattle.intaglio_index.specs.Modulus.{IsModulus};
 
     ghost view = { λ index. record {
@@ -63,7 +66,8 @@ impl Model for Index {
     ghost invariant = { λ index. record {
       modulus : IsModulus index.modulus;
       counted : index.modulus.count ≡ length index.heads.items;
-      linked : IsLinked index.heads.items index.nodes.items;
+      linked : IsLinked (length index.heads.items) index.nodes.items;
+      headed : IsHeaded (index.modulus.mask + 1) index.heads.items index.filters.items (hashes_of index.nodes.items);
       filtered : IsFiltered index.filters.items (length index.heads.items) (hashes_of index.nodes.items);
     } };
 }

@@ -32,6 +32,20 @@ fn meets(rt: &impl Abort, index: &Index, count: u32, hash: u64, wanted: &[u32])
     assert!(rt; next.is_none());
 }
 
+// A search for the hash finds these symbols in this order, and no other.
+fn finds(rt: &impl Abort, index: &Index, count: u32, hash: u64, wanted: &[u32])
+    requires { count ≤ length index.now.hashes }
+{
+    let mut work = Work::new();
+    let mut next = index.find(hash, &mut work);
+    for number in wanted {
+        let symbol = next.expect(rt, "a symbol is missing");
+        assert!(rt; symbol.id() == *number && symbol.id() < count);
+        next = index.find_next(symbol, &mut work);
+    }
+    assert!(rt; next.is_none());
+}
+
 // Symbols of these hashes, in as many buckets, are met in this order.
 fn fills<Rt: Abort + AllocGlobal>(rt: &Rt, hashes: &[u64], hash: u64, wanted: &[u32])
     requires { length hashes.now ≤ 5 }
@@ -46,6 +60,20 @@ fn one_bucket_is_in_order(rt: HostRuntime) {
     fills(&rt, &[23, 18, 13, 8, 3], 28, &[4, 3, 2, 1, 0]);
     fills(&rt, &[13, 3, 23, 8, 13], 28, &[1, 3, 4, 0, 2]);
     fills(&rt, &[13, 3, 23, 8, 13], 2, &[]);
+}
+
+#[test]
+fn a_search_finds_the_symbols_of_its_hash(rt: HostRuntime) {
+    let index = filled(&rt, &[13, 3, 23, 8, 13]);
+    finds(&rt, &index, 5, 3, &[1]);
+    finds(&rt, &index, 5, 13, &[4, 0]);
+    finds(&rt, &index, 5, 23, &[2]);
+    finds(&rt, &index, 5, 18, &[]);
+    let index = filled(&rt, &[32, 16, 48, 16]);
+    finds(&rt, &index, 4, 16, &[3, 1]);
+    finds(&rt, &index, 4, 48, &[2]);
+    finds(&rt, &index, 4, 64, &[]);
+    finds(&rt, &index, 4, 17, &[]);
 }
 
 #[test]

@@ -3,6 +3,7 @@ ghost use Rattle.std.specs.Prelude.{◌≡◌, ◌-◌, ◌<◌, ◌≤◌, ◌+
 ghost use Rattle.intaglio_content.specs.Work.{placed};
 
 use super::filter::marked;
+use super::head::Head;
 use super::{Index, Node};
 use intaglio_content::Work;
 use intaglio_symbol::Symbol;
@@ -34,15 +35,18 @@ impl Index {
         // A proof learns here that the number fits.
         let _number = symbol.id();
         let bucket = self.modulus.bucket(hash);
+        let leader = self.leader(bucket);
         let place = self.predecessor(bucket, hash);
+        let word = self.modulus.word(hash, symbol);
+        let head = self.heads[bucket];
         self.filters[bucket] = marked(self.filters[bucket], hash);
         match place {
             None => {
-                let next = self.heads[bucket];
-                self.nodes.push_reserved(Node { hash, next });
-                self.heads[bucket] = Some(symbol);
+                self.heads[bucket] = head.led(leader.is_none(), word);
+                self.nodes.push_reserved(Node { hash, next: leader });
             }
             Some(last) => {
+                self.heads[bucket] = head.followed(leader, last, word);
                 let at = last.id() as usize;
                 let next = self.nodes[at].next;
                 self.nodes.push_reserved(Node { hash, next });
@@ -58,7 +62,6 @@ impl Index {
         ensures count { self.new.count ≡ self.old.count }
         ensures room { self.new.room ≡ self.old.room }
     {
-        refill(&mut self.heads, None);
         self.filters.fill(0);
         self.nodes.clear();
     }
@@ -89,23 +92,21 @@ impl Index {
         let bucket = self.modulus.bucket(hash);
         match self.predecessor(bucket, hash) {
             None => {
-                self.heads[bucket] = next;
                 self.nodes.truncate(last);
+                match next {
+                    None => self.filters[bucket] = 0,
+                    Some(first) => {
+                        self.heads[bucket] = Head::read(self.modulus, &self.nodes, first);
+                    }
+                }
             }
             Some(before) => {
+                let first = self.modulus.symbol(self.heads[bucket].first);
                 self.nodes.truncate(last);
                 let node = &mut self.nodes[before.id() as usize];
                 node.next = next;
+                self.heads[bucket] = Head::read(self.modulus, &self.nodes, first);
             }
         }
-    }
-}
-
-// Puts a value into each place.
-fn refill<T: Copy>(list: &mut [T], value: T)
-    ensures { list.new ≡ replicate (length list.old) value }
-{
-    for place in list.iter_mut() {
-        *place = value;
     }
 }

@@ -3,6 +3,7 @@ ghost use Rattle.std.specs.Prelude.{◌≡◌, ◌<◌, ◌≤◌, ◌++◌, [],
 ghost use Rattle.intaglio_content.specs.Work.{placed};
 
 use super::Index;
+use super::head::Head;
 use super::modulus::Modulus;
 use intaglio_content::Work;
 use intaglio_symbol::Symbol;
@@ -16,7 +17,14 @@ impl Index {
         ensures made { IfOk result (λ index. index ≡ record { count = count; hashes = []; room = count }) }
         ensures none_needed { count ≡ 0 → IsOk result }
     {
-        let heads = repeated(alloc, None, count)?;
+        let heads = repeated(
+            alloc,
+            Head {
+                first: 0,
+                second: 0,
+            },
+            count,
+        )?;
         let filters = repeated(alloc, 0, count)?;
         let nodes = Vec::with_capacity(alloc, count)?;
         Ok(Index {

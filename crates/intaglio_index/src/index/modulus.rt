@@ -1,6 +1,9 @@
-//! The remainder by the number of buckets, without a division.
-ghost use Rattle.std.specs.Prelude.{◌≡◌, ◌↔◌, ◌+◌, ◌-◌, ◌/◌, ◌%◌, ◌^◌, ◌<◌, IsTrue};
+//! The bucket of a hash, and words that hold a hash with a symbol.
+ghost use Rattle.std.specs.Prelude.{◌≡◌, ◌↔◌, ◌+◌, ◌-◌, ◌*◌, ◌/◌, ◌%◌, ◌^◌, ◌<◌, IsTrue};
+ghost use Rattle.intaglio_index.specs.Heads.{IsWord};
 ghost use Rattle.intaglio_index.specs.Modulus.{IsModulus};
+
+use intaglio_symbol::Symbol;
 
 /// A number of buckets, with what spares the division by it.
 #[derive(Clone, Copy)]
@@ -50,6 +53,43 @@ impl Modulus {
         } else {
             remainder(hash, self.count, self.inverse) as usize
         }
+    }
+}
+
+// A word is a hash with a symbol in place of the bits under the mask. Where the count is a power of two, these bits are the number
+// of the bucket; so a word and its bucket tell the whole hash.
+impl Modulus {
+    pub fn word(self, hash: u64, symbol: Symbol) -> u64
+        requires made { IsModulus self }
+        requires below { symbol < self.mask + 1 }
+        ensures { IsWord (self.mask + 1) (symbol, hash) result }
+    {
+        self.high(hash) + u64::from(symbol.id())
+    }
+
+    // The symbol of a word.
+    pub fn symbol(self, word: u64) -> Symbol
+        requires made { IsModulus self }
+        requires number { word % (self.mask + 1) < 2 ^ 32 }
+        ensures { result ≡ word % (self.mask + 1) }
+    {
+        Symbol::new((word & self.mask) as u32)
+    }
+
+    // Whether a word and a hash are the same above the mask.
+    pub fn agrees(self, word: u64, hash: u64) -> bool
+        requires { IsModulus self }
+        ensures { IsTrue result ↔ (word / (self.mask + 1) ≡ hash / (self.mask + 1)) }
+    {
+        word ^ hash <= self.mask
+    }
+
+    // The hash with no bits under the mask.
+    pub fn high(self, hash: u64) -> u64
+        requires { IsModulus self }
+        ensures { result ≡ hash / (self.mask + 1) * (self.mask + 1) }
+    {
+        hash - (hash & self.mask)
     }
 }
 

@@ -3,8 +3,9 @@ ghost use Rattle.std.specs.Prelude.{◌≡◌, ◌≢◌, ◌%◌, ◌<◌, ◌+
 ghost use Rattle.std.specs.Option.{option_map};
 ghost use Rattle.std.specs.List.{AllByRecursion};
 ghost use Rattle.std.specs.List.Sorted.{IsPermutation};
-ghost use Rattle.intaglio_content.specs.Work.{step};
-ghost use Rattle.intaglio_index.specs.Placed.{chain, members, head_of, symbols_of, AreSorted, BeginsAtOrAbove, IsPredecessor, IsEntry};
+ghost use Rattle.intaglio_content.specs.Work.{Mark, step};
+ghost use Rattle.intaglio_index.specs.Found.{IsFound, IsPassed, IsReached, IsAt};
+ghost use Rattle.intaglio_index.specs.Placed.{chain, members, head_of, leader_of, leader_with, symbols_of, AreSorted, BeginsAtOrAbove, IsPredecessor, IsEntry};
 ghost use Rattle.intaglio_index.specs.Links.{entry_of};
 ghost use Rattle.intaglio_symbol.specs.declared.symbol.Symbol.{Symbol};
 
@@ -60,6 +61,91 @@ impl Index {
         self.front(bucket)
     }
 
+    /// The first symbol of this hash, if one was placed.
+    ///
+    /// One step for each symbol of the bucket up to it; where there is none, at least one, and at most one more than the bucket
+    /// has symbols. A bucket's head has the first two symbols with the high bits of their hashes, so that most look-ups read no
+    /// more of the index than a filter and a head.
+    pub fn find(&self, hash: u64, work: &mut Work) -> Option<Symbol>
+        ensures found { IfSome result (λ symbol. IsFound hash (chain self.now (hash % self.now.count)) work.old.marks work.new.marks symbol) }
+        ensures none { result ≡ None → AllByRecursion (λ placed. placed ≢ hash) self.now.hashes }
+        ensures passed { result ≡ None → IsPassed (chain self.now (hash % self.now.count)) work.old.marks work.new.marks }
+    {
+        work.step(); // also where the filter says no
+        if self.heads.is_empty() {
+            return None;
+        }
+        let bucket = self.modulus.bucket(hash);
+        if !is_marked(self.filters[bucket], hash) {
+            return None;
+        }
+        let head = self.heads[bucket];
+        let word = head.nearest(self.modulus, hash);
+        if !self.modulus.agrees(word, hash) {
+            if hash < head.second || head.first == head.second {
+                return None;
+            }
+            work.step(); // past the first symbol
+            work.step(); // and the second
+            let second = self.modulus.symbol(head.second);
+            return self.find_along(self.behind(second), hash, work);
+        }
+        let symbol = self.modulus.symbol(word);
+        if !self.modulus.is_power_of_two() && self.nodes[symbol.id() as usize].hash != hash {
+            return self.find_along(self.front(bucket), hash, work);
+        }
+        if word == head.first {
+            return Some(symbol);
+        }
+        work.step(); // past the first symbol alone
+        Some(symbol)
+    }
+
+    // The first symbol of the hash from a candidate on.
+    fn find_along(
+        &self,
+        candidate: Option<(Symbol, u64)>,
+        hash: u64,
+        work: &mut Work,
+    ) -> Option<Symbol>
+        requires { (start : List Mark) × IsReached hash (chain self.now (hash % self.now.count)) start work.old.marks candidate }
+        ensures found { IfSome result (λ symbol. (start : List Mark) →
+            IsReached hash (chain self.now (hash % self.now.count)) start work.old.marks candidate →
+            IsFound hash (chain self.now (hash % self.now.count)) start work.new.marks symbol) }
+        ensures none { result ≡ None → AllByRecursion (λ placed. placed ≢ hash) self.now.hashes }
+        ensures passed { result ≡ None → (start : List Mark) →
+            IsReached hash (chain self.now (hash % self.now.count)) start work.old.marks candidate →
+            IsPassed (chain self.now (hash % self.now.count)) start work.new.marks }
+    {
+        let mut candidate = candidate;
+        while let Some(found) = candidate {
+            if hash < found.1 {
+                return None;
+            }
+            if hash == found.1 {
+                return Some(found.0);
+            }
+            work.step(); // past this symbol
+            candidate = self.behind(found.0);
+        }
+        None
+    }
+
+    /// The symbol behind a placed one in its bucket, if it has the same hash. One step.
+    pub fn find_next(&self, symbol: Symbol, work: &mut Work) -> Option<Symbol>
+        requires { symbol < length self.now.hashes }
+        ensures next { (b hash : ℕ) (before behind : List (ℕ × ℕ)) →
+            chain self.now b ≡ before ++ (symbol, hash) ∷ behind → result ≡ leader_with hash behind }
+        ensures marks { work.new.marks ≡ work.old.marks ++ step ∷ [] }
+    {
+        work.step(); // also at the bucket's end
+        let hash = self.nodes[symbol.id() as usize].hash;
+        match self.behind(symbol) {
+            None => None,
+            Some(found) => { if found.1 == hash { Some(found.0) } else { None } }
+        }
+    }
+
     /// The symbol behind a placed one in its bucket, with its hash; `None` behind the last one. One step.
     pub fn after(&self, symbol: Symbol, work: &mut Work) -> Option<(Symbol, u64)>
         requires { symbol < length self.now.hashes }
@@ -72,11 +158,21 @@ impl Index {
     }
 
     // The first symbol of a bucket.
+    pub(super) fn leader(&self, bucket: usize) -> Option<Symbol>
+        requires { bucket < self.now.count }
+        ensures { result ≡ leader_of (chain self.now bucket) }
+    {
+        if self.filters[bucket] == 0 {
+            return None;
+        }
+        Some(self.modulus.symbol(self.heads[bucket].first))
+    }
+
     fn front(&self, bucket: usize) -> Option<(Symbol, u64)>
         requires { bucket < self.now.count }
         ensures { result ≡ head_of (chain self.now bucket) }
     {
-        entry(&self.nodes, self.heads[bucket])
+        entry(&self.nodes, self.leader(bucket))
     }
 
     fn behind(&self, symbol: Symbol) -> Option<(Symbol, u64)>
@@ -87,14 +183,41 @@ impl Index {
         entry(&self.nodes, self.nodes[symbol.id() as usize].next)
     }
 
-    // The last of the symbols at a bucket's front that have smaller hashes.
+    // The last of the symbols at the front of the hash's bucket that have smaller hashes.
     pub(super) fn predecessor(&self, bucket: usize, hash: u64) -> Option<Symbol>
-        requires { bucket < self.now.count }
-        ensures { MatchOption result (BeginsAtOrAbove hash (chain self.now bucket))
-            (λ last. IsPredecessor hash (chain self.now bucket) last) }
+        requires bucket { bucket ≡ hash % self.now.count }
+        requires within { bucket < self.now.count }
+        ensures { MatchOption result (BeginsAtOrAbove hash (chain self.now (hash % self.now.count)))
+            (λ last. IsPredecessor hash (chain self.now (hash % self.now.count)) last) }
     {
-        let mut last = None;
-        let mut candidate = self.front(bucket);
+        if !self.modulus.is_power_of_two() {
+            return self.last_below(None, self.front(bucket), hash);
+        }
+        let head = self.heads[bucket];
+        let high = self.modulus.high(hash);
+        if self.filters[bucket] == 0 || high <= head.first {
+            return None;
+        }
+        if high <= head.second {
+            return Some(self.modulus.symbol(head.first));
+        }
+        let second = self.modulus.symbol(head.second);
+        self.last_below(Some(second), self.behind(second), hash)
+    }
+
+    // The same from a candidate on, where `last` stands in front of it.
+    fn last_below(
+        &self,
+        last: Option<Symbol>,
+        candidate: Option<(Symbol, u64)>,
+        hash: u64,
+    ) -> Option<Symbol>
+        requires { IsAt hash (chain self.now (hash % self.now.count)) last candidate }
+        ensures { MatchOption result (BeginsAtOrAbove hash (chain self.now (hash % self.now.count)))
+            (λ last. IsPredecessor hash (chain self.now (hash % self.now.count)) last) }
+    {
+        let mut last = last;
+        let mut candidate = candidate;
         while let Some(found) = candidate {
             if hash <= found.1 {
                 break;

@@ -1,0 +1,260 @@
+-- What a search along a bucket finds.
+use Rattle.std.proofs.Common.{◌≡◌, ◌≢◌, ◌⊎◌, ℕ, ◌+◌, ◌*◌, ◌/◌, ◌%◌, ◌<◌, ◌≤◌, List, [], ◌∷◌, ◌++◌, length, get_or, replicate, Option, Some, None, refl, sym, ap, ◌∙◌, arith, inl, inr, append_assoc, length-append}
+use Rattle.std.specs.Option.{MatchOption, IfSome}
+use Rattle.std.specs.List.{AllByRecursion}
+use Rattle.std.proofs.lemmas.Bool.Decides.{eqb_tells}
+use Rattle.std.proofs.lemmas.Grind.{replicate_next}
+use Rattle.std.proofs.lemmas.List.{get_or_default, get_or-map, length-map}
+use Rattle.std.proofs.lemmas.List.Elements.{recursion_from_All}
+use Rattle.intaglio_content.specs.Work.{Mark, step}
+use Rattle.intaglio_index.specs.declared.index.head.Head.{Head}
+use Rattle.intaglio_index.specs.declared.index.Node.{Node}
+use Rattle.intaglio_index.specs.Links.{hashes_of}
+use Rattle.intaglio_index.specs.Placed.{Placed, chain, chain_from, head_of, leader_with, IsEntry, BeginsAtOrAbove, IsPredecessor}
+use Rattle.intaglio_index.specs.Found.{IsFound, IsPassed, IsReached, IsAt}
+use Rattle.intaglio_index.specs.Heads.{IsHead}
+use Rattle.intaglio_index.proofs.ChainLemmas.{Each-weaker, Each-right, Each-append, eqb-equal, eqb-unequal, chain-complete, chain-each, chain-entries, entry_split, InOrder}
+use Rattle.intaglio_index.proofs.HeadLemmas.{IsOccupied, order, apart, entries, first_within, second_within, none_by_words, both_below, second_agrees}
+use Rattle.intaglio_index.proofs.Words.{same_number, high_below, high_above}
+use Rattle.intaglio_index.proofs.WalkLemmas.{rest_of, some_rest, nearer}
+
+-- a hash that no entry of its bucket has was not placed
+pub absent_on : (v : Placed) (hash : ℕ) → AllByRecursion (λ (e : ℕ × ℕ). e.1 ≢ hash) (chain v (hash % v.count)) → AllByRecursion (λ placed. placed ≢ hash) v.hashes
+unfolding chain
+absent_on v hash none =
+    recursion_from_All (λ placed. placed ≢ hash) v.hashes (λ i d l e.
+    (let at : get_or v.hashes i 0 ≡ hash = get_or_default v.hashes i 0 d l ∙ e in
+    let found = chain-complete v.count (hash % v.count) v.hashes i l (rw at refl) in
+    let parts = entry_split (chain_from v.count (hash % v.count) 0 [] v.hashes) i found in
+    let each = rw parts.3 at (chain-each v.count (hash % v.count) v.hashes) in
+    let entry = (Each-right (IsEntry v.count (hash % v.count) v.hashes) parts.0 (parts.1 ∷ parts.2) each).0 in
+    let other = (Each-right (λ (x : ℕ × ℕ). x.1 ≢ hash) parts.0 (parts.1 ∷ parts.2) (rw parts.3 at none)).0 in
+    other (sym (entry.1 0) ∙ ap (λ s. get_or v.hashes s 0) parts.4 ∙ at)))
+
+pub entry_is : (e : ℕ × ℕ) (s h : ℕ) → e.0 ≡ s → e.1 ≡ h → e ≡ (s, h)
+entry_is e s h p q = rw (← p, ← q) refl
+
+steps_push : (old now new : List Mark) (front : List (ℕ × ℕ)) (e : ℕ × ℕ) → now ≡ old ++ replicate (length front + 1) step → new ≡ now ++ step ∷ [] → new ≡ old ++ replicate (length (front ++ e ∷ []) + 1) step
+steps_push old now new front e marks more =
+    let size : length (front ++ e ∷ []) ≡ length front + 1 = length-append front (e ∷ []) in
+    rw (more, marks, size, replicate_next (length front + 1) step, append_assoc) refl
+
+-- the search is at the bucket's first symbol
+pub begins : (h : ℕ) (path : List (ℕ × ℕ)) (old now : List Mark) (candidate : Option (ℕ × ℕ)) → now ≡ old ++ step ∷ [] → candidate ≡ head_of path → IsReached h path old now candidate
+begins h path old now candidate marks next = record { front = []; rest = path; split = refl; next = next; smaller = tt; marks = marks }
+
+-- behind the first two
+pub begins_third : (h : ℕ) (path : List (ℕ × ℕ)) (old now : List Mark) (candidate : Option (ℕ × ℕ)) (e f : ℕ × ℕ) (fs : List (ℕ × ℕ)) → path ≡ e ∷ f ∷ fs → e.1 < h → f.1 < h →
+    now ≡ old ++ replicate 3 step → candidate ≡ head_of fs → IsReached h path old now candidate
+begins_third h path old now candidate e f fs split first second marks next =
+    record { front = e ∷ f ∷ []; rest = fs; split = split; next = next; smaller = (first, (second, tt)); marks = marks }
+
+module _ (h : ℕ) (path : List (ℕ × ℕ)) (old now : List Mark) where
+  standing : (e : ℕ × ℕ) (at : IsReached h path old now (Some e)) → (behind : List (ℕ × ℕ)) × (path ≡ at.front ++ e ∷ behind)
+  standing e at =
+      let rest = some_rest at.rest e at.next in
+      (rest.0, at.split ∙ ap (λ r. at.front ++ r) rest.1)
+
+  pub goes_on : (s k : ℕ) (new : List Mark) (next : Option (ℕ × ℕ)) → IsReached h path old now (Some (s, k)) → k < h → new ≡ now ++ step ∷ [] →
+      ((before behind : List (ℕ × ℕ)) → path ≡ before ++ (s, k) ∷ behind → next ≡ head_of behind) → IsReached h path old new next
+  goes_on s k new next at l more after =
+      let rest = standing (s, k) at in
+      record {
+        front = at.front ++ (s, k) ∷ [];
+        rest = rest.0;
+        split = rest.1 ∙ sym (append_assoc at.front ((s, k) ∷ []) rest.0);
+        next = after at.front rest.0 rest.1;
+        smaller = Each-append (λ (e : ℕ × ℕ). e.1 < h) at.front ((s, k) ∷ []) at.smaller (l, tt);
+        marks = steps_push old now new at.front (s, k) at.marks more;
+      }
+
+  pub finds : (s k : ℕ) → IsReached h path old now (Some (s, k)) → h ≡ k → IsFound h path old now s
+  finds s k at same =
+      let rest = standing (s, k) at in
+      record { front = at.front; behind = rest.0; split = rest.1 ∙ ap (λ n. at.front ++ (s, n) ∷ rest.0) (sym same); smaller = at.smaller; marks = at.marks }
+
+  -- nothing is left, or a greater hash
+  pub passes : (candidate : Option (ℕ × ℕ)) → IsReached h path old now candidate → IsPassed path old now
+  passes candidate at = record { more = length at.front; few = omega (arith, ap length at.split, length-append at.front at.rest); marks = at.marks }
+
+  others : (candidate : Option (ℕ × ℕ)) (rest : List (ℕ × ℕ)) → candidate ≡ head_of rest → InOrder rest → MatchOption candidate (Unit {0}) (λ e. h < e.1) → AllByRecursion (λ (e : ℕ × ℕ). e.1 ≢ h) rest
+  others candidate [] next order m = tt
+  others candidate (x ∷ xs) next order m =
+      let above : h < x.1 = rw next at m in
+      ((λ q. omega arith), Each-weaker (λ (e : ℕ × ℕ). x.1 ≤ e.1) (λ (e : ℕ × ℕ). e.1 ≢ h) (λ e l q. omega arith) xs order.0)
+
+  order_right : (front rest : List (ℕ × ℕ)) → InOrder (front ++ rest) → InOrder rest
+  order_right [] rest o = o
+  order_right (x ∷ front) rest o = order_right front rest o.1
+
+  pub ends : (candidate : Option (ℕ × ℕ)) → IsReached h path old now candidate → InOrder path → MatchOption candidate (Unit {0}) (λ e. h < e.1) → AllByRecursion (λ (e : ℕ × ℕ). e.1 ≢ h) path
+  ends candidate at order m =
+      let behind = others candidate at.rest at.next (order_right at.front at.rest (rw at.split at order)) m in
+      let front = Each-weaker (λ (e : ℕ × ℕ). e.1 < h) (λ (e : ℕ × ℕ). e.1 ≢ h) (λ e l q. omega arith) at.front at.smaller in
+      rw at.split (Each-append (λ (e : ℕ × ℕ). e.1 ≢ h) at.front at.rest front behind)
+
+-- the candidate is a placed symbol, and each turn comes nearer to the bucket's end
+module _ (v : Placed) (h : ℕ) (old now : List Mark) where
+  pub within : (s k : ℕ) → IsReached h (chain v (h % v.count)) old now (Some (s, k)) → s < length v.hashes
+  unfolding chain
+  within s k at =
+      let rest = standing h (chain v (h % v.count)) old now (s, k) at in
+      let each = rw rest.1 at (chain-each v.count (h % v.count) v.hashes) in
+      (Each-right (IsEntry v.count (h % v.count) v.hashes) at.front ((s, k) ∷ rest.0) each).0.0
+
+  pub falls : (s k : ℕ) (next : Option (ℕ × ℕ)) → IsReached h (chain v (h % v.count)) old now (Some (s, k)) →
+      ((before behind : List (ℕ × ℕ)) → chain v (h % v.count) ≡ before ++ (s, k) ∷ behind → next ≡ head_of behind) →
+      length (rest_of (chain v (h % v.count)) next) < length (rest_of (chain v (h % v.count)) (Some (s, k)))
+  falls s k next at after =
+      let rest = standing h (chain v (h % v.count)) old now (s, k) at in
+      nearer v (h % v.count) at.front s k rest.0 next rest.1 after
+
+pub each_some : (P Q : ℕ → Type 0) (o : Option ℕ) → ((s : ℕ) → P s → Q s) → IfSome o P → IfSome o Q
+each_some P Q None f h = tt
+each_some P Q (Some s) f h = f s h
+
+-- what the head tells of a hash of its bucket
+module _ (v : Placed) (h size : ℕ) (head : Head) (some : 0 < size) (o : IsOccupied v (h % v.count) size head) (old new : List Mark) where
+  -- that no symbol has it
+  pub absent_by_head : head.first / size ≢ h / size → head.second / size ≢ h / size → (h < head.second) ⊎ (head.first ≡ head.second) → AllByRecursion (λ placed. placed ≢ h) v.hashes
+  absent_by_head first second end =
+      absent_on v h (rw o.split (none_by_words size some h head o.e o.es (apart v (h % v.count) size head o) (order v (h % v.count) size head o) o.is first second end))
+
+  -- that the search goes on behind the second one
+  pub third : (candidate : Option (ℕ × ℕ)) → head.second / size ≢ h / size → head.second ≤ h → head.first ≢ head.second → new ≡ old ++ replicate 3 step →
+      ((b hash : ℕ) (before behind : List (ℕ × ℕ)) → chain v b ≡ before ++ (head.second % size, hash) ∷ behind → candidate ≡ head_of behind) →
+      IsReached h (chain v (h % v.count)) old new candidate
+  third candidate second at_most other marks after =
+      let r = both_below size some h head o.e o.es (order v (h % v.count) size head o) o.is second at_most other in
+      let f_is : r.0 ≡ (head.second % size, r.0.1) = entry_is r.0 (head.second % size) r.0.1 (sym r.5) refl in
+      let split : chain v (h % v.count) ≡ o.e ∷ r.0 ∷ r.1 = o.split ∙ ap (λ es. o.e ∷ es) r.2 in
+      let next : candidate ≡ head_of r.1 = after (h % v.count) r.0.1 (o.e ∷ []) r.1 (split ∙ ap (λ f. o.e ∷ f ∷ r.1) f_is) in
+      begins_third h (chain v (h % v.count)) old new candidate o.e r.0 r.1 split r.3 r.4 marks next
+
+  -- an entry of the bucket with the same high bits has the hash, if that was read or if the bucket tells the other bits
+  sure_of : (e : ℕ × ℕ) → IsEntry v.count (h % v.count) v.hashes e → e.1 / size ≡ h / size → (get_or v.hashes e.0 0 ≡ h) ⊎ (v.count ≡ size) → e.1 ≡ h
+  sure_of e entry high sure = elim sure [
+    | inl read ↦ sym (entry.1 0) ∙ read
+    | inr exact ↦ same_number size some e.1 h (rw exact at entry.2) high
+  ]
+
+  -- that it is the first one's
+  pub first_found : head.first / size ≡ h / size → (get_or v.hashes (head.first % size) 0 ≡ h) ⊎ (v.count ≡ size) → new ≡ old ++ step ∷ [] → IsFound h (chain v (h % v.count)) old new (head.first % size)
+  first_found high sure marks =
+      let entry = (entries v (h % v.count) size head o).0 in
+      let is : o.e.1 ≡ h = sure_of o.e entry (sym o.is.0.0 ∙ high) (rw (← o.is.0.1) sure) in
+      let e_is : o.e ≡ (head.first % size, h) = entry_is o.e (head.first % size) h (sym o.is.0.1) is in
+      record { front = []; behind = o.es; split = o.split ∙ ap (λ e. e ∷ o.es) e_is; smaller = tt; marks = marks }
+
+  -- or the second one's
+  pub second_found : head.first / size ≢ h / size → head.second / size ≡ h / size → (get_or v.hashes (head.second % size) 0 ≡ h) ⊎ (v.count ≡ size) → new ≡ old ++ replicate 2 step →
+      IsFound h (chain v (h % v.count)) old new (head.second % size)
+  second_found first high sure marks =
+      let r = second_agrees size some h head o.e o.es (order v (h % v.count) size head o) o.is first high in
+      let each = rw r.2 at (entries v (h % v.count) size head o).1 in
+      let is : r.0.1 ≡ h = sure_of r.0 each.0 r.4 (rw (← r.5) sure) in
+      let f_is : r.0 ≡ (head.second % size, h) = entry_is r.0 (head.second % size) h (sym r.5) is in
+      let split : chain v (h % v.count) ≡ o.e ∷ r.0 ∷ r.1 = o.split ∙ ap (λ es. o.e ∷ es) r.2 in
+      record { front = o.e ∷ []; behind = r.1; split = split ∙ ap (λ f. o.e ∷ f ∷ r.1) f_is; smaller = (r.3, tt); marks = marks }
+
+-- the symbol behind one, if it has the same hash
+pub next_with : (candidate : Option (ℕ × ℕ)) (behind : List (ℕ × ℕ)) (s k h : ℕ) → candidate ≡ head_of behind → candidate ≡ Some (s, k) → k ≡ h → Some s ≡ leader_with h behind
+next_with candidate [] s k h e f same = (let never = sym e ∙ f in cc)
+next_with candidate (x ∷ xs) s k h e f same = (let is : x ≡ (s, k) = cc in rw (is, eqb-equal k h same) refl)
+
+pub next_without : (candidate : Option (ℕ × ℕ)) (behind : List (ℕ × ℕ)) (s k h : ℕ) → candidate ≡ head_of behind → candidate ≡ Some (s, k) → k ≢ h → None ≡ leader_with h behind
+next_without candidate [] s k h e f other = refl
+next_without candidate (x ∷ xs) s k h e f other = (let is : x ≡ (s, k) = cc in rw (is, eqb-unequal k h other) refl)
+
+pub next_none : (candidate : Option (ℕ × ℕ)) (behind : List (ℕ × ℕ)) (h : ℕ) → candidate ≡ head_of behind → candidate ≡ None → None ≡ leader_with h behind
+next_none candidate [] h e f = refl
+next_none candidate (x ∷ xs) h e f = cc
+
+-- an entry's hash is the one that its symbol was placed with
+pub hash_placed : (v : Placed) (b s h : ℕ) (before behind : List (ℕ × ℕ)) → chain v b ≡ before ++ (s, h) ∷ behind → get_or v.hashes s 0 ≡ h
+hash_placed v b s h before behind split =
+    let each = rw split at (chain-entries v b) in
+    (Each-right (IsEntry v.count b v.hashes) before ((s, h) ∷ behind) each).0.1 0
+
+-- steps one after the other
+pub two_steps : (old a b : List Mark) → a ≡ old ++ step ∷ [] → b ≡ a ++ step ∷ [] → b ≡ old ++ replicate 2 step
+two_steps old a b e f = rw (f, e, append_assoc) refl
+
+pub three_steps : (old a b d : List Mark) → a ≡ old ++ step ∷ [] → b ≡ a ++ step ∷ [] → d ≡ b ++ step ∷ [] → d ≡ old ++ replicate 3 step
+three_steps old a b d e f g = rw (g, f, e, append_assoc, append_assoc) refl
+
+-- the word that is nearest a hash is one of the two
+pub nearest_within : (v : Placed) (k size h word : ℕ) (head : Head) → IsOccupied v k size head → (head.first / size ≡ h / size → word ≡ head.first) → (head.first / size ≢ h / size → word ≡ head.second) → word % size < length v.hashes
+nearest_within v k size h word head o first second =
+    elim (eqb_tells (head.first / size) (h / size)) [
+      | inl same ↦ rw (first same.1) (first_within v k size head o)
+      | inr other ↦ rw (second other.1) (second_within v k size head o)
+    ]
+
+-- the hash of a node that was read
+pub hash_read : (v : Placed) (nodes : List Node) (s i : ℕ) (node : Node) → v.hashes ≡ hashes_of nodes → s < length v.hashes → node ≡ get_or nodes i node → i ≡ s → get_or v.hashes s 0 ≡ node.hash
+hash_read v nodes s i node placed within read same =
+    let l : s < length nodes = omega (arith, ap length placed, length-map nodes (λ (n : Node). n.hash)) in
+    let is : node ≡ get_or nodes s node = rw same at read in
+    rw placed (get_or-map (λ (n : Node). n.hash) nodes s node 0 l ∙ ap (λ (n : Node). n.hash) (sym is))
+
+-- where the number of buckets is a power of two, the words of a bucket are in the order of its hashes
+module _ (v : Placed) (h size : ℕ) (head : Head) (some : 0 < size) (exact : v.count ≡ size) (o : IsOccupied v (h % v.count) size head) where
+  low : (e : ℕ × ℕ) → IsEntry v.count (h % v.count) v.hashes e → e.1 % size ≡ h % size
+  low e entry = rw exact at entry.2
+
+  pub begins_above : h / size * size ≤ head.first → BeginsAtOrAbove h (chain v (h % v.count))
+  begins_above l = rw o.split (high_below size some o.e.1 h head.first (low o.e (entries v (h % v.count) size head o).0) o.is.0.0 l)
+
+  first_below : head.first < h / size * size → o.e.1 < h
+  first_below l = high_above size some o.e.1 h head.first o.is.0.0 l
+
+  behind_first : (es : List (ℕ × ℕ)) → IsHead size head (o.e ∷ es) → AllByRecursion (IsEntry v.count (h % v.count) v.hashes) (o.e ∷ es) → o.e.1 < h → h / size * size ≤ head.second → BeginsAtOrAbove h es
+  behind_first [] is each below l = tt
+  behind_first (f ∷ fs) is each below l = high_below size some f.1 h head.second (low f each.1.0) is.1.0 l
+
+  -- the first one alone has a smaller hash
+  pub first_precedes : head.first < h / size * size → h / size * size ≤ head.second → IsPredecessor h (chain v (h % v.count)) (head.first % size)
+  first_precedes first second =
+      let below = first_below first in
+      let e_is : o.e ≡ (head.first % size, o.e.1) = entry_is o.e (head.first % size) o.e.1 (sym o.is.0.1) refl in
+      record {
+        front = [];
+        hash = o.e.1;
+        behind = o.es;
+        split = o.split ∙ ap (λ e. e ∷ o.es) e_is;
+        smaller = (below, tt);
+        others = behind_first o.es o.is (entries v (h % v.count) size head o) below second;
+      }
+
+  -- a walk stands behind the second one
+  stands : (candidate : Option (ℕ × ℕ)) (es : List (ℕ × ℕ)) → o.es ≡ es → IsHead size head (o.e ∷ es) → o.e.1 < h → head.second < h / size * size →
+      ((b hash : ℕ) (before behind : List (ℕ × ℕ)) → chain v b ≡ before ++ (head.second % size, hash) ∷ behind → candidate ≡ head_of behind) →
+      IsAt h (chain v (h % v.count)) (Some (head.second % size)) candidate
+  stands candidate [] rest is below second after =
+      let e_is : o.e ≡ (head.second % size, o.e.1) = entry_is o.e (head.second % size) o.e.1 (sym is.1.1) refl in
+      let whole : chain v (h % v.count) ≡ o.e ∷ [] = o.split ∙ ap (λ es. o.e ∷ es) rest in
+      record {
+        front = o.e ∷ [];
+        rest = [];
+        split = whole;
+        next = after (h % v.count) o.e.1 [] [] (whole ∙ ap (λ e. e ∷ []) e_is);
+        smaller = (below, tt);
+        last_is = ([], o.e.1, ap (λ e. e ∷ []) e_is);
+      }
+  stands candidate (f ∷ fs) rest is below second after =
+      let f_is : f ≡ (head.second % size, f.1) = entry_is f (head.second % size) f.1 (sym is.1.1) refl in
+      let whole : chain v (h % v.count) ≡ o.e ∷ f ∷ fs = o.split ∙ ap (λ es. o.e ∷ es) rest in
+      record {
+        front = o.e ∷ f ∷ [];
+        rest = fs;
+        split = whole;
+        next = after (h % v.count) f.1 (o.e ∷ []) fs (whole ∙ ap (λ x. o.e ∷ x ∷ fs) f_is);
+        smaller = (below, (high_above size some f.1 h head.second is.1.0 second, tt));
+        last_is = (o.e ∷ [], f.1, ap (λ x. o.e ∷ x ∷ []) f_is);
+      }
+
+  pub behind_second : (candidate : Option (ℕ × ℕ)) → head.first < h / size * size → head.second < h / size * size →
+      ((b hash : ℕ) (before behind : List (ℕ × ℕ)) → chain v b ≡ before ++ (head.second % size, hash) ∷ behind → candidate ≡ head_of behind) →
+      IsAt h (chain v (h % v.count)) (Some (head.second % size)) candidate
+  behind_second candidate first second after = stands candidate o.es refl o.is (first_below first) second after

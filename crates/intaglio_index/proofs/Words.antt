@@ -1,0 +1,105 @@
+-- Words that hold a hash with a symbol.
+use Rattle.std.proofs.Common.{◌≡◌, ◌≢◌, ◌↔◌, ℕ, ◌+◌, ◌-◌, ◌*◌, ◌/◌, ◌%◌, ◌^◌, ◌<◌, ◌≤◌, sym, ap, ◌∙◌, arith, inl, inr}
+use Rattle.std.specs.Int.{IsPowerOfTwo, bit_at}
+use Rattle.std.specs.Int.RustNames.{bit_xor}
+use Rattle.std.specs.Int.Bits.{xor_self}
+use Rattle.std.proofs.lemmas.Bool.{cases_lt}
+use Rattle.std.proofs.lemmas.Nat.{pow_pos, pow_below, xor_shr, div-add-mod', div-mul-add, mod-mul-add, div_below, mod_below, mul-add-lt, le-div, pow-add}
+use Rattle.std.proofs.lemmas.Nat.Bits.{bit_at_xor, bit_at-zero, bit_at-lt, same_from_bits}
+use Rattle.std.proofs.Math.Nat.{mul-le-mul_right}
+use Rattle.intaglio_index.specs.Heads.{IsWord}
+
+-- numbers with no bit that one of them has alone are equal
+xor_none : (a b : ℕ) → bit_xor a b ≡ 0 → a ≡ b
+xor_none a b e =
+    same_from_bits a b
+    (λ i.
+    (let sum : bit_at (bit_xor a b) i ≡ (bit_at a i + bit_at b i) % 2 = bit_at_xor a b i in
+    let none : bit_at (bit_xor a b) i ≡ 0 = ap (λ n. bit_at n i) e ∙ bit_at-zero i in
+    omega (arith, sum, none, bit_at-lt a i, bit_at-lt b i)))
+
+-- what is below the size is left of a number that has the same high bits
+agrees_at : (k a b : ℕ) → bit_xor a b < 2 ^ k ↔ (a / 2 ^ k ≡ b / 2 ^ k)
+agrees_at k a b =
+    let some : 0 < 2 ^ k = pow_pos k in
+    let high : bit_xor a b / 2 ^ k ≡ bit_xor (a / 2 ^ k) (b / 2 ^ k) = xor_shr a b k in
+    let whole : bit_xor a b / 2 ^ k * 2 ^ k + bit_xor a b % 2 ^ k ≡ bit_xor a b = div-add-mod' (bit_xor a b) (2 ^ k) in (
+      λ below.
+          (let one : bit_xor a b < 1 * 2 ^ k = omega arith in
+          let least : bit_xor a b / 2 ^ k < 1 = div_below (bit_xor a b) (2 ^ k) 1 some one in
+          let none : bit_xor a b / 2 ^ k ≡ 0 = omega arith in
+          xor_none (a / 2 ^ k) (b / 2 ^ k) (sym high ∙ none)),
+      λ same.
+          (let none : bit_xor a b / 2 ^ k ≡ 0 = high ∙ ap (λ n. bit_xor n (b / 2 ^ k)) same ∙ xor_self (b / 2 ^ k) in
+          let no_blocks : bit_xor a b / 2 ^ k * 2 ^ k ≡ 0 * 2 ^ k = ap (λ n. n * 2 ^ k) none in
+          omega (arith, whole, no_blocks, mod_below (bit_xor a b) (2 ^ k) some)),
+    )
+
+pub agrees_is : (mask a b : ℕ) → IsPowerOfTwo (mask + 1) → bit_xor a b ≤ mask ↔ (a / (mask + 1) ≡ b / (mask + 1))
+agrees_is mask a b power =
+    let at : bit_xor a b < 2 ^ power.0 ↔ (a / 2 ^ power.0 ≡ b / 2 ^ power.0) = agrees_at power.0 a b in
+    let parted : bit_xor a b < mask + 1 ↔ (a / (mask + 1) ≡ b / (mask + 1)) = rw power.1 at in
+    (λ l. parted.0 (omega arith), λ e. (let below : bit_xor a b < mask + 1 = parted.1 e in omega arith))
+
+module _ (size : ℕ) (some : 0 < size) where
+  -- of two numbers in different blocks the one in the lower block is less
+  pub block_below : (a b : ℕ) → a / size < b / size → a < b
+  block_below a b l =
+      let next : a / size + 1 ≤ b / size = omega arith in
+      let scaled : (a / size + 1) * size ≤ b / size * size = mul-le-mul_right size next in
+      omega (arith, scaled, div-add-mod' a size, div-add-mod' b size)
+
+  -- and the block of the less is the lower
+  pub below_block : (a b : ℕ) → a < b → a / size ≢ b / size → a / size < b / size
+  below_block a b l differ = elim (cases_lt (a / size) (b / size)) [
+    | inl less ↦ less
+    | inr at_least ↦
+        elim (cases_lt (b / size) (a / size)) [
+          | inl above ↦ absurd (let back : b < a = block_below b a above in omega arith)
+          | inr at_most ↦ absurd (differ (let same : a / size ≡ b / size = omega arith in same))
+        ]
+  ]
+
+  -- the parts of a word
+  pub word_is : (h s : ℕ) → s < size → IsWord size (s, h) (h / size * size + s)
+  word_is h s l = (div-mul-add (h / size) size s l, mod-mul-add (h / size) size s l)
+
+  -- a word is one of each entry with the same symbol and hash
+  pub word_moved : (a b : ℕ × ℕ) (word : ℕ) → a.0 ≡ b.0 → a.1 ≡ b.1 → IsWord size a word → IsWord size b word
+  word_moved a b word p q w = (w.0 ∙ ap (λ n. n / size) q, w.1 ∙ p)
+
+  -- a word is told by its entry
+  pub word_same : (e : ℕ × ℕ) (a b : ℕ) → IsWord size e a → IsWord size e b → a ≡ b
+  word_same e a b p q =
+      sym (div-add-mod' a size) ∙ ap (λ n. n * size + a % size) (p.0 ∙ sym q.0) ∙ ap (λ n. b / size * size + n) (p.1 ∙ sym q.1) ∙ div-add-mod' b size
+
+  -- where the low bits are the same, the high bits tell the order
+  pub high_below : (a b word : ℕ) → a % size ≡ b % size → word / size ≡ a / size → b / size * size ≤ word → b ≤ a
+  high_below a b word low same l =
+      let blocks : b / size ≤ word / size = le-div (b / size) word size some l in
+      let scaled : b / size * size ≤ a / size * size = mul-le-mul_right size (let q : b / size ≤ a / size = omega arith in q) in
+      omega (arith, scaled, div-add-mod' a size, div-add-mod' b size)
+
+  pub high_above : (a b word : ℕ) → word / size ≡ a / size → word < b / size * size → a < b
+  high_above a b word same l =
+      let blocks : word / size < b / size = div_below word size (b / size) some l in
+      block_below a b (omega arith)
+
+  -- and where the high bits are the same too, so are the numbers
+  pub same_number : (a b : ℕ) → a % size ≡ b % size → a / size ≡ b / size → a ≡ b
+  same_number a b low high =
+      sym (div-add-mod' a size) ∙ ap (λ n. n * size + a % size) high ∙ ap (λ n. b / size * size + n) low ∙ div-add-mod' b size
+
+-- a word of a hash of 64 bits has 64 bits
+pub word_fits : (h s size : ℕ) → IsPowerOfTwo size → size ≤ 2 ^ 64 → h < 2 ^ 64 → s < size → h / size * size + s < 2 ^ 64
+word_fits h s size power within fits below =
+    let k : ℕ = power.0 in
+    let low : k ≤ 64 = elim (cases_lt 64 k) [
+      | inl above ↦ absurd (let more : 2 ^ 64 < 2 ^ k = pow_below 64 k above in omega (arith, power.1))
+      | inr at_most ↦ at_most
+    ] in
+    let parts : 2 ^ 64 ≡ 2 ^ (64 - k) * 2 ^ k = ap (λ n. 2 ^ n) (let sum : 64 ≡ (64 - k) + k = omega arith in sum) ∙ pow-add 2 (64 - k) k in
+    let whole : 2 ^ 64 ≡ 2 ^ (64 - k) * size = parts ∙ ap (λ n. 2 ^ (64 - k) * n) (sym power.1) in
+    let some : 0 < size = omega arith in
+    let block : h / size < 2 ^ (64 - k) = div_below h size (2 ^ (64 - k)) some (omega (arith, whole)) in
+    omega (arith, whole, mul-add-lt (h / size) size s (2 ^ (64 - k)) block below)

@@ -1,0 +1,16 @@
+use Rattle.std.proofs.Common.{◌%◌, List, length}
+use Rattle.intaglio_content.specs.Work.{Mark}
+use Rattle.intaglio_index.specs.Found.{IsReached}
+use Rattle.intaglio_index.specs.Placed.{chain}
+use Rattle.intaglio_index.proofs.WalkLemmas.{rest_of}
+use Rattle.intaglio_index.proofs.index.Index.find_along.Given as goal
+
+abbrev pub invariant-loop-candidate : goal.invariant-loop-candidate
+invariant-loop-candidate l = record {
+  reached : (start : List Mark) × IsReached l.hash (chain l.self (l.hash % l.self.count)) start l.work.marks l.candidate;
+  since : (start : List Mark) → IsReached l.hash (chain l.self (l.hash % l.self.count)) start l.fn.work.marks l.fn.candidate →
+      IsReached l.hash (chain l.self (l.hash % l.self.count)) start l.work.marks l.candidate;
+}
+
+abbrev pub decreases-loop-candidate : goal.decreases-loop-candidate
+decreases-loop-candidate l = length (rest_of (chain l.self (l.hash % l.self.count)) l.candidate)

@@ -1,0 +1,37 @@
+-- Where walks along a bucket stand, and where they end.
+use Rattle.std.specs.Prelude.{◌≡◌, ℕ, ◌+◌, ◌<◌, ◌≤◌, List, [], ◌∷◌, ◌++◌, length, replicate, Option, MatchOption}
+use Rattle.std.specs.List.{AllByRecursion}
+use Rattle.intaglio_content.specs.Work.{Mark, step}
+use Rattle.intaglio_index.specs.Placed.{head_of}
+
+-- the first symbol with a hash, and a step for each symbol up to it
+pub record IsFound (h : ℕ) (path : List (ℕ × ℕ)) (old new : List Mark) (symbol : ℕ) : Type 0 where
+  pub front : List (ℕ × ℕ)
+  pub behind : List (ℕ × ℕ)
+  pub split : path ≡ front ++ (symbol, h) ∷ behind
+  pub smaller : AllByRecursion (λ (e : ℕ × ℕ). e.1 < h) front
+  pub marks : new ≡ old ++ replicate (length front + 1) step
+
+-- a step, and at most one for each symbol
+pub record IsPassed (path : List (ℕ × ℕ)) (old new : List Mark) : Type 0 where
+  pub more : ℕ
+  pub few : more ≤ length path
+  pub marks : new ≡ old ++ replicate (more + 1) step
+
+-- a search that has come to a candidate: the symbols in front of it have smaller hashes
+pub record IsReached (h : ℕ) (path : List (ℕ × ℕ)) (old now : List Mark) (candidate : Option (ℕ × ℕ)) : Type 0 where
+  pub front : List (ℕ × ℕ)
+  pub rest : List (ℕ × ℕ)
+  pub split : path ≡ front ++ rest
+  pub next : candidate ≡ head_of rest
+  pub smaller : AllByRecursion (λ (e : ℕ × ℕ). e.1 < h) front
+  pub marks : now ≡ old ++ replicate (length front + 1) step
+
+-- where the search for the predecessor stands
+pub record IsAt (h : ℕ) (path : List (ℕ × ℕ)) (last : Option ℕ) (candidate : Option (ℕ × ℕ)) : Type 0 where
+  pub front : List (ℕ × ℕ)
+  pub rest : List (ℕ × ℕ)
+  pub split : path ≡ front ++ rest
+  pub next : candidate ≡ head_of rest
+  pub smaller : AllByRecursion (λ (e : ℕ × ℕ). e.1 < h) front
+  pub last_is : MatchOption last (front ≡ []) (λ p. (init : List (ℕ × ℕ)) × (hash : ℕ) × (front ≡ init ++ (p, hash) ∷ []))

@@ -1,0 +1,82 @@
+//! What a bucket keeps of its first two symbols.
+ghost use Rattle.std.specs.Prelude.{◌≡◌, ◌≢◌, ◌↔◌, ℕ, ◌+◌, ◌/◌, ◌≤◌, length, List, [], Some, IsTrue, nat_eq};
+ghost use Rattle.intaglio_index.specs.Heads.{IsWord, IsHead};
+ghost use Rattle.intaglio_index.specs.Links.{IsThread};
+ghost use Rattle.intaglio_index.specs.Modulus.{IsModulus};
+ghost use Rattle.intaglio_index.specs.Placed.{leader_of, symbols_of, put, BeginsAtOrAbove, IsPredecessor};
+ghost use Rattle.std.specs.List.{IsDistinct};
+
+use super::Node;
+use super::modulus::Modulus;
+use intaglio_symbol::Symbol;
+
+/// The words of a bucket's first two symbols. Where there is no second, both are the first one's.
+#[derive(Clone, Copy)]
+pub struct Head {
+    pub first: u64,
+    pub second: u64,
+}
+
+impl Head {
+    // The word that agrees with the hash, if one does: the first, or else the second.
+    pub fn nearest(self, modulus: Modulus, hash: u64) -> u64
+        requires { IsModulus modulus }
+        ensures first { self.first / (modulus.mask + 1) ≡ hash / (modulus.mask + 1) → result ≡ self.first }
+        ensures second { self.first / (modulus.mask + 1) ≢ hash / (modulus.mask + 1) → result ≡ self.second }
+    {
+        if modulus.agrees(self.first, hash) {
+            self.first
+        } else {
+            self.second
+        }
+    }
+
+    // The head once a symbol, of which this is the word, was put in front of all others. `alone`: there are no others.
+    pub fn led(self, alone: bool, word: u64) -> Head
+        ensures { (size s h : ℕ) (path : List (ℕ × ℕ)) → IsHead size self path → IsTrue alone ↔ (path ≡ []) →
+            BeginsAtOrAbove h path → IsWord size (s, h) word → IsHead size result (put s h path) }
+    {
+        let second = if alone { word } else { self.first };
+        Head {
+            first: word,
+            second,
+        }
+    }
+
+    // The head once such a symbol was put behind `last`.
+    pub fn followed(self, leader: Option<Symbol>, last: Symbol, word: u64) -> Head
+        ensures { (size s h : ℕ) (path : List (ℕ × ℕ)) → IsHead size self path → leader ≡ leader_of path →
+            IsDistinct nat_eq (symbols_of path) → IsPredecessor h path last → IsWord size (s, h) word →
+            IsHead size result (put s h path) }
+    {
+        match leader {
+            None => self,
+            Some(first) => {
+                if first == last {
+                    Head {
+                        first: self.first,
+                        second: word,
+                    }
+                } else {
+                    self
+                }
+            }
+        }
+    }
+
+    // The head of the bucket whose first symbol is `leader`.
+    pub fn read(modulus: Modulus, nodes: &[Node], leader: Symbol) -> Head
+        requires made { IsModulus modulus }
+        requires few { length nodes.now ≤ modulus.mask + 1 }
+        requires linked { (path : List (ℕ × ℕ)) × IsThread nodes.now (Some leader) path }
+        ensures { (path : List (ℕ × ℕ)) → IsThread nodes.now (Some leader) path → IsHead (modulus.mask + 1) result path }
+    {
+        let node = nodes[leader.id() as usize];
+        let first = modulus.word(node.hash, leader);
+        let second = match node.next {
+            None => first,
+            Some(symbol) => modulus.word(nodes[symbol.id() as usize].hash, symbol),
+        };
+        Head { first, second }
+    }
+}
