@@ -1,5 +1,5 @@
 -- A walk along a sorted path of positions with their hashes.
-use Rattle.std.proofs.Common.{◌≡◌, ◌≢◌, ℕ, suc, ◌+◌, ◌<◌, ◌≤◌, ◌%◌, Bool, true, false, cond, List, [], ◌∷◌, ◌++◌, length, get_or, map, refl, sym, ap, ◌∙◌, arith, eqb, append_assoc, Option, Some, None, length-append}
+use Rattle.std.proofs.Common.{◌≡◌, ◌≢◌, ℕ, zero, suc, ◌+◌, ◌<◌, ◌≤◌, ◌%◌, Bool, true, false, cond, List, [], ◌∷◌, ◌++◌, length, get_or, map, replicate, refl, sym, ap, ◌∙◌, arith, eqb, append_assoc, Option, Some, None, length-append}
 use Rattle.std.specs.List.{All, Contains, AllByRecursion, IsDistinct}
 use Rattle.std.specs.List.Sorted.{IsPermutation}
 use Rattle.std.specs.Option.{MatchOption}
@@ -9,9 +9,9 @@ use Rattle.std.proofs.lemmas.List.{append-nil, get_or_at, get_or-append-add, get
 use Rattle.std.proofs.lemmas.List.Elements.{All-from_recursion, recursion_from_All, All-contains_itself, All-weaker, All-contains}
 use Rattle.std.proofs.lemmas.List.Sorted.{Contains-permutation, IsPermutation-map, length_permutation, IsPermutation-sym}
 use Rattle.std.proofs.lemmas.Map.Keys.{apart_from_distinct, IsDistinct-from_apart, IsDistinct-IsPermutation}
-use Rattle.intaglio_index.proofs.ChainLemmas.{eqb-equal, eqb-unequal, Each-weaker, Each-left, Each-right, Each-append, places-complete}
+use Rattle.intaglio_index.proofs.ChainLemmas.{eqb-equal, eqb-unequal, Each-weaker, Each-left, Each-right, Each-append, places-complete, chain-permutation, chain-sorted, chain-entries}
 use Rattle.intaglio_index.proofs.LinkLemmas.{both, each_symbol}
-use Rattle.intaglio_index.proofs.WalkLemmas.{rest_of, rest_of-at, some_rest}
+use Rattle.intaglio_index.proofs.WalkLemmas.{rest_of, rest_of-at, rest_of-none, some_rest}
 use Rattle.intaglio_index.specs.Placed.{Placed, places_from, head_of, members, chain, symbols_of, AreSorted, IsEntry}
 use Rattle.intaglio_content.specs.Key.{Key}
 use Rattle.intaglio_content.specs.Work.{Mark, hashed, compared, step}
@@ -177,6 +177,35 @@ module _ (hash : Key → ℕ) (keys : List Key) (k : Key) where
     pub others : AllByRecursion (λ (e : ℕ × ℕ). key_at e.0 ≢ k) seen
     pub walk : marks ≡ hashed k ∷ step ∷ walked seen
 
+  -- entries of smaller hashes are passed without a comparison
+  walked-smaller : (front : List (ℕ × ℕ)) → AllByRecursion (λ (e : ℕ × ℕ). e.1 < hash k) front → step ∷ walked front ≡ replicate (length front + 1) step
+  walked-smaller [] a = refl
+  walked-smaller (e ∷ es) a =
+      let apart : hash k ≢ e.1 = λ q. (let l : e.1 < hash k = a.0 in omega arith) in
+      let size : length (e ∷ es) + 1 ≡ suc (length es + 1) = omega arith in
+      rw (eqb-unequal (hash k) e.1 apart, size) (ap (λ ms. step ∷ ms) (walked-smaller es a.1))
+
+-- steps alone
+steps-hashed : (n : ℕ) → hashed_keys (replicate n step) ≡ []
+steps-hashed zero = refl
+steps-hashed (suc n) = steps-hashed n
+
+steps-sought : (n : ℕ) → sought_keys (replicate n step) ≡ []
+steps-sought zero = refl
+steps-sought (suc n) = steps-sought n
+
+steps-stored : (n : ℕ) → stored_keys (replicate n step) ≡ []
+steps-stored zero = refl
+steps-stored (suc n) = steps-stored n
+
+steps-counted : (n : ℕ) → step_count (replicate n step) ≡ n
+steps-counted zero = refl
+steps-counted (suc n) = omega (arith, steps-counted n)
+
+steps-placed : (n : ℕ) → placed_count (replicate n step) ≡ 0
+steps-placed zero = refl
+steps-placed (suc n) = steps-placed n
+
 -- the bucket that a key's hash falls in, and the sorted path through it
 pub record IsBucketPath (hash : Key → ℕ) (count : ℕ) (keys : List Key) (k : Key) (path : List (ℕ × ℕ)) : Type 0 where
   pub same : IsPermutation (places_from count (hash k % count) 0 (map hash keys)) (symbols_of path)
@@ -233,7 +262,7 @@ module _ (hash : Key → ℕ) (count : ℕ) (keys : List Key) (k : Key) (path : 
         equal_hashes = rw is (All-from_recursion (λ x. hash x ≡ hash k) _ hashes);
       }
 
-  standing : (e : ℕ × ℕ) (marks : List Mark) → (at : IsAlong hash keys k path (Some e) marks) → (behind : List (ℕ × ℕ)) × (path ≡ at.seen ++ e ∷ behind)
+  pub standing : (e : ℕ × ℕ) (marks : List Mark) → (at : IsAlong hash keys k path (Some e) marks) → (behind : List (ℕ × ℕ)) × (path ≡ at.seen ++ e ∷ behind)
   standing e marks at =
       let rest = some_rest at.rest e at.next in
       (rest.0, at.split ∙ ap (λ r. at.seen ++ r) rest.1)
@@ -289,44 +318,84 @@ module _ (hash : Key → ℕ) (count : ℕ) (keys : List Key) (k : Key) (path : 
       (sym (first-some keys k s l e before), rw at.walk is)
 
   -- one position on
-  pub goes_on : (s o : ℕ) (marks : List Mark) (next : Option (ℕ × ℕ)) → IsAlong hash keys k path (Some (s, o)) marks → key_at hash keys k s ≢ k →
-      ((before behind : List (ℕ × ℕ)) → path ≡ before ++ (s, o) ∷ behind → next ≡ head_of behind) →
-      IsAlong hash keys k path next (marks ++ cond (eqb (hash k) o) (compared k (key_at hash keys k s) ∷ step ∷ []) (step ∷ []))
-  goes_on s o marks next at n after =
+  pub goes_on : (s o : ℕ) (marks : List Mark) (at : IsAlong hash keys k path (Some (s, o)) marks) → key_at hash keys k s ≢ k →
+      IsAlong hash keys k path (head_of (standing (s, o) marks at).0) (marks ++ cond (eqb (hash k) o) (compared k (key_at hash keys k s) ∷ step ∷ []) (step ∷ []))
+  goes_on s o marks at n =
       let h = standing (s, o) marks at in
       record {
         seen = at.seen ++ (s, o) ∷ [];
         rest = h.0;
         split = h.1 ∙ sym (append_assoc at.seen ((s, o) ∷ []) h.0);
-        next = after at.seen h.0 h.1;
+        next = refl;
         others = Each-append (λ (e : ℕ × ℕ). key_at hash keys k e.0 ≢ k) at.seen ((s, o) ∷ []) at.others (n, tt);
         walk = rw (at.walk, walked-push hash keys k at.seen (s, o)) refl;
       }
 
   -- and nearer the end
-  pub falls : (s o : ℕ) (marks : List Mark) (next : Option (ℕ × ℕ)) → IsAlong hash keys k path (Some (s, o)) marks →
-      ((before behind : List (ℕ × ℕ)) → path ≡ before ++ (s, o) ∷ behind → next ≡ head_of behind) →
+  pub falls : (s o : ℕ) (marks : List Mark) (next : Option (ℕ × ℕ)) (at : IsAlong hash keys k path (Some (s, o)) marks) → next ≡ head_of (standing (s, o) marks at).0 →
       length (rest_of path next) < length (rest_of path (Some (s, o)))
   falls s o marks next at after =
       let h = standing (s, o) marks at in
       let distinct = symbols-distinct hash keys k path path_distinct in
       let now : rest_of path (Some (s, o)) ≡ (s, o) ∷ h.0 = rest_of-at path at.seen ((s, o) ∷ h.0) (Some (s, o)) h.1 distinct refl in
       let later : path ≡ (at.seen ++ (s, o) ∷ []) ++ h.0 = h.1 ∙ sym (append_assoc at.seen ((s, o) ∷ []) h.0) in
-      let then : rest_of path next ≡ h.0 = rest_of-at path (at.seen ++ (s, o) ∷ []) h.0 next later distinct (after at.seen h.0 h.1) in
+      let then : rest_of path next ≡ h.0 = rest_of-at path (at.seen ++ (s, o) ∷ []) h.0 next later distinct after in
       rw (now, then) (omega arith)
 
-  pub starts : (first : Option (ℕ × ℕ)) → first ≡ head_of path → IsAlong hash keys k path first (hashed k ∷ step ∷ [])
-  starts first e = record { seen = []; rest = path; split = refl; next = e; others = tt; walk = refl }
+  -- and none is left
+  pub falls_out : (s o : ℕ) (marks : List Mark) (at : IsAlong hash keys k path (Some (s, o)) marks) → length (rest_of path None) < length (rest_of path (Some (s, o)))
+  falls_out s o marks at =
+      let h = standing (s, o) marks at in
+      let distinct = symbols-distinct hash keys k path path_distinct in
+      let now : rest_of path (Some (s, o)) ≡ (s, o) ∷ h.0 = rest_of-at path at.seen ((s, o) ∷ h.0) (Some (s, o)) h.1 distinct refl in
+      rw (now, rest_of-none path) (omega arith)
+
+  -- behind an entry no hash is smaller
+  pub above : (s o : ℕ) (marks : List Mark) (at : IsAlong hash keys k path (Some (s, o)) marks) → AllByRecursion (λ (f : ℕ × ℕ). o ≤ f.1) (standing (s, o) marks at).0
+  above s o marks at =
+      let h = standing (s, o) marks at in
+      not_smaller at.seen (s, o) h.0 (rw h.1 at here.sorted)
+
+  -- the first entry of the key's hash, behind smaller ones
+  pub starts : (front : List (ℕ × ℕ)) (s : ℕ) (behind : List (ℕ × ℕ)) → path ≡ front ++ (s, hash k) ∷ behind → AllByRecursion (λ (e : ℕ × ℕ). e.1 < hash k) front →
+      IsAlong hash keys k path (Some (s, hash k)) (hashed k ∷ replicate (length front + 1) step)
+  starts front s behind split smaller =
+      let differs : (f : ℕ × ℕ) → IsHashed f × (f.1 < hash k) → key_at hash keys k f.0 ≢ k = λ f h q. (let same : hash k ≡ f.1 = sym (ap hash q) ∙ h.0.1 in omega arith) in
+      let hashes = Each-left IsHashed front ((s, hash k) ∷ behind) (rw split at path_hashes) in
+      record {
+        seen = front;
+        rest = (s, hash k) ∷ behind;
+        split = split;
+        next = refl;
+        others = Each-weaker (λ (f : ℕ × ℕ). IsHashed f × (f.1 < hash k)) (λ (f : ℕ × ℕ). key_at hash keys k f.0 ≢ k) differs front (both IsHashed (λ (f : ℕ × ℕ). f.1 < hash k) front hashes smaller);
+        walk = ap (λ ms. hashed k ∷ ms) (sym (walked-smaller hash keys k front smaller));
+      }
+
+  -- a search that compares nothing
+  pub passes : (more : ℕ) → more ≤ length path → IsSearchCost hash k (bucket_keys hash count keys k) (hashed k ∷ replicate (more + 1) step)
+  passes more few =
+      record {
+        hashings = ap (λ ks. k ∷ ks) (steps-hashed (more + 1));
+        sought = rw (steps-sought (more + 1)) (λ i d l. absurd (omega arith));
+        once = rw (steps-stored (more + 1)) (λ i j d l lj. absurd (omega arith));
+        within = rw (steps-stored (more + 1)) (λ i d l. absurd (omega arith));
+        steps = omega (arith, few, steps-counted (more + 1), bucket-length);
+        placements = steps-placed (more + 1);
+        equal_hashes = rw (steps-stored (more + 1)) (λ i d l. absurd (omega arith));
+      }
 
 -- the path that an index gives, where its hashes are those of the contents
-pub bucket_path : {C : Type 0} (key : C → Key) (hash : Key → ℕ) (index : Placed) (contents : List C) (k : Key) (h : ℕ) →
-    index.hashes ≡ map (λ c. hash (key c)) contents → AreDistinct (map key contents) → h ≡ hash k →
-    IsPermutation (members index (h % index.count)) (symbols_of (chain index (h % index.count))) → AreSorted (chain index (h % index.count)) →
-    AllByRecursion (IsEntry index.count (h % index.count) index.hashes) (chain index (h % index.count)) →
-    IsBucketPath hash index.count (map key contents) k (chain index (h % index.count))
-bucket_path key hash index contents k h hashes distinct is same sorted entries =
+pub bucket_path : {C : Type 0} (key : C → Key) (hash : Key → ℕ) (index : Placed) (contents : List C) (k : Key) →
+    index.hashes ≡ map (λ c. hash (key c)) contents → AreDistinct (map key contents) →
+    IsBucketPath hash index.count (map key contents) k (chain index (hash k % index.count))
+bucket_path key hash index contents k hashes distinct =
     let e : index.hashes ≡ map hash (map key contents) = hashes ∙ sym (map-map hash key contents) in
-    record { same = rw (← e, ← is) same; apart = distinct; sorted = sorted; entries = rw (← e, ← is) entries }
+    record {
+      same = rw (← e) (chain-permutation index (hash k % index.count));
+      apart = distinct;
+      sorted = chain-sorted index (hash k % index.count);
+      entries = rw (← e) (chain-entries index (hash k % index.count));
+    }
 
 -- the key of a content that was read
 pub key_read : {C : Type 0} (key : C → Key) (contents : List C) (s : ℕ) (x : C) → s < length contents → x ≡ get_or contents s x → get_or (map key contents) s [] ≡ key x

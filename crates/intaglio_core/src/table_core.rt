@@ -135,7 +135,7 @@ impl<C: Keyed, S: BuildHasher> Core<C, S> {
         self.search_hashed(hash, sought, work)
     }
 
-    // The same for a key whose hash is known: goes along its bucket, to the first greater hash at most.
+    // The same for a key whose hash is known: compares with the contents of this hash alone.
     #[inline(always)]
     pub(crate) fn search_hashed<Q: Sought<C>>(
         &self,
@@ -151,30 +151,30 @@ impl<C: Keyed, S: BuildHasher> Core<C, S> {
     {
         let index = &self.index;
         let contents = self.list.as_slice();
-        let mut candidate = Some(index.seek(hash, work)?);
-        while let Some(found) = candidate {
-            if hash < found.1 {
-                return None;
+        let mut candidate = Some(index.find(hash, work)?);
+        while let Some(symbol) = candidate {
+            if sought.same_as(&contents[symbol.id() as usize], work) {
+                return Some(symbol);
             }
-            if hash == found.1 {
-                if sought.same_as(&contents[found.0.id() as usize], work) {
-                    return Some(found.0);
-                }
-            }
-            candidate = index.after(found.0, work);
+            candidate = index.find_next(symbol, work);
         }
         None
     }
 
     /// The symbol of the content, which is stored if no equal one is.
     ///
+    /// A look-up of the content then finds this symbol, and the symbol's content has its key. Every
+    /// symbol that was issued before keeps its content, and look-ups of other keys find what they
+    /// found.
+    ///
     /// Costs one hashing, also where the buckets grow: they keep each content's hash.
     ///
     /// # Errors
     ///
-    /// `Overflow` where a new content comes and the table holds as many as its limit; `Memory` where
-    /// a growth that it needs is refused, which never comes while [`capacity`](Core::capacity) is
-    /// above [`len`](Core::len). Then the contents are as before, and this one is dropped.
+    /// `Overflow` if a new content comes and the table holds as many as its limit; `Memory` if it
+    /// has to grow and an allocation fails, which never happens while
+    /// [`capacity`](Core::capacity) is above [`len`](Core::len). The contents are then as before,
+    /// and this one is dropped.
     pub fn intern(&mut self, content: C, work: &mut Work) -> Result<Symbol, InternError>
     where
         C: Sought<C> + Drop,

@@ -4,6 +4,7 @@ ghost use Rattle.std.specs.Option.{option_map};
 ghost use Rattle.intaglio_symbol.specs.AllSymbols.{numbers_from};
 ghost use Rattle.intaglio_content.specs.Key.{key_hash};
 ghost use Rattle.intaglio_core.specs.State.{first};
+ghost use Rattle.intaglio_core.specs.Lookup.{IsFound};
 ghost use Rattle.intaglio_core.specs.Cost.{Costs, SearchCost};
 
 use super::Core;
@@ -14,8 +15,10 @@ use std::hash::BuildHasher;
 impl<'a, C: Formed<'a>, S: BuildHasher> Core<C, S> {
     /// The form of a symbol's content.
     pub fn form(&'a self, symbol: Symbol) -> Option<C::Form>
-        ensures { option_map C.form_spelling result
+        ensures form { option_map C.form_spelling result
             ≡ option_map C.spelling (slice_get self.now.state.contents symbol) }
+        ensures found { IfSome result (λ form.
+            IsFound C.key self.now.state (C.key_of (C.form_spelling form)) symbol) }
     {
         Some(self.get(symbol)?.lend())
     }

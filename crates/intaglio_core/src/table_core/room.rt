@@ -11,7 +11,8 @@ use intaglio_symbol::{Mark, RoomError, StaleMark};
 use std::hash::BuildHasher;
 
 impl<C: Keyed, S: BuildHasher> Core<C, S> {
-    /// Drops all contents. The capacity stays, and the next symbol is 0.
+    /// Drops all contents, so that no look-up finds anything. The capacity stays, and the next
+    /// symbol is 0.
     pub fn clear(&mut self)
     where
         C: Drop,
@@ -32,7 +33,8 @@ impl<C: Keyed, S: BuildHasher> Core<C, S> {
         Mark::new(self.list.len())
     }
 
-    /// Drops the contents that came after the mark. The capacity stays, and nothing is hashed.
+    /// Drops the contents that came after the mark. The symbols below it keep their contents and
+    /// are found as before, and no other is found. The capacity stays, and nothing is hashed.
     ///
     /// # Errors
     ///
