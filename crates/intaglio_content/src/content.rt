@@ -1,9 +1,10 @@
 //! What a table stores, and what can be looked up in it.
-ghost use Rattle.std.specs.Prelude.{◌≡◌, ℕ, List, [], ◌∷◌, ◌++◌, ◌↔◌, IsTrue};
+ghost use Rattle.std.specs.Prelude.{◌≡◌, ℕ, List, [], ◌∷◌, ◌++◌, ◌↔◌, IsTrue, IfOk};
 ghost use Rattle.intaglio_content.specs.Key.{Key, key_hash};
 ghost use Rattle.intaglio_content.specs.Work.{hashed, compared};
 
 use crate::work::Work;
+use std::alloc::{AllocError, Global};
 use std::hash::BuildHasher;
 
 /// A value with a key, a list of byte lists. Values are equal if their keys are.
@@ -41,7 +42,7 @@ pub trait Formed<'a>: Content {
 
 /// A content that is looked up by values of one type, its borrowed form.
 pub trait LookedUp<'q>: Content {
-    type By: Sought<Self> + Drop;
+    type By: ToContent<Self> + Drop;
 }
 
 /// A value that can be looked up among contents of type `C`.
@@ -55,4 +56,19 @@ pub trait Sought<C: Keyed>: Keyed {
     fn same_as(&self, stored: &C, work: &mut Work) -> bool
         ensures same { IsTrue result ↔ (Self.key self.now ≡ C.key stored.now) }
         ensures mark { work.new.marks ≡ work.old.marks ++ compared (Self.key self.now) (C.key stored.now) ∷ [] };
+}
+
+/// A form of a content of type `C`, which is looked up, and which can be copied into a content that is spelled the same.
+pub trait ToContent<C: Content>: Sought<C> {
+    ghost form_spelling: { Self → List ℕ };
+
+    /// A content that owns a copy of the form.
+    ///
+    /// # Errors
+    ///
+    /// [`AllocError`] if the allocation of the copy fails.
+    fn to_content(&self, alloc: Global) -> Result<C, AllocError>
+        ensures { IfOk result (λ content. C.spelling content ≡ form_spelling self.now) };
+
+    ghost key_of_form: { (form : Self) → Self.Keyed.key form ≡ C.Content.key_of (form_spelling form) };
 }

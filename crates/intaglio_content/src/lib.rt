@@ -1,6 +1,7 @@
 //! What tables of contents store and compare.
 //!
-//! - [`Keyed`], [`Content`], [`Spelled`], [`Formed`], [`LookedUp`] and [`Sought`] say what a content is and what finds it.
+//! - [`Keyed`], [`Content`], [`Spelled`], [`Formed`], [`LookedUp`], [`Sought`] and [`ToContent`] say what a content is, what
+//!   finds it and what can be copied into one.
 //! - [`Work`] keeps, for contracts alone, the marks of what a call did.
 //! - [`Bytewise`] is for the kinds that are compared by their bytes; [`feed_item`] feeds one item of a key to a hasher.
 //! - [`Forms`] and [`Pairs`] go over a list of contents.
@@ -14,7 +15,7 @@ mod pairs;
 mod work;
 
 pub use bytewise::Bytewise;
-pub use content::{Content, Formed, Keyed, LookedUp, Sought, Spelled};
+pub use content::{Content, Formed, Keyed, LookedUp, Sought, Spelled, ToContent};
 pub use feed::feed_item;
 pub use forms::Forms;
 pub use pairs::Pairs;

@@ -1,12 +1,12 @@
 -- What holds of look-ups, for the proofs of callers: what is found after an interning, a rollback or a clear, and where.
-use Rattle.std.proofs.Common.{◌≡◌, ◌≢◌, ◌∙◌, sym, ap, refl, arith, ℕ, zero, suc, ◌+◌, ◌<◌, ◌≤◌, Bool, true, false, cond, List, [], ◌∷◌, ◌++◌, length, map, take, drop, get_or, Option, Some, None, option_map, option_copied, unwrap_or, is_some, Result, Ok, Err, IfSome, IfOk, OnErr}
+use Rattle.std.proofs.Common.{◌≡◌, ◌≢◌, ◌∙◌, sym, ap, refl, arith, ℕ, zero, suc, ◌+◌, ◌<◌, ◌≤◌, Bool, true, false, cond, List, [], ◌∷◌, ◌++◌, length, map, take, drop, get_or, Option, Some, None, option_map, option_copied, unwrap_or, is_some, Result, Ok, Err, IfSome, IfOk, OnErr, inl, inr}
 use Rattle.std.specs.Prelude.{slice_get, ◌↔◌}
 use Rattle.std.specs.Borrow.{Bor}
 use Rattle.std.proofs.lemmas.Option.{same_Some, slice_get_within, get_or_from_slice_get}
 use Rattle.std.proofs.lemmas.List.{length-map, get_or-map, length-take-le, take-append-drop}
 use Rattle.intaglio_content.specs.Key.{Key}
 use Rattle.intaglio_core.specs.State.{State, key_eq, first, IsValid}
-use Rattle.intaglio_core.specs.Change.{Interns, Takes, IsCut, Empties}
+use Rattle.intaglio_core.specs.Change.{Interns, Takes, TakesCopy, IsCut, Empties}
 use Rattle.intaglio_core.specs.Lookup.{IsFound, FindsNothing, FindsOthers, IsStored, Keeps, KeepsBelow, FindsEach, StoresEach}
 use Rattle.intaglio_core.specs.Issue.{issued, interned, issue_from, interned_all}
 use Rattle.intaglio_core.proofs.First.{key_eq-decides, key_eq-unequal, first-append, first-some, some-below, or_at}
@@ -14,6 +14,7 @@ use Rattle.intaglio_core.proofs.Held.{first-still, content-still, slice_get-fron
 use Rattle.intaglio_core.proofs.Issue.{Interns-ok}
 use Rattle.intaglio_core.proofs.Each.{Interns-refused}
 use Rattle.intaglio_symbol.specs.declared.error.InternError.{InternError}
+use Rattle.intaglio_symbol.specs.declared.error.InternError.TheVariants as intern_error
 
 later-place : (o : Option ℕ) (s : ℕ) → option_map (λ i. 1 + i) o ≡ Some s → (i : ℕ) × (o ≡ Some i) × (s ≡ suc i)
 later-place None s e = cc
@@ -157,15 +158,15 @@ module _ {C : Type 0} (key : C → Key) where
   interned-others old new c (Err e) step k n = rw (Interns-refused key old new c e step) refl
 
   -- what an interning lets its callers see
-  pub record IsInterned (old : State C) (c : C) (r : Result ℕ InternError) (new : State C) : Type 0 where
-    pub found : IfOk r (IsFound key new (key c))
-    pub stored : IfOk r (IsStored key new (key c))
+  pub record IsInterned (old : State C) (k : Key) (r : Result ℕ InternError) (new : State C) : Type 0 where
+    pub found : IfOk r (IsFound key new k)
+    pub stored : IfOk r (IsStored key new k)
     pub kept : Keeps key old new
-    pub others : FindsOthers key old (key c) new
+    pub others : FindsOthers key old k new
     pub refused : OnErr r (new.contents ≡ old.contents)
 
   -- whatever it returned
-  pub interned_clauses : (old new : State C) (c : C) (r : Result ℕ InternError) → Interns key old c r new → IsInterned old c r new
+  pub interned_clauses : (old new : State C) (c : C) (r : Result ℕ InternError) → Interns key old c r new → IsInterned old (key c) r new
   interned_clauses old new c (Ok i) step = record {
     found = interned-found old new c i step;
     stored = interned-stored old new c i step;
@@ -182,8 +183,27 @@ module _ {C : Type 0} (key : C → Key) where
   }
 
   -- also where the content isn't there yet
-  pub taken : (old new : State C) (c : C) (r : Result ℕ InternError) → first key old.contents (key c) ≡ None → Takes old c r new → IsInterned old c r new
+  pub taken : (old new : State C) (c : C) (r : Result ℕ InternError) → first key old.contents (key c) ≡ None → Takes old c r new → IsInterned old (key c) r new
   taken old new c r none step = interned_clauses old new c r (rw none step)
+
+  -- an interning that is refused leaves what its callers see
+  refused_clauses : (old new : State C) (k : Key) (e : InternError) → new.contents ≡ old.contents → IsInterned old k (Err e) new
+  refused_clauses old new k e same = record {
+    found = tt;
+    stored = tt;
+    kept = same_contents-keeps old new same;
+    others = λ other n. rw same refl;
+    refused = same;
+  }
+
+  -- and where a copy of a form is taken
+  pub copied : (spelling : C → List ℕ) (old new : State C) (k : Key) (w : List ℕ) (r : Result ℕ InternError) → first key old.contents k ≡ None → TakesCopy key spelling old k w r new → IsInterned old k r new
+  copied spelling old new k w (Ok i) none step =
+      let absent : first key old.contents (key step.copy) ≡ None = rw step.same_key none in
+      rw step.same_key at (taken old new step.copy (Ok i) absent step.taken)
+  copied spelling old new k w (Err (intern_error.Overflow e)) none step = refused_clauses old new k _ (ap (λ (s : State C). s.contents) step.1)
+  copied spelling old new k w (Err (intern_error.Memory e)) none (inl uncopied) = refused_clauses old new k _ (ap (λ (s : State C). s.contents) uncopied.same)
+  copied spelling old new k w (Err (intern_error.Memory e)) none (inr refused) = refused_clauses old new k _ refused.contents
 
   -- where only the first n contents are left, their symbols are kept, and nothing else is found
   pub cut-keeps : (old : State C) (n : ℕ) (new : State C) → n ≤ length old.contents → new.contents ≡ take n old.contents → KeepsBelow key old n new

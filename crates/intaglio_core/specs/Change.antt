@@ -1,5 +1,5 @@
 -- How the calls that change a table change its state.
-use Rattle.std.specs.Prelude.{◌≡◌, ◌≢◌, ℕ, ◌+◌, ◌*◌, ◌<◌, ◌≤◌, min, max, [], ◌∷◌, ◌++◌, length, take, Result, Ok, Err, MatchOption}
+use Rattle.std.specs.Prelude.{◌≡◌, ◌≢◌, ◌⊎◌, List, ℕ, ◌+◌, ◌*◌, ◌<◌, ◌≤◌, min, max, [], ◌∷◌, ◌++◌, length, take, Result, Ok, Err, MatchOption}
 use Rattle.intaglio_content.specs.Key.{Key}
 use Rattle.intaglio_core.specs.State.{State, first}
 use Rattle.intaglio_symbol.specs.declared.error.InternError.{InternError}
@@ -40,6 +40,29 @@ Takes old content (Err (Memory _)) new = IsRefused old new
 abbrev pub Interns : {C : Type 0} → (C → Key) → State C → C → Result ℕ InternError → State C → Type 0
 Interns key old content result new =
     MatchOption (first key old.contents (key content)) (Takes old content result new) (λ i. (result ≡ Ok i) × (new ≡ old))
+
+-- a content with this key and this spelling, the copy of a form, takes the next position
+pub record IsCopyTaken {C : Type 0} (key : C → Key) (spelling : C → List ℕ) (old : State C) (k : Key) (w : List ℕ) (symbol : ℕ) (new : State C) : Type 0 where
+  pub copy : C
+  pub same_key : key copy ≡ k
+  pub same_spelling : spelling copy ≡ w
+  pub taken : IsTaken old copy symbol new
+
+-- there was no memory for a copy
+pub record IsUncopied {C : Type 0} (old new : State C) : Type 0 where
+  pub below_limit : length old.contents < old.limit
+  pub same : new ≡ old
+
+-- how a form that isn't there is answered, of which a copy is taken
+abbrev pub TakesCopy : {C : Type 0} → (C → Key) → (C → List ℕ) → State C → Key → List ℕ → Result ℕ InternError → State C → Type 0
+TakesCopy key spelling old k w (Ok symbol) new = IsCopyTaken key spelling old k w symbol new
+TakesCopy key spelling old k w (Err (Overflow _)) new = (length old.contents ≡ old.limit) × (new ≡ old)
+TakesCopy key spelling old k w (Err (Memory _)) new = IsUncopied old new ⊎ IsRefused old new
+
+-- one interning by a form, of which nothing is copied if its key is there
+abbrev pub InternsForm : {C : Type 0} → (C → Key) → (C → List ℕ) → State C → Key → List ℕ → Result ℕ InternError → State C → Type 0
+InternsForm key spelling old k w result new =
+    MatchOption (first key old.contents k) (TakesCopy key spelling old k w result new) (λ i. (result ≡ Ok i) × (new ≡ old))
 
 -- there is room for n more. Where it was there, nothing changed
 pub record IsReserved {C : Type 0} (old : State C) (n : ℕ) (new : State C) : Type 0 where

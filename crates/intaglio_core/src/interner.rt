@@ -4,12 +4,12 @@ ghost use Rattle.intaglio_content.specs.Key.{Key, key_hash};
 ghost use Rattle.intaglio_content.specs.Work.{hashed};
 ghost use Rattle.intaglio_core.specs.State.{State, first, IsValid};
 ghost use Rattle.intaglio_core.specs.Lookup.{IsFound, IsStored, Keeps, KeepsBelow, FindsOthers, FindsNothing};
-ghost use Rattle.intaglio_core.specs.Change.{Interns, Reserves, Shrinks, TakesBack, Empties};
+ghost use Rattle.intaglio_core.specs.Change.{Interns, InternsForm, Reserves, Shrinks, TakesBack, Empties};
 ghost use Rattle.intaglio_core.specs.Cost.{Costs, InternCost, SearchCost, IsRoomCost};
 ghost use Rattle.intaglio_core.specs.Cost.{KnownInternCost, KnownSearchCost};
 
 use crate::table_core::Core;
-use intaglio_content::{Content, Sought, Work};
+use intaglio_content::{Content, Sought, ToContent, Work};
 use intaglio_symbol::{InternError, Mark, RoomError, StaleMark, Symbol};
 use std::hash::BuildHasher;
 
@@ -20,7 +20,7 @@ use std::hash::BuildHasher;
 /// call no two contents are equal, and there are at least as many buckets as contents.
 pub trait Interner {
     /// What the table stores.
-    type Content: Content + Drop;
+    type Content: Content + Sought<Self::Content> + Drop;
 
     ghost state: { Self → State Self.Content };
 
@@ -50,10 +50,10 @@ pub trait Interner {
         ensures same_hash { hash self.new ≡ hash self.old }
         ensures valid { IsValid Self.Content.key (state self.new) };
 
-    /// The hash of the content, for [`intern_hashed`](Interner::intern_hashed).
-    fn hash_counted(&self, content: &Self::Content, work: &mut Work) -> u64
-        ensures hash { result ≡ hash self.now (Self.Content.key content.now) }
-        ensures cost { work.new.marks ≡ work.old.marks ++ hashed (Self.Content.key content.now) ∷ [] };
+    /// The hash of a content or a form, for [`intern_hashed`](Interner::intern_hashed) and its kin.
+    fn hash_counted<Q: Sought<Self::Content>>(&self, sought: &Q, work: &mut Work) -> u64
+        ensures hash { result ≡ hash self.now (Q.key sought.now) }
+        ensures cost { work.new.marks ≡ work.old.marks ++ hashed (Q.key sought.now) ∷ [] };
 
     /// As [`intern_counted`](Interner::intern_counted), for a content that was hashed.
     ///
@@ -78,23 +78,53 @@ pub trait Interner {
         ensures same_hash { hash self.new ≡ hash self.old }
         ensures valid { IsValid Self.Content.key (state self.new) };
 
-    /// As [`search_counted`](Interner::search_counted), for a content that was hashed.
-    fn search_hashed(
+    /// The symbol of the content that is equal to this form, which was hashed. If there is none, a copy of the form is stored.
+    ///
+    /// # Errors
+    ///
+    /// `Overflow` where the form is new and the table holds as many contents as its limit, `Memory` where the copy or a
+    /// growth was refused. Then the contents are as before.
+    fn get_or_intern_hashed<Q: ToContent<Self::Content>>(
+        &mut self,
+        known_hash: u64,
+        form: &Q,
+        work: &mut Work,
+    ) -> Result<Symbol, InternError>
+        requires known { known_hash ≡ hash self.old (Q.key form.now) }
+        ensures step { let k = Q.key form.now in
+            InternsForm Self.Content.key Self.Content.spelling (state self.old) k (Q.form_spelling form.now) result (state self.new) }
+        ensures found { IfOk result (IsFound Self.Content.key (state self.new) (Q.key form.now)) }
+        ensures stored { IfOk result (IsStored Self.Content.key (state self.new) (Q.key form.now)) }
+        ensures kept { Keeps Self.Content.key (state self.old) (state self.new) }
+        ensures others { FindsOthers Self.Content.key (state self.old) (Q.key form.now) (state self.new) }
+        ensures refused { OnErr result ((state self.new).contents ≡ (state self.old).contents) }
+        ensures cost { let k = Q.key form.now in
+            Costs work.old work.new
+            (KnownInternCost Self.Content.key (hash self.old) (state self.old) k result (state self.new)) }
+        ensures same_hash { hash self.new ≡ hash self.old }
+        ensures valid { IsValid Self.Content.key (state self.new) };
+
+    /// As [`search_counted`](Interner::search_counted), for a content or a form that was hashed.
+    fn search_hashed<Q: Sought<Self::Content>>(
         &self,
         known_hash: u64,
-        sought: &Self::Content,
+        sought: &Q,
         work: &mut Work,
     ) -> Option<Symbol>
-        requires known { known_hash ≡ hash self.now (Self.Content.key sought.now) }
-        ensures found { result ≡ first Self.Content.key (state self.now).contents (Self.Content.key sought.now) }
-        ensures cost { let k = Self.Content.key sought.now in
+        requires known { known_hash ≡ hash self.now (Q.key sought.now) }
+        ensures found { result ≡ first Self.Content.key (state self.now).contents (Q.key sought.now) }
+        ensures cost { let k = Q.key sought.now in
             Costs work.old work.new (KnownSearchCost Self.Content.key (hash self.now) (state self.now) k) }
         ensures valid { IsValid Self.Content.key (state self.now) };
 
-    /// The symbol of the content, if an equal one is stored.
-    fn search_counted(&self, sought: &Self::Content, work: &mut Work) -> Option<Symbol>
-        ensures found { result ≡ first Self.Content.key (state self.now).contents (Self.Content.key sought.now) }
-        ensures cost { let k = Self.Content.key sought.now in
+    /// The symbol of the content that is equal to this content or form, if one is stored.
+    fn search_counted<Q: Sought<Self::Content>>(
+        &self,
+        sought: &Q,
+        work: &mut Work,
+    ) -> Option<Symbol>
+        ensures found { result ≡ first Self.Content.key (state self.now).contents (Q.key sought.now) }
+        ensures cost { let k = Q.key sought.now in
             Costs work.old work.new (SearchCost Self.Content.key (hash self.now) (state self.now) k) }
         ensures valid { IsValid Self.Content.key (state self.now) };
 
@@ -169,8 +199,8 @@ impl<C: Content + Sought<C> + Drop, S: BuildHasher> Interner for Core<C, S> {
         self.intern(content, work)
     }
 
-    fn hash_counted(&self, content: &C, work: &mut Work) -> u64 {
-        content.hash_with(self.hasher(), work)
+    fn hash_counted<Q: Sought<C>>(&self, sought: &Q, work: &mut Work) -> u64 {
+        sought.hash_with(self.hasher(), work)
     }
 
     fn intern_hashed(
@@ -182,11 +212,25 @@ impl<C: Content + Sought<C> + Drop, S: BuildHasher> Interner for Core<C, S> {
         Core::intern_hashed(self, known_hash, content, work)
     }
 
-    fn search_hashed(&self, known_hash: u64, sought: &C, work: &mut Work) -> Option<Symbol> {
+    fn get_or_intern_hashed<Q: ToContent<C>>(
+        &mut self,
+        known_hash: u64,
+        form: &Q,
+        work: &mut Work,
+    ) -> Result<Symbol, InternError> {
+        Core::get_or_intern_hashed(self, known_hash, form, work)
+    }
+
+    fn search_hashed<Q: Sought<C>>(
+        &self,
+        known_hash: u64,
+        sought: &Q,
+        work: &mut Work,
+    ) -> Option<Symbol> {
         Core::search_hashed(self, known_hash, sought, work)
     }
 
-    fn search_counted(&self, sought: &C, work: &mut Work) -> Option<Symbol> {
+    fn search_counted<Q: Sought<C>>(&self, sought: &Q, work: &mut Work) -> Option<Symbol> {
         self.search(sought, work)
     }
 

@@ -12,7 +12,8 @@ pub mod table_core;
 
 pub use batch::intern_all;
 pub use intaglio_content::{
-    Bytewise, Content, Formed, Forms, Keyed, LookedUp, Pairs, Sought, Spelled, Work, feed_item,
+    Bytewise, Content, Formed, Forms, Keyed, LookedUp, Pairs, Sought, Spelled, ToContent, Work,
+    feed_item,
 };
 pub use intaglio_index::Index;
 pub use intaglio_symbol::{

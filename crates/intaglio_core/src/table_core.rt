@@ -9,6 +9,7 @@ ghost use Rattle.intaglio_core.specs.Lookup.{IsFound, IsStored, Keeps, FindsOthe
 ghost use Rattle.intaglio_core.specs.Cost.{Costs, SearchCost, InternCost, KnownSearchCost, KnownInternCost};
 ghost use Rattle.intaglio_core.specs.Indexed.{AddCost, HasPlaces, KeepsPlaces, FindsPlace, FindsNoPlace};
 
+mod forms;
 mod lending;
 mod make;
 mod room;

@@ -71,6 +71,14 @@ impl CString {
         }
     }
 
+    /// A copy of the C string, in memory of its own.
+    pub fn from_c_str(alloc: Global, text: CStr<'_>) -> Result<CString, AllocError>
+        ensures { IfOk result (λ copy. copy ≡ c_str_spelling text.entry) }
+    {
+        let bytes = Vec::from_slice(alloc, text.to_bytes_with_nul())?;
+        Ok(CString { bytes })
+    }
+
     /// The C string, borrowed.
     pub fn as_c_str(&self) -> CStr<'_>
         ensures { c_str_spelling result ≡ self.now }

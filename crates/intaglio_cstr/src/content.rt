@@ -6,7 +6,8 @@ ghost use Rattle.intaglio_cstr.specs.declared.content.CStrContent.TheVariants.{B
 
 use crate::c_str::CStr;
 use crate::c_string::CString;
-use intaglio_content::{Bytewise, Content, Formed, Keyed, LookedUp, Spelled};
+use intaglio_content::{Bytewise, Content, Formed, Keyed, LookedUp, Spelled, ToContent};
+use std::alloc::{AllocError, Global};
 
 /// A C string that a table stores. Its spelling is its bytes before the ending zero, and its key is that one item.
 ///
@@ -99,4 +100,14 @@ impl<'a> Formed<'a> for CStrContent {
 
 impl<'q> LookedUp<'q> for CStrContent {
     type By = CStr<'q>;
+}
+
+impl<'a> ToContent<CStrContent> for CStr<'a> {
+    ghost form_spelling = { c_str_spelling };
+
+    fn to_content(&self, alloc: Global) -> Result<CStrContent, AllocError> {
+        Ok(CStrContent::Owned(CString::from_c_str(alloc, *self)?))
+    }
+
+    ghost key_of_form = { λ _. refl };
 }

@@ -6,7 +6,8 @@ ghost use Rattle.intaglio_path.specs.PathContent.{path_content_bytes};
 ghost use Rattle.intaglio_path.specs.declared.content.PathContent.TheVariants.{Borrowed, Owned};
 
 use crate::path::Path;
-use intaglio_content::{Content, Formed, Keyed, LookedUp, Sought, Spelled, Work};
+use intaglio_content::{Content, Formed, Keyed, LookedUp, Sought, Spelled, ToContent, Work};
+use std::alloc::{AllocError, Global};
 use std::hash::{BuildHasher, Hash, Hasher};
 
 /// A path that a table stores. Its spelling is the UTF-8 bytes of its text, and its key is their components.
@@ -113,4 +114,14 @@ impl Sought<PathContent> for PathContent {
     fn same_as(&self, stored: &PathContent, work: &mut Work) -> bool {
         self.form().same_as(stored, work)
     }
+}
+
+impl<'a> ToContent<PathContent> for Path<'a> {
+    ghost form_spelling = { path_text };
+
+    fn to_content(&self, alloc: Global) -> Result<PathContent, AllocError> {
+        Ok(PathContent::Owned(String::from_str(alloc, self.as_str())?))
+    }
+
+    ghost key_of_form = { λ _. refl };
 }

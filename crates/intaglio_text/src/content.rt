@@ -3,7 +3,8 @@ ghost use Rattle.std.specs.Prelude.{◌≡◌, [], ◌∷◌, refl};
 ghost use Rattle.intaglio_text.specs.StrContent.{str_content_bytes};
 ghost use Rattle.intaglio_text.specs.declared.content.StrContent.TheVariants.{Borrowed, Owned};
 
-use intaglio_content::{Bytewise, Content, Formed, Keyed, LookedUp, Spelled};
+use intaglio_content::{Bytewise, Content, Formed, Keyed, LookedUp, Spelled, ToContent};
+use std::alloc::{AllocError, Global};
 
 /// A text that a table stores. Its spelling is its UTF-8 bytes, and its key is that one item.
 ///
@@ -85,4 +86,14 @@ impl<'a> Formed<'a> for StrContent {
 
 impl<'q> LookedUp<'q> for StrContent {
     type By = &'q str;
+}
+
+impl ToContent<StrContent> for &str {
+    ghost form_spelling = { λ text. text.now };
+
+    fn to_content(&self, alloc: Global) -> Result<StrContent, AllocError> {
+        Ok(StrContent::Owned(String::from_str(alloc, *self)?))
+    }
+
+    ghost key_of_form = { λ _. refl };
 }

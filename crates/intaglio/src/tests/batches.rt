@@ -1,10 +1,33 @@
 //! Contents that are interned together.
 use super::builders::{Counted, Fold, Watched};
 use super::contents::{Made, content};
+use super::each::{Script, Trial, on, on_each, on_each_with};
+use super::table::{Make, New, Table};
 use super::telling::same;
-use crate::{Interner, SymbolTable, Work, bstr, bytes, cstr, intern_all, osstr, path};
+use crate::{
+    InternError, Interner, Symbol, SymbolTable, Work, bstr, bytes, cstr, intern_all, osstr, path,
+};
 use std::alloc::Global;
 use std::process::Abort;
+
+// The words as contents.
+fn contents<C: Made>(rt: &impl Abort, alloc: Global, words: &'static str) -> Vec<C> {
+    let mut contents = Vec::new(alloc);
+    for word in words.split_whitespace() {
+        contents
+            .push(content(rt, alloc, word.as_bytes()))
+            .expect(rt, "memory");
+    }
+    contents
+}
+
+// Symbols as they are written.
+fn shown(rt: &impl Abort, alloc: Global, symbols: Result<Vec<Symbol>, InternError>) -> String {
+    match symbols {
+        Ok(symbols) => format!(in alloc; "{symbols:?}").expect(rt, "memory"),
+        Err(_) => "refused".to_string(alloc).expect(rt, "memory"),
+    }
+}
 
 // Interns the words together, and says their symbols.
 fn together<T: Interner>(
@@ -16,30 +39,26 @@ fn together<T: Interner>(
 where
     T::Content: Made,
 {
-    let mut contents = Vec::new(alloc);
-    for word in words.split_whitespace() {
-        contents
-            .push(content(rt, alloc, word.as_bytes()))
-            .expect(rt, "memory");
-    }
-    match intern_all(alloc, table, contents, &mut Work::new()) {
-        Ok(symbols) => format!(in alloc; "{symbols:?}").expect(rt, "memory"),
-        Err(_) => "refused".to_string(alloc).expect(rt, "memory"),
-    }
+    let contents = contents(rt, alloc, words);
+    let symbols = intern_all(alloc, table, contents, &mut Work::new());
+    shown(rt, alloc, symbols)
 }
+
+// Words that are interned together into a table of at most four contents, their symbols, and how many contents there are then.
+const ROWS: [(&str, &str, usize); 5] = [
+    ("b a b", "[Symbol(0), Symbol(1), Symbol(0)]", 2),
+    ("a c c a", "[Symbol(1), Symbol(2), Symbol(2), Symbol(1)]", 3),
+    ("", "[]", 3),
+    ("d a e", "refused", 3),
+    ("c d", "[Symbol(2), Symbol(3)]", 4),
+];
 
 // A table of at most four contents.
 fn interns_together<T: Interner + Drop>(rt: &impl Abort, alloc: Global, mut table: T)
 where
     T::Content: Made,
 {
-    for (words, wanted, count) in [
-        ("b a b", "[Symbol(0), Symbol(1), Symbol(0)]", 2),
-        ("a c c a", "[Symbol(1), Symbol(2), Symbol(2), Symbol(1)]", 3),
-        ("", "[]", 3),
-        ("d a e", "refused", 3),
-        ("c d", "[Symbol(2), Symbol(3)]", 4),
-    ] {
+    for (words, wanted, count) in ROWS {
         same(rt, together(rt, alloc, &mut table, words).as_str(), wanted);
         assert_eq!(rt; table.count(), count);
     }
@@ -70,4 +89,70 @@ fn contents_interned_together_are_hashed_once_each(rt: HostRuntime) {
     let wanted = "[Symbol(0), Symbol(1), Symbol(0), Symbol(1), Symbol(2)]";
     same(&rt, symbols.as_str(), wanted);
     same(&rt, table.hasher().made(), Some(5));
+}
+
+// The same by the table's own call.
+#[derive(Clone, Copy)]
+struct InternsAll;
+
+impl Trial for InternsAll {
+    fn try_on<T: New, R: Abort>(&self, rt: &R, alloc: Global) {
+        let mut table = T::make(alloc, Make::Limited(4)).expect(rt, "no table");
+        for (words, wanted, count) in ROWS {
+            let symbols = table.put_all(contents(rt, alloc, words));
+            same(rt, shown(rt, alloc, symbols).as_str(), wanted);
+            assert_eq!(rt; table.counts().len, count);
+        }
+    }
+}
+
+#[test]
+fn a_table_interns_contents_together(rt: HostRuntime) {
+    on_each(&rt, rt.alloc(), &InternsAll);
+}
+
+#[test]
+fn forms_are_interned_as_their_contents(rt: HostRuntime) {
+    on_each(
+        &rt,
+        rt.alloc(),
+        &Script(
+            "with_limit 2 > done
+get_or_intern b > 0
+intern a > 1
+get_or_intern a > 1
+get_or_intern b > 0
+get_or_intern c > Symbol overflow
+len > 2
+get 0 > b
+get_or_intern b > 0",
+        ),
+    );
+}
+
+#[test]
+fn a_form_is_hashed_once(rt: HostRuntime) {
+    on_each_with(
+        &rt,
+        rt.alloc(),
+        0,
+        Some(7),
+        "get_or_intern b > 0
+get_or_intern a > 1
+get_or_intern b > 0
+hashers > 3",
+    );
+}
+
+#[test]
+fn the_first_spelling_of_a_path_is_copied(rt: HostRuntime) {
+    on::<path::SymbolTable>(
+        &rt,
+        rt.alloc(),
+        "new > done
+get_or_intern a//b > 0
+get_or_intern a/b > 0
+get 0 > a//b
+len > 1",
+    );
 }

@@ -8,7 +8,7 @@ use crate::bytes::BytesContent;
 use crate::cstr::{CStr, CStrContent, CString};
 use crate::osstr::OsStrContent;
 use crate::path::{Path, PathContent};
-use crate::{Formed, Reply, Sought, Spelled, StrContent, Symbol, Table};
+use crate::{Formed, InternError, Reply, Sought, Spelled, StrContent, Symbol, Table};
 use std::alloc::Global;
 use std::process::Abort;
 use std::str;
@@ -23,6 +23,9 @@ pub trait Made: Spelled + Sought<Self> + Drop {
 
     /// Looks it up by its borrowed form.
     fn find_in<S: Watched>(&self, alloc: Global, table: &Table<Self, S>) -> Found;
+
+    /// Interns its borrowed form.
+    fn put_form_in<S: Watched>(&self, table: &mut Table<Self, S>) -> Result<Symbol, InternError>;
 
     /// Looks a symbol up.
     fn read_in<S: Watched>(alloc: Global, table: &Table<Self, S>, symbol: Symbol) -> Read;
@@ -60,6 +63,13 @@ impl Made for StrContent {
         }
     }
 
+    fn put_form_in<S: Watched>(
+        &self,
+        table: &mut Table<StrContent, S>,
+    ) -> Result<Symbol, InternError> {
+        table.get_or_intern(self.form())
+    }
+
     fn read_in<S: Watched>(alloc: Global, table: &Table<StrContent, S>, symbol: Symbol) -> Read {
         read_at(table, alloc, symbol)
     }
@@ -93,6 +103,13 @@ impl Made for OsStrContent {
             },
             is: Reply::Bool(table.is_interned(self.form())),
         }
+    }
+
+    fn put_form_in<S: Watched>(
+        &self,
+        table: &mut Table<OsStrContent, S>,
+    ) -> Result<Symbol, InternError> {
+        table.get_or_intern(self.form())
     }
 
     fn read_in<S: Watched>(alloc: Global, table: &Table<OsStrContent, S>, symbol: Symbol) -> Read {
@@ -130,6 +147,13 @@ impl Made for BytesContent {
         }
     }
 
+    fn put_form_in<S: Watched>(
+        &self,
+        table: &mut Table<BytesContent, S>,
+    ) -> Result<Symbol, InternError> {
+        table.get_or_intern(self.form())
+    }
+
     fn read_in<S: Watched>(alloc: Global, table: &Table<BytesContent, S>, symbol: Symbol) -> Read {
         read_at(table, alloc, symbol)
     }
@@ -163,6 +187,13 @@ impl Made for BStrContent {
             },
             is: Reply::Bool(table.is_interned(self.form())),
         }
+    }
+
+    fn put_form_in<S: Watched>(
+        &self,
+        table: &mut Table<BStrContent, S>,
+    ) -> Result<Symbol, InternError> {
+        table.get_or_intern(self.form())
     }
 
     fn read_in<S: Watched>(alloc: Global, table: &Table<BStrContent, S>, symbol: Symbol) -> Read {
@@ -201,6 +232,13 @@ impl Made for CStrContent {
         }
     }
 
+    fn put_form_in<S: Watched>(
+        &self,
+        table: &mut Table<CStrContent, S>,
+    ) -> Result<Symbol, InternError> {
+        table.get_or_intern(self.form())
+    }
+
     fn read_in<S: Watched>(alloc: Global, table: &Table<CStrContent, S>, symbol: Symbol) -> Read {
         read_at(table, alloc, symbol)
     }
@@ -234,6 +272,13 @@ impl Made for PathContent {
             },
             is: Reply::Bool(table.is_interned(self.form())),
         }
+    }
+
+    fn put_form_in<S: Watched>(
+        &self,
+        table: &mut Table<PathContent, S>,
+    ) -> Result<Symbol, InternError> {
+        table.get_or_intern(self.form())
     }
 
     fn read_in<S: Watched>(alloc: Global, table: &Table<PathContent, S>, symbol: Symbol) -> Read {

@@ -77,6 +77,7 @@ fn asks<T: Table>(rt: &impl Abort, alloc: Global, table: &mut T, line: Line) -> 
 fn puts<T: Table>(rt: &impl Abort, alloc: Global, table: &mut T, line: Line) -> Option<Reply> {
     match line.name {
         "intern" => Some(table.put(content(rt, alloc, line.word.as_bytes()))),
+        "get_or_intern" => Some(table.put_form(&content(rt, alloc, line.word.as_bytes()))),
         "lend" => Some(table.put(lent(rt, line.word))),
         "intern_all" => Some(interns_all(rt, alloc, table, size(rt, line.word))),
         "keep_all" => Some(keeps_all(rt, alloc, table, size(rt, line.word))),

@@ -3,7 +3,7 @@ use super::builders::{Fold, Watched};
 use super::contents::{Made, Shown};
 use super::replies::{interned, roomy, spelled, taken};
 use super::steps::{Steps, walks};
-use crate::{AllSymbols, Formed, Mark, Reply, RoomError, Symbol};
+use crate::{AllSymbols, Formed, InternError, Mark, Reply, RoomError, Symbol};
 use std::alloc::Global;
 use std::process::Abort;
 
@@ -81,6 +81,12 @@ pub trait Table: Drop {
     /// As `intern`.
     fn put(&mut self, content: Self::Kind) -> Reply;
 
+    /// As `get_or_intern`.
+    fn put_form(&mut self, form: &Self::Kind) -> Reply;
+
+    /// As `intern_all`.
+    fn put_all(&mut self, contents: Vec<Self::Kind>) -> Result<Vec<Symbol>, InternError>;
+
     /// Makes a call that changes the table.
     fn change(&mut self, change: Change) -> Reply;
 
@@ -148,6 +154,14 @@ impl<C: Made, S: Watched> Table for crate::Table<C, S> {
 
     fn put(&mut self, content: C) -> Reply {
         interned(self.intern(content))
+    }
+
+    fn put_form(&mut self, form: &C) -> Reply {
+        interned(form.put_form_in(self))
+    }
+
+    fn put_all(&mut self, contents: Vec<C>) -> Result<Vec<Symbol>, InternError> {
+        self.intern_all(contents)
     }
 
     fn change(&mut self, change: Change) -> Reply {

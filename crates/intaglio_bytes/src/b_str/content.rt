@@ -5,7 +5,8 @@ ghost use Rattle.intaglio_bytes.specs.BStrContent.{bstr_content_bytes};
 ghost use Rattle.intaglio_bytes.specs.declared.b_str.content.BStrContent.TheVariants.{Borrowed, Owned};
 
 use bstr::{BStr, BString};
-use intaglio_content::{Bytewise, Content, Formed, Keyed, LookedUp, Spelled};
+use intaglio_content::{Bytewise, Content, Formed, Keyed, LookedUp, Spelled, ToContent};
+use std::alloc::{AllocError, Global};
 
 /// A byte string that a table stores. Its spelling is its bytes, and its key is that one item.
 ///
@@ -89,4 +90,15 @@ impl<'a> Formed<'a> for BStrContent {
 
 impl<'q> LookedUp<'q> for BStrContent {
     type By = BStr<'q>;
+}
+
+impl<'a> ToContent<BStrContent> for BStr<'a> {
+    ghost form_spelling = { bstr_bytes };
+
+    fn to_content(&self, alloc: Global) -> Result<BStrContent, AllocError> {
+        let bytes = Vec::from_slice(alloc, self.as_bytes())?;
+        Ok(BStrContent::Owned(BString::new(bytes)))
+    }
+
+    ghost key_of_form = { λ _. refl };
 }

@@ -3,7 +3,8 @@ ghost use Rattle.std.specs.Prelude.{◌≡◌, [], ◌∷◌, refl};
 ghost use Rattle.intaglio_bytes.specs.BytesContent.{bytes_content_bytes};
 ghost use Rattle.intaglio_bytes.specs.declared.bytes.content.BytesContent.TheVariants.{Borrowed, Owned};
 
-use intaglio_content::{Bytewise, Content, Formed, Keyed, LookedUp, Spelled};
+use intaglio_content::{Bytewise, Content, Formed, Keyed, LookedUp, Spelled, ToContent};
+use std::alloc::{AllocError, Global};
 
 /// A byte string that a table stores. Its spelling is its bytes, and its key is that one item.
 ///
@@ -85,4 +86,14 @@ impl<'a> Formed<'a> for BytesContent {
 
 impl<'q> LookedUp<'q> for BytesContent {
     type By = &'q [u8];
+}
+
+impl ToContent<BytesContent> for &[u8] {
+    ghost form_spelling = { λ bytes. bytes.now };
+
+    fn to_content(&self, alloc: Global) -> Result<BytesContent, AllocError> {
+        Ok(BytesContent::Owned(Vec::from_slice(alloc, *self)?))
+    }
+
+    ghost key_of_form = { λ _. refl };
 }

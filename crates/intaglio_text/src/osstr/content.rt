@@ -3,7 +3,8 @@ ghost use Rattle.std.specs.Prelude.{◌≡◌, [], ◌∷◌, refl};
 ghost use Rattle.intaglio_text.specs.OsStrContent.{os_str_content_bytes};
 ghost use Rattle.intaglio_text.specs.declared.osstr.content.OsStrContent.TheVariants.{Borrowed, Owned};
 
-use intaglio_content::{Bytewise, Content, Formed, Keyed, LookedUp, Spelled};
+use intaglio_content::{Bytewise, Content, Formed, Keyed, LookedUp, Spelled, ToContent};
+use std::alloc::{AllocError, Global};
 
 /// A platform string that a table stores: a UTF-8 text. Its spelling is its bytes, and its key is that one item.
 ///
@@ -85,4 +86,14 @@ impl<'a> Formed<'a> for OsStrContent {
 
 impl<'q> LookedUp<'q> for OsStrContent {
     type By = &'q str;
+}
+
+impl ToContent<OsStrContent> for &str {
+    ghost form_spelling = { λ text. text.now };
+
+    fn to_content(&self, alloc: Global) -> Result<OsStrContent, AllocError> {
+        Ok(OsStrContent::Owned(String::from_str(alloc, *self)?))
+    }
+
+    ghost key_of_form = { λ _. refl };
 }

@@ -1,0 +1,98 @@
+//! Internings by a borrowed form, which is copied only if it is new.
+ghost use Rattle.std.specs.Prelude.{◌≡◌, None, IfOk, OnErr};
+ghost use Rattle.intaglio_content.specs.Key.{key_hash};
+ghost use Rattle.intaglio_core.specs.State.{first, IsValid};
+ghost use Rattle.intaglio_core.specs.Change.{InternsForm, TakesCopy};
+ghost use Rattle.intaglio_core.specs.Lookup.{IsFound, IsStored, Keeps, FindsOthers};
+ghost use Rattle.intaglio_core.specs.Cost.{Costs, InternCost, KnownInternCost};
+ghost use Rattle.intaglio_core.specs.Indexed.{AddCost};
+
+use super::Core;
+use intaglio_content::{Content, Keyed, ToContent, Work};
+use intaglio_symbol::{InternError, Symbol, SymbolOverflowError};
+use std::alloc::Global;
+use std::hash::BuildHasher;
+
+impl<C: Keyed, S: BuildHasher> Core<C, S> {
+    /// The allocator that the contents are kept by.
+    pub fn allocator(&self) -> Global {
+        *self.list.allocator()
+    }
+}
+
+impl<C: Content + Drop, S: BuildHasher> Core<C, S> {
+    /// The symbol of the content that is equal to this form. If there is none, a copy of the form is stored.
+    ///
+    /// Costs one hashing, also where the buckets grow.
+    ///
+    /// # Errors
+    ///
+    /// `Overflow` where the form is new and the table holds as many contents as its limit, before it is copied; `Memory`
+    /// where the copy or a growth that it needs is refused. Then the contents are as before.
+    pub fn get_or_intern<Q: ToContent<C>>(
+        &mut self,
+        form: &Q,
+        work: &mut Work,
+    ) -> Result<Symbol, InternError>
+        ensures step { InternsForm C.key C.spelling self.old.state (Q.key form.now) (Q.form_spelling form.now) result self.new.state }
+        ensures found { IfOk result (IsFound C.key self.new.state (Q.key form.now)) }
+        ensures stored { IfOk result (IsStored C.key self.new.state (Q.key form.now)) }
+        ensures kept { Keeps C.key self.old.state self.new.state }
+        ensures others { FindsOthers C.key self.old.state (Q.key form.now) self.new.state }
+        ensures refused { OnErr result (self.new.state.contents ≡ self.old.state.contents) }
+        ensures cost { let hash = key_hash S.Hasher.finish S.Hasher.write (S.build_hasher self.old.hasher) in
+            Costs work.old work.new (InternCost C.key hash self.old.state (Q.key form.now) result self.new.state) }
+        ensures hasher { self.new.hasher ≡ self.old.hasher }
+        ensures valid { IsValid C.key self.new.state }
+    {
+        let hash = form.hash_with(&self.hasher, work);
+        self.get_or_intern_hashed(hash, form, work)
+    }
+
+    // The same for a form whose hash is known.
+    #[inline(always)]
+    pub(crate) fn get_or_intern_hashed<Q: ToContent<C>>(
+        &mut self,
+        hash: u64,
+        form: &Q,
+        work: &mut Work,
+    ) -> Result<Symbol, InternError>
+        requires hash { hash ≡ key_hash S.Hasher.finish S.Hasher.write (S.build_hasher self.old.hasher) (Q.key form.now) }
+        ensures step { InternsForm C.key C.spelling self.old.state (Q.key form.now) (Q.form_spelling form.now) result self.new.state }
+        ensures found { IfOk result (IsFound C.key self.new.state (Q.key form.now)) }
+        ensures stored { IfOk result (IsStored C.key self.new.state (Q.key form.now)) }
+        ensures kept { Keeps C.key self.old.state self.new.state }
+        ensures others { FindsOthers C.key self.old.state (Q.key form.now) self.new.state }
+        ensures refused { OnErr result (self.new.state.contents ≡ self.old.state.contents) }
+        ensures cost { let hash = key_hash S.Hasher.finish S.Hasher.write (S.build_hasher self.old.hasher) in
+            Costs work.old work.new (KnownInternCost C.key hash self.old.state (Q.key form.now) result self.new.state) }
+        ensures hasher { self.new.hasher ≡ self.old.hasher }
+        ensures valid { IsValid C.key self.new.state }
+    {
+        match self.search_hashed(hash, form, work) {
+            Some(symbol) => Ok(symbol),
+            None => self.add_copy(hash, form, work),
+        }
+    }
+
+    // Takes a copy of a form that isn't there. No copy is made where the table is full.
+    fn add_copy<Q: ToContent<C>>(
+        &mut self,
+        hash: u64,
+        form: &Q,
+        work: &mut Work,
+    ) -> Result<Symbol, InternError>
+        requires hash { hash ≡ key_hash S.Hasher.finish S.Hasher.write (S.build_hasher self.old.hasher) (Q.key form.now) }
+        requires absent { first C.key self.old.state.contents (Q.key form.now) ≡ None }
+        ensures step { TakesCopy C.key C.spelling self.old.state (Q.key form.now) (Q.form_spelling form.now) result self.new.state }
+        ensures cost { Costs work.old work.new (AddCost self.old.state result self.new.state) }
+        ensures hasher { self.new.hasher ≡ self.old.hasher }
+        ensures valid { IsValid C.key self.new.state }
+    {
+        if self.list.len() >= self.limit {
+            return Err(InternError::Overflow(SymbolOverflowError::new()));
+        }
+        let content = form.to_content(self.allocator())?;
+        self.add(hash, content, work)
+    }
+}
