@@ -5,8 +5,10 @@
 //! list of distinct contents, whose symbols are their places.
 #![tactic(auto)]
 
+mod error;
 pub mod laws;
 
+pub use error::TableError;
 pub use intaglio_bytes::{b_str as bstr, bytes};
 pub use intaglio_core::run::run;
 pub use intaglio_core::{
