@@ -1,0 +1,63 @@
+//! The files of a build: each has one entry, however its path is spelled.
+//!
+//! The program prints the entry of each spelling, under the spelling that came first.
+#![tactic(auto)]
+
+ghost use Rattle.std.specs.Prelude.{◌≡◌, ◌↔◌, IfOk, IsTrue};
+ghost use Rattle.intaglio.specs.Components.{components};
+
+use anyhow::Result;
+use intaglio::path::{Path, PathContent, SymbolTable};
+use intaglio::{InternError, Symbol, TableError};
+use std::alloc::Global;
+
+/// Whether two spellings are of one entry: exactly if they have the same components.
+///
+/// # Errors
+///
+/// Those of [`intern`](SymbolTable::intern).
+fn are_one_entry(
+    files: &mut SymbolTable,
+    one: &'static str,
+    other: &'static str,
+) -> Result<bool, InternError>
+    ensures { IfOk result (λ same. IsTrue same ↔ (components one.now ≡ components other.now)) }
+{
+    let first = files.intern(PathContent::from(one))?;
+    let second = files.intern(PathContent::from(other))?;
+    Ok(first == second)
+}
+
+/// The entry of `a//b` in a new table, at which `a/./b` is found too.
+///
+/// # Errors
+///
+/// If a table can't be made, or can't take a path.
+#[tactic(auto, unfolding(intaglio::specs::Components::components))]
+fn spelled_twice(alloc: Global) -> Result<Symbol, TableError> {
+    let mut files = SymbolTable::new(alloc)?;
+    let entry = files.intern(PathContent::from("a//b"))?;
+    let found = files.check_interned(Path::new("a/./b"));
+    prove!(found == Some(entry));
+    Ok(entry)
+}
+
+fn main(rt: HostRuntime) -> Result<()> {
+    let mut files = SymbolTable::new(rt.alloc())?;
+    for text in [
+        "src/main.rt",
+        "src//main.rt",
+        "./src",
+        "src/./lib.rt",
+        "src/lib.rt/",
+        "src/../src",
+    ] {
+        let entry = files.intern(PathContent::from(text))?;
+        let spelled = files.get(entry).map_or("", |path| path.as_str());
+        println!(rt; "{} {text} is {spelled}", entry.id())?;
+    }
+    let same = are_one_entry(&mut files, "src/main.rt", "src/./main.rt/")?;
+    println!(rt; "one entry: {same}")?;
+    println!(rt; "{}", spelled_twice(rt.alloc())?.id())?;
+    Ok(())
+}

@@ -1,0 +1,27 @@
+-- What a rollback to a mark restores, where what stood at the mark was kept since.
+use Rattle.std.proofs.Common.{◌≡◌, ◌≤◌, ap, refl, arith, List, length, take, Result, Ok, Err, IsOk}
+use Rattle.std.proofs.lemmas.List.{length-take}
+use Rattle.intaglio_content.specs.Key.{Key}
+use Rattle.intaglio_core.specs.State.{State}
+use Rattle.intaglio_core.specs.Change.{TakesBack}
+use Rattle.intaglio_core.specs.Lookup.{Keeps}
+use Rattle.intaglio_core.proofs.Laws.{keeps-front, restored}
+use Rattle.intaglio_symbol.specs.declared.error.StaleMark.{StaleMark}
+
+module _ {C : Type 0} (key : C → Key) where
+  -- what is kept stays as many
+  pub kept-count : (old next : State C) → Keeps key old next → length old.contents ≤ length next.contents
+  kept-count old next kept =
+      let front : length (take (length old.contents) next.contents) ≡ length old.contents = ap (λ (cs : List C). length cs) (keeps-front key old next kept) in
+      omega (arith, front, length-take (length old.contents) next.contents)
+
+  module _ (old next new : State C) (kept : Keeps key old next) where
+    -- the mark isn't stale
+    pub not_stale : (r : Result (Unit {0}) StaleMark) → TakesBack next (length old.contents) r new → IsOk r
+    not_stale (Ok _) step = refl
+    not_stale (Err _) step = let le = kept-count old next kept in let lt = step.0 in absurd (omega arith)
+
+    -- and the contents are those that stood at the mark
+    pub rolled_back : (r : Result (Unit {0}) StaleMark) → TakesBack next (length old.contents) r new → new.contents ≡ old.contents
+    rolled_back (Ok _) step = restored key old next new kept step
+    rolled_back (Err _) step = let le = kept-count old next kept in let lt = step.0 in absurd (omega arith)
