@@ -72,6 +72,7 @@ fn constructors_agree_with_the_vectors(rt: HostRuntime) {
         Err(0),
     );
     agrees(&rt, alloc, b"\xff\x00", Ok(b"\xff"), Err(1));
+    holds(&rt, reads(b"abc", MISSING));
 }
 
 // Asserts what the errors print.

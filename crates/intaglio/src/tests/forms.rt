@@ -4,7 +4,7 @@ use crate::bstr::BStrContent;
 use crate::bytes::BytesContent;
 use crate::cstr::{CStr, CStrContent, CString};
 use crate::path::{Path, PathContent};
-use crate::{Formed, Forms, Keyed, Pairs, Sought, Spelled, StrContent, Symbol, Work};
+use crate::{Formed, Forms, Keyed, Pairs, Sought, Spelled, StrContent, Symbol, SymbolTable, Work};
 use std::test::Fail;
 
 fn finds<C: Keyed, Q: Sought<C>>(sought: &Q, stored: &C) -> bool {
@@ -151,5 +151,15 @@ fn pairs_are_skipped_counted_and_cloned(rt: HostRuntime) -> Result<(), Fail> {
     same(&rt, pairs.clone()?.count(), 3);
     assert_eq!(&rt; pairs.clone()?.nth(1), Some((Symbol::new(1), "b")));
     assert_eq!(&rt; pairs.last(), Some((Symbol::new(2), "c")));
+    Ok(())
+}
+
+#[test]
+fn the_pairs_of_a_table_are_counted(rt: HostRuntime) -> Result<(), Fail> {
+    let mut table = SymbolTable::new(rt.alloc())?;
+    for text in ["abc", "xyz", "123", "789"] {
+        table.intern(StrContent::from(text))?;
+    }
+    same(&rt, table.iter().count(), 4);
     Ok(())
 }

@@ -46,6 +46,18 @@ fn a_table_grows_from_nothing_to_a_hundred(rt: HostRuntime) {
         rt.alloc(),
         &Script(
             "with_capacity_and_hasher 0 > done
+intern_all 1 > done
+fits 4 > true
+intern_all 5 > done
+fits 8 > true
+intern_all 9 > done
+fits 16 > true
+intern_all 17 > done
+fits 32 > true
+intern_all 33 > done
+fits 64 > true
+intern_all 65 > done
+fits 128 > true
 intern_all 100 > done
 check_all 100 > done
 fits 100 > true",
