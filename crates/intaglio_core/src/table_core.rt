@@ -263,8 +263,11 @@ fn find_room<C>(
     ensures refused { let n = length list.old.items in
         OnErr result (FindsNoPlace n (vec_capacity list.old) index.old index.new work.old work.new) }
 {
-    list.reserve(1)?;
     let count = list.len();
+    if count < list.capacity().min(index.room()) {
+        return Ok(());
+    }
+    list.reserve(1)?;
     let buckets = index.bucket_count();
     if count < buckets {
         return index.reserve(count + 1, work);

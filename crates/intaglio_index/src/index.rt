@@ -34,6 +34,9 @@ pub(crate) struct Node {
 /// // Both are in bucket 2, as a symbol of hash 10 would be. The smaller hash comes first.
 /// assert_eq!(rt; index.first(10, &mut work), Some((Symbol::new(1), 2)));
 /// assert_eq!(rt; index.after(Symbol::new(1), &mut work), Some((Symbol::new(0), 6)));
+/// // A search by a hash finds symbols of this very hash.
+/// assert_eq!(rt; index.find(6, &mut work), Some(Symbol::new(0)));
+/// assert_eq!(rt; index.find(10, &mut work), None);
 /// ```
 #[derive(Drop)]
 pub struct Index {

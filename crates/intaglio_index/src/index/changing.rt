@@ -1,5 +1,5 @@
 //! Symbols are placed and taken out.
-ghost use Rattle.std.specs.Prelude.{◌≡◌, ◌-◌, ◌<◌, ◌≤◌, ◌++◌, ◌∷◌, [], length, replicate, take, None};
+ghost use Rattle.std.specs.Prelude.{◌≡◌, ◌-◌, ◌%◌, ◌<◌, ◌≤◌, ◌++◌, ◌∷◌, [], length, replicate, take, None};
 ghost use Rattle.intaglio_content.specs.Work.{placed};
 
 use super::filter::marked;
@@ -35,6 +35,31 @@ impl Index {
         // A proof learns here that the number fits.
         let _number = symbol.id();
         let bucket = self.modulus.bucket(hash);
+        let filter = self.filters[bucket];
+        if filter != 0 {
+            return self.insert_among(bucket, hash, symbol);
+        }
+        let word = self.modulus.word(hash, symbol);
+        self.filters[bucket] = marked(filter, hash);
+        self.heads[bucket] = Head {
+            first: word,
+            second: word,
+        };
+        self.nodes.push_reserved(Node { hash, next: None });
+    }
+
+    // The same for a bucket that isn't empty.
+    fn insert_among(&mut self, bucket: usize, hash: u64, symbol: Symbol)
+        requires bucket { bucket ≡ hash % self.old.count }
+        requires next { symbol ≡ length self.old.hashes }
+        requires room { symbol < self.old.room }
+        ensures hashes { self.new.hashes ≡ self.old.hashes ++ hash ∷ [] }
+        ensures count { self.new.count ≡ self.old.count }
+        ensures room { self.new.room ≡ self.old.room }
+        ensures fits { self.new.room ≤ self.new.count }
+    {
+        // A proof learns here that the number fits.
+        let _number = symbol.id();
         let leader = self.leader(bucket);
         let place = self.predecessor(bucket, hash);
         let word = self.modulus.word(hash, symbol);

@@ -66,6 +66,7 @@ impl Index {
     /// One step for each symbol of the bucket up to it; where there is none, at least one, and at most one more than the bucket
     /// has symbols. A bucket's head has the first two symbols with the high bits of their hashes, so that most look-ups read no
     /// more of the index than a filter and a head.
+    #[inline(always)]
     pub fn find(&self, hash: u64, work: &mut Work) -> Option<Symbol>
         ensures found { IfSome result (λ symbol. IsFound hash (chain self.now (hash % self.now.count)) work.old.marks work.new.marks symbol) }
         ensures none { result ≡ None → AllByRecursion (λ placed. placed ≢ hash) self.now.hashes }
@@ -102,6 +103,7 @@ impl Index {
     }
 
     // The first symbol of the hash from a candidate on.
+    #[inline(never)]
     fn find_along(
         &self,
         candidate: Option<(Symbol, u64)>,
@@ -157,7 +159,8 @@ impl Index {
         self.behind(symbol)
     }
 
-    // The first symbol of a bucket.
+    // The number of a bucket's first symbol.
+    #[inline(always)]
     pub(super) fn leader(&self, bucket: usize) -> Option<Symbol>
         requires { bucket < self.now.count }
         ensures { result ≡ leader_of (chain self.now bucket) }
@@ -168,6 +171,7 @@ impl Index {
         Some(self.modulus.symbol(self.heads[bucket].first))
     }
 
+    // The first symbol of a bucket.
     fn front(&self, bucket: usize) -> Option<(Symbol, u64)>
         requires { bucket < self.now.count }
         ensures { result ≡ head_of (chain self.now bucket) }
@@ -184,6 +188,7 @@ impl Index {
     }
 
     // The last of the symbols at the front of the hash's bucket that have smaller hashes.
+    #[inline(always)]
     pub(super) fn predecessor(&self, bucket: usize, hash: u64) -> Option<Symbol>
         requires bucket { bucket ≡ hash % self.now.count }
         requires within { bucket < self.now.count }
@@ -206,6 +211,7 @@ impl Index {
     }
 
     // The same from a candidate on, where `last` stands in front of it.
+    #[inline(never)]
     fn last_below(
         &self,
         last: Option<Symbol>,
