@@ -49,6 +49,7 @@ impl Index {
     }
 
     // The same for a bucket that isn't empty.
+    #[inline(never)]
     fn insert_among(&mut self, bucket: usize, hash: u64, symbol: Symbol)
         requires bucket { bucket ≡ hash % self.old.count }
         requires next { symbol ≡ length self.old.hashes }
