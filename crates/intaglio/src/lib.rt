@@ -14,7 +14,8 @@ pub use intaglio_core::run::run;
 pub use intaglio_core::{
     AllSymbols, Bytewise, Call, Content, Core, DEFAULT_SYMBOL_TABLE_CAPACITY, Formed, Forms, Index,
     InternError, Interner, Keyed, LookedUp, Mark, Pairs, Reply, RoomError, Sought, Spelled,
-    StaleMark, Symbol, SymbolOverflowError, ToContent, Work, intern_all,
+    StaleMark, Symbol, SymbolOverflowError, ToContent, Work, check_all, get_or_intern_all,
+    intern_all,
 };
 pub use intaglio_cstr as cstr;
 pub use intaglio_path as path;

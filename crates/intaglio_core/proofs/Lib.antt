@@ -12,4 +12,6 @@ pub mod InOrder
 pub mod Held
 pub mod Each
 pub mod Laws
+pub mod ByForm
+pub mod OnResult
 pub mod Alike

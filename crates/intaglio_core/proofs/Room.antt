@@ -1,10 +1,10 @@
 -- Room that was there stays, but for calls that shrink.
-use Rattle.std.proofs.Common.{◌≡◌, ℕ, suc, ◌+◌, ◌≤◌, List, [], ◌∷◌, length, All, Option, Some, None, Ok, Err, Result, MatchOption, length-append, inl, inr, ap, arith}
+use Rattle.std.proofs.Common.{◌≡◌, ◌⊎◌, ℕ, suc, ◌+◌, ◌≤◌, List, [], ◌∷◌, length, All, Option, Some, None, Ok, Err, Result, MatchOption, length-append, inl, inr, ap, arith}
 use Rattle.std.proofs.lemmas.Bool.{cases_lt}
 use Rattle.intaglio_content.specs.Key.{Key}
 use Rattle.intaglio_content.specs.Work.{Mark}
 use Rattle.intaglio_core.specs.State.{State, first}
-use Rattle.intaglio_core.specs.Change.{HasNoLessRoom, Interns, IsTaken, IsRefused}
+use Rattle.intaglio_core.specs.Change.{HasNoLessRoom, Interns, InternsForm, IsTaken, IsCopyTaken, IsRefused, IsUncopied}
 use Rattle.intaglio_core.specs.Step.{Step}
 use Rattle.intaglio_core.specs.Run.{Runs, KeepsRoom}
 use Rattle.intaglio_symbol.specs.declared.error.InternError.{InternError}
@@ -46,6 +46,20 @@ module _ {C : Type 0} (key : C → Key) where
   Interns-roomier old next c (Ok i) made = answered-roomier (first key old.contents (key c)) old next c i made
   Interns-roomier old next c (Err (intern_error.Overflow e)) made = overflow-roomier (first key old.contents (key c)) old next _ _ made
   Interns-roomier old next c (Err (intern_error.Memory e)) made = refused-roomier (first key old.contents (key c)) old next _ made
+
+  copied-roomier : (spelling : C → List ℕ) (o : Option ℕ) (old next : State C) (k : Key) (w : List ℕ) (i : ℕ) → MatchOption o (IsCopyTaken key spelling old k w i next) (λ j. (◌≡◌ {A = Result ℕ InternError} (Ok i) (Ok j)) × (next ≡ old)) → HasNoLessRoom old next
+  copied-roomier spelling None old next k w i h = answered-roomier None old next h.copy i h.taken
+  copied-roomier spelling (Some j) old next k w i h = same-roomier old next h.1
+
+  uncopied-roomier : (o : Option ℕ) (old next : State C) (B : ℕ → Type 0) → MatchOption o (IsUncopied old next ⊎ IsRefused old next) (λ j. B j × (next ≡ old)) → HasNoLessRoom old next
+  uncopied-roomier None old next B (inl h) = same-roomier old next h.same
+  uncopied-roomier None old next B (inr h) = kept-roomier old next h.contents h.room
+  uncopied-roomier (Some j) old next B h = same-roomier old next h.1
+
+  pub InternsForm-roomier : (spelling : C → List ℕ) (old next : State C) (k : Key) (w : List ℕ) (result : Result ℕ InternError) → InternsForm key spelling old k w result next → HasNoLessRoom old next
+  InternsForm-roomier spelling old next k w (Ok i) made = copied-roomier spelling (first key old.contents k) old next k w i made
+  InternsForm-roomier spelling old next k w (Err (intern_error.Overflow e)) made = overflow-roomier (first key old.contents k) old next _ _ made
+  InternsForm-roomier spelling old next k w (Err (intern_error.Memory e)) made = uncopied-roomier (first key old.contents k) old next _ made
 
   module _ (spelling : C → List ℕ) where
     intern-roomier : (old next : State C) (c : C) (r : Reply) → Step key spelling old (Intern c) r next → HasNoLessRoom old next

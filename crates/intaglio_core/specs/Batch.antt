@@ -1,9 +1,9 @@
--- Contents that are interned in order, after all of them were hashed and looked up.
+-- Contents, or forms of contents, that are interned in order, after all of them were hashed and looked up.
 use Rattle.std.specs.Prelude.{◌≡◌, ◌⊎◌, ℕ, List, [], ◌∷◌, ◌++◌, map, Ok}
 use Rattle.intaglio_content.specs.Key.{Key}
 use Rattle.intaglio_content.specs.Work.{Mark, hashed}
 use Rattle.intaglio_core.specs.State.{State, IsValid}
-use Rattle.intaglio_core.specs.Change.{Interns}
+use Rattle.intaglio_core.specs.Change.{Interns, InternsForm}
 use Rattle.intaglio_core.specs.Cost.{InOrder, KnownSearchCost, KnownInternCost}
 use Rattle.intaglio_symbol.specs.declared.error.InternError.{InternError}
 use Rattle.intaglio_symbol.specs.declared.error.InternError.TheVariants.{Overflow}
@@ -56,3 +56,50 @@ module _ {C : Type 0} (key : C → Key) where
     RefusedCost old cs cost =
         (cost ≡ []) ⊎ (cost ≡ hashings cs)
         ⊎ ((searches later : List Mark) × (cost ≡ hashings cs ++ searches ++ later) × SearchesEach old cs searches × ((later ≡ []) ⊎ InternsSome old cs later))
+
+-- forms of contents, each with its key
+module _ {C Q : Type 0} (key : C → Key) (form_key : Q → Key) (hash : Key → ℕ) where
+  -- what a look-up of each costs beside the hashing
+  abbrev pub SearchesForms : State C → List Q → List Mark → Type 0
+  SearchesForms s [] cost = cost ≡ []
+  SearchesForms s (q ∷ qs) cost = (now later : List Mark) × (cost ≡ now ++ later) × KnownSearchCost key hash s (form_key q) now × SearchesForms s qs later
+
+  -- a hashing of each, and then a look-up of each
+  abbrev pub ChecksForms : State C → List Q → List Mark → Type 0
+  ChecksForms s qs cost = (searches : List Mark) × (cost ≡ hashings form_key qs ++ searches) × SearchesForms s qs searches
+
+-- and with the spelling of its copy
+module _ {C Q : Type 0} (key : C → Key) (spelling : C → List ℕ) (form_key : Q → Key) (form_spelling : Q → List ℕ) (hash : Key → ℕ) where
+  -- one interning by a form, with its symbol and what it costs beside the hashing, which leaves a valid state
+  abbrev pub IsFormInterning : State C → Q → ℕ → List Mark → State C → Type 0
+  IsFormInterning old q i cost new =
+      InternsForm key spelling old (form_key q) (form_spelling q) (Ok i) new × KnownInternCost key hash old (form_key q) (Ok i) new cost × IsValid key new
+
+  -- internings by forms in order, from a state to a state
+  abbrev pub InternsEachForm : State C → List Q → List ℕ → List Mark → State C → Type 0
+  InternsEachForm = InOrder IsFormInterning
+
+  -- a hashing of each, then a look-up of each, and then each interning
+  abbrev pub InternsForms : State C → List Q → List ℕ → List Mark → State C → Type 0
+  InternsForms old qs is cost new =
+      (searches internings : List Mark) × (cost ≡ hashings form_key qs ++ searches ++ internings) × SearchesForms key form_key hash old qs searches × InternsEachForm old qs is internings new
+
+  -- the first forms interned, and the look-up of the next, which was refused
+  pub record InternsSomeForms (old : State C) (qs : List Q) (cost : List Mark) : Type 0 where
+    pub before : List Q
+    pub refused : Q
+    pub after : List Q
+    pub forms : qs ≡ before ++ refused ∷ after
+    pub symbols : List ℕ
+    pub held : State C
+    pub internings : List Mark
+    pub search : List Mark
+    pub parts : cost ≡ internings ++ search
+    pub interns : InternsEachForm old before symbols internings held
+    pub searches : KnownSearchCost key hash held (form_key refused) search
+
+  -- forms that were refused together: nothing was done, or all were hashed, or then looked up, or then some were interned
+  abbrev pub RefusedFormsCost : State C → List Q → List Mark → Type 0
+  RefusedFormsCost old qs cost =
+      (cost ≡ []) ⊎ (cost ≡ hashings form_key qs)
+      ⊎ ((searches later : List Mark) × (cost ≡ hashings form_key qs ++ searches ++ later) × SearchesForms key form_key hash old qs searches × ((later ≡ []) ⊎ InternsSomeForms old qs later))

@@ -42,3 +42,11 @@ module _ {C : Type 0} (key : C → Key) where
   -- and its symbol's content has its key
   abbrev pub StoresEach : State C → List C → List ℕ → Type 0
   StoresEach s cs symbols = (n : ℕ) (c : C) (i : ℕ) → slice_get cs n ≡ Some c → slice_get symbols n ≡ Some i → IsStored s (key c) i
+
+  -- each of these keys is found at its symbol
+  abbrev pub FindsEachKey : State C → List Key → List ℕ → Type 0
+  FindsEachKey s ks symbols = (n : ℕ) (k : Key) (i : ℕ) → slice_get ks n ≡ Some k → slice_get symbols n ≡ Some i → IsFound s k i
+
+  -- and its symbol's content has it
+  abbrev pub StoresEachKey : State C → List Key → List ℕ → Type 0
+  StoresEachKey s ks symbols = (n : ℕ) (k : Key) (i : ℕ) → slice_get ks n ≡ Some k → slice_get symbols n ≡ Some i → IsStored s k i

@@ -10,7 +10,10 @@ ghost use Rattle.intaglio_core.specs.Issue.{issue_from, interned_all};
 ghost use Rattle.intaglio_core.specs.Batch.{IfOverflow, hashings, SearchesEach, InternsEach};
 ghost use Rattle.intaglio_core.specs.Batch.{InternsAll, InternsSome, RefusedCost};
 
+mod forms;
+
 use crate::interner::Interner;
+pub use forms::{check_all, get_or_intern_all};
 use intaglio_content::Work;
 use intaglio_symbol::{InternError, Symbol};
 use std::alloc::{AllocError, Global};

@@ -10,7 +10,7 @@ pub mod interner;
 pub mod run;
 pub mod table_core;
 
-pub use batch::intern_all;
+pub use batch::{check_all, get_or_intern_all, intern_all};
 pub use intaglio_content::{
     Bytewise, Content, Formed, Forms, Keyed, LookedUp, Pairs, Sought, Spelled, ToContent, Work,
     feed_item,

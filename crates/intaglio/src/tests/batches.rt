@@ -106,6 +106,31 @@ impl Trial for InternsAll {
     }
 }
 
+// The same by borrowed forms, which are looked up together then.
+#[derive(Clone, Copy)]
+struct InternsForms;
+
+impl Trial for InternsForms {
+    fn try_on<T: New, R: Abort>(&self, rt: &R, alloc: Global) {
+        let mut table = T::make(alloc, Make::Limited(4)).expect(rt, "no table");
+        for (words, wanted, count) in ROWS {
+            let symbols = table.put_forms(alloc, &contents(rt, alloc, words));
+            same(rt, shown(rt, alloc, symbols).as_str(), wanted);
+            assert_eq!(rt; table.counts().len, count);
+        }
+        let found = table
+            .find_forms(alloc, &contents(rt, alloc, "c e b"))
+            .expect(rt, "memory");
+        let wanted = [Some(Symbol::new(2)), None, Some(Symbol::new(0))];
+        same(rt, found.as_slice(), wanted.as_slice());
+    }
+}
+
+#[test]
+fn a_table_interns_and_finds_forms_together(rt: HostRuntime) {
+    on_each(&rt, rt.alloc(), &InternsForms);
+}
+
 #[test]
 fn a_table_interns_contents_together(rt: HostRuntime) {
     on_each(&rt, rt.alloc(), &InternsAll);

@@ -9,7 +9,7 @@ use crate::cstr::{CStr, CStrContent, CString};
 use crate::osstr::OsStrContent;
 use crate::path::{Path, PathContent};
 use crate::{Formed, InternError, Reply, Sought, Spelled, StrContent, Symbol, Table};
-use std::alloc::Global;
+use std::alloc::{AllocError, Global};
 use std::process::Abort;
 use std::str;
 
@@ -27,6 +27,20 @@ pub trait Made: Spelled + Sought<Self> + Drop {
     /// Interns its borrowed form.
     fn put_form_in<S: Watched>(&self, table: &mut Table<Self, S>) -> Result<Symbol, InternError>;
 
+    /// Interns the borrowed forms of contents together.
+    fn put_forms_in<S: Watched>(
+        alloc: Global,
+        contents: &[Self],
+        table: &mut Table<Self, S>,
+    ) -> Result<Vec<Symbol>, InternError>;
+
+    /// Looks the borrowed forms of contents up together.
+    fn find_forms_in<S: Watched>(
+        alloc: Global,
+        contents: &[Self],
+        table: &Table<Self, S>,
+    ) -> Result<Vec<Option<Symbol>>, AllocError>;
+
     /// Looks a symbol up.
     fn read_in<S: Watched>(alloc: Global, table: &Table<Self, S>, symbol: Symbol) -> Read;
 
@@ -37,6 +51,16 @@ pub trait Made: Spelled + Sought<Self> + Drop {
         table: &Table<Self, S>,
         steps: Steps,
     );
+}
+
+// The borrowed forms of contents.
+fn forms<'a, C: Formed<'a>>(alloc: Global, contents: &'a [C]) -> Result<Vec<C::Form>, AllocError> {
+    let mut forms = Vec::with_capacity(alloc, contents.len())?;
+    for content in contents {
+        forms.reserve(1)?;
+        forms.push_reserved(content.lend());
+    }
+    Ok(forms)
 }
 
 fn text_of(alloc: Global, spelling: &[u8]) -> Option<String> {
@@ -68,6 +92,22 @@ impl Made for StrContent {
         table: &mut Table<StrContent, S>,
     ) -> Result<Symbol, InternError> {
         table.get_or_intern(self.form())
+    }
+
+    fn put_forms_in<S: Watched>(
+        alloc: Global,
+        contents: &[StrContent],
+        table: &mut Table<StrContent, S>,
+    ) -> Result<Vec<Symbol>, InternError> {
+        table.get_or_intern_all(&forms(alloc, contents)?)
+    }
+
+    fn find_forms_in<S: Watched>(
+        alloc: Global,
+        contents: &[StrContent],
+        table: &Table<StrContent, S>,
+    ) -> Result<Vec<Option<Symbol>>, AllocError> {
+        table.check_all(&forms(alloc, contents)?)
     }
 
     fn read_in<S: Watched>(alloc: Global, table: &Table<StrContent, S>, symbol: Symbol) -> Read {
@@ -112,6 +152,22 @@ impl Made for OsStrContent {
         table.get_or_intern(self.form())
     }
 
+    fn put_forms_in<S: Watched>(
+        alloc: Global,
+        contents: &[OsStrContent],
+        table: &mut Table<OsStrContent, S>,
+    ) -> Result<Vec<Symbol>, InternError> {
+        table.get_or_intern_all(&forms(alloc, contents)?)
+    }
+
+    fn find_forms_in<S: Watched>(
+        alloc: Global,
+        contents: &[OsStrContent],
+        table: &Table<OsStrContent, S>,
+    ) -> Result<Vec<Option<Symbol>>, AllocError> {
+        table.check_all(&forms(alloc, contents)?)
+    }
+
     fn read_in<S: Watched>(alloc: Global, table: &Table<OsStrContent, S>, symbol: Symbol) -> Read {
         read_at(table, alloc, symbol)
     }
@@ -154,6 +210,22 @@ impl Made for BytesContent {
         table.get_or_intern(self.form())
     }
 
+    fn put_forms_in<S: Watched>(
+        alloc: Global,
+        contents: &[BytesContent],
+        table: &mut Table<BytesContent, S>,
+    ) -> Result<Vec<Symbol>, InternError> {
+        table.get_or_intern_all(&forms(alloc, contents)?)
+    }
+
+    fn find_forms_in<S: Watched>(
+        alloc: Global,
+        contents: &[BytesContent],
+        table: &Table<BytesContent, S>,
+    ) -> Result<Vec<Option<Symbol>>, AllocError> {
+        table.check_all(&forms(alloc, contents)?)
+    }
+
     fn read_in<S: Watched>(alloc: Global, table: &Table<BytesContent, S>, symbol: Symbol) -> Read {
         read_at(table, alloc, symbol)
     }
@@ -194,6 +266,22 @@ impl Made for BStrContent {
         table: &mut Table<BStrContent, S>,
     ) -> Result<Symbol, InternError> {
         table.get_or_intern(self.form())
+    }
+
+    fn put_forms_in<S: Watched>(
+        alloc: Global,
+        contents: &[BStrContent],
+        table: &mut Table<BStrContent, S>,
+    ) -> Result<Vec<Symbol>, InternError> {
+        table.get_or_intern_all(&forms(alloc, contents)?)
+    }
+
+    fn find_forms_in<S: Watched>(
+        alloc: Global,
+        contents: &[BStrContent],
+        table: &Table<BStrContent, S>,
+    ) -> Result<Vec<Option<Symbol>>, AllocError> {
+        table.check_all(&forms(alloc, contents)?)
     }
 
     fn read_in<S: Watched>(alloc: Global, table: &Table<BStrContent, S>, symbol: Symbol) -> Read {
@@ -239,6 +327,22 @@ impl Made for CStrContent {
         table.get_or_intern(self.form())
     }
 
+    fn put_forms_in<S: Watched>(
+        alloc: Global,
+        contents: &[CStrContent],
+        table: &mut Table<CStrContent, S>,
+    ) -> Result<Vec<Symbol>, InternError> {
+        table.get_or_intern_all(&forms(alloc, contents)?)
+    }
+
+    fn find_forms_in<S: Watched>(
+        alloc: Global,
+        contents: &[CStrContent],
+        table: &Table<CStrContent, S>,
+    ) -> Result<Vec<Option<Symbol>>, AllocError> {
+        table.check_all(&forms(alloc, contents)?)
+    }
+
     fn read_in<S: Watched>(alloc: Global, table: &Table<CStrContent, S>, symbol: Symbol) -> Read {
         read_at(table, alloc, symbol)
     }
@@ -279,6 +383,22 @@ impl Made for PathContent {
         table: &mut Table<PathContent, S>,
     ) -> Result<Symbol, InternError> {
         table.get_or_intern(self.form())
+    }
+
+    fn put_forms_in<S: Watched>(
+        alloc: Global,
+        contents: &[PathContent],
+        table: &mut Table<PathContent, S>,
+    ) -> Result<Vec<Symbol>, InternError> {
+        table.get_or_intern_all(&forms(alloc, contents)?)
+    }
+
+    fn find_forms_in<S: Watched>(
+        alloc: Global,
+        contents: &[PathContent],
+        table: &Table<PathContent, S>,
+    ) -> Result<Vec<Option<Symbol>>, AllocError> {
+        table.check_all(&forms(alloc, contents)?)
     }
 
     fn read_in<S: Watched>(alloc: Global, table: &Table<PathContent, S>, symbol: Symbol) -> Read {

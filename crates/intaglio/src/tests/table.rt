@@ -4,7 +4,7 @@ use super::contents::{Made, Shown};
 use super::replies::{interned, roomy, spelled, taken};
 use super::steps::{Steps, walks};
 use crate::{AllSymbols, Formed, InternError, Mark, Reply, RoomError, Symbol};
-use std::alloc::Global;
+use std::alloc::{AllocError, Global};
 use std::process::Abort;
 
 /// How a table is made.
@@ -87,6 +87,20 @@ pub trait Table: Drop {
     /// As `intern_all`.
     fn put_all(&mut self, contents: Vec<Self::Kind>) -> Result<Vec<Symbol>, InternError>;
 
+    /// As `get_or_intern_all`.
+    fn put_forms(
+        &mut self,
+        alloc: Global,
+        contents: &[Self::Kind],
+    ) -> Result<Vec<Symbol>, InternError>;
+
+    /// As `check_all`.
+    fn find_forms(
+        &self,
+        alloc: Global,
+        contents: &[Self::Kind],
+    ) -> Result<Vec<Option<Symbol>>, AllocError>;
+
     /// Makes a call that changes the table.
     fn change(&mut self, change: Change) -> Reply;
 
@@ -162,6 +176,14 @@ impl<C: Made, S: Watched> Table for crate::Table<C, S> {
 
     fn put_all(&mut self, contents: Vec<C>) -> Result<Vec<Symbol>, InternError> {
         self.intern_all(contents)
+    }
+
+    fn put_forms(&mut self, alloc: Global, contents: &[C]) -> Result<Vec<Symbol>, InternError> {
+        C::put_forms_in(alloc, contents, self)
+    }
+
+    fn find_forms(&self, alloc: Global, contents: &[C]) -> Result<Vec<Option<Symbol>>, AllocError> {
+        C::find_forms_in(alloc, contents, self)
     }
 
     fn change(&mut self, change: Change) -> Reply {

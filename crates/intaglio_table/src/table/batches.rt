@@ -1,14 +1,17 @@
-//! Many contents at once.
-ghost use Rattle.std.specs.Prelude.{◌≡◌, ◌<◌, length, IfErr, IfOk, OnErr, OnOk};
+//! Many contents or forms at once.
+ghost use Rattle.std.specs.Prelude.{◌≡◌, ◌<◌, length, map, IfErr, IfOk, OnErr, OnOk};
 ghost use Rattle.intaglio_content.specs.Key.{key_hash};
-ghost use Rattle.intaglio_core.specs.State.{IsValid};
+ghost use Rattle.intaglio_core.specs.State.{first, IsValid};
 ghost use Rattle.intaglio_core.specs.Change.{HasNoLessRoom};
-ghost use Rattle.intaglio_core.specs.Lookup.{FindsEach, Keeps, StoresEach};
+ghost use Rattle.intaglio_core.specs.Lookup.{FindsEach, FindsEachKey, Keeps, StoresEach, StoresEachKey};
 ghost use Rattle.intaglio_core.specs.Issue.{interned_all, issue_from};
 ghost use Rattle.intaglio_core.specs.Batch.{IfOverflow};
 
 use super::Table;
-use intaglio_core::{Content, InternError, Sought, Symbol, Work, intern_all};
+use intaglio_core::{
+    Content, InternError, LookedUp, Sought, Symbol, Work, check_all, get_or_intern_all, intern_all,
+};
+use std::alloc::AllocError;
 use std::hash::BuildHasher;
 
 impl<C: Content + Sought<C> + Drop, S: BuildHasher> Table<C, S> {
@@ -50,5 +53,67 @@ impl<C: Content + Sought<C> + Drop, S: BuildHasher> Table<C, S> {
     {
         let alloc = self.core.allocator();
         intern_all(alloc, &mut self.core, contents, &mut Work::new())
+    }
+}
+
+impl<'q, C: LookedUp<'q> + Sought<C> + Drop, S: BuildHasher> Table<C, S> {
+    /// Looks the forms up, and returns what [`check_interned`](Table::check_interned) returns of each, in the same order.
+    ///
+    /// Each form is hashed once. All of them are hashed before the first is looked up, so the cache misses of several look-ups
+    /// overlap: that pays if the table is large, with some dozens of forms at a time.
+    ///
+    /// # Errors
+    ///
+    /// [`AllocError`] if a list as long as the forms can't be allocated.
+    ///
+    /// ```
+    /// # use intaglio::{StrContent, SymbolTable};
+    /// let mut table = SymbolTable::new(rt.alloc())?;
+    /// let symbol = table.intern(StrContent::from("a"))?;
+    /// let found = table.check_all(&["a", "b"])?;
+    /// assert!(rt; found.as_slice() == [Some(symbol), None].as_slice());
+    /// ```
+    pub fn check_all(&self, forms: &[C::By]) -> Result<Vec<Option<Symbol>>, AllocError>
+        ensures { let held = self.now.state.contents in
+            IfOk result (λ found. found.items ≡ map (λ form. first C.key held (C.By.key form)) forms.now) }
+    {
+        check_all(self.core.allocator(), &self.core, forms, &mut Work::new())
+    }
+
+    /// Interns the forms in order, all or none, and returns their symbols in the same order. Only forms that are new are copied.
+    ///
+    /// The symbols are those of calls of [`get_or_intern`](Table::get_or_intern) one by one. Each form is hashed once; all of
+    /// them are looked up before the first is added, as by [`intern_all`](Table::intern_all).
+    ///
+    /// # Errors
+    ///
+    /// `Overflow` if the table can't hold them all; `Memory` if a list as long as the forms, a copy or a growth of the table
+    /// can't be allocated. After an error the contents of the table are unchanged and its capacity isn't lower.
+    ///
+    /// ```
+    /// # use intaglio::{Symbol, SymbolTable};
+    /// let mut table = SymbolTable::new(rt.alloc())?;
+    /// let symbols = table.get_or_intern_all(&["b", "a", "b"])?;
+    /// assert!(rt; symbols.as_slice() == [Symbol::new(0), Symbol::new(1), Symbol::new(0)].as_slice());
+    /// ```
+    pub fn get_or_intern_all(&mut self, forms: &[C::By]) -> Result<Vec<Symbol>, InternError>
+        ensures symbols { let held = map C.spelling self.old.state.contents in
+            IfOk result (λ symbols. symbols.items ≡ issue_from C.key_of held (map C.By.form_spelling forms.now)) }
+        ensures held { let all = interned_all C.key_of (map C.spelling self.old.state.contents) (map C.By.form_spelling forms.now) in
+            OnOk result (map C.spelling self.new.state.contents ≡ all) }
+        ensures found { IfOk result (λ symbols. FindsEachKey C.key self.new.state (map C.By.key forms.now) symbols.items) }
+        ensures stored { IfOk result (λ symbols. StoresEachKey C.key self.new.state (map C.By.key forms.now) symbols.items) }
+        ensures kept { Keeps C.key self.old.state self.new.state }
+        ensures refused { OnErr result (self.new.state.contents ≡ self.old.state.contents) }
+        ensures overflow { let all = interned_all C.key_of (map C.spelling self.old.state.contents) (map C.By.form_spelling forms.now) in
+            IfErr result (λ e. IfOverflow e (self.old.state.limit < length all)) }
+        ensures capacity { HasNoLessRoom self.old.state self.new.state }
+        ensures limit { self.new.state.limit ≡ self.old.state.limit }
+        ensures same_hash { let hash = key_hash S.Hasher.finish S.Hasher.write in
+            hash (S.build_hasher self.new.hasher) ≡ hash (S.build_hasher self.old.hasher) }
+        ensures valid { IsValid C.key self.new.state }
+    {
+        let alloc = self.core.allocator();
+        get_or_intern_all(alloc, &mut self.core, forms, &mut Work::new())
     }
 }

@@ -1,16 +1,8 @@
-use Rattle.std.proofs.Common.{◌≡◌, false, Result, Ok, Err, IfOk, OnOk, is_err, rules}
+use Rattle.std.proofs.Common.{◌≡◌, IfOk, OnOk, rules}
 use Rattle.intaglio_core.specs.Issue.{issue_from, interned_all}
 use Rattle.intaglio_core.proofs.Laws.{interned_all-found, interned_all-stored, interned_all-keeps}
+use Rattle.intaglio_core.proofs.OnResult.{on-ok, ok-then}
 use Rattle.intaglio_core.proofs.batch.intern_all.Goals as goal
-
--- what follows from two clauses of the value in an `Ok`
-on-ok : {V E Q : Type 0} (P R : V → Type 0) (r : Result V E) → ((v : V) → P v → Q → R v) → IfOk r P → OnOk r Q → IfOk r R
-on-ok P R (Ok v) f p q = f v p q
-on-ok P R (Err e) f p q = tt
-
-held-then : {V E P Q : Type 0} (r : Result V E) → is_err r ≡ false → OnOk r P → (P → Q) → Q
-held-then (Ok v) e h f = f h
-held-then (Err x) e h f = cc
 
 pub returns-else-is_err-clause-found : goal.returns-else-is_err-clause-found
 returns-else-is_err-clause-found g c =
@@ -36,4 +28,4 @@ returns-else-is_err-clause-kept g c =
     let old = g.T.Interner.state c.args.table.now in
     let new = g.T.Interner.state c.take_all-taken.new.table in
     let held : OnOk c.take_all-taken.result (new.contents ≡ interned_all key old.contents c.args.contents.items) = search rules in
-    held-then c.take_all-taken.result (search rules) held (λ all. interned_all-keeps key old new c.args.contents.items all)
+    ok-then c.take_all-taken.result (search rules) held (λ all. interned_all-keeps key old new c.args.contents.items all)

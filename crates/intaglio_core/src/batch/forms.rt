@@ -1,0 +1,203 @@
+//! Many borrowed forms at once.
+ghost use Rattle.std.specs.Prelude.{◌≡◌, ◌<◌, ◌++◌, ◌⊎◌, [], length, map, take};
+ghost use Rattle.std.specs.Prelude.{IfOk, IfErr, IfSome, OnOk, OnErr};
+ghost use Rattle.intaglio_core.specs.State.{first, IsValid};
+ghost use Rattle.intaglio_core.specs.Change.{InternsForm, HasNoLessRoom};
+ghost use Rattle.intaglio_core.specs.Lookup.{IsFound, Keeps, FindsEachKey, StoresEachKey};
+ghost use Rattle.intaglio_core.specs.Cost.{Costs, KnownInternCost};
+ghost use Rattle.intaglio_core.specs.Issue.{issue_from, interned_all};
+ghost use Rattle.intaglio_core.specs.Batch.{IfOverflow, hashings, SearchesForms, ChecksForms, InternsEachForm};
+ghost use Rattle.intaglio_core.specs.Batch.{InternsForms, InternsSomeForms, RefusedFormsCost};
+
+use crate::interner::Interner;
+use intaglio_content::{Sought, ToContent, Work};
+use intaglio_symbol::{InternError, Symbol};
+use std::alloc::{AllocError, Global};
+
+/// Looks the forms up, and returns what look-ups one by one return, in the same order.
+///
+/// All of them are hashed before the first is looked up, so the cache misses of several look-ups overlap. That pays if the
+/// table is large, with some dozens of forms at a time. Two lists as long as the forms are made.
+///
+/// # Errors
+///
+/// [`AllocError`] if one of the lists can't be allocated.
+pub fn check_all<T: Interner, Q: Sought<T::Content>>(
+    alloc: Global,
+    table: &T,
+    forms: &[Q],
+    work: &mut Work,
+) -> Result<Vec<Option<Symbol>>, AllocError>
+    ensures symbols { let held = (T.state table.now).contents in
+        IfOk result (λ found. found.items ≡ map (λ q. first T.Content.key held (Q.key q)) forms.now) }
+    ensures cost { OnOk result (Costs work.old work.new
+        (ChecksForms T.Content.key Q.key (T.hash table.now) (T.state table.now) forms.now)) }
+    ensures refused_cost { OnErr result (Costs work.old work.new (λ cost. (cost ≡ []) ⊎ (cost ≡ hashings Q.key forms.now))) }
+{
+    let hashes = hash_forms(alloc, table, forms, work)?;
+    search_forms(alloc, table, forms, &hashes, work)
+}
+
+/// Interns the forms in order, all or none, and returns their symbols in the same order. Only forms that are new are copied.
+///
+/// All of them are hashed, then all are looked up, and then those that weren't found are interned, as
+/// [`intern_all`](crate::intern_all) does. Three lists as long as the forms are made meanwhile.
+///
+/// # Errors
+///
+/// `Overflow` where the table can't hold them all, `Memory` where the memory for one of the lists, for a copy or for a growth
+/// was refused. Then the table has the contents that it had before and no less room.
+pub fn get_or_intern_all<T: Interner, Q: ToContent<T::Content>>(
+    alloc: Global,
+    table: &mut T,
+    forms: &[Q],
+    work: &mut Work,
+) -> Result<Vec<Symbol>, InternError>
+    // As internings one by one, but that all hashings come first, and then a look-up of each.
+    ensures ok { IfOk result (λ symbols. Costs work.old work.new (λ cost.
+        InternsForms T.Content.key T.Content.spelling Q.key Q.form_spelling (T.hash table.old)
+        (T.state table.old) forms.now symbols.items cost (T.state table.new))) }
+    ensures symbols { let held = map T.Content.spelling (T.state table.old).contents in
+        IfOk result (λ symbols. symbols.items ≡ issue_from T.Content.key_of held (map Q.form_spelling forms.now)) }
+    ensures held { let held = map T.Content.spelling (T.state table.old).contents in
+        let all = interned_all T.Content.key_of held (map Q.form_spelling forms.now) in
+        OnOk result (map T.Content.spelling (T.state table.new).contents ≡ all) }
+
+    // Each is found at its symbol, and what stood before stands and is found where it was.
+    ensures found { IfOk result (λ symbols.
+        FindsEachKey T.Content.key (T.state table.new) (map Q.key forms.now) symbols.items) }
+    ensures stored { IfOk result (λ symbols.
+        StoresEachKey T.Content.key (T.state table.new) (map Q.key forms.now) symbols.items) }
+    ensures kept { Keeps T.Content.key (T.state table.old) (T.state table.new) }
+
+    // All or none.
+    ensures refused { OnErr result ((T.state table.new).contents ≡ (T.state table.old).contents) }
+    ensures overflow { let held = map T.Content.spelling (T.state table.old).contents in
+        let all = interned_all T.Content.key_of held (map Q.form_spelling forms.now) in
+        IfErr result (λ e. IfOverflow e ((T.state table.old).limit < length all)) }
+    ensures refused_cost { OnErr result (Costs work.old work.new (RefusedFormsCost T.Content.key T.Content.spelling
+        Q.key Q.form_spelling (T.hash table.old) (T.state table.old) forms.now)) }
+
+    ensures capacity { HasNoLessRoom (T.state table.old) (T.state table.new) }
+    ensures limit { (T.state table.new).limit ≡ (T.state table.old).limit }
+    ensures same_hash { T.hash table.new ≡ T.hash table.old }
+    ensures valid { IsValid T.Content.key (T.state table.new) }
+{
+    let mark = table.mark();
+    let hashes = hash_forms(alloc, table, forms, work)?;
+    let found = search_forms(alloc, table, forms, &hashes, work)?;
+    let taken = take_forms(alloc, table, forms, &hashes, &found, work);
+    if taken.is_err() {
+        let _ = table.take_back(mark);
+    }
+    taken
+}
+
+// Hashes the forms.
+fn hash_forms<T: Interner, Q: Sought<T::Content>>(
+    alloc: Global,
+    table: &T,
+    forms: &[Q],
+    work: &mut Work,
+) -> Result<Vec<u64>, AllocError>
+    ensures hashes { IfOk result (λ hashes.
+        hashes.items ≡ map (λ q. T.hash table.now (Q.key q)) forms.now) }
+    ensures cost { OnOk result (work.new.marks ≡ work.old.marks ++ hashings Q.key forms.now) }
+    ensures no_cost { OnErr result (work.new.marks ≡ work.old.marks) }
+{
+    let mut hashes = Vec::with_capacity(alloc, forms.len())?;
+    for form in forms {
+        hashes.push_reserved(table.hash_counted(form, work));
+    }
+    Ok(hashes)
+}
+
+// Looks forms up that were hashed.
+fn search_forms<T: Interner, Q: Sought<T::Content>>(
+    alloc: Global,
+    table: &T,
+    forms: &[Q],
+    hashes: &[u64],
+    work: &mut Work,
+) -> Result<Vec<Option<Symbol>>, AllocError>
+    requires hashes { hashes.now ≡ map (λ q. T.hash table.now (Q.key q)) forms.now }
+    ensures symbols { let held = (T.state table.now).contents in
+        IfOk result (λ found. found.items ≡ map (λ q. first T.Content.key held (Q.key q)) forms.now) }
+    ensures cost { OnOk result (Costs work.old work.new
+        (SearchesForms T.Content.key Q.key (T.hash table.now) (T.state table.now) forms.now)) }
+    ensures no_cost { OnErr result (work.new.marks ≡ work.old.marks) }
+{
+    let mut found = Vec::with_capacity(alloc, forms.len())?;
+    for place in 0..forms.len() {
+        found.push_reserved(table.search_hashed(hashes[place], &forms[place], work));
+    }
+    Ok(found)
+}
+
+// Interns forms that were looked up. After an error those before the refused one are held.
+fn take_forms<T: Interner, Q: ToContent<T::Content>>(
+    alloc: Global,
+    table: &mut T,
+    forms: &[Q],
+    hashes: &[u64],
+    found: &[Option<Symbol>],
+    work: &mut Work,
+) -> Result<Vec<Symbol>, InternError>
+    requires valid { IsValid T.Content.key (T.state table.old) }
+    requires hashes { hashes.now ≡ map (λ q. T.hash table.old (Q.key q)) forms.now }
+    requires found { let held = (T.state table.old).contents in
+        found.now ≡ map (λ q. first T.Content.key held (Q.key q)) forms.now }
+    ensures ok { IfOk result (λ symbols. Costs work.old work.new (λ cost.
+        InternsEachForm T.Content.key T.Content.spelling Q.key Q.form_spelling (T.hash table.old)
+        (T.state table.old) forms.now symbols.items cost (T.state table.new))) }
+    ensures symbols { let held = map T.Content.spelling (T.state table.old).contents in
+        IfOk result (λ symbols. symbols.items ≡ issue_from T.Content.key_of held (map Q.form_spelling forms.now)) }
+    ensures held { let held = map T.Content.spelling (T.state table.old).contents in
+        let all = interned_all T.Content.key_of held (map Q.form_spelling forms.now) in
+        OnOk result (map T.Content.spelling (T.state table.new).contents ≡ all) }
+    ensures refused_cost { OnErr result (Costs work.old work.new (λ cost. (cost ≡ [])
+        ⊎ InternsSomeForms T.Content.key T.Content.spelling Q.key Q.form_spelling (T.hash table.old)
+        (T.state table.old) forms.now cost)) }
+    ensures kept { Keeps T.Content.key (T.state table.old) (T.state table.new) }
+    ensures begins { let held = (T.state table.old).contents in
+        OnErr result (take (length held) (T.state table.new).contents ≡ held) }
+    ensures overflow { let held = map T.Content.spelling (T.state table.old).contents in
+        let all = interned_all T.Content.key_of held (map Q.form_spelling forms.now) in
+        IfErr result (λ e. IfOverflow e ((T.state table.old).limit < length all)) }
+    ensures capacity { HasNoLessRoom (T.state table.old) (T.state table.new) }
+    ensures limit { (T.state table.new).limit ≡ (T.state table.old).limit }
+    ensures same_hash { T.hash table.new ≡ T.hash table.old }
+    ensures valid { IsValid T.Content.key (T.state table.new) }
+{
+    let mut symbols = Vec::with_capacity(alloc, forms.len())?;
+    for place in 0..forms.len() {
+        symbols.push_reserved(take_form(table, hashes[place], found[place], &forms[place], work)?);
+    }
+    Ok(symbols)
+}
+
+// Interns a form that was looked up.
+fn take_form<T: Interner, Q: ToContent<T::Content>>(
+    table: &mut T,
+    hash: u64,
+    found: Option<Symbol>,
+    form: &Q,
+    work: &mut Work,
+) -> Result<Symbol, InternError>
+    requires valid { IsValid T.Content.key (T.state table.old) }
+    requires hash { hash ≡ T.hash table.old (Q.key form.now) }
+    requires found { IfSome found (IsFound T.Content.key (T.state table.old) (Q.key form.now)) }
+    ensures step { InternsForm T.Content.key T.Content.spelling (T.state table.old)
+        (Q.key form.now) (Q.form_spelling form.now) result (T.state table.new) }
+    ensures kept { Keeps T.Content.key (T.state table.old) (T.state table.new) }
+    ensures cost { let k = Q.key form.now in
+        Costs work.old work.new
+        (KnownInternCost T.Content.key (T.hash table.old) (T.state table.old) k result (T.state table.new)) }
+    ensures same_hash { T.hash table.new ≡ T.hash table.old }
+    ensures valid { IsValid T.Content.key (T.state table.new) }
+{
+    match found {
+        Some(symbol) => Ok(symbol),
+        None => table.get_or_intern_hashed(hash, form, work),
+    }
+}
