@@ -240,6 +240,7 @@ fn each_mode_encodes_read_at_once_and_byte_by_byte(rt: HostRuntime) {
 fn modes_take_what_their_kind_takes(rt: HostRuntime) {
     seeded(&rt, "path", b"a//b\na/b\n", (0, b"0\n0\n\na//b\n", b""));
     seeded(&rt, "bytes", b"a\n\xc3", (0, b"0\n1\n\na\n\xc3\n", b""));
+    seeded(&rt, "bytes", b"\xff", (0, b"0\n\n\xff\n", b""));
     seeded(&rt, "osstr", b"\xff", (1, b"", b"input is not UTF-8\n"));
     seeded(&rt, "path", b"\xff", (1, b"", b"input is not UTF-8\n"));
 }
