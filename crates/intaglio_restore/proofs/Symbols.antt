@@ -1,9 +1,8 @@
 -- The lines of symbols, one by one.
-use Rattle.std.proofs.Common.{◌≡◌, ◌∙◌, sym, ap, refl, ℕ, suc, ◌+◌, ◌-◌, ◌^◌, ◌<◌, ◌≤◌, min, one-add, true, false, cond, eqb, List, [], ◌∷◌, ◌++◌, length, get_or, map, Option, Some, None, Bor, append_assoc, subst, arith}
+use Rattle.std.proofs.Common.{◌≡◌, ◌∙◌, sym, ap, refl, ℕ, suc, ◌+◌, ◌-◌, ◌^◌, ◌<◌, ◌≤◌, min, one-add, true, false, cond, eqb, List, [], ◌∷◌, ◌++◌, length, get_or, map, Option, Some, None, append_assoc, subst, arith}
 use Rattle.std.specs.Option.{option_or}
 use Rattle.std.specs.List.{before_first, list_any}
 use Rattle.std.specs.Str.Parse.{digits_value}
-use Rattle.std.proofs.lemmas.List.{get_or-map}
 use Rattle.intaglio_lines.specs.Lines.{lines_of}
 use Rattle.intaglio_lines.specs.Encoded.{spelling_line}
 use Rattle.intaglio_lines.specs.Decoded.{Holds, decoded, is_ended}
@@ -58,16 +57,10 @@ module _ (bytes line after : List ℕ) (lines : lines_of bytes ≡ line ∷ line
       append_assoc done (spelling_line (get_or spellings (digits_value 10 line) [])) (decoded (map (digits_value 10) (symbol_lines after)) spellings)
       ∙ ap (λ t. done ++ decoded (map (digits_value 10) t) spellings) (sym (symbol_lines-more bytes line after lines written))
 
--- the number that a known line says, and the spelling of that number
+-- the number that a known line says
 pub number-known : (line : List ℕ) (result : Option ℕ) → result ≡ cond (is_number line) (Some (min (digits_value 10 line) (2 ^ 64 - 1))) None
     → is_number line ≡ true → result ≡ Some (min (digits_value 10 line) (2 ^ 64 - 1))
 number-known line result gives is = rw is at gives
-
-pub spelling-at : (spellings : List (Bor (List ℕ))) (number symbol : ℕ) (spelling : Bor (List ℕ)) → symbol ≡ min number (2 ^ 64 - 1) → number < length spellings → length spellings < 2 ^ 64
-    → spelling ≡ get_or spellings symbol spelling → spelling.now ≡ get_or (map (λ s. s.now) spellings) number []
-spelling-at spellings number symbol spelling is below few at =
-    let same : symbol ≡ number = omega arith in
-    ap (λ s. s.now) (rw same at at) ∙ sym (get_or-map (λ (s : Bor (List ℕ)). s.now) spellings number spelling [] below)
 
 -- what is wrong with nothing isn't wrong
 pub no-fault-read : (bytes : List ℕ) → list_any is_blank (lines_of bytes) ≡ true → first_fault (Some (length (spellings_of bytes))) 1 (symbol_lines bytes) ≡ None

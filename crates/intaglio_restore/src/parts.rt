@@ -1,5 +1,5 @@
 //! Takes an encoded output apart.
-ghost use Rattle.std.specs.Prelude.{◌≡◌, map, is_some, None, OnOk, IfOk, IfErr, IfSome};
+ghost use Rattle.std.specs.Prelude.{◌≡◌, ◌<◌, [], length, map, slice_index_or, is_some, None, OnOk, IfOk, IfErr, IfSome};
 ghost use Rattle.std.specs.List.{list_any};
 ghost use Rattle.intaglio_lines.specs.Lines.{lines_of};
 ghost use Rattle.intaglio_lines.specs.Decoded.{Holds, decoded, is_ended};
@@ -136,6 +136,16 @@ fn ends_line(bytes: &[u8]) -> bool
     }
 }
 
+impl<'a> Parts<'a> {
+    // The spelling of this number.
+    fn spelling(&self, number: u64) -> &'a [u8]
+        requires { number < length (spellings_in self.now) }
+        ensures { result.now ≡ slice_index_or (spellings_in self.now) number [] }
+    {
+        self.spellings[number as usize]
+    }
+}
+
 impl Output for Parts<'_> {
     ghost bytes = { λ parts. decoded (symbols_in parts) (spellings_in parts) };
 
@@ -149,7 +159,7 @@ impl Output for Parts<'_> {
                 return Ok(());
             }
             let symbol = number_of(line).unwrap();
-            put_line(self.spellings[symbol as usize], block, writer)?;
+            put_line(self.spelling(symbol), block, writer)?;
             rest = after;
         }
         Ok(())
