@@ -1,0 +1,2 @@
+-- What the contracts of the column cite.
+pub mod Rows
