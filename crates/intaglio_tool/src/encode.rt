@@ -13,7 +13,12 @@ use crate::error::ToolError;
 use crate::from_line::FromLine;
 use crate::take::take_lines;
 use crate::write::Encoding;
-use intaglio::{Interner, SymbolTable, bstr, bytes, cstr, osstr, path};
+use intaglio::bstr::BStrContent;
+use intaglio::bytes::BytesContent;
+use intaglio::cstr::CStrContent;
+use intaglio::osstr::OsStrContent;
+use intaglio::path::PathContent;
+use intaglio::{StrContent, Table};
 use intaglio_lines::kind::Kind;
 use intaglio_lines::read::read_all;
 use intaglio_lines::write::write_output;
@@ -84,65 +89,31 @@ pub fn encode_input<S: BuildHasher + Drop, W: Write>(
         return Err(ToolError::NotUtf8);
     }
     match kind {
-        Kind::Text => encode_by(
-            alloc,
-            SymbolTable::with_hasher(alloc, builder)?,
-            input,
-            writer,
-        ),
-        Kind::Bytes => encode_by(
-            alloc,
-            bytes::SymbolTable::with_hasher(alloc, builder)?,
-            input,
-            writer,
-        ),
-        Kind::BStr => encode_by(
-            alloc,
-            bstr::SymbolTable::with_hasher(alloc, builder)?,
-            input,
-            writer,
-        ),
-        Kind::CStr => encode_by(
-            alloc,
-            cstr::SymbolTable::with_hasher(alloc, builder)?,
-            input,
-            writer,
-        ),
-        Kind::OsStr => encode_by(
-            alloc,
-            osstr::SymbolTable::with_hasher(alloc, builder)?,
-            input,
-            writer,
-        ),
-        Kind::Path => encode_by(
-            alloc,
-            path::SymbolTable::with_hasher(alloc, builder)?,
-            input,
-            writer,
-        ),
+        Kind::Text => encode_by::<StrContent, S, W>(alloc, builder, input, writer),
+        Kind::Bytes => encode_by::<BytesContent, S, W>(alloc, builder, input, writer),
+        Kind::BStr => encode_by::<BStrContent, S, W>(alloc, builder, input, writer),
+        Kind::CStr => encode_by::<CStrContent, S, W>(alloc, builder, input, writer),
+        Kind::OsStr => encode_by::<OsStrContent, S, W>(alloc, builder, input, writer),
+        Kind::Path => encode_by::<PathContent, S, W>(alloc, builder, input, writer),
     }
 }
 
-// The same for an input whose lines are interned into this table.
-fn encode_by<T: Interner + Drop, W: Write>(
+// The same for an input whose lines become contents of this kind.
+fn encode_by<C: FromLine, S: BuildHasher + Drop, W: Write>(
     alloc: Global,
-    table: T,
+    builder: S,
     input: Vec<u8>,
     writer: &mut W,
 ) -> Result<(), ToolError>
-where
-    T::Content: FromLine,
-    requires allowed { T.Content.allows input.items }
-    requires empty { (T.state table).contents ≡ [] }
-    requires limit { (T.state table).limit ≡ 2 ^ 32 }
-    ensures written { OnOk result (Appends (W.contents writer.old) (W.contents writer.new) (encoded_by T.Content.key_of input.items)) }
-    ensures zero { IfErr result (λ e. IfZeroByte e (λ n. (n ≡ position_or_len (λ line. not (T.Content.fits line)) (lines_of input.items) + 1) × (n ≤ length (lines_of input.items)))) }
-    ensures fit { OnOk result (position_or_len (λ line. not (T.Content.fits line)) (lines_of input.items) ≡ length (lines_of input.items)) }
-    ensures overflow { result ≡ Err Overflow → 2 ^ 32 < length (interned_all T.Content.key_of [] (lines_of input.items)) }
+    requires allowed { C.allows input.items }
+    ensures written { OnOk result (Appends (W.contents writer.old) (W.contents writer.new) (encoded_by C.key_of input.items)) }
+    ensures zero { IfErr result (λ e. IfZeroByte e (λ n. (n ≡ position_or_len (λ line. not (C.fits line)) (lines_of input.items) + 1) × (n ≤ length (lines_of input.items)))) }
+    ensures fit { OnOk result (position_or_len (λ line. not (C.fits line)) (lines_of input.items) ≡ length (lines_of input.items)) }
+    ensures overflow { result ≡ Err Overflow → 2 ^ 32 < length (interned_all C.key_of [] (lines_of input.items)) }
     ensures nothing_written { IfErr result (λ e. e ≢ WriteFailed → writer.new ≡ writer.old) }
     ensures err { IfErr result IsTakingOrWritingError }
 {
-    let mut table = table;
+    let mut table = Table::<C, S>::with_hasher(alloc, builder)?;
     let symbols = take_lines(alloc, &mut table, &input)?;
     // The table holds copies of its own.
     drop(input);
