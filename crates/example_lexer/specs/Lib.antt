@@ -1,0 +1,2 @@
+-- What the contracts of the lexer cite.
+pub mod Spelled
