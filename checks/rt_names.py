@@ -186,6 +186,21 @@ def proved(crate, jobs):
         return status, crate.out.read()
 
 
+def built_static(name):
+    """What proving and building a static library, over the libraries that `rt ci` leaves, printed where it failed, or nothing."""
+    rt, crate = load(), next(it for it in crates() if it.name == name)
+    made = Path(crate.folder, f"out/lib{name}.a")
+    newest = max(os.path.getmtime(file) for it in [*crate.below(), crate] for file in rt.rtlib.files_of(it.folder))
+    if made.is_file() and newest <= made.stat().st_mtime:
+        return ""
+    build_missing(crate.below())
+    made.parent.mkdir(exist_ok=True)
+    with tempfile.TemporaryFile("w+", errors="replace") as crate.out:
+        status = crate.build_static(["--jobs", str(processors())])
+        crate.out.seek(0)
+        return crate.out.read() if status else ""
+
+
 def without_good_news(said):
     """What a check printed, without the lines on what is proved and what was loaded."""
     return re.sub(r"(?m)^(fn \S+: proved|statements |logic /|rt: chose ).*\n", "", said)

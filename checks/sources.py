@@ -11,7 +11,7 @@ from typing import NamedTuple
 TOP = Path(__file__).resolve().parent.parent
 # How a clause without a name is cited, and what a type promises of each of its values.
 UNNAMED, INVARIANT = "ensures", "invariant"
-FN = re.compile(r"( *)(?:pub(?:\(\w+\))? )?(?:final |const |unsafe )*fn (\w+)")
+FN = re.compile(r'( *)(?:pub(?:\(\w+\))? )?(?:final |const |unsafe |extern "C" )*fn (\w+)')
 OWNER = re.compile(r"(?:pub(?:\(\w+\))? )?(?:unsafe )?(impl|trait)\b")
 TYPE = re.compile(r"(?:pub(?:\(\w+\))? )?(?:struct|enum|trait|type|mod|const|static) (\w+)")
 CLAUSE = re.compile(r"\s*(requires|ensures)\*?(?: (\w+))? \{.*")

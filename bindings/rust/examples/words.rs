@@ -1,0 +1,44 @@
+//! Interns the lines of its input, and writes what the proved program writes: the symbol of each line, an empty line, and each
+//! string once, in the order of the symbols.
+//!
+//!     words text|bytes
+use std::borrow::Cow;
+use std::env::args;
+use std::error::Error;
+use std::io::{BufWriter, Read, Write, stdin, stdout};
+
+use intaglio_proved::{Kind, SymbolTable, Table, bytes};
+
+fn encode<'a, K: Kind>(
+    lines: impl Iterator<Item = &'a K::Content>,
+    mut table: Table<K>,
+    bytes: impl Fn(&K::Content) -> &[u8],
+) -> Result<(), Box<dyn Error>>
+where
+    K::Content: 'a,
+    <K::Content as ToOwned>::Owned: Into<Cow<'static, K::Content>>,
+{
+    let mut out = BufWriter::new(stdout().lock());
+    for line in lines {
+        let symbol = table.intern(line.to_owned())?;
+        assert_eq!(table.check_interned(line), Some(symbol));
+        writeln!(out, "{}", symbol.id())?;
+    }
+    writeln!(out)?;
+    for (_, content) in &table {
+        out.write_all(bytes(content))?;
+        writeln!(out)?;
+    }
+    Ok(())
+}
+
+fn main() -> Result<(), Box<dyn Error>> {
+    let mut input = Vec::new();
+    stdin().read_to_end(&mut input)?;
+    let input = input.strip_suffix(b"\n").unwrap_or(&input);
+    match args().nth(1).as_deref() {
+        Some("text") => encode(str::from_utf8(input)?.split('\n'), SymbolTable::new(), str::as_bytes),
+        Some("bytes") => encode(input.split(|byte| *byte == b'\n'), bytes::SymbolTable::new(), |bytes| bytes),
+        _ => Err("usage: words text|bytes".into()),
+    }
+}

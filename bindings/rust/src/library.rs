@@ -1,0 +1,259 @@
+//! The library, behind safe calls. All of this crate's `unsafe` is here.
+//!
+//! What the library asks of its callers is in its header, `bindings/c/intaglio.h`: valid pointers that aren't null and
+//! don't overlap what is written, a handle that is zeros or was written by the library and isn't copied, and one call at a
+//! time on a handle. Slices and references of Rust are such pointers. A [`RawTable`] owns its handle, and isn't `Sync`.
+use core::cell::UnsafeCell;
+use core::ffi::c_void;
+use core::fmt::Debug;
+use core::marker::PhantomData;
+use core::ptr::null_mut;
+
+use crate::refusal::Refusal;
+
+#[repr(C)]
+struct RawHandle {
+    live: bool,
+    held: *mut c_void,
+}
+
+#[repr(C)]
+struct RawSpelling {
+    at: *const u8,
+    len: usize,
+}
+
+unsafe extern "C" {
+    fn intaglio_with_capacity(table: *mut RawHandle, kind: u32, capacity: usize, key0: u64, key1: u64) -> u32;
+    fn intaglio_with_limit(table: *mut RawHandle, kind: u32, limit: usize, key0: u64, key1: u64) -> u32;
+    fn intaglio_free(table: *mut RawHandle);
+    fn intaglio_intern(table: *mut RawHandle, bytes: *const u8, len: usize, symbol: *mut u32) -> u32;
+    fn intaglio_intern_static(table: *mut RawHandle, bytes: *const u8, len: usize, symbol: *mut u32) -> u32;
+    fn intaglio_check_interned(table: *mut RawHandle, bytes: *const u8, len: usize, symbol: *mut u32) -> bool;
+    fn intaglio_get(table: *mut RawHandle, symbol: u32, out: *mut RawSpelling) -> bool;
+    fn intaglio_len(table: *mut RawHandle) -> usize;
+    fn intaglio_capacity(table: *mut RawHandle) -> usize;
+    fn intaglio_reserve(table: *mut RawHandle, additional: usize) -> u32;
+    fn intaglio_shrink_to(table: *mut RawHandle, min_capacity: usize) -> u32;
+    fn intaglio_clear(table: *mut RawHandle);
+    fn intaglio_take_back(table: *mut RawHandle, mark: usize) -> u32;
+    fn intaglio_intern_all(table: *mut RawHandle, bytes: *const u8, len: usize, ends: *const usize, count: usize, symbols: *mut u32, symbols_count: usize) -> u32;
+    fn intaglio_check_all(table: *mut RawHandle, bytes: *const u8, len: usize, ends: *const usize, count: usize, symbols: *mut u64, symbols_count: usize) -> u32;
+}
+
+mod sealed {
+    pub trait Sealed {}
+}
+
+/// A kind of tables: [`Text`] or [`Bytes`].
+pub trait Kind: sealed::Sealed {
+    /// The strings.
+    type Content: ?Sized + ToOwned + Debug + 'static;
+
+    /// The number that the library has for the kind.
+    #[doc(hidden)]
+    const NUMBER: u32;
+
+    #[doc(hidden)]
+    fn bytes(content: &Self::Content) -> &[u8];
+
+    /// # Safety
+    ///
+    /// A table of this kind gave the bytes.
+    #[doc(hidden)]
+    unsafe fn content(bytes: &[u8]) -> &Self::Content;
+}
+
+/// UTF-8 texts.
+#[derive(Debug)]
+pub enum Text {}
+
+impl sealed::Sealed for Text {}
+
+impl Kind for Text {
+    type Content = str;
+
+    const NUMBER: u32 = 0;
+
+    fn bytes(content: &str) -> &[u8] {
+        content.as_bytes()
+    }
+
+    unsafe fn content(bytes: &[u8]) -> &str {
+        // SAFETY: A table of texts takes no other bytes than UTF-8, and gives those that it took. Both are proved.
+        unsafe { core::str::from_utf8_unchecked(bytes) }
+    }
+}
+
+/// Bytes.
+#[derive(Debug)]
+pub enum Bytes {}
+
+impl sealed::Sealed for Bytes {}
+
+impl Kind for Bytes {
+    type Content = [u8];
+
+    const NUMBER: u32 = 1;
+
+    fn bytes(content: &[u8]) -> &[u8] {
+        content
+    }
+
+    unsafe fn content(bytes: &[u8]) -> &[u8] {
+        bytes
+    }
+}
+
+/// Many strings in a row: their bytes, and the end of each.
+#[derive(Default)]
+pub struct Group {
+    bytes: Vec<u8>,
+    ends: Vec<usize>,
+}
+
+impl Group {
+    /// The strings in order.
+    pub fn of<K: Kind, T: AsRef<K::Content>>(contents: impl IntoIterator<Item = T>) -> Group {
+        let mut group = Group::default();
+        for content in contents {
+            group.bytes.extend_from_slice(K::bytes(content.as_ref()));
+            group.ends.push(group.bytes.len());
+        }
+        group
+    }
+}
+
+/// A table of the library.
+pub struct RawTable<K: Kind> {
+    // Also a call that only reads takes the table out of the handle and puts it back.
+    handle: UnsafeCell<RawHandle>,
+    kind: PhantomData<K>,
+}
+
+// SAFETY: A table is a few blocks of memory that nothing else points to. The library has no other data, and none of a thread, and
+// C's allocator takes a block back from any thread. Calls of two threads aren't made at once, since the type isn't `Sync`.
+unsafe impl<K: Kind> Send for RawTable<K> {}
+
+impl<K: Kind> RawTable<K> {
+    // A table that the call makes.
+    fn made(make: impl FnOnce(*mut RawHandle) -> u32) -> Result<RawTable<K>, Refusal> {
+        let table = RawTable { handle: UnsafeCell::new(RawHandle { live: false, held: null_mut() }), kind: PhantomData };
+        Refusal::check(make(table.at()))?;
+        Ok(table)
+    }
+
+    pub fn with_capacity(capacity: usize, keys: (u64, u64)) -> Result<RawTable<K>, Refusal> {
+        // SAFETY: The handle is zeros, and nobody else has it.
+        RawTable::made(|handle| unsafe { intaglio_with_capacity(handle, K::NUMBER, capacity, keys.0, keys.1) })
+    }
+
+    pub fn with_limit(limit: usize, keys: (u64, u64)) -> Result<RawTable<K>, Refusal> {
+        // SAFETY: As in `with_capacity`.
+        RawTable::made(|handle| unsafe { intaglio_with_limit(handle, K::NUMBER, limit, keys.0, keys.1) })
+    }
+
+    // The handle, for one call. No call makes another one, and the type isn't `Sync`, so there is never a second call meanwhile.
+    fn at(&self) -> *mut RawHandle {
+        self.handle.get()
+    }
+
+    pub fn len(&self) -> usize {
+        // SAFETY: The handle is one that the library wrote, and this is the one call on it.
+        unsafe { intaglio_len(self.at()) }
+    }
+
+    pub fn capacity(&self) -> usize {
+        // SAFETY: As in `len`.
+        unsafe { intaglio_capacity(self.at()) }
+    }
+
+    pub fn intern(&mut self, content: &K::Content) -> Result<u32, Refusal> {
+        let bytes = K::bytes(content);
+        let mut symbol = 0;
+        // SAFETY: As in `len`. A slice's pointer isn't null, also where it is empty, and `symbol` isn't in it.
+        Refusal::check(unsafe { intaglio_intern(self.at(), bytes.as_ptr(), bytes.len(), &mut symbol) })?;
+        Ok(symbol)
+    }
+
+    pub fn intern_static(&mut self, content: &'static K::Content) -> Result<u32, Refusal> {
+        let bytes = K::bytes(content);
+        let mut symbol = 0;
+        // SAFETY: As in `intern`. The bytes stay as they are for `'static`.
+        Refusal::check(unsafe { intaglio_intern_static(self.at(), bytes.as_ptr(), bytes.len(), &mut symbol) })?;
+        Ok(symbol)
+    }
+
+    pub fn check_interned(&self, content: &K::Content) -> Option<u32> {
+        let bytes = K::bytes(content);
+        let mut symbol = 0;
+        // SAFETY: As in `intern`.
+        let found = unsafe { intaglio_check_interned(self.at(), bytes.as_ptr(), bytes.len(), &mut symbol) };
+        found.then_some(symbol)
+    }
+
+    pub fn get(&self, symbol: u32) -> Option<&K::Content> {
+        let mut out = RawSpelling { at: core::ptr::null(), len: 0 };
+        // SAFETY: As in `len`. `out` is the library's struct.
+        if !unsafe { intaglio_get(self.at(), symbol, &mut out) } {
+            return None;
+        }
+        let bytes = match out.len {
+            0 => &[],
+            // SAFETY: The bytes stay where they are until the table is cleared, taken back, or freed. Each of these takes
+            // `&mut self` or `self`, so not while the slice is borrowed from `self`.
+            len => unsafe { core::slice::from_raw_parts(out.at, len) },
+        };
+        // SAFETY: This table gave the bytes.
+        Some(unsafe { K::content(bytes) })
+    }
+
+    pub fn reserve(&mut self, additional: usize) -> Result<(), Refusal> {
+        // SAFETY: As in `len`.
+        Refusal::check(unsafe { intaglio_reserve(self.at(), additional) })
+    }
+
+    pub fn shrink_to(&mut self, min_capacity: usize) -> Result<(), Refusal> {
+        // SAFETY: As in `len`.
+        Refusal::check(unsafe { intaglio_shrink_to(self.at(), min_capacity) })
+    }
+
+    pub fn clear(&mut self) {
+        // SAFETY: As in `len`. No slice is borrowed, since this takes `&mut self`.
+        unsafe { intaglio_clear(self.at()) }
+    }
+
+    pub fn take_back(&mut self, mark: usize) -> Result<(), Refusal> {
+        // SAFETY: As in `clear`.
+        Refusal::check(unsafe { intaglio_take_back(self.at(), mark) })
+    }
+
+    pub fn intern_all(&mut self, group: &Group) -> Result<Vec<u32>, Refusal> {
+        let Group { bytes, ends } = group;
+        let mut symbols = vec![0; ends.len()];
+        // SAFETY: As in `len`. The three are vectors of their own.
+        let code = unsafe {
+            intaglio_intern_all(self.at(), bytes.as_ptr(), bytes.len(), ends.as_ptr(), ends.len(), symbols.as_mut_ptr(), symbols.len())
+        };
+        Refusal::check(code)?;
+        Ok(symbols)
+    }
+
+    pub fn check_all(&self, group: &Group) -> Vec<Option<u32>> {
+        let Group { bytes, ends } = group;
+        let mut symbols = vec![0; ends.len()];
+        // SAFETY: As in `intern_all`.
+        let code = unsafe {
+            intaglio_check_all(self.at(), bytes.as_ptr(), bytes.len(), ends.as_ptr(), ends.len(), symbols.as_mut_ptr(), symbols.len())
+        };
+        assert!(code == 0, "the ends ascend, and there is a place for each symbol");
+        symbols.into_iter().map(|symbol| u32::try_from(symbol).ok()).collect()
+    }
+}
+
+impl<K: Kind> Drop for RawTable<K> {
+    fn drop(&mut self) {
+        // SAFETY: As in `clear`. Nothing uses the handle afterwards.
+        unsafe { intaglio_free(self.at()) }
+    }
+}

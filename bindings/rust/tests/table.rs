@@ -1,0 +1,94 @@
+//! The calls that the crate adds, and what the library's handle asks of it. Expected values are worked out by hand.
+use std::thread;
+
+use intaglio_proved::{Refusal, Symbol, SymbolTable, bytes};
+
+fn symbols(ids: &[u32]) -> Vec<Symbol> {
+    ids.iter().copied().map(Symbol::new).collect()
+}
+
+#[test]
+fn symbols_count_up_from_0_and_give_their_text_back() {
+    let mut table = SymbolTable::new();
+    assert_eq!(table.intern("b"), Ok(Symbol::new(0)));
+    assert_eq!(table.intern(String::from("a")), Ok(Symbol::new(1)));
+    assert_eq!(table.intern_copy("b"), Ok(Symbol::new(0)));
+    assert_eq!(table.intern(""), Ok(Symbol::new(2)));
+    assert_eq!(table.iter().collect::<Vec<_>>(), [(Symbol::new(0), "b"), (Symbol::new(1), "a"), (Symbol::new(2), "")]);
+    assert_eq!(table.strings().rev().collect::<Vec<_>>(), ["", "a", "b"]);
+    assert_eq!(&table[Symbol::new(1)], "a");
+    assert_eq!(table.get(Symbol::new(3)), None);
+    assert_eq!(table.get_interned("a"), Some((Symbol::new(1), "a")));
+    assert_eq!(format!("{table:?}"), r#"{0: "b", 1: "a", 2: ""}"#);
+}
+
+#[test]
+fn bytes_need_not_be_utf8() {
+    let mut table = bytes::SymbolTable::default();
+    assert_eq!(table.intern(&b"\xff\x00"[..]), Ok(Symbol::new(0)));
+    assert_eq!(table.intern(vec![0xff, 0]), Ok(Symbol::new(0)));
+    assert_eq!(table.bytestrings().collect::<Vec<_>>(), [b"\xff\x00"]);
+}
+
+#[test]
+fn a_group_is_interned_all_or_none() {
+    let mut table = SymbolTable::with_limit(3).unwrap();
+    assert_eq!(table.intern_all(["b", "a", "b"]), Ok(symbols(&[0, 1, 0])));
+    assert_eq!(table.intern_all(["a", "c", "d"]), Err(Refusal::Full));
+    assert_eq!(table.strings().collect::<Vec<_>>(), ["b", "a"]);
+    assert_eq!(table.intern_all(Vec::<String>::new()), Ok(vec![]));
+    assert_eq!(table.intern_all([String::from("c")]), Ok(symbols(&[2])));
+    assert_eq!(table.check_all(["c", "d", "a"]), [Some(Symbol::new(2)), None, Some(Symbol::new(1))]);
+}
+
+#[test]
+fn a_full_table_refuses_what_is_new() {
+    let mut table = SymbolTable::with_limit(1).unwrap();
+    table.intern("a").unwrap();
+    assert!(table.intern("b").is_err());
+    assert_eq!(table.intern("a"), Ok(Symbol::new(0)));
+    assert!(table.try_reserve(1).is_err());
+    assert_eq!(SymbolTable::with_limit(0).unwrap_err(), Refusal::TooLarge);
+}
+
+#[test]
+fn a_rollback_drops_what_came_later() {
+    let mut table = SymbolTable::new();
+    table.intern_all(["a", "b", "c"]).unwrap();
+    assert_eq!(table.take_back(4), Err(Refusal::Stale));
+    assert_eq!(table.take_back(1), Ok(()));
+    assert_eq!(table.check_interned("b"), None);
+    assert_eq!(table.intern("c"), Ok(Symbol::new(1)));
+}
+
+#[test]
+fn room_is_as_it_was_asked_for() {
+    let mut table = SymbolTable::with_capacity(10);
+    assert_eq!(table.capacity(), 10);
+    table.intern("a").unwrap();
+    table.shrink_to_fit();
+    assert_eq!(table.capacity(), 1);
+    table.reserve(5);
+    assert!(table.capacity() >= 6);
+    table.clear();
+    assert!(table.is_empty() && table.capacity() >= 6);
+}
+
+#[test]
+fn a_table_goes_to_another_thread() {
+    let mut table = SymbolTable::new();
+    table.intern("a").unwrap();
+    let mut table = thread::spawn(move || {
+        table.intern("b").unwrap();
+        table
+    })
+    .join()
+    .unwrap();
+    assert_eq!(table.intern("b"), Ok(Symbol::new(1)));
+}
+
+#[test]
+#[should_panic = "no string has this symbol"]
+fn an_index_without_a_string_panics() {
+    let _ = &SymbolTable::new()[Symbol::new(0)];
+}

@@ -1,0 +1,120 @@
+/* Refuses each request for memory in turn, in a run of every call that may make one. A refusal must be answered with NO_MEMORY by
+ * the very call in which it came, and leave the strings as they were. Linked with -Wl,--wrap=malloc,--wrap=realloc. */
+#include "intaglio.h"
+#include <stdio.h>
+#include <stdlib.h>
+#include <string.h>
+
+/* Which request is refused, counting down; none where it is negative. */
+static long left = -1;
+static long refused;
+
+void *__real_malloc(size_t size);
+void *__real_realloc(void *old, size_t size);
+
+static bool grants(void) {
+    if (left < 0 || left-- > 0) return true;
+    refused++;
+    return false;
+}
+
+void *__wrap_malloc(size_t size) { return grants() ? __real_malloc(size) : NULL; }
+void *__wrap_realloc(void *old, size_t size) { return grants() ? __real_realloc(old, size) : NULL; }
+
+static void fail(int line, long nth, const char *what) {
+    fprintf(stderr, "line %d, request %ld: %s\n", line, nth, what);
+    exit(1);
+}
+#define WANT(CONDITION) do { if (!(CONDITION)) fail(__LINE__, nth, #CONDITION); } while (0)
+
+/* The strings of a table: each is its symbol in decimals. */
+static size_t spell(char *into, uint32_t symbol) { return (size_t)sprintf(into, "%u", symbol); }
+
+static void holds(intaglio_bytes *table, size_t count, long nth) {
+    WANT(intaglio_bytes_len(table) == count);
+    for (uint32_t symbol = 0; symbol < count; symbol++) {
+        char word[16];
+        size_t len = spell(word, symbol);
+        intaglio_spelling out;
+        uint32_t found;
+        WANT(intaglio_bytes_get(table, symbol, &out) && out.len == len && memcmp(out.at, word, len) == 0);
+        WANT(intaglio_bytes_check_interned(table, (const uint8_t *)word, len, &found) && found == symbol);
+    }
+}
+
+/* Whether the call was done. If not, it had a refusal, and there was none before it. */
+static bool done(uint32_t code, long before, long nth) {
+    if (code == INTAGLIO_DONE) WANT(refused == before);
+    else WANT(code == INTAGLIO_NO_MEMORY && refused == before + 1);
+    return code == INTAGLIO_DONE;
+}
+
+static const char *const words[] = {"5", "6", "7", "8", "9", "10", "11", "12"};
+
+static void intern_group(intaglio_bytes *table, long nth) {
+    uint8_t bytes[64];
+    size_t ends[8], len = 0;
+    uint32_t symbols[8];
+    for (int i = 0; i < 8; i++) {
+        memcpy(bytes + len, words[i], strlen(words[i]));
+        ends[i] = len += strlen(words[i]);
+    }
+    long before = refused;
+    while (!done(intaglio_bytes_intern_all(table, bytes, len, ends, 8, symbols, 8), before, nth)) {
+        holds(table, 5, nth);
+        before = refused;
+    }
+    for (uint32_t i = 0; i < 8; i++) WANT(symbols[i] == 5 + i);
+    holds(table, 13, nth);
+}
+
+/* One run. Each call is made again after a refusal, and then is done. */
+static void run(long nth) {
+    intaglio_bytes table = INTAGLIO_NONE;
+    uint32_t symbol;
+    long before = refused;
+    while (!done(intaglio_bytes_with_capacity(&table, 2, 1, 2), before, nth)) {
+        WANT(!table.table.live && intaglio_bytes_intern(&table, (const uint8_t *)"a", 1, &symbol) == INTAGLIO_NO_TABLE);
+        before = refused;
+    }
+    for (uint32_t i = 0; i < 5; i++) {
+        char word[16];
+        size_t len = spell(word, i);
+        before = refused;
+        while (!done(intaglio_bytes_intern(&table, (const uint8_t *)word, len, &symbol), before, nth)) {
+            holds(&table, i, nth);
+            before = refused;
+        }
+        WANT(symbol == i);
+    }
+    intern_group(&table, nth);
+    before = refused;
+    while (!done(intaglio_bytes_intern_static(&table, (const uint8_t *)"13", 2, &symbol), before, nth)) {
+        holds(&table, 13, nth);
+        before = refused;
+    }
+    before = refused;
+    while (!done(intaglio_bytes_reserve(&table, 100), before, nth)) {
+        holds(&table, 14, nth);
+        before = refused;
+    }
+    WANT(intaglio_bytes_capacity(&table) >= 114);
+    before = refused;
+    /* Of two requests of a shrink the second may be refused without an answer: the list of strings then keeps its room. */
+    uint32_t code = intaglio_bytes_shrink_to(&table, 0);
+    WANT(code == INTAGLIO_DONE || (code == INTAGLIO_NO_MEMORY && refused == before + 1));
+    holds(&table, 14, nth);
+    intaglio_bytes_free(&table);
+}
+
+int main(void) {
+    long nth = 0;
+    for (;; nth++) {
+        left = nth;
+        refused = 0;
+        run(nth);
+        if (refused == 0) break;
+    }
+    printf("%ld requests, each refused in turn\n", nth);
+    return nth == 0;
+}

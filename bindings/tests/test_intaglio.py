@@ -1,0 +1,177 @@
+"""The Python module, call by call. Expected values are worked out by hand."""
+import copy
+import gc
+import pickle
+import unittest
+from pathlib import PurePath
+
+import intaglio
+from intaglio import BytesTable, ByteStringTable, CStringTable, OsStringTable, PathTable, SymbolTable
+
+LONE_SURROGATE = "\ud800"
+
+
+class EachKind:
+    """What holds of each kind. `kind` is its class."""
+
+    def of(self, text):
+        """A text as this kind of tables takes it."""
+        return text if self.kind in (SymbolTable, PathTable, OsStringTable) else text.encode()
+
+    def test_symbols_count_up_from_0_and_give_their_string_back(self):
+        kind, of = self.kind, self.of
+        table = kind([of("b"), of("a"), of("b")])
+        self.assertEqual(table.intern(of("c")), 2)
+        self.assertEqual(table.intern(of("a")), 1)
+        self.assertEqual(list(table), [of("b"), of("a"), of("c")])
+        self.assertEqual(list(table.items()), [(0, of("b")), (1, of("a")), (2, of("c"))])
+        self.assertEqual((len(table), table[1], table.get(3), table.get(3, of("x"))), (3, of("a"), None, of("x")))
+        self.assertTrue(of("a") in table and of("d") not in table)
+
+    def test_many_at_once(self):
+        kind, of = self.kind, self.of
+        table = kind()
+        self.assertEqual(table.intern_all(map(of, ["x", "y", "x", "é", "longer than the rest"])), [0, 1, 0, 2, 3])
+        self.assertEqual(table.check_all(map(of, ["y", "z", "é"])), [1, None, 2])
+        self.assertEqual(table.get_all([3, 0, 3]), [of("longer than the rest"), of("x"), of("longer than the rest")])
+        self.assertEqual((table.intern_all([]), table.check_all([]), table.get_all([])), ([], [], []))
+        with self.assertRaises(intaglio.NoSymbol):
+            table.get_all([0, 4])
+
+    def test_many_strings_are_copied_in_parts(self):
+        words = [f"word {number}" * (number % 9) for number in range(10_000)]
+        kind, of = self.kind, self.of
+        table = kind(map(of, words))
+        self.assertEqual(list(table), list(dict.fromkeys(map(of, words))))
+
+    def test_a_full_table_refuses_what_is_new(self):
+        kind, of = self.kind, self.of
+        table = kind([of("a")], limit=2)
+        with self.assertRaises(intaglio.Full):
+            table.intern_all([of("b"), of("c")])
+        self.assertEqual(list(table), [of("a")])
+        table.intern(of("b"))
+        with self.assertRaises(OverflowError):
+            table.intern(of("c"))
+        self.assertEqual(table.intern(of("a")), 0)
+
+    def test_rollback_and_clear(self):
+        kind, of = self.kind, self.of
+        table = kind(map(of, "abc"))
+        with self.assertRaises(intaglio.Stale):
+            table.take_back(4)
+        table.take_back(1)
+        self.assertEqual((list(table), table.intern(of("c"))), ([of("a")], 1))
+        table.clear()
+        self.assertEqual((len(table), table.intern(of("b"))), (0, 0))
+
+    def test_room(self):
+        kind, of = self.kind, self.of
+        table = kind(capacity=10)
+        self.assertEqual(table.capacity, 10)
+        table.intern(of("a"))
+        table.shrink_to()
+        self.assertEqual(table.capacity, 1)
+        table.reserve(5)
+        self.assertGreaterEqual(table.capacity, 6)
+        for additional in (2**32, 2**64, -1):
+            with self.assertRaises(intaglio.TooLarge):
+                table.reserve(additional)
+        for sizes in ({"limit": 0}, {"limit": 2**32 + 1}, {"capacity": 2**32 + 1}, {"capacity": -1}):
+            with self.assertRaises(intaglio.TooLarge):
+                kind(**sizes)
+
+    def test_a_closed_table_has_no_strings(self):
+        kind, of = self.kind, self.of
+        with kind([of("a")]) as table:
+            self.assertEqual(len(table), 1)
+        table.close()
+        self.assertEqual((len(table), of("a") in table, list(table)), (0, False, []))
+        for call in (table.intern_all, table.check_all):
+            with self.assertRaises(intaglio.NoTable):
+                call([of("a")])
+        with self.assertRaises(intaglio.NoTable):
+            table.intern(of("a"))
+
+    def test_a_table_is_freed_once_and_not_copied(self):
+        kind, of = self.kind, self.of
+        table = kind([of("a")])
+        for copied in (copy.copy, copy.deepcopy, pickle.dumps):
+            with self.assertRaises(TypeError):
+                copied(table)
+        del table
+        gc.collect()
+
+    def test_symbols_that_are_none(self):
+        kind, of = self.kind, self.of
+        table = kind([of("a")])
+        for symbol in (1, -1, 2**32, 2**64):
+            with self.assertRaises(LookupError):
+                table[symbol]
+        with self.assertRaises(intaglio.NoSymbol):
+            table.get_all([2**32])
+
+
+class TextTest(EachKind, unittest.TestCase):
+    kind = SymbolTable
+
+
+class BytesTest(EachKind, unittest.TestCase):
+    kind = BytesTable
+
+
+class CStringTest(EachKind, unittest.TestCase):
+    kind = CStringTable
+
+
+class PathTest(EachKind, unittest.TestCase):
+    kind = PathTable
+
+
+class OsStringTest(EachKind, unittest.TestCase):
+    kind = OsStringTable
+
+
+class ByteStringTest(EachKind, unittest.TestCase):
+    kind = ByteStringTable
+
+
+class OneKind(unittest.TestCase):
+    def test_texts_have_no_lone_surrogate(self):
+        for kind in (SymbolTable, PathTable, OsStringTable):
+            table = kind()
+            self.assertNotIn(LONE_SURROGATE, table)
+            with self.assertRaises(intaglio.NotUtf8):
+                table.intern(LONE_SURROGATE)
+            with self.assertRaises(TypeError):
+                table.intern(b"a")
+            self.assertNotIn(b"a", table)
+
+    def test_c_strings_have_no_zero(self):
+        table = CStringTable([b"a", b""])
+        self.assertEqual(list(table), [b"a", b""])
+        self.assertNotIn(b"a\0", table)
+        with self.assertRaises(intaglio.InnerZero):
+            table.intern(b"a\0b")
+
+    def test_bytes_may_have_any(self):
+        table = BytesTable([b"\xff\0", bytearray(b"\xff\0")])
+        self.assertEqual(list(table), [b"\xff\0"])
+        with self.assertRaises(TypeError):
+            table.intern("a")
+
+    def test_paths_are_equal_by_their_components(self):
+        table = PathTable(["a//b"])
+        self.assertEqual((table.intern("a/./b"), table.intern(PurePath("a/b")), table[0]), (0, 0, "a//b"))
+
+    def test_the_keys_may_be_chosen(self):
+        table = SymbolTable("ab", keys=(0, 2**64 - 1))
+        self.assertEqual(table.intern("b"), 1)
+
+    def test_either_a_capacity_or_a_limit(self):
+        with self.assertRaises(TypeError):
+            SymbolTable(capacity=1, limit=1)
+
+
+if __name__ == "__main__":
+    unittest.main()

@@ -1,0 +1,41 @@
+"""Interns the lines of its input, and writes what the proved program writes: the symbol of each line, an empty line, and each
+string once, in the order of the symbols.
+
+    words.py text|bytes|cstr|path|osstr|bstr [each]
+
+With `each` it makes a call for each line, and else one call for all of them.
+"""
+import sys
+
+import intaglio
+
+KINDS = {
+    "text": (intaglio.SymbolTable, bytes.decode, str.encode),
+    "bytes": (intaglio.BytesTable, bytes, bytes),
+    "cstr": (intaglio.CStringTable, bytes, bytes),
+    "path": (intaglio.PathTable, bytes.decode, str.encode),
+    "osstr": (intaglio.OsStringTable, bytes.decode, str.encode),
+    "bstr": (intaglio.ByteStringTable, bytes, bytes),
+}
+
+
+def main() -> None:
+    kind, decode, encode = KINDS[sys.argv[1]]
+    given = sys.stdin.buffer.read()
+    lines = [decode(line) for line in given.removesuffix(b"\n").split(b"\n")]
+    with kind() as table:
+        if sys.argv[2:] == ["each"]:
+            symbols = [table.intern(line) for line in lines]
+            assert [table.check_interned(line) for line in lines] == symbols
+            contents = [table[symbol] for symbol in range(len(table))]
+        else:
+            symbols = table.intern_all(lines)
+            assert table.check_all(lines) == symbols
+            contents = list(table)
+    out = sys.stdout.buffer
+    out.writelines(b"%d\n" % symbol for symbol in symbols)
+    out.write(b"\n")
+    out.writelines(encode(content) + b"\n" for content in contents)
+
+
+main()

@@ -1,0 +1,247 @@
+//! The tables of texts, bytes, C strings, paths, platform strings and byte strings for C.
+//!
+//! A handle knows the kind of its table, so each call is one for all kinds. The header names them for each kind too.
+#![tactic(auto)]
+
+ghost use Rattle.std.specs.Prelude.{◌≡◌, false, length};
+ghost use Rattle.std.specs.Option.{option_map};
+ghost use Rattle.intaglio_handle.specs.Answers.{Tells, TellsSymbol, given};
+ghost use Rattle.intaglio_handle.specs.Groups.{CopiesAll, FindsAll, InternsAll};
+ghost use Rattle.intaglio_handle.specs.Handles.{Changes, Clears, HoldsNone, Keeps, MakesLimited, MakesRoom, capacity, count, filled, held, known, stored};
+ghost use Rattle.intaglio_handle.specs.Steps.{Interns, InternsStatic, Reserves, Shrinks, TakesBack};
+ghost use Rattle.std.specs.Hash.DefaultHasher.{with_keys};
+
+use intaglio_handle::{Handle, Spelling, code, symbol_code};
+use intaglio_hash::KeyedState;
+use std::alloc::Global;
+
+/// How many contents a new table has room for.
+const DEFAULT_CAPACITY: usize = 4096;
+
+/// Puts a new table of a kind into the handle, with room for 4096 contents.
+#[unsafe(no_mangle)]
+pub extern "C" fn intaglio_new(
+    alloc: Global,
+    handle: &mut Handle,
+    kind: u32,
+    key0: u64,
+    key1: u64,
+) -> u32
+    ensures { Tells result (MakesRoom kind 4096 (with_keys key0 key1) handle.new) }
+{
+    let keys = KeyedState::with_keys(key0, key1);
+    code(handle.with_capacity(alloc, kind, DEFAULT_CAPACITY, keys))
+}
+
+/// Puts a new table of a kind into the handle, with room for exactly this many contents.
+#[unsafe(no_mangle)]
+pub extern "C" fn intaglio_with_capacity(
+    alloc: Global,
+    handle: &mut Handle,
+    kind: u32,
+    capacity: usize,
+    key0: u64,
+    key1: u64,
+) -> u32
+    ensures { Tells result (MakesRoom kind capacity (with_keys key0 key1) handle.new) }
+{
+    let keys = KeyedState::with_keys(key0, key1);
+    code(handle.with_capacity(alloc, kind, capacity, keys))
+}
+
+/// Puts a new table of a kind into the handle, that holds at most this many contents.
+#[unsafe(no_mangle)]
+pub extern "C" fn intaglio_with_limit(
+    alloc: Global,
+    handle: &mut Handle,
+    kind: u32,
+    limit: usize,
+    key0: u64,
+    key1: u64,
+) -> u32
+    ensures { Tells result (MakesLimited kind limit (with_keys key0 key1) handle.new) }
+{
+    let keys = KeyedState::with_keys(key0, key1);
+    code(handle.with_limit(alloc, kind, limit, keys))
+}
+
+/// Frees the table, if there is one.
+#[unsafe(no_mangle)]
+pub extern "C" fn intaglio_free(alloc: Global, handle: &mut Handle)
+    ensures { HoldsNone handle.new }
+{
+    handle.free(alloc);
+}
+
+/// Writes the symbol of these bytes, which are copied if they are new.
+#[unsafe(no_mangle)]
+pub extern "C" fn intaglio_intern(
+    alloc: Global,
+    handle: &mut Handle,
+    bytes: &[u8],
+    symbol: &mut u32,
+) -> u32
+    ensures { TellsSymbol result symbol.old symbol.new (λ answer. Changes handle.old handle.new answer (Interns bytes.now)) }
+{
+    symbol_code(handle.intern(alloc, bytes), symbol)
+}
+
+/// Writes the symbol of these bytes, which aren't copied, and must stay as they are.
+#[unsafe(no_mangle)]
+pub extern "C" fn intaglio_intern_static(
+    alloc: Global,
+    handle: &mut Handle,
+    bytes: &'static [u8],
+    symbol: &mut u32,
+) -> u32
+    ensures { TellsSymbol result symbol.old symbol.new (λ answer. Changes handle.old handle.new answer (InternsStatic bytes.now)) }
+{
+    symbol_code(handle.intern_static(alloc, bytes), symbol)
+}
+
+/// Returns whether these bytes are in the table, and writes their symbol if they are.
+#[unsafe(no_mangle)]
+pub extern "C" fn intaglio_check_interned(
+    alloc: Global,
+    handle: &mut Handle,
+    bytes: &[u8],
+    symbol: &mut u32,
+) -> bool
+    ensures found { given result symbol.new ≡ known handle.old bytes.now }
+    ensures unwritten { result ≡ false → symbol.new ≡ symbol.old }
+    ensures kept { Keeps handle.old handle.new }
+{
+    match handle.find(alloc, bytes) {
+        Some(known) => {
+            *symbol = known.id();
+            true
+        }
+        None => false,
+    }
+}
+
+/// Writes where the bytes of a symbol are, if it has any.
+#[unsafe(no_mangle)]
+pub extern "C" fn intaglio_get(
+    alloc: Global,
+    handle: &mut Handle,
+    symbol: u32,
+    out: &mut Spelling,
+) -> bool
+    ensures found { given result out.new.len ≡ option_map length (stored handle.old symbol) }
+    ensures unwritten { result ≡ false → out.new ≡ out.old }
+    ensures kept { Keeps handle.old handle.new }
+{
+    handle.get(alloc, symbol, out)
+}
+
+/// Writes how many bytes a symbol has, and copies them to the front of a buffer that has room for them.
+#[unsafe(no_mangle)]
+pub extern "C" fn intaglio_copy(
+    alloc: Global,
+    handle: &mut Handle,
+    symbol: u32,
+    buffer: &mut [u8],
+    len: &mut usize,
+) -> bool
+    ensures found { given result len.new ≡ option_map length (stored handle.old symbol) }
+    ensures copied { buffer.new ≡ filled buffer.old (stored handle.old symbol) }
+    ensures unwritten { result ≡ false → len.new ≡ len.old }
+    ensures kept { Keeps handle.old handle.new }
+{
+    handle.copy(alloc, symbol, buffer, len)
+}
+
+/// How many contents there are.
+#[unsafe(no_mangle)]
+pub extern "C" fn intaglio_len(alloc: Global, handle: &mut Handle) -> usize
+    ensures count { result ≡ count (held handle.old) }
+    ensures kept { Keeps handle.old handle.new }
+{
+    handle.len(alloc)
+}
+
+/// How many contents fit before the table has to grow.
+#[unsafe(no_mangle)]
+pub extern "C" fn intaglio_capacity(alloc: Global, handle: &mut Handle) -> usize
+    ensures capacity { result ≡ capacity (held handle.old) }
+    ensures kept { Keeps handle.old handle.new }
+{
+    handle.capacity(alloc)
+}
+
+/// Makes room for this many more contents.
+#[unsafe(no_mangle)]
+pub extern "C" fn intaglio_reserve(alloc: Global, handle: &mut Handle, additional: usize) -> u32
+    ensures { Tells result (λ answer. Changes handle.old handle.new answer (Reserves additional)) }
+{
+    code(handle.reserve(alloc, additional))
+}
+
+/// Gives back room above this many contents.
+#[unsafe(no_mangle)]
+pub extern "C" fn intaglio_shrink_to(alloc: Global, handle: &mut Handle, min_capacity: usize) -> u32
+    ensures { Tells result (λ answer. Changes handle.old handle.new answer (Shrinks min_capacity)) }
+{
+    code(handle.shrink_to(alloc, min_capacity))
+}
+
+/// Drops all contents.
+#[unsafe(no_mangle)]
+pub extern "C" fn intaglio_clear(alloc: Global, handle: &mut Handle)
+    ensures { Clears handle.old handle.new }
+{
+    handle.clear(alloc);
+}
+
+/// Drops the contents after the first ones.
+#[unsafe(no_mangle)]
+pub extern "C" fn intaglio_take_back(alloc: Global, handle: &mut Handle, mark: usize) -> u32
+    ensures { Tells result (λ answer. Changes handle.old handle.new answer (TakesBack mark)) }
+{
+    code(handle.take_back(alloc, mark))
+}
+
+/// Interns many strings, all or none, and writes their symbols.
+#[unsafe(no_mangle)]
+pub extern "C" fn intaglio_intern_all(
+    alloc: Global,
+    handle: &mut Handle,
+    bytes: &[u8],
+    ends: &[usize],
+    symbols: &mut [u32],
+) -> u32
+    ensures { Tells result (λ answer. Changes handle.old handle.new answer (InternsAll bytes.now ends.now (length symbols.old) symbols.new)) }
+{
+    code(handle.intern_all(alloc, bytes, ends, symbols))
+}
+
+/// Looks many strings up, and writes the symbol of each, or what no symbol is.
+#[unsafe(no_mangle)]
+pub extern "C" fn intaglio_check_all(
+    alloc: Global,
+    handle: &mut Handle,
+    bytes: &[u8],
+    ends: &[usize],
+    symbols: &mut [u64],
+) -> u32
+    ensures found { Tells result (λ answer. FindsAll bytes.now ends.now symbols.old (held handle.old) answer symbols.new) }
+    ensures kept { Keeps handle.old handle.new }
+{
+    code(handle.check_all(alloc, bytes, ends, symbols))
+}
+
+/// Copies the bytes of many symbols to the front of a buffer, and writes the end of each.
+#[unsafe(no_mangle)]
+pub extern "C" fn intaglio_copy_all(
+    alloc: Global,
+    handle: &mut Handle,
+    symbols: &[u32],
+    buffer: &mut [u8],
+    ends: &mut [usize],
+) -> u32
+    ensures copied { Tells result (λ answer. CopiesAll symbols.now buffer.old ends.old (held handle.old) answer buffer.new ends.new) }
+    ensures kept { Keeps handle.old handle.new }
+{
+    code(handle.copy_all(alloc, symbols, buffer, ends))
+}

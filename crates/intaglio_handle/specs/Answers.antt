@@ -1,0 +1,62 @@
+-- What a code tells.
+use Rattle.std.specs.Prelude.{◌≡◌, ℕ, Bool, true, false, Option, Some, None, Result, Ok, Err}
+use Rattle.intaglio_symbol.specs.declared.error.InternError.{InternError}
+use Rattle.intaglio_symbol.specs.declared.error.InternError.TheVariants.{Overflow, Memory}
+use Rattle.intaglio_symbol.specs.declared.error.RoomError.{RoomError}
+use Rattle.intaglio_symbol.specs.declared.error.RoomError.TheVariants as room_error
+use Rattle.intaglio_handle.specs.declared.refusal.Refusal.{Refusal}
+use Rattle.intaglio_handle.specs.declared.refusal.Refusal.TheVariants.{NoTable, Full, NoMemory, TooLarge, Stale, NotUtf8, InnerZero, MissingZero, BadEnds, NoSymbol, NoSpace, NoKind}
+
+-- the code of a refusal
+abbrev pub refusal_code : Refusal → ℕ
+refusal_code NoTable = 1
+refusal_code Full = 2
+refusal_code NoMemory = 3
+refusal_code TooLarge = 4
+refusal_code Stale = 5
+refusal_code NotUtf8 = 6
+refusal_code InnerZero = 7
+refusal_code MissingZero = 8
+refusal_code BadEnds = 9
+refusal_code NoSymbol = 10
+refusal_code NoSpace = 11
+refusal_code NoKind = 12
+
+module _ {X : Type 0} where
+  -- the code of an answer: 0 where the call was done
+  abbrev pub answer_code : Result X Refusal → ℕ
+  answer_code (Ok _) = 0
+  answer_code (Err refusal) = refusal_code refusal
+
+  -- the code is that of an answer of which P holds
+  abbrev pub Tells : ℕ → (Result X Refusal → Type 0) → Type 0
+  Tells code P = (answer : Result X Refusal) × (code ≡ answer_code answer) × P answer
+
+-- a symbol that is answered is written, and else what was there stays
+abbrev pub IsWritten : Result ℕ Refusal → ℕ → ℕ → Type 0
+IsWritten (Ok symbol) before after = after ≡ symbol
+IsWritten (Err _) before after = after ≡ before
+
+-- the same of an answer with a symbol, which is written at a place that held another number
+abbrev pub TellsSymbol : ℕ → ℕ → ℕ → (Result ℕ Refusal → Type 0) → Type 0
+TellsSymbol code before after P = (answer : Result ℕ Refusal) × (code ≡ answer_code answer) × IsWritten answer before after × P answer
+
+-- a value that is given or not
+abbrev pub given : {X : Type 0} → Bool → X → Option X
+given true x = Some x
+given false x = None
+
+-- what an interning's error is to C
+abbrev pub intern_refusal : InternError → Refusal
+intern_refusal (Overflow _) = Full
+intern_refusal (Memory _) = NoMemory
+
+-- what an error of a constructor, a reservation or a shrink is
+abbrev pub room_refusal : RoomError → Refusal
+room_refusal room_error.CapacityOverflow = TooLarge
+room_refusal (room_error.Memory _) = NoMemory
+
+-- an answer of a constructor, a reservation or a shrink
+abbrev pub room_answer : Result (Unit {0}) RoomError → Result (Unit {0}) Refusal
+room_answer (Ok done) = Ok done
+room_answer (Err error) = Err (room_refusal error)

@@ -1,0 +1,81 @@
+-- What C sees of a handle, and what the calls do to it.
+use Rattle.std.specs.Prelude.{◌≡◌, ℕ, ◌+◌, ◌^◌, ◌<◌, ◌⊎◌, Bool, true, false, List, [], ◌++◌, length, drop, slice_get, nat_lt, if◌then◌else◌, Option, Some, None, option_map, option_and_then, MatchOption, IsSomeAnd, Result, Ok, Err}
+use Rattle.std.specs.declared.hash.DefaultHasher.{DefaultHasher}
+use Rattle.intaglio_core.specs.Change.{Empties}
+use Rattle.intaglio_core.specs.State.{State}
+use Rattle.intaglio_hash.specs.KeyedState.{initial_hasher}
+use Rattle.intaglio_handle.specs.Kinds.{kind_of}
+use Rattle.intaglio_handle.specs.Seen.{Seen, seen, IsChangedBy, look_up}
+use Rattle.intaglio_handle.specs.declared.handle.Handle.{Handle}
+use Rattle.intaglio_handle.specs.declared.kind.Kind.{Kind}
+use Rattle.intaglio_handle.specs.declared.refusal.Refusal.{Refusal}
+use Rattle.intaglio_handle.specs.declared.refusal.Refusal.TheVariants.{NoTable, NoMemory, TooLarge, NoKind}
+
+-- the table that a handle holds, if it holds one
+abbrev pub held : Handle → Option Seen
+held handle = option_map seen handle.held.shelf
+
+-- nothing changed
+abbrev pub Keeps : Handle → Handle → Type 0
+Keeps old new = new.held.shelf ≡ old.held.shelf
+
+-- there is no table
+abbrev pub HoldsNone : Handle → Type 0
+HoldsNone handle = handle.held.shelf ≡ None
+
+-- a call may change the state of the table, and where there is none it is refused
+abbrev pub Changes : {X : Type 0} → Handle → Handle → Result X Refusal → (Seen → Result X Refusal → State (List ℕ) → Type 0) → Type 0
+Changes old new result Step =
+    MatchOption (held old) ((result ≡ Err NoTable) × HoldsNone new) (λ before. IsSomeAnd (held new) (λ after. IsChangedBy before after (λ _ s'. Step before result s')))
+
+-- the table, if there is one, is emptied
+abbrev pub Clears : Handle → Handle → Type 0
+Clears old new = MatchOption (held old) (HoldsNone new) (λ before. IsSomeAnd (held new) (λ after. IsChangedBy before after Empties))
+
+-- a new table, which makes this hasher
+pub record IsNew (t : Seen) (which : Kind) (room limit : ℕ) (made : DefaultHasher) : Type 0 where
+  pub kind : t.kind ≡ which
+  pub state : t.state ≡ record { contents = []; room = room; buckets = room; limit = limit }
+  pub hasher : initial_hasher t.hasher ≡ made
+
+-- a new table of a kind takes the place of what was held, unless the kind is none, the table is too large, or there is no memory for it
+abbrev pub Makes : Option Kind → Handle → Result (Unit {0}) Refusal → Type 0 → (Kind → Seen → Type 0) → Type 0
+Makes None new result IsTooLarge IsMade = (result ≡ Err NoKind) × HoldsNone new
+Makes (Some kind) new (Ok _) IsTooLarge IsMade = ¬ IsTooLarge × IsSomeAnd (held new) (IsMade kind)
+Makes (Some kind) new (Err TooLarge) IsTooLarge IsMade = IsTooLarge × HoldsNone new
+Makes (Some kind) new (Err NoMemory) IsTooLarge IsMade = ¬ IsTooLarge × HoldsNone new
+Makes (Some kind) new (Err _) IsTooLarge IsMade = ⊥
+
+-- a table of exactly this capacity is made, or one that holds at most this many contents
+abbrev pub MakesRoom : ℕ → ℕ → DefaultHasher → Handle → Result (Unit {0}) Refusal → Type 0
+MakesRoom kind capacity hasher new result = Makes (kind_of kind) new result (2 ^ 32 < capacity) (λ which t. IsNew t which capacity (2 ^ 32) hasher)
+
+abbrev pub MakesLimited : ℕ → ℕ → DefaultHasher → Handle → Result (Unit {0}) Refusal → Type 0
+MakesLimited kind limit hasher new result = Makes (kind_of kind) new result ((limit ≡ 0) ⊎ (2 ^ 32 < limit)) (λ which t. IsNew t which 0 limit hasher)
+
+-- what a look-up found
+abbrev pub found : Result (Option ℕ) Refusal → Option ℕ
+found (Ok symbol) = symbol
+found (Err _) = None
+
+-- the symbol of bytes that are in a table
+abbrev pub known : Handle → List ℕ → Option ℕ
+known handle bytes = option_and_then (λ t. found (look_up t bytes)) (held handle)
+
+-- the bytes of a symbol
+abbrev pub stored : Handle → ℕ → Option (List ℕ)
+stored handle symbol = option_and_then (λ t. slice_get t.state.contents symbol) (held handle)
+
+-- a buffer, with bytes at its front if it has room for them
+abbrev pub filled : List ℕ → Option (List ℕ) → List ℕ
+filled buffer None = buffer
+filled buffer (Some bytes) = if nat_lt (length buffer) (length bytes) then buffer else bytes ++ drop (length bytes) buffer
+
+-- how many contents there are, and how many fit
+abbrev pub count : Option Seen → ℕ
+count None = 0
+count (Some t) = length t.state.contents
+
+abbrev pub capacity : Option Seen → ℕ
+capacity None = 0
+capacity (Some t) = length t.state.contents + t.state.room

@@ -1,0 +1,8 @@
+-- What the contracts cite.
+pub mod Answers
+pub mod Groups
+pub mod Handles
+pub mod Kinds
+pub mod Owned
+pub mod Seen
+pub mod Steps

@@ -1,0 +1,40 @@
+//! Answers, as C gets them.
+ghost use Rattle.std.specs.Prelude.{◌≡◌};
+ghost use Rattle.intaglio_handle.specs.Answers.{answer_code, room_answer, IsWritten};
+
+use crate::refusal::Refusal;
+use intaglio_core::{RoomError, Symbol};
+
+/// The code of an answer: 0 where the call was done.
+pub fn code(answer: Result<(), Refusal>) -> u32
+    ensures { result ≡ answer_code answer }
+{
+    match answer {
+        Ok(()) => 0,
+        Err(refusal) => refusal.code(),
+    }
+}
+
+/// The same of an answer with a symbol, which is written.
+pub fn symbol_code(answer: Result<Symbol, Refusal>, symbol: &mut u32) -> u32
+    ensures code { result ≡ answer_code answer }
+    ensures written { IsWritten answer symbol.old symbol.new }
+{
+    match answer {
+        Ok(issued) => {
+            *symbol = issued.id();
+            0
+        }
+        Err(refusal) => refusal.code(),
+    }
+}
+
+// An answer about room, as an answer to C.
+pub(crate) fn room_answer(answer: Result<(), RoomError>) -> Result<(), Refusal>
+    ensures { result ≡ room_answer answer }
+{
+    match answer {
+        Ok(()) => Ok(()),
+        Err(error) => Err(Refusal::from(error)),
+    }
+}

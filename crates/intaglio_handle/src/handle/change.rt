@@ -1,0 +1,100 @@
+//! Tables are measured and changed.
+ghost use Rattle.std.specs.Prelude.{◌≡◌};
+ghost use Rattle.intaglio_handle.specs.Handles.{Changes, Clears, Keeps, capacity, count, held};
+ghost use Rattle.intaglio_handle.specs.Steps.{Reserves, Shrinks, TakesBack};
+
+use super::Handle;
+use crate::answer::room_answer;
+use crate::refusal::Refusal;
+use intaglio_core::Mark;
+use std::alloc::Global;
+
+impl Handle {
+    /// How many contents there are, or 0 without a table.
+    pub fn len(&mut self, alloc: Global) -> usize
+        ensures count { result ≡ count (held self.old) }
+        ensures kept { Keeps self.old self.new }
+    {
+        let Some(shelf) = self.take(alloc) else {
+            return 0;
+        };
+        let count = shelf.len();
+        *self = Handle::over(shelf);
+        count
+    }
+
+    /// How many contents fit before the table has to grow, or 0 without a table.
+    pub fn capacity(&mut self, alloc: Global) -> usize
+        ensures capacity { result ≡ capacity (held self.old) }
+        ensures kept { Keeps self.old self.new }
+    {
+        let Some(shelf) = self.take(alloc) else {
+            return 0;
+        };
+        let capacity = shelf.capacity();
+        *self = Handle::over(shelf);
+        capacity
+    }
+
+    /// Makes room for this many more contents.
+    ///
+    /// # Errors
+    ///
+    /// `NoTable`, `TooLarge`, `NoMemory`. Then the contents are unchanged.
+    pub fn reserve(&mut self, alloc: Global, additional: usize) -> Result<(), Refusal>
+        ensures { Changes self.old self.new result (Reserves additional) }
+    {
+        let Some(mut shelf) = self.take(alloc) else {
+            return Err(Refusal::NoTable);
+        };
+        let answer = shelf.reserve(additional);
+        *self = Handle::over(shelf);
+        room_answer(answer)
+    }
+
+    /// Gives back room above this many contents.
+    ///
+    /// # Errors
+    ///
+    /// `NoTable`, `NoMemory`. Then nothing changed.
+    pub fn shrink_to(&mut self, alloc: Global, min_capacity: usize) -> Result<(), Refusal>
+        ensures { Changes self.old self.new result (Shrinks min_capacity) }
+    {
+        let Some(mut shelf) = self.take(alloc) else {
+            return Err(Refusal::NoTable);
+        };
+        let answer = shelf.shrink_to(min_capacity);
+        *self = Handle::over(shelf);
+        room_answer(answer)
+    }
+
+    /// Drops all contents.
+    pub fn clear(&mut self, alloc: Global)
+        ensures { Clears self.old self.new }
+    {
+        let Some(mut shelf) = self.take(alloc) else {
+            return;
+        };
+        shelf.clear();
+        *self = Handle::over(shelf);
+    }
+
+    /// Drops the contents after the first ones, as many as the mark says.
+    ///
+    /// # Errors
+    ///
+    /// `NoTable`; `Stale` if there are fewer. Then nothing changed.
+    pub fn take_back(&mut self, alloc: Global, mark: usize) -> Result<(), Refusal>
+        ensures { Changes self.old self.new result (TakesBack mark) }
+    {
+        let Some(mut shelf) = self.take(alloc) else {
+            return Err(Refusal::NoTable);
+        };
+        let answer = shelf.take_back(Mark::new(mark));
+        *self = Handle::over(shelf);
+        match answer {
+            Ok(()) => Ok(()),
+            Err(_) => Err(Refusal::Stale),
+        }
+    }
+}

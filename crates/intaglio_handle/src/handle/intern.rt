@@ -1,0 +1,57 @@
+//! Bytes are interned and looked up.
+ghost use Rattle.std.specs.Prelude.{◌≡◌};
+ghost use Rattle.intaglio_handle.specs.Handles.{Changes, Keeps, known};
+ghost use Rattle.intaglio_handle.specs.Steps.{Interns, InternsStatic};
+
+use super::Handle;
+use crate::refusal::Refusal;
+use intaglio_core::Symbol;
+use std::alloc::Global;
+
+impl Handle {
+    /// The symbol of these bytes, which are copied if they are new.
+    ///
+    /// # Errors
+    ///
+    /// `NoTable`, `Full`, `NoMemory`, and what the kind says of bytes that it does not take. Then the contents are unchanged.
+    pub fn intern(&mut self, alloc: Global, bytes: &[u8]) -> Result<Symbol, Refusal>
+        ensures { Changes self.old self.new result (Interns bytes.now) }
+    {
+        let Some(mut shelf) = self.take(alloc) else {
+            return Err(Refusal::NoTable);
+        };
+        let answer = shelf.intern(alloc, bytes);
+        *self = Handle::over(shelf);
+        answer
+    }
+
+    /// The same for bytes that stay as they are, which are not copied.
+    ///
+    /// # Errors
+    ///
+    /// Those of [`intern`](Handle::intern).
+    pub fn intern_static(&mut self, alloc: Global, bytes: &'static [u8]) -> Result<Symbol, Refusal>
+        ensures { Changes self.old self.new result (InternsStatic bytes.now) }
+    {
+        let Some(mut shelf) = self.take(alloc) else {
+            return Err(Refusal::NoTable);
+        };
+        let answer = shelf.intern_static(bytes);
+        *self = Handle::over(shelf);
+        answer
+    }
+
+    /// The symbol of bytes that are in the table.
+    pub fn find(&mut self, alloc: Global, bytes: &[u8]) -> Option<Symbol>
+        ensures found { result ≡ known self.old bytes.now }
+        ensures kept { Keeps self.old self.new }
+    {
+        let shelf = self.take(alloc)?;
+        let found = shelf.find(bytes);
+        *self = Handle::over(shelf);
+        match found {
+            Ok(symbol) => symbol,
+            Err(_) => None,
+        }
+    }
+}

@@ -1,0 +1,79 @@
+//! Tables are made, and freed.
+ghost use Rattle.std.specs.Prelude.{◌≡◌, Err, IfOk, IfErr, MatchResult};
+ghost use Rattle.std.specs.declared.option.Option.TheVariants.{Some};
+ghost use Rattle.intaglio_hash.specs.KeyedState.{initial_hasher};
+ghost use Rattle.intaglio_handle.specs.Answers.{room_refusal};
+ghost use Rattle.intaglio_handle.specs.Handles.{HoldsNone, MakesLimited, MakesRoom};
+ghost use Rattle.intaglio_handle.specs.declared.refusal.Refusal.TheVariants.{NoMemory};
+
+use super::Handle;
+use crate::kind::Kind;
+use crate::refusal::Refusal;
+use crate::shelf::Shelf;
+use intaglio_core::RoomError;
+use intaglio_hash::KeyedState;
+use std::alloc::Global;
+
+impl Handle {
+    /// Frees the table, if there is one.
+    pub fn free(&mut self, alloc: Global)
+        ensures { HoldsNone self.new }
+    {
+        *self = Handle::none(alloc);
+    }
+
+    // Puts a shelf into the handle. The earlier one is dropped.
+    fn put(&mut self, alloc: Global, made: Result<Shelf, RoomError>) -> Result<(), Refusal>
+        ensures made { IfOk made (λ shelf. MatchResult result (λ _. self.new.held.shelf ≡ Some shelf) (λ refusal. (refusal ≡ NoMemory) × HoldsNone self.new)) }
+        ensures refused { IfErr made (λ error. (result ≡ Err (room_refusal error)) × HoldsNone self.new) }
+    {
+        *self = Handle::none(alloc);
+        let Ok(shelf) = Box::new(alloc, made?) else {
+            return Err(Refusal::NoMemory);
+        };
+        *self = Handle::over(shelf);
+        Ok(())
+    }
+
+    /// Puts a new table of a kind into the handle, with room for exactly this many contents. The earlier one is freed.
+    ///
+    /// # Errors
+    ///
+    /// `NoKind` for a number of no kind, `TooLarge` above 2^32, `NoMemory`. Then the handle holds no table.
+    pub fn with_capacity(
+        &mut self,
+        alloc: Global,
+        kind: u32,
+        capacity: usize,
+        keys: KeyedState,
+    ) -> Result<(), Refusal>
+        ensures { MakesRoom kind capacity (initial_hasher keys) self.new result }
+    {
+        let Some(kind) = Kind::of(kind) else {
+            *self = Handle::none(alloc);
+            return Err(Refusal::NoKind);
+        };
+        self.put(alloc, Shelf::with_capacity(alloc, kind, capacity, keys))
+    }
+
+    /// Puts a new table of a kind into the handle, which holds at most this many contents. The earlier one is freed.
+    ///
+    /// # Errors
+    ///
+    /// `NoKind` for a number of no kind, `TooLarge` for 0 and above 2^32, `NoMemory`. Then the handle holds no table.
+    pub fn with_limit(
+        &mut self,
+        alloc: Global,
+        kind: u32,
+        limit: usize,
+        keys: KeyedState,
+    ) -> Result<(), Refusal>
+        ensures { MakesLimited kind limit (initial_hasher keys) self.new result }
+    {
+        let Some(kind) = Kind::of(kind) else {
+            *self = Handle::none(alloc);
+            return Err(Refusal::NoKind);
+        };
+        self.put(alloc, Shelf::with_limit(alloc, kind, limit, keys))
+    }
+}

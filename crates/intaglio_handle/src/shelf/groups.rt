@@ -1,0 +1,127 @@
+//! Many strings at once.
+ghost use Rattle.std.specs.Prelude.{◌≡◌, true, length};
+ghost use Rattle.intaglio_handle.specs.Groups.{CopiesEach, InternsAll, InternsOr, IsBegun, are_ends, found_all, is_group, or_absent, pieces};
+ghost use Rattle.intaglio_handle.specs.Handles.{found};
+ghost use Rattle.intaglio_handle.specs.Seen.{IsChanged, seen};
+
+use super::Shelf;
+use crate::refusal::Refusal;
+use intaglio_core::{Mark, Symbol};
+use std::alloc::Global;
+
+// Whether the ends ascend within this many bytes.
+fn are_ends(size: usize, ends: &[usize]) -> bool
+    ensures { result ≡ are_ends size 0 ends.now }
+{
+    let mut start = 0;
+    for &end in ends {
+        if end < start {
+            return false;
+        }
+        if size < end {
+            return false;
+        }
+        start = end;
+    }
+    true
+}
+
+// Whether the ends are those of a group of this many bytes, with this many places for its symbols.
+pub(crate) fn is_group(bytes: &[u8], ends: &[usize], places: usize) -> bool
+    ensures { result ≡ is_group bytes.now ends.now places }
+{
+    places == ends.len() && are_ends(bytes.len(), ends)
+}
+
+// The number that is written for a look-up.
+fn or_absent(answer: Result<Option<Symbol>, Refusal>) -> u64
+    ensures { result ≡ or_absent (found answer) }
+{
+    match answer {
+        Ok(Some(symbol)) => symbol.id() as u64,
+        _ => u64::MAX,
+    }
+}
+
+impl Shelf {
+    // Interns the strings of a group in order, up to the first that is refused.
+    fn intern_each(
+        &mut self,
+        alloc: Global,
+        bytes: &[u8],
+        ends: &[usize],
+        symbols: &mut [u32],
+    ) -> Result<(), Refusal>
+        requires { is_group bytes.now ends.now (length symbols.old) ≡ true }
+        ensures { IsChanged self.old self.new (λ _ s'. InternsOr IsBegun (pieces bytes.now 0 ends.now) symbols.new (seen self.old) result s') }
+    {
+        let mut start = 0;
+        for (i, &end) in ends.iter().enumerate() {
+            match self.intern(alloc, &bytes[start..end]) {
+                Ok(symbol) => symbols[i] = symbol.id(),
+                Err(refusal) => return Err(refusal),
+            }
+            start = end;
+        }
+        Ok(())
+    }
+
+    // Interns the strings of a group, all or none.
+    pub(crate) fn intern_all(
+        &mut self,
+        alloc: Global,
+        bytes: &[u8],
+        ends: &[usize],
+        symbols: &mut [u32],
+    ) -> Result<(), Refusal>
+        ensures { IsChanged self.old self.new (λ _ s'. InternsAll bytes.now ends.now (length symbols.old) symbols.new (seen self.old) result s') }
+    {
+        if !is_group(bytes, ends, symbols.len()) {
+            return Err(Refusal::BadEnds);
+        }
+        let mark = Mark::new(self.len());
+        let answer = self.intern_each(alloc, bytes, ends, symbols);
+        if answer.is_err() {
+            let _ = self.take_back(mark);
+        }
+        answer
+    }
+
+    // Looks the strings of a group up.
+    pub(crate) fn find_each(&self, bytes: &[u8], ends: &[usize], symbols: &mut [u64])
+        requires { is_group bytes.now ends.now (length symbols.old) ≡ true }
+        ensures { symbols.new ≡ found_all (seen self.now) (pieces bytes.now 0 ends.now) }
+    {
+        let mut start = 0;
+        for (i, &end) in ends.iter().enumerate() {
+            symbols[i] = or_absent(self.find(&bytes[start..end]));
+            start = end;
+        }
+    }
+
+    // Copies the strings of symbols to the front of a buffer, and writes the end of each.
+    pub(crate) fn copy_each(
+        &self,
+        symbols: &[u32],
+        buffer: &mut [u8],
+        ends: &mut [usize],
+    ) -> Result<(), Refusal>
+        requires { length ends.old ≡ length symbols.now }
+        ensures { CopiesEach (seen self.now).state.contents symbols.now buffer.old result buffer.new ends.new }
+    {
+        let mut start = 0;
+        for (i, &symbol) in symbols.iter().enumerate() {
+            let Some(bytes) = self.bytes_at(Symbol::new(symbol)) else {
+                return Err(Refusal::NoSymbol);
+            };
+            if buffer.len() - start < bytes.len() {
+                return Err(Refusal::NoSpace);
+            }
+            let end = start + bytes.len();
+            buffer[start..end].copy_from_slice(bytes);
+            ends[i] = end;
+            start = end;
+        }
+        Ok(())
+    }
+}

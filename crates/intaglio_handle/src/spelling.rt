@@ -1,0 +1,28 @@
+//! Where the bytes of a content are.
+ghost use Rattle.std.specs.Prelude.{◌≡◌, length};
+
+use std::ptr::{from_ref, null};
+
+/// Bytes, as a pointer and a count. The pointer of no bytes is null.
+#[repr(C)]
+#[derive(Drop)]
+pub struct Spelling {
+    /// The first byte.
+    pub at: *const u8,
+    /// How many bytes there are.
+    pub len: usize,
+}
+
+impl Spelling {
+    pub(crate) fn of(bytes: &[u8]) -> Spelling
+        ensures { result.len ≡ length bytes.now }
+    {
+        if bytes.is_empty() {
+            return Spelling { at: null(), len: 0 };
+        }
+        Spelling {
+            at: from_ref(&bytes[0]),
+            len: bytes.len(),
+        }
+    }
+}
