@@ -59,7 +59,7 @@ pub fn encode<S: BuildHasher + Drop, R: Read, W: Write>(
     ensures nothing_written { IfErr result (λ e. e ≢ WriteFailed → writer.new ≡ writer.old) }
 {
     let input = read_all(alloc, reader)?;
-    encode_input(alloc, kind, builder, input, writer)
+    encode_input(alloc, kind, builder, &input, writer)
 }
 
 /// The same for an input that was read: it is refused as `NotUtf8` exactly where the kind doesn't
@@ -73,19 +73,19 @@ pub fn encode_input<S: BuildHasher + Drop, W: Write>(
     alloc: Global,
     kind: Kind,
     builder: S,
-    input: Vec<u8>,
+    input: &[u8],
     writer: &mut W,
 ) -> Result<(), ToolError>
-    ensures written { OnOk result (Appends (W.contents writer.old) (W.contents writer.new) (encoded kind input.items)) }
-    ensures not_utf8 { result ≡ Err NotUtf8 → ¬ (Allows kind input.items) }
-    ensures refuses { ¬ (Allows kind input.items) → result ≡ Err NotUtf8 }
-    ensures zero { IfErr result (λ e. IfZeroByte e (λ n. (n ≡ position_or_len (λ line. not (is_fit kind line)) (lines_of input.items) + 1) × (n ≤ length (lines_of input.items)))) }
-    ensures fit { OnOk result (position_or_len (λ line. not (is_fit kind line)) (lines_of input.items) ≡ length (lines_of input.items)) }
-    ensures overflow { result ≡ Err Overflow → 2 ^ 32 < length (interned_all (key_of kind) [] (lines_of input.items)) }
+    ensures written { OnOk result (Appends (W.contents writer.old) (W.contents writer.new) (encoded kind input.now)) }
+    ensures not_utf8 { result ≡ Err NotUtf8 → ¬ (Allows kind input.now) }
+    ensures refuses { ¬ (Allows kind input.now) → result ≡ Err NotUtf8 }
+    ensures zero { IfErr result (λ e. IfZeroByte e (λ n. (n ≡ position_or_len (λ line. not (is_fit kind line)) (lines_of input.now) + 1) × (n ≤ length (lines_of input.now)))) }
+    ensures fit { OnOk result (position_or_len (λ line. not (is_fit kind line)) (lines_of input.now) ≡ length (lines_of input.now)) }
+    ensures overflow { result ≡ Err Overflow → 2 ^ 32 < length (interned_all (key_of kind) [] (lines_of input.now)) }
     ensures nothing_written { IfErr result (λ e. e ≢ WriteFailed → writer.new ≡ writer.old) }
     ensures err { IfErr result IsEncodingError }
 {
-    if !kind.allows(&input) {
+    if !kind.allows(input) {
         return Err(ToolError::NotUtf8);
     }
     match kind {
@@ -99,24 +99,22 @@ pub fn encode_input<S: BuildHasher + Drop, W: Write>(
 }
 
 // The same for an input whose lines become contents of this kind.
-fn encode_by<C: FromLine, S: BuildHasher + Drop, W: Write>(
+fn encode_by<'a, C: FromLine<'a>, S: BuildHasher + Drop, W: Write>(
     alloc: Global,
     builder: S,
-    input: Vec<u8>,
+    input: &'a [u8],
     writer: &mut W,
 ) -> Result<(), ToolError>
-    requires allowed { C.allows input.items }
-    ensures written { OnOk result (Appends (W.contents writer.old) (W.contents writer.new) (encoded_by C.key_of input.items)) }
-    ensures zero { IfErr result (λ e. IfZeroByte e (λ n. (n ≡ position_or_len (λ line. not (C.fits line)) (lines_of input.items) + 1) × (n ≤ length (lines_of input.items)))) }
-    ensures fit { OnOk result (position_or_len (λ line. not (C.fits line)) (lines_of input.items) ≡ length (lines_of input.items)) }
-    ensures overflow { result ≡ Err Overflow → 2 ^ 32 < length (interned_all C.key_of [] (lines_of input.items)) }
+    requires allowed { C.allows input.now }
+    ensures written { OnOk result (Appends (W.contents writer.old) (W.contents writer.new) (encoded_by C.key_of input.now)) }
+    ensures zero { IfErr result (λ e. IfZeroByte e (λ n. (n ≡ position_or_len (λ line. not (C.fits line)) (lines_of input.now) + 1) × (n ≤ length (lines_of input.now)))) }
+    ensures fit { OnOk result (position_or_len (λ line. not (C.fits line)) (lines_of input.now) ≡ length (lines_of input.now)) }
+    ensures overflow { result ≡ Err Overflow → 2 ^ 32 < length (interned_all C.key_of [] (lines_of input.now)) }
     ensures nothing_written { IfErr result (λ e. e ≢ WriteFailed → writer.new ≡ writer.old) }
     ensures err { IfErr result IsTakingOrWritingError }
 {
     let mut table = Table::<C, S>::with_hasher(alloc, builder)?;
-    let symbols = take_lines(alloc, &mut table, &input)?;
-    // The table holds copies of its own.
-    drop(input);
+    let symbols = take_lines(alloc, &mut table, input)?;
     let encoding = Encoding {
         symbols: &symbols,
         table: &table,

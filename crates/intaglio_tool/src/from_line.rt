@@ -1,141 +1,162 @@
-//! How a line of an input becomes a content.
-ghost use Rattle.std.specs.Prelude.{◌≡◌, ℕ, List, [], ◌∷◌, ◌++◌, Bool, true, false, is_none, OnOk, IfOk, IsUtf8, string_bytes};
+//! How a line of an input becomes a form that is interned.
+ghost use Rattle.std.specs.Prelude.{◌≡◌, ℕ, List, [], ◌∷◌, ◌++◌, Bool, true, is_none, is_some, None, IfSome, IsUtf8};
 ghost use Rattle.std.proofs.lemmas.Str.{IsUtf8-nil};
+ghost use Rattle.std.proofs.Common.{refl};
 ghost use Rattle.intaglio_cstr.specs.Zeros.{first_zero};
 ghost use Rattle.intaglio_tool.specs.Cuts.{IsUtf8-parts};
-ghost use Rattle.intaglio_tool.specs.declared.from_line.LineFault.TheVariants.{Memory, Zero};
 
-use bstr::BString;
+use bstr::BStr;
 use intaglio::bstr::BStrContent;
 use intaglio::bytes::BytesContent;
-use intaglio::cstr::{CStrContent, CString, CStringError};
+use intaglio::cstr::{CStrContent, CString};
 use intaglio::osstr::OsStrContent;
-use intaglio::path::PathContent;
-use intaglio::{Sought, Spelled, StrContent};
+use intaglio::path::{Path, PathContent};
+use intaglio::{Bytewise, Keyed, Sought, Spelled, StrContent, ToContent};
 use std::alloc::{AllocError, Global};
+use std::str;
 
-/// Why a line became no content.
-#[derive(Clone, Copy, Debug)]
-pub enum LineFault {
-    /// The room for the line was refused.
-    Memory,
-    /// The line holds a zero byte.
-    Zero,
-}
-
-impl From<AllocError> for LineFault {
-    ghost from_gives = { λ _ fault. fault ≡ Memory };
-
-    fn from(_error: AllocError) -> LineFault {
-        LineFault::Memory
-    }
-}
-
-/// A content that a line of an input becomes.
+/// A content as a form of which a line of an input is interned.
 ///
 /// Not every input may be cut into lines, and not every line fits. Where an input is allowed, so is
 /// each part that a cut at a byte 10 leaves of it.
-pub trait FromLine: Spelled + Sought<Self> + Drop {
+pub trait FromLine<'a>: Spelled + Sought<Self> + Drop {
+    /// The form that a line becomes.
+    type Line: ToContent<Self> + Drop;
+
     ghost allows: { List ℕ → Type 0 };
 
     ghost fits: { List ℕ → Bool };
 
-    /// The content whose spelling is the line.
-    ///
-    /// # Errors
-    ///
-    /// `Zero` where the line doesn't fit, `Memory` where the room for it was refused.
-    fn from_line(alloc: Global, line: &[u8]) -> Result<Self, LineFault>
+    /// The form whose spelling is the line, if the line fits. Nothing is copied.
+    fn from_line(line: &'a [u8]) -> Option<Self::Line>
         requires { allows line.now }
-        ensures spelling { IfOk result (λ content. Self.spelling content ≡ line.now) }
-        ensures fits { OnOk result (fits line.now ≡ true) }
-        ensures zero { result ≡ Err Zero → fits line.now ≡ false };
+        ensures spelling { IfSome result (λ form. Self.Line.form_spelling form ≡ line.now) }
+        ensures fits { is_some result ≡ fits line.now };
 
     ghost allows_parts: { (line rest : List ℕ) → allows (line ++ 10 ∷ rest) → allows line × allows rest };
 
     ghost allows_nothing: { allows [] };
 }
 
-// The line as a text of its own.
-fn text_of(alloc: Global, line: &[u8]) -> Result<String, AllocError>
-    requires { IsUtf8 line.now }
-    ensures { IfOk result (λ text. string_bytes text ≡ line.now) }
+impl<'a> FromLine<'a> for StrContent {
+    type Line = &'a str;
+
+    ghost allows = { λ bytes. IsUtf8 bytes };
+
+    ghost fits = { λ _. true };
+
+    ghost allows_parts = { λ line rest text. IsUtf8-parts line rest text };
+
+    ghost allows_nothing = { IsUtf8-nil };
+
+    fn from_line(line: &'a [u8]) -> Option<&'a str> {
+        Some(str::from_utf8(line).unwrap())
+    }
+}
+
+impl<'a> FromLine<'a> for OsStrContent {
+    type Line = &'a str;
+
+    ghost allows = { λ bytes. IsUtf8 bytes };
+
+    ghost fits = { λ _. true };
+
+    ghost allows_parts = { λ line rest text. IsUtf8-parts line rest text };
+
+    ghost allows_nothing = { IsUtf8-nil };
+
+    fn from_line(line: &'a [u8]) -> Option<&'a str> {
+        Some(str::from_utf8(line).unwrap())
+    }
+}
+
+impl<'a> FromLine<'a> for PathContent {
+    type Line = Path<'a>;
+
+    ghost allows = { λ bytes. IsUtf8 bytes };
+
+    ghost fits = { λ _. true };
+
+    ghost allows_parts = { λ line rest text. IsUtf8-parts line rest text };
+
+    ghost allows_nothing = { IsUtf8-nil };
+
+    fn from_line(line: &'a [u8]) -> Option<Path<'a>> {
+        Some(Path::new(str::from_utf8(line).unwrap()))
+    }
+}
+
+impl<'a> FromLine<'a> for BytesContent {
+    type Line = &'a [u8];
+
+    ghost allows = { λ _. Unit {0} };
+
+    ghost fits = { λ _. true };
+
+    ghost allows_parts = { λ _ _ _. (tt, tt) };
+
+    ghost allows_nothing = { tt };
+
+    fn from_line(line: &'a [u8]) -> Option<&'a [u8]> {
+        Some(line)
+    }
+}
+
+impl<'a> FromLine<'a> for BStrContent {
+    type Line = BStr<'a>;
+
+    ghost allows = { λ _. Unit {0} };
+
+    ghost fits = { λ _. true };
+
+    ghost allows_parts = { λ _ _ _. (tt, tt) };
+
+    ghost allows_nothing = { tt };
+
+    fn from_line(line: &'a [u8]) -> Option<BStr<'a>> {
+        Some(BStr::new(line))
+    }
+}
+
+// The place of the first zero byte, if there is one.
+fn first_zero(bytes: &[u8]) -> Option<usize>
+    ensures { result ≡ first_zero bytes.now }
 {
-    let bytes = Vec::from_slice(alloc, line)?;
-    Ok(String::from_utf8(bytes).unwrap())
+    bytes.iter().position(|byte| *byte == 0)
 }
 
-impl FromLine for StrContent {
-    ghost allows = { λ bytes. IsUtf8 bytes };
+/// A line with no zero byte: a C string that isn't ended yet.
+#[derive(Clone, Copy)]
+pub struct Unended<'a> {
+    bytes: &'a [u8],
+    ghost no_zero: { first_zero bytes.now ≡ None },
+}
 
-    ghost fits = { λ _. true };
+impl<'a> Keyed for Unended<'a> {
+    ghost key = { λ line. line.bytes.now ∷ [] };
+}
 
-    ghost allows_parts = { λ line rest text. IsUtf8-parts line rest text };
-
-    ghost allows_nothing = { IsUtf8-nil };
-
-    fn from_line(alloc: Global, line: &[u8]) -> Result<StrContent, LineFault> {
-        Ok(StrContent::Owned(text_of(alloc, line)?))
+impl<'a> Bytewise for Unended<'a> {
+    fn compared_bytes(&self) -> &[u8] {
+        self.bytes
     }
 }
 
-impl FromLine for OsStrContent {
-    ghost allows = { λ bytes. IsUtf8 bytes };
+impl<'a> ToContent<CStrContent> for Unended<'a> {
+    ghost form_spelling = { λ line. line.bytes.now };
 
-    ghost fits = { λ _. true };
-
-    ghost allows_parts = { λ line rest text. IsUtf8-parts line rest text };
-
-    ghost allows_nothing = { IsUtf8-nil };
-
-    fn from_line(alloc: Global, line: &[u8]) -> Result<OsStrContent, LineFault> {
-        Ok(OsStrContent::Owned(text_of(alloc, line)?))
+    fn to_content(&self, alloc: Global) -> Result<CStrContent, AllocError> {
+        let mut bytes = Vec::with_capacity(alloc, self.bytes.len() + 1)?;
+        bytes.extend_from_slice(self.bytes)?;
+        Ok(CStrContent::Owned(CString::new(alloc, bytes).unwrap()))
     }
+
+    ghost key_of_form = { λ _. refl };
 }
 
-impl FromLine for PathContent {
-    ghost allows = { λ bytes. IsUtf8 bytes };
+impl<'a> FromLine<'a> for CStrContent {
+    type Line = Unended<'a>;
 
-    ghost fits = { λ _. true };
-
-    ghost allows_parts = { λ line rest text. IsUtf8-parts line rest text };
-
-    ghost allows_nothing = { IsUtf8-nil };
-
-    fn from_line(alloc: Global, line: &[u8]) -> Result<PathContent, LineFault> {
-        Ok(PathContent::Owned(text_of(alloc, line)?))
-    }
-}
-
-impl FromLine for BytesContent {
-    ghost allows = { λ _. Unit {0} };
-
-    ghost fits = { λ _. true };
-
-    ghost allows_parts = { λ _ _ _. (tt, tt) };
-
-    ghost allows_nothing = { tt };
-
-    fn from_line(alloc: Global, line: &[u8]) -> Result<BytesContent, LineFault> {
-        Ok(BytesContent::Owned(Vec::from_slice(alloc, line)?))
-    }
-}
-
-impl FromLine for BStrContent {
-    ghost allows = { λ _. Unit {0} };
-
-    ghost fits = { λ _. true };
-
-    ghost allows_parts = { λ _ _ _. (tt, tt) };
-
-    ghost allows_nothing = { tt };
-
-    fn from_line(alloc: Global, line: &[u8]) -> Result<BStrContent, LineFault> {
-        Ok(BStrContent::Owned(BString::new(Vec::from_slice(alloc, line)?)))
-    }
-}
-
-impl FromLine for CStrContent {
     ghost allows = { λ _. Unit {0} };
 
     ghost fits = { λ line. is_none (first_zero line) };
@@ -144,13 +165,10 @@ impl FromLine for CStrContent {
 
     ghost allows_nothing = { tt };
 
-    fn from_line(alloc: Global, line: &[u8]) -> Result<CStrContent, LineFault> {
-        let mut bytes = Vec::with_capacity(alloc, line.len() + 1)?;
-        bytes.extend_from_slice(line)?;
-        match CString::new(alloc, bytes) {
-            Ok(text) => Ok(CStrContent::Owned(text)),
-            Err(CStringError::InnerZero(_)) => Err(LineFault::Zero),
-            Err(CStringError::Memory(_)) => Err(LineFault::Memory),
+    fn from_line(line: &'a [u8]) -> Option<Unended<'a>> {
+        match first_zero(line) {
+            Some(_) => None,
+            None => Some(Unended { bytes: line }),
         }
     }
 }

@@ -1,42 +1,42 @@
 //! Interns the lines of an input.
-ghost use Rattle.std.specs.Prelude.{◌≡◌, ◌+◌, ◌<◌, ◌≤◌, ◌++◌, true, false, not, [], length, map, Some, None, OnOk, IfOk, IfErr, IfSome};
+ghost use Rattle.std.specs.Prelude.{◌≡◌, ◌+◌, ◌<◌, ◌≤◌, ◌++◌, true, false, not, [], length, map, OnOk, IfOk, IfErr};
 ghost use Rattle.std.specs.List.{position_or_len};
 ghost use Rattle.intaglio_core.specs.Issue.{issue, interned_all};
 ghost use Rattle.intaglio_lines.specs.Lines.{lines_of};
 ghost use Rattle.intaglio_tool.specs.ToolError.{IfZeroByte, IsTakingError};
 ghost use Rattle.intaglio_tool.specs.declared.error.ToolError.TheVariants.{Overflow};
-ghost use Rattle.intaglio_tool.specs.declared.from_line.LineFault.TheVariants.{Zero};
 
 use crate::error::ToolError;
-use crate::from_line::{FromLine, LineFault};
-use intaglio::{Interner, Symbol, Work, intern_all};
+use crate::from_line::FromLine;
+use intaglio::{Interner, Symbol, Work, get_or_intern_all};
 use intaglio_lines::lines::first_line;
 use std::alloc::{AllocError, Global};
 
 // How many lines are interned at once: their memory is waited for together.
 const GROUP: usize = 64;
 
-// The contents of some lines, what stands behind these lines, and the fault of the next one, if it became no content.
+// Some lines as forms, what stands behind these lines, and whether the next one fits.
 #[derive(Drop)]
-struct Group<'a, C> {
-    contents: Vec<C>,
+struct Group<'a, F> {
+    forms: Vec<F>,
     rest: &'a [u8],
-    fault: Option<LineFault>,
+    fits: bool,
 }
 
-/// Interns the lines of an input in order into an empty table, and answers their symbols.
+/// Interns the lines of an input in order into an empty table, and answers their symbols. A line that equals an earlier one is
+/// not copied.
 ///
 /// # Errors
 ///
 /// `ZeroByte` at the first line that doesn't fit, `Overflow` where there are more distinct lines than
-/// the table holds, `Memory` where a growth was refused.
-pub fn take_lines<T: Interner>(
+/// the table holds, `Memory` where a copy or a growth was refused.
+pub fn take_lines<'a, T: Interner>(
     alloc: Global,
     table: &mut T,
-    input: &[u8],
+    input: &'a [u8],
 ) -> Result<Vec<Symbol>, ToolError>
 where
-    T::Content: FromLine,
+    T::Content: FromLine<'a>,
     requires allowed { T.Content.allows input.now }
     requires empty { (T.state table.old).contents ≡ [] }
     ensures symbols { IfOk result (λ symbols. symbols.items ≡ issue T.Content.key_of (lines_of input.now)) }
@@ -50,49 +50,51 @@ where
     let mut rest = input;
     let mut number = 0u64;
     while !rest.is_empty() {
-        let group = gather(alloc, rest)?;
-        number += group.contents.len() as u64;
-        let taken = intern_all(alloc, table, group.contents, &mut Work::new())?;
+        let group = gather::<T::Content>(alloc, rest)?;
+        number += group.forms.len() as u64;
+        let taken = get_or_intern_all(alloc, table, &group.forms, &mut Work::new())?;
         symbols.extend_from_slice(&taken)?;
-        match group.fault {
-            Some(LineFault::Zero) => return Err(ToolError::ZeroByte(number + 1)),
-            Some(LineFault::Memory) => return Err(ToolError::Memory),
-            None => rest = group.rest,
+        if !group.fits {
+            return Err(ToolError::ZeroByte(number + 1));
         }
+        rest = group.rest;
     }
     Ok(symbols)
 }
 
-// The contents of the first lines of an input.
-fn gather<C: FromLine>(alloc: Global, input: &[u8]) -> Result<Group<'_, C>, AllocError>
+// The first lines of an input as forms.
+fn gather<'a, C: FromLine<'a>>(
+    alloc: Global,
+    input: &'a [u8],
+) -> Result<Group<'a, C::Line>, AllocError>
     requires allowed { C.allows input.now }
     requires some { 0 < length input.now }
     ensures allowed { IfOk result (λ group. C.allows group.rest.now) }
-    ensures lines { IfOk result (λ group. lines_of input.now ≡ map C.spelling group.contents.items ++ lines_of group.rest.now) }
-    ensures fit { IfOk result (λ group. position_or_len (λ line. not (C.fits line)) (lines_of input.now) ≡ length group.contents.items + position_or_len (λ line. not (C.fits line)) (lines_of group.rest.now)) }
-    ensures zero { IfOk result (λ group. group.fault ≡ Some Zero → (position_or_len (λ line. not (C.fits line)) (lines_of group.rest.now) ≡ 0) × (0 < length (lines_of group.rest.now))) }
-    ensures bytes { IfOk result (λ group. length group.contents.items + length group.rest.now ≤ length input.now) }
-    ensures shorter { IfOk result (λ group. group.fault ≡ None → length group.rest.now < length input.now) }
+    ensures lines { IfOk result (λ group. lines_of input.now ≡ map C.Line.form_spelling group.forms.items ++ lines_of group.rest.now) }
+    ensures fit { IfOk result (λ group. position_or_len (λ line. not (C.fits line)) (lines_of input.now) ≡ length group.forms.items + position_or_len (λ line. not (C.fits line)) (lines_of group.rest.now)) }
+    ensures zero { IfOk result (λ group. group.fits ≡ false → (position_or_len (λ line. not (C.fits line)) (lines_of group.rest.now) ≡ 0) × (0 < length (lines_of group.rest.now))) }
+    ensures bytes { IfOk result (λ group. length group.forms.items + length group.rest.now ≤ length input.now) }
+    ensures shorter { IfOk result (λ group. group.fits ≡ true → length group.rest.now < length input.now) }
 {
-    let mut contents = Vec::with_capacity(alloc, GROUP)?;
+    let mut forms = Vec::with_capacity(alloc, GROUP)?;
     let mut rest = input;
-    while contents.len() < GROUP && !rest.is_empty() {
+    while forms.len() < GROUP && !rest.is_empty() {
         let (line, after) = first_line(rest);
-        match C::from_line(alloc, line) {
-            Ok(content) => contents.push_reserved(content),
-            Err(fault) => {
+        match C::from_line(line) {
+            Some(form) => forms.push_reserved(form),
+            None => {
                 return Ok(Group {
-                    contents,
+                    forms,
                     rest,
-                    fault: Some(fault),
+                    fits: false,
                 });
             }
         }
         rest = after;
     }
     Ok(Group {
-        contents,
+        forms,
         rest,
-        fault: None,
+        fits: true,
     })
 }
