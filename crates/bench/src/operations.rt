@@ -1,10 +1,9 @@
 //! What is measured. Each operation returns a sum that shows what it found.
 ghost use Rattle.std.specs.Prelude.{◌≡◌, []};
 
-use intaglio_core::{Work, intern_all};
 use intaglio_symbol::{InternError, Symbol};
 use intaglio_text::{StrContent, SymbolTable};
-use std::alloc::Global;
+use std::alloc::{AllocError, Global};
 use std::hash::BuildHasher;
 
 /// How many words a batch has.
@@ -45,23 +44,78 @@ pub fn intern_batches<S: BuildHasher>(
         batch.reserve(1)?;
         batch.push_reserved(StrContent::from(word));
         if batch.len() == BATCH {
-            sum = sum.wrapping_add(intern_batch(alloc, table, batch)?);
+            sum = sum.wrapping_add(intern_batch(table, batch)?);
             batch = Vec::with_capacity(alloc, BATCH)?;
         }
     }
-    Ok(sum.wrapping_add(intern_batch(alloc, table, batch)?))
+    Ok(sum.wrapping_add(intern_batch(table, batch)?))
 }
 
 fn intern_batch<S: BuildHasher>(
-    alloc: Global,
     table: &mut SymbolTable<S>,
     batch: Vec<StrContent>,
 ) -> Result<u64, InternError> {
     let mut sum = 0u64;
-    for symbol in intern_all(alloc, table, batch, &mut Work::new())? {
+    for symbol in table.intern_all(batch)? {
         sum = sum.wrapping_add(symbol.id() as u64 + 1);
     }
     Ok(sum)
+}
+
+/// Interns the words by their borrowed forms, and adds up the numbers of their symbols, each with 1.
+#[inline(never)]
+pub fn get_or_intern<S: BuildHasher>(table: &mut SymbolTable<S>, words: &[String]) -> u64 {
+    let mut sum = 0u64;
+    for word in words {
+        if let Ok(symbol) = table.get_or_intern(word.as_str()) {
+            sum = sum.wrapping_add(symbol.id() as u64 + 1);
+        }
+    }
+    sum
+}
+
+/// The same in batches.
+#[inline(never)]
+pub fn get_or_intern_batches<S: BuildHasher>(
+    alloc: Global,
+    table: &mut SymbolTable<S>,
+    words: &[String],
+) -> Result<u64, InternError> {
+    let mut sum = 0u64;
+    for batch in words.chunks(BATCH) {
+        for symbol in table.get_or_intern_all(&forms(alloc, batch)?)? {
+            sum = sum.wrapping_add(symbol.id() as u64 + 1);
+        }
+    }
+    Ok(sum)
+}
+
+/// Looks the words up in batches, and adds up the numbers of the symbols that it finds, each with 1.
+#[inline(never)]
+pub fn look_up_batches<S: BuildHasher>(
+    alloc: Global,
+    table: &SymbolTable<S>,
+    words: &[String],
+) -> Result<u64, AllocError> {
+    let mut sum = 0u64;
+    for batch in words.chunks(BATCH) {
+        for found in table.check_all(&forms(alloc, batch)?)? {
+            if let Some(symbol) = found {
+                sum = sum.wrapping_add(symbol.id() as u64 + 1);
+            }
+        }
+    }
+    Ok(sum)
+}
+
+// The words as forms.
+fn forms(alloc: Global, words: &[String]) -> Result<Vec<&str>, AllocError> {
+    let mut forms = Vec::with_capacity(alloc, words.len())?;
+    for word in words {
+        forms.reserve(1)?;
+        forms.push_reserved(word.as_str());
+    }
+    Ok(forms)
 }
 
 /// Looks the words up, and adds up the numbers of the symbols that it finds, each with 1.

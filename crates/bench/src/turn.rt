@@ -1,6 +1,9 @@
 //! One turn: each operation once, on a table that is empty at first.
 
-use crate::operations::{clear, get, hash, intern, intern_batches, iterate, look_up};
+use crate::operations::{
+    clear, get, get_or_intern, get_or_intern_batches, hash, intern, intern_batches, iterate,
+    look_up, look_up_batches,
+};
 use crate::plan::{Calls, Plan, Task};
 use crate::words::{numbers, shuffle, word, words};
 use anyhow::Result;
@@ -17,7 +20,10 @@ enum Operation<'a> {
     Hash(&'a [String]),
     Intern(Vec<String>),
     InternBatches(Vec<String>),
+    GetOrIntern(&'a [String]),
+    GetOrInternBatches(&'a [String]),
     LookUp(&'a [String]),
+    LookUpBatches(&'a [String]),
     Get(&'a [u32]),
     Iterate,
     Clear,
@@ -33,7 +39,10 @@ impl<'a> Operation<'a> {
             Operation::Hash(words) => Ok(hash(table, words)),
             Operation::Intern(words) => Ok(intern(table, words)),
             Operation::InternBatches(words) => intern_batches(alloc, table, words),
+            Operation::GetOrIntern(words) => Ok(get_or_intern(table, words)),
+            Operation::GetOrInternBatches(words) => get_or_intern_batches(alloc, table, words),
             Operation::LookUp(words) => Ok(look_up(table, words)),
+            Operation::LookUpBatches(words) => Ok(look_up_batches(alloc, table, words)?),
             Operation::Get(numbers) => Ok(get(table, numbers)),
             Operation::Iterate => Ok(iterate(table)),
             Operation::Clear => Ok(clear(table)),
@@ -70,6 +79,7 @@ fn single_calls<R: Print + Clock + AllocGlobal, S: BuildHasher>(
     measure(rt, table, plan, "new", Operation::Intern(fresh))?;
     let known = words(alloc, &shuffled)?;
     measure(rt, table, plan, "hit", Operation::LookUp(&known))?;
+    measure(rt, table, plan, "borrowed", Operation::GetOrIntern(&known))?;
     measure(rt, table, plan, "again", Operation::Intern(known))?;
     let absent = other_words(alloc, plan)?;
     measure(rt, table, plan, "miss", Operation::LookUp(&absent))?;
@@ -89,8 +99,17 @@ fn batches<R: Print + Clock + AllocGlobal, S: BuildHasher>(
     let fresh = words(alloc, &numbers(alloc, 0, plan.size)?)?;
     measure(rt, table, plan, "new", Operation::InternBatches(fresh))?;
     let known = words(alloc, &shuffled_numbers(alloc, plan)?)?;
+    measure(rt, table, plan, "hit", Operation::LookUpBatches(&known))?;
+    measure(
+        rt,
+        table,
+        plan,
+        "borrowed",
+        Operation::GetOrInternBatches(&known),
+    )?;
     measure(rt, table, plan, "again", Operation::InternBatches(known))?;
     let absent = other_words(alloc, plan)?;
+    measure(rt, table, plan, "miss", Operation::LookUpBatches(&absent))?;
     table.clear();
     measure(rt, table, plan, "refill", Operation::InternBatches(absent))
 }
