@@ -14,18 +14,18 @@ use std::hash::{Hash, Hasher};
 use std::iter::FusedIterator;
 use std::marker::Model;
 
-/// The symbols of a table that are still to come, from the lowest number to the highest.
+/// The symbols of a table that are not yet yielded, in increasing order.
 ///
-/// Clauses see it as the list of their numbers. Two of these are equal, and hash alike, exactly where the same symbols are
-/// still to come, so all that have run out are equal. After the last symbol only `None` comes, from both ends. There is no
-/// `len`; `size_hint` is exact.
+/// A contract sees it as the list of their numbers. Two iterators are equal, and hash alike, exactly if the
+/// same symbols are left, so all exhausted ones are equal. After the last symbol, `next` and `next_back`
+/// return `None`. There is no `len`; `size_hint` is exact.
 #[derive(Drop)]
 pub struct AllSymbols<'a> {
-    // The number of the next symbol from the front. It can be one more than the greatest `u32`, as can `back`.
+    // The number of the next symbol from the front. Like `back`, it can be one more than `u32::MAX`.
     front: u64,
     // One more than the number of the next symbol from the back.
     back: u64,
-    // Nothing is read from here: it lends the table, so that no symbol is added while its symbols are gone through.
+    // Never read: it borrows the table, so that no symbol is added while its symbols are iterated over.
     table: &'a (),
 }
 
@@ -41,7 +41,7 @@ impl<'a> Model for AllSymbols<'a> {
 }
 
 impl<'a> AllSymbols<'a> {
-    /// The symbols from 0 to `count - 1`, of a table that stays borrowed while they are gone through.
+    /// The symbols from 0 to `count - 1`, of a table that stays borrowed while they are iterated over.
     #[tactic(auto, using(crate::proofs::NumbersLemmas::numbers_steps))]
     pub fn over<T>(_table: &'a T, count: usize) -> AllSymbols<'a>
         requires { count ≤ 2 ^ 32 }

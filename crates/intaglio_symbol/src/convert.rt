@@ -1,5 +1,5 @@
-//! Conversions between a symbol and a number. Each keeps the number; the only ones that can be refused are those from a
-//! number of 64 bits, which are refused exactly above 4294967295.
+//! Conversions between a symbol and a number. Each keeps the number; the only ones that can fail are those
+//! from a 64-bit number, which fail exactly above 4294967295.
 ghost use Rattle.std.specs.Prelude.{◌≡◌, ◌^◌, ◌<◌, pos, OkIff};
 ghost use Rattle.std.specs.Int.NonZero.{non_zero_u8_get, non_zero_u16_get, non_zero_u32_get};
 ghost use Rattle.std.specs.Int.NonZero.{non_zero_u64_get, non_zero_usize_get};

@@ -1,4 +1,4 @@
-//! What is refused.
+//! Errors.
 ghost use Rattle.std.specs.Prelude.{◌≡◌, Some, codes};
 ghost use Rattle.intaglio_symbol.specs.Error.{intern_error_text, room_error_text};
 ghost use Rattle.intaglio_symbol.specs.declared.error.InternError.TheVariants.{Memory, Overflow};
@@ -9,7 +9,7 @@ use std::error::Error;
 use std::fmt;
 use std::num::TryFromIntError;
 
-/// A number is too large for a symbol, or a table has given out all symbols. The type has one value.
+/// A number is too large for a symbol, or a table has issued all symbols. The type has one value.
 #[derive(Debug, Clone, Copy, Hash, PartialEq, Eq, PartialOrd, Ord, Default)]
 pub struct SymbolOverflowError {
     private: (),
@@ -47,12 +47,12 @@ impl fmt::Display for SymbolOverflowError {
 
 impl Error for SymbolOverflowError {}
 
-/// Why a table didn't take a content. The table stands as before, but for its capacity, which isn't lower.
+/// Why a content wasn't interned. The table is unchanged, but for its capacity, which isn't lower.
 #[derive(Debug, Clone, Copy, PartialEq, Eq)]
 pub enum InternError {
-    /// The table has given out all of its symbols.
+    /// The table has issued all of its symbols.
     Overflow(SymbolOverflowError),
-    /// A growth that the content needed was refused.
+    /// The table had to grow, and an allocation failed.
     Memory(AllocError),
 }
 
@@ -85,15 +85,15 @@ impl From<AllocError> for InternError {
     }
 }
 
-/// Why a table wasn't made, or didn't change its capacity.
+/// Why a table wasn't made, or why a change of its capacity failed.
 ///
-/// After `CapacityOverflow` nothing has changed. After `Memory` a constructor has made no table; elsewhere the contents
-/// and their symbols stand as before, and some part of the table may have grown or shrunk.
+/// After `CapacityOverflow` nothing has changed. After `Memory` a constructor has made no table; elsewhere
+/// the contents and their symbols are unchanged, and some part of the table may have grown or shrunk.
 #[derive(Debug, Clone, Copy, PartialEq, Eq)]
 pub enum RoomError {
-    /// More room was wanted than there are symbols. No memory was asked for.
+    /// More capacity was requested than there are symbols. Nothing was allocated.
     CapacityOverflow,
-    /// A request for memory was refused.
+    /// An allocation failed.
     Memory(AllocError),
 }
 
@@ -118,7 +118,7 @@ impl From<AllocError> for RoomError {
     }
 }
 
-/// A mark is of more contents than the table holds. The table stands as before. The type has one value.
+/// A mark has a greater count than the table has contents. The table is unchanged. The type has one value.
 #[derive(Debug, Clone, Copy, Hash, PartialEq, Eq, PartialOrd, Ord, Default)]
 pub struct StaleMark {
     private: (),

@@ -1,6 +1,6 @@
 //! What holds of the traits that symbols and marks derive.
 //!
-//! The contract of each call is a law: it says of the derived traits what a caller of them can rely on.
+//! The contract of each function is a law: what a caller of the derived traits can rely on.
 ghost use Rattle.std.specs.Prelude.{◌≡◌, ◌==◌, Some, fold};
 ghost use Rattle.std.specs.Hash as fed;
 ghost use Rattle.std.specs.Ordering.{nat_cmp};
@@ -10,9 +10,9 @@ use crate::symbol::Symbol;
 use std::cmp::Ordering;
 use std::hash::{Hash, Hasher};
 
-/// Symbols are equal, and ordered, as their numbers are, and one feeds a hasher what its number does.
+/// Symbols are equal, ordered and hashed as their numbers.
 ///
-/// Returns what `==`, `partial_cmp` and `cmp` return of the two, and feeds the first to the hasher.
+/// Returns what `==`, `partial_cmp` and `cmp` return for the two, and feeds the first into the hasher.
 pub fn symbol_law<H: Hasher>(
     left: Symbol,
     right: Symbol,
@@ -27,9 +27,9 @@ pub fn symbol_law<H: Hasher>(
     (left == right, left.partial_cmp(&right), left.cmp(&right))
 }
 
-/// Marks are equal, and ordered, as their counts are, and one feeds a hasher what its count does.
+/// Marks are equal, ordered and hashed as their counts.
 ///
-/// Returns what `==`, `partial_cmp` and `cmp` return of the two, and feeds the first to the hasher.
+/// Returns what `==`, `partial_cmp` and `cmp` return for the two, and feeds the first into the hasher.
 pub fn mark_law<H: Hasher>(
     left: Mark,
     right: Mark,

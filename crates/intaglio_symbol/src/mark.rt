@@ -1,11 +1,11 @@
-//! A place to which a table can be taken back.
+//! Rollback points.
 ghost use Rattle.std.specs.Prelude.{◌≡◌, ◌^◌, ◌<◌};
 
 use std::marker::Model;
 
-/// A number of contents, to which a table can be taken back.
+/// A length to which a table can be rolled back.
 ///
-/// A mark doesn't know which table it is of. One that is of more contents than a table holds is stale there: see
+/// A mark doesn't know its table. A table with fewer contents reports it as stale: see
 /// [`StaleMark`](crate::StaleMark).
 #[derive(Debug, Clone, Copy, Hash, PartialEq, Eq, PartialOrd, Ord)]
 pub struct Mark(usize);
@@ -23,14 +23,14 @@ impl Model for Mark {
 }
 
 impl Mark {
-    /// The mark of this many contents.
+    /// The mark with this count of contents.
     pub const fn new(count: usize) -> Mark
         ensures { result ≡ count }
     {
         Mark(count)
     }
 
-    /// How many contents the mark is of.
+    /// The count of contents to which a rollback leads.
     pub const fn count(self) -> usize
         ensures { result ≡ self }
     {

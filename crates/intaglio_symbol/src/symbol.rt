@@ -3,9 +3,9 @@ ghost use Rattle.std.specs.Prelude.{◌≡◌, ◌^◌, ◌<◌, ◌↔◌, IsTr
 
 use std::marker::Model;
 
-/// The number that a content was given by its table: 0 for the first one, then 1, and so on.
+/// The number that a table gave to a content: 0 for the first one, then 1, and so on.
 ///
-/// Order, equality and hash are those of the number. A symbol is copied as one `u32` and knows nothing of its table.
+/// Symbols are ordered, compared and hashed as their numbers. A symbol is a `u32` and doesn't know its table.
 ///
 /// ```
 /// # use intaglio::Symbol;
@@ -27,7 +27,7 @@ impl Model for Symbol {
 }
 
 impl Symbol {
-    /// The symbol with this number. Nothing says whether a table has issued it.
+    /// The symbol with this number, whether or not a table has issued it.
     pub const fn new(number: u32) -> Symbol
         ensures { result ≡ number }
     {
