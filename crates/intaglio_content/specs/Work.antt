@@ -1,7 +1,7 @@
--- What a call did, as far as its cost is stated.
+-- What a call did, as far as contracts state its cost.
 use Rattle.intaglio_content.specs.Key.{Key}
 
--- a hashing of a key, a comparison of a sought key with a stored one, a step along a bucket, a placement in one
+-- a key was hashed, a sought key was compared with a stored one, a step along a bucket, a symbol was placed
 pub data Mark : Type 0 where
   hashed : Key → Mark
   compared : Key → Key → Mark

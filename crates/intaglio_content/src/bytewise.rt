@@ -1,4 +1,4 @@
-//! Values that are compared by their bytes, and how they are looked up.
+//! Values that are compared by their bytes, and look-ups by them.
 ghost use Rattle.std.specs.Prelude.{◌≡◌, [], ◌∷◌};
 ghost use Rattle.bstr.specs.BStr.{bstr_bytes};
 
@@ -8,11 +8,11 @@ use crate::work::Work;
 use bstr::BStr;
 use std::hash::{BuildHasher, Hasher};
 
-/// A value that is compared by its bytes: they are the one item of its key.
+/// A value that is compared by its bytes, which are the one item of its key.
 ///
 /// Any such value can be looked up among contents that are compared by their bytes.
 pub trait Bytewise: Keyed {
-    /// The bytes that it is compared by.
+    /// The bytes by which the value is compared.
     fn compared_bytes(&self) -> &[u8]
         ensures { Self.key self.now ≡ result.now ∷ [] };
 }

@@ -12,8 +12,8 @@ pub trait Keyed {
     ghost key: { Self → Key };
 }
 
-/// A value that a table stores. Its spelling is the bytes that it was made of, and its key is
-/// made of them.
+/// A value that a table stores. Its spelling is the bytes that it was made from, and
+/// its key is computed from them.
 pub trait Content: Keyed {
     ghost spelling: { Self → List ℕ };
 
@@ -29,40 +29,41 @@ pub trait Spelled: Content {
         ensures { result.now ≡ Self.spelling self.now };
 }
 
-/// A content that lends a form of itself, which is spelled the same.
+/// A content that can be borrowed as a form with the same spelling.
 pub trait Formed<'a>: Content {
     type Form: Drop;
 
     ghost form_spelling: { Self.Form → List ℕ };
 
-    /// The borrowed form of the content.
+    /// Borrows the content as its form.
     fn lend(&'a self) -> Self::Form
         ensures { form_spelling result ≡ Self.spelling self.now };
 }
 
-/// A content that is looked up by values of one type, its borrowed form.
+/// A content with one borrowed form, by which it is looked up.
 pub trait LookedUp<'q>: Content {
     type By: ToContent<Self> + Drop;
 }
 
 /// A value that can be looked up among contents of type `C`.
 pub trait Sought<C: Keyed>: Keyed {
-    /// Feeds the key to a new hasher of the builder, and answers what that finishes with.
+    /// Hashes the key with a new hasher of the builder, and returns the result.
     fn hash_with<S: BuildHasher>(&self, builder: &S, work: &mut Work) -> u64
         ensures hash { result ≡ key_hash S.Hasher.finish S.Hasher.write (S.build_hasher builder.now) (Self.key self.now) }
         ensures mark { work.new.marks ≡ work.old.marks ++ hashed (Self.key self.now) ∷ [] };
 
-    /// Whether the key is that of the stored content.
+    /// Whether the keys of `self` and of the stored content are equal.
     fn same_as(&self, stored: &C, work: &mut Work) -> bool
         ensures same { IsTrue result ↔ (Self.key self.now ≡ C.key stored.now) }
         ensures mark { work.new.marks ≡ work.old.marks ++ compared (Self.key self.now) (C.key stored.now) ∷ [] };
 }
 
-/// A form of a content of type `C`, which is looked up, and which can be copied into a content that is spelled the same.
+/// A borrowed form of a content of type `C`: it can be looked up, and copied into a
+/// content with the same spelling.
 pub trait ToContent<C: Content>: Sought<C> {
     ghost form_spelling: { Self → List ℕ };
 
-    /// A content that owns a copy of the form.
+    /// Copies the form into an owned content.
     ///
     /// # Errors
     ///

@@ -9,10 +9,10 @@ use std::iter::FusedIterator;
 use std::marker::Model;
 use std::slice;
 
-/// The forms of contents that are still to come, from the first content to the last.
+/// An iterator over the forms of a list of contents, in order.
 ///
-/// Clauses see it as the list of their spellings. After the last form only `None` comes, from both ends. `len` and
-/// `size_hint` are exact, and a clone takes no memory.
+/// A contract sees it as the list of the spellings that are left. After the last form, `next` and `next_back`
+/// return `None`. `len` and `size_hint` are exact, and a clone allocates nothing.
 ///
 /// ```
 /// # use intaglio::{Forms, StrContent};

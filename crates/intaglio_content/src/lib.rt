@@ -1,10 +1,11 @@
-//! What tables of contents store and compare.
+//! What tables store and compare.
 //!
-//! - [`Keyed`], [`Content`], [`Spelled`], [`Formed`], [`LookedUp`], [`Sought`] and [`ToContent`] say what a content is, what
-//!   finds it and what can be copied into one.
-//! - [`Work`] keeps, for contracts alone, the marks of what a call did.
-//! - [`Bytewise`] is for the kinds that are compared by their bytes; [`feed_item`] feeds one item of a key to a hasher.
-//! - [`Forms`] and [`Pairs`] go over a list of contents.
+//! - [`Keyed`], [`Content`], [`Spelled`], [`Formed`], [`LookedUp`], [`Sought`] and [`ToContent`] say what a
+//!   content is, what finds it and what can be copied into one.
+//! - [`Work`] records, for contracts alone, what a call did.
+//! - [`Bytewise`] is for the kinds that are compared by their bytes; [`feed_item`] feeds one item of a key
+//!   into a hasher.
+//! - [`Forms`] and [`Pairs`] iterate over a list of contents.
 #![tactic(auto)]
 
 mod bytewise;

@@ -11,10 +11,10 @@ use std::alloc::AllocError;
 use std::iter::FusedIterator;
 use std::marker::Model;
 
-/// The pairs of symbol and form that are still to come, from the first content to the last.
+/// An iterator over the pairs of symbol and form of a list of contents, in order.
 ///
-/// Clauses see it as the list of their numbers and spellings. After the last pair only `None` comes. `size_hint` is exact, and
-/// a clone takes no memory. There is no `next_back` and no `len`.
+/// A contract sees it as the list of the numbers and spellings that are left. After the last pair, `next`
+/// returns `None`. `size_hint` is exact, and a clone allocates nothing. There is no `next_back` and no `len`.
 ///
 /// ```
 /// # use intaglio::{Pairs, StrContent, Symbol};
@@ -39,7 +39,8 @@ impl<'a, C: Content> Model for Pairs<'a, C> {
 }
 
 impl<'a, C: Content> Pairs<'a, C> {
-    /// The pairs of the contents, in their order, with the symbols from 0 on. The table that owns the contents stays borrowed.
+    /// The pairs of the contents, in order, with the symbols from 0 on. The table that owns the contents
+    /// stays borrowed.
     #[tactic(auto, using(crate::proofs::PairsLemmas::pair_lengths))]
     pub fn of<T>(table: &'a T, contents: &'a [C]) -> Pairs<'a, C>
         requires { length contents.now ≤ 2 ^ 32 }

@@ -1,4 +1,4 @@
-//! The marks that a search leaves, for clauses alone.
+//! What calls did, for contracts alone.
 ghost use Rattle.std.specs.Prelude.{◌≡◌, ℕ, List, [], ◌∷◌, ◌++◌};
 ghost use Rattle.intaglio_content.specs.Work.{Mark, hashed, compared, step, placed};
 ghost use base.Fml.{ftrue};
@@ -6,7 +6,7 @@ ghost use base.Fml.{ftrue};
 use crate::content::Keyed;
 use std::marker::{Model, PhantomData};
 
-/// A list of marks. It takes no bytes: only clauses see the marks.
+/// A record of what calls did: a list of marks. It has size 0, since only contracts see the marks.
 pub struct Work {
     marker: PhantomData<()>,
     pub ghost marks: { List Mark },
@@ -16,7 +16,7 @@ impl Model for Work {
     ghost also_owns = { λ _. ftrue };
 }
 
-/// How a list of marks is read off a value.
+/// How a list of marks is computed from a value.
 trait Marks<X> {
     ghost marks_of: { X → List Mark };
 }
@@ -44,7 +44,7 @@ impl Marks<()> for Nothing {
     ghost marks_of = { λ _. [] };
 }
 
-// The marks so far, and the values that the next mark names.
+// The marks so far, and the values of the next mark.
 #[derive(Drop)]
 struct Next<'a, A> {
     work: &'a Work,
@@ -83,7 +83,7 @@ impl Work {
         Work::of::<(), Nothing>(&())
     }
 
-    /// Adds that a key was hashed.
+    /// Records that a key was hashed.
     pub fn hashed<Q: Keyed>(&mut self, sought: &Q)
         ensures { self.new.marks ≡ self.old.marks ++ hashed (Q.key sought.now) ∷ [] }
     {
@@ -93,7 +93,7 @@ impl Work {
         });
     }
 
-    /// Adds that a sought key was compared with a stored one.
+    /// Records that a sought key was compared with a stored one.
     pub fn compared<Q: Keyed, C: Keyed>(&mut self, sought: &Q, stored: &C)
         ensures { self.new.marks ≡ self.old.marks ++ compared (Q.key sought.now) (C.key stored.now) ∷ [] }
     {
@@ -103,14 +103,14 @@ impl Work {
         });
     }
 
-    /// Adds a step along a bucket.
+    /// Records a step along a bucket.
     pub fn step(&mut self)
         ensures { self.new.marks ≡ self.old.marks ++ step ∷ [] }
     {
         *self = Work::of::<&Work, Stepping>(&&*self);
     }
 
-    /// Adds that a symbol was placed.
+    /// Records that a symbol was placed.
     pub fn placed(&mut self)
         ensures { self.new.marks ≡ self.old.marks ++ placed ∷ [] }
     {
