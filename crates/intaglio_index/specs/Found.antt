@@ -1,4 +1,4 @@
--- Where walks along a bucket stand, and where they end.
+-- Positions of walks along a bucket, and their ends.
 use Rattle.std.specs.Prelude.{◌≡◌, ℕ, ◌+◌, ◌<◌, ◌≤◌, List, [], ◌∷◌, ◌++◌, length, replicate, Option, MatchOption}
 use Rattle.std.specs.List.{AllByRecursion}
 use Rattle.intaglio_content.specs.Work.{Mark, step}
@@ -18,7 +18,7 @@ pub record IsPassed (path : List (ℕ × ℕ)) (old new : List Mark) : Type 0 wh
   pub few : more ≤ length path
   pub marks : new ≡ old ++ replicate (more + 1) step
 
--- a search that has come to a candidate: the symbols in front of it have smaller hashes
+-- a search that has reached a candidate: the symbols before it have smaller hashes
 pub record IsReached (h : ℕ) (path : List (ℕ × ℕ)) (old now : List Mark) (candidate : Option (ℕ × ℕ)) : Type 0 where
   pub front : List (ℕ × ℕ)
   pub rest : List (ℕ × ℕ)
@@ -27,7 +27,7 @@ pub record IsReached (h : ℕ) (path : List (ℕ × ℕ)) (old now : List Mark) 
   pub smaller : AllByRecursion (λ (e : ℕ × ℕ). e.1 < h) front
   pub marks : now ≡ old ++ replicate (length front + 1) step
 
--- where the search for the predecessor stands
+-- the position of the search for the predecessor
 pub record IsAt (h : ℕ) (path : List (ℕ × ℕ)) (last : Option ℕ) (candidate : Option (ℕ × ℕ)) : Type 0 where
   pub front : List (ℕ × ℕ)
   pub rest : List (ℕ × ℕ)

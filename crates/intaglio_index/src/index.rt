@@ -1,4 +1,4 @@
-//! The index, and what can be read off it.
+//! The index, and its sizes.
 ghost use Rattle.std.specs.Prelude.{◌≡◌, ◌≤◌, length};
 
 mod changing;
@@ -14,7 +14,8 @@ use modulus::Modulus;
 use std::alloc::Global;
 use std::marker::Model;
 
-// A placed symbol's hash, and the symbol behind it in its bucket. Its place in the list is the symbol's number.
+// A placed symbol's hash, and the next symbol of its bucket. The node's position in
+// the list is the symbol's number.
 #[derive(Clone, Copy)]
 pub(crate) struct Node {
     hash: u64,
@@ -23,7 +24,8 @@ pub(crate) struct Node {
 
 /// Symbols in buckets, by the hashes of their contents.
 ///
-/// A bucket takes 17 bytes and a placed symbol 16. No number of a symbol stands for "none": all 2^32 symbols can be placed.
+/// A bucket takes 17 bytes and a placed symbol 16. No symbol's number is reserved for "none": all 2^32
+/// symbols can be placed.
 ///
 /// ```
 /// # use intaglio::{Index, Symbol, Work};
@@ -76,14 +78,15 @@ impl Model for Index {
 }
 
 impl Index {
-    /// How many buckets there are.
+    /// The number of buckets.
     pub fn bucket_count(&self) -> usize
         ensures { result ≡ self.now.count }
     {
         self.heads.len()
     }
 
-    /// How many symbols can be placed in all: the lesser of the number of buckets and the capacity of their links.
+    /// How many symbols can be placed in total: the smaller of the number of buckets and the capacity of the
+    /// list of nodes.
     pub fn room(&self) -> usize
         ensures room { result ≡ self.now.room }
         ensures placed { length self.now.hashes ≤ result }

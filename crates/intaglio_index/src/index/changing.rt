@@ -1,4 +1,4 @@
-//! Symbols are placed and taken out.
+//! Placing and removing symbols.
 ghost use Rattle.std.specs.Prelude.{◌≡◌, ◌-◌, ◌%◌, ◌<◌, ◌≤◌, ◌++◌, ◌∷◌, [], length, replicate, take, None};
 ghost use Rattle.intaglio_content.specs.Work.{placed};
 
@@ -9,7 +9,8 @@ use intaglio_content::Work;
 use intaglio_symbol::Symbol;
 
 impl Index {
-    /// Puts the next symbol into the hash's bucket: behind the smaller hashes, in front of the others. One placement.
+    /// Inserts the next symbol into the hash's bucket, after the smaller hashes and
+    /// before the others. One placement.
     pub fn place(&mut self, hash: u64, symbol: Symbol, work: &mut Work)
         requires next { symbol ≡ length self.old.hashes }
         requires room { symbol < self.old.room }
@@ -32,7 +33,7 @@ impl Index {
         ensures room { self.new.room ≡ self.old.room }
         ensures fits { self.new.room ≤ self.new.count }
     {
-        // A proof learns here that the number fits.
+        // Not used when run: it shows the prover that the number is below 2^32.
         let _number = symbol.id();
         let bucket = self.modulus.bucket(hash);
         let filter = self.filters[bucket];
@@ -48,7 +49,7 @@ impl Index {
         self.nodes.push_reserved(Node { hash, next: None });
     }
 
-    // The same for a bucket that isn't empty.
+    // As `insert`, for a bucket that isn't empty.
     #[inline(never)]
     fn insert_among(&mut self, bucket: usize, hash: u64, symbol: Symbol)
         requires bucket { bucket ≡ hash % self.old.count }
@@ -59,7 +60,7 @@ impl Index {
         ensures room { self.new.room ≡ self.old.room }
         ensures fits { self.new.room ≤ self.new.count }
     {
-        // A proof learns here that the number fits.
+        // Not used when run: it shows the prover that the number is below 2^32.
         let _number = symbol.id();
         let leader = self.leader(bucket);
         let place = self.predecessor(bucket, hash);
@@ -82,7 +83,7 @@ impl Index {
         }
     }
 
-    /// Leaves no symbol placed. The buckets and the room stay.
+    /// Removes all symbols. The buckets and the room stay.
     pub fn clear(&mut self)
         ensures hashes { self.new.hashes ≡ [] }
         ensures count { self.new.count ≡ self.old.count }
@@ -92,9 +93,10 @@ impl Index {
         self.nodes.clear();
     }
 
-    /// Takes out the symbols from `count` on. The others stay where they are, and so do the buckets and the room.
+    /// Removes the symbols from `count` on. The others stay where they are, and
+    /// the buckets and the room stay.
     ///
-    /// The cost is that of a walk for each symbol that is taken out.
+    /// Costs a walk along a bucket for each removed symbol.
     pub fn cut(&mut self, count: usize)
         requires { count ≤ length self.old.hashes }
         ensures hashes { self.new.hashes ≡ take count self.old.hashes }
@@ -106,7 +108,7 @@ impl Index {
         }
     }
 
-    // Takes the last symbol out of its bucket.
+    // Removes the last symbol from its bucket.
     fn unplace(&mut self)
         requires { 0 < length self.old.hashes }
         ensures hashes { self.new.hashes ≡ take (length self.old.hashes - 1) self.old.hashes }

@@ -1,4 +1,4 @@
-//! What a bucket keeps of its first two symbols.
+//! What a bucket stores of its first two symbols.
 ghost use Rattle.std.specs.Prelude.{◌≡◌, ◌≢◌, ◌↔◌, ℕ, ◌+◌, ◌/◌, ◌≤◌, length, List, [], Some, IsTrue, nat_eq};
 ghost use Rattle.intaglio_index.specs.Heads.{IsWord, IsHead};
 ghost use Rattle.intaglio_index.specs.Links.{IsThread};
@@ -10,7 +10,7 @@ use super::Node;
 use super::modulus::Modulus;
 use intaglio_symbol::Symbol;
 
-/// The words of a bucket's first two symbols. Where there is no second, both are the first one's.
+/// The words of a bucket's first two symbols. If there is no second symbol, both are the first one's.
 #[derive(Clone, Copy)]
 pub struct Head {
     pub first: u64,
@@ -31,7 +31,7 @@ impl Head {
         }
     }
 
-    // The head once a symbol, of which this is the word, was put in front of all others. `alone`: there are no others.
+    // The head after the symbol of `word` was inserted before all others. `alone`: there are no others.
     pub fn led(self, alone: bool, word: u64) -> Head
         ensures { (size s h : ℕ) (path : List (ℕ × ℕ)) → IsHead size self path → IsTrue alone ↔ (path ≡ []) →
             BeginsAtOrAbove h path → IsWord size (s, h) word → IsHead size result (put s h path) }
@@ -43,7 +43,7 @@ impl Head {
         }
     }
 
-    // The head once such a symbol was put behind `last`.
+    // The head after the symbol of `word` was inserted after `last`.
     pub fn followed(self, leader: Option<Symbol>, last: Symbol, word: u64) -> Head
         ensures { (size s h : ℕ) (path : List (ℕ × ℕ)) → IsHead size self path → leader ≡ leader_of path →
             IsDistinct nat_eq (symbols_of path) → IsPredecessor h path last → IsWord size (s, h) word →

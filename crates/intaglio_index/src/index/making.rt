@@ -1,4 +1,4 @@
-//! Buckets are made.
+//! Making buckets.
 ghost use Rattle.std.specs.Prelude.{◌≡◌, ◌<◌, ◌≤◌, ◌++◌, [], length, replicate, None, IfOk, IsOk, OnErr, OnOk};
 ghost use Rattle.intaglio_content.specs.Work.{placed};
 
@@ -10,9 +10,12 @@ use intaglio_symbol::Symbol;
 use std::alloc::{AllocError, Global};
 
 impl Index {
-    /// Exactly `count` empty buckets, with room for as many symbols. No buckets take no memory.
+    /// An index with exactly `count` empty buckets, and room for as many symbols. With no buckets it
+    /// allocates nothing.
     ///
-    /// Errors where a request for memory is refused. There are three requests, and nothing is kept after a refusal.
+    /// # Errors
+    ///
+    /// [`AllocError`] if one of its three allocations fails. Then nothing stays allocated.
     pub fn with_buckets(alloc: Global, count: usize) -> Result<Index, AllocError>
         ensures made { IfOk result (λ index. index ≡ record { count = count; hashes = []; room = count }) }
         ensures none_needed { count ≡ 0 → IsOk result }
@@ -36,12 +39,15 @@ impl Index {
         })
     }
 
-    /// Finds room for `count` symbols, and at least as many buckets. What was placed stays placed.
+    /// Makes room for `count` symbols in total, and makes sure that there are at least as many buckets.
+    /// Placed symbols stay placed.
     ///
-    /// New buckets are made only where there are fewer than `count`. Then all symbols are placed again, by their kept
-    /// hashes: a placement each.
+    /// New buckets are made only if there are fewer than `count`. Then all symbols are placed again by their
+    /// stored hashes: one placement each.
     ///
-    /// Errors where a request for memory is refused: then the buckets and the symbols in them are as before.
+    /// # Errors
+    ///
+    /// [`AllocError`] if an allocation fails. Then the buckets and the symbols in them are unchanged.
     pub fn reserve(&mut self, count: usize, work: &mut Work) -> Result<(), AllocError>
         ensures count { OnOk result (count ≤ self.new.count) }
         ensures enough { OnOk result (count ≤ self.new.room) }
@@ -66,10 +72,12 @@ impl Index {
         Ok(())
     }
 
-    /// Makes exactly `count` buckets, with room for as many symbols. All symbols are placed again, by their kept hashes: a
-    /// placement each.
+    /// Makes exactly `count` buckets, with room for as many symbols. All symbols are placed again by their
+    /// stored hashes: one placement each.
     ///
-    /// Errors where a request for memory is refused: then the index is as before.
+    /// # Errors
+    ///
+    /// [`AllocError`] if an allocation fails. Then the index is unchanged.
     pub fn remake(&mut self, count: usize, work: &mut Work) -> Result<(), AllocError>
         requires { length self.old.hashes ≤ count }
         ensures count { OnOk result (self.new.count ≡ count) }
@@ -98,7 +106,7 @@ impl Index {
     }
 }
 
-// A value so many times.
+// A list of `count` copies of a value.
 fn repeated<T: Copy>(alloc: Global, value: T, count: usize) -> Result<Vec<T>, AllocError>
     ensures made { IfOk result (λ list. list.items ≡ replicate count value) }
     ensures none_needed { count ≡ 0 → IsOk result }

@@ -1,15 +1,15 @@
-//! The bucket of a hash, and words that hold a hash with a symbol.
+//! The bucket of a hash, and words that combine a hash with a symbol.
 ghost use Rattle.std.specs.Prelude.{◌≡◌, ◌↔◌, ◌+◌, ◌-◌, ◌*◌, ◌/◌, ◌%◌, ◌^◌, ◌<◌, IsTrue};
 ghost use Rattle.intaglio_index.specs.Heads.{IsWord};
 ghost use Rattle.intaglio_index.specs.Modulus.{IsModulus};
 
 use intaglio_symbol::Symbol;
 
-/// A number of buckets, with what spares the division by it.
+/// A number of buckets, and what makes a division by it unnecessary.
 #[derive(Clone, Copy)]
 pub struct Modulus {
     count: u64,
-    // All bits below the least power of two that is not below the count.
+    // The least power of two that is not below the count, minus one.
     mask: u64,
     // (2^64 - 1) / count
     inverse: u64,
@@ -56,8 +56,8 @@ impl Modulus {
     }
 }
 
-// A word is a hash with a symbol in place of the bits under the mask. Where the count is a power of two, these bits are the number
-// of the bucket; so a word and its bucket tell the whole hash.
+// A word is a hash with a symbol in place of the bits under the mask. If the count is a power of two, these
+// bits are the number of the bucket, so a word and its bucket give the whole hash.
 impl Modulus {
     pub fn word(self, hash: u64, symbol: Symbol) -> u64
         requires made { IsModulus self }
@@ -76,7 +76,7 @@ impl Modulus {
         Symbol::new((word & self.mask) as u32)
     }
 
-    // Whether a word and a hash are the same above the mask.
+    // Whether a word and a hash have the same bits above the mask.
     pub fn agrees(self, word: u64, hash: u64) -> bool
         requires { IsModulus self }
         ensures { IsTrue result ↔ (word / (self.mask + 1) ≡ hash / (self.mask + 1)) }
@@ -84,7 +84,7 @@ impl Modulus {
         word ^ hash <= self.mask
     }
 
-    // The hash with no bits under the mask.
+    // The hash with the bits under the mask cleared.
     pub fn high(self, hash: u64) -> u64
         requires { IsModulus self }
         ensures { result ≡ hash / (self.mask + 1) * (self.mask + 1) }
@@ -93,7 +93,7 @@ impl Modulus {
     }
 }
 
-// The quotient by the reciprocal is at most one too small.
+// The quotient by the reciprocal is too small by at most one.
 fn remainder(hash: u64, count: u64, inverse: u64) -> u64
     requires some { 0 < count }
     requires inverse { inverse ≡ (2 ^ 64 - 1) / count }

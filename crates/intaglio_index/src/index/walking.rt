@@ -1,4 +1,4 @@
-//! A bucket is walked.
+//! Walking along a bucket.
 ghost use Rattle.std.specs.Prelude.{◌≡◌, ◌≢◌, ◌%◌, ◌<◌, ◌++◌, ◌∷◌, [], List, ℕ, length, None, Some, All, MatchOption, IfSome, IsTrue};
 ghost use Rattle.std.specs.Option.{option_map};
 ghost use Rattle.std.specs.List.{AllByRecursion};
@@ -17,9 +17,9 @@ use intaglio_symbol::Symbol;
 impl Index {
     /// The first symbol of the hash's bucket, with its own hash. One step.
     ///
-    /// Where there are no buckets this is `None`.
+    /// If there are no buckets, this is `None`.
     pub fn first(&self, hash: u64, work: &mut Work) -> Option<(Symbol, u64)>
-        // The bucket has the symbols whose hashes fall in it, each once.
+        // The bucket has exactly the symbols whose hashes fall in it, each once.
         ensures members { IsPermutation (members self.now (hash % self.now.count))
             (symbols_of (chain self.now (hash % self.now.count))) }
         ensures sorted { AreSorted (chain self.now (hash % self.now.count)) }
@@ -36,10 +36,10 @@ impl Index {
         self.front(self.modulus.bucket(hash))
     }
 
-    /// As [`first`](Index::first), for a search: `None` also where no placed symbol has this hash, if the bucket's filter
-    /// shows it. One step.
+    /// As [`first`](Index::first), but also `None` if the bucket's filter shows that no placed symbol has
+    /// this hash. One step.
     ///
-    /// The filter of a bucket is a byte. A look-up that finds nothing mostly reads no more than that.
+    /// A bucket's filter is one byte. A look-up that finds nothing mostly reads nothing else.
     pub fn seek(&self, hash: u64, work: &mut Work) -> Option<(Symbol, u64)>
         ensures members { IsPermutation (members self.now (hash % self.now.count))
             (symbols_of (chain self.now (hash % self.now.count))) }
@@ -61,11 +61,11 @@ impl Index {
         self.front(bucket)
     }
 
-    /// The first symbol of this hash, if one was placed.
+    /// The first symbol with this hash, if one was placed.
     ///
-    /// One step for each symbol of the bucket up to it; where there is none, at least one, and at most one more than the bucket
-    /// has symbols. A bucket's head has the first two symbols with the high bits of their hashes, so that most look-ups read no
-    /// more of the index than a filter and a head.
+    /// Takes one step for each symbol of the bucket up to it. If there is none, it takes at least one step,
+    /// and at most one more than the bucket has symbols. A bucket's head holds its first two symbols and the
+    /// high bits of their hashes, so most look-ups read no more of the index than a filter and a head.
     #[inline(always)]
     pub fn find(&self, hash: u64, work: &mut Work) -> Option<Symbol>
         ensures found { IfSome result (λ symbol. IsFound hash (chain self.now (hash % self.now.count)) work.old.marks work.new.marks symbol) }
@@ -102,7 +102,7 @@ impl Index {
         Some(symbol)
     }
 
-    // The first symbol of the hash from a candidate on.
+    // The first symbol with the hash, from a candidate on.
     #[inline(never)]
     fn find_along(
         &self,
@@ -133,7 +133,7 @@ impl Index {
         None
     }
 
-    /// The symbol behind a placed one in its bucket, if it has the same hash. One step.
+    /// The next symbol after a placed one in its bucket, if it has the same hash. One step.
     pub fn find_next(&self, symbol: Symbol, work: &mut Work) -> Option<Symbol>
         requires { symbol < length self.now.hashes }
         ensures next { (b hash : ℕ) (before behind : List (ℕ × ℕ)) →
@@ -148,7 +148,7 @@ impl Index {
         }
     }
 
-    /// The symbol behind a placed one in its bucket, with its hash; `None` behind the last one. One step.
+    /// The next symbol after a placed one in its bucket, with its hash; `None` after the last one. One step.
     pub fn after(&self, symbol: Symbol, work: &mut Work) -> Option<(Symbol, u64)>
         requires { symbol < length self.now.hashes }
         ensures next { (b hash : ℕ) (before behind : List (ℕ × ℕ)) →
@@ -159,7 +159,7 @@ impl Index {
         self.behind(symbol)
     }
 
-    // The number of a bucket's first symbol.
+    // The first symbol of a bucket.
     #[inline(always)]
     pub(super) fn leader(&self, bucket: usize) -> Option<Symbol>
         requires { bucket < self.now.count }
@@ -171,7 +171,7 @@ impl Index {
         Some(self.modulus.symbol(self.heads[bucket].first))
     }
 
-    // The first symbol of a bucket.
+    // The first symbol of a bucket, with its hash.
     fn front(&self, bucket: usize) -> Option<(Symbol, u64)>
         requires { bucket < self.now.count }
         ensures { result ≡ head_of (chain self.now bucket) }
@@ -187,7 +187,7 @@ impl Index {
         entry(&self.nodes, self.nodes[symbol.id() as usize].next)
     }
 
-    // The last of the symbols at the front of the hash's bucket that have smaller hashes.
+    // The last symbol of the hash's bucket with a smaller hash.
     #[inline(always)]
     pub(super) fn predecessor(&self, bucket: usize, hash: u64) -> Option<Symbol>
         requires bucket { bucket ≡ hash % self.now.count }
@@ -210,7 +210,7 @@ impl Index {
         self.last_below(Some(second), self.behind(second), hash)
     }
 
-    // The same from a candidate on, where `last` stands in front of it.
+    // As `predecessor`, from a candidate on, where `last` is the symbol before it.
     #[inline(never)]
     fn last_below(
         &self,
