@@ -8,7 +8,7 @@ use Rattle.intaglio_core.specs.declared.run.Call.{Call}
 use Rattle.intaglio_core.specs.declared.run.Reply.{Reply}
 use Rattle.intaglio_core.specs.declared.run.Reply.TheVariants as reply
 
--- what a reply says: a spelling is seen by its bytes, not by the memory that they lie in
+-- what a reply says: a spelling is compared by its bytes, wherever they lie in memory
 pub data Seen : Type 0 where
   symbol : Option ℕ → Seen
   pair : Option (ℕ × List ℕ) → Seen
@@ -33,12 +33,12 @@ seen reply.CapacityOverflow = capacity_overflow
 seen reply.NoMemory = no_memory
 seen reply.Stale = stale
 
--- no call was refused memory
+-- no call ran out of memory
 abbrev pub HasMemory : List Reply → Type 0
 HasMemory replies = All (λ r. r ≢ reply.NoMemory) replies
 
--- two runs of the same calls, from the same contents under the same limit, say the same and leave the same contents,
--- whatever their hash functions, buckets and room, if neither was refused memory
+-- two runs of the same calls, from the same contents under the same limit, reply the same and leave the same
+-- contents, whatever their hash functions, buckets and spare capacity, if neither ran out of memory
 abbrev pub AreAlike : {C : Type 0} → (C → Key) → (C → List ℕ) → Type 0
 AreAlike {C} key spells =
     (hash hash' : Key → ℕ) (old old' new new' : State C) (calls : List (Call C)) (replies replies' : List Reply) (cost cost' : List Mark)

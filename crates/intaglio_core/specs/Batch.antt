@@ -1,4 +1,5 @@
--- Contents, or forms of contents, that are interned in order, after all of them were hashed and looked up.
+-- Batches: contents, or forms of contents, that are interned in order after all of
+-- them were hashed and looked up.
 use Rattle.std.specs.Prelude.{◌≡◌, ◌⊎◌, ℕ, List, [], ◌∷◌, ◌++◌, map, Ok}
 use Rattle.intaglio_content.specs.Key.{Key}
 use Rattle.intaglio_content.specs.Work.{Mark, hashed}
@@ -8,36 +9,36 @@ use Rattle.intaglio_core.specs.Cost.{InOrder, KnownSearchCost, KnownInternCost}
 use Rattle.intaglio_symbol.specs.declared.error.InternError.{InternError}
 use Rattle.intaglio_symbol.specs.declared.error.InternError.TheVariants.{Overflow}
 
--- P holds, if the error is that the table holds as many contents as its limit
+-- P holds if the error is an overflow: the table holds as many contents as its limit
 abbrev pub IfOverflow : InternError → Type 0 → Type 0
 IfOverflow (Overflow _) P = P
 IfOverflow _ P = Unit {0}
 
 module _ {C : Type 0} (key : C → Key) where
-  -- a hashing of each
+  -- one hashing of each
   abbrev pub hashings : List C → List Mark
   hashings cs = map (λ c. hashed (key c)) cs
 
   module _ (hash : Key → ℕ) where
-    -- what a look-up of each costs beside the hashing
+    -- the cost of looking each up, without the hashing
     abbrev pub SearchesEach : State C → List C → List Mark → Type 0
     SearchesEach s [] cost = cost ≡ []
     SearchesEach s (c ∷ cs) cost = (now later : List Mark) × (cost ≡ now ++ later) × KnownSearchCost key hash s (key c) now × SearchesEach s cs later
 
-    -- one interning, with its symbol and what it costs beside the hashing, which leaves a valid state
+    -- one interning, with its symbol and its cost without the hashing, which leaves a valid state
     abbrev pub IsInterning : State C → C → ℕ → List Mark → State C → Type 0
     IsInterning old c i cost new = Interns key old c (Ok i) new × KnownInternCost key hash old (key c) (Ok i) new cost × IsValid key new
 
-    -- internings in order, from a state to a state
+    -- internings in order, from one state to another
     abbrev pub InternsEach : State C → List C → List ℕ → List Mark → State C → Type 0
     InternsEach = InOrder IsInterning
 
-    -- a hashing of each, then a look-up of each, and then each interning
+    -- all are hashed, then all are looked up, and then each is interned
     abbrev pub InternsAll : State C → List C → List ℕ → List Mark → State C → Type 0
     InternsAll old cs is cost new =
         (searches internings : List Mark) × (cost ≡ hashings cs ++ searches ++ internings) × SearchesEach old cs searches × InternsEach old cs is internings new
 
-    -- the first contents interned, and the look-up of the next, which was refused
+    -- the first contents were interned, and the next was looked up, whose interning failed
     pub record InternsSome (old : State C) (cs : List C) (cost : List Mark) : Type 0 where
       pub before : List C
       pub refused : C
@@ -51,40 +52,41 @@ module _ {C : Type 0} (key : C → Key) where
       pub interns : InternsEach old before symbols internings held
       pub searches : KnownSearchCost key hash held (key refused) search
 
-    -- contents that were refused together: nothing was done, or all were hashed, or then looked up, or then some were interned
+    -- the cost of a batch that failed: nothing was done, or all were hashed, or then looked
+    -- up, or then some were interned
     abbrev pub RefusedCost : State C → List C → List Mark → Type 0
     RefusedCost old cs cost =
         (cost ≡ []) ⊎ (cost ≡ hashings cs)
         ⊎ ((searches later : List Mark) × (cost ≡ hashings cs ++ searches ++ later) × SearchesEach old cs searches × ((later ≡ []) ⊎ InternsSome old cs later))
 
--- forms of contents, each with its key
+-- forms of contents, with their keys
 module _ {C Q : Type 0} (key : C → Key) (form_key : Q → Key) (hash : Key → ℕ) where
-  -- what a look-up of each costs beside the hashing
+  -- the cost of looking each up, without the hashing
   abbrev pub SearchesForms : State C → List Q → List Mark → Type 0
   SearchesForms s [] cost = cost ≡ []
   SearchesForms s (q ∷ qs) cost = (now later : List Mark) × (cost ≡ now ++ later) × KnownSearchCost key hash s (form_key q) now × SearchesForms s qs later
 
-  -- a hashing of each, and then a look-up of each
+  -- all are hashed, and then all are looked up
   abbrev pub ChecksForms : State C → List Q → List Mark → Type 0
   ChecksForms s qs cost = (searches : List Mark) × (cost ≡ hashings form_key qs ++ searches) × SearchesForms s qs searches
 
--- and with the spelling of its copy
+-- and with the spellings of their copies
 module _ {C Q : Type 0} (key : C → Key) (spelling : C → List ℕ) (form_key : Q → Key) (form_spelling : Q → List ℕ) (hash : Key → ℕ) where
-  -- one interning by a form, with its symbol and what it costs beside the hashing, which leaves a valid state
+  -- one interning by a form, with its symbol and its cost without the hashing, which leaves a valid state
   abbrev pub IsFormInterning : State C → Q → ℕ → List Mark → State C → Type 0
   IsFormInterning old q i cost new =
       InternsForm key spelling old (form_key q) (form_spelling q) (Ok i) new × KnownInternCost key hash old (form_key q) (Ok i) new cost × IsValid key new
 
-  -- internings by forms in order, from a state to a state
+  -- internings by forms in order, from one state to another
   abbrev pub InternsEachForm : State C → List Q → List ℕ → List Mark → State C → Type 0
   InternsEachForm = InOrder IsFormInterning
 
-  -- a hashing of each, then a look-up of each, and then each interning
+  -- all are hashed, then all are looked up, and then each is interned
   abbrev pub InternsForms : State C → List Q → List ℕ → List Mark → State C → Type 0
   InternsForms old qs is cost new =
       (searches internings : List Mark) × (cost ≡ hashings form_key qs ++ searches ++ internings) × SearchesForms key form_key hash old qs searches × InternsEachForm old qs is internings new
 
-  -- the first forms interned, and the look-up of the next, which was refused
+  -- the first forms were interned, and the next was looked up, whose interning failed
   pub record InternsSomeForms (old : State C) (qs : List Q) (cost : List Mark) : Type 0 where
     pub before : List Q
     pub refused : Q
@@ -98,7 +100,8 @@ module _ {C Q : Type 0} (key : C → Key) (spelling : C → List ℕ) (form_key 
     pub interns : InternsEachForm old before symbols internings held
     pub searches : KnownSearchCost key hash held (form_key refused) search
 
-  -- forms that were refused together: nothing was done, or all were hashed, or then looked up, or then some were interned
+  -- the cost of a batch that failed: nothing was done, or all were hashed, or then looked
+  -- up, or then some were interned
   abbrev pub RefusedFormsCost : State C → List Q → List Mark → Type 0
   RefusedFormsCost old qs cost =
       (cost ≡ []) ⊎ (cost ≡ hashings form_key qs)

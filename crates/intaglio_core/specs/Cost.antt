@@ -1,4 +1,4 @@
--- What calls add to the marks of their work.
+-- What calls add to the marks of a `Work`.
 use Rattle.std.specs.Prelude.{◌≡◌, ◌≢◌, ℕ, ◌+◌, ◌%◌, ◌≤◌, ◌==◌, List, [], ◌∷◌, ◌++◌, length, map, filter, All, Contains, Result, Ok, Err, MatchOption}
 use Rattle.intaglio_content.specs.Key.{Key}
 use Rattle.intaglio_content.specs.declared.work.Work.{Work}
@@ -36,27 +36,27 @@ placed_count [] = 0
 placed_count (placed ∷ ms) = 1 + placed_count ms
 placed_count (_ ∷ ms) = placed_count ms
 
--- `after` is `before` and a cost more
+-- `after` is `before` followed by a cost
 abbrev pub Adds : List Mark → List Mark → (List Mark → Type 0) → Type 0
 Adds before after P = (cost : List Mark) × (after ≡ before ++ cost) × P cost
 
--- what a call adds to the marks of its work
+-- what a call adds to the marks of a `Work`
 abbrev pub Costs : Work → Work → (List Mark → Type 0) → Type 0
 Costs old new P = Adds old.marks new.marks P
 
--- steps in order, each with what it takes, what it gives and what it costs, from one state to another
+-- steps in order from one state to another, each with its argument, its result and its cost
 abbrev pub InOrder : {S X Y : Type 0} → (S → X → Y → List Mark → S → Type 0) → S → List X → List Y → List Mark → S → Type 0
 InOrder OneStep old [] [] cost new = (cost ≡ []) × (new ≡ old)
 InOrder {S} OneStep old (x ∷ xs) (y ∷ ys) cost new =
     (next : S) × (now later : List Mark) × (cost ≡ now ++ later) × OneStep old x y now next × InOrder OneStep next xs ys later new
 InOrder OneStep old _ _ cost new = ⊥
 
--- the keys whose hash falls in the bucket of a key, among this many buckets
+-- the keys in the bucket of a key, among this many buckets
 abbrev pub bucket_keys : (Key → ℕ) → ℕ → List Key → Key → List Key
 bucket_keys hash buckets keys k = filter (λ x. (hash x % buckets) == (hash k % buckets)) keys
 
--- a search for a key, where the bucket of the key holds these keys: the sought key alone is hashed, once, and compared
--- only with keys of the bucket whose hash is equal, with each at most once
+-- a search for a key, whose bucket holds these keys: the sought key alone is hashed, once, and compared only
+-- with keys of the bucket whose hash is equal, with each at most once
 pub record IsSearchCost (hash : Key → ℕ) (k : Key) (bucket : List Key) (cost : List Mark) : Type 0 where
   pub hashings : hashed_keys cost ≡ k ∷ []
   pub sought : All (λ x. x ≡ k) (sought_keys cost)
@@ -99,7 +99,7 @@ module _ {C : Type 0} (key : C → Key) (hash : Key → ℕ) where
   InternCost old k (Err e) new cost = SearchCost old k cost
   InternCost old k (Ok i) new cost = MatchOption (first key old.contents k) (IsAddingCost old k new cost) (λ _. SearchCost old k cost)
 
-  -- the same where the hash of the key is known
+  -- the same if the hash of the key is known
   abbrev pub KnownSearchCost : State C → Key → List Mark → Type 0
   KnownSearchCost s k cost = SearchCost s k (hashed k ∷ cost)
 

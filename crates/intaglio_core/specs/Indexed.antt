@@ -1,4 +1,4 @@
--- What holds between a list of contents and the index over it.
+-- The invariant between a list of contents and its index.
 use Rattle.std.specs.Prelude.{◌≡◌, ℕ, ◌*◌, ◌^◌, ◌<◌, ◌≤◌, min, max, replicate, List, [], ◌∷◌, ◌++◌, length, map, Result, Ok, Err}
 use Rattle.intaglio_content.specs.Key.{Key}
 use Rattle.intaglio_content.specs.declared.work.Work.{Work}
@@ -18,18 +18,18 @@ module _ {C : Type 0} (key : C → Key) (hash : Key → ℕ) where
     pub fits : index.room ≤ index.count
     pub within : length contents ≤ index.room
 
--- what is added where a content isn't there yet: a growth and a placement
+-- what is added for a content that isn't stored yet: a growth and a placement
 pub record IsGrowthAndPlacement {C : Type 0} (old new : State C) (cost : List Mark) : Type 0 where
   pub growth : List Mark
   pub parts : cost ≡ growth ++ placed ∷ []
   pub grows : IsGrowthCost old new growth
 
--- what is added where a content isn't there yet, and nothing where it is refused
+-- what is added for a content that isn't stored yet: nothing if the call fails
 abbrev pub AddCost : {C : Type 0} → State C → Result ℕ InternError → State C → List Mark → Type 0
 AddCost old (Ok s) new cost = IsGrowthAndPlacement old new cost
 AddCost old (Err e) new cost = cost ≡ []
 
--- n contents are placed, and another may come
+-- n contents are placed, and n is below the limit
 pub record HasPlaces (n limit : ℕ) (index : Placed) : Type 0 where
   pub below : n < limit
   pub numbered : limit ≤ 2 ^ 32
@@ -37,13 +37,14 @@ pub record HasPlaces (n limit : ℕ) (index : Placed) : Type 0 where
   pub fits : index.room ≤ index.count
   pub within : n ≤ index.room
 
--- what was placed stays, and there is no less room
+-- placed symbols stay placed, and the room isn't less
 pub record KeepsPlaces (old new : Placed) : Type 0 where
   pub hashes : new.hashes ≡ old.hashes
   pub room : old.room ≤ new.room
   pub fits : new.room ≤ new.count
 
--- there is a place behind n. Where the buckets were full they grew, and everything was placed again
+-- there is room for more than n symbols. If the buckets were full, they grew
+-- and all symbols were placed again
 pub record FindsPlace (n limit : ℕ) (old new : Placed) (before after : Work) : Type 0 where
   pub free : n < new.room
   pub kept : n < old.count → new.count ≡ old.count
@@ -51,7 +52,7 @@ pub record FindsPlace (n limit : ℕ) (old new : Placed) (before after : Work) :
   pub grown : old.count ≤ n → min limit (max 4 (2 * old.count)) ≤ new.count
   pub placed_again : old.count ≤ n → after.marks ≡ before.marks ++ replicate n placed
 
--- there was no memory for a place behind n
+-- room for more than n symbols was missing, and an allocation failed
 pub record FindsNoPlace (n capacity : ℕ) (old new : Placed) (before after : Work) : Type 0 where
   pub full : min capacity old.room ≤ n
   pub kept : new.count ≡ old.count

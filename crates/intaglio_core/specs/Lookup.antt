@@ -27,7 +27,7 @@ module _ {C : Type 0} (key : C → Key) where
     pub stored : (i : ℕ) (c : C) → slice_get old.contents i ≡ Some c → slice_get new.contents i ≡ Some c
     pub found : (k : Key) (i : ℕ) → IsFound old k i → IsFound new k i
 
-  -- the same of the symbols below n, and no other is found
+  -- the same for the symbols below n, and no other symbol is found
   pub record KeepsBelow (old : State C) (n : ℕ) (new : State C) : Type 0 where
     pub stored : (i : ℕ) (c : C) → i < n → slice_get old.contents i ≡ Some c → slice_get new.contents i ≡ Some c
     pub found : (k : Key) (i : ℕ) → i < n → IsFound old k i → IsFound new k i

@@ -1,12 +1,12 @@
--- Which places of a list hold equal contents.
+-- Which positions of a list hold equal contents.
 use Rattle.std.specs.Prelude.{◌≡◌, ℕ, ◌<◌, List, length, Option, option_map, slice_get, ◌↔◌}
 use Rattle.intaglio_content.specs.Key.{Key}
 
--- the key at a place
+-- the key at a position
 abbrev pub key_at : {C : Type 0} → (C → Key) → List C → ℕ → Option Key
 key_at key cs i = option_map key (slice_get cs i)
 
--- two lists are as long as each other, and hold equal contents at the same pairs of places
+-- two lists have the same length, and hold equal contents at the same pairs of positions
 pub record SamePattern {C D : Type 0} (key : C → Key) (other : D → Key) (cs : List C) (ds : List D) : Type 0 where
   pub size : length cs ≡ length ds
   pub same : (i j : ℕ) → i < length cs → j < length cs → (key_at key cs i ≡ key_at key cs j) ↔ (key_at other ds i ≡ key_at other ds j)

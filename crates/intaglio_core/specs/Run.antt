@@ -1,4 +1,4 @@
--- A list of calls, made in order, and what holds over one.
+-- A list of calls, made in order, and what holds over all of it.
 use Rattle.std.specs.Prelude.{◌≡◌, ◌≢◌, ℕ, ◌+◌, ◌*◌, ◌≤◌, List, [], ◌∷◌, length, Some, All, map}
 use Rattle.intaglio_content.specs.Key.{Key}
 use Rattle.intaglio_content.specs.Work.{Mark}
@@ -18,7 +18,7 @@ module _ {C : Type 0} (key : C → Key) where
   IsCall spelling hash old call reply cost new =
       Step key spelling old call reply new × StepCost key hash old call reply new cost × IsValid key new
 
-  -- calls in order, from a state to a state
+  -- calls in order, from one state to another
   abbrev pub Runs : (C → List ℕ) → (Key → ℕ) → State C → List (Call C) → List Reply → List Mark → State C → Type 0
   Runs spelling hash = InOrder (IsCall spelling hash)
 
@@ -40,34 +40,34 @@ KeepsContents ShrinkToFit = ⊥
 KeepsContents (TakeBack _) = ⊥
 KeepsContents _ = Unit {0}
 
--- over internings and look-ups, the placements and the contents before are together at most three times the contents
--- after. So from an empty table at most three symbols are placed for each content that comes
+-- over internings and look-ups, the placements and the contents before are together at most three times the
+-- contents after. So from an empty table, at most three symbols are placed for each content that is added
 abbrev pub PlacesFew : {C : Type 0} → State C → List (Call C) → State C → List Mark → Type 0
 PlacesFew old calls new cost =
     All KeepsContents calls → placed_count cost + length old.contents ≤ 3 * length new.contents
 
--- a call that shrinks nothing
+-- a call that doesn't shrink the capacity
 abbrev pub KeepsRoom : {C : Type 0} → Call C → Type 0
 KeepsRoom (ShrinkTo _) = ⊥
 KeepsRoom ShrinkToFit = ⊥
 KeepsRoom _ = Unit {0}
 
--- contents and room together don't become fewer over such calls
+-- such calls don't lower the capacity
 abbrev pub HoldsRoom : {C : Type 0} → State C → List (Call C) → State C → Type 0
 HoldsRoom old calls new = All KeepsRoom calls → HasNoLessRoom old new
 
--- as many contents as there is room for are interned without running out of memory
+-- internings of no more contents than the spare capacity never run out of memory
 abbrev pub HonoursRoom : {C : Type 0} → State C → List (Call C) → List Reply → Type 0
 HonoursRoom {C} old calls replies =
     (cs : List C) → calls ≡ map Intern cs → length cs ≤ old.room → All (λ r. r ≢ reply.NoMemory) replies
 
--- a reply that refuses
+-- a reply that is an error
 abbrev pub IsRefusal : Reply → Type 0
 IsRefusal reply.Overflow = Unit {0}
 IsRefusal reply.NoMemory = Unit {0}
 IsRefusal _ = ⊥
 
--- internings alone, none refused, into an empty table reply the issued symbols
+-- internings alone, none of which fails, into an empty table reply the issued symbols
 abbrev pub IssuesInOrder : {C : Type 0} → (C → Key) → State C → List (Call C) → List Reply → Type 0
 IssuesInOrder {C} key old calls replies =
     (cs : List C) → old.contents ≡ [] → calls ≡ map Intern cs → All (λ r. ¬ IsRefusal r) replies

@@ -1,23 +1,23 @@
--- What callers see of a table.
+-- What contracts see of a table.
 use Rattle.std.specs.Prelude.{◌≢◌, ℕ, ◌+◌, ◌^◌, ◌≤◌, Bool, if◌then◌else◌, List, [], ◌∷◌, length, map, Option, Some, None, option_map, AllPairs}
 use Rattle.std.specs.Str.{bytes_eq}
 use Rattle.std.specs.Cmp.Lexicographic.{pointwise}
 use Rattle.intaglio_content.specs.Key.{Key}
 
--- the contents in the order of their symbols, the room for more of them, the number of buckets, and the most contents
--- that are held
+-- the contents in the order of their symbols, the spare capacity, the number of buckets, and the limit: the
+-- most contents that are held
 pub record State (C : Type 0) : Type 0 where
   pub contents : List C
   pub room : ℕ
   pub buckets : ℕ
   pub limit : ℕ
 
--- a table: its state and what makes its hashers
+-- a table: its state and its builder of hashers
 pub record Table (C S : Type 0) : Type 0 where
   pub state : State C
   pub hasher : S
 
--- no contents yet, and room for as many as the capacity
+-- no contents yet, and this capacity
 abbrev pub empty_table : {C S : Type 0} → ℕ → ℕ → S → Table C S
 empty_table capacity limit hasher =
     record { state = record { contents = []; room = capacity; buckets = capacity; limit = limit }; hasher = hasher }

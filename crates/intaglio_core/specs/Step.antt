@@ -1,4 +1,4 @@
--- One call, its reply, and what it costs.
+-- One call, its reply, and its cost.
 use Rattle.std.specs.Prelude.{◌≡◌, ◌≢◌, ℕ, List, [], length, Option, Some, Ok, Err, is_some, nat_lt, nat_eq, option_map, option_and_then, slice_get, alloc_error, IsSomeAnd}
 use Rattle.intaglio_content.specs.Key.{Key}
 use Rattle.intaglio_content.specs.Work.{Mark}
@@ -15,12 +15,13 @@ use Rattle.intaglio_core.specs.declared.run.Reply.{Reply}
 use Rattle.intaglio_core.specs.declared.run.Reply.TheVariants as reply
 
 module _ {C : Type 0} (key : C → Key) where
-  -- the first content with a key, with its position
+  -- the first content with a key, and its position
   abbrev pub found : List C → Key → Option (ℕ × C)
   found cs k = option_and_then (λ i. option_map {U = ℕ × C} (λ c. (i, c)) (slice_get cs i)) (first key cs k)
 
   module _ (spelling : C → List ℕ) where
-    -- one call, its reply, and the states before and after it. A spelling is copied, for which there may be no memory
+    -- one call, its reply, and the states before and after it. A spelling is copied, and the copy's
+    -- allocation may fail
     abbrev pub Step : State C → Call C → Reply → State C → Type 0
     Step old (Intern c) (reply.Symbol (Some i)) new = Interns key old c (Ok i) new
     Step old (Intern c) reply.Overflow new = (e : SymbolOverflowError) → Interns key old c (Err (intern_error.Overflow e)) new

@@ -1,4 +1,4 @@
-//! Many contents are interned at once.
+//! Batches: many contents are interned at once.
 ghost use Rattle.std.specs.Prelude.{◌≡◌, ◌<◌, ◌++◌, ◌⊎◌, [], length, map, take};
 ghost use Rattle.std.specs.Prelude.{IfOk, IfErr, IfSome, OnOk, OnErr};
 ghost use Rattle.std.specs.List.{AllByRecursion};
@@ -18,14 +18,14 @@ use intaglio_content::Work;
 use intaglio_symbol::{InternError, Symbol};
 use std::alloc::{AllocError, Global};
 
-// A content with its hash.
+// A content and its hash.
 #[derive(Drop)]
 struct Hashed<C> {
     hash: u64,
     content: C,
 }
 
-// The same with the symbol of an equal content that was stored before.
+// A hashed content, and the symbol of the equal content that was found, if one was.
 #[derive(Drop)]
 struct LookedUp<C> {
     hash: u64,
@@ -33,16 +33,16 @@ struct LookedUp<C> {
     symbol: Option<Symbol>,
 }
 
-/// Interns the contents in order, and answers their symbols in the same order.
+/// Interns a batch of contents, all or none, and returns their symbols in the same order.
 ///
-/// All of them are hashed, then all are looked up, and then those that weren't found are interned, so that the processor waits
-/// for the memory of several look-ups at once. That pays where the table is large and most contents are in it, with some dozens
-/// of contents at a time. Three lists as long as the contents are made meanwhile.
+/// All contents are hashed, then all are looked up, and then those that weren't found are interned, so the
+/// cache misses of several look-ups overlap. That pays if the table is large and most contents are in it,
+/// with some dozens of contents at a time. It allocates three temporary lists as long as the batch.
 ///
 /// # Errors
 ///
-/// `Overflow` where the table can't hold them all, `Memory` where the memory for one of the lists or for a growth was refused.
-/// Then the table has the contents that it had before and no less room, and those handed in are dropped.
+/// `Overflow` if the table can't hold them all, `Memory` if the allocation of a list or of a growth fails.
+/// Then the table has the same contents as before and no lower capacity, and the arguments are dropped.
 ///
 /// ```
 /// # use intaglio::{StrContent, Symbol, SymbolTable, Work, intern_all};
@@ -58,7 +58,7 @@ pub fn intern_all<T: Interner>(
     contents: Vec<T::Content>,
     work: &mut Work,
 ) -> Result<Vec<Symbol>, InternError>
-    // As internings one by one, but that all hashings come first, and then a look-up of each.
+    // As internings one by one, but all hashings come first, and then all look-ups.
     ensures ok { IfOk result (λ symbols. Costs work.old work.new (λ cost.
         InternsAll T.Content.key (T.hash table.old)
         (T.state table.old) contents.items symbols.items cost (T.state table.new))) }
@@ -67,7 +67,7 @@ pub fn intern_all<T: Interner>(
     ensures held { let all = interned_all T.Content.key (T.state table.old).contents contents.items in
         OnOk result ((T.state table.new).contents ≡ all) }
 
-    // Each is found at its symbol, and what stood before stands and is found where it was.
+    // Each is found at its symbol, and earlier contents keep their symbols and are found as before.
     ensures found { IfOk result (λ symbols.
         FindsEach T.Content.key (T.state table.new) contents.items symbols.items) }
     ensures stored { IfOk result (λ symbols.
@@ -117,7 +117,7 @@ fn hash_all<T: Interner>(
     Ok(all)
 }
 
-// Looks contents up that were hashed.
+// Looks up hashed contents.
 fn search_all<T: Interner>(
     alloc: Global,
     table: &T,
@@ -147,7 +147,7 @@ fn search_all<T: Interner>(
     Ok(found)
 }
 
-// Interns contents that were looked up. After an error those before the refused one are held.
+// Interns contents that were looked up. After an error, those before the failed one are stored.
 fn take_all<T: Interner>(
     alloc: Global,
     table: &mut T,

@@ -1,4 +1,4 @@
-//! What every symbol table does, for code that is generic in the table.
+//! What every symbol table does, for code that is generic over tables.
 ghost use Rattle.std.specs.Prelude.{◌≡◌, ℕ, ◌++◌, ◌∷◌, [], length, slice_get, option_copied, IfOk, IfSome, OnOk, OnErr};
 ghost use Rattle.intaglio_content.specs.Key.{Key, key_hash};
 ghost use Rattle.intaglio_content.specs.Work.{hashed};
@@ -13,26 +13,26 @@ use intaglio_content::{Content, Sought, ToContent, Work};
 use intaglio_symbol::{InternError, Mark, RoomError, StaleMark, Symbol};
 use std::hash::BuildHasher;
 
-/// A symbol table, by its state: the contents in the order of their symbols, the room for more of
-/// them, the number of buckets, and the limit.
+/// A symbol table. A contract sees it as its state: the contents in the order of their symbols, the spare
+/// capacity, the number of buckets, and the limit.
 ///
-/// Each call that searches or places takes a [`Work`], to which it adds what it did. After every
-/// call no two contents are equal, and there are at least as many buckets as contents.
+/// Each call that searches or places takes a [`Work`], in which it records what it did. After every call no
+/// two contents are equal, and there are at least as many buckets as contents.
 pub trait Interner {
     /// What the table stores.
     type Content: Content + Sought<Self::Content> + Drop;
 
     ghost state: { Self → State Self.Content };
 
-    // The hash of a key under the table's builder, which no call changes.
+    // The hash of a key by the table's builder, which no call changes.
     ghost hash: { Self → Key → ℕ };
 
-    /// The symbol of the content, which is stored if no equal one is.
+    /// Interns the content: returns the symbol of an equal one, or else stores it.
     ///
     /// # Errors
     ///
-    /// `Overflow` where the table holds as many contents as its limit, `Memory` where a growth was
-    /// refused. Then the contents are as before, and the content is dropped.
+    /// `Overflow` if the content is new and the table holds as many as its limit, `Memory` if the table has
+    /// to grow and an allocation fails. Then the contents are unchanged, and the argument is dropped.
     fn intern_counted(
         &mut self,
         content: Self::Content,
@@ -50,15 +50,15 @@ pub trait Interner {
         ensures same_hash { hash self.new ≡ hash self.old }
         ensures valid { IsValid Self.Content.key (state self.new) };
 
-    /// The hash of a content or a form, for [`intern_hashed`](Interner::intern_hashed) and its kin.
+    /// The hash of a content or a form, for [`intern_hashed`](Interner::intern_hashed) and the like.
     fn hash_counted<Q: Sought<Self::Content>>(&self, sought: &Q, work: &mut Work) -> u64
         ensures hash { result ≡ hash self.now (Q.key sought.now) }
         ensures cost { work.new.marks ≡ work.old.marks ++ hashed (Q.key sought.now) ∷ [] };
 
-    /// As [`intern_counted`](Interner::intern_counted), for a content that was hashed.
+    /// As [`intern_counted`](Interner::intern_counted), for a content whose hash is known.
     ///
-    /// Where many contents are hashed before the first of them is interned, the processor waits for the memory of several
-    /// searches at once. [`intern_all`](crate::intern_all) does so.
+    /// If many contents are hashed before the first of them is interned, the cache misses of several searches
+    /// overlap. [`intern_all`](crate::intern_all) does so.
     fn intern_hashed(
         &mut self,
         known_hash: u64,
@@ -78,12 +78,13 @@ pub trait Interner {
         ensures same_hash { hash self.new ≡ hash self.old }
         ensures valid { IsValid Self.Content.key (state self.new) };
 
-    /// The symbol of the content that is equal to this form, which was hashed. If there is none, a copy of the form is stored.
+    /// Interns by a form whose hash is known: returns the symbol of the equal content, or
+    /// else stores a copy of the form.
     ///
     /// # Errors
     ///
-    /// `Overflow` where the form is new and the table holds as many contents as its limit, `Memory` where the copy or a
-    /// growth was refused. Then the contents are as before.
+    /// `Overflow` if the form is new and the table holds as many contents as its limit, `Memory` if the
+    /// allocation of the copy or of a growth fails. Then the contents are unchanged.
     fn get_or_intern_hashed<Q: ToContent<Self::Content>>(
         &mut self,
         known_hash: u64,
@@ -104,7 +105,7 @@ pub trait Interner {
         ensures same_hash { hash self.new ≡ hash self.old }
         ensures valid { IsValid Self.Content.key (state self.new) };
 
-    /// As [`search_counted`](Interner::search_counted), for a content or a form that was hashed.
+    /// As [`search_counted`](Interner::search_counted), for a content or a form whose hash is known.
     fn search_hashed<Q: Sought<Self::Content>>(
         &self,
         known_hash: u64,
@@ -117,7 +118,7 @@ pub trait Interner {
             Costs work.old work.new (KnownSearchCost Self.Content.key (hash self.now) (state self.now) k) }
         ensures valid { IsValid Self.Content.key (state self.now) };
 
-    /// The symbol of the content that is equal to this content or form, if one is stored.
+    /// The symbol of the content that is equal to this content or form, if there is one.
     fn search_counted<Q: Sought<Self::Content>>(
         &self,
         sought: &Q,
@@ -128,23 +129,24 @@ pub trait Interner {
             Costs work.old work.new (SearchCost Self.Content.key (hash self.now) (state self.now) k) }
         ensures valid { IsValid Self.Content.key (state self.now) };
 
-    /// Finds room for this many contents more.
+    /// Reserves capacity for `additional` more contents.
     ///
     /// # Errors
     ///
-    /// `CapacityOverflow` where they would be more than the limit, and then nothing changed;
-    /// `Memory` where a growth was refused, and then the contents are as before.
+    /// `CapacityOverflow` if they would be more than the limit, and then nothing has changed; `Memory` if an
+    /// allocation fails, and then the contents are unchanged.
     fn reserve_counted(&mut self, additional: usize, work: &mut Work) -> Result<(), RoomError>
         ensures step { Reserves (state self.old) additional result (state self.new) }
         ensures cost { Costs work.old work.new (IsRoomCost (state self.old)) }
         ensures same_hash { hash self.new ≡ hash self.old }
         ensures valid { IsValid Self.Content.key (state self.new) };
 
-    /// Gives room back that is above this capacity.
+    /// Shrinks the capacity to `min_capacity`, or to the number of contents if that is greater. Does nothing
+    /// if the capacity isn't above it.
     ///
     /// # Errors
     ///
-    /// `Memory` where the smaller buckets were refused, and then nothing changed.
+    /// `Memory` if the allocation of the smaller buckets fails, and then nothing has changed.
     fn shrink_counted(&mut self, min_capacity: usize, work: &mut Work) -> Result<(), RoomError>
         ensures step { Shrinks (state self.old) min_capacity result (state self.new) }
         ensures cost { Costs work.old work.new (IsRoomCost (state self.old)) }
@@ -158,7 +160,7 @@ pub trait Interner {
             IsFound Self.Content.key (state self.now) (Self.Content.key content.now) symbol) }
         ensures valid { IsValid Self.Content.key (state self.now) };
 
-    /// How many contents there are.
+    /// The number of contents.
     fn count(&self) -> usize
         ensures count { result ≡ length (state self.now).contents }
         ensures valid { IsValid Self.Content.key (state self.now) };
@@ -170,16 +172,16 @@ pub trait Interner {
         ensures same_hash { hash self.new ≡ hash self.old }
         ensures valid { IsValid Self.Content.key (state self.new) };
 
-    /// The mark of the contents that there are.
+    /// A mark of the current contents.
     fn mark(&self) -> Mark
         ensures mark { result ≡ length (state self.now).contents }
         ensures valid { IsValid Self.Content.key (state self.now) };
 
-    /// Drops the contents that came after the mark.
+    /// Drops the contents added after the mark.
     ///
     /// # Errors
     ///
-    /// [`StaleMark`] where the mark is of more contents than there are, and then nothing changed.
+    /// [`StaleMark`] if there are fewer contents than the mark counts, and then nothing has changed.
     fn take_back(&mut self, mark: Mark) -> Result<(), StaleMark>
         ensures step { TakesBack (state self.old) mark result (state self.new) }
         ensures kept { OnOk result (KeepsBelow Self.Content.key (state self.old) mark (state self.new)) }

@@ -1,8 +1,8 @@
 //! The engine of symbol tables: a list of contents with an index over it.
 //!
-//! [`Core`] gives each distinct content the next number, and the content back for it. It is what
-//! the tables of the crates above are thin types over. [`Interner`] says what every table does,
-//! and [`run`](run::run) makes a list of calls on any of them.
+//! [`Core`] gives each distinct content the next number, and returns the content for its number. The tables
+//! of the crates above are thin types over it. [`Interner`] says what every table does, and [`run`](run::run)
+//! makes a list of calls on any of them.
 #![tactic(auto)]
 
 mod batch;

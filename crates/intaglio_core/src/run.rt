@@ -18,7 +18,7 @@ pub enum Call<C> {
     Intern(C),
     /// Looks the content up.
     Check(C),
-    /// Looks the content up, with the spelling that is stored.
+    /// Looks the content up, and gets the stored spelling.
     GetInterned(C),
     /// Asks whether the content is stored.
     IsInterned(C),
@@ -26,55 +26,55 @@ pub enum Call<C> {
     Contains(Symbol),
     /// Gets the spelling of a symbol.
     Get(Symbol),
-    /// Counts the contents.
+    /// Gets the number of contents.
     Len,
     /// Asks whether there is no content.
     IsEmpty,
     /// Drops all contents.
     Clear,
-    /// Finds room for this many contents more.
+    /// Reserves capacity for this many more contents.
     Reserve(usize),
-    /// Gives room back that is above this capacity.
+    /// Shrinks the capacity to this one, or to the number of contents if that is greater.
     ShrinkTo(usize),
-    /// Gives back all room that no content needs.
+    /// Shrinks the capacity to the number of contents.
     ShrinkToFit,
-    /// Drops the contents that came after the mark.
+    /// Drops the contents added after the mark.
     TakeBack(Mark),
 }
 
-/// What a call answered.
+/// What a call returned.
 #[derive(Debug, Drop, PartialEq, Eq)]
 pub enum Reply {
     /// The symbol of a content, if there is one.
     Symbol(Option<Symbol>),
-    /// The symbol of a content with a copy of the stored spelling, if there is one.
+    /// The symbol of a content and a copy of the stored spelling, if there is one.
     Pair(Option<(Symbol, Vec<u8>)>),
-    /// The answer to a question.
+    /// Yes or no.
     Bool(bool),
     /// A copy of a spelling, if the symbol was issued.
     Spelling(Option<Vec<u8>>),
     /// A number of contents.
     Count(usize),
-    /// The call was made.
+    /// The call succeeded, and returns nothing.
     Done,
     /// The table holds as many contents as its limit.
     Overflow,
-    /// More contents than the limit were asked for.
+    /// More contents than the limit were requested.
     CapacityOverflow,
-    /// A growth, a shrink or a copy was refused memory.
+    /// The allocation of a growth, a shrink or a copy failed.
     NoMemory,
-    /// The mark is of more contents than there are.
+    /// The mark counts more contents than there are.
     Stale,
 }
 
-/// Makes the calls in order, and answers their replies in the same order.
+/// Makes the calls in order, and returns their replies in the same order.
 ///
-/// Replies and contents are those of a plain list that is scanned from the front, and `work` gets
-/// what the calls did. A call that is refused is a reply, and the run goes on after it.
+/// Replies and contents are those of a plain list that is scanned from the front, and `work` records what the
+/// calls did. A failed call gives a reply too, and the run continues after it.
 ///
 /// # Errors
 ///
-/// [`AllocError`] where the memory for the replies was refused. Then no call was made.
+/// [`AllocError`] if the list of replies can't be allocated. Then no call was made.
 pub fn run<T: Interner>(
     alloc: Global,
     table: &mut T,
@@ -83,12 +83,13 @@ pub fn run<T: Interner>(
 ) -> Result<Vec<Reply>, AllocError>
 where
     T::Content: Spelled,
-    // Each call is a step of the plain list, at its cost, and leaves a table that is whole.
+    // Each call is a step of the plain list, at its cost, and leaves a valid table.
     ensures ok { IfOk result (λ replies. Costs work.old work.new (λ cost.
         Runs T.Content.key T.Content.spelling (T.hash table.old)
         (T.state table.old) calls.items replies.items cost (T.state table.new))) }
 
-    // Over the whole run: which symbols are issued, what is hashed, what is placed, and which room is kept.
+    // Over the whole run: which symbols are issued, what is hashed, what is
+    // placed, and which capacity is kept.
     ensures issues { IfOk result (λ replies.
         IssuesInOrder T.Content.key (T.state table.old) calls.items replies.items) }
     ensures hashes { OnOk result (Costs work.old work.new (λ cost.
@@ -100,7 +101,7 @@ where
         HonoursRoom (T.state table.old) calls.items replies.items) }
     ensures same_hash { T.hash table.new ≡ T.hash table.old }
 
-    // Where there is no memory for the replies, no call is made.
+    // If the replies can't be allocated, no call is made.
     ensures err { OnErr result (T.state table.new ≡ T.state table.old) }
     ensures no_cost { OnErr result (work.new.marks ≡ work.old.marks) }
     ensures none_needed { calls.items ≡ [] → IsOk result }
@@ -159,7 +160,7 @@ where
     }
 }
 
-// Looks a content up, and copies the spelling that is stored.
+// Looks a content up, and copies the stored spelling.
 fn get_interned<T: Interner>(
     alloc: Global,
     table: &T,
@@ -203,7 +204,7 @@ where
     }
 }
 
-// A copy of some bytes. A copy of none needs no memory.
+// A copy of some bytes. Copying none allocates nothing.
 fn copy_of(alloc: Global, bytes: &[u8]) -> Result<Vec<u8>, AllocError>
     ensures ok { IfOk result (λ copy. copy.items ≡ bytes.now) }
     ensures err { OnErr result (bytes.now ≢ []) }

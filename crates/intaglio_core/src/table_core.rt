@@ -21,7 +21,7 @@ use std::alloc::AllocError;
 use std::hash::BuildHasher;
 use std::marker::Model;
 
-/// Contents in the order in which they came, no two equal, each with the number of its place.
+/// Contents in the order of their symbols, no two equal. A content's symbol is its position.
 #[derive(Drop)]
 pub struct Core<C: Keyed, S: BuildHasher> {
     list: Vec<C>,
@@ -54,14 +54,14 @@ impl<C: Keyed, S: BuildHasher> Model for Core<C, S> {
 }
 
 impl<C: Keyed, S: BuildHasher> Core<C, S> {
-    /// The builder of hashers that the table was made with.
+    /// The table's builder of hashers.
     pub fn hasher(&self) -> &S
         ensures { result.now ≡ self.now.hasher }
     {
         &self.hasher
     }
 
-    /// The most contents that the table holds: 2^32, unless it was made by
+    /// The most contents that the table can hold: 2^32, unless it was made by
     /// [`with_limit`](Core::with_limit).
     pub fn limit(&self) -> usize
         ensures { result ≡ self.now.state.limit }
@@ -69,14 +69,14 @@ impl<C: Keyed, S: BuildHasher> Core<C, S> {
         self.limit
     }
 
-    /// How many contents fit before anything has to grow.
+    /// How many contents the table can hold before it has to grow.
     pub fn capacity(&self) -> usize
         ensures { result ≡ length self.now.state.contents + self.now.state.room }
     {
         self.list.capacity().min(self.index.room())
     }
 
-    /// How many contents there are.
+    /// The number of contents.
     pub fn len(&self) -> usize
         ensures count { result ≡ length self.now.state.contents }
         ensures valid { IsValid C.key self.now.state }
@@ -124,7 +124,7 @@ impl<C: Keyed, S: BuildHasher> Core<C, S> {
 
     /// The symbol of the content with the sought key, if there is one.
     ///
-    /// Costs one hashing, and comparisons with contents of equal hash alone.
+    /// Costs one hashing, and comparisons only with contents whose hash is equal.
     pub fn search<Q: Sought<C>>(&self, sought: &Q, work: &mut Work) -> Option<Symbol>
         ensures found { result ≡ first C.key self.now.state.contents (Q.key sought.now) }
         ensures within { IfSome result (λ symbol. symbol < length self.now.state.contents) }
@@ -136,7 +136,7 @@ impl<C: Keyed, S: BuildHasher> Core<C, S> {
         self.search_hashed(hash, sought, work)
     }
 
-    // The same for a key whose hash is known: compares with the contents of this hash alone.
+    // As `search`, for a key whose hash is known: compares only with the contents of this hash.
     #[inline(always)]
     pub(crate) fn search_hashed<Q: Sought<C>>(
         &self,
@@ -162,20 +162,19 @@ impl<C: Keyed, S: BuildHasher> Core<C, S> {
         None
     }
 
-    /// The symbol of the content, which is stored if no equal one is.
+    /// Interns the content: returns the symbol of an equal one, or else stores it.
     ///
-    /// A look-up of the content then finds this symbol, and the symbol's content has its key. Every
-    /// symbol that was issued before keeps its content, and look-ups of other keys find what they
-    /// found.
+    /// Afterwards a look-up of the content finds this symbol, and the symbol's content has its
+    /// key. Every symbol that was issued before keeps its content, and look-ups of other keys
+    /// return what they returned before.
     ///
-    /// Costs one hashing, also where the buckets grow: they keep each content's hash.
+    /// Costs one hashing, also if the buckets grow: they store each content's hash.
     ///
     /// # Errors
     ///
-    /// `Overflow` if a new content comes and the table holds as many as its limit; `Memory` if it
-    /// has to grow and an allocation fails, which never happens while
-    /// [`capacity`](Core::capacity) is above [`len`](Core::len). The contents are then as before,
-    /// and this one is dropped.
+    /// `Overflow` if the content is new and the table holds as many as its limit; `Memory` if the table has
+    /// to grow and an allocation fails, which never happens while [`capacity`](Core::capacity) is above
+    /// [`len`](Core::len). Then the contents are unchanged, and the argument is dropped.
     pub fn intern(&mut self, content: C, work: &mut Work) -> Result<Symbol, InternError>
     where
         C: Sought<C> + Drop,
@@ -194,7 +193,7 @@ impl<C: Keyed, S: BuildHasher> Core<C, S> {
         self.intern_hashed(hash, content, work)
     }
 
-    // The same for a content whose hash is known.
+    // As `intern`, for a content whose hash is known.
     #[inline(always)]
     pub(crate) fn intern_hashed(
         &mut self,
@@ -222,7 +221,7 @@ impl<C: Keyed, S: BuildHasher> Core<C, S> {
         }
     }
 
-    // Takes a content that isn't there.
+    // Adds a content that isn't stored.
     fn add(&mut self, hash: u64, content: C, work: &mut Work) -> Result<Symbol, InternError>
     where
         C: Drop,
@@ -245,8 +244,8 @@ impl<C: Keyed, S: BuildHasher> Core<C, S> {
     }
 }
 
-// Finds room for one content more: in the list, in the links and in the buckets. The index grows
-// last, so that a refused call adds no mark.
+// Makes room for one more content: in the list, in the links and in the buckets. The index grows last, so
+// that a failed call adds no mark.
 fn find_room<C>(
     list: &mut Vec<C>,
     index: &mut Index,

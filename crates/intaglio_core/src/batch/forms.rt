@@ -1,4 +1,4 @@
-//! Many borrowed forms at once.
+//! Batches of borrowed forms.
 ghost use Rattle.std.specs.Prelude.{◌≡◌, ◌<◌, ◌++◌, ◌⊎◌, [], length, map, take};
 ghost use Rattle.std.specs.Prelude.{IfOk, IfErr, IfSome, OnOk, OnErr};
 ghost use Rattle.intaglio_core.specs.State.{first, IsValid};
@@ -14,10 +14,11 @@ use intaglio_content::{Sought, ToContent, Work};
 use intaglio_symbol::{InternError, Symbol};
 use std::alloc::{AllocError, Global};
 
-/// Looks the forms up, and returns what look-ups one by one return, in the same order.
+/// Looks up a batch of forms, and returns what single look-ups return, in the same order.
 ///
-/// All of them are hashed before the first is looked up, so the cache misses of several look-ups overlap. That pays if the
-/// table is large, with some dozens of forms at a time. Two lists as long as the forms are made.
+/// All forms are hashed before the first is looked up, so the cache misses of several look-ups
+/// overlap. That pays if the table is large, with some dozens of forms at a time. It allocates
+/// two lists as long as the batch.
 ///
 /// # Errors
 ///
@@ -38,22 +39,23 @@ pub fn check_all<T: Interner, Q: Sought<T::Content>>(
     search_forms(alloc, table, forms, &hashes, work)
 }
 
-/// Interns the forms in order, all or none, and returns their symbols in the same order. Only forms that are new are copied.
+/// Interns a batch of forms, all or none, and returns their symbols in the same
+/// order. Only new forms are copied.
 ///
-/// All of them are hashed, then all are looked up, and then those that weren't found are interned, as
-/// [`intern_all`](crate::intern_all) does. Three lists as long as the forms are made meanwhile.
+/// All forms are hashed, then all are looked up, and then those that weren't found are interned, as by
+/// [`intern_all`](crate::intern_all). It allocates three temporary lists as long as the batch.
 ///
 /// # Errors
 ///
-/// `Overflow` where the table can't hold them all, `Memory` where the memory for one of the lists, for a copy or for a growth
-/// was refused. Then the table has the contents that it had before and no less room.
+/// `Overflow` if the table can't hold them all, `Memory` if the allocation of a list, of a copy or of a
+/// growth fails. Then the table has the same contents as before and no lower capacity.
 pub fn get_or_intern_all<T: Interner, Q: ToContent<T::Content>>(
     alloc: Global,
     table: &mut T,
     forms: &[Q],
     work: &mut Work,
 ) -> Result<Vec<Symbol>, InternError>
-    // As internings one by one, but that all hashings come first, and then a look-up of each.
+    // As internings one by one, but all hashings come first, and then all look-ups.
     ensures ok { IfOk result (λ symbols. Costs work.old work.new (λ cost.
         InternsForms T.Content.key T.Content.spelling Q.key Q.form_spelling (T.hash table.old)
         (T.state table.old) forms.now symbols.items cost (T.state table.new))) }
@@ -63,7 +65,7 @@ pub fn get_or_intern_all<T: Interner, Q: ToContent<T::Content>>(
         let all = interned_all T.Content.key_of held (map Q.form_spelling forms.now) in
         OnOk result (map T.Content.spelling (T.state table.new).contents ≡ all) }
 
-    // Each is found at its symbol, and what stood before stands and is found where it was.
+    // Each is found at its symbol, and earlier contents keep their symbols and are found as before.
     ensures found { IfOk result (λ symbols.
         FindsEachKey T.Content.key (T.state table.new) (map Q.key forms.now) symbols.items) }
     ensures stored { IfOk result (λ symbols.
@@ -112,7 +114,7 @@ fn hash_forms<T: Interner, Q: Sought<T::Content>>(
     Ok(hashes)
 }
 
-// Looks forms up that were hashed.
+// Looks up hashed forms.
 fn search_forms<T: Interner, Q: Sought<T::Content>>(
     alloc: Global,
     table: &T,
@@ -134,7 +136,7 @@ fn search_forms<T: Interner, Q: Sought<T::Content>>(
     Ok(found)
 }
 
-// Interns forms that were looked up. After an error those before the refused one are held.
+// Interns forms that were looked up. After an error, those before the failed one are stored.
 fn take_forms<T: Interner, Q: ToContent<T::Content>>(
     alloc: Global,
     table: &mut T,

@@ -1,4 +1,4 @@
-//! Internings by a borrowed form, which is copied only if it is new.
+//! Interning by a borrowed form, which is copied only if it is new.
 ghost use Rattle.std.specs.Prelude.{◌≡◌, None, IfOk, OnErr};
 ghost use Rattle.intaglio_content.specs.Key.{key_hash};
 ghost use Rattle.intaglio_core.specs.State.{first, IsValid};
@@ -14,21 +14,21 @@ use std::alloc::Global;
 use std::hash::BuildHasher;
 
 impl<C: Keyed, S: BuildHasher> Core<C, S> {
-    /// The allocator that the contents are kept by.
+    /// The allocator of the contents.
     pub fn allocator(&self) -> Global {
         *self.list.allocator()
     }
 }
 
 impl<C: Content + Drop, S: BuildHasher> Core<C, S> {
-    /// The symbol of the content that is equal to this form. If there is none, a copy of the form is stored.
+    /// Interns by a form: returns the symbol of the equal content, or else stores a copy of the form.
     ///
-    /// Costs one hashing, also where the buckets grow.
+    /// Costs one hashing, also if the buckets grow.
     ///
     /// # Errors
     ///
-    /// `Overflow` where the form is new and the table holds as many contents as its limit, before it is copied; `Memory`
-    /// where the copy or a growth that it needs is refused. Then the contents are as before.
+    /// `Overflow` if the form is new and the table holds as many contents as its limit: then it isn't copied.
+    /// `Memory` if the allocation of the copy or of a growth fails. The contents are then unchanged.
     pub fn get_or_intern<Q: ToContent<C>>(
         &mut self,
         form: &Q,
@@ -49,7 +49,7 @@ impl<C: Content + Drop, S: BuildHasher> Core<C, S> {
         self.get_or_intern_hashed(hash, form, work)
     }
 
-    // The same for a form whose hash is known.
+    // As `get_or_intern`, for a form whose hash is known.
     #[inline(always)]
     pub(crate) fn get_or_intern_hashed<Q: ToContent<C>>(
         &mut self,
@@ -75,7 +75,7 @@ impl<C: Content + Drop, S: BuildHasher> Core<C, S> {
         }
     }
 
-    // Takes a copy of a form that isn't there. No copy is made where the table is full.
+    // Adds a copy of a form that isn't stored. If the table is full, no copy is made.
     fn add_copy<Q: ToContent<C>>(
         &mut self,
         hash: u64,

@@ -1,4 +1,4 @@
-//! Look-ups that answer with the borrowed form of what is stored, and iterators over those forms.
+//! Look-ups that return borrowed forms of what is stored, and iterators over those forms.
 ghost use Rattle.std.specs.Prelude.{◌≡◌, ◌≤◌, ◌^◌, map, zip, length, Some, IfSome, slice_get};
 ghost use Rattle.std.specs.Option.{option_map};
 ghost use Rattle.intaglio_symbol.specs.AllSymbols.{numbers_from};
@@ -23,7 +23,7 @@ impl<'a, C: Formed<'a>, S: BuildHasher> Core<C, S> {
         Some(self.get(symbol)?.lend())
     }
 
-    /// The symbol of the content with the sought key, and the form of what is stored.
+    /// The symbol of the content with the sought key and the form of what is stored, if there is one.
     pub fn search_form<Q: Sought<C>>(
         &'a self,
         sought: &Q,

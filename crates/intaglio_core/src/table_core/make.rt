@@ -1,4 +1,4 @@
-//! Tables are made.
+//! Constructors.
 ghost use Rattle.std.specs.Prelude.{◌≡◌, ◌^◌, ◌<◌, ◌≤◌, ◌⊎◌, ◌↔◌, [], Ok, Err, IfOk, IsOk};
 ghost use Rattle.intaglio_symbol.specs.declared.error.RoomError.TheVariants.{CapacityOverflow};
 ghost use Rattle.intaglio_core.specs.State.{IsValid, empty_table};
@@ -15,13 +15,13 @@ use std::hash::{BuildHasher, BuildHasherDefault, FoldHasher};
 const SYMBOLS: usize = 1 << 32;
 
 impl<C: Keyed> Core<C, BuildHasherDefault<FoldHasher>> {
-    /// An empty table under std's builder of fixed seed, whose capacity is this one rounded up to a
-    /// power of two; 0 stays 0, and takes no memory.
+    /// An empty table with std's builder of fixed seed. Its capacity is `capacity` rounded up to a power of
+    /// two; 0 stays 0, and allocates nothing.
     ///
     /// # Errors
     ///
-    /// `CapacityOverflow` where the capacity is above 2^32, which is told before memory is asked
-    /// for; `Memory` where the room was refused.
+    /// `CapacityOverflow` if the capacity is above 2^32, which is checked before anything is allocated;
+    /// `Memory` if an allocation fails.
     pub fn with_capacity(
         alloc: Global,
         capacity: usize,
@@ -49,11 +49,11 @@ impl<C: Keyed> Core<C, BuildHasherDefault<FoldHasher>> {
 }
 
 impl<C: Keyed, S: BuildHasher> Core<C, S> {
-    /// An empty table of the usual capacity, [`DEFAULT_SYMBOL_TABLE_CAPACITY`].
+    /// An empty table of the default capacity, [`DEFAULT_SYMBOL_TABLE_CAPACITY`].
     ///
     /// # Errors
     ///
-    /// `Memory` where the room was refused.
+    /// `Memory` if an allocation fails.
     pub fn with_hasher(alloc: Global, hasher: S) -> Result<Core<C, S>, RoomError>
     where
         C: Drop,
@@ -65,12 +65,12 @@ impl<C: Keyed, S: BuildHasher> Core<C, S> {
         Core::with_capacity_and_hasher(alloc, DEFAULT_SYMBOL_TABLE_CAPACITY, hasher)
     }
 
-    /// An empty table of exactly this capacity. A capacity of 0 takes no memory.
+    /// An empty table of exactly this capacity. A capacity of 0 allocates nothing.
     ///
     /// # Errors
     ///
-    /// `CapacityOverflow` where the capacity is above 2^32, which is told before memory is asked
-    /// for; `Memory` where the room was refused.
+    /// `CapacityOverflow` if the capacity is above 2^32, which is checked before anything is allocated;
+    /// `Memory` if an allocation fails.
     pub fn with_capacity_and_hasher(
         alloc: Global,
         capacity: usize,
@@ -97,11 +97,11 @@ impl<C: Keyed, S: BuildHasher> Core<C, S> {
         })
     }
 
-    /// An empty table of capacity 0 that holds at most this many contents. It takes no memory.
+    /// An empty table of capacity 0 that can hold at most this many contents. It allocates nothing.
     ///
     /// # Errors
     ///
-    /// `CapacityOverflow` where the limit is 0 or above 2^32, and never anything else.
+    /// Only `CapacityOverflow`, if the limit is 0 or above 2^32.
     pub fn with_limit(alloc: Global, limit: usize, hasher: S) -> Result<Core<C, S>, RoomError>
     where
         C: Drop,

@@ -1,4 +1,4 @@
-//! Room, cuts and clearing.
+//! Capacity, rollbacks and clearing.
 ghost use Rattle.std.specs.Prelude.{◌≡◌, ◌+◌, ◌<◌, ◌≤◌, [], length, IsOk, OnOk, OnErr};
 ghost use Rattle.intaglio_core.specs.State.{IsValid};
 ghost use Rattle.intaglio_core.specs.Lookup.{FindsNothing, Keeps, KeepsBelow};
@@ -11,8 +11,7 @@ use intaglio_symbol::{Mark, RoomError, StaleMark};
 use std::hash::BuildHasher;
 
 impl<C: Keyed, S: BuildHasher> Core<C, S> {
-    /// Drops all contents, so that no look-up finds anything. The capacity stays, and the next
-    /// symbol is 0.
+    /// Drops all contents, so that no look-up finds anything. The capacity stays, and the next symbol is 0.
     pub fn clear(&mut self)
     where
         C: Drop,
@@ -25,7 +24,7 @@ impl<C: Keyed, S: BuildHasher> Core<C, S> {
         self.index.clear();
     }
 
-    /// The mark of the contents that there are, to which [`take_back`](Core::take_back) leads back.
+    /// A mark of the current contents, to which [`take_back`](Core::take_back) rolls back.
     pub fn mark(&self) -> Mark
         ensures mark { result ≡ length self.now.state.contents }
         ensures valid { IsValid C.key self.now.state }
@@ -33,12 +32,12 @@ impl<C: Keyed, S: BuildHasher> Core<C, S> {
         Mark::new(self.list.len())
     }
 
-    /// Drops the contents that came after the mark. The symbols below it keep their contents and
-    /// are found as before, and no other is found. The capacity stays, and nothing is hashed.
+    /// Drops the contents added after the mark. The symbols below it keep their contents and are found as
+    /// before, and no other symbol is found. The capacity stays, and nothing is hashed.
     ///
     /// # Errors
     ///
-    /// [`StaleMark`] where the mark is of more contents than there are, and then nothing changed.
+    /// [`StaleMark`] if there are fewer contents than the mark counts, and then nothing has changed.
     pub fn take_back(&mut self, mark: Mark) -> Result<(), StaleMark>
     where
         C: Drop,
@@ -60,13 +59,13 @@ impl<C: Keyed, S: BuildHasher> Core<C, S> {
         Ok(())
     }
 
-    /// Finds room for this many contents more, so that they are taken without refusal.
+    /// Reserves capacity for `additional` more contents, so that interning them can't fail for memory.
     ///
     /// # Errors
     ///
-    /// `CapacityOverflow` where they would be more than the limit, which is told before memory is
-    /// asked for, and then nothing changed; `Memory` where a growth was refused, and then the
-    /// contents are as before and the capacity isn't lower.
+    /// `CapacityOverflow` if they would be more than the limit, which is checked before anything is
+    /// allocated, and then nothing has changed; `Memory` if an allocation fails, and then the contents are
+    /// unchanged and the capacity isn't lower.
     pub fn reserve(&mut self, additional: usize) -> Result<(), RoomError>
         ensures step { Reserves self.old.state additional result self.new.state }
         ensures hasher { self.new.hasher ≡ self.old.hasher }
@@ -84,7 +83,7 @@ impl<C: Keyed, S: BuildHasher> Core<C, S> {
         self.reserve(additional)
     }
 
-    /// As [`reserve`](Core::reserve), and adds to the work what it did.
+    /// As [`reserve`](Core::reserve), and records in `work` what it did.
     pub fn reserve_with(&mut self, additional: usize, work: &mut Work) -> Result<(), RoomError>
         ensures step { Reserves self.old.state additional result self.new.state }
         ensures hasher { self.new.hasher ≡ self.old.hasher }
@@ -103,12 +102,12 @@ impl<C: Keyed, S: BuildHasher> Core<C, S> {
         Ok(())
     }
 
-    /// Lowers the capacity to this one, or to [`len`](Core::len) where that is more. Does nothing
-    /// where the capacity is no more than this.
+    /// Shrinks the capacity to `min_capacity`, or to [`len`](Core::len) if that is greater. Does nothing if
+    /// the capacity isn't above `min_capacity`.
     ///
     /// # Errors
     ///
-    /// `Memory` where the smaller buckets were refused, and then nothing changed.
+    /// `Memory` if the allocation of the smaller buckets fails, and then nothing has changed.
     pub fn shrink_to(&mut self, min_capacity: usize) -> Result<(), RoomError>
         ensures step { Shrinks self.old.state min_capacity result self.new.state }
         ensures hasher { self.new.hasher ≡ self.old.hasher }
@@ -117,7 +116,7 @@ impl<C: Keyed, S: BuildHasher> Core<C, S> {
         self.shrink_with(min_capacity, &mut Work::new())
     }
 
-    /// Lowers the capacity to [`len`](Core::len).
+    /// Shrinks the capacity to [`len`](Core::len).
     ///
     /// # Errors
     ///
@@ -130,7 +129,7 @@ impl<C: Keyed, S: BuildHasher> Core<C, S> {
         self.shrink_to(0)
     }
 
-    /// As [`shrink_to`](Core::shrink_to), and adds to the work what it did.
+    /// As [`shrink_to`](Core::shrink_to), and records in `work` what it did.
     pub fn shrink_with(&mut self, min_capacity: usize, work: &mut Work) -> Result<(), RoomError>
         ensures step { Shrinks self.old.state min_capacity result self.new.state }
         ensures hasher { self.new.hasher ≡ self.old.hasher }
