@@ -1,8 +1,8 @@
-//! The symbol table, written once for every kind of content.
+//! The symbol table, written once for all kinds of contents.
 //!
-//! [`Table`] is a table of any content. The crates of the kinds name it: `intaglio_text::SymbolTable` is the table of
-//! texts, `intaglio_path::SymbolTable` that of paths. [`Texts`] and its kin give each kind's iterator over contents the
-//! name that it has there.
+//! [`Table`] is a table of any content. The kinds' crates name their own: `intaglio_text::SymbolTable` is the
+//! table of texts, `intaglio_path::SymbolTable` that of paths. [`Texts`] and the like give the iterator over
+//! contents the name that it has for each kind.
 #![tactic(auto)]
 
 mod table;

@@ -1,4 +1,4 @@
-//! Many contents or forms at once.
+//! Batches of contents or forms.
 ghost use Rattle.std.specs.Prelude.{◌≡◌, ◌<◌, length, map, IfErr, IfOk, OnErr, OnOk};
 ghost use Rattle.intaglio_content.specs.Key.{key_hash};
 ghost use Rattle.intaglio_core.specs.State.{first, IsValid};
@@ -15,17 +15,17 @@ use std::alloc::AllocError;
 use std::hash::BuildHasher;
 
 impl<C: Content + Sought<C> + Drop, S: BuildHasher> Table<C, S> {
-    /// Interns the contents in order, all or none, and returns their symbols in the same order.
+    /// Interns a batch of contents, all or none, and returns their symbols in the same order.
     ///
-    /// The symbols are those of internings one by one. Each content is hashed once. All of them are hashed and looked up
-    /// before the first is added, so the cache misses of several look-ups overlap: that pays if the table is large and most
-    /// contents are in it, with some dozens of contents at a time.
+    /// The symbols are those of internings one by one. Each content is hashed once. All are hashed and looked
+    /// up before the first is added, so the cache misses of several look-ups overlap: that pays if the table
+    /// is large and most contents are in it, with some dozens of contents at a time.
     ///
     /// # Errors
     ///
-    /// `Overflow` if the table can't hold them all; `Memory` if a list as long as the contents, or a growth of the table,
-    /// can't be allocated. After an error the contents of the table are unchanged and its capacity isn't lower, and the
-    /// contents passed in are dropped.
+    /// `Overflow` if the table can't hold them all; `Memory` if the allocation of a list as long as the
+    /// batch, or of a growth of the table, fails. After an error the contents of the table are unchanged and
+    /// its capacity isn't lower, and the arguments are dropped.
     ///
     /// ```
     /// # use intaglio::{StrContent, Symbol, SymbolTable};
@@ -57,14 +57,15 @@ impl<C: Content + Sought<C> + Drop, S: BuildHasher> Table<C, S> {
 }
 
 impl<'q, C: LookedUp<'q> + Sought<C> + Drop, S: BuildHasher> Table<C, S> {
-    /// Looks the forms up, and returns what [`check_interned`](Table::check_interned) returns of each, in the same order.
+    /// Looks up a batch of forms, and returns what [`check_interned`](Table::check_interned) returns for
+    /// each, in the same order.
     ///
-    /// Each form is hashed once. All of them are hashed before the first is looked up, so the cache misses of several look-ups
-    /// overlap: that pays if the table is large, with some dozens of forms at a time.
+    /// Each form is hashed once. All are hashed before the first is looked up, so the cache misses of several
+    /// look-ups overlap: that pays if the table is large, with some dozens of forms at a time.
     ///
     /// # Errors
     ///
-    /// [`AllocError`] if a list as long as the forms can't be allocated.
+    /// [`AllocError`] if the allocation of a list as long as the batch fails.
     ///
     /// ```
     /// # use intaglio::{StrContent, SymbolTable};
@@ -80,15 +81,17 @@ impl<'q, C: LookedUp<'q> + Sought<C> + Drop, S: BuildHasher> Table<C, S> {
         check_all(self.core.allocator(), &self.core, forms, &mut Work::new())
     }
 
-    /// Interns the forms in order, all or none, and returns their symbols in the same order. Only forms that are new are copied.
+    /// Interns a batch of forms, all or none, and returns their symbols in the same
+    /// order. Only new forms are copied.
     ///
-    /// The symbols are those of calls of [`get_or_intern`](Table::get_or_intern) one by one. Each form is hashed once; all of
-    /// them are looked up before the first is added, as by [`intern_all`](Table::intern_all).
+    /// The symbols are those of [`get_or_intern`](Table::get_or_intern) called one by one. Each form is
+    /// hashed once; all are looked up before the first is added, as by [`intern_all`](Table::intern_all).
     ///
     /// # Errors
     ///
-    /// `Overflow` if the table can't hold them all; `Memory` if a list as long as the forms, a copy or a growth of the table
-    /// can't be allocated. After an error the contents of the table are unchanged and its capacity isn't lower.
+    /// `Overflow` if the table can't hold them all; `Memory` if the allocation of a list as long as the
+    /// batch, of a copy or of a growth of the table fails. After an error the contents of the table are
+    /// unchanged and its capacity isn't lower.
     ///
     /// ```
     /// # use intaglio::{Symbol, SymbolTable};

@@ -1,4 +1,4 @@
-//! Internings by a borrowed form.
+//! Interning by a borrowed form.
 ghost use Rattle.std.specs.Prelude.{◌≡◌, IfOk, OnErr};
 ghost use Rattle.intaglio_core.specs.State.{IsValid};
 ghost use Rattle.intaglio_core.specs.Change.{InternsForm};
@@ -9,14 +9,15 @@ use intaglio_core::{InternError, LookedUp, Symbol, Work};
 use std::hash::BuildHasher;
 
 impl<'q, C: LookedUp<'q> + Drop, S: BuildHasher> Table<C, S> {
-    /// Returns the symbol of the content that is equal to this form. If there is none, a copy of the form is stored.
+    /// Interns by a form: returns the symbol of the equal content, or else stores a copy of the form.
     ///
     /// The form is hashed once, and copied only if it is new.
     ///
     /// # Errors
     ///
-    /// `Overflow` if the form is new and the table holds as many contents as its limit; `Memory` if it is new, and the copy
-    /// or a growth of the table can't be allocated. After an error the contents are unchanged.
+    /// `Overflow` if the form is new and the table holds as many contents as its limit; `Memory`
+    /// if it is new and the allocation of the copy, or of a growth of the table, fails. After an
+    /// error the contents are unchanged.
     ///
     /// ```
     /// # use intaglio::SymbolTable;
