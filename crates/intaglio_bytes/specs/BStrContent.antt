@@ -1,4 +1,4 @@
--- What a clause reads of a `BStrContent`.
+-- What contracts read of a `BStrContent`.
 use Rattle.std.specs.Prelude.{ℕ, List}
 use Rattle.bstr.specs.BStr.{bstr_bytes}
 use Rattle.bstr.specs.Owned.{bstring_bytes}

@@ -1,3 +1,3 @@
--- What the contracts of the crate cite, and those of the crates above.
+-- What the contracts of this crate, and of the crates above it, cite.
 pub mod BStrContent
 pub mod BytesContent

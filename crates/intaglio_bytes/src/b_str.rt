@@ -10,13 +10,14 @@ use std::hash::{BuildHasherDefault, FoldHasher};
 /// The byte strings of a table, in the order of their symbols.
 pub type BStrings<'a> = Forms<'a, BStrContent>;
 
-/// The symbols of a table with their byte strings, in order.
+/// The symbols and byte strings of a table, in order.
 pub type Iter<'a> = Pairs<'a, BStrContent>;
 
-/// A table of distinct byte strings of the crate `bstr`, each with a [`Symbol`](intaglio_core::Symbol). Its calls are
-/// those of [`Table`].
+/// A table of distinct byte strings of the crate `bstr`, each with a [`Symbol`](intaglio_core::Symbol). Its
+/// calls are those of [`Table`].
 ///
-/// A byte string is stored as a `BStr<'static>` or a `BString`, and looked up by a `BStr`. Byte strings are equal if
+/// A byte string is stored as a `BStr<'static>` or a `BString`, and looked up by a `BStr`. Byte strings are
+/// equal if their bytes are.
 /// their bytes are.
 ///
 /// ```

@@ -10,10 +10,11 @@ use std::hash::{BuildHasherDefault, FoldHasher};
 /// The byte slices of a table, in the order of their symbols.
 pub type Bytestrings<'a> = Forms<'a, BytesContent>;
 
-/// The symbols of a table with their byte slices, in order.
+/// The symbols and byte slices of a table, in order.
 pub type Iter<'a> = Pairs<'a, BytesContent>;
 
-/// A table of distinct byte slices, each with a [`Symbol`](intaglio_core::Symbol). Its calls are those of [`Table`].
+/// A table of distinct byte slices, each with a [`Symbol`](intaglio_core::Symbol).
+/// Its calls are those of [`Table`].
 ///
 /// Bytes are stored as a `&'static [u8]` or a `Vec<u8>`, and looked up by a `&[u8]`.
 ///

@@ -1,7 +1,7 @@
 //! Symbol tables of bytes.
 //!
 //! - [`bytes`] is for plain bytes.
-//! - [`b_str`] is for the byte strings of the crate `bstr`. It can't have that crate's name here.
+//! - [`b_str`] is for the byte strings of the crate `bstr`, whose name the module can't have here.
 #![tactic(auto)]
 
 pub mod b_str;

@@ -27,10 +27,12 @@ pub struct CStr<'a> {
 impl<'a> CStr<'a> {
     ghost use Rattle.intaglio_cstr.specs.CStr.{c_str_spelling};
 
-    /// The bytes as a C string. They aren't copied.
+    /// Borrows the bytes as a C string.
     ///
-    /// Bytes without a zero are refused with [`CStrError::MissingZero`], and those with a zero before the last place
-    /// with [`CStrError::InnerZero`], which names the place of the first zero.
+    /// # Errors
+    ///
+    /// [`CStrError::MissingZero`] if there is no zero; [`CStrError::InnerZero`] with the position of the
+    /// first zero if it isn't the last byte.
     pub fn from_bytes_with_nul(bytes: &'a [u8]) -> Result<CStr<'a>, CStrError>
         ensures good { IsOk result ↔ EndsAtFirstZero bytes.now }
         ensures spelling { IfOk result (λ text. c_str_spelling text ++ 0 ∷ [] ≡ bytes.now) }
@@ -43,7 +45,7 @@ impl<'a> CStr<'a> {
         Ok(CStr { bytes })
     }
 
-    /// The bytes before the ending zero.
+    /// The bytes before the final zero.
     pub fn to_bytes(self) -> &'a [u8]
         ensures spelling { result.now ≡ c_str_spelling self.entry }
         ensures no_zero { first_zero result.now ≡ None }
@@ -51,7 +53,7 @@ impl<'a> CStr<'a> {
         &self.bytes[..self.bytes.len() - 1]
     }
 
-    /// The bytes with the ending zero.
+    /// The bytes with the final zero.
     pub fn to_bytes_with_nul(self) -> &'a [u8]
         ensures ended { result.now ≡ c_str_spelling self.entry ++ 0 ∷ [] }
         ensures only_zero { EndsAtFirstZero result.now }

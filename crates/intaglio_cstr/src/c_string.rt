@@ -10,7 +10,7 @@ use crate::zeros::{find_fault, first_zero};
 use std::alloc::{AllocError, Global};
 use std::marker::Model;
 
-/// Owned bytes whose only zero is the last byte. Clauses see the bytes before it.
+/// Owned bytes whose only zero is the last byte. A contract sees it as the bytes before that zero.
 ///
 /// ```
 /// # use intaglio::cstr::CString;
@@ -36,10 +36,12 @@ impl Model for CString {
 impl CString {
     ghost use Rattle.intaglio_cstr.specs.CStr.{c_str_spelling};
 
-    /// The bytes, which end with a zero, as a C string. Nothing is copied, and spare capacity is kept.
+    /// Makes a C string of bytes that end with a zero. Nothing is copied, and spare capacity is kept.
     ///
-    /// Bytes without a zero are refused with [`CStrError::MissingZero`], and those with a zero before the last place
-    /// with [`CStrError::InnerZero`], which names the place of the first zero. A refused vector is dropped.
+    /// # Errors
+    ///
+    /// [`CStrError::MissingZero`] if there is no zero; [`CStrError::InnerZero`] with the position of the
+    /// first zero if it isn't the last byte. The argument is then dropped.
     pub fn from_vec_with_nul(bytes: Vec<u8>) -> Result<CString, CStrError>
         ensures good { IsOk result ↔ EndsAtFirstZero bytes.items }
         ensures spelling { IfOk result (λ text. text ++ 0 ∷ [] ≡ bytes.items) }
@@ -52,11 +54,14 @@ impl CString {
         Ok(CString { bytes })
     }
 
-    /// The bytes, which hold no zero, as a C string: the ending zero is added.
+    /// Makes a C string of bytes without a zero, to which it adds the final one. If the vector has spare
+    /// capacity, it allocates nothing.
     ///
-    /// Bytes with a zero are refused with [`CStringError::InnerZero`], which names the place of the first, before any
-    /// memory is asked for. Where room for the ending zero is refused, the answer is [`CStringError::Memory`]; a vector
-    /// with spare capacity needs none. A refused vector is dropped.
+    /// # Errors
+    ///
+    /// [`CStringError::InnerZero`] with the position of the first zero if there is one, which is checked
+    /// before anything is allocated; [`CStringError::Memory`] if the allocation for the final zero fails. The
+    /// argument is then dropped.
     pub fn new(_alloc: Global, mut bytes: Vec<u8>) -> Result<CString, CStringError>
         ensures inner { (place : ℕ) → (result ≡ Err (ZeroWithin place)) ↔ (first_zero bytes.items ≡ Some place) }
         ensures spelling { IfOk result (λ text. text ≡ bytes.items) }
@@ -71,7 +76,7 @@ impl CString {
         }
     }
 
-    /// A copy of the C string, in memory of its own.
+    /// An owned copy of the C string.
     pub fn from_c_str(alloc: Global, text: CStr<'_>) -> Result<CString, AllocError>
         ensures { IfOk result (λ copy. copy ≡ c_str_spelling text.entry) }
     {

@@ -9,9 +9,10 @@ use crate::c_string::CString;
 use intaglio_content::{Bytewise, Content, Formed, Keyed, LookedUp, Spelled, ToContent};
 use std::alloc::{AllocError, Global};
 
-/// A C string that a table stores. Its spelling is its bytes before the ending zero, and its key is that one item.
+/// A C string that a table stores. Its spelling is its bytes before the final
+/// zero, and its key is that one item.
 ///
-/// It is kept as it was passed in: nothing is copied, and an owned one keeps its spare capacity.
+/// It is stored as passed in: nothing is copied, and an owned one keeps its spare capacity.
 ///
 /// ```
 /// # use intaglio::cstr::{CStr, CStrContent};
@@ -20,9 +21,9 @@ use std::alloc::{AllocError, Global};
 /// ```
 #[derive(Drop)]
 pub enum CStrContent {
-    /// A C string that lasts as long as the program.
+    /// A C string with the lifetime `'static`.
     Borrowed(CStr<'static>),
-    /// A C string of the table's own.
+    /// An owned C string.
     Owned(CString),
 }
 

@@ -1,8 +1,8 @@
 //! C strings, and the symbol table of C strings.
 //!
-//! - [`CStr`] is borrowed and [`CString`] owned: bytes whose only zero is the last byte.
-//! - [`CStrError`] and [`CStringError`] say why bytes were refused.
-//! - [`CStrContent`] is what [`SymbolTable`] stores. Its spelling is the bytes before the ending zero.
+//! - [`CStr`] is a borrowed C string, [`CString`] an owned one: bytes whose only zero is the last byte.
+//! - [`CStrError`] and [`CStringError`] say why bytes are not a C string.
+//! - [`CStrContent`] is what [`SymbolTable`] stores. Its spelling is the bytes before the final zero.
 #![tactic(auto)]
 
 mod c_str;

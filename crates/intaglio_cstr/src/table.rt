@@ -7,13 +7,14 @@ use std::hash::{BuildHasherDefault, FoldHasher};
 /// The C strings of a table, in the order of their symbols.
 pub type CStrings<'a> = Forms<'a, CStrContent>;
 
-/// The symbols of a table with their C strings, in order.
+/// The symbols and C strings of a table, in order.
 pub type Iter<'a> = Pairs<'a, CStrContent>;
 
-/// A table of distinct C strings, each with a [`Symbol`](intaglio_core::Symbol). Its calls are those of [`Table`].
+/// A table of distinct C strings, each with a [`Symbol`](intaglio_core::Symbol).
+/// Its calls are those of [`Table`].
 ///
-/// A C string is stored as a [`CStr`](crate::CStr) that lasts as long as the program or as a
-/// [`CString`](crate::CString), and looked up by a `CStr`. C strings are equal if their bytes are.
+/// A C string is stored as a `CStr<'static>` or a [`CString`](crate::CString), and looked up by a
+/// [`CStr`](crate::CStr). C strings are equal if their bytes are.
 ///
 /// ```
 /// # use intaglio::cstr::{CStr, CStrContent, SymbolTable};

@@ -1,4 +1,4 @@
--- What the contracts of the crate cite, and those of the crates above.
+-- What the contracts of this crate, and of the crates above it, cite.
 pub mod Components
 pub mod Path
 pub mod PathContent

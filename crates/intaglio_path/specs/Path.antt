@@ -1,4 +1,4 @@
--- What a clause reads of a `Path`, a `Component` and a `Components`.
+-- What contracts read of a `Path`, a `Component` and a `Components`.
 use Rattle.std.specs.Prelude.{ℕ, List, map, if◌then◌else◌}
 use Rattle.std.specs.Str.{bytes_eq}
 use Rattle.intaglio_path.specs.declared.path.Path.{Path}
@@ -18,22 +18,22 @@ pub data Item : Type 0 where
   Parent : Item
   Name : List ℕ → Item
 
--- the component that has the bytes
+-- the component with these bytes
 abbrev pub item_with : List ℕ → Item
 item_with bytes =
     if bytes_eq bytes root then Root else (if bytes_eq bytes dot then Current else (if bytes_eq bytes dot_dot then Parent else Name bytes))
 
--- what a component is
+-- the `Item` of a `Component`
 abbrev pub item_of : Component → Item
 item_of RootDir = Root
 item_of CurDir = Current
 item_of ParentDir = Parent
 item_of (Normal name) = Name name.now
 
--- the components still to come, each as its bytes
+-- the components that are left, each as its bytes
 abbrev pub components_left : Components → List (List ℕ)
 components_left rest = if rest.has_begun then names rest.text.now else components rest.text.now
 
--- the same, each as what it is
+-- the components that are left, each as its `Item`
 abbrev pub items_left : Components → List Item
 items_left rest = map item_with (components_left rest)

@@ -1,4 +1,4 @@
-//! The components of a path, one after the other.
+//! The components of a path, in order.
 ghost use Rattle.std.specs.Prelude.{◌≡◌, ◌<◌, [], ◌∷◌, ◌++◌, filter, length, IsTrue, MatchOption, ⊤, false};
 ghost use Rattle.std.specs.Iterator.{YieldsFirstBy, item_count};
 ghost use Rattle.intaglio_path.specs.Components.{components, names, kept_pieces, pieces, is_name, is_not_empty};
@@ -8,9 +8,10 @@ use crate::component::{Component, component_of};
 use std::alloc::AllocError;
 use std::iter::FusedIterator;
 
-/// The components of a path that are still to come, from the front.
+/// An iterator over the components of a path, from the front.
 ///
-/// After the last one only `None` comes. A step reads the text up to the next component, and no list is built.
+/// After the last component, `next` returns `None`. Each call reads the text up to the next component; no
+/// list is built.
 ///
 /// ```
 /// # use intaglio::path::{Component, Path};
@@ -20,12 +21,12 @@ use std::iter::FusedIterator;
 /// ```
 #[derive(Drop)]
 pub struct Components<'a> {
-    // What has not been read yet. Once something has been, it is what follows a `/`, or nothing.
+    // What hasn't been read yet. Once something was read, this is the text after a `/`, or empty.
     text: &'a str,
     has_begun: bool,
 }
 
-// The text up to the first `/`, and what follows that.
+// The text up to the first `/`, and the text after it.
 fn cut(text: &str) -> (&str, &str)
     ensures first { kept_pieces (pieces text.now) ≡ filter is_not_empty (result.0.now ∷ []) ++ names result.1.now }
     ensures later { names text.now ≡ filter is_name (result.0.now ∷ []) ++ names result.1.now }
@@ -48,7 +49,7 @@ impl<'a> Components<'a> {
         }
     }
 
-    // The next piece that is no empty one and no `.`.
+    // The next piece that is neither empty nor `.`.
     fn next_name(&mut self) -> Option<&'a str>
         requires { IsTrue self.old.has_begun }
         ensures begun { IsTrue self.new.has_begun }
@@ -64,7 +65,7 @@ impl<'a> Components<'a> {
         None
     }
 
-    // The root, or the first piece if it is not empty, which may be `.`.
+    // The root, or the first piece if it isn't empty; that piece may be `.`.
     fn begin(&mut self) -> Option<&'a str>
         requires { self.old.has_begun ≡ false }
         ensures begun { IsTrue self.new.has_begun }
@@ -83,7 +84,7 @@ impl<'a> Components<'a> {
         Some(piece)
     }
 
-    /// The next component, as the item of the key that it is.
+    /// The next component, as its item of the key.
     pub(crate) fn next_item(&mut self) -> Option<&'a str>
         ensures { YieldsFirstBy (λ item. item.now) components_left self.old result self.new }
     {

@@ -12,7 +12,7 @@ use std::hash::{BuildHasher, Hash, Hasher};
 
 /// A path that a table stores. Its spelling is the UTF-8 bytes of its text, and its key is their components.
 ///
-/// It is kept as it was handed in: nothing is copied or cleaned up, and an owned text keeps its spare capacity.
+/// It is stored as passed in: nothing is copied or normalized, and an owned text keeps its spare capacity.
 ///
 /// ```
 /// # use intaglio::path::{Path, PathContent};
@@ -21,9 +21,9 @@ use std::hash::{BuildHasher, Hash, Hasher};
 /// ```
 #[derive(Drop)]
 pub enum PathContent {
-    /// A text that lasts as long as the program.
+    /// A text with the lifetime `'static`.
     Borrowed(&'static str),
-    /// A text of the table's own.
+    /// An owned text.
     Owned(String),
 }
 

@@ -1,7 +1,7 @@
 //! Paths by their components, and the symbol table of paths.
 //!
-//! - [`Path`] is the text of a path. Two are equal where their components are.
-//! - [`Components`] gives each [`Component`] of a path, from the front.
+//! - [`Path`] is the text of a path. Two are equal if their components are.
+//! - [`Components`] yields each [`Component`] of a path, from the front.
 //! - [`PathContent`] is a path that a table stores, and [`SymbolTable`] the table.
 #![tactic(auto)]
 

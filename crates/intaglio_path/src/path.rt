@@ -10,9 +10,9 @@ use crate::components::Components;
 use intaglio_content::feed_item;
 use std::hash::{Hash, Hasher};
 
-/// The text of a path. Two are equal, and hash alike, where their components are the same.
+/// The text of a path. Two are equal, and hash alike, exactly if their components are the same.
 ///
-/// Nothing is looked up in a file system, and no `..` is resolved.
+/// Nothing is read from a file system, and no `..` is resolved.
 ///
 /// ```
 /// # use intaglio::path::Path;
@@ -32,7 +32,7 @@ impl<'a> Path<'a> {
         Path { text }
     }
 
-    /// The text as it was handed in.
+    /// The text as passed in.
     pub fn as_str(self) -> &'a str
         ensures { result.now ≡ path_text self.entry }
     {
@@ -52,7 +52,7 @@ impl<'a> PartialEq for Path<'a> {
 
     ghost laws = { partial_equiv_from_equiv (on_equiv path_text same_components_equiv) };
 
-    /// Walks both texts side by side, up to the first component that differs. Equal texts aren't walked.
+    /// Walks both texts in parallel, up to the first component that differs. Equal texts aren't walked.
     fn eq(&self, other: &Path<'a>) -> bool {
         if self.as_str() == other.as_str() {
             return true;
@@ -78,7 +78,7 @@ impl<'a> Hash for Path<'a> {
 
     ghost respects_eq = { λ left right same. ap feed ((same_components_decides (path_text left) (path_text right)).0 same) };
 
-    /// Feeds the components in one walk: for each a write of its bytes, then one of the single byte 255.
+    /// Feeds the components in one walk: for each, one write of its bytes and one of the single byte 255.
     fn hash<H: Hasher>(&self, state: &mut H) {
         let mut rest = self.components();
         while let Some(item) = rest.next_item() {

@@ -7,13 +7,14 @@ use std::hash::{BuildHasherDefault, FoldHasher};
 /// The paths of a table, in the order of their symbols.
 pub type Paths<'a> = Forms<'a, PathContent>;
 
-/// The symbols of a table with their paths, in order.
+/// The symbols and paths of a table, in order.
 pub type Iter<'a> = Pairs<'a, PathContent>;
 
-/// A table of distinct paths, each with a [`Symbol`](intaglio_core::Symbol). Its calls are those of [`Table`].
+/// A table of distinct paths, each with a [`Symbol`](intaglio_core::Symbol).
+/// Its calls are those of [`Table`].
 ///
-/// A path is stored as a `&'static str` or a `String`, and looked up by a [`Path`](crate::Path). Paths are equal if
-/// their components are; the first spelling is the one that is stored.
+/// A path is stored as a `&'static str` or a `String`, and looked up by a [`Path`](crate::Path). Paths are
+/// equal if their components are; the first spelling is stored.
 ///
 /// ```
 /// # use intaglio::path::{Path, PathContent, SymbolTable};

@@ -1,4 +1,4 @@
--- What a clause reads of an `OsStrContent`.
+-- What contracts read of an `OsStrContent`.
 use Rattle.std.specs.Prelude.{ℕ, List, string_bytes}
 use Rattle.intaglio_text.specs.declared.osstr.content.OsStrContent.{OsStrContent}
 use Rattle.intaglio_text.specs.declared.osstr.content.OsStrContent.TheVariants.{Borrowed, Owned}

@@ -8,7 +8,7 @@ use std::alloc::{AllocError, Global};
 
 /// A text that a table stores. Its spelling is its UTF-8 bytes, and its key is that one item.
 ///
-/// It is kept as it was passed in: nothing is copied, and an owned text keeps its spare capacity.
+/// It is stored as passed in: nothing is copied, and an owned text keeps its spare capacity.
 ///
 /// ```
 /// # use intaglio::StrContent;
@@ -16,9 +16,9 @@ use std::alloc::{AllocError, Global};
 /// ```
 #[derive(Drop)]
 pub enum StrContent {
-    /// A text that lasts as long as the program.
+    /// A text with the lifetime `'static`.
     Borrowed(&'static str),
-    /// A text of the table's own.
+    /// An owned text.
     Owned(String),
 }
 

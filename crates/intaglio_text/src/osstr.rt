@@ -10,13 +10,14 @@ use std::hash::{BuildHasherDefault, FoldHasher};
 /// The platform strings of a table, in the order of their symbols.
 pub type OsStrings<'a> = Forms<'a, OsStrContent>;
 
-/// The symbols of a table with their platform strings, in order.
+/// The symbols and platform strings of a table, in order.
 pub type Iter<'a> = Pairs<'a, OsStrContent>;
 
-/// A table of distinct platform strings, each with a [`Symbol`](intaglio_core::Symbol). Its calls are those of [`Table`].
+/// A table of distinct platform strings, each with a [`Symbol`](intaglio_core::Symbol).
+/// Its calls are those of [`Table`].
 ///
-/// A platform string is a UTF-8 text here. It is stored as a `&'static str` or a `String`, and looked up by a `&str`.
-/// Platform strings are equal if their bytes are.
+/// A platform string is a UTF-8 text here. It is stored as a `&'static str` or a `String`, and looked up by a
+/// `&str`. Platform strings are equal if their bytes are.
 ///
 /// ```
 /// # use intaglio::osstr::{OsStrContent, SymbolTable};

@@ -7,12 +7,14 @@ use std::hash::{BuildHasherDefault, FoldHasher};
 /// The texts of a table, in the order of their symbols.
 pub type Strings<'a> = Forms<'a, StrContent>;
 
-/// The symbols of a table with their texts, in order.
+/// The symbols and texts of a table, in order.
 pub type Iter<'a> = Pairs<'a, StrContent>;
 
-/// A table of distinct texts, each with a [`Symbol`](intaglio_core::Symbol). Its calls are those of [`Table`].
+/// A table of distinct texts, each with a [`Symbol`](intaglio_core::Symbol).
+/// Its calls are those of [`Table`].
 ///
-/// A text is stored as a `&'static str` or a `String`, and looked up by a `&str`. Texts are equal if their bytes are.
+/// A text is stored as a `&'static str` or a `String`, and looked up by a `&str`.
+/// Texts are equal if their bytes are.
 ///
 /// ```
 /// # use intaglio::{StrContent, SymbolTable};

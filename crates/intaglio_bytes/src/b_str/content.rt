@@ -10,7 +10,7 @@ use std::alloc::{AllocError, Global};
 
 /// A byte string that a table stores. Its spelling is its bytes, and its key is that one item.
 ///
-/// It is kept as it was passed in: nothing is copied, and an owned one keeps its spare capacity.
+/// It is stored as passed in: nothing is copied, and an owned one keeps its spare capacity.
 ///
 /// ```
 /// # use bstr::BStr;
@@ -20,9 +20,9 @@ use std::alloc::{AllocError, Global};
 /// ```
 #[derive(Drop)]
 pub enum BStrContent {
-    /// A byte string that lasts as long as the program.
+    /// A byte string with the lifetime `'static`.
     Borrowed(BStr<'static>),
-    /// A byte string of the table's own.
+    /// An owned byte string.
     Owned(BString),
 }
 

@@ -8,7 +8,7 @@ use std::alloc::{AllocError, Global};
 
 /// A byte string that a table stores. Its spelling is its bytes, and its key is that one item.
 ///
-/// It is kept as it was passed in: nothing is copied, and an owned vector keeps its spare capacity.
+/// It is stored as passed in: nothing is copied, and an owned vector keeps its spare capacity.
 ///
 /// ```
 /// # use intaglio::bytes::BytesContent;
@@ -16,9 +16,9 @@ use std::alloc::{AllocError, Global};
 /// ```
 #[derive(Drop)]
 pub enum BytesContent {
-    /// Bytes that last as long as the program.
+    /// Bytes with the lifetime `'static`.
     Borrowed(&'static [u8]),
-    /// Bytes of the table's own.
+    /// Owned bytes.
     Owned(Vec<u8>),
 }
 

@@ -1,4 +1,4 @@
-//! Platform strings as contents. They are UTF-8 texts here.
+//! Platform strings, which are UTF-8 texts here, as contents.
 ghost use Rattle.std.specs.Prelude.{◌≡◌, [], ◌∷◌, refl};
 ghost use Rattle.intaglio_text.specs.OsStrContent.{os_str_content_bytes};
 ghost use Rattle.intaglio_text.specs.declared.osstr.content.OsStrContent.TheVariants.{Borrowed, Owned};
@@ -6,9 +6,10 @@ ghost use Rattle.intaglio_text.specs.declared.osstr.content.OsStrContent.TheVari
 use intaglio_content::{Bytewise, Content, Formed, Keyed, LookedUp, Spelled, ToContent};
 use std::alloc::{AllocError, Global};
 
-/// A platform string that a table stores: a UTF-8 text. Its spelling is its bytes, and its key is that one item.
+/// A platform string that a table stores: a UTF-8 text. Its spelling is its
+/// bytes, and its key is that one item.
 ///
-/// It is kept as it was passed in: nothing is copied, and an owned text keeps its spare capacity.
+/// It is stored as passed in: nothing is copied, and an owned text keeps its spare capacity.
 ///
 /// ```
 /// # use intaglio::osstr::OsStrContent;
@@ -16,9 +17,9 @@ use std::alloc::{AllocError, Global};
 /// ```
 #[derive(Drop)]
 pub enum OsStrContent {
-    /// A text that lasts as long as the program.
+    /// A text with the lifetime `'static`.
     Borrowed(&'static str),
-    /// A text of the table's own.
+    /// An owned text.
     Owned(String),
 }
 
