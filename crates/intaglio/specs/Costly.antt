@@ -1,11 +1,11 @@
--- What is no cost of a search or of an interning.
+-- What a search or an interning cannot cost.
 use Rattle.std.specs.Prelude.{◌≡◌, ◌≢◌, ℕ, ◌+◌, List, ◌∷◌, ◌++◌, length, Contains}
 use Rattle.intaglio_content.specs.Key.{Key}
 use Rattle.intaglio_content.specs.Work.{Mark, hashed, compared, placed}
 use Rattle.intaglio_core.specs.State.{State}
 use Rattle.intaglio_core.specs.Cost.{placed_count, IsSearchCost, IsAddingCost}
 
--- a search for a key, where the bucket of the key holds these keys, whatever marks it leaves besides
+-- a search for a key, whose bucket holds these keys, whatever other marks it leaves
 pub record SearchesAreCheap (hash : Key → ℕ) (k : Key) (bucket : List Key) : Type 0 where
   pub no_second_hashing : (x y : Key) (a b c : List Mark) → IsSearchCost hash k bucket (a ++ hashed x ∷ b ++ hashed y ∷ c) → ⊥
   pub hashes_sought_key : (x : Key) (a b : List Mark) → x ≢ k → IsSearchCost hash k bucket (a ++ hashed x ∷ b) → ⊥

@@ -4,7 +4,7 @@ use Rattle.intaglio_symbol.specs.Error.{intern_error_text, room_error_text}
 use Rattle.intaglio.specs.declared.error.TableError.{TableError}
 use Rattle.intaglio.specs.declared.error.TableError.TheVariants.{Room, Intern, Stale}
 
--- the text of its cause
+-- the text of the error inside
 abbrev pub table_error_text : TableError → List ℕ
 table_error_text (Room room) = room_error_text room
 table_error_text (Intern intern) = intern_error_text intern

@@ -1,4 +1,4 @@
--- The types of contents and of errors, for the definitions of a caller's own.
+-- The types of contents and of errors, for callers' own definitions.
 pub use Rattle.intaglio_text.specs.declared.content.StrContent.{StrContent}
 pub use Rattle.intaglio_text.specs.declared.osstr.content.OsStrContent.{OsStrContent}
 pub use Rattle.intaglio_bytes.specs.declared.bytes.content.BytesContent.{BytesContent}

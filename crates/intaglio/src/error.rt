@@ -1,4 +1,4 @@
-//! One error for functions that make tables and call them.
+//! One error type for functions that make tables and call them.
 ghost use Rattle.std.specs.Prelude.{◌≡◌, Some};
 ghost use Rattle.intaglio.specs.TableError.{table_error_text};
 ghost use Rattle.intaglio.specs.declared.error.TableError.TheVariants.{Intern, Room, Stale};
@@ -7,7 +7,8 @@ use intaglio_core::{InternError, RoomError, StaleMark};
 use std::error::Error;
 use std::fmt;
 
-/// Why a call of a table failed, whichever call it was: each error of a table becomes one by `?`, and is kept in it.
+/// Why a call of a table failed, for any call: `?` converts each error of a table
+/// into this one, which keeps it.
 ///
 /// ```
 /// use intaglio::{StrContent, SymbolTable, TableError};
@@ -23,11 +24,11 @@ use std::fmt;
 /// ```
 #[derive(Debug, Clone, Copy, PartialEq, Eq)]
 pub enum TableError {
-    /// A table wasn't made, or didn't change its capacity.
+    /// A table wasn't made, or a change of its capacity failed.
     Room(RoomError),
-    /// A content wasn't taken.
+    /// A content wasn't interned.
     Intern(InternError),
-    /// A mark is of more contents than the table holds.
+    /// A mark counts more contents than the table holds.
     Stale(StaleMark),
 }
 

@@ -1,8 +1,9 @@
 //! Symbol tables: each distinct string gets a small stable number, and the number gives the string back.
 //!
-//! [`SymbolTable`] interns texts; the modules [`bytes`], [`bstr`], [`cstr`], [`osstr`] and [`path`] have a table each for
-//! byte strings, C strings, platform strings and paths. Each is a [`Table`] of one kind of content, proved to mean a plain
-//! list of distinct contents, whose symbols are their places.
+//! [`SymbolTable`] interns texts; each of the modules [`bytes`], [`bstr`], [`cstr`], [`osstr`] and
+//! [`path`] has a table: for byte strings, C strings, platform strings and paths. Each is a [`Table`]
+//! of one kind of content. It is proved that a table behaves as a plain list of distinct contents,
+//! whose symbols are their positions.
 #![tactic(auto)]
 
 mod error;

@@ -1,4 +1,5 @@
-//! What no clause says: outside vectors, the tests of the ported crate, and each public call made once on each table.
+//! What no contract says: vectors from outside, the tests of the ported crate, and each public call made once
+//! on each table.
 
 mod batches;
 mod buckets;

@@ -21,7 +21,7 @@ fn contents<C: Made>(rt: &impl Abort, alloc: Global, words: &'static str) -> Vec
     contents
 }
 
-// Symbols as they are written.
+// Symbols as text.
 fn shown(rt: &impl Abort, alloc: Global, symbols: Result<Vec<Symbol>, InternError>) -> String {
     match symbols {
         Ok(symbols) => format!(in alloc; "{symbols:?}").expect(rt, "memory"),
@@ -29,7 +29,7 @@ fn shown(rt: &impl Abort, alloc: Global, symbols: Result<Vec<Symbol>, InternErro
     }
 }
 
-// Interns the words together, and says their symbols.
+// Interns the words as a batch, and returns their symbols as text.
 fn together<T: Interner>(
     rt: &impl Abort,
     alloc: Global,
@@ -44,7 +44,8 @@ where
     shown(rt, alloc, symbols)
 }
 
-// Words that are interned together into a table of at most four contents, their symbols, and how many contents there are then.
+// Batches of words for a table of at most four contents, their symbols, and how many
+// contents there are afterwards.
 const ROWS: [(&str, &str, usize); 5] = [
     ("b a b", "[Symbol(0), Symbol(1), Symbol(0)]", 2),
     ("a c c a", "[Symbol(1), Symbol(2), Symbol(2), Symbol(1)]", 3),
@@ -106,7 +107,7 @@ impl Trial for InternsAll {
     }
 }
 
-// The same by borrowed forms, which are looked up together then.
+// The same by borrowed forms, which are then looked up as a batch.
 #[derive(Clone, Copy)]
 struct InternsForms;
 

@@ -5,7 +5,7 @@ use super::telling::same;
 use crate::{Index, Symbol, Work};
 use std::process::Abort;
 
-// Symbols of these hashes, in as many buckets.
+// An index with symbols of these hashes, and as many buckets.
 fn filled<Rt: Abort + AllocGlobal>(rt: &Rt, hashes: &[u64]) -> Index
     requires { length hashes.now ≤ 2 ^ 32 }
     ensures { length result.hashes ≡ length hashes.now }
@@ -18,7 +18,7 @@ fn filled<Rt: Abort + AllocGlobal>(rt: &Rt, hashes: &[u64]) -> Index
     index
 }
 
-// A walk of the hash's bucket meets these symbols in this order, and no other.
+// Asserts that a walk of the hash's bucket meets these symbols in this order, and no others.
 fn meets(rt: &impl Abort, index: &Index, count: u32, hash: u64, wanted: &[u32])
     requires { count ≤ length index.now.hashes }
 {
@@ -32,7 +32,7 @@ fn meets(rt: &impl Abort, index: &Index, count: u32, hash: u64, wanted: &[u32])
     assert!(rt; next.is_none());
 }
 
-// A search for the hash finds these symbols in this order, and no other.
+// Asserts that a search for the hash finds these symbols in this order, and no others.
 fn finds(rt: &impl Abort, index: &Index, count: u32, hash: u64, wanted: &[u32])
     requires { count ≤ length index.now.hashes }
 {
@@ -46,7 +46,7 @@ fn finds(rt: &impl Abort, index: &Index, count: u32, hash: u64, wanted: &[u32])
     assert!(rt; next.is_none());
 }
 
-// Symbols of these hashes, in as many buckets, are met in this order.
+// Asserts that a walk meets symbols of these hashes, in as many buckets, in this order.
 fn fills<Rt: Abort + AllocGlobal>(rt: &Rt, hashes: &[u64], hash: u64, wanted: &[u32])
     requires { length hashes.now ≤ 5 }
 {
@@ -112,7 +112,7 @@ fn a_shrink_keeps_symbols(rt: HostRuntime) {
     meets(&rt, &index, 3, 2, &[2]);
 }
 
-// A hash in each bucket now and then.
+// A hash for each number, spread over the buckets.
 fn spread(number: u32) -> u64 {
     (number as u64).wrapping_mul(0x9E37_79B9_7F4A_7C15) >> 7
 }
@@ -136,7 +136,7 @@ fn walk(rt: &impl Abort, index: &Index, count: u32, hash: u64, number: u32) -> (
     (count, found)
 }
 
-// Each symbol is in its own bucket, and in no other one.
+// Asserts that each symbol is in its own bucket, and in no other one.
 fn stands(rt: &impl Abort, index: &Index, count: u32)
     requires { count ≤ length index.now.hashes }
 {

@@ -8,12 +8,12 @@ use std::hash::{BuildHasher, BuildHasherDefault, FoldHasher, Hash, Hasher, Rando
 /// Std's builder of fixed seed.
 pub type Fold = BuildHasherDefault<FoldHasher>;
 
-/// What std's builder of fixed seed makes of a value.
+/// The hash of a value by std's builder of fixed seed.
 pub fn hash_of<T: Hash + Drop>(value: T) -> u64 {
     Fold::new().hash_one(value)
 }
 
-/// A builder of hashers that may know how many it has made.
+/// A builder of hashers that may count how many it has made.
 pub trait Watched: BuildHasher + Drop {
     /// How many it has made, if it counts them.
     fn made(&self) -> Option<usize> {
@@ -25,7 +25,7 @@ impl Watched for BuildHasherDefault<FoldHasher> {}
 
 impl Watched for RandomState {}
 
-/// Finishes with a fixed number, if there is one, or else with the first byte that it was fed, or 0.
+/// Finishes with a fixed number, if there is one, or else with the first byte that was written, or 0.
 #[derive(Clone, Copy)]
 pub struct Known {
     fixed: Option<u64>,
@@ -49,7 +49,7 @@ impl Hasher for Known {
     }
 }
 
-/// Makes hashers whose hashes are known, and counts them.
+/// A builder of hashers with known hashes, which it counts.
 #[derive(Drop)]
 pub struct Counted {
     fixed: Option<u64>,
@@ -57,7 +57,7 @@ pub struct Counted {
 }
 
 impl Counted {
-    /// Of hashers that finish with this number, or with the first byte that they were fed.
+    /// For hashers that finish with this number, or else with the first byte that was written.
     pub fn new(fixed: Option<u64>) -> Counted {
         Counted {
             fixed,

@@ -32,8 +32,8 @@ fn makes(alloc: Global, bytes: Vec<u8>, wanted: Result<&[u8], usize>) -> bool {
     }
 }
 
-// Asserts what `from_bytes_with_nul` and `from_vec_with_nul` answer, the spelling, and what `new` does, the bytes with the
-// ending zero or the place of the first one.
+// Asserts what `from_bytes_with_nul` and `from_vec_with_nul` return, the spelling, and what `new` returns:
+// the bytes with the final zero, or the position of the first one.
 fn agrees(
     rt: &impl Abort,
     alloc: Global,

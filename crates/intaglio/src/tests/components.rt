@@ -5,8 +5,8 @@ use crate::{Sought, Work};
 use std::hash::{BuildHasherDefault, FoldHasher};
 use std::process::Abort;
 
-// A line for each text: the text, `>`, and its components with bars between them. `R` is the root, `C` a `.` and `P` a `..`;
-// the others are names.
+// A line for each text: the text, `>`, and its components with bars between them. `R` is the root, `C` a `.`
+// and `P` a `..`; the others are names.
 const TABLE: &str = "\
 >\n\
 .>C\n\
@@ -49,7 +49,7 @@ fn named(word: &str) -> Component<'_> {
     }
 }
 
-// Whether the components are those wanted, and none comes after them however often it is asked for.
+// Whether the components are the expected ones, and `next` keeps returning `None` after them.
 fn gives(text: &str, wanted: &str) -> bool {
     let mut rest = Path::new(text).components();
     if !wanted.is_empty() {

@@ -1,4 +1,4 @@
-//! Contents of each kind, made of their spelling, and the bytes of what is read back.
+//! Contents of each kind, made from their spelling, and the bytes of what is read back.
 use super::builders::Watched;
 use super::replies::paired;
 use super::steps::{Steps, walks};
@@ -13,7 +13,7 @@ use std::alloc::{AllocError, Global};
 use std::process::Abort;
 use std::str;
 
-/// A content that can be made of any spelling of its kind, and what differs from kind to kind in a table of them.
+/// A content that can be made from any spelling of its kind, and what differs between tables of the kinds.
 pub trait Made: Spelled + Sought<Self> + Drop {
     /// An owned content.
     fn owned(alloc: Global, spelling: &[u8]) -> Option<Self>;
@@ -27,14 +27,14 @@ pub trait Made: Spelled + Sought<Self> + Drop {
     /// Interns its borrowed form.
     fn put_form_in<S: Watched>(&self, table: &mut Table<Self, S>) -> Result<Symbol, InternError>;
 
-    /// Interns the borrowed forms of contents together.
+    /// Interns the borrowed forms of contents as a batch.
     fn put_forms_in<S: Watched>(
         alloc: Global,
         contents: &[Self],
         table: &mut Table<Self, S>,
     ) -> Result<Vec<Symbol>, InternError>;
 
-    /// Looks the borrowed forms of contents up together.
+    /// Looks up the borrowed forms of contents as a batch.
     fn find_forms_in<S: Watched>(
         alloc: Global,
         contents: &[Self],
@@ -44,7 +44,7 @@ pub trait Made: Spelled + Sought<Self> + Drop {
     /// Looks a symbol up.
     fn read_in<S: Watched>(alloc: Global, table: &Table<Self, S>, symbol: Symbol) -> Read;
 
-    /// Goes through the iterators of forms by their steps.
+    /// Makes the steps on the iterators of forms.
     fn go_through<R: Abort, S: Watched>(
         rt: &R,
         alloc: Global,

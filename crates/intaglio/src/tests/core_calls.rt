@@ -86,7 +86,7 @@ fn fills(rt: &impl Abort, table: &mut Table, texts: &'static str) {
     }
 }
 
-// What is read of a table of `abc`, `xyz`, `123` and `789`.
+// Reads a table of `abc`, `xyz`, `123` and `789`.
 fn reads(rt: &impl Abort, table: &Table) {
     same(rt, (table.is_empty(), table.contents().len()), (false, 4));
     same(
@@ -100,7 +100,7 @@ fn reads(rt: &impl Abort, table: &Table) {
     same(rt, table.all_symbols().nth(3), Some(Symbol::new(3)));
 }
 
-// What is lent of it.
+// Borrows from it.
 fn lends(rt: &impl Abort, table: &Table) {
     same(rt, table.form(Symbol::new(2)), Some("123"));
     same(rt, table.forms().nth(3), Some("789"));
@@ -109,7 +109,7 @@ fn lends(rt: &impl Abort, table: &Table) {
     assert_eq!(rt; table.pairs().nth(0), Some((Symbol::new(0), "abc")));
 }
 
-// What changes its room.
+// Changes its capacity.
 fn resizes(rt: &impl Abort, table: &mut Table) {
     same(
         rt,
@@ -133,7 +133,7 @@ fn resizes(rt: &impl Abort, table: &mut Table) {
     same(rt, (table.shrink_to_fit(), table.capacity()), (Ok(()), 4));
 }
 
-// What takes contents away.
+// Removes contents.
 fn cuts(rt: &impl Abort, table: &mut Table) {
     same(
         rt,

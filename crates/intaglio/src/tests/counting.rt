@@ -7,7 +7,7 @@ use std::alloc::{AllocError, Global};
 use std::cell::Cell;
 use std::hash::BuildHasher;
 
-/// A text that counts the comparisons that it was sought with.
+/// A text that counts the comparisons made with it as the sought value.
 #[derive(Drop)]
 pub struct Counting {
     text: StrContent,

@@ -1,4 +1,4 @@
-//! Trials that are made on tables of each of the six kinds.
+//! Trials on tables of each of the six kinds.
 use super::builders::Counted;
 use super::contents::{Made, content};
 use super::loops::{gives, keeps, numbered};
@@ -18,7 +18,7 @@ pub trait Trial {
     fn try_on<T: New, R: Abort>(&self, rt: &R, alloc: Global);
 }
 
-/// Tries it on tables of each kind.
+/// Runs the trial on tables of each kind.
 pub fn on_each<Q: Trial>(rt: &impl Abort, alloc: Global, trial: &Q) {
     trial.try_on::<SymbolTable, _>(rt, alloc);
     trial.try_on::<osstr::SymbolTable, _>(rt, alloc);
@@ -28,7 +28,7 @@ pub fn on_each<Q: Trial>(rt: &impl Abort, alloc: Global, trial: &Q) {
     trial.try_on::<path::SymbolTable, _>(rt, alloc);
 }
 
-/// A script, in one part for each table: how it is made, and the calls on it.
+/// A script, with one part for each table: how it is made, and the calls on it.
 #[derive(Clone, Copy)]
 pub struct Script(pub &'static str);
 
@@ -60,7 +60,7 @@ fn plays_part<T: New>(rt: &impl Abort, alloc: Global, part: &'static str) {
     }
 }
 
-/// Words that are interned in a new table, and then the steps of its iterators.
+/// Words that are interned into a new table, and the steps on its iterators afterwards.
 #[derive(Clone, Copy)]
 pub struct Walked {
     pub words: &'static str,
@@ -80,7 +80,7 @@ fn make<T: New>(rt: &impl Abort, alloc: Global) -> T {
     T::make(alloc, Make::New).expect(rt, "no table")
 }
 
-/// Symbols that have run out, beside those of an empty table.
+/// Exhausted symbol iterators, beside those of an empty table.
 #[derive(Clone, Copy)]
 pub struct RunOut;
 
@@ -101,7 +101,7 @@ fn alike(rt: &impl Abort, left: AllSymbols<'_>, right: AllSymbols<'_>) {
     assert!(rt; left == right);
 }
 
-/// A content, on a new table of its own.
+/// A content, in a new table.
 #[derive(Clone, Copy)]
 pub struct Kept<'a>(pub &'a [u8]);
 
@@ -115,8 +115,8 @@ impl<'a> Trial for Kept<'a> {
     }
 }
 
-/// Makes the calls of a script on tables of this capacity, whose hashers finish with this number, or with the first
-/// byte that they were fed.
+/// Makes the calls of a script on tables of this capacity, whose hashers finish with this number, or else
+/// with the first byte that was written.
 pub fn on_each_with(
     rt: &impl Abort,
     alloc: Global,

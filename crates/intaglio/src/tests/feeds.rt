@@ -41,7 +41,7 @@ fn byte_strings_feed_their_bytes_and_an_end(rt: HostRuntime) {
     feeds_else::<BStrContent, BStrContent>(&rt, &text, &[b"abc"]);
 }
 
-// The C string of bytes that end in their only zero.
+// The C string of bytes whose only zero is the last byte.
 fn c_string(rt: &impl Abort, ended: &'static [u8]) -> CStr<'static> {
     CStr::from_bytes_with_nul(ended).expect(rt, "a C string")
 }

@@ -1,4 +1,4 @@
-//! A builder whose hashers tell whether they were fed exactly what they wait for.
+//! A builder whose hashers report whether they got exactly the expected writes.
 ghost use Rattle.std.specs.Prelude.{◌+◌, ◌-◌, ◌^◌, ◌==◌, false, length, slice_get, if◌then◌else◌};
 ghost use Rattle.std.specs.Option.{option_map_or};
 ghost use Rattle.std.specs.Cmp.Lexicographic.{pointwise};
@@ -8,7 +8,7 @@ use crate::{Keyed, Sought, Work};
 use std::hash::{BuildHasher, Hasher};
 use std::process::Abort;
 
-/// Finishes with 1 exactly where it got the wanted writes in order and no other, and else with 0.
+/// Finishes with 1 if it got exactly the expected writes in order, and else with 0.
 #[derive(Clone, Copy)]
 pub struct Wanted {
     writes: &'static [&'static [u8]],
@@ -16,7 +16,7 @@ pub struct Wanted {
 }
 
 impl Wanted {
-    /// Waits for these writes.
+    /// Expects these writes.
     pub fn of(writes: &'static [&'static [u8]]) -> Wanted {
         Wanted { writes, heard: 0 }
     }
@@ -59,7 +59,7 @@ fn hash<C: Keyed, Q: Sought<C>>(sought: &Q, writes: &'static [&'static [u8]]) ->
     sought.hash_with(&Wanted::of(writes), &mut Work::new())
 }
 
-/// Asserts that hashing the value makes these writes and no other.
+/// Asserts that hashing the value makes exactly these writes.
 pub fn feeds<C: Keyed, Q: Sought<C>>(
     rt: &impl Abort,
     sought: &Q,

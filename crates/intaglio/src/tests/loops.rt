@@ -1,16 +1,16 @@
-//! Calls on many contents, whose answers are known by their numbers.
+//! Calls on many contents, whose results are computed from their numbers.
 use super::contents::content;
 use super::table::{Found, Read, Table};
 use crate::{Reply, Symbol};
 use std::alloc::Global;
 use std::process::Abort;
 
-/// Sees that the reply is the one that is wanted.
+/// Asserts that the reply is the expected one.
 pub fn gives(rt: &impl Abort, reply: Reply, wanted: Reply) {
     assert_eq!(rt; reply, wanted);
 }
 
-/// The reply of this symbol.
+/// The reply with this symbol.
 pub fn numbered(number: u32) -> Reply {
     Reply::Symbol(Some(Symbol::new(number)))
 }
@@ -19,7 +19,7 @@ fn copied(rt: &impl Abort, alloc: Global, spelling: &[u8]) -> Vec<u8> {
     spelling.to_vec(alloc).expect(rt, "memory")
 }
 
-// Up to which number the numbers of a line go.
+// The count as a `u32`.
 fn end(rt: &impl Abort, count: usize) -> u32 {
     u32::try_from(count).expect(rt, "too many")
 }
@@ -44,7 +44,7 @@ pub fn checks_all<T: Table>(rt: &impl Abort, alloc: Global, table: &T, count: us
     Reply::Done
 }
 
-/// Looks the decimal numbers up, by each of the three look-ups.
+/// Looks up the decimal numbers, by each of the three look-ups.
 pub fn finds_all<T: Table>(rt: &impl Abort, alloc: Global, table: &T, count: usize) -> Reply {
     for number in 0..end(rt, count) {
         let text = number.to_string(alloc).expect(rt, "memory");
@@ -61,8 +61,8 @@ fn finds<T: Table>(rt: &impl Abort, alloc: Global, table: &T, spelling: &[u8], n
     gives(rt, is, Reply::Bool(true));
 }
 
-/// Interns the decimal numbers from 0 with zeros in front to 100 bytes, each twice, and sees after
-/// each interning that the text is kept.
+/// Interns the decimal numbers from 0, padded with zeros to 100 bytes, each twice, and asserts after each
+/// interning that the text is kept.
 pub fn keeps_all<T: Table>(rt: &impl Abort, alloc: Global, table: &mut T, count: usize) -> Reply {
     for number in 0..end(rt, count) {
         let text = format!(in alloc; "{number:0100}").expect(rt, "memory");
@@ -72,7 +72,7 @@ pub fn keeps_all<T: Table>(rt: &impl Abort, alloc: Global, table: &mut T, count:
     Reply::Done
 }
 
-/// Interns a content, which gets this symbol, and sees that it is kept.
+/// Interns a content, which gets this symbol, and asserts that it is kept.
 pub fn keeps<T: Table>(
     rt: &impl Abort,
     alloc: Global,

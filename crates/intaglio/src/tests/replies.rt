@@ -1,4 +1,4 @@
-//! What calls answer, as replies, and replies as they are written in scripts.
+//! Results of calls as replies, and replies as scripts write them.
 use super::contents::Shown;
 use crate::{InternError, Reply, RoomError, StaleMark, Symbol};
 use std::alloc::Global;
@@ -31,7 +31,7 @@ pub fn counted(count: Option<usize>) -> Reply {
     }
 }
 
-/// The reply to a cut.
+/// The reply to a rollback.
 pub fn taken(answer: Result<(), StaleMark>) -> Reply {
     match answer {
         Ok(()) => Reply::Done,
@@ -55,7 +55,7 @@ pub fn paired<F: Shown>(alloc: Global, symbol: Symbol, form: F) -> Reply {
     }
 }
 
-/// A reply as it is written.
+/// A reply as text.
 pub fn said(rt: &impl Abort, alloc: Global, reply: &Reply) -> String {
     match reply {
         Reply::Symbol(Some(symbol)) => number(rt, alloc, symbol.id() as usize),
@@ -67,18 +67,18 @@ pub fn said(rt: &impl Abort, alloc: Global, reply: &Reply) -> String {
     }
 }
 
-/// A number as it is written.
+/// A number as text.
 pub fn number(rt: &impl Abort, alloc: Global, number: usize) -> String {
     number.to_string(alloc).expect(rt, "memory")
 }
 
-/// A spelling as it is written.
+/// A spelling as text.
 pub fn text(rt: &impl Abort, alloc: Global, spelling: &[u8]) -> String {
     let text = str::from_utf8(spelling).expect(rt, "no text");
     text.to_string(alloc).expect(rt, "memory")
 }
 
-/// A symbol and a spelling as they are written.
+/// A symbol and a spelling as text.
 pub fn numbered(rt: &impl Abort, alloc: Global, symbol: Symbol, spelling: &[u8]) -> String {
     let mut pair = number(rt, alloc, symbol.id() as usize);
     pair.push_str(" ").expect(rt, "memory");
@@ -87,7 +87,7 @@ pub fn numbered(rt: &impl Abort, alloc: Global, symbol: Symbol, spelling: &[u8])
     pair
 }
 
-// The one word of a reply that holds nothing else.
+// The word for a reply without a value.
 fn word_of(reply: &Reply) -> &'static str {
     match reply {
         Reply::Done => "done",

@@ -16,7 +16,7 @@ where
     agree(rt, alloc, script, replies.as_slice());
 }
 
-// Sees that the replies are those of the lines.
+// Asserts that the replies are those of the lines.
 fn agree(rt: &impl Abort, alloc: Global, script: &'static str, replies: &[Reply]) {
     assert_eq!(rt; replies.len(), script.lines().count());
     for (text, reply) in script.lines().zip(replies.iter()) {

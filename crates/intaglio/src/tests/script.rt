@@ -1,4 +1,4 @@
-//! Scripts of lines that each hold a call and the answer that is wanted.
+//! Scripts: each line has a call and its expected result.
 use super::contents::{content, lent};
 use super::loops::{checks_all, finds_all, interns_all, keeps_all};
 use super::replies::{counted, said};
@@ -7,7 +7,7 @@ use crate::{Mark, Reply, Symbol};
 use std::alloc::Global;
 use std::process::Abort;
 
-/// A line: the name of a call, what it is called on, and the answer that is wanted.
+/// A line: the name of a call, its arguments, and its expected result.
 #[derive(Clone, Copy)]
 pub struct Line {
     pub name: &'static str,
@@ -24,17 +24,17 @@ impl Line {
     }
 }
 
-/// The number that a word stands for.
+/// The number that a word says.
 pub fn size(rt: &impl Abort, word: &str) -> usize {
     word.parse().expect(rt, "no number")
 }
 
-/// The symbol that a word stands for.
+/// The symbol that a word says.
 pub fn symbol(rt: &impl Abort, word: &str) -> Symbol {
     Symbol::new(word.parse().expect(rt, "no number"))
 }
 
-/// Sees that the answer is the one that is wanted at this line.
+/// Asserts that the result is the one expected at this line.
 pub fn same(rt: &impl Abort, got: &str, wanted: &str, line: &str) {
     assert_eq!(rt; got, wanted, "{line}");
 }
@@ -60,7 +60,7 @@ pub fn plays<T: Table>(rt: &impl Abort, alloc: Global, table: &mut T, script: &'
     }
 }
 
-// What the table answers to one call.
+// What the table returns for one call.
 fn asks<T: Table>(rt: &impl Abort, alloc: Global, table: &mut T, line: Line) -> Option<Reply> {
     if let Some(reply) = puts(rt, alloc, table, line) {
         return Some(reply);

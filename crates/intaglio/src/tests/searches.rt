@@ -8,20 +8,20 @@ use std::alloc::Global;
 use std::fmt::Write;
 use std::process::Abort;
 
-// Texts of which many share a bucket, and how their searches go.
+// Texts, many of which share a bucket, and what their searches do.
 #[derive(Drop)]
 struct Row<'a> {
     capacity: usize,
-    // Texts that are interned, with a space between two.
+    // The texts to intern, separated by spaces.
     texts: &'a str,
     count: u32,
     // The most comparisons that interning one of them makes.
     most: usize,
-    // Missing texts whose hash is that of a stored one, one a line: they are compared once with each at most.
+    // Missing texts whose hash is that of a stored one, one per line: compared at most once with each.
     equal: &'a str,
-    // Missing texts of other hashes, one a line: they are compared with none.
+    // Missing texts of other hashes, one per line: compared with none.
     other: &'a str,
-    // How many hashers are made until here, where they are counted.
+    // How many hashers have been made by then, if they are counted.
     hashers: Option<usize>,
 }
 

@@ -1,4 +1,4 @@
-//! Iterators that are gone through by steps.
+//! Steps on iterators.
 use super::contents::Shown;
 use super::replies::{number, numbered, text};
 use super::script::same;
@@ -6,7 +6,7 @@ use crate::{AllSymbols, Formed, Forms, Pairs, Symbol};
 use std::alloc::Global;
 use std::process::Abort;
 
-/// Scripts whose lines hold the steps of an iterator with the answers that are wanted.
+/// Scripts whose lines have the steps on an iterator and their expected results.
 #[derive(Clone, Copy)]
 pub struct Steps {
     /// Those of `all_symbols`.
@@ -17,9 +17,9 @@ pub struct Steps {
     pub pairs: &'static str,
 }
 
-/// An iterator that can make a step.
+/// An iterator on which steps are made by name.
 pub trait Walk: Drop {
-    /// What the step of this name answers.
+    /// What the step of this name returns.
     fn step<R: Abort>(&mut self, rt: &R, alloc: Global, name: &str) -> Option<String>;
 }
 

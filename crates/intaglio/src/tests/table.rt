@@ -1,4 +1,4 @@
-//! The calls of a table in a form that a script can make, for tables of any kind.
+//! The calls of a table, as scripts make them, for tables of any kind.
 use super::builders::{Fold, Watched};
 use super::contents::{Made, Shown};
 use super::replies::{interned, roomy, spelled, taken};
@@ -22,7 +22,7 @@ pub enum Make {
     Limited(usize),
 }
 
-/// A call that changes a table, but for an interning.
+/// A call that changes a table, other than an interning.
 #[derive(Clone, Copy)]
 pub enum Change {
     /// `reserve`.
@@ -39,7 +39,7 @@ pub enum Change {
     TakeBack(Mark),
 }
 
-/// What the look-ups by a content answer.
+/// What the look-ups by a content return.
 #[derive(Drop)]
 pub struct Found {
     /// That of `check_interned`.
@@ -50,14 +50,14 @@ pub struct Found {
     pub is: Reply,
 }
 
-/// What the look-ups by a symbol answer.
+/// What the look-ups by a symbol return.
 #[derive(Drop)]
 pub struct Read {
     /// That of `contains`.
     pub contains: bool,
     /// That of `get`.
     pub get: Reply,
-    /// What stands at the symbol as an index, if it was issued.
+    /// That of `table[symbol]`, if the symbol was issued.
     pub index: Reply,
 }
 
@@ -73,7 +73,7 @@ pub struct Counts {
     pub hashers: Option<usize>,
 }
 
-/// A table, by the calls that are its own.
+/// A table, by its own calls.
 pub trait Table: Drop {
     /// What it stores.
     type Kind: Made;
@@ -110,23 +110,23 @@ pub trait Table: Drop {
     /// Looks a symbol up.
     fn read(&self, alloc: Global, symbol: Symbol) -> Read;
 
-    /// Asks for the numbers.
+    /// Gets the numbers.
     fn counts(&self) -> Counts;
 
     /// As `all_symbols`.
     fn symbols(&self) -> AllSymbols<'_>;
 
-    /// Goes through the other iterators by their steps.
+    /// Makes the steps on the other iterators.
     fn go<R: Abort>(&self, rt: &R, alloc: Global, steps: Steps);
 }
 
-/// A table that std's builder of fixed seed serves.
+/// A table with std's builder of fixed seed.
 pub trait New: Table {
     /// Makes a table.
     fn make(alloc: Global, how: Make) -> Result<Self, RoomError>;
 }
 
-/// What the look-ups by a symbol answer.
+/// What the look-ups by a symbol return.
 pub fn read_at<'a, C: Formed<'a>, S: Watched>(
     table: &'a crate::Table<C, S>,
     alloc: Global,
@@ -149,7 +149,7 @@ where
     }
 }
 
-/// Goes through the symbols and forms of a table by steps.
+/// Makes the steps on the iterator of symbols and forms of a table.
 pub fn walk_pairs<'a, C: Formed<'a>, S: Watched>(
     rt: &impl Abort,
     alloc: Global,

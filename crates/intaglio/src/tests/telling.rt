@@ -2,7 +2,7 @@
 use std::fmt::Debug;
 use std::process::Abort;
 
-/// Asserts that both are the same.
+/// Asserts that both are equal.
 pub fn same<T: PartialEq + Debug + Drop>(rt: &impl Abort, got: T, wanted: T) {
     assert_eq!(rt; got, wanted);
 }
@@ -12,7 +12,7 @@ pub fn copy_of<T: Clone>(rt: &impl Abort, value: &T) -> T {
     value.clone().expect(rt, "no memory")
 }
 
-/// Asserts that it holds.
+/// Asserts that the value is true.
 pub fn holds(rt: &impl Abort, value: bool) {
     assert!(rt; value);
 }
