@@ -1,4 +1,4 @@
--- What an encoded output holds, and what it is decoded to.
+-- What an encoded output contains, and what it is decoded to.
 use Rattle.std.specs.Prelude.{◌≡◌, ◌≢◌, ℕ, ◌<◌, ◌==◌, Bool, true, List, [], ◌∷◌, ◌++◌, length, slice_index_or, if◌then◌else◌, Option, All}
 use Rattle.std.specs.List.{flat_map}
 use Rattle.std.specs.Io.KnownBytes.{Appends}
@@ -8,14 +8,14 @@ use Rattle.intaglio_lines.specs.Encoded.{output_of, spelling_line}
 abbrev pub IsLine : List ℕ → Type 0
 IsLine bytes = All (λ byte. byte ≢ 10) bytes
 
--- the bytes are these symbols in decimal, an empty line and these spellings, each line ended by byte 10; each symbol is the
--- number of a spelling, counted from 0
+-- the bytes are these symbols in decimal, an empty line and these spellings, each line ended by byte 10; each
+-- symbol is the number of a spelling, counted from 0
 pub record Holds (symbols : List ℕ) (spellings : List (List ℕ)) (bytes : List ℕ) : Type 0 where
   pub whole : bytes ≡ output_of symbols spellings
   pub lines : All IsLine spellings
   pub known : All (λ symbol. symbol < length spellings) symbols
 
--- the spelling of each symbol, and byte 10 behind it
+-- the spelling of each symbol, followed by byte 10
 abbrev pub decoded : List ℕ → List (List ℕ) → List ℕ
 decoded symbols spellings = flat_map (λ symbol. spelling_line (slice_index_or spellings symbol [])) symbols
 
@@ -26,7 +26,7 @@ pub record Decodes (bytes output : List ℕ) : Type 0 where
   pub holds : Holds symbols spellings bytes
   pub same : output ≡ decoded symbols spellings
 
--- known bytes grow by what the bytes are decoded to
+-- known bytes grow by what these bytes are decoded to
 abbrev pub AppendsDecoded : List ℕ → Option (List ℕ) → Option (List ℕ) → Type 0
 AppendsDecoded bytes old new = (output : List ℕ) × Decodes bytes output × Appends old new output
 
@@ -36,6 +36,6 @@ is_ended [] = true
 is_ended (byte ∷ []) = byte == 10
 is_ended (byte ∷ next ∷ more) = is_ended (next ∷ more)
 
--- the bytes, and byte 10 behind the last line where it has none
+-- the bytes, with byte 10 added if the last line isn't ended
 abbrev pub with_last_line_ended : List ℕ → List ℕ
 with_last_line_ended bytes = if is_ended bytes then bytes else bytes ++ 10 ∷ []

@@ -8,11 +8,11 @@ use Rattle.intaglio_lines.specs.Lines.{lines_of}
 use Rattle.intaglio_lines.specs.Kind.{key_of}
 use Rattle.intaglio_lines.specs.declared.kind.Kind.{Kind}
 
--- a number in decimal, and byte 10
+-- a number in decimal, followed by byte 10
 abbrev pub number_line : ℕ → List ℕ
 number_line n = decimal n ++ 10 ∷ []
 
--- a spelling, and byte 10
+-- a spelling, followed by byte 10
 abbrev pub spelling_line : List ℕ → List ℕ
 spelling_line spelling = spelling ++ 10 ∷ []
 
@@ -20,7 +20,7 @@ spelling_line spelling = spelling ++ 10 ∷ []
 abbrev pub output_of : List ℕ → List (List ℕ) → List ℕ
 output_of symbols spellings = flat_map number_line symbols ++ 10 ∷ flat_map spelling_line spellings
 
--- what is written where contents are compared by a key of their spelling
+-- what is written if contents are compared by a key of their spelling
 abbrev pub encoded_by : (List ℕ → Key) → List ℕ → List ℕ
 encoded_by key input = output_of (issue key (lines_of input)) (interned_all key [] (lines_of input))
 

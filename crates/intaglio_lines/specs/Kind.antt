@@ -1,4 +1,4 @@
--- What each kind of content takes, and what its contents are compared by.
+-- What the lines of each kind may be, and what its contents are compared by.
 use Rattle.std.specs.Prelude.{ℕ, List, [], ◌∷◌, Bool, true, Option, Some, None, if◌then◌else◌, is_none, codes}
 use Rattle.std.specs.Str.{IsUtf8, bytes_eq}
 use Rattle.intaglio_content.specs.Key.{Key}
@@ -7,7 +7,7 @@ use Rattle.intaglio_path.specs.Components.{components}
 use Rattle.intaglio_lines.specs.declared.kind.Kind.{Kind}
 use Rattle.intaglio_lines.specs.declared.kind.Kind.TheVariants.{Text, Bytes, BStr, CStr, OsStr, Path}
 
--- the kind that a name asks for
+-- the kind with this name
 abbrev pub kind_of_word : List ℕ → Option Kind
 kind_of_word word =
     if bytes_eq word (codes "text") then Some Text
@@ -18,12 +18,12 @@ kind_of_word word =
     else if bytes_eq word (codes "path") then Some Path
     else None
 
--- the kind that arguments ask for: there is one, a kind's name
+-- the kind that the arguments name: there is one argument, the kind's name
 abbrev pub kind_of_words : List (List ℕ) → Option Kind
 kind_of_words (word ∷ []) = kind_of_word word
 kind_of_words _ = None
 
--- an input can be cut into lines of a kind: it is UTF-8 where the kind needs that
+-- an input can be split into lines of a kind: it is UTF-8 if the kind requires that
 abbrev pub Allows : Kind → List ℕ → Type 0
 Allows Text input = IsUtf8 input
 Allows Bytes input = Unit {0}
@@ -32,7 +32,7 @@ Allows CStr input = Unit {0}
 Allows OsStr input = IsUtf8 input
 Allows Path input = IsUtf8 input
 
--- whether a line can be a content of a kind: a C string holds no zero
+-- whether a line can be a content of a kind: a C string has no zero
 abbrev pub is_fit : Kind → List ℕ → Bool
 is_fit Text line = true
 is_fit Bytes line = true

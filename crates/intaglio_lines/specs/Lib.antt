@@ -1,4 +1,4 @@
--- What the contracts of the programs cite.
+-- What the contracts of this crate and of the programs cite.
 pub mod Lines
 pub mod Kind
 pub mod Encoded

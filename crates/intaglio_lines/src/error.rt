@@ -37,8 +37,8 @@ impl<T: Drop> From<AllocFailed<T>> for StreamError {
     }
 }
 
-/// Writes an error's text and byte 10, and returns the status of an error, 1. A failure to write it
-/// is ignored.
+/// Writes an error's text and byte 10, and returns the exit status of an error, 1. A
+/// failure to write it is ignored.
 pub fn report<F: Display + Drop, E: io::Write>(error: F, errors: &mut E) -> u8
     ensures { result ≡ 1 }
 {

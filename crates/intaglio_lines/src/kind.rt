@@ -20,8 +20,8 @@ pub enum Kind {
 }
 
 impl Kind {
-    /// The kind that the arguments after the program's name ask for. There is one argument, the
-    /// kind's name.
+    /// The kind that the arguments after the program's name name: there must be
+    /// one argument, the kind's name.
     pub fn from_words(words: &[String]) -> Option<Kind>
         ensures { result ≡ kind_of_words (map string_bytes words.now) }
     {
@@ -31,7 +31,7 @@ impl Kind {
         }
     }
 
-    // The kind of a name.
+    // The kind with this name.
     fn from_word(word: &str) -> Option<Kind>
         ensures { result ≡ kind_of_words (word.now ∷ []) }
     {
@@ -46,7 +46,7 @@ impl Kind {
         }
     }
 
-    /// Whether an input can be cut into lines of this kind. Some kinds need UTF-8.
+    /// Whether an input can be split into lines of this kind. Some kinds require UTF-8.
     pub fn allows(self, input: &[u8]) -> bool
         ensures { IsTrue result ↔ Allows self input.now }
     {

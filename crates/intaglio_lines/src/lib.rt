@@ -1,8 +1,8 @@
-//! What the programs share: inputs that are read whole, their lines, outputs that are written
-//! through a block, and the kinds of contents that lines become.
+//! What the programs share: reading an input to its end, its lines, writing an output through a block, and
+//! the kinds of contents that lines become.
 //!
-//! An encoded output holds the symbol of each line of an input, an empty line, and the spelling of
-//! each symbol. [`laws`] has what holds of encoding and decoding.
+//! An encoded output has the symbol of each line of an input, an empty line, and the spelling of each symbol.
+//! [`laws`] says what holds of encoding and decoding.
 #![tactic(auto)]
 
 pub mod error;

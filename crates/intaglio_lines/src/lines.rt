@@ -2,7 +2,7 @@
 ghost use Rattle.std.specs.Prelude.{◌≡◌, ◌<◌, ◌==◌, ◌⊎◌, [], ◌++◌, ◌∷◌, length, position, IfSome};
 ghost use Rattle.intaglio_lines.specs.Lines.{lines_of};
 
-/// The first line of an input, and what stands after it and its byte 10.
+/// The first line of an input, and what follows it and its byte 10.
 pub fn first_line(input: &[u8]) -> (&[u8], &[u8])
     requires { 0 < length input.now }
     ensures lines { lines_of input.now ≡ result.0.now ∷ lines_of result.1.now }
@@ -15,7 +15,7 @@ pub fn first_line(input: &[u8]) -> (&[u8], &[u8])
     }
 }
 
-// The place of the first byte 10.
+// The position of the first byte 10.
 fn end_of_line(input: &[u8]) -> Option<usize>
     ensures place { result ≡ position (λ b. b == 10) input.now }
     ensures bound { IfSome result (λ end. end < length input.now) }

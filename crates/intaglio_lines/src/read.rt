@@ -1,4 +1,4 @@
-//! Reads all of an input.
+//! Reads an input to its end.
 ghost use Rattle.std.specs.Prelude.{◌≡◌, OnOk, IfOk, IfErr, IfSome};
 ghost use Rattle.std.specs.Io.KnownBytes.{IsAtEnd};
 ghost use Rattle.intaglio_lines.specs.StreamError.{IsReadingError};
@@ -7,18 +7,18 @@ use crate::error::StreamError;
 use std::alloc::Global;
 use std::io::{ErrorKind, Read};
 
-// How many bytes a read may give.
+// How many bytes a read may return.
 const BLOCK: usize = 64 * 1024;
 
-/// All bytes of the input, up to its end. A read that is interrupted is made again.
+/// Reads all bytes of the input. An interrupted read is repeated.
 ///
-/// The memory for what a read gives is reserved before the read, so that an allocation failure is
-/// never taken for a read that failed.
+/// The memory for a read is reserved before it, so that an allocation failure is
+/// never mistaken for a failed read.
 ///
 /// # Errors
 ///
-/// `Memory` where an allocation failed, `Read` where a read failed or there was no end after
-/// `u64::MAX` reads.
+/// `Memory` if an allocation failed, `Read` if a read failed or the end wasn't
+/// reached after `u64::MAX` reads.
 pub fn read_all<R: Read>(alloc: Global, reader: &mut R) -> Result<Vec<u8>, StreamError>
     ensures bytes { IfOk result (λ bytes. IfSome (R.remaining reader.old) (λ input. bytes.items ≡ input)) }
     ensures end { OnOk result (IsAtEnd (R.remaining reader.new)) }

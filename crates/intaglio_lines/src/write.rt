@@ -1,4 +1,4 @@
-//! Outputs that are written through a block of fixed size.
+//! Writes outputs through a block of fixed size.
 ghost use Rattle.std.specs.Prelude.{◌≡◌, ◌≢◌, ◌+◌, ◌≤◌, ◌⊎◌, ℕ, List, [], OnOk, IfErr, vec_len, vec_capacity};
 ghost use Rattle.std.specs.Io.KnownBytes.{Appends, Keeps, append_known};
 ghost use Rattle.intaglio_lines.specs.Encoded.{spelling_line};
@@ -10,17 +10,17 @@ use std::alloc::Global;
 use std::io;
 use std::io::Write;
 
-// How many bytes are held before they are written.
+// How many bytes are buffered before they are written.
 const BLOCK: usize = 64 * 1024;
 
-/// What is written piece by piece, through a block.
+/// An output that is written piece by piece, through a block.
 pub trait Output {
     ghost bytes: { Self → List ℕ };
 
-    // What holds of each value that is written.
+    // What holds of each value when it is written.
     ghost is_ready: { Self → Type 0 };
 
-    /// Puts all of its bytes, by [`put`].
+    /// Writes all of its bytes, with [`put`].
     fn put_all<W: Write>(&self, block: &mut Vec<u8>, writer: &mut W) -> io::Result<()>
         requires { is_ready self.now }
         ensures { OnOk result (Appends (append_known (W.contents writer.old) block.old.items) (append_known (W.contents writer.new) block.new.items) (bytes self.now)) };
@@ -28,12 +28,12 @@ pub trait Output {
 
 /// Writes all bytes of an output, and flushes.
 ///
-/// One block is allocated before the first write, and nothing from then on.
+/// One block is allocated before the first write, and nothing after that.
 ///
 /// # Errors
 ///
-/// `Memory` where the block wasn't allocated, and then nothing was written. `Write` where a write or
-/// the flush failed, and then nothing is known of how much was written.
+/// `Memory` if the allocation of the block fails: then nothing was written. `Write` if a write or the flush
+/// fails: then it isn't known how much was written.
 pub fn write_output<O: Output, W: Write>(
     alloc: Global,
     output: &O,
@@ -66,7 +66,7 @@ fn write_through<O: Output, W: Write>(
     writer.flush()
 }
 
-/// Puts a line and byte 10.
+/// Writes a line and byte 10 through the block.
 ///
 /// # Errors
 ///
@@ -78,8 +78,8 @@ pub fn put_line<W: Write>(line: &[u8], block: &mut Vec<u8>, writer: &mut W) -> i
     put(b"\n", block, writer)
 }
 
-/// Puts a piece behind what was put before: into the block, or straight to the writer where it is
-/// longer than the block.
+/// Appends a piece to what was put before: to the block, or directly to the writer if the piece is longer
+/// than the block.
 ///
 /// # Errors
 ///
@@ -95,8 +95,8 @@ pub fn put<W: Write>(piece: &[u8], block: &mut Vec<u8>, writer: &mut W) -> io::R
     Ok(())
 }
 
-/// Where the block has no room for so many bytes more, writes what it holds. Then it has room for
-/// them or is empty.
+/// If the block has no room for `count` more bytes, writes out what it holds. Afterwards it
+/// has room for them or is empty.
 ///
 /// # Errors
 ///
