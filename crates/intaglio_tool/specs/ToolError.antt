@@ -1,4 +1,4 @@
--- What an error says.
+-- What errors say.
 use Rattle.std.specs.Prelude.{ℕ, Result, Ok, Err}
 use Rattle.intaglio_symbol.specs.declared.error.InternError.{InternError}
 use Rattle.intaglio_symbol.specs.declared.error.InternError.TheVariants as intern_error
@@ -7,7 +7,7 @@ use Rattle.intaglio_lines.specs.declared.error.StreamError.TheVariants as stream
 use Rattle.intaglio_tool.specs.declared.error.ToolError.{ToolError}
 use Rattle.intaglio_tool.specs.declared.error.ToolError.TheVariants.{NotUtf8, ZeroByte, Memory, Overflow, Read, Write}
 
--- P holds of the line's number, if the error is that a line holds a zero byte
+-- P holds of the line's number if the error is that a line has a zero byte
 abbrev pub IfZeroByte : ToolError → (ℕ → Type 0) → Type 0
 IfZeroByte (ZeroByte n) P = P n
 IfZeroByte _ P = Unit {0}
@@ -19,7 +19,7 @@ IsTakingError Memory = Unit {0}
 IsTakingError Overflow = Unit {0}
 IsTakingError _ = ⊥
 
--- the lines weren't taken, or what stands for them wasn't written
+-- the lines weren't interned, or their output wasn't written
 abbrev pub IsTakingOrWritingError : ToolError → Type 0
 IsTakingOrWritingError (ZeroByte n) = Unit {0}
 IsTakingOrWritingError Memory = Unit {0}
@@ -36,7 +36,7 @@ IsEncodingError Overflow = Unit {0}
 IsEncodingError Write = Unit {0}
 IsEncodingError _ = ⊥
 
--- the run ended because the input isn't text, or before its end was met
+-- the run ended because the input isn't UTF-8, or before the end of the input
 abbrev pub IsNotUtf8OrUnread : {T : Type 0} → Result T ToolError → Type 0
 IsNotUtf8OrUnread (Ok x) = ⊥
 IsNotUtf8OrUnread (Err NotUtf8) = Unit {0}
@@ -44,12 +44,12 @@ IsNotUtf8OrUnread (Err Memory) = Unit {0}
 IsNotUtf8OrUnread (Err Read) = Unit {0}
 IsNotUtf8OrUnread (Err _) = ⊥
 
--- what a run says of a table's refusal
+-- the error of a run for that of an interning
 abbrev pub refused_as : InternError → ToolError
 refused_as (intern_error.Overflow _) = Overflow
 refused_as (intern_error.Memory _) = Memory
 
--- what a run says of a reader's or a writer's failure
+-- the error of a run for that of a reader or a writer
 abbrev pub stopped_as : StreamError → ToolError
 stopped_as stream_error.Memory = Memory
 stopped_as stream_error.Read = Read

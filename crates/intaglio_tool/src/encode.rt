@@ -1,4 +1,4 @@
-//! From the bytes that are read to the bytes that are written.
+//! From the bytes read to the bytes written.
 ghost use Rattle.std.specs.Prelude.{◌≡◌, ◌≢◌, ◌+◌, ◌<◌, ◌≤◌, ◌^◌, [], not, length, OnOk, IfErr, IfSome};
 ghost use Rattle.std.specs.List.{position_or_len};
 ghost use Rattle.std.specs.Io.KnownBytes.{Appends, IsAtEnd};
@@ -26,15 +26,15 @@ use std::alloc::Global;
 use std::hash::BuildHasher;
 use std::io::{Read, Write};
 
-/// Interns the lines of the input into a table of that kind, and writes the symbol of each line, an
-/// empty line, and the spelling of each symbol.
+/// Interns the lines of the input into a table of that kind, and writes the symbol of each line, an empty
+/// line, and the spelling of each symbol.
 ///
-/// All of the input is read before any line is taken, all lines are taken before anything is
-/// written, and from the first write on no memory is asked for.
+/// The whole input is read before the first line is interned, all lines are interned before anything is
+/// written, and nothing is allocated after the first write.
 ///
 /// # Errors
 ///
-/// Those of [`ToolError`], the first one that comes. After each but `Write` nothing was written.
+/// Those of [`ToolError`]; the first one that occurs is returned. After each but `Write` nothing was written.
 pub fn encode<S: BuildHasher + Drop, R: Read, W: Write>(
     alloc: Global,
     kind: Kind,
@@ -45,13 +45,14 @@ pub fn encode<S: BuildHasher + Drop, R: Read, W: Write>(
     ensures written { OnOk result (IfSome (R.remaining reader.old) (λ input. Appends (W.contents writer.old) (W.contents writer.new) (encoded kind input))) }
     ensures all_read { OnOk result (IsAtEnd (R.remaining reader.new)) }
 
-    // Input that isn't UTF-8 is told exactly where the kind needs that and the end was met. No contract tells whether a reader
-    // was asked once more at its end, so that memory may have run out there: `encode_input` is exact.
+    // `NotUtf8` is returned only after the whole input was read and only if the kind doesn't allow it. A
+    // contract can't distinguish a reader at its end from one that has reported it, so an allocation may have
+    // failed in between: `encode_input` is exact.
     ensures not_utf8 { result ≡ Err NotUtf8 → IfSome (R.remaining reader.old) (λ input. ¬ (Allows kind input)) }
     ensures end_met { result ≡ Err NotUtf8 → IsAtEnd (R.remaining reader.new) }
     ensures refuses { IfSome (R.remaining reader.old) (λ input. ¬ (Allows kind input) → IsNotUtf8OrUnread result) }
 
-    // A line that doesn't fit is told by the number of the first one, and never passed over.
+    // The first line that doesn't fit is reported by its number, and never passed over.
     ensures zero { IfSome (R.remaining reader.old) (λ input. IfErr result (λ e. IfZeroByte e (λ n. (n ≡ position_or_len (λ line. not (is_fit kind line)) (lines_of input) + 1) × (n ≤ length (lines_of input))))) }
     ensures fit { IfSome (R.remaining reader.old) (λ input. OnOk result (position_or_len (λ line. not (is_fit kind line)) (lines_of input) ≡ length (lines_of input))) }
 
@@ -62,13 +63,12 @@ pub fn encode<S: BuildHasher + Drop, R: Read, W: Write>(
     encode_input(alloc, kind, builder, &input, writer)
 }
 
-/// The same for an input that was read: it is refused as `NotUtf8` exactly where the kind doesn't
-/// allow it.
+/// The same for an input that was read: it returns `NotUtf8` exactly if the kind doesn't allow the input.
 ///
 /// # Errors
 ///
-/// Those of [`ToolError`] but `Read`, the first one that comes. After each but `Write` nothing was
-/// written.
+/// Those of [`ToolError`] but `Read`; the first one that occurs is returned. After each
+/// but `Write` nothing was written.
 pub fn encode_input<S: BuildHasher + Drop, W: Write>(
     alloc: Global,
     kind: Kind,
@@ -98,7 +98,7 @@ pub fn encode_input<S: BuildHasher + Drop, W: Write>(
     }
 }
 
-// The same for an input whose lines become contents of this kind.
+// As `encode_input`, for an input whose lines become contents of this type.
 fn encode_by<'a, C: FromLine<'a>, S: BuildHasher + Drop, W: Write>(
     alloc: Global,
     builder: S,

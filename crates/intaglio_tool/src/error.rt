@@ -1,4 +1,4 @@
-//! Why a run ended before its end.
+//! Errors of a run.
 ghost use Rattle.std.specs.Prelude.{◌≡◌};
 ghost use Rattle.intaglio_tool.specs.ToolError.{refused_as, stopped_as};
 ghost use Rattle.intaglio_tool.specs.declared.error.RunError.TheVariants.{Encode};
@@ -9,20 +9,20 @@ use intaglio_lines::error::StreamError;
 use std::alloc::{AllocError, AllocFailed};
 use thiserror::Error;
 
-/// Why a run ended before its end.
+/// Why a run failed.
 #[derive(Debug, Drop, Error)]
 pub enum ToolError {
-    /// The input isn't UTF-8, and the kind needs that.
+    /// The input isn't UTF-8, and the kind requires that.
     #[error("input is not UTF-8")]
     NotUtf8,
-    /// A line that is to be a C string holds a zero byte. It is the first such line, and lines are
-    /// counted from 1.
+    /// A line that should be a C string has a zero byte. This is the first such
+    /// line; lines are counted from 1.
     #[error("line {0} holds a zero byte")]
     ZeroByte(u64),
     /// There are more distinct lines than symbols.
     #[error("Symbol overflow")]
     Overflow,
-    /// A growth was refused.
+    /// An allocation failed.
     #[error("out of memory")]
     Memory,
     /// A read failed, or the input didn't end.
@@ -49,7 +49,7 @@ impl<T: Drop> From<AllocFailed<T>> for ToolError {
     }
 }
 
-/// The program's tables are of the usual capacity, which is never too large.
+/// The program's tables have the default capacity, which is never too large.
 impl From<RoomError> for ToolError {
     ghost from_gives = { λ _ error. error ≡ Memory };
 
@@ -81,10 +81,10 @@ impl From<StreamError> for ToolError {
     }
 }
 
-/// Why a run whose arguments name a kind ended before its end.
+/// Why a run whose arguments name a kind failed.
 #[derive(Debug, Drop, Error)]
 pub enum RunError {
-    /// There is no builder, since the runtime gave no random seed.
+    /// There is no builder of hashers, since the runtime gave no random seed.
     #[error("no random seed")]
     NoSeed,
     /// The input wasn't encoded.

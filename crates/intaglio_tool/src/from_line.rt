@@ -1,4 +1,4 @@
-//! How a line of an input becomes a form that is interned.
+//! Lines of an input as forms that are interned.
 ghost use Rattle.std.specs.Prelude.{◌≡◌, ℕ, List, [], ◌∷◌, ◌++◌, Bool, true, is_none, is_some, None, IfSome, IsUtf8};
 ghost use Rattle.std.proofs.lemmas.Str.{IsUtf8-nil};
 ghost use Rattle.std.proofs.Common.{refl};
@@ -15,12 +15,12 @@ use intaglio::{Bytewise, Keyed, Sought, Spelled, StrContent, ToContent};
 use std::alloc::{AllocError, Global};
 use std::str;
 
-/// A content as a form of which a line of an input is interned.
+/// A content that is interned by a form of a line of an input.
 ///
-/// Not every input may be cut into lines, and not every line fits. Where an input is allowed, so is
-/// each part that a cut at a byte 10 leaves of it.
+/// Not every input may be split into lines, and not every line fits. If an input is allowed, so is each part
+/// that a split at a byte 10 gives.
 pub trait FromLine<'a>: Spelled + Sought<Self> + Drop {
-    /// The form that a line becomes.
+    /// The form of a line.
     type Line: ToContent<Self> + Drop;
 
     ghost allows: { List ℕ → Type 0 };
@@ -118,14 +118,14 @@ impl<'a> FromLine<'a> for BStrContent {
     }
 }
 
-// The place of the first zero byte, if there is one.
+// The position of the first zero byte, if there is one.
 fn first_zero(bytes: &[u8]) -> Option<usize>
     ensures { result ≡ first_zero bytes.now }
 {
     bytes.iter().position(|byte| *byte == 0)
 }
 
-/// A line with no zero byte: a C string that isn't ended yet.
+/// A line without a zero byte: a C string without its final zero.
 #[derive(Clone, Copy)]
 pub struct Unended<'a> {
     bytes: &'a [u8],

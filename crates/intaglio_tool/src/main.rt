@@ -36,12 +36,12 @@ fn main(rt: HostRuntime) -> ExitCode {
     ExitCode::from(status)
 }
 
-// The arguments after the program's name. Where one of them isn't text there are none, so that it is
-// a usage fault.
+// The arguments after the program's name. If one of them isn't text, there are
+// none, so that it is a usage error.
 fn words<R: Env + AllocGlobal>(rt: &R) -> Result<Vec<String>, ToolError> {
     match env::args(rt) {
         Ok(args) => {
-            // A loop, since `collect` asks again for less where memory is refused.
+            // A loop, since `collect` asks for less memory again after an allocation failed.
             let mut words = Vec::new(rt.alloc());
             for word in args.skip(1) {
                 words.push(word)?;

@@ -15,11 +15,11 @@ use std::io::{Read, Write};
 
 const USAGE: &str = "usage: intaglio_tool text|bytes|bstr|cstr|osstr|path";
 
-/// Runs the program on the arguments after its name, and answers the status. A fault is told on the
-/// last writer, whose own failures are passed over.
+/// Runs the program on the arguments after its name, and returns its exit status. An error is written to
+/// `faults`, whose own failures are ignored.
 ///
-/// The status is 0 after the whole output, 2 where the arguments name no kind, and else 1. Where they
-/// name none, or there is no builder, nothing is read or written.
+/// The status is 0 after the whole output, 2 if the arguments name no kind, and 1 otherwise. If they name
+/// none, or there is no builder, nothing is read or written.
 pub fn serve<S: BuildHasher + Drop, R: Read, W: Write, E: Write>(
     alloc: Global,
     words: &[String],
@@ -46,12 +46,12 @@ pub fn serve<S: BuildHasher + Drop, R: Read, W: Write, E: Write>(
     }
 }
 
-/// Encodes the input, where there is a builder.
+/// Encodes the input if there is a builder.
 ///
 /// # Errors
 ///
-/// `NoSeed` exactly where there is none, and then nothing was read or written; else the error of
-/// [`encode`].
+/// `NoSeed` exactly if there is none, and then nothing was read or written;
+/// otherwise the error of [`encode`].
 pub fn run<S: BuildHasher + Drop, R: Read, W: Write>(
     alloc: Global,
     kind: Kind,

@@ -12,10 +12,10 @@ use intaglio::{Interner, Symbol, Work, get_or_intern_all};
 use intaglio_lines::lines::first_line;
 use std::alloc::{AllocError, Global};
 
-// How many lines are interned at once: their memory is waited for together.
+// How many lines are interned as a batch, so that the cache misses of their look-ups overlap.
 const GROUP: usize = 64;
 
-// Some lines as forms, what stands behind these lines, and whether the next one fits.
+// Some lines as forms, the input after these lines, and whether the next line fits.
 #[derive(Drop)]
 struct Group<'a, F> {
     forms: Vec<F>,
@@ -23,13 +23,13 @@ struct Group<'a, F> {
     fits: bool,
 }
 
-/// Interns the lines of an input in order into an empty table, and answers their symbols. A line that equals an earlier one is
-/// not copied.
+/// Interns the lines of an input in order into an empty table, and returns their symbols. A line that equals
+/// an earlier one is not copied.
 ///
 /// # Errors
 ///
-/// `ZeroByte` at the first line that doesn't fit, `Overflow` where there are more distinct lines than
-/// the table holds, `Memory` where a copy or a growth was refused.
+/// `ZeroByte` for the first line that doesn't fit, `Overflow` if there are more distinct lines than the table
+/// can hold, `Memory` if an allocation failed.
 pub fn take_lines<'a, T: Interner>(
     alloc: Global,
     table: &mut T,

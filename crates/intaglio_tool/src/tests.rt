@@ -1,6 +1,7 @@
 //! Whole runs, their faults, and readers and writers that fail.
 //!
-//! A line of a test is a call of a helper, which is proved once; an assertion is proved anew wherever it is written.
+//! A line of a test is a call of a function, which is proved once; an assertion is
+//! proved again wherever it is written.
 use crate::encode::encode;
 use crate::error::ToolError;
 use crate::serve::serve;
@@ -108,7 +109,7 @@ fn lines_of_several_groups_are_taken_in_order(rt: HostRuntime) {
     seeded(&rt, "cstr", input.as_bytes(), told);
 }
 
-// What the program writes on the words of `arguments`, what it tells of faults, and its status.
+// What the program writes for the words of `arguments`, the errors that it writes, and its exit status.
 fn serves<Rt: Abort + AllocGlobal, R: Read>(
     rt: &Rt,
     arguments: &str,
@@ -189,7 +190,7 @@ fn faults_have_their_texts(rt: HostRuntime) {
     tells(&rt, ToolError::Write, b"write failed\n");
 }
 
-// The read of this number fails, and the run ends; where it was only interrupted, the run goes on.
+// If the read with this number fails, the run ends; if it is only interrupted, the run goes on.
 fn fails_at<Rt: Abort + AllocGlobal>(rt: &Rt, number: u64) {
     let mut written = Vec::new(rt.alloc());
     let mut failing = slow(INPUT);

@@ -1,4 +1,4 @@
-//! Writes what stands for the lines that were taken.
+//! Writes the symbols of the lines and the spellings.
 ghost use Rattle.std.specs.Prelude.{OnOk, map};
 ghost use Rattle.std.specs.Io.KnownBytes.{Appends, append_known};
 ghost use Rattle.std.specs.List.{flat_map};
@@ -9,11 +9,10 @@ use intaglio_lines::write::{Output, make_room, put, put_line};
 use std::io;
 use std::io::Write;
 
-// The longest line of a number: ten digits, and byte 10.
+// The length of the longest line of a number: ten digits and byte 10.
 const NUMBER_LINE: usize = 11;
 
-/// The symbols of lines, and the table that issued them: each symbol, an empty line, and each
-/// spelling that the table holds.
+/// The output: each line's symbol, an empty line, and each spelling in the table that issued the symbols.
 #[derive(Drop)]
 pub struct Encoding<'a, T> {
     /// The symbols of the lines.
@@ -49,7 +48,7 @@ fn put_symbols<W: Write>(symbols: &[Symbol], block: &mut Vec<u8>, writer: &mut W
 fn put_number<W: Write>(number: u32, block: &mut Vec<u8>, writer: &mut W) -> io::Result<()>
     ensures { OnOk result (Appends (append_known (W.contents writer.old) block.old.items) (append_known (W.contents writer.new) block.new.items) (number_line number)) }
 {
-    // There is room for the longest, so that the block never grows.
+    // There is room for the longest line, so the block never grows.
     make_room(NUMBER_LINE, block, writer)?;
     writeln!(block, "{number}")
 }
