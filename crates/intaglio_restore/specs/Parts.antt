@@ -1,10 +1,10 @@
--- What parts of an encoded output are.
+-- The parts of an encoded output.
 use Rattle.std.specs.Prelude.{ℕ, List, length, map}
 use Rattle.std.specs.Str.Parse.{digits_value}
 use Rattle.intaglio_lines.specs.Fault.{symbol_lines, AreKnown}
 use Rattle.intaglio_restore.specs.declared.parts.Parts.{Parts}
 
--- the symbols: the numbers of the lines in front of the first empty one
+-- the symbols: the numbers of the lines before the first empty one
 abbrev pub symbols_in : Parts → List ℕ
 symbols_in parts = map (digits_value 10) (symbol_lines parts.bytes.now)
 

@@ -1,4 +1,4 @@
--- What an error says.
+-- What errors say.
 use Rattle.std.specs.Prelude.{◌≡◌, Result, Ok, Err, Option, Some, string_bytes}
 use Rattle.intaglio_lines.specs.Fault.{Fault}
 use Rattle.intaglio_lines.specs.declared.error.StreamError.TheVariants as stream_error
@@ -19,12 +19,12 @@ IsParsingError (Stream stream_error.Read) = ⊥
 IsParsingError (Stream stream_error.Write) = ⊥
 IsParsingError _ = Unit {0}
 
--- P holds, if the error says that the input is wrong
+-- P holds if the error says that the input is wrong
 abbrev pub IfFault : RestoreError → Type 0 → Type 0
 IfFault (Stream failure) P = Unit {0}
 IfFault _ P = P
 
--- the run ended by a fault of the input, or before its end was met
+-- the run ended with a fault of the input, or before the end of the input
 abbrev pub IsRefused : {T : Type 0} → Result T RestoreError → Type 0
 IsRefused (Ok x) = ⊥
 IsRefused (Err (Stream stream_error.Write)) = ⊥

@@ -1,4 +1,4 @@
-//! Why a run ended before its end.
+//! Errors of a run.
 ghost use Rattle.std.specs.Prelude.{◌≡◌};
 ghost use Rattle.intaglio_lines.specs.declared.error.StreamError.TheVariants.{Memory};
 ghost use Rattle.intaglio_restore.specs.declared.error.RestoreError.TheVariants.{Stream};
@@ -7,13 +7,13 @@ use intaglio_lines::error::StreamError;
 use std::alloc::{AllocError, AllocFailed};
 use thiserror::Error;
 
-/// Why a run ended before its end. Lines are counted from 1.
+/// Why a run failed. Lines are counted from 1.
 #[derive(Debug, Drop, Error)]
 pub enum RestoreError {
-    /// This line is to be a symbol, and is no decimal number without sign and leading zeros.
+    /// This line should be a symbol, and isn't a decimal number without sign and leading zeros.
     #[error("line {0}: not a number")]
     NotANumber(u64),
-    /// There is no string of the number that a line is.
+    /// A line is a number, and no string has that number.
     #[error("line {line}: no string {number}")]
     NoString {
         /// The line's number.
@@ -21,13 +21,13 @@ pub enum RestoreError {
         /// What the line says.
         number: String,
     },
-    /// No line is empty, so that there are no strings.
+    /// No line is empty, so there are no strings.
     #[error("no empty line")]
     NoEmptyLine,
-    /// There is no byte 10 behind the last line.
+    /// The last line isn't ended by byte 10.
     #[error("last line not ended")]
     NotEnded,
-    /// The input wasn't read, or the output wasn't written.
+    /// The input couldn't be read, or the output couldn't be written.
     #[error(transparent)]
     Stream(StreamError),
 }

@@ -31,7 +31,7 @@ fn main(rt: HostRuntime) -> ExitCode {
     ExitCode::from(status)
 }
 
-// Whether there are arguments after the program's name. One that isn't text is an argument too.
+// Whether there are arguments after the program's name. One that isn't text counts too.
 fn has_arguments<R: Env + AllocGlobal>(rt: &R) -> Result<bool, StreamError> {
     match env::args(rt) {
         Ok(args) => Ok(args.skip(1).next().is_some()),

@@ -5,10 +5,10 @@ ghost use Rattle.std.specs.Str.{all_ascii_digits};
 ghost use Rattle.std.specs.Str.Parse.{digits_value};
 ghost use Rattle.intaglio_lines.specs.Fault.{is_number};
 
-/// The number that a line says in decimal, without sign and leading zeros, if it says one.
+/// The decimal number on the line, if there is one, without sign and leading zeros.
 ///
-/// A number above `u64::MAX` is given as `u64::MAX`, which is the number of no string: so many don't
-/// fit into memory.
+/// For a number above `u64::MAX` it returns `u64::MAX`, which is the number of no string:
+/// so many don't fit into memory.
 pub fn number_of(line: &[u8]) -> Option<u64>
     ensures { result ≡ (if is_number line.now then Some (min (digits_value 10 line.now) (2 ^ 64 - 1)) else None) }
 {
@@ -18,7 +18,7 @@ pub fn number_of(line: &[u8]) -> Option<u64>
     }
 }
 
-// The number that digits say, where there are digits alone.
+// The number of these digits, if all bytes are digits.
 fn value_of(digits: &[u8]) -> Option<u64>
     ensures { result ≡ (if all_ascii_digits digits.now then Some (min (digits_value 10 digits.now) (2 ^ 64 - 1)) else None) }
 {
@@ -32,7 +32,7 @@ fn value_of(digits: &[u8]) -> Option<u64>
     Some(value)
 }
 
-// The number that these digits and one more say.
+// The number of the digits so far and one more.
 fn with_digit(value: u64, digit: u8) -> u64
     requires { is_ascii_digit digit ≡ true }
     ensures { result ≡ min (value * 10 + (digit - 48)) (2 ^ 64 - 1) }

@@ -1,4 +1,4 @@
-//! Takes an encoded output apart.
+//! Parses an encoded output.
 ghost use Rattle.std.specs.Prelude.{◌≡◌, ◌<◌, [], length, map, slice_index_or, is_some, None, OnOk, IfOk, IfErr, IfSome};
 ghost use Rattle.std.specs.List.{list_any};
 ghost use Rattle.intaglio_lines.specs.Lines.{lines_of};
@@ -15,20 +15,20 @@ use std::alloc::{AllocError, Global};
 use std::io;
 use std::io::Write;
 
-/// The symbols of an encoded output, and its spellings.
+/// The symbols and spellings of an encoded output.
 #[derive(Drop)]
 pub struct Parts<'a> {
-    // The output. Its lines in front of the first empty one are the symbols.
+    // The output. Its lines before the first empty one are the symbols.
     bytes: &'a [u8],
     // The spelling of each number.
     spellings: Vec<&'a [u8]>,
 }
 
-/// Takes an encoded output apart.
+/// Parses an encoded output.
 ///
 /// # Errors
 ///
-/// What is wrong with the first line that is wrong, or `Memory`.
+/// The first fault of the input, or `Memory`.
 pub fn parse(alloc: Global, bytes: &[u8]) -> Result<Parts<'_>, RestoreError>
     ensures holds { IfOk result (λ parts. Holds (symbols_in parts) (spellings_in parts) bytes.now) }
     ensures sound { IfOk result AreSound }
@@ -52,7 +52,7 @@ pub fn parse(alloc: Global, bytes: &[u8]) -> Result<Parts<'_>, RestoreError>
     Ok(Parts { bytes, spellings })
 }
 
-// What stands behind the first empty line.
+// What follows the first empty line.
 fn behind_blank(bytes: &[u8]) -> Option<&[u8]>
     ensures any { is_some result ≡ list_any is_blank (lines_of bytes.now) }
     ensures behind { IfSome result (λ behind. lines_of behind.now ≡ spellings_of bytes.now) }
@@ -83,7 +83,7 @@ fn lines(alloc: Global, bytes: &[u8]) -> Result<Vec<&[u8]>, AllocError>
     Ok(lines)
 }
 
-// Whether each symbol is a number, and below the count of spellings where that is known.
+// Whether each symbol is a number, and below the count of spellings if that is known.
 fn check_symbols(alloc: Global, bytes: &[u8], count: Option<u64>) -> Result<(), RestoreError>
     ensures right { OnOk result (first_fault count 1 (symbol_lines bytes.now) ≡ None) }
     ensures fault { IfErr result (λ e. Reports e (first_fault count 1 (symbol_lines bytes.now))) }
@@ -103,7 +103,7 @@ fn check_symbols(alloc: Global, bytes: &[u8], count: Option<u64>) -> Result<(), 
     Ok(())
 }
 
-// The same for the symbol in the line of this number.
+// The same for the symbol on the line with this number.
 fn check_symbol(
     alloc: Global,
     line: &[u8],

@@ -1,4 +1,4 @@
-//! From the bytes that are read to the bytes that are written.
+//! From the bytes read to the bytes written.
 ghost use Rattle.std.specs.Prelude.{◌≡◌, ◌≢◌, None, OnOk, IfErr, IfSome};
 ghost use Rattle.std.specs.Io.KnownBytes.{IsAtEnd};
 ghost use Rattle.intaglio_lines.specs.Decoded.{AppendsDecoded};
@@ -14,14 +14,14 @@ use intaglio_lines::write::write_output;
 use std::alloc::Global;
 use std::io::{Read, Write};
 
-/// Decodes an output of `intaglio_tool`: writes the string of each symbol, and byte 10.
+/// Decodes an output of `intaglio_tool`: writes the string of each symbol, followed by byte 10.
 ///
-/// All of the input is read and checked before anything is written.
+/// The whole input is read and checked before anything is written.
 ///
 /// # Errors
 ///
-/// Those of [`RestoreError`]: what is wrong with the first line that is wrong, or a failure of the
-/// memory, the reader or the writer. After each but `Write` nothing was written.
+/// Those of [`RestoreError`]: the first fault of the input, or a failed allocation, read or write. After each
+/// but `Write` nothing was written.
 pub fn restore<R: Read, W: Write>(
     alloc: Global,
     reader: &mut R,
@@ -30,7 +30,7 @@ pub fn restore<R: Read, W: Write>(
     ensures written { OnOk result (IfSome (R.remaining reader.old) (λ input. AppendsDecoded input (W.contents writer.old) (W.contents writer.new))) }
     ensures all_read { OnOk result (IsAtEnd (R.remaining reader.new)) }
 
-    // A fault is that of the first line that is wrong, and is never passed over.
+    // The fault reported is that of the first wrong line, and is never passed over.
     ensures fault { IfSome (R.remaining reader.old) (λ input. IfErr result (λ e. Reports e (fault_of input))) }
     ensures end_met { IfErr result (λ e. IfFault e (IsAtEnd (R.remaining reader.new))) }
     ensures refuses { IfSome (R.remaining reader.old) (λ input. fault_of input ≢ None → IsRefused result) }

@@ -11,11 +11,11 @@ use std::io::{Read, Write};
 
 const USAGE: &str = "usage: intaglio_restore";
 
-/// Runs the program, and returns its status. An error is written to the last writer, whose own
-/// failures are ignored.
+/// Runs the program, and returns its exit status. An error is written to the last writer,
+/// whose own failures are ignored.
 ///
-/// The status is 0 after the whole output, 2 where there are arguments, and else 1. Where there are
-/// arguments nothing is read or written.
+/// The status is 0 after the whole output, 2 if there are arguments, and 1 otherwise. If there are arguments,
+/// nothing is read or written.
 pub fn serve<R: Read, W: Write, E: Write>(
     alloc: Global,
     has_arguments: bool,

@@ -1,6 +1,7 @@
 //! Whole runs, their errors, and readers and writers that fail.
 //!
-//! A line of a test is a call of a function, which is proved once; an assertion is proved anew wherever it is written.
+//! A line of a test is a call of a function, which is proved once; an assertion is
+//! proved again wherever it is written.
 use crate::error::RestoreError;
 use crate::restore::restore;
 use crate::serve::serve;
@@ -73,7 +74,7 @@ fn strings_longer_than_a_block_are_written_whole(rt: HostRuntime) {
     gives(&rt, input.as_bytes(), output.as_bytes());
 }
 
-// The status of a run on the input, and what it writes to its two writers.
+// The exit status of a run on the input, and what it writes to its two writers.
 fn serves<Rt: Abort + AllocGlobal>(
     rt: &Rt,
     has_arguments: bool,
@@ -99,7 +100,7 @@ fn a_run_succeeds_and_arguments_are_refused(rt: HostRuntime) {
     serves(&rt, true, INPUT, (2, b"", b"usage: intaglio_restore\n"));
 }
 
-// Each line is an input, with a bar for each byte 10, and what is reported of it.
+// Each line is an input, with a bar for each byte 10, and what is reported for it.
 const FAULTS: &str = "\
 >no empty line
 0|1|>no empty line
@@ -137,7 +138,7 @@ fn the_first_line_that_is_wrong_is_reported(rt: HostRuntime) {
     }
 }
 
-// The read of this number fails, and the run ends; where it was only interrupted, the run goes on.
+// If the read with this number fails, the run ends; if it is only interrupted, the run goes on.
 fn fails_at<Rt: Abort + AllocGlobal>(rt: &Rt, number: u64) {
     let (mut written, mut reported) = (Vec::new(rt.alloc()), Vec::new(rt.alloc()));
     let mut failing = slow(INPUT);
