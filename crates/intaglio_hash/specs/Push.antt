@@ -3,7 +3,7 @@ use Rattle.std.specs.Prelude.{ℕ, zero, suc, ◌+◌, ◌-◌, ◌*◌, ◌/◌
 use Rattle.std.specs.Hash.DefaultHasher.{wrapping_add, write_word}
 use Rattle.std.specs.declared.hash.DefaultHasher.{DefaultHasher}
 
--- the n bytes from i + j on as a number, the first of them lowest
+-- the n bytes from i + j on as a little-endian number
 abbrev pub number : List ℕ → ℕ → ℕ → ℕ → ℕ
 number bs i j zero = 0
 number bs i j (suc n) = get_or bs (i + j) 0 + 256 * number bs i (suc j) n
@@ -12,7 +12,8 @@ number bs i j (suc n) = get_or bs (i + j) 0 + 256 * number bs i (suc j) n
 abbrev pub with_tail : DefaultHasher → ℕ → ℕ → DefaultHasher
 with_tail s t n = record { v0 = s.v0; v1 = s.v1; v2 = s.v2; v3 = s.v3; tail = t; length = n }
 
--- the state after the n low bytes of x: they join the tail, and where that makes eight, a word goes in and the rest is the tail
+-- the state after the n low bytes of x: they are appended to the tail, and if that makes eight bytes, they
+-- are written as a word and the rest becomes the tail
 unfoldable pub after_push : DefaultHasher → ℕ → ℕ → DefaultHasher
 after_push s x n =
     let k = s.length % 8 in

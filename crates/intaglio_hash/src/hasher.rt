@@ -8,14 +8,14 @@ use std::fmt::{Debug, Formatter};
 use std::hash::Hasher;
 use std::marker::Model;
 
-/// A hasher that computes SipHash-1-3 under two keys, as std's `DefaultHasher` does.
+/// A hasher that computes SipHash-1-3 with two keys, as std's `DefaultHasher` does.
 ///
-/// Mostly a [`KeyedState`](crate::KeyedState) makes it. A contract sees it as the `DefaultHasher` in the same state, and
-/// its `write` and `finish` are those of that hasher: so under the same keys and after the same bytes it finishes with
-/// the same number, however the bytes are split into writes.
+/// Usually a [`KeyedState`](crate::KeyedState) builds it. A contract sees it as the `DefaultHasher` in the
+/// same state, and its `write` and `finish` are those of that hasher: with the same keys and the same bytes
+/// it returns the same hash, however the bytes are split into writes.
 ///
-/// It's faster because it reads eight bytes, and those left at the end, as one word each. A hashing takes no memory.
-/// `Debug` doesn't print the state.
+/// It is faster because it reads eight bytes, and those left at the end, as one word each. Hashing allocates
+/// nothing. `Debug` doesn't print the state.
 ///
 /// ```
 /// use intaglio_hash::KeyedHasher;
@@ -34,9 +34,9 @@ pub struct KeyedHasher {
     v1: u64,
     v2: u64,
     v3: u64,
-    // The bytes since the last whole word, the first of them lowest.
+    // The bytes since the last whole word, in little-endian order.
     tail: u64,
-    // How many bytes were written. It wraps.
+    // The number of bytes written. It wraps.
     length: u64,
 }
 
@@ -51,7 +51,7 @@ impl Model for KeyedHasher {
 }
 
 impl KeyedHasher {
-    /// A hasher with these two keys, to which nothing was written.
+    /// A hasher with these two keys, before any write.
     ///
     /// ```
     /// # use intaglio_hash::KeyedHasher;
@@ -89,7 +89,7 @@ impl KeyedHasher {
         self.v3 = three.rotate_left(21) ^ zero;
     }
 
-    // Takes in eight bytes as one number.
+    // Writes eight bytes, given as one number.
     #[inline]
     fn write_word(&mut self, word: u64)
         ensures { self.new ≡ sip_write_word self.old word }
@@ -99,7 +99,7 @@ impl KeyedHasher {
         self.v0 ^= word;
     }
 
-    // Takes in the `count` low bytes of `number`, whose others are 0.
+    // Writes the `count` low bytes of `number`, whose other bytes are 0.
     #[inline]
     fn push(&mut self, number: u64, count: u64)
         requires { count ≤ 8 }
@@ -162,7 +162,7 @@ fn read_short(bytes: &[u8]) -> u64
     }
 }
 
-// The bytes from `at` on, fewer than eight, of eight or more in all.
+// The bytes from `at` on, which are fewer than eight, of eight or more in total.
 #[inline]
 fn read_last(bytes: &[u8], at: usize) -> u64
     requires long { 8 ≤ length bytes.now }
@@ -179,14 +179,14 @@ impl Hasher for KeyedHasher {
 
     ghost finish = { sip_finish };
 
-    // Where this is a call of its own, the state goes through memory, and a hashing takes half as long again.
+    // If this isn't inlined, the state goes through memory, and hashing takes half as long again.
     #[inline(always)]
     fn write(&mut self, bytes: &[u8]) {
         if bytes.len() < 8 {
             self.push(read_short(bytes), bytes.len() as u64);
             return;
         }
-        // A copy stays in registers.
+        // A local copy stays in registers.
         let mut state = *self;
         let mut at = 0;
         while bytes.len() - at >= 8 {
@@ -197,7 +197,7 @@ impl Hasher for KeyedHasher {
         *self = state;
     }
 
-    // The end of a text, mostly: no byte is read from memory.
+    // Mostly the end of a text: no byte is read from memory.
     #[inline]
     fn write_u8(&mut self, i: u8) {
         self.push(i as u64, 1);

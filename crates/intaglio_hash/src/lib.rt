@@ -1,27 +1,29 @@
 #![tactic(auto)]
 //! A hasher with two keys: SipHash-1-3, with the values of std's hashers.
 //!
-//! A table hashes contents with the hashers that its builder makes. These are the builders to choose from:
+//! A table hashes contents with the hashers of its builder. These are the builders to choose from:
 //!
-//! | Builder | Keys | Take it where |
-//! |---|---|---|
-//! | `BuildHasherDefault<FoldHasher>`, a table's default | a fixed seed | nobody picks contents to slow the program down; it's the fastest of the three |
-//! | [`KeyedState`] | random, or two numbers | contents come from strangers, or several tables or runs must agree on hashes |
-//! | std's `RandomState` | random | a type asks for it; [`KeyedState::from_random`] has keys as unpredictable, and is faster |
+//! - `BuildHasherDefault<FoldHasher>`, a table's default, has a fixed seed. Use it where nobody chooses
+//!   contents to slow the program down: it is the fastest of the three.
+//! - [`KeyedState`] has random keys, or two numbers. Use it where contents come from untrusted sources, or
+//!   where several tables or runs must agree on hashes.
+//! - std's `RandomState` has random keys. Use it where a type requires it: [`KeyedState::from_random`] has
+//!   keys that are as unpredictable, and is faster.
 //!
 //! # What keys protect against
 //!
-//! Whoever can compute a table's hashes can find contents that all fall in one bucket. Each search among n of them then
-//! takes n steps. A fixed seed is the same in every program, so that one such list of contents works against all of them.
-//! Under two random keys that stay secret nobody is known to be able to find such contents.
+//! Whoever can compute a table's hashes can find contents that all fall in one bucket. Each search
+//! among n of them then takes n steps. A fixed seed is the same in every program, so one such list
+//! of contents works against all of them. With two random keys that stay secret, nobody is known to
+//! be able to find such contents.
 //!
 //! - Keys that are written in a program, or that are printed, protect no better than a fixed seed.
-//! - Contents are still compared where their hashes are equal: a bad hash makes a table slow and never wrong.
-//! - Hashes aren't signatures or checksums. 64 bits are too few for that, and SipHash-1-3 is the faster, weaker form
-//!   of SipHash-2-4.
+//! - Contents are still compared where hashes are equal: a bad hash makes a table slow, never wrong.
+//! - Hashes aren't signatures or checksums. 64 bits are too few for that, and SipHash-1-3 is the faster,
+//!   weaker form of SipHash-2-4.
 //!
-//! What is proved is that the hashes are those of std's hasher under the same keys. That SipHash spreads hashes well and
-//! can't be predicted rests on the work of its authors.
+//! It is proved that the hashes are those of std's hasher with the same keys. That SipHash spreads hashes
+//! well and can't be predicted rests on the work of its authors.
 
 mod hasher;
 mod state;

@@ -8,10 +8,10 @@ use std::fmt;
 use std::fmt::{Debug, Formatter};
 use std::hash::{BuildHasher, RandomState};
 
-/// A builder of [`KeyedHasher`]s, which all have the same two keys.
+/// A builder of [`KeyedHasher`]s, all with the same two keys.
 ///
-/// It takes the place of std's `RandomState` where hashes should be faster, and of a builder with a fixed seed where
-/// contents come from strangers. The [crate's page](crate) says which to take when.
+/// Use it instead of std's `RandomState` where hashing should be faster, and instead of a builder with a
+/// fixed seed where contents come from untrusted sources. The [crate's page](crate) compares the builders.
 ///
 /// Copies have the same keys. `Debug` doesn't print them.
 ///
@@ -34,8 +34,8 @@ pub struct KeyedState {
 impl KeyedState {
     /// A builder with these two keys.
     ///
-    /// The same keys give the same hashes in each table, run and program. They protect against chosen contents only
-    /// while they are random and secret.
+    /// The same keys give the same hashes in each table, run and program. They protect against chosen
+    /// contents only while they are random and secret.
     ///
     /// ```
     /// # use intaglio_hash::KeyedState;
@@ -50,10 +50,10 @@ impl KeyedState {
         KeyedState { key0, key1 }
     }
 
-    /// A builder whose keys are the hashes that `random` gives of `0u64` and of `1u64`.
+    /// A builder whose keys are the hashes of `0u64` and of `1u64` by `random`.
     ///
-    /// They are as hard to guess as those of `random`. The hashes are other ones than `random` gives: a `RandomState`
-    /// doesn't show its keys. The same `random` always gives the same builder.
+    /// They are as hard to guess as those of `random`. The hashes differ from those of `random`, since a
+    /// `RandomState` doesn't show its keys. The same `random` always gives the same builder.
     ///
     /// ```
     /// # use intaglio_hash::KeyedState;

@@ -4,12 +4,12 @@ use std::collections::HashMap;
 use std::hash::{BuildHasher, DefaultHasher, Hasher, RandomState};
 use std::test::Fail;
 
-// The bytes 0 to 7 and 8 to 15, as SipHash's authors have them in their vectors.
+// The bytes 0 to 7 and 8 to 15, as in the vectors of SipHash's authors.
 const KEY0: u64 = 0x0706_0504_0302_0100;
 
 const KEY1: u64 = 0x0f0e_0d0c_0b0a_0908;
 
-// Under the keys 0 and 0: of the bytes 0, 1, 2, .., as many as the place says.
+// With the keys 0 and 0: the hash of the bytes 0, 1, 2, .., as many as the position says.
 static PLAIN: [u64; 64] = [
     0xd1fb_a762_150c_532c,
     0x68a9_1412_8e01_e473,
@@ -77,7 +77,7 @@ static PLAIN: [u64; 64] = [
     0x385d_3e39_e5f3_7359,
 ];
 
-// The same under the keys above.
+// The same with the keys above.
 static KEYED: [u64; 64] = [
     0xabac_0158_050f_c4dc,
     0xc9f4_9bf3_7d57_ca93,
@@ -145,7 +145,8 @@ static KEYED: [u64; 64] = [
     0x9d19_9062_b7bb_b3a8,
 ];
 
-// How many of the bytes 0, 1, .., 255, 0, 1, .. there are, and their hash under the keys above. The length wraps at 256.
+// How many of the bytes 0, 1, .., 255, 0, 1, .. there are, and their hash with the keys
+// above. The length wraps at 256.
 static LONG: [(usize, u64); 4] = [
     (255, 0xf762_14e3_153c_4a15),
     (256, 0x75b3_e64e_167d_e370),
