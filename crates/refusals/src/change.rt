@@ -1,8 +1,8 @@
-//! The calls that are made, each by the table's own call or by a run.
+//! The calls to make, each by the table's own call or by a run.
 use crate::kinds::{FixedTable, Stored};
 use intaglio::{Call, InternError, Mark, Reply, RoomError, Symbol};
 
-/// A call that takes no content and can be made again.
+/// A call without a content, which can be repeated.
 #[derive(Clone, Copy)]
 pub enum Change {
     Reserve(usize),
@@ -21,8 +21,9 @@ pub enum Ask<C> {
 }
 
 impl<C> Ask<C> {
-    /// What the call is told as. Std's own shrink of a list keeps a refusal to itself, and the list then keeps its room, so
-    /// the last of the requests of a shrink has no answer.
+    /// The name that is printed for the call. Std's own shrink of a list doesn't report a failed
+    /// allocation, and the list then keeps its capacity, so no call reports it if the last
+    /// request of a shrink is refused.
     pub fn name(&self) -> &'static str {
         match self {
             Ask::Intern(_) => "intern",
@@ -50,8 +51,8 @@ impl<C> Ask<C> {
     }
 }
 
-/// Makes a call by the table's own call of that name, and answers as a run does. Look-ups aren't made: they answer that the
-/// mark is stale.
+/// Makes a call by the table's own call of that name, and returns the reply of a run. Look-ups aren't made:
+/// the reply is then that the mark is stale.
 pub fn own<C: Stored>(table: &mut FixedTable<C>, ask: Ask<C>) -> Reply {
     match ask {
         Ask::Intern(content) => reply_of_intern(table.intern(content)),

@@ -1,4 +1,4 @@
-//! The contents of a run, all made before its table.
+//! The contents of a run, all made before the table.
 use crate::kinds::Stored;
 use intaglio::Call;
 use std::alloc::{AllocError, Global};
@@ -10,18 +10,18 @@ pub struct Contents<C: Stored> {
     pub texts: Vec<String>,
     /// A content of each, to look it up.
     pub sought: Vec<C>,
-    /// Two contents of each, the first number's on top: a refused interning drops the one handed in.
+    /// Two contents of each, the first number's on top: a failed interning drops its argument.
     pub fresh: Vec<(C, C)>,
-    /// Two more of each, in the same order, for look-ups that take one.
+    /// Two more of each, in the same order, for look-ups that take a content.
     pub asked: Vec<(C, C)>,
-    /// Empty lists with room for one call each.
+    /// Empty lists, each with capacity for one call.
     pub lists: Vec<Vec<Call<C>>>,
 }
 
 const LISTS: usize = 200;
 
 impl<C: Stored> Contents<C> {
-    /// The contents of the numbers below a count.
+    /// The contents of the numbers below `count`.
     pub fn make(alloc: Global, count: u32) -> Result<Contents<C>, AllocError> {
         let mut contents = Contents {
             texts: Vec::new(alloc),

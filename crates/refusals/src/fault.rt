@@ -1,18 +1,18 @@
-//! Why a run isn't what the list says.
+//! Why a run differs from the list.
 use std::alloc::AllocError;
 
-/// Why a run isn't what the list says.
+/// Why a run differs from the list.
 #[derive(Clone, Copy, Debug)]
 pub enum Fault {
     /// The arguments name no run.
     Words,
-    /// There was no memory for the run itself.
+    /// An allocation for the run itself failed.
     Making,
-    /// An answer isn't the list's, in the call of that number.
+    /// The call with this number returned something else than the list does.
     Answer(u32),
-    /// The table isn't the list after the call of that number.
+    /// After the call with this number, the table differs from the list.
     State(u32),
-    /// A refusal was answered twice, the second time in the call of that number.
+    /// Two calls failed for memory; the second one has this number.
     Twice(u32),
 }
 

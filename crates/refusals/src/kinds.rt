@@ -1,4 +1,4 @@
-//! The six kinds of contents, and how a table of them is made.
+//! The six kinds of contents, and how their tables are made.
 use bstr::BString;
 use intaglio::bstr::BStrContent;
 use intaglio::bytes::BytesContent;
@@ -9,7 +9,7 @@ use intaglio::{RoomError, Sought, Spelled, StrContent, Symbol, Table};
 use std::alloc::{AllocError, Global};
 use std::hash::{BuildHasherDefault, FoldHasher};
 
-/// A table under the default builder.
+/// A table with the default builder.
 pub type FixedTable<C> = Table<C, BuildHasherDefault<FoldHasher>>;
 
 /// The constructors.
@@ -36,9 +36,9 @@ pub fn make_table<C: Stored>(alloc: Global, making: Making) -> Result<FixedTable
     }
 }
 
-/// What differs from kind to kind.
+/// What differs between the kinds.
 pub trait Stored: Spelled + Sought<Self> + Drop {
-    /// A content that is spelled as the text.
+    /// A content with the text as its spelling.
     fn of_text(alloc: Global, text: String) -> Result<Self, AllocError>;
 
     /// Looks it up by its borrowed form.

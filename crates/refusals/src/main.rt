@@ -1,8 +1,10 @@
-//! Makes fixed runs of calls on each of the six tables, and compares every answer with a list made before.
+//! Makes fixed runs of calls on each of the six tables, and compares every result
+//! with that of a list made before.
 //!
-//! Each call is told on standard error, and each refusal that a call answered, so that a judge that refuses requests for
-//! memory sees which call answered for which. With no argument all runs are made; with a table's name and a run's, that one, and
-//! with `rows` in place of a table's name the rows whose texts are given.
+//! It prints each call to standard error before it makes it, and each failure for memory that a call reports,
+//! so that a harness that refuses requests for memory sees which call reported which. Without arguments it
+//! makes all runs; with a table's name and a run's, that one; with `rows` in place of a table's name, the
+//! rows whose texts are given.
 #![tactic(auto)]
 
 mod change;
@@ -54,7 +56,7 @@ fn main(rt: HostRuntime) -> ExitCode {
     }
 }
 
-// The run that the arguments name, or all.
+// The run that the arguments name, or all runs.
 fn asked<R: Env + Eprint + AllocGlobal>(rt: &R) -> Result<(), Fault> {
     let Ok(mut words) = env::args(rt) else {
         return Err(Fault::Making);

@@ -1,4 +1,4 @@
-//! Tables and C strings whose making is refused memory.
+//! Tables and C strings, with failing allocations.
 use crate::fault::Fault;
 use crate::kinds::{Making, Stored, make_table};
 use crate::watched::tell;
@@ -9,7 +9,7 @@ use std::alloc::{AllocError, Global};
 // One more than the most contents that a table can hold.
 const TOO_MANY: usize = 4294967297;
 
-// What came of a making.
+// The outcome of a constructor.
 #[derive(Clone, Copy)]
 enum Made {
     Right,
@@ -32,7 +32,7 @@ impl Made {
     }
 }
 
-/// Makes a table by each constructor, and a C string. A refused one makes none, and is made again.
+/// Makes a table by each constructor, and a C string. If one fails, nothing was made, and it is called again.
 pub fn make_all<C: Stored>(rt: &(impl Eprint + AllocGlobal)) -> Result<(), Fault> {
     let full = full_bytes(rt.alloc())?;
     let again = full_bytes(rt.alloc())?;
@@ -68,7 +68,7 @@ fn make<C: Stored>(
     }
 }
 
-// Makes an empty table, which is to have that capacity.
+// Makes an empty table, which should have that capacity.
 fn table_made<C: Stored>(alloc: Global, making: Making, capacity: usize) -> Made {
     match make_table::<C>(alloc, making) {
         Ok(table) if table.is_empty() && table.capacity() == capacity => Made::Right,
@@ -78,7 +78,7 @@ fn table_made<C: Stored>(alloc: Global, making: Making, capacity: usize) -> Made
     }
 }
 
-/// Makes what needs no memory: empty tables, and what is refused for its size.
+/// Calls what allocates nothing: constructors of tables of capacity 0, and those that fail because of a size.
 pub fn make_without_memory<C: Stored>(alloc: Global) -> bool {
     is_empty::<C>(alloc, Making::WithCapacity(0))
         && is_empty::<C>(alloc, Making::WithCapacityAndHasher(0))
@@ -90,7 +90,7 @@ pub fn make_without_memory<C: Stored>(alloc: Global) -> bool {
         && table_made::<C>(alloc, Making::WithLimit(0), 0).is_too_large()
 }
 
-// Whether the constructor makes an empty table of capacity 0, on which a run of no call goes well.
+// Whether the constructor makes an empty table of capacity 0, on which a run of no calls succeeds.
 fn is_empty<C: Stored>(alloc: Global, making: Making) -> bool {
     match make_table::<C>(alloc, making) {
         Ok(mut table) => {
@@ -103,7 +103,7 @@ fn is_empty<C: Stored>(alloc: Global, making: Making) -> bool {
     }
 }
 
-// Makes a C string of bytes with no spare capacity, so that the ending zero takes a growth.
+// Makes a C string of bytes without spare capacity, so that the final zero makes the vector grow.
 fn grow_c_string(
     rt: &(impl Eprint + AllocGlobal),
     full: Vec<u8>,

@@ -1,4 +1,4 @@
-//! Runs of a few calls on tables of texts, with the texts and the answers that stand in docs/ROWS.md.
+//! Runs of a few calls on tables of texts, with the texts and the results of docs/ROWS.md.
 use crate::fault::Fault;
 use crate::watched::tell;
 use intaglio::{InternError, Mark, StrContent, Symbol, SymbolTable};
@@ -35,7 +35,7 @@ impl BuildHasher for Constant {
     }
 }
 
-/// Interns a text into a table of capacity 0, and again where it was refused: the table is empty then.
+/// Interns a text into a table of capacity 0, and again if that failed: the table is then empty.
 pub fn intern_first(rt: &(impl Eprint + AllocGlobal)) -> Result<(), Fault> {
     tell(rt, "table", 0);
     match SymbolTable::with_capacity(rt.alloc(), 0) {
@@ -63,7 +63,7 @@ fn intern_again(rt: &impl Eprint, table: &mut SymbolTable) -> Result<(), Fault> 
     sees(is_symbol(table.intern(StrContent::from("abc")), 0), 2)
 }
 
-/// Makes three tables, and from its line `none` on calls on them that take no memory.
+/// Makes three tables. From the line `none` on, it makes only calls that allocate nothing.
 pub fn without_memory(rt: &(impl Eprint + AllocGlobal)) -> Result<(), Fault> {
     let mut tables = Tables::make(rt.alloc())?;
     let owned = "abc".to_string(rt.alloc())?;
@@ -73,7 +73,7 @@ pub fn without_memory(rt: &(impl Eprint + AllocGlobal)) -> Result<(), Fault> {
     sees(is_filled && tables.take_more(StrContent::from(owned)), 1)
 }
 
-// A table with granted room, a usual one, and one of equal hashes.
+// A table with spare capacity, a default one, and one with equal hashes.
 #[derive(Drop)]
 struct Tables {
     roomy: SymbolTable,
@@ -133,7 +133,7 @@ fn is_symbol(answer: Result<Symbol, InternError>, number: u32) -> bool {
     }
 }
 
-// Interns borrowed texts, which are to get the symbols from this number on.
+// Interns borrowed texts, which should get the symbols from this number on.
 fn interns<S: BuildHasher>(table: &mut SymbolTable<S>, texts: &[&'static str], from: u32) -> bool {
     let mut is_right = true;
     for (number, text) in (from..u32::MAX).zip(texts.iter()) {
@@ -150,7 +150,7 @@ fn lends<S: BuildHasher>(table: &SymbolTable<S>, text: &str, number: u32) -> boo
     }
 }
 
-// Whether so many of the texts are found, at their places, and no other.
+// Whether exactly the first `count` texts are found, each at its position.
 fn finds_first<S: BuildHasher>(table: &SymbolTable<S>, texts: &[&str], count: u32) -> bool {
     let mut is_right = true;
     for (number, text) in (0..u32::MAX).zip(texts.iter()) {

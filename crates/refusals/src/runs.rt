@@ -10,9 +10,9 @@ use crate::watched::{Watched, Way, tell};
 pub enum Calls {
     /// Internings, a reservation, shrinks and a clear.
     Plain,
-    /// The same with a cut.
+    /// The same with a rollback.
     Cut,
-    /// Calls that take no memory.
+    /// Calls that allocate nothing.
     NoMemory,
 }
 
@@ -35,12 +35,12 @@ pub fn watch<C: Stored>(
     watched.answer(is_right)
 }
 
-// Twenty contents into an empty table, which a run looks up again.
+// Twenty contents into an empty table; a run looks them up again.
 fn fill<C: Stored>(rt: &(impl Eprint + AllocGlobal), watched: &mut Watched<C>, way: Way) -> bool {
     watched.intern_more(rt, 20) && (matches!(way, Way::Own) || watched.look_up(rt, 20))
 }
 
-// Room for forty more, twenty more contents, two shrinks, and five contents after a clear.
+// A reservation for forty more, twenty more contents, two shrinks, and five contents after a clear.
 fn make_calls<C: Stored>(rt: &(impl Eprint + AllocGlobal), watched: &mut Watched<C>) -> bool {
     watched.change(rt, Change::Reserve(40))
         && watched.intern_more(rt, 20)
@@ -50,8 +50,8 @@ fn make_calls<C: Stored>(rt: &(impl Eprint + AllocGlobal), watched: &mut Watched
         && watched.intern_more(rt, 5)
 }
 
-// From its line `none` on nothing takes memory: contents into granted room, look-ups, a cut, a clear, a reservation that is
-// granted already, empty tables, and what is refused for its size.
+// From the line `none` on nothing is allocated: contents into spare capacity, look-ups, a rollback, a clear,
+// a reservation of what is there already, empty tables, and calls that fail because of a size.
 fn no_memory<C: Stored>(rt: &(impl Eprint + AllocGlobal), watched: &mut Watched<C>) -> bool {
     let is_granted = watched.intern_more(rt, 5) && watched.change(rt, Change::Reserve(10));
     tell(rt, "none", 0);

@@ -1,4 +1,4 @@
-//! A table, and the list that each of its answers is compared with.
+//! A table, and the list with which its results are compared.
 use crate::change::{Ask, Change, own};
 use crate::contents::Contents;
 use crate::fault::Fault;
@@ -11,35 +11,36 @@ use std::alloc::Global;
 pub enum Way {
     /// By the table's own calls.
     Own,
-    /// By a run of one call each, which makes copies of spellings too.
+    /// By a run of each call alone, which copies spellings too.
     Replies,
 }
 
-/// A table beside its list, and what was told so far.
+/// A table with its list, and what was printed so far.
 #[derive(Drop)]
 pub struct Watched<C: Stored> {
     table: FixedTable<C>,
     contents: Contents<C>,
     way: Way,
-    // the numbers whose contents the table holds, in the order of their symbols, which is their own
+    // the numbers whose contents the table holds, in the order of their symbols, which is that of the numbers
     held: Vec<usize>,
-    // the next number that comes in
+    // the next number to intern
     next: usize,
     calls: u32,
     is_answered: bool,
-    // what is wrong, where something is
+    // what is wrong, if something is
     fault: Fault,
 }
 
 const COUNT: u32 = 45;
 
-/// Tells of a call, or of a refusal that it answered.
+/// Prints a call, or a failure for memory that it reported.
 pub fn tell(rt: &impl Eprint, what: &str, number: u32) {
     let _ = eprintln!(rt; "{what} {number}");
 }
 
 impl<C: Stored> Watched<C> {
-    /// Makes the contents, and then an empty table. What is asked for before the first call that is told isn't the table's.
+    /// Makes the contents, and then an empty table. Requests for memory before the first
+    /// printed call aren't the table's.
     pub fn start(rt: &(impl Eprint + AllocGlobal), way: Way) -> Result<Watched<C>, Fault> {
         let held = Vec::with_capacity(rt.alloc(), COUNT as usize)?;
         let contents = Contents::<C>::make(rt.alloc(), COUNT)?;
@@ -59,12 +60,13 @@ impl<C: Stored> Watched<C> {
         }
     }
 
-    /// What a run answers whose calls were all right, or not.
+    /// The result of a run, by whether all its calls were right.
     pub fn answer(&self, is_right: bool) -> Result<(), Fault> {
         if is_right { Ok(()) } else { Err(self.fault) }
     }
 
-    /// Interns the contents of so many numbers more, and answers whether all was right, as the other calls do.
+    /// Interns the contents of `more` further numbers, and returns whether all
+    /// was right, as the other calls do.
     pub fn intern_more(&mut self, rt: &(impl Eprint + AllocGlobal), more: usize) -> bool {
         let mut is_right = true;
         for _ in 0..more {
@@ -81,14 +83,15 @@ impl<C: Stored> Watched<C> {
         is_symbol(reply, self.past()) && self.hold_next() && self.compare()
     }
 
-    // Puts the next number into the list.
+    // Appends the next number to the list.
     fn hold_next(&mut self) -> bool {
         let number = self.next;
         self.next = number.saturating_add(1);
         self.held.push(number).is_ok()
     }
 
-    /// Looks each of so many numbers up, with copies of the spellings, which the table's own calls don't make.
+    /// Looks up each of `count` numbers, with copies of the spellings, which
+    /// the table's own calls don't make.
     pub fn look_up(&mut self, rt: &(impl Eprint + AllocGlobal), count: u32) -> bool {
         let mut is_right = true;
         for number in 0..count {
@@ -105,7 +108,7 @@ impl<C: Stored> Watched<C> {
         is_pair(reply, Symbol::new(number), self.text(number as usize))
     }
 
-    /// Makes a call that answers nothing but that it was made.
+    /// Makes a call that returns nothing.
     pub fn change(&mut self, rt: &(impl Eprint + AllocGlobal), change: Change) -> bool {
         let reply = self.make(rt, Ask::Change(change), Ask::Change(change));
         match change {
@@ -116,7 +119,7 @@ impl<C: Stored> Watched<C> {
         is_done(reply) && self.compare()
     }
 
-    // Makes a call, and the other in its place where it was refused.
+    // Makes the first call, and the second one instead if it failed for memory.
     fn make(&mut self, rt: &(impl Eprint + AllocGlobal), first: Ask<C>, again: Ask<C>) -> Reply {
         match self.make_once(rt, first) {
             Reply::NoMemory => self.make_once(rt, again),
@@ -135,8 +138,8 @@ impl<C: Stored> Watched<C> {
         }
     }
 
-    // After a refusal the table is the list still, and has no less room, and only one call of a run is refused. Where it isn't
-    // so, the call is answered as none is.
+    // After a failure the table is still the list, its capacity isn't lower, and no other call of the run has
+    // failed. If that doesn't hold, it returns a reply that no call makes.
     fn refused(&mut self, rt: &impl Eprint, room: usize) -> Reply {
         tell(rt, "refused", self.calls);
         let was_answered = self.is_answered;
@@ -159,8 +162,8 @@ impl<C: Stored> Watched<C> {
         }
     }
 
-    // The reply of a run of this call alone. Where the replies' memory was refused, no call was made. Where there is no list
-    // for the call, it is answered as none is.
+    // The reply of a run of this call alone. If the replies can't be allocated, no call was made. If there is
+    // no list for the call, it returns a reply that no call makes.
     fn replied(&mut self, alloc: Global, call: Call<C>) -> Reply {
         let mut calls = self.contents.lists.pop().unwrap_or(Vec::new(alloc));
         match calls.push(call) {
@@ -178,7 +181,7 @@ impl<C: Stored> Watched<C> {
         Symbol::new(u32::try_from(self.held.len()).unwrap_or(u32::MAX))
     }
 
-    // Whether the table is the list: its length, its contents, and where each of all contents is found.
+    // Whether the table is the list: its length, its contents, and where each content is found.
     fn compare(&mut self) -> bool {
         let is_same = self.table.count() == self.held.len()
             && self.table.content(self.past()).is_none()
@@ -189,7 +192,8 @@ impl<C: Stored> Watched<C> {
         is_same
     }
 
-    // Whether the contents that are found are those that are held, each at its place: both are in the order of their numbers.
+    // Whether exactly the stored contents are found, each at its position: both are
+    // in the order of their numbers.
     fn finds(&self) -> bool {
         let mut is_same = true;
         let mut place = 0usize;
@@ -202,7 +206,7 @@ impl<C: Stored> Watched<C> {
         is_same && place == self.held.len()
     }
 
-    // Whether the list holds this number at the symbol's place, and the table its digits.
+    // Whether the list has this number at the symbol's position, and the table its digits.
     fn holds(&self, number: usize, symbol: Symbol) -> bool {
         let is_held = match self.held.get(symbol.id() as usize) {
             Some(held) => *held == number,
