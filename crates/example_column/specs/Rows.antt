@@ -8,7 +8,7 @@ use Rattle.intaglio.specs.Types.{StrContent}
 abbrev pub text_of : List StrContent → ℕ → List ℕ
 text_of texts code = unwrap_or (option_map str_content_bytes (slice_get texts code)) []
 
--- the rows that codes stand for
+-- the rows for these codes
 abbrev pub rows_of : List StrContent → List ℕ → List (List ℕ)
 rows_of texts codes = map (text_of texts) codes
 

@@ -10,7 +10,7 @@ use std::marker::Model;
 
 /// Rows of text. Each distinct text is stored once, and each row is the code of its text.
 ///
-/// Clauses see the rows.
+/// A contract sees a column as its rows.
 #[derive(Drop)]
 pub struct Column {
     codes: Vec<Symbol>,

@@ -1,6 +1,7 @@
 //! A column of texts, encoded by a dictionary and decoded again.
 //!
-//! The program encodes two columns of rows, prints the first one's rows, and whether the two have the same codes.
+//! The program encodes two columns of rows, prints the first one's rows, and
+//! whether the two have the same codes.
 #![tactic(auto)]
 
 mod column;

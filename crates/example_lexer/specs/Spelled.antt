@@ -8,6 +8,6 @@ use Rattle.example_lexer.specs.declared.token.Token.{Token}
 abbrev pub text_of : List BytesContent → ℕ → List ℕ
 text_of texts symbol = unwrap_or (option_map bytes_content_bytes (slice_get texts symbol)) []
 
--- the texts of tokens, one behind the other
+-- the concatenated texts of tokens
 abbrev pub spelled : List BytesContent → List Token → List ℕ
 spelled texts tokens = flat_map (λ token. text_of texts token.text) tokens

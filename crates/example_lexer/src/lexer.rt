@@ -1,4 +1,4 @@
-//! A lexer whose tokens hold symbols, and lose nothing of the source.
+//! A lexer whose tokens hold symbols, and keep the whole source.
 ghost use Rattle.std.specs.Prelude.{◌≡◌, ◌↔◌, ◌<◌, ◌≤◌, length, IfOk, IsTrue};
 ghost use Rattle.intaglio.specs.Keys.{bytes_key};
 ghost use Rattle.intaglio.specs.Lookup.{Keeps};
@@ -11,7 +11,7 @@ use std::alloc::Global;
 
 const KEYWORDS: [&str; 3] = ["fn", "let", "while"];
 
-/// A table that holds the keywords. They come first, so their symbols are those below 3.
+/// A table that holds the keywords. They are interned first, so their symbols are those below 3.
 ///
 /// # Errors
 ///
@@ -24,7 +24,7 @@ pub fn table_of_keywords(alloc: Global) -> Result<SymbolTable, TableError> {
     Ok(texts)
 }
 
-/// The tokens of the source, blanks included: their texts, one behind the other, are the source.
+/// The tokens of the source, blanks included: their concatenated texts are the source.
 ///
 /// # Errors
 ///
@@ -50,7 +50,7 @@ pub fn lex(
     Ok(tokens)
 }
 
-/// Whether two symbols of the table have the same text: exactly if they are the same.
+/// Whether two symbols of the table have the same text, which is so exactly if they are the same.
 pub fn have_same_text(texts: &SymbolTable, one: Symbol, other: Symbol) -> bool
     requires one { one < length texts.now.state.contents }
     requires other { other < length texts.now.state.contents }
@@ -60,7 +60,7 @@ pub fn have_same_text(texts: &SymbolTable, one: Symbol, other: Symbol) -> bool
     one == other
 }
 
-// What a byte begins.
+// The kind of token that a byte begins.
 fn begins(byte: u8) -> Kind {
     match byte {
         b'a'..=b'z' | b'A'..=b'Z' | b'_' => Kind::Identifier,
@@ -70,7 +70,7 @@ fn begins(byte: u8) -> Kind {
     }
 }
 
-// Whether a byte goes on with what another began.
+// Whether a byte continues a token of kind `first`.
 fn goes_on(first: Kind, byte: u8) -> bool {
     let kind = begins(byte);
     match first {
@@ -80,7 +80,7 @@ fn goes_on(first: Kind, byte: u8) -> bool {
     }
 }
 
-// How long the token is with which this begins.
+// The length of the first token.
 fn lexeme_len(rest: &[u8]) -> usize
     requires { 0 < length rest.now }
     ensures some { 0 < result }
@@ -94,7 +94,7 @@ fn lexeme_len(rest: &[u8]) -> usize
     end
 }
 
-// What a text is that has this symbol.
+// The kind of the token whose text has this symbol.
 fn kind_of(text: Symbol, lexeme: &[u8]) -> Kind {
     if (text.id() as usize) < KEYWORDS.len() {
         return Kind::Keyword;

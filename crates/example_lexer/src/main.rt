@@ -1,6 +1,6 @@
 //! The symbols of a lexer: keywords first, then each text of the source once.
 //!
-//! The program prints the tokens of a source, and then the source again, put together from them.
+//! The program prints the tokens of a source, and then the source again, put together from the tokens.
 #![tactic(auto)]
 
 mod lexer;

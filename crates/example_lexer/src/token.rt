@@ -5,7 +5,7 @@ use std::fmt;
 /// What a token is.
 #[derive(Debug, Clone, Copy, PartialEq, Eq)]
 pub enum Kind {
-    /// A word that the language keeps for itself.
+    /// A reserved word of the language.
     Keyword,
     /// Any other word.
     Identifier,

@@ -1,6 +1,6 @@
 //! The files of a build: each has one entry, however its path is spelled.
 //!
-//! The program prints the entry of each spelling, under the spelling that came first.
+//! The program prints the entry of each spelling, under the first spelling.
 #![tactic(auto)]
 
 ghost use Rattle.std.specs.Prelude.{◌≡◌, ◌↔◌, IfOk, IsTrue};
@@ -11,7 +11,7 @@ use intaglio::path::{Path, PathContent, SymbolTable};
 use intaglio::{InternError, Symbol, TableError};
 use std::alloc::Global;
 
-/// Whether two spellings are of one entry: exactly if they have the same components.
+/// Whether two spellings belong to one entry, which is so exactly if they have the same components.
 ///
 /// # Errors
 ///
@@ -32,7 +32,7 @@ fn are_one_entry(
 ///
 /// # Errors
 ///
-/// If a table can't be made, or can't take a path.
+/// If a table can't be made, or a path can't be interned.
 #[tactic(auto, unfolding(intaglio::specs::Components::components))]
 fn spelled_twice(alloc: Global) -> Result<Symbol, TableError> {
     let mut files = SymbolTable::new(alloc)?;

@@ -1,6 +1,7 @@
 //! Names with scopes: a mark at a block's entry, and a rollback to it at the exit.
 //!
-//! The program declares `x` and `y`, visits two blocks that declare names of their own, and finds `x` as it was.
+//! The program declares `x` and `y`, visits two blocks that declare names of
+//! their own, and finds `x` as it was.
 #![tactic(auto)]
 
 ghost use Rattle.std.specs.Prelude.{◌≡◌};
@@ -14,7 +15,7 @@ use intaglio::{InternError, StrContent, SymbolTable};
 ///
 /// # Errors
 ///
-/// Those of [`intern`](SymbolTable::intern). The names before the one that was refused are declared.
+/// Those of [`intern`](SymbolTable::intern). The names before the failed one are then declared.
 fn declare(names: &mut SymbolTable, block: &'static str) -> Result<(), InternError>
     ensures kept { Keeps str_key names.old.state names.new.state }
 {
@@ -26,7 +27,8 @@ fn declare(names: &mut SymbolTable, block: &'static str) -> Result<(), InternErr
 
 /// Visits a block that declares these names, and returns how many of them weren't visible outside.
 ///
-/// Afterwards those names are visible that were visible before, each with its symbol, also after an error.
+/// Afterwards exactly the names are visible that were visible before, each with
+/// its symbol, also after an error.
 ///
 /// # Errors
 ///
