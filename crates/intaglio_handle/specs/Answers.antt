@@ -1,4 +1,4 @@
--- What a code tells.
+-- What a code says.
 use Rattle.std.specs.Prelude.{◌≡◌, ℕ, Bool, true, false, Option, Some, None, Result, Ok, Err}
 use Rattle.intaglio_symbol.specs.declared.error.InternError.{InternError}
 use Rattle.intaglio_symbol.specs.declared.error.InternError.TheVariants.{Overflow, Memory}
@@ -7,7 +7,7 @@ use Rattle.intaglio_symbol.specs.declared.error.RoomError.TheVariants as room_er
 use Rattle.intaglio_handle.specs.declared.refusal.Refusal.{Refusal}
 use Rattle.intaglio_handle.specs.declared.refusal.Refusal.TheVariants.{NoTable, Full, NoMemory, TooLarge, Stale, NotUtf8, InnerZero, MissingZero, BadEnds, NoSymbol, NoSpace, NoKind}
 
--- the code of a refusal
+-- the code of an error
 abbrev pub refusal_code : Refusal → ℕ
 refusal_code NoTable = 1
 refusal_code Full = 2
@@ -23,40 +23,40 @@ refusal_code NoSpace = 11
 refusal_code NoKind = 12
 
 module _ {X : Type 0} where
-  -- the code of an answer: 0 where the call was done
+  -- the code of a result: 0 if the call succeeded
   abbrev pub answer_code : Result X Refusal → ℕ
   answer_code (Ok _) = 0
   answer_code (Err refusal) = refusal_code refusal
 
-  -- the code is that of an answer of which P holds
+  -- the code is that of a result of which P holds
   abbrev pub Tells : ℕ → (Result X Refusal → Type 0) → Type 0
   Tells code P = (answer : Result X Refusal) × (code ≡ answer_code answer) × P answer
 
--- a symbol that is answered is written, and else what was there stays
+-- a symbol that is returned is written; otherwise what was there stays
 abbrev pub IsWritten : Result ℕ Refusal → ℕ → ℕ → Type 0
 IsWritten (Ok symbol) before after = after ≡ symbol
 IsWritten (Err _) before after = after ≡ before
 
--- the same of an answer with a symbol, which is written at a place that held another number
+-- the same for a result with a symbol, which is written over another number
 abbrev pub TellsSymbol : ℕ → ℕ → ℕ → (Result ℕ Refusal → Type 0) → Type 0
 TellsSymbol code before after P = (answer : Result ℕ Refusal) × (code ≡ answer_code answer) × IsWritten answer before after × P answer
 
--- a value that is given or not
+-- a value, if it is given
 abbrev pub given : {X : Type 0} → Bool → X → Option X
 given true x = Some x
 given false x = None
 
--- what an interning's error is to C
+-- the error for C of an interning's error
 abbrev pub intern_refusal : InternError → Refusal
 intern_refusal (Overflow _) = Full
 intern_refusal (Memory _) = NoMemory
 
--- what an error of a constructor, a reservation or a shrink is
+-- the error for C of an error of a constructor, a reservation or a shrink
 abbrev pub room_refusal : RoomError → Refusal
 room_refusal room_error.CapacityOverflow = TooLarge
 room_refusal (room_error.Memory _) = NoMemory
 
--- an answer of a constructor, a reservation or a shrink
+-- the result for C of a constructor, a reservation or a shrink
 abbrev pub room_answer : Result (Unit {0}) RoomError → Result (Unit {0}) Refusal
 room_answer (Ok done) = Ok done
 room_answer (Err error) = Err (room_refusal error)

@@ -1,4 +1,4 @@
--- Many strings in one run of bytes, with the end of each.
+-- Groups: many strings in one list of bytes, with the end of each.
 use Rattle.std.specs.Prelude.{◌≡◌, ℕ, ◌+◌, ◌-◌, ◌^◌, ◌<◌, ◌≤◌, ◌==◌, Bool, true, false, if◌then◌else◌, nat_lt, List, [], ◌∷◌, ◌++◌, length, map, take, drop, slice_get, Option, Some, None, option_map, option_and_then, IfSome, IsSomeAnd, Result, Ok, Err}
 use Rattle.std.specs.List.{concat}
 use Rattle.intaglio_core.specs.Issue.{issue_from, interned_all}
@@ -10,26 +10,26 @@ use Rattle.intaglio_handle.specs.declared.kind.Kind.{Kind}
 use Rattle.intaglio_handle.specs.declared.refusal.Refusal.{Refusal}
 use Rattle.intaglio_handle.specs.declared.refusal.Refusal.TheVariants.{NoTable, Full, NoMemory, BadEnds, NoSymbol, NoSpace}
 
--- the strings of a group, from a place in its bytes on
+-- the strings of a group, from a position in its bytes on
 abbrev pub pieces : List ℕ → ℕ → List ℕ → List (List ℕ)
 pieces bytes start [] = []
 pieces bytes start (end ∷ ends) = take (end - start) (drop start bytes) ∷ pieces bytes end ends
 
--- whether the ends ascend from a place on, within this many bytes
+-- whether the ends don't decrease, from a position on, and stay within this many bytes
 abbrev pub are_ends : ℕ → ℕ → List ℕ → Bool
 are_ends size start [] = true
 are_ends size start (end ∷ ends) = if nat_lt end start then false else if nat_lt size end then false else are_ends size end ends
 
--- whether a group is one, and has as many strings as there are places for symbols
+-- whether bytes and ends are a group, with as many strings as there are places for symbols
 abbrev pub is_group : List ℕ → List ℕ → ℕ → Bool
 is_group bytes ends places = if places == length ends then are_ends (length bytes) 0 ends else false
 
--- the one or the other
+-- the first if the condition is true, and otherwise the second
 abbrev pub Either : Bool → Type 0 → Type 0 → Type 0
 Either true Then Else = Then
 Either false Then Else = Else
 
--- the first fault of the strings, if one has a fault
+-- the first of two faults, if there is one
 abbrev pub earlier : Option Refusal → Option Refusal → Option Refusal
 earlier None later = later
 earlier (Some refusal) later = Some refusal
@@ -46,20 +46,20 @@ pub record AreInterned (t : Seen) (strings : List (List ℕ)) (issued : List ℕ
   pub capacity : length t.state.contents + t.state.room ≤ length new.contents + new.room
   pub limit : new.limit ≡ t.state.limit
 
--- the strings are as before, and no less fits
+-- the strings are as before, and the capacity isn't lower
 pub record IsRolledBack (old new : State (List ℕ)) : Type 0 where
   pub contents : new.contents ≡ old.contents
   pub capacity : length old.contents + old.room ≤ length new.contents + new.room
   pub limit : new.limit ≡ old.limit
 
--- the first strings are as before, and no less fits
+-- the first strings are as before, and the capacity isn't lower
 pub record IsBegun (old new : State (List ℕ)) : Type 0 where
   pub within : length old.contents ≤ length new.contents
   pub contents : take (length old.contents) new.contents ≡ old.contents
   pub capacity : length old.contents + old.room ≤ length new.contents + new.room
   pub limit : new.limit ≡ old.limit
 
--- all strings are interned, or Left is what a refusal leaves
+-- all strings are interned, or Left holds after an error
 abbrev pub InternsOr : (State (List ℕ) → State (List ℕ) → Type 0) → List (List ℕ) → List ℕ → Seen → Result (Unit {0}) Refusal → State (List ℕ) → Type 0
 InternsOr Left strings symbols t (Ok _) s' = AreInterned t strings symbols s'
 InternsOr Left strings symbols t (Err Full) s' = (t.state.limit < length (interned_all (key t.kind) t.state.contents strings)) × Left t.state s'
@@ -71,7 +71,7 @@ abbrev pub InternsAll : List ℕ → List ℕ → ℕ → List ℕ → Seen → 
 InternsAll bytes ends places symbols t result s' =
     Either (is_group bytes ends places) (InternsOr IsRolledBack (pieces bytes 0 ends) symbols t result s') ((result ≡ Err BadEnds) × (s' ≡ t.state))
 
--- what is written for a string: its symbol, or what no symbol is
+-- what is written for a string: its symbol, or 2^64 - 1, which is no symbol's number
 abbrev pub or_absent : Option ℕ → ℕ
 or_absent None = 2 ^ 64 - 1
 or_absent (Some symbol) = symbol
@@ -85,17 +85,17 @@ FindsAll bytes ends places None result symbols = (result ≡ Err NoTable) × (sy
 FindsAll bytes ends places (Some t) result symbols =
     Either (is_group bytes ends (length places)) ((result ≡ Ok tt) × (symbols ≡ found_all t (pieces bytes 0 ends))) ((result ≡ Err BadEnds) × (symbols ≡ places))
 
--- the strings of symbols, if there are all of them
+-- the strings of symbols, if each symbol has one
 abbrev pub all_stored : List (List ℕ) → List ℕ → Option (List (List ℕ))
 all_stored contents [] = Some []
 all_stored contents (symbol ∷ symbols) = option_and_then (λ string. option_map (λ strings. string ∷ strings) (all_stored contents symbols)) (slice_get contents symbol)
 
--- the ends of strings that come one after the other, from a place on
+-- the ends of concatenated strings, from a position on
 abbrev pub ends_from : ℕ → List (List ℕ) → List ℕ
 ends_from start [] = []
 ends_from start (string ∷ strings) = (start + length string) ∷ ends_from (start + length string) strings
 
--- strings are copied to the front of a buffer, one after the other, and the end of each is written
+-- the concatenated strings are copied to the start of a buffer, and the end of each is written
 pub record AreCopied (strings : List (List ℕ)) (old new written : List ℕ) : Type 0 where
   pub within : length (concat strings) ≤ length old
   pub buffer : new ≡ concat strings ++ drop (length (concat strings)) old

@@ -1,4 +1,4 @@
--- What C sees of a handle, and what the calls do to it.
+-- What C sees of a handle, and what calls do to it.
 use Rattle.std.specs.Prelude.{◌≡◌, ℕ, ◌+◌, ◌^◌, ◌<◌, ◌⊎◌, Bool, true, false, List, [], ◌++◌, length, drop, slice_get, nat_lt, if◌then◌else◌, Option, Some, None, option_map, option_and_then, MatchOption, IsSomeAnd, Result, Ok, Err}
 use Rattle.std.specs.declared.hash.DefaultHasher.{DefaultHasher}
 use Rattle.intaglio_core.specs.Change.{Empties}
@@ -23,22 +23,23 @@ Keeps old new = new.held.shelf ≡ old.held.shelf
 abbrev pub HoldsNone : Handle → Type 0
 HoldsNone handle = handle.held.shelf ≡ None
 
--- a call may change the state of the table, and where there is none it is refused
+-- a call may change the state of the table; without a table it returns `NoTable`
 abbrev pub Changes : {X : Type 0} → Handle → Handle → Result X Refusal → (Seen → Result X Refusal → State (List ℕ) → Type 0) → Type 0
 Changes old new result Step =
     MatchOption (held old) ((result ≡ Err NoTable) × HoldsNone new) (λ before. IsSomeAnd (held new) (λ after. IsChangedBy before after (λ _ s'. Step before result s')))
 
--- the table, if there is one, is emptied
+-- the table, if there is one, is cleared
 abbrev pub Clears : Handle → Handle → Type 0
 Clears old new = MatchOption (held old) (HoldsNone new) (λ before. IsSomeAnd (held new) (λ after. IsChangedBy before after Empties))
 
--- a new table, which makes this hasher
+-- a new table, whose builder makes this hasher
 pub record IsNew (t : Seen) (which : Kind) (room limit : ℕ) (made : DefaultHasher) : Type 0 where
   pub kind : t.kind ≡ which
   pub state : t.state ≡ record { contents = []; room = room; buckets = room; limit = limit }
   pub hasher : initial_hasher t.hasher ≡ made
 
--- a new table of a kind takes the place of what was held, unless the kind is none, the table is too large, or there is no memory for it
+-- a new table of a kind replaces what was held, unless the number is no kind's, the size is too large, or an
+-- allocation fails
 abbrev pub Makes : Option Kind → Handle → Result (Unit {0}) Refusal → Type 0 → (Kind → Seen → Type 0) → Type 0
 Makes None new result IsTooLarge IsMade = (result ≡ Err NoKind) × HoldsNone new
 Makes (Some kind) new (Ok _) IsTooLarge IsMade = ¬ IsTooLarge × IsSomeAnd (held new) (IsMade kind)
@@ -46,7 +47,7 @@ Makes (Some kind) new (Err TooLarge) IsTooLarge IsMade = IsTooLarge × HoldsNone
 Makes (Some kind) new (Err NoMemory) IsTooLarge IsMade = ¬ IsTooLarge × HoldsNone new
 Makes (Some kind) new (Err _) IsTooLarge IsMade = ⊥
 
--- a table of exactly this capacity is made, or one that holds at most this many contents
+-- a table of exactly this capacity is made, or one that can hold at most this many contents
 abbrev pub MakesRoom : ℕ → ℕ → DefaultHasher → Handle → Result (Unit {0}) Refusal → Type 0
 MakesRoom kind capacity hasher new result = Makes (kind_of kind) new result (2 ^ 32 < capacity) (λ which t. IsNew t which capacity (2 ^ 32) hasher)
 
@@ -66,12 +67,12 @@ known handle bytes = option_and_then (λ t. found (look_up t bytes)) (held handl
 abbrev pub stored : Handle → ℕ → Option (List ℕ)
 stored handle symbol = option_and_then (λ t. slice_get t.state.contents symbol) (held handle)
 
--- a buffer, with bytes at its front if it has room for them
+-- a buffer, with bytes at its start if it has space for them
 abbrev pub filled : List ℕ → Option (List ℕ) → List ℕ
 filled buffer None = buffer
 filled buffer (Some bytes) = if nat_lt (length buffer) (length bytes) then buffer else bytes ++ drop (length bytes) buffer
 
--- how many contents there are, and how many fit
+-- the number of contents, and the capacity
 abbrev pub count : Option Seen → ℕ
 count None = 0
 count (Some t) = length t.state.contents

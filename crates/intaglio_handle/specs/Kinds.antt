@@ -1,4 +1,4 @@
--- What each kind of tables makes of bytes.
+-- What each kind of table makes of bytes.
 use Rattle.std.specs.Prelude.{ℕ, ◌-◌, ◌==◌, if◌then◌else◌, List, [], ◌∷◌, length, Option, Some, None}
 use Rattle.std.specs.Str.{is_utf8}
 use Rattle.intaglio_content.specs.Key.{Key}
@@ -9,7 +9,7 @@ use Rattle.intaglio_handle.specs.declared.kind.Kind.TheVariants.{Text, Bytes, CS
 use Rattle.intaglio_handle.specs.declared.refusal.Refusal.{Refusal}
 use Rattle.intaglio_handle.specs.declared.refusal.Refusal.TheVariants.{NotUtf8, InnerZero, MissingZero}
 
--- the kind of a number
+-- the kind with a number
 abbrev pub kind_of : ℕ → Option Kind
 kind_of n =
     if n == 0 then Some Text
@@ -29,11 +29,11 @@ key Path bytes = components bytes
 key OsStr bytes = bytes ∷ []
 key BStr bytes = bytes ∷ []
 
--- why bytes are no text, if they aren't
+-- why bytes aren't a text, if they aren't
 abbrev pub utf8_fault : List ℕ → Option Refusal
 utf8_fault bytes = if is_utf8 bytes then None else Some NotUtf8
 
--- why bytes of this length, whose first zero is at this place, are no C string, if they aren't
+-- why bytes of this length, whose first zero is at this position, aren't a C string, if they aren't
 abbrev pub zero_fault_at : ℕ → Option ℕ → Option Refusal
 zero_fault_at size None = Some MissingZero
 zero_fault_at size (Some place) = if place == size - 1 then None else Some InnerZero
@@ -41,7 +41,7 @@ zero_fault_at size (Some place) = if place == size - 1 then None else Some Inner
 abbrev pub zero_fault : List ℕ → Option Refusal
 zero_fault bytes = zero_fault_at (length bytes) (first_zero bytes)
 
--- why a kind doesn't take bytes, if it doesn't
+-- why bytes aren't a content of a kind, if they aren't
 abbrev pub fault : Kind → List ℕ → Option Refusal
 fault Text bytes = utf8_fault bytes
 fault Bytes bytes = None

@@ -25,7 +25,7 @@ pub record Seen : Type 0 where
   pub state : State (List ℕ)
   pub hasher : KeyedState
 
--- a state whose contents are their bytes
+-- a state with contents as their bytes
 abbrev pub as_bytes : {C : Type 0} → (C → List ℕ) → State C → State (List ℕ)
 as_bytes bytes s = record { contents = map bytes s.contents; room = s.room; buckets = s.buckets; limit = s.limit }
 
@@ -33,7 +33,7 @@ as_bytes bytes s = record { contents = map bytes s.contents; room = s.room; buck
 abbrev pub seen_as : {C : Type 0} → Kind → (C → List ℕ) → Table C KeyedState → Seen
 seen_as k bytes t = record { kind = k; state = as_bytes bytes t.state; hasher = t.hasher }
 
--- the bytes of a C string are those with the zero that ends it
+-- the bytes of a C string include the final zero
 abbrev pub c_str_bytes : CStrContent → List ℕ
 c_str_bytes content = c_str_content_bytes content ++ 0 ∷ []
 
@@ -49,7 +49,7 @@ seen (shelf.BStr t) = seen_as kind.BStr bstr_content_bytes t
 abbrev pub position : Seen → List ℕ → Option ℕ
 position t bytes = first (key t.kind) t.state.contents (key t.kind bytes)
 
--- an answer, unless there is a fault
+-- a result, unless there is a fault
 abbrev pub unless : {X : Type 0} → Option Refusal → X → Result X Refusal
 unless None x = Ok x
 unless (Some refusal) x = Err refusal
@@ -58,7 +58,7 @@ unless (Some refusal) x = Err refusal
 abbrev pub look_up : Seen → List ℕ → Result (Option ℕ) Refusal
 look_up t bytes = unless (fault t.kind bytes) (position t bytes)
 
--- bytes that aren't there are added
+-- bytes that aren't stored are added
 abbrev pub AddsBytes : List ℕ → Result ℕ InternError → State (List ℕ) → State (List ℕ) → Type 0
 AddsBytes bytes (Ok symbol) s s' = IsTaken s bytes symbol s'
 AddsBytes bytes (Err (Overflow _)) s s' = (length s.contents ≡ s.limit) × (s' ≡ s)

@@ -6,7 +6,7 @@ use Rattle.intaglio_handle.specs.Seen.{Seen, look_up}
 use Rattle.intaglio_handle.specs.declared.refusal.Refusal.{Refusal}
 use Rattle.intaglio_handle.specs.declared.refusal.Refusal.TheVariants.{Full, NoMemory, TooLarge, Stale}
 
--- there was no memory for a copy or for a growth, and the table isn't full
+-- the allocation of a copy or of a growth failed, and the table isn't full
 pub record IsUncopied (old new : State (List ℕ)) : Type 0 where
   pub below_limit : length old.contents < old.limit
   pub contents : new.contents ≡ old.contents
@@ -14,14 +14,14 @@ pub record IsUncopied (old new : State (List ℕ)) : Type 0 where
   pub buckets : new.buckets ≡ old.buckets
   pub limit : new.limit ≡ old.limit
 
--- bytes that aren't there are interned, where Refused is what a refusal of memory leaves
+-- bytes that aren't stored are interned; Refused holds if an allocation fails
 abbrev pub Takes : (State (List ℕ) → State (List ℕ) → Type 0) → List ℕ → State (List ℕ) → Result ℕ Refusal → State (List ℕ) → Type 0
 Takes Refused bytes s (Ok symbol) s' = IsTaken s bytes symbol s'
 Takes Refused bytes s (Err Full) s' = (length s.contents ≡ s.limit) × (s' ≡ s)
 Takes Refused bytes s (Err NoMemory) s' = Refused s s'
 Takes Refused bytes s (Err _) s' = ⊥
 
--- bytes are interned, where this is what a look-up of them answers
+-- bytes are interned, given the result of looking them up
 abbrev pub InternsBy : (State (List ℕ) → State (List ℕ) → Type 0) → List ℕ → State (List ℕ) → Result (Option ℕ) Refusal → Result ℕ Refusal → State (List ℕ) → Type 0
 InternsBy Refused bytes s (Err refusal) result s' = (result ≡ Err refusal) × (s' ≡ s)
 InternsBy Refused bytes s (Ok (Some symbol)) result s' = (result ≡ Ok symbol) × (s' ≡ s)
@@ -35,20 +35,20 @@ Interns bytes t result s' = InternsBy IsUncopied bytes t.state (look_up t bytes)
 abbrev pub InternsStatic : List ℕ → Seen → Result ℕ Refusal → State (List ℕ) → Type 0
 InternsStatic bytes t result s' = InternsBy IsRefused bytes t.state (look_up t bytes) result s'
 
--- room for n more is asked for
+-- a reservation for n more, by its result
 abbrev pub Reserves : ℕ → Seen → Result (Unit {0}) Refusal → State (List ℕ) → Type 0
 Reserves n t (Ok _) s' = IsReserved t.state n s'
 Reserves n t (Err TooLarge) s' = (t.state.limit < length t.state.contents + n) × (s' ≡ t.state)
 Reserves n t (Err NoMemory) s' = IsUnreserved t.state n s'
 Reserves n t (Err _) s' = ⊥
 
--- a shrink down to n is asked for
+-- a shrink to n, by its result
 abbrev pub Shrinks : ℕ → Seen → Result (Unit {0}) Refusal → State (List ℕ) → Type 0
 Shrinks n t (Ok _) s' = IsShrunk t.state n s'
 Shrinks n t (Err NoMemory) s' = (n < length t.state.contents + t.state.room) × (s' ≡ t.state)
 Shrinks n t (Err _) s' = ⊥
 
--- the contents behind a mark of n are to be dropped
+-- a rollback to a mark of n, by its result
 abbrev pub TakesBack : ℕ → Seen → Result (Unit {0}) Refusal → State (List ℕ) → Type 0
 TakesBack n t (Ok _) s' = IsCut t.state n s'
 TakesBack n t (Err Stale) s' = (length t.state.contents < n) × (s' ≡ t.state)

@@ -1,11 +1,11 @@
-//! Answers, as C gets them.
+//! Results, as C gets them.
 ghost use Rattle.std.specs.Prelude.{◌≡◌};
 ghost use Rattle.intaglio_handle.specs.Answers.{answer_code, room_answer, IsWritten};
 
 use crate::refusal::Refusal;
 use intaglio_core::{RoomError, Symbol};
 
-/// The code of an answer: 0 where the call was done.
+/// The code of a result: 0 if the call succeeded.
 pub fn code(answer: Result<(), Refusal>) -> u32
     ensures { result ≡ answer_code answer }
 {
@@ -15,7 +15,7 @@ pub fn code(answer: Result<(), Refusal>) -> u32
     }
 }
 
-/// The same of an answer with a symbol, which is written.
+/// The code of a result with a symbol, which is written to `symbol`.
 pub fn symbol_code(answer: Result<Symbol, Refusal>, symbol: &mut u32) -> u32
     ensures code { result ≡ answer_code answer }
     ensures written { IsWritten answer symbol.old symbol.new }
@@ -29,7 +29,7 @@ pub fn symbol_code(answer: Result<Symbol, Refusal>, symbol: &mut u32) -> u32
     }
 }
 
-// An answer about room, as an answer to C.
+// The result for C of a constructor, a reservation or a shrink.
 pub(crate) fn room_answer(answer: Result<(), RoomError>) -> Result<(), Refusal>
     ensures { result ≡ room_answer answer }
 {

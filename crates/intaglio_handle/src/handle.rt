@@ -1,4 +1,4 @@
-//! What C holds of a table.
+//! A handle of a table, as C holds it.
 ghost use Rattle.std.specs.Prelude.{◌≡◌, is_some};
 ghost use Rattle.std.specs.Option.{option_map};
 ghost use Rattle.std.specs.declared.option.Option.TheVariants.{None, Some};
@@ -15,7 +15,8 @@ use crate::shelf::Shelf;
 use std::alloc::Global;
 use std::mem::replace;
 
-/// A shelf with a table, or nothing. C holds it by value, begins with zeros, and changes nothing in it.
+/// A shelf with a table, or nothing. C holds it by value, initializes it with
+/// zeros, and changes nothing in it.
 #[repr(C)]
 pub struct Handle {
     live: bool,
@@ -53,7 +54,7 @@ impl Handle {
         }
     }
 
-    // Each call takes the shelf out, and puts it back before it ends.
+    // Takes the shelf out. Each call does so, and puts it back before it returns.
     pub(crate) fn take(&mut self, alloc: Global) -> Option<Box<Shelf>>
         ensures taken { option_map (λ shelf. shelf.value) result ≡ self.old.held.shelf }
         ensures left { self.new.held.shelf ≡ None }

@@ -11,11 +11,11 @@ use std::alloc::Global;
 use std::marker::Model;
 use std::ptr::null_mut;
 
-/// A pointer that owns a boxed shelf, or nothing. To C it is one pointer: an allocator takes no bytes.
+/// A pointer that owns a boxed shelf, or nothing. To C it is one pointer, since an allocator has size 0.
 #[repr(C)]
 #[derive(Drop)]
 pub struct Held {
-    // No type is said, since none of Rust's crosses to C.
+    // Untyped, since no Rust type crosses to C.
     ptr: *mut u8,
     alloc: Global,
     pub ghost shelf: { Maybe Shelf } by { shelf_coded },
@@ -45,7 +45,7 @@ impl Held {
         }
     }
 
-    // The parts of the box again.
+    // Takes the box apart again.
     pub(crate) fn into_parts(self) -> Parts<Shelf, Global>
         requires { IsSomeAnd self.shelf (λ _. ⊤) }
         ensures { Some result.value ≡ self.shelf }

@@ -1,6 +1,6 @@
 //! The kinds of tables.
 
-/// A kind of tables.
+/// A kind of table.
 #[derive(Clone, Copy)]
 pub enum Kind {
     /// UTF-8 texts.
@@ -9,7 +9,7 @@ pub enum Kind {
     Bytes,
     /// C strings: bytes whose only zero is the last one.
     CStr,
-    /// Paths: UTF-8 texts, equal where their components are.
+    /// Paths: UTF-8 texts, equal if their components are.
     Path,
     /// Platform strings: UTF-8 texts.
     OsStr,
@@ -21,7 +21,7 @@ impl Kind {
     ghost use Rattle.std.specs.Prelude.{◌≡◌};
     ghost use Rattle.intaglio_handle.specs.Kinds.{kind_of};
 
-    // The kind that C names by this number.
+    // The kind with this number in C.
     pub(crate) fn of(number: u32) -> Option<Kind>
         ensures { result ≡ kind_of number }
     {

@@ -1,7 +1,8 @@
 //! The tables of texts, bytes, C strings, paths, platform strings and byte strings for C.
 //!
-//! C holds a [`Handle`], which owns a [`Shelf`]: a table of one of the kinds. Each call takes the shelf out of the handle, and
-//! puts it back. What it ensures is said of the table as C sees it, with its contents as their bytes, before and after it.
+//! C holds a [`Handle`], which owns a [`Shelf`]: a table of one of the kinds. Each call takes the shelf out
+//! of the handle, and puts it back. Its contract is about the table as C sees it, with its contents as their
+//! bytes, before and after the call.
 //!
 //! The crate `intaglio_c` exports these calls.
 #![tactic(auto)]

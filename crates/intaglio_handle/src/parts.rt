@@ -5,7 +5,7 @@ ghost use Rattle.std.specs.Box.Ownership.{box_owns};
 use std::alloc::Allocator;
 use std::marker::Model;
 
-/// The pointer of a box and its allocator. It owns what the box owned.
+/// The pointer and the allocator of a box. It owns what the box owned.
 pub(crate) struct Parts<T, A: Allocator> {
     pub(crate) ptr: *mut T,
     pub(crate) alloc: A,

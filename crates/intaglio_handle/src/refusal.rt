@@ -1,35 +1,35 @@
-//! What is refused, and the codes that tell it.
+//! Errors, and their codes.
 ghost use Rattle.std.specs.Prelude.{◌≡◌};
 
 use intaglio_core::{InternError, RoomError, StaleMark};
 use std::alloc::AllocError;
 
-/// Why a call did nothing.
+/// Why a call failed.
 #[derive(Clone, Copy)]
 pub enum Refusal {
     /// The handle holds no table.
     NoTable,
     /// The table holds as many contents as its limit.
     Full,
-    /// A request for memory failed.
+    /// An allocation failed.
     NoMemory,
-    /// More room was asked for than there are symbols, or a limit that no table has.
+    /// More capacity was requested than there are symbols, or a limit that no table can have.
     TooLarge,
-    /// The mark is of more contents than the table holds.
+    /// The mark counts more contents than the table holds.
     Stale,
     /// The bytes aren't UTF-8.
     NotUtf8,
-    /// A zero byte stands before the last byte.
+    /// A byte before the last one is zero.
     InnerZero,
     /// The bytes don't end with a zero.
     MissingZero,
-    /// The ends of a group don't ascend within its bytes, or its lists differ in length.
+    /// The ends of a group decrease or exceed its bytes, or its lists differ in length.
     BadEnds,
-    /// The table has no content with a symbol.
+    /// The table has no content for a symbol.
     NoSymbol,
     /// The buffer is too short.
     NoSpace,
-    /// The number is of no kind.
+    /// The number is no kind's.
     NoKind,
 }
 

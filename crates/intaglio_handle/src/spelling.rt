@@ -1,13 +1,13 @@
-//! Where the bytes of a content are.
+//! The place of a content's bytes.
 ghost use Rattle.std.specs.Prelude.{◌≡◌, length};
 
 use std::ptr::{from_ref, null};
 
-/// Bytes, as a pointer and a count. The pointer of no bytes is null.
+/// Bytes, as a pointer and a length. If the length is 0, the pointer is null.
 #[repr(C)]
 #[derive(Drop)]
 pub struct Spelling {
-    /// The first byte.
+    /// The address of the first byte.
     pub at: *const u8,
     /// How many bytes there are.
     pub len: usize,

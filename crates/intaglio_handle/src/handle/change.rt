@@ -1,4 +1,4 @@
-//! Tables are measured and changed.
+//! Measuring and changing tables.
 ghost use Rattle.std.specs.Prelude.{◌≡◌};
 ghost use Rattle.intaglio_handle.specs.Handles.{Changes, Clears, Keeps, capacity, count, held};
 ghost use Rattle.intaglio_handle.specs.Steps.{Reserves, Shrinks, TakesBack};
@@ -10,7 +10,7 @@ use intaglio_core::Mark;
 use std::alloc::Global;
 
 impl Handle {
-    /// How many contents there are, or 0 without a table.
+    /// The number of contents, or 0 without a table.
     pub fn len(&mut self, alloc: Global) -> usize
         ensures count { result ≡ count (held self.old) }
         ensures kept { Keeps self.old self.new }
@@ -23,7 +23,7 @@ impl Handle {
         count
     }
 
-    /// How many contents fit before the table has to grow, or 0 without a table.
+    /// How many contents the table can hold before it has to grow, or 0 without a table.
     pub fn capacity(&mut self, alloc: Global) -> usize
         ensures capacity { result ≡ capacity (held self.old) }
         ensures kept { Keeps self.old self.new }
@@ -36,7 +36,7 @@ impl Handle {
         capacity
     }
 
-    /// Makes room for this many more contents.
+    /// Reserves capacity for `additional` more contents.
     ///
     /// # Errors
     ///
@@ -52,11 +52,11 @@ impl Handle {
         room_answer(answer)
     }
 
-    /// Gives back room above this many contents.
+    /// Shrinks the capacity to `min_capacity`, or to the number of contents if that is greater.
     ///
     /// # Errors
     ///
-    /// `NoTable`, `NoMemory`. Then nothing changed.
+    /// `NoTable`, `NoMemory`. Then nothing has changed.
     pub fn shrink_to(&mut self, alloc: Global, min_capacity: usize) -> Result<(), Refusal>
         ensures { Changes self.old self.new result (Shrinks min_capacity) }
     {
@@ -79,11 +79,11 @@ impl Handle {
         *self = Handle::over(shelf);
     }
 
-    /// Drops the contents after the first ones, as many as the mark says.
+    /// Drops all contents but the first ones, as many as the mark says.
     ///
     /// # Errors
     ///
-    /// `NoTable`; `Stale` if there are fewer. Then nothing changed.
+    /// `NoTable`; `Stale` if there are fewer. Then nothing has changed.
     pub fn take_back(&mut self, alloc: Global, mark: usize) -> Result<(), Refusal>
         ensures { Changes self.old self.new result (TakesBack mark) }
     {

@@ -1,4 +1,4 @@
-//! Many strings at once.
+//! Groups of strings.
 ghost use Rattle.std.specs.Prelude.{◌≡◌, length};
 ghost use Rattle.intaglio_handle.specs.Groups.{CopiesAll, FindsAll, InternsAll};
 ghost use Rattle.intaglio_handle.specs.Handles.{Changes, Keeps, held};
@@ -9,7 +9,7 @@ use crate::shelf::groups::is_group;
 use std::alloc::Global;
 
 impl Handle {
-    /// Interns many strings, all or none, and writes their symbols.
+    /// Interns a group of strings, all or none, and writes their symbols.
     ///
     /// # Errors
     ///
@@ -31,7 +31,7 @@ impl Handle {
         answer
     }
 
-    /// Looks many strings up, and writes the symbol of each, or what no symbol is.
+    /// Looks up a group of strings, and writes the symbol of each, or 2^64 - 1 if it has none.
     ///
     /// # Errors
     ///
@@ -61,7 +61,7 @@ impl Handle {
         }
     }
 
-    /// Copies the bytes of many symbols to the front of a buffer, and writes the end of each.
+    /// Copies the bytes of many symbols to the start of a buffer, and writes the end of each.
     ///
     /// # Errors
     ///

@@ -1,4 +1,4 @@
-//! Bytes are interned and looked up.
+//! Interning and looking up bytes.
 ghost use Rattle.std.specs.Prelude.{◌≡◌};
 ghost use Rattle.intaglio_handle.specs.Handles.{Changes, Keeps, known};
 ghost use Rattle.intaglio_handle.specs.Steps.{Interns, InternsStatic};
@@ -9,11 +9,12 @@ use intaglio_core::Symbol;
 use std::alloc::Global;
 
 impl Handle {
-    /// The symbol of these bytes, which are copied if they are new.
+    /// Interns these bytes, which are copied if they are new, and returns their symbol.
     ///
     /// # Errors
     ///
-    /// `NoTable`, `Full`, `NoMemory`, and what the kind says of bytes that it does not take. Then the contents are unchanged.
+    /// `NoTable`, `Full`, `NoMemory`, and the kind's errors for bytes that it doesn't take. Then the contents
+    /// are unchanged.
     pub fn intern(&mut self, alloc: Global, bytes: &[u8]) -> Result<Symbol, Refusal>
         ensures { Changes self.old self.new result (Interns bytes.now) }
     {
@@ -25,7 +26,7 @@ impl Handle {
         answer
     }
 
-    /// The same for bytes that stay as they are, which are not copied.
+    /// The same without a copy, for bytes that never change.
     ///
     /// # Errors
     ///
@@ -41,7 +42,7 @@ impl Handle {
         answer
     }
 
-    /// The symbol of bytes that are in the table.
+    /// The symbol of these bytes, if they are in the table.
     pub fn find(&mut self, alloc: Global, bytes: &[u8]) -> Option<Symbol>
         ensures found { result ≡ known self.old bytes.now }
         ensures kept { Keeps self.old self.new }

@@ -1,4 +1,4 @@
-//! Contents are given back.
+//! Reading contents.
 ghost use Rattle.std.specs.Prelude.{◌≡◌, false, Some, length};
 ghost use Rattle.std.specs.Option.{option_map};
 ghost use Rattle.intaglio_handle.specs.Answers.{given};
@@ -10,7 +10,7 @@ use intaglio_core::Symbol;
 use std::alloc::Global;
 
 impl Handle {
-    /// Writes where the bytes of a symbol are, and returns whether it has any.
+    /// Writes where the bytes of a symbol are, and returns whether the symbol has any.
     pub fn get(&mut self, alloc: Global, symbol: u32, out: &mut Spelling) -> bool
         ensures found { given result out.new.len ≡ option_map length (stored self.old symbol) }
         ensures unwritten { result ≡ false → out.new ≡ out.old }
@@ -30,8 +30,8 @@ impl Handle {
         found
     }
 
-    /// Writes how many bytes a symbol has, copies them to the front of a buffer that has room for them, and returns whether
-    /// it has any.
+    /// Writes how many bytes a symbol has, copies them to the start of a buffer that has space for them, and
+    /// returns whether the symbol has any.
     pub fn copy(&mut self, alloc: Global, symbol: u32, buffer: &mut [u8], len: &mut usize) -> bool
         ensures found { given result len.new ≡ option_map length (stored self.old symbol) }
         ensures copied { buffer.new ≡ filled buffer.old (stored self.old symbol) }
@@ -54,7 +54,7 @@ impl Handle {
     }
 }
 
-// Copies bytes to the front of a buffer that has room for them.
+// Copies bytes to the start of a buffer that has space for them.
 fn fill(buffer: &mut [u8], bytes: &[u8])
     ensures { buffer.new ≡ filled buffer.old (Some bytes.now) }
 {

@@ -1,4 +1,4 @@
-//! Tables are made, and freed.
+//! Making and freeing tables.
 ghost use Rattle.std.specs.Prelude.{◌≡◌, Err, IfOk, IfErr, MatchResult};
 ghost use Rattle.std.specs.declared.option.Option.TheVariants.{Some};
 ghost use Rattle.intaglio_hash.specs.KeyedState.{initial_hasher};
@@ -22,7 +22,7 @@ impl Handle {
         *self = Handle::none(alloc);
     }
 
-    // Puts a shelf into the handle. The earlier one is dropped.
+    // Puts a shelf into the handle, and drops the earlier one.
     fn put(&mut self, alloc: Global, made: Result<Shelf, RoomError>) -> Result<(), Refusal>
         ensures made { IfOk made (λ shelf. MatchResult result (λ _. self.new.held.shelf ≡ Some shelf) (λ refusal. (refusal ≡ NoMemory) × HoldsNone self.new)) }
         ensures refused { IfErr made (λ error. (result ≡ Err (room_refusal error)) × HoldsNone self.new) }
@@ -35,11 +35,12 @@ impl Handle {
         Ok(())
     }
 
-    /// Puts a new table of a kind into the handle, with room for exactly this many contents. The earlier one is freed.
+    /// Puts a new table of a kind with exactly this capacity into the handle. The earlier one is freed.
     ///
     /// # Errors
     ///
-    /// `NoKind` for a number of no kind, `TooLarge` above 2^32, `NoMemory`. Then the handle holds no table.
+    /// `NoKind` for a number that is no kind's, `TooLarge` above 2^32, `NoMemory`.
+    /// Then the handle holds no table.
     pub fn with_capacity(
         &mut self,
         alloc: Global,
@@ -56,11 +57,13 @@ impl Handle {
         self.put(alloc, Shelf::with_capacity(alloc, kind, capacity, keys))
     }
 
-    /// Puts a new table of a kind into the handle, which holds at most this many contents. The earlier one is freed.
+    /// Puts a new table of a kind into the handle, which can hold at most this many
+    /// contents. The earlier one is freed.
     ///
     /// # Errors
     ///
-    /// `NoKind` for a number of no kind, `TooLarge` for 0 and above 2^32, `NoMemory`. Then the handle holds no table.
+    /// `NoKind` for a number that is no kind's, `TooLarge` for 0 and above 2^32, `NoMemory`. Then the handle
+    /// holds no table.
     pub fn with_limit(
         &mut self,
         alloc: Global,

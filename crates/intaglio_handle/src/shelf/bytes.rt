@@ -49,7 +49,7 @@ fn c_str_of(bytes: &[u8]) -> Result<CStr<'_>, Refusal>
     }
 }
 
-// Bytes that are known to be a text. Nothing is copied, here and in what follows.
+// Bytes that are known to be a text. Nothing is copied, here and in the functions below.
 #[tactic(auto, using(crate::proofs::Faults::is_text))]
 fn as_text(bytes: &[u8]) -> &str
     requires { utf8_fault bytes.now ≡ None }
@@ -135,7 +135,7 @@ impl Shelf {
         })
     }
 
-    // The symbol of the content that is equal to the one with these bytes, if one is stored.
+    // The symbol of the content that is equal to the one with these bytes, if there is one.
     pub(crate) fn find(&self, bytes: &[u8]) -> Result<Option<Symbol>, Refusal>
         ensures { result ≡ look_up (seen self.now) bytes.now }
     {
@@ -149,7 +149,7 @@ impl Shelf {
         }
     }
 
-    // Stores a content with these bytes, that isn't there.
+    // Stores a content with these bytes, which isn't stored yet.
     fn add(&mut self, bytes: BytesContent) -> Result<Symbol, InternError>
         requires { look_up (seen self.old) (bytes_content_bytes bytes) ≡ Ok None }
         ensures { IsChanged self.old self.new (AddsBytes (bytes_content_bytes bytes) result) }
@@ -164,7 +164,7 @@ impl Shelf {
         }
     }
 
-    // The symbol of these bytes, which are copied if they are new.
+    // Interns these bytes, which are copied if they are new, and returns their symbol.
     pub(crate) fn intern(&mut self, alloc: Global, bytes: &[u8]) -> Result<Symbol, Refusal>
         ensures { IsChanged self.old self.new (λ _ s'. Interns bytes.now (seen self.old) result s') }
     {
@@ -178,7 +178,7 @@ impl Shelf {
         Ok(self.add(BytesContent::Owned(copy))?)
     }
 
-    // The same for bytes that stay as they are.
+    // The same without a copy, for bytes that never change.
     pub(crate) fn intern_static(&mut self, bytes: &'static [u8]) -> Result<Symbol, Refusal>
         ensures { IsChanged self.old self.new (λ _ s'. InternsStatic bytes.now (seen self.old) result s') }
     {

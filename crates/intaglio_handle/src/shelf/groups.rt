@@ -1,4 +1,4 @@
-//! Many strings at once.
+//! Groups of strings.
 ghost use Rattle.std.specs.Prelude.{◌≡◌, true, length};
 ghost use Rattle.intaglio_handle.specs.Groups.{CopiesEach, InternsAll, InternsOr, IsBegun, are_ends, found_all, is_group, or_absent, pieces};
 ghost use Rattle.intaglio_handle.specs.Handles.{found};
@@ -9,7 +9,7 @@ use crate::refusal::Refusal;
 use intaglio_core::{Mark, Symbol};
 use std::alloc::Global;
 
-// Whether the ends ascend within this many bytes.
+// Whether the ends don't decrease, and stay within this many bytes.
 fn are_ends(size: usize, ends: &[usize]) -> bool
     ensures { result ≡ are_ends size 0 ends.now }
 {
@@ -26,7 +26,7 @@ fn are_ends(size: usize, ends: &[usize]) -> bool
     true
 }
 
-// Whether the ends are those of a group of this many bytes, with this many places for its symbols.
+// Whether bytes and ends are a group, with this many places for its symbols.
 pub(crate) fn is_group(bytes: &[u8], ends: &[usize], places: usize) -> bool
     ensures { result ≡ is_group bytes.now ends.now places }
 {
@@ -44,7 +44,7 @@ fn or_absent(answer: Result<Option<Symbol>, Refusal>) -> u64
 }
 
 impl Shelf {
-    // Interns the strings of a group in order, up to the first that is refused.
+    // Interns the strings of a group in order, up to the first that fails.
     fn intern_each(
         &mut self,
         alloc: Global,
@@ -87,7 +87,7 @@ impl Shelf {
         answer
     }
 
-    // Looks the strings of a group up.
+    // Looks up the strings of a group.
     pub(crate) fn find_each(&self, bytes: &[u8], ends: &[usize], symbols: &mut [u64])
         requires { is_group bytes.now ends.now (length symbols.old) ≡ true }
         ensures { symbols.new ≡ found_all (seen self.now) (pieces bytes.now 0 ends.now) }
@@ -99,7 +99,7 @@ impl Shelf {
         }
     }
 
-    // Copies the strings of symbols to the front of a buffer, and writes the end of each.
+    // Copies the strings of symbols to the start of a buffer, and writes the end of each.
     pub(crate) fn copy_each(
         &self,
         symbols: &[u32],

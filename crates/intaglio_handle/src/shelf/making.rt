@@ -1,4 +1,4 @@
-//! Tables are made.
+//! Constructors.
 ghost use Rattle.std.specs.Prelude.{◌≡◌, ◌^◌, ◌<◌, ◌⊎◌, ◌↔◌, [], Err, IfOk};
 ghost use Rattle.intaglio_symbol.specs.declared.error.RoomError.TheVariants.{CapacityOverflow};
 ghost use Rattle.intaglio_handle.specs.Seen.{seen};
@@ -31,7 +31,7 @@ impl Shelf {
         })
     }
 
-    // A table of capacity 0 that holds at most this many contents.
+    // A table of capacity 0 that can hold at most this many contents.
     pub(crate) fn with_limit(
         alloc: Global,
         kind: Kind,
