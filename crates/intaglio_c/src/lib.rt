@@ -1,6 +1,7 @@
 //! The tables of texts, bytes, C strings, paths, platform strings and byte strings for C.
 //!
-//! A handle knows the kind of its table, so each call is one for all kinds. The header names them for each kind too.
+//! A handle knows the kind of its table, so one function serves all kinds. The
+//! header also has names for each kind.
 #![tactic(auto)]
 
 ghost use Rattle.std.specs.Prelude.{◌≡◌, false, length};
@@ -15,10 +16,10 @@ use intaglio_handle::{Handle, Spelling, code, symbol_code};
 use intaglio_hash::KeyedState;
 use std::alloc::Global;
 
-/// How many contents a new table has room for.
+/// The capacity of a new table.
 const DEFAULT_CAPACITY: usize = 4096;
 
-/// Puts a new table of a kind into the handle, with room for 4096 contents.
+/// Puts a new table of a kind with capacity 4096 into the handle.
 #[unsafe(no_mangle)]
 pub extern "C" fn intaglio_new(
     alloc: Global,
@@ -33,7 +34,7 @@ pub extern "C" fn intaglio_new(
     code(handle.with_capacity(alloc, kind, DEFAULT_CAPACITY, keys))
 }
 
-/// Puts a new table of a kind into the handle, with room for exactly this many contents.
+/// Puts a new table of a kind with exactly this capacity into the handle.
 #[unsafe(no_mangle)]
 pub extern "C" fn intaglio_with_capacity(
     alloc: Global,
@@ -49,7 +50,7 @@ pub extern "C" fn intaglio_with_capacity(
     code(handle.with_capacity(alloc, kind, capacity, keys))
 }
 
-/// Puts a new table of a kind into the handle, that holds at most this many contents.
+/// Puts a new table of a kind into the handle, which can hold at most this many contents.
 #[unsafe(no_mangle)]
 pub extern "C" fn intaglio_with_limit(
     alloc: Global,
@@ -73,7 +74,7 @@ pub extern "C" fn intaglio_free(alloc: Global, handle: &mut Handle)
     handle.free(alloc);
 }
 
-/// Writes the symbol of these bytes, which are copied if they are new.
+/// Interns these bytes, which are copied if they are new, and writes their symbol.
 #[unsafe(no_mangle)]
 pub extern "C" fn intaglio_intern(
     alloc: Global,
@@ -86,7 +87,7 @@ pub extern "C" fn intaglio_intern(
     symbol_code(handle.intern(alloc, bytes), symbol)
 }
 
-/// Writes the symbol of these bytes, which aren't copied, and must stay as they are.
+/// Interns these bytes, which aren't copied and must never change, and writes their symbol.
 #[unsafe(no_mangle)]
 pub extern "C" fn intaglio_intern_static(
     alloc: Global,
@@ -120,7 +121,7 @@ pub extern "C" fn intaglio_check_interned(
     }
 }
 
-/// Writes where the bytes of a symbol are, if it has any.
+/// Writes where the bytes of a symbol are, if it has any, and returns whether it has.
 #[unsafe(no_mangle)]
 pub extern "C" fn intaglio_get(
     alloc: Global,
@@ -135,7 +136,7 @@ pub extern "C" fn intaglio_get(
     handle.get(alloc, symbol, out)
 }
 
-/// Writes how many bytes a symbol has, and copies them to the front of a buffer that has room for them.
+/// Writes how many bytes a symbol has, and copies them to the start of a buffer that has space for them.
 #[unsafe(no_mangle)]
 pub extern "C" fn intaglio_copy(
     alloc: Global,
@@ -152,7 +153,7 @@ pub extern "C" fn intaglio_copy(
     handle.copy(alloc, symbol, buffer, len)
 }
 
-/// How many contents there are.
+/// The number of contents.
 #[unsafe(no_mangle)]
 pub extern "C" fn intaglio_len(alloc: Global, handle: &mut Handle) -> usize
     ensures count { result ≡ count (held handle.old) }
@@ -161,7 +162,7 @@ pub extern "C" fn intaglio_len(alloc: Global, handle: &mut Handle) -> usize
     handle.len(alloc)
 }
 
-/// How many contents fit before the table has to grow.
+/// How many contents the table can hold before it has to grow.
 #[unsafe(no_mangle)]
 pub extern "C" fn intaglio_capacity(alloc: Global, handle: &mut Handle) -> usize
     ensures capacity { result ≡ capacity (held handle.old) }
@@ -170,7 +171,7 @@ pub extern "C" fn intaglio_capacity(alloc: Global, handle: &mut Handle) -> usize
     handle.capacity(alloc)
 }
 
-/// Makes room for this many more contents.
+/// Reserves capacity for `additional` more contents.
 #[unsafe(no_mangle)]
 pub extern "C" fn intaglio_reserve(alloc: Global, handle: &mut Handle, additional: usize) -> u32
     ensures { Tells result (λ answer. Changes handle.old handle.new answer (Reserves additional)) }
@@ -178,7 +179,7 @@ pub extern "C" fn intaglio_reserve(alloc: Global, handle: &mut Handle, additiona
     code(handle.reserve(alloc, additional))
 }
 
-/// Gives back room above this many contents.
+/// Shrinks the capacity to `min_capacity`, or to the number of contents if that is greater.
 #[unsafe(no_mangle)]
 pub extern "C" fn intaglio_shrink_to(alloc: Global, handle: &mut Handle, min_capacity: usize) -> u32
     ensures { Tells result (λ answer. Changes handle.old handle.new answer (Shrinks min_capacity)) }
@@ -194,7 +195,7 @@ pub extern "C" fn intaglio_clear(alloc: Global, handle: &mut Handle)
     handle.clear(alloc);
 }
 
-/// Drops the contents after the first ones.
+/// Drops all contents but the first ones, as many as the mark says.
 #[unsafe(no_mangle)]
 pub extern "C" fn intaglio_take_back(alloc: Global, handle: &mut Handle, mark: usize) -> u32
     ensures { Tells result (λ answer. Changes handle.old handle.new answer (TakesBack mark)) }
@@ -202,7 +203,7 @@ pub extern "C" fn intaglio_take_back(alloc: Global, handle: &mut Handle, mark: u
     code(handle.take_back(alloc, mark))
 }
 
-/// Interns many strings, all or none, and writes their symbols.
+/// Interns a group of strings, all or none, and writes their symbols.
 #[unsafe(no_mangle)]
 pub extern "C" fn intaglio_intern_all(
     alloc: Global,
@@ -216,7 +217,7 @@ pub extern "C" fn intaglio_intern_all(
     code(handle.intern_all(alloc, bytes, ends, symbols))
 }
 
-/// Looks many strings up, and writes the symbol of each, or what no symbol is.
+/// Looks up a group of strings, and writes the symbol of each, or 2^64 - 1 if it has none.
 #[unsafe(no_mangle)]
 pub extern "C" fn intaglio_check_all(
     alloc: Global,
@@ -231,7 +232,7 @@ pub extern "C" fn intaglio_check_all(
     code(handle.check_all(alloc, bytes, ends, symbols))
 }
 
-/// Copies the bytes of many symbols to the front of a buffer, and writes the end of each.
+/// Copies the bytes of many symbols to the start of a buffer, and writes the end of each.
 #[unsafe(no_mangle)]
 pub extern "C" fn intaglio_copy_all(
     alloc: Global,
