@@ -19,7 +19,7 @@ pub fn hash<S: BuildHasher>(table: &SymbolTable<S>, words: &[String]) -> u64 {
     sum
 }
 
-/// Interns the words, and adds up the numbers of their symbols, each with 1.
+/// Interns the words, and adds up the numbers of their symbols, plus 1 for each.
 #[inline(never)]
 pub fn intern<S: BuildHasher>(table: &mut SymbolTable<S>, words: Vec<String>) -> u64 {
     let mut sum = 0u64;
@@ -62,7 +62,7 @@ fn intern_batch<S: BuildHasher>(
     Ok(sum)
 }
 
-/// Interns the words by their borrowed forms, and adds up the numbers of their symbols, each with 1.
+/// Interns the words by their borrowed forms, and adds up the numbers of their symbols, plus 1 for each.
 #[inline(never)]
 pub fn get_or_intern<S: BuildHasher>(table: &mut SymbolTable<S>, words: &[String]) -> u64 {
     let mut sum = 0u64;
@@ -90,7 +90,7 @@ pub fn get_or_intern_batches<S: BuildHasher>(
     Ok(sum)
 }
 
-/// Looks the words up in batches, and adds up the numbers of the symbols that it finds, each with 1.
+/// Looks up the words in batches, and adds up the numbers of the symbols found, plus 1 for each.
 #[inline(never)]
 pub fn look_up_batches<S: BuildHasher>(
     alloc: Global,
@@ -118,7 +118,7 @@ fn forms(alloc: Global, words: &[String]) -> Result<Vec<&str>, AllocError> {
     Ok(forms)
 }
 
-/// Looks the words up, and adds up the numbers of the symbols that it finds, each with 1.
+/// Looks up the words, and adds up the numbers of the symbols found, plus 1 for each.
 #[inline(never)]
 pub fn look_up<S: BuildHasher>(table: &SymbolTable<S>, words: &[String]) -> u64 {
     let mut sum = 0u64;

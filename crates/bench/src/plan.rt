@@ -1,15 +1,15 @@
-//! What the arguments ask for.
+//! The arguments of the program.
 
 /// What is done with each table.
 #[derive(Clone, Copy)]
 pub enum Task {
     /// Each operation once.
     Check,
-    /// The same, and times are printed.
+    /// Each operation once, with printed times.
     Time,
-    /// The table is filled, and held until the input ends.
+    /// The table is filled, and kept until the input ends.
     Hold,
-    /// Words are hashed alone, and the time is printed.
+    /// Words are only hashed, and the time is printed.
     Hash,
 }
 
@@ -41,16 +41,17 @@ pub struct Plan {
     pub task: Task,
     pub calls: Calls,
     pub hashing: Hashing,
-    /// The capacity that each table begins with.
+    /// The initial capacity of each table.
     pub capacity: usize,
-    /// How many distinct words.
+    /// The number of distinct words.
     pub size: u32,
-    /// How many tables, one after the other.
+    /// The number of tables, one after the other.
     pub turns: u32,
 }
 
 impl Plan {
-    /// Reads `check|time|hold|hash single|batch|both fold|keyed|std CAPACITY SIZE TURNS`, behind the program's name.
+    /// Reads `check|time|hold|hash single|batch|both fold|keyed|std CAPACITY SIZE
+    /// TURNS`, after the program's name.
     pub fn read(arguments: &[String]) -> Option<Plan> {
         let [_, task, calls, hashing, capacity, size, turns] = arguments else {
             return None;

@@ -1,4 +1,4 @@
-//! One turn: each operation once, on a table that is empty at first.
+//! One turn: each operation once, on a table that is empty at the start.
 
 use crate::operations::{
     clear, get, get_or_intern, get_or_intern_batches, hash, intern, intern_batches, iterate,
@@ -89,7 +89,7 @@ fn single_calls<R: Print + Clock + AllocGlobal, S: BuildHasher>(
     measure(rt, table, plan, "refill", Operation::Intern(absent))
 }
 
-// What single calls do, as far as there are calls that take a batch.
+// The operations of single calls in batches, where there is a call that takes a batch.
 fn batches<R: Print + Clock + AllocGlobal, S: BuildHasher>(
     rt: &R,
     table: &mut SymbolTable<S>,
@@ -120,7 +120,7 @@ fn shuffled_numbers(alloc: Global, plan: Plan) -> Result<Vec<u32>, AllocError> {
     Ok(shuffled)
 }
 
-// Words that the first ones lack.
+// Words that differ from the first ones.
 fn other_words(alloc: Global, plan: Plan) -> Result<Vec<String>, AllocError> {
     words(alloc, &numbers(alloc, plan.size, plan.size)?)
 }
@@ -165,8 +165,8 @@ pub fn hash_alone<R: Print + Clock + AllocGlobal, S: BuildHasher>(
     measure(rt, table, plan, "hash", Operation::Hash(&fresh))
 }
 
-/// Fills the table with words that it makes one at a time, prints how many texts there are and how
-/// many bytes they have, and ends when the input ends.
+/// Fills the table with words made one at a time, prints the number of texts and of their bytes, and returns
+/// when the input ends.
 pub fn hold<R: Print + Input + AllocGlobal, S: BuildHasher>(
     rt: &R,
     table: &mut SymbolTable<S>,
