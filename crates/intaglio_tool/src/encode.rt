@@ -45,9 +45,9 @@ pub fn encode<S: BuildHasher + Drop, R: Read, W: Write>(
     ensures written { OnOk result (IfSome (R.remaining reader.old) (λ input. Appends (W.contents writer.old) (W.contents writer.new) (encoded kind input))) }
     ensures all_read { OnOk result (IsAtEnd (R.remaining reader.new)) }
 
-    // `NotUtf8` is returned only after the whole input was read and only if the kind doesn't allow it. A
-    // contract can't distinguish a reader at its end from one that has reported it, so an allocation may have
-    // failed in between: `encode_input` is exact.
+    // `NotUtf8` is returned only after the whole input was read, and only if the kind doesn't allow that
+    // input. A contract can't distinguish a reader at its end from one that has reported it, so an allocation
+    // may have failed there: `encode_input` is exact.
     ensures not_utf8 { result ≡ Err NotUtf8 → IfSome (R.remaining reader.old) (λ input. ¬ (Allows kind input)) }
     ensures end_met { result ≡ Err NotUtf8 → IsAtEnd (R.remaining reader.new) }
     ensures refuses { IfSome (R.remaining reader.old) (λ input. ¬ (Allows kind input) → IsNotUtf8OrUnread result) }

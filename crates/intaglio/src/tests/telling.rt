@@ -1,4 +1,4 @@
-//! Assertions, each proved once: a call of one costs a test nothing to prove.
+//! Assertions as functions: each is proved once, so that a call costs a test no proof.
 use std::fmt::Debug;
 use std::process::Abort;
 
