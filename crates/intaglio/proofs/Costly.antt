@@ -3,38 +3,38 @@ use Rattle.std.proofs.Common.{◌≡◌, ◌≢◌, ℕ, suc, ◌+◌, ◌<◌, 
 use Rattle.std.specs.Prelude.{Contains}
 use Rattle.std.proofs.lemmas.List.Elements.{All-nil, All-cons, All-head, All-tail, All-same}
 use Rattle.intaglio_content.specs.Key.{Key}
-use Rattle.intaglio_content.specs.Work.{Mark, hashed, compared, step, placed}
+use Rattle.intaglio_content.specs.Work.{Event, hashed, compared, step, placed}
 use Rattle.intaglio_core.specs.State.{State, AreDistinct}
 use Rattle.intaglio_core.specs.Cost.{hashed_keys, sought_keys, stored_keys, placed_count, IsAddingCost}
 use Rattle.intaglio_core.proofs.Growth.{hashed_keys-append, placed_count-append}
 use Rattle.intaglio.specs.Costly.{SearchesAreCheap, InterningsAreCheap}
 
--- how many keys are hashed by marks, one after the other
-hashings-sum : (a b : List Mark) → length (hashed_keys (a ++ b)) ≡ length (hashed_keys a) + length (hashed_keys b)
+-- how many keys are hashed by events, one after the other
+hashings-sum : (a b : List Event) → length (hashed_keys (a ++ b)) ≡ length (hashed_keys a) + length (hashed_keys b)
 hashings-sum a b = rw (hashed_keys-append a b) (length-append (hashed_keys a) (hashed_keys b))
 
-two-hashings : (x y : Key) (a b c : List Mark) → 1 < length (hashed_keys (a ++ hashed x ∷ b ++ hashed y ∷ c))
+two-hashings : (x y : Key) (a b c : List Event) → 1 < length (hashed_keys (a ++ hashed x ∷ b ++ hashed y ∷ c))
 two-hashings x y a b c =
     let whole : length (hashed_keys (a ++ hashed x ∷ b ++ hashed y ∷ c)) ≡ length (hashed_keys (a ++ hashed x ∷ b)) + length (y ∷ hashed_keys c) = hashings-sum (a ++ hashed x ∷ b) (hashed y ∷ c) in
     let begins : length (hashed_keys (a ++ hashed x ∷ b)) ≡ length (hashed_keys a) + length (x ∷ hashed_keys b) = hashings-sum a (hashed x ∷ b) in
     omega (arith, whole, begins)
 
 module _ (P : Key → Type 0) where
-  hashed-holds : (x : Key) (a b : List Mark) → All P (hashed_keys (a ++ hashed x ∷ b)) → P x
+  hashed-holds : (x : Key) (a b : List Event) → All P (hashed_keys (a ++ hashed x ∷ b)) → P x
   hashed-holds x [] b h = All-head P x (hashed_keys b) h
   hashed-holds x (hashed k ∷ a) b h = hashed-holds x a b (All-tail P k (hashed_keys (a ++ hashed x ∷ b)) h)
   hashed-holds x (compared k l ∷ a) b h = hashed-holds x a b h
   hashed-holds x (step ∷ a) b h = hashed-holds x a b h
   hashed-holds x (placed ∷ a) b h = hashed-holds x a b h
 
-  sought-holds : (x y : Key) (a b : List Mark) → All P (sought_keys (a ++ compared x y ∷ b)) → P x
+  sought-holds : (x y : Key) (a b : List Event) → All P (sought_keys (a ++ compared x y ∷ b)) → P x
   sought-holds x y [] b h = All-head P x (sought_keys b) h
   sought-holds x y (hashed k ∷ a) b h = sought-holds x y a b h
   sought-holds x y (compared k l ∷ a) b h = sought-holds x y a b (All-tail P k (sought_keys (a ++ compared x y ∷ b)) h)
   sought-holds x y (step ∷ a) b h = sought-holds x y a b h
   sought-holds x y (placed ∷ a) b h = sought-holds x y a b h
 
-  stored-holds : (x y : Key) (a b : List Mark) → All P (stored_keys (a ++ compared x y ∷ b)) → P y
+  stored-holds : (x y : Key) (a b : List Event) → All P (stored_keys (a ++ compared x y ∷ b)) → P y
   stored-holds x y [] b h = All-head P y (stored_keys b) h
   stored-holds x y (hashed k ∷ a) b h = stored-holds x y a b h
   stored-holds x y (compared k l ∷ a) b h = stored-holds x y a b (All-tail P l (stored_keys (a ++ compared x y ∷ b)) h)
@@ -47,7 +47,7 @@ pairs-head x xs h k d lt = h 0 (suc k) d (omega arith) (omega arith)
 pairs-tail : (x : Key) (xs : List Key) → AreDistinct (x ∷ xs) → AreDistinct xs
 pairs-tail x xs h i j d lt below = h (suc i) (suc j) d (omega arith) (omega arith)
 
-compared-once : (x x' y : Key) (a b c : List Mark) → AreDistinct (stored_keys (a ++ compared x y ∷ b ++ compared x' y ∷ c)) → ⊥
+compared-once : (x x' y : Key) (a b c : List Event) → AreDistinct (stored_keys (a ++ compared x y ∷ b ++ compared x' y ∷ c)) → ⊥
 compared-once x x' y [] b c h =
     absurd (stored-holds (λ (z : Key). y ≢ z) x' y b c (pairs-head y (stored_keys (b ++ compared x' y ∷ c)) h) refl)
 compared-once x x' y (hashed k ∷ a) b c h = compared-once x x' y a b c h
@@ -56,7 +56,7 @@ compared-once x x' y (compared k l ∷ a) b c h =
 compared-once x x' y (step ∷ a) b c h = compared-once x x' y a b c h
 compared-once x x' y (placed ∷ a) b c h = compared-once x x' y a b c h
 
-placed-one : (a b : List Mark) → 0 < placed_count (a ++ placed ∷ b)
+placed-one : (a b : List Event) → 0 < placed_count (a ++ placed ∷ b)
 placed-one a b = let sum : placed_count (a ++ placed ∷ b) ≡ placed_count a + (1 + placed_count b) = placed_count-append a (placed ∷ b) in omega (arith, sum)
 
 pub searches-are-cheap : (hash : Key → ℕ) (k : Key) (bucket : List Key) → SearchesAreCheap hash k bucket
@@ -72,18 +72,18 @@ searches-are-cheap hash k bucket = record {
 }
 
 module _ {C : Type 0} (key : C → Key) (hash : Key → ℕ) (old : State C) (k : Key) (new : State C) where
-  adding-hashes : (cost : List Mark) → IsAddingCost key hash old k new cost → length (hashed_keys cost) ≡ 1
+  adding-hashes : (cost : List Event) → IsAddingCost key hash old k new cost → length (hashed_keys cost) ≡ 1
   adding-hashes cost is =
-      let parts : length (hashed_keys cost) ≡ length (hashed_keys (is.search ++ is.growth ++ placed ∷ [])) = ap (λ (ms : List Mark). length (hashed_keys ms)) is.parts in
+      let parts : length (hashed_keys cost) ≡ length (hashed_keys (is.search ++ is.growth ++ placed ∷ [])) = ap (λ (ms : List Event). length (hashed_keys ms)) is.parts in
       let whole : length (hashed_keys (is.search ++ is.growth ++ placed ∷ [])) ≡ length (hashed_keys (is.search ++ is.growth)) + 0 = hashings-sum (is.search ++ is.growth) (placed ∷ []) in
       let begins : length (hashed_keys (is.search ++ is.growth)) ≡ length (hashed_keys is.search) + length (hashed_keys is.growth) = hashings-sum is.search is.growth in
       let one : length (hashed_keys is.search) ≡ 1 = ap (λ (ks : List Key). length ks) is.searches.hashings in
       let none : length (hashed_keys is.growth) ≡ 0 = ap (λ (ks : List Key). length ks) is.grows.hashings in
       omega (arith, parts, whole, begins, one, none)
 
-  adding-places : (cost : List Mark) (is : IsAddingCost key hash old k new cost) → placed_count cost ≡ placed_count is.growth + 1
+  adding-places : (cost : List Event) (is : IsAddingCost key hash old k new cost) → placed_count cost ≡ placed_count is.growth + 1
   adding-places cost is =
-      let parts : placed_count cost ≡ placed_count (is.search ++ is.growth ++ placed ∷ []) = ap (λ (ms : List Mark). placed_count ms) is.parts in
+      let parts : placed_count cost ≡ placed_count (is.search ++ is.growth ++ placed ∷ []) = ap (λ (ms : List Event). placed_count ms) is.parts in
       let whole : placed_count (is.search ++ is.growth ++ placed ∷ []) ≡ placed_count (is.search ++ is.growth) + 1 = placed_count-append (is.search ++ is.growth) (placed ∷ []) in
       let begins : placed_count (is.search ++ is.growth) ≡ placed_count is.search + placed_count is.growth = placed_count-append is.search is.growth in
       let none : placed_count is.search ≡ 0 = is.searches.placements in
@@ -93,7 +93,7 @@ module _ {C : Type 0} (key : C → Key) (hash : Key → ℕ) (old : State C) (k 
   internings-are-cheap = record {
     no_second_hashing = λ x y a b c is. absurd (omega (arith, two-hashings x y a b c, adding-hashes _ is));
     places_one = λ same cost is.
-        let none : placed_count is.growth ≡ 0 = ap (λ (ms : List Mark). placed_count ms) (is.grows.only_growth same) in
+        let none : placed_count is.growth ≡ 0 = ap (λ (ms : List Event). placed_count ms) (is.grows.only_growth same) in
         let more : placed_count cost ≡ placed_count is.growth + 1 = adding-places cost is in
         omega (arith, more, none);
     places_each_again = λ grown cost is.

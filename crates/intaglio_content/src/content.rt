@@ -36,7 +36,7 @@ pub trait Formed<'a>: Content {
     ghost form_spelling: { Self.Form → List ℕ };
 
     /// Borrows the content as its form.
-    fn lend(&'a self) -> Self::Form
+    fn borrow(&'a self) -> Self::Form
         ensures { form_spelling result ≡ Self.spelling self.now };
 }
 
@@ -50,12 +50,12 @@ pub trait Sought<C: Keyed>: Keyed {
     /// Hashes the key with a new hasher of the builder, and returns the result.
     fn hash_with<S: BuildHasher>(&self, builder: &S, work: &mut Work) -> u64
         ensures hash { result ≡ key_hash S.Hasher.finish S.Hasher.write (S.build_hasher builder.now) (Self.key self.now) }
-        ensures mark { work.new.marks ≡ work.old.marks ++ hashed (Self.key self.now) ∷ [] };
+        ensures event { work.new.events ≡ work.old.events ++ hashed (Self.key self.now) ∷ [] };
 
     /// Whether the keys of `self` and of the stored content are equal.
     fn same_as(&self, stored: &C, work: &mut Work) -> bool
         ensures same { IsTrue result ↔ (Self.key self.now ≡ C.key stored.now) }
-        ensures mark { work.new.marks ≡ work.old.marks ++ compared (Self.key self.now) (C.key stored.now) ∷ [] };
+        ensures event { work.new.events ≡ work.old.events ++ compared (Self.key self.now) (C.key stored.now) ∷ [] };
 }
 
 /// A borrowed form of a content of type `C`: it can be looked up, and copied into a

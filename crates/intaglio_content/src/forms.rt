@@ -54,7 +54,7 @@ impl<'a, C: Formed<'a>> Iterator for Forms<'a, C> {
 
     fn next(&mut self) -> Option<C::Form> {
         let content = self.contents.next()?;
-        Some(content.lend())
+        Some(content.borrow())
     }
 
     fn size_hint(&self) -> (usize, Option<usize>)
@@ -72,7 +72,7 @@ impl<'a, C: Formed<'a>> DoubleEndedIterator for Forms<'a, C> {
 
     fn next_back(&mut self) -> Option<C::Form> {
         let content = self.contents.next_back()?;
-        Some(content.lend())
+        Some(content.borrow())
     }
 }
 

@@ -3,7 +3,7 @@ use Rattle.std.proofs.Common.{◌≡◌, ◌≢◌, ◌∙◌, sym, ap, refl, ar
 use Rattle.std.specs.Prelude.{slice_get, nat_lt, nat_eq}
 use Rattle.std.proofs.lemmas.Bool.{lt-ltb, le-ltb}
 use Rattle.intaglio_content.specs.Key.{Key}
-use Rattle.intaglio_content.specs.Work.{Mark}
+use Rattle.intaglio_content.specs.Work.{Event}
 use Rattle.intaglio_core.specs.State.{State, first}
 use Rattle.intaglio_core.specs.Change.{IsTaken}
 use Rattle.intaglio_core.specs.Step.{Step, found}
@@ -173,7 +173,7 @@ module _ {C : Type 0} (key : C → Key) (spells : C → List ℕ) where
   leaves_all held limit [] = held
   leaves_all held limit (call ∷ calls) = leaves_all (leaves held limit call) limit calls
 
-  runs-plain : (hash : Key → ℕ) (old new : State C) (calls : List (Call C)) (replies : List Reply) (cost : List Mark) → Runs key spells hash old calls replies cost new → HasMemory replies
+  runs-plain : (hash : Key → ℕ) (old new : State C) (calls : List (Call C)) (replies : List Reply) (cost : List Event) → Runs key spells hash old calls replies cost new → HasMemory replies
       → (map seen replies ≡ says_each old.contents old.limit calls) × (new.contents ≡ leaves_all old.contents old.limit calls)
   runs-plain hash old new [] [] cost run memory = (refl, same-contents old new run.1)
   runs-plain hash old new [] (r ∷ replies) cost run memory = absurd run

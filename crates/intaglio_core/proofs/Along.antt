@@ -14,7 +14,7 @@ use Rattle.intaglio_index.proofs.LinkLemmas.{both, each_symbol}
 use Rattle.intaglio_index.proofs.WalkLemmas.{rest_of, rest_of-at, rest_of-none, some_rest}
 use Rattle.intaglio_index.specs.Placed.{Placed, places_from, head_of, members, chain, symbols_of, AreSorted, IsEntry}
 use Rattle.intaglio_content.specs.Key.{Key}
-use Rattle.intaglio_content.specs.Work.{Mark, hashed, compared, step}
+use Rattle.intaglio_content.specs.Work.{Event, hashed, compared, step}
 use Rattle.intaglio_core.specs.State.{first_of, key_eq, AreDistinct}
 use Rattle.intaglio_core.specs.Cost.{hashed_keys, sought_keys, stored_keys, step_count, placed_count, bucket_keys, IsSearchCost}
 use Rattle.intaglio_core.proofs.First.{first-none, first-some, key_eq-decides, key_eq-unequal}
@@ -75,8 +75,8 @@ module _ (hash : Key → ℕ) (keys : List Key) (k : Key) where
   abbrev pub key_at : ℕ → Key
   key_at s = get_or keys s []
 
-  -- the marks of passing these entries
-  abbrev pub walked : List (ℕ × ℕ) → List Mark
+  -- the events of passing these entries
+  abbrev pub walked : List (ℕ × ℕ) → List Event
   walked [] = []
   walked (e ∷ es) = cond (eqb (hash k) e.1) (compared k (key_at e.0) ∷ step ∷ walked es) (step ∷ walked es)
 
@@ -101,17 +101,17 @@ module _ (hash : Key → ℕ) (keys : List Key) (k : Key) where
         | false ↦ met-push seen e
       ]
 
-  walked-hashed : (seen : List (ℕ × ℕ)) (last : List Mark) → hashed_keys (walked seen ++ last) ≡ hashed_keys last
+  walked-hashed : (seen : List (ℕ × ℕ)) (last : List Event) → hashed_keys (walked seen ++ last) ≡ hashed_keys last
   walked-hashed [] last = refl
   walked-hashed (e ∷ seen) last =
       elim (eqb (hash k) e.1) as (λ t. hashed_keys (cond t (compared k (key_at e.0) ∷ step ∷ walked seen) (step ∷ walked seen) ++ last) ≡ hashed_keys last) [ true ↦ walked-hashed seen last | false ↦ walked-hashed seen last ]
 
-  walked-sought : (seen : List (ℕ × ℕ)) (last : List Mark) → AllByRecursion (λ x. x ≡ k) (sought_keys last) → AllByRecursion (λ x. x ≡ k) (sought_keys (walked seen ++ last))
+  walked-sought : (seen : List (ℕ × ℕ)) (last : List Event) → AllByRecursion (λ x. x ≡ k) (sought_keys last) → AllByRecursion (λ x. x ≡ k) (sought_keys (walked seen ++ last))
   walked-sought [] last h = h
   walked-sought (e ∷ seen) last h =
       elim (eqb (hash k) e.1) as (λ t. AllByRecursion (λ x. x ≡ k) (sought_keys (cond t (compared k (key_at e.0) ∷ step ∷ walked seen) (step ∷ walked seen) ++ last))) [ true ↦ (refl, walked-sought seen last h) | false ↦ walked-sought seen last h ]
 
-  walked-stored : (seen : List (ℕ × ℕ)) (last : List Mark) → stored_keys (walked seen ++ last) ≡ met_keys seen ++ stored_keys last
+  walked-stored : (seen : List (ℕ × ℕ)) (last : List Event) → stored_keys (walked seen ++ last) ≡ met_keys seen ++ stored_keys last
   walked-stored [] last = refl
   walked-stored (e ∷ seen) last =
       elim (eqb (hash k) e.1) as (λ t. stored_keys (cond t (compared k (key_at e.0) ∷ step ∷ walked seen) (step ∷ walked seen) ++ last) ≡ cond t (key_at e.0 ∷ met_keys seen) (met_keys seen) ++ stored_keys last) [
@@ -119,7 +119,7 @@ module _ (hash : Key → ℕ) (keys : List Key) (k : Key) where
         | false ↦ walked-stored seen last
       ]
 
-  walked-steps : (seen : List (ℕ × ℕ)) (last : List Mark) → step_count (walked seen ++ last) ≡ length seen + step_count last
+  walked-steps : (seen : List (ℕ × ℕ)) (last : List Event) → step_count (walked seen ++ last) ≡ length seen + step_count last
   walked-steps [] last = omega arith
   walked-steps (e ∷ seen) last =
       elim (eqb (hash k) e.1) as (λ t. step_count (cond t (compared k (key_at e.0) ∷ step ∷ walked seen) (step ∷ walked seen) ++ last) ≡ suc (length seen) + step_count last) [
@@ -127,7 +127,7 @@ module _ (hash : Key → ℕ) (keys : List Key) (k : Key) where
         | false ↦ omega (arith, walked-steps seen last)
       ]
 
-  walked-placed : (seen : List (ℕ × ℕ)) (last : List Mark) → placed_count (walked seen ++ last) ≡ placed_count last
+  walked-placed : (seen : List (ℕ × ℕ)) (last : List Event) → placed_count (walked seen ++ last) ≡ placed_count last
   walked-placed [] last = refl
   walked-placed (e ∷ seen) last =
       elim (eqb (hash k) e.1) as (λ t. placed_count (cond t (compared k (key_at e.0) ∷ step ∷ walked seen) (step ∷ walked seen) ++ last) ≡ placed_count last) [ true ↦ walked-placed seen last | false ↦ walked-placed seen last ]
@@ -169,13 +169,13 @@ module _ (hash : Key → ℕ) (keys : List Key) (k : Key) where
       apart_symbols e (f ∷ fs) a = (eqb-unequal e.0 f.0 (λ q. key_eq-apart _ _ a.0 (ap key_at q)), apart_symbols e fs a.1)
 
   -- where a walk stands
-  pub record IsAlong (path : List (ℕ × ℕ)) (candidate : Option (ℕ × ℕ)) (marks : List Mark) : Type 0 where
+  pub record IsAlong (path : List (ℕ × ℕ)) (candidate : Option (ℕ × ℕ)) (events : List Event) : Type 0 where
     pub seen : List (ℕ × ℕ)
     pub rest : List (ℕ × ℕ)
     pub split : path ≡ seen ++ rest
     pub next : candidate ≡ head_of rest
     pub others : AllByRecursion (λ (e : ℕ × ℕ). key_at e.0 ≢ k) seen
-    pub walk : marks ≡ hashed k ∷ step ∷ walked seen
+    pub walk : events ≡ hashed k ∷ step ∷ walked seen
 
   -- entries of smaller hashes are passed without a comparison
   walked-smaller : (front : List (ℕ × ℕ)) → AllByRecursion (λ (e : ℕ × ℕ). e.1 < hash k) front → step ∷ walked front ≡ replicate (length front + 1) step
@@ -243,7 +243,7 @@ module _ (hash : Key → ℕ) (count : ℕ) (keys : List Key) (k : Key) (path : 
       Each-weaker (IsEntry count (hash k % count) (map hash keys)) IsHashed
       (λ e h. (let l : e.0 < length keys = omega (arith, h.0, length-map keys hash) in (l, sym (get_or-map hash keys e.0 [] 0 l) ∙ h.1 0))) path here.entries
 
-  cost : (seen : List (ℕ × ℕ)) (last : List Mark) (met tail : List (ℕ × ℕ)) → path ≡ met ++ tail → met_keys hash keys k seen ++ stored_keys last ≡ met_keys hash keys k met →
+  cost : (seen : List (ℕ × ℕ)) (last : List Event) (met tail : List (ℕ × ℕ)) → path ≡ met ++ tail → met_keys hash keys k seen ++ stored_keys last ≡ met_keys hash keys k met →
       hashed_keys last ≡ [] → AllByRecursion (λ x. x ≡ k) (sought_keys last) → length seen + step_count last ≤ length path → placed_count last ≡ 0 →
       IsSearchCost hash k (bucket_keys hash count keys k) (hashed k ∷ step ∷ (walked hash keys k seen ++ last))
   cost seen last met tail split stored none sought steps placements =
@@ -262,21 +262,21 @@ module _ (hash : Key → ℕ) (count : ℕ) (keys : List Key) (k : Key) (path : 
         equal_hashes = rw is (All-from_recursion (λ x. hash x ≡ hash k) _ hashes);
       }
 
-  pub standing : (e : ℕ × ℕ) (marks : List Mark) → (at : IsAlong hash keys k path (Some e) marks) → (behind : List (ℕ × ℕ)) × (path ≡ at.seen ++ e ∷ behind)
-  standing e marks at =
+  pub standing : (e : ℕ × ℕ) (events : List Event) → (at : IsAlong hash keys k path (Some e) events) → (behind : List (ℕ × ℕ)) × (path ≡ at.seen ++ e ∷ behind)
+  standing e events at =
       let rest = some_rest at.rest e at.next in
       (rest.0, at.split ∙ ap (λ r. at.seen ++ r) rest.1)
 
-  candidate_hashed : (e : ℕ × ℕ) (marks : List Mark) → IsAlong hash keys k path (Some e) marks → IsHashed e
-  candidate_hashed e marks at =
-      let h = standing e marks at in (Each-right IsHashed at.seen (e ∷ h.0) (rw h.1 at path_hashes)).0
+  candidate_hashed : (e : ℕ × ℕ) (events : List Event) → IsAlong hash keys k path (Some e) events → IsHashed e
+  candidate_hashed e events at =
+      let h = standing e events at in (Each-right IsHashed at.seen (e ∷ h.0) (rw h.1 at path_hashes)).0
 
-  pub in_range : (s o : ℕ) (marks : List Mark) → IsAlong hash keys k path (Some (s, o)) marks → s < length keys
-  in_range s o marks at = (candidate_hashed (s, o) marks at).0
+  pub in_range : (s o : ℕ) (events : List Event) → IsAlong hash keys k path (Some (s, o)) events → s < length keys
+  in_range s o events at = (candidate_hashed (s, o) events at).0
 
   -- a key with another hash is another key
-  pub hash_differs : (s o : ℕ) (marks : List Mark) → IsAlong hash keys k path (Some (s, o)) marks → hash k ≢ o → key_at hash keys k s ≢ k
-  hash_differs s o marks at differ = λ e. differ (sym (ap hash e) ∙ (candidate_hashed (s, o) marks at).1)
+  pub hash_differs : (s o : ℕ) (events : List Event) → IsAlong hash keys k path (Some (s, o)) events → hash k ≢ o → key_at hash keys k s ≢ k
+  hash_differs s o events at differ = λ e. differ (sym (ap hash e) ∙ (candidate_hashed (s, o) events at).1)
 
   -- beyond a greater hash no key is the sought one
   rest_differs : (at_path seen rest : List (ℕ × ℕ)) (candidate : Option (ℕ × ℕ)) → path ≡ seen ++ rest → candidate ≡ head_of rest → MatchOption candidate (Unit {0}) (λ e. hash k < e.1) → AllByRecursion (λ (e : ℕ × ℕ). key_at hash keys k e.0 ≢ k) rest
@@ -289,9 +289,9 @@ module _ (hash : Key → ℕ) (count : ℕ) (keys : List Key) (k : Key) (path : 
       (differs e (hashes.0, omega arith), Each-weaker (λ (f : ℕ × ℕ). IsHashed f × (e.1 ≤ f.1)) (λ (f : ℕ × ℕ). key_at hash keys k f.0 ≢ k) differs behind (both IsHashed (λ (f : ℕ × ℕ). e.1 ≤ f.1) behind hashes.1 above))
 
   -- the walk ends: no position has the key
-  pub ends : (marks : List Mark) (candidate : Option (ℕ × ℕ)) → IsAlong hash keys k path candidate marks → MatchOption candidate (Unit {0}) (λ e. hash k < e.1) →
-      (None ≡ first_of keys k) × IsSearchCost hash k (bucket_keys hash count keys k) marks
-  ends marks candidate at m =
+  pub ends : (events : List Event) (candidate : Option (ℕ × ℕ)) → IsAlong hash keys k path candidate events → MatchOption candidate (Unit {0}) (λ e. hash k < e.1) →
+      (None ≡ first_of keys k) × IsSearchCost hash k (bucket_keys hash count keys k) events
+  ends events candidate at m =
       let all = Each-append (λ (e : ℕ × ℕ). key_at hash keys k e.0 ≢ k) at.seen at.rest at.others (rest_differs path at.seen at.rest candidate at.split at.next m) in
       let others : All (λ s. key_at hash keys k s ≢ k) (symbols_of path) = All-from_recursion (λ s. key_at hash keys k s ≢ k) (symbols_of path) (each_symbol (λ s. key_at hash keys k s ≢ k) path (rw at.split all)) in
       let none : (j : ℕ) → j < length keys → key_at hash keys k j ≢ k = λ j l e.
@@ -305,11 +305,11 @@ module _ (hash : Key → ℕ) (count : ℕ) (keys : List Key) (k : Key) (path : 
       (sym (first-none keys k none), rw at.walk (rw (append-nil (walked hash keys k at.seen)) at is))
 
   -- a stored key is the sought one
-  pub finds : (s o : ℕ) (marks : List Mark) → IsAlong hash keys k path (Some (s, o)) marks → hash k ≡ o → key_at hash keys k s ≡ k →
-      (Some s ≡ first_of keys k) × IsSearchCost hash k (bucket_keys hash count keys k) (marks ++ compared k (key_at hash keys k s) ∷ [])
-  finds s o marks at same e =
-      let h = standing (s, o) marks at in
-      let l = in_range s o marks at in
+  pub finds : (s o : ℕ) (events : List Event) → IsAlong hash keys k path (Some (s, o)) events → hash k ≡ o → key_at hash keys k s ≡ k →
+      (Some s ≡ first_of keys k) × IsSearchCost hash k (bucket_keys hash count keys k) (events ++ compared k (key_at hash keys k s) ∷ [])
+  finds s o events at same e =
+      let h = standing (s, o) events at in
+      let l = in_range s o events at in
       let before : (j : ℕ) → j < s → key_at hash keys k j ≢ k = λ j lt q. here.apart j s [] lt l (q ∙ sym e) in
       let split : path ≡ (at.seen ++ (s, o) ∷ []) ++ h.0 = h.1 ∙ sym (append_assoc at.seen ((s, o) ∷ []) h.0) in
       let met : met_keys hash keys k at.seen ++ key_at hash keys k s ∷ [] ≡ met_keys hash keys k (at.seen ++ (s, o) ∷ []) = sym (met-push hash keys k at.seen (s, o) ∙ rw (eqb-equal (hash k) o same) refl) in
@@ -318,10 +318,10 @@ module _ (hash : Key → ℕ) (count : ℕ) (keys : List Key) (k : Key) (path : 
       (sym (first-some keys k s l e before), rw at.walk is)
 
   -- one position on
-  pub goes_on : (s o : ℕ) (marks : List Mark) (at : IsAlong hash keys k path (Some (s, o)) marks) → key_at hash keys k s ≢ k →
-      IsAlong hash keys k path (head_of (standing (s, o) marks at).0) (marks ++ cond (eqb (hash k) o) (compared k (key_at hash keys k s) ∷ step ∷ []) (step ∷ []))
-  goes_on s o marks at n =
-      let h = standing (s, o) marks at in
+  pub goes_on : (s o : ℕ) (events : List Event) (at : IsAlong hash keys k path (Some (s, o)) events) → key_at hash keys k s ≢ k →
+      IsAlong hash keys k path (head_of (standing (s, o) events at).0) (events ++ cond (eqb (hash k) o) (compared k (key_at hash keys k s) ∷ step ∷ []) (step ∷ []))
+  goes_on s o events at n =
+      let h = standing (s, o) events at in
       record {
         seen = at.seen ++ (s, o) ∷ [];
         rest = h.0;
@@ -332,10 +332,10 @@ module _ (hash : Key → ℕ) (count : ℕ) (keys : List Key) (k : Key) (path : 
       }
 
   -- and nearer the end
-  pub falls : (s o : ℕ) (marks : List Mark) (next : Option (ℕ × ℕ)) (at : IsAlong hash keys k path (Some (s, o)) marks) → next ≡ head_of (standing (s, o) marks at).0 →
+  pub falls : (s o : ℕ) (events : List Event) (next : Option (ℕ × ℕ)) (at : IsAlong hash keys k path (Some (s, o)) events) → next ≡ head_of (standing (s, o) events at).0 →
       length (rest_of path next) < length (rest_of path (Some (s, o)))
-  falls s o marks next at after =
-      let h = standing (s, o) marks at in
+  falls s o events next at after =
+      let h = standing (s, o) events at in
       let distinct = symbols-distinct hash keys k path path_distinct in
       let now : rest_of path (Some (s, o)) ≡ (s, o) ∷ h.0 = rest_of-at path at.seen ((s, o) ∷ h.0) (Some (s, o)) h.1 distinct refl in
       let later : path ≡ (at.seen ++ (s, o) ∷ []) ++ h.0 = h.1 ∙ sym (append_assoc at.seen ((s, o) ∷ []) h.0) in
@@ -343,17 +343,17 @@ module _ (hash : Key → ℕ) (count : ℕ) (keys : List Key) (k : Key) (path : 
       rw (now, then) (omega arith)
 
   -- and none is left
-  pub falls_out : (s o : ℕ) (marks : List Mark) (at : IsAlong hash keys k path (Some (s, o)) marks) → length (rest_of path None) < length (rest_of path (Some (s, o)))
-  falls_out s o marks at =
-      let h = standing (s, o) marks at in
+  pub falls_out : (s o : ℕ) (events : List Event) (at : IsAlong hash keys k path (Some (s, o)) events) → length (rest_of path None) < length (rest_of path (Some (s, o)))
+  falls_out s o events at =
+      let h = standing (s, o) events at in
       let distinct = symbols-distinct hash keys k path path_distinct in
       let now : rest_of path (Some (s, o)) ≡ (s, o) ∷ h.0 = rest_of-at path at.seen ((s, o) ∷ h.0) (Some (s, o)) h.1 distinct refl in
       rw (now, rest_of-none path) (omega arith)
 
   -- behind an entry no hash is smaller
-  pub above : (s o : ℕ) (marks : List Mark) (at : IsAlong hash keys k path (Some (s, o)) marks) → AllByRecursion (λ (f : ℕ × ℕ). o ≤ f.1) (standing (s, o) marks at).0
-  above s o marks at =
-      let h = standing (s, o) marks at in
+  pub above : (s o : ℕ) (events : List Event) (at : IsAlong hash keys k path (Some (s, o)) events) → AllByRecursion (λ (f : ℕ × ℕ). o ≤ f.1) (standing (s, o) events at).0
+  above s o events at =
+      let h = standing (s, o) events at in
       not_smaller at.seen (s, o) h.0 (rw h.1 at here.sorted)
 
   -- the first entry of the key's hash, behind smaller ones
@@ -401,10 +401,10 @@ bucket_path key hash index contents k hashes distinct =
 pub key_read : {C : Type 0} (key : C → Key) (contents : List C) (s : ℕ) (x : C) → s < length contents → x ≡ get_or contents s x → get_or (map key contents) s [] ≡ key x
 key_read key contents s x l e = get_or-map key contents s x [] l ∙ ap key (sym e)
 
--- marks added to marks
-pub joined : (start marks more a b : List Mark) → a ≡ start ++ marks → b ≡ a ++ more → b ≡ start ++ (marks ++ more)
-joined start marks more a b e f = f ∙ ap (λ ms. ms ++ more) e ∙ append_assoc start marks more
+-- events added to events
+pub joined : (start events more a b : List Event) → a ≡ start ++ events → b ≡ a ++ more → b ≡ start ++ (events ++ more)
+joined start events more a b e f = f ∙ ap (λ ms. ms ++ more) e ∙ append_assoc start events more
 
-pub joined_twice : (start marks : List Mark) (x y : Mark) (a b d : List Mark) → a ≡ start ++ marks → b ≡ a ++ x ∷ [] → d ≡ b ++ y ∷ [] → d ≡ start ++ (marks ++ x ∷ y ∷ [])
-joined_twice start marks x y a b d e f h =
-    joined start (marks ++ x ∷ []) (y ∷ []) b d (joined start marks (x ∷ []) a b e f) h ∙ ap (λ ms. start ++ ms) (append_assoc marks (x ∷ []) (y ∷ []))
+pub joined_twice : (start events : List Event) (x y : Event) (a b d : List Event) → a ≡ start ++ events → b ≡ a ++ x ∷ [] → d ≡ b ++ y ∷ [] → d ≡ start ++ (events ++ x ∷ y ∷ [])
+joined_twice start events x y a b d e f h =
+    joined start (events ++ x ∷ []) (y ∷ []) b d (joined start events (x ∷ []) a b e f) h ∙ ap (λ ms. start ++ ms) (append_assoc events (x ∷ []) (y ∷ []))

@@ -1,10 +1,10 @@
 -- Forms that are looked up or interned in order, with what that costs, and one form more.
 use Rattle.std.proofs.Common.{◌≡◌, ◌⊎◌, ◌∙◌, inl, inr, sym, ℕ, suc, ◌+◌, ◌<◌, cond, List, [], ◌∷◌, ◌++◌, length, map, take, drop, get_or, Option, Some, None, IfSome, option_map, Ok, Err, Result, MatchOption, is_some, unwrap_or, length-append, append_assoc, append-nil, refl, ap, arith}
 use Rattle.std.specs.Prelude.{slice_get}
-use Rattle.std.proofs.lemmas.List.{length-map, map-append, get_or-map, take_all, take_more, take-append-drop}
+use Rattle.std.proofs.lemmas.List.{length-map, map-append, get_or-map, intern_each, take_more, take-append-drop}
 use Rattle.std.proofs.lemmas.Option.{slice_get-map}
 use Rattle.intaglio_content.specs.Key.{Key}
-use Rattle.intaglio_content.specs.Work.{Mark}
+use Rattle.intaglio_content.specs.Work.{Event}
 use Rattle.intaglio_core.specs.State.{State, first, IsValid}
 use Rattle.intaglio_core.specs.Change.{IsCopyTaken, TakesCopy, InternsForm, TakesBack}
 use Rattle.intaglio_core.specs.Lookup.{Keeps, FindsEachKey, StoresEachKey}
@@ -37,18 +37,18 @@ pub taken-back : {C : Type 0} (old mid new : State C) (n : ℕ) (r : Result (Uni
     → new.contents ≡ old.contents
 taken-back old mid new n (Ok u) at front step = step.contents ∙ ap (λ m. take m mid.contents) at ∙ front
 taken-back {C} old mid new n (Err e) at front step =
-    let whole = take_all (length old.contents) mid.contents (omega (arith, step.0, at)) in
+    let whole = intern_each (length old.contents) mid.contents (omega (arith, step.0, at)) in
     ap (λ (s : State C). s.contents) step.1 ∙ sym whole ∙ front
 
 module _ {C Q : Type 0} (key : C → Key) (form_key : Q → Key) (hash : Key → ℕ) where
-  SearchesForms-push : (s : State C) (qs : List Q) (cost : List Mark) (q : Q) (now : List Mark)
+  SearchesForms-push : (s : State C) (qs : List Q) (cost : List Event) (q : Q) (now : List Event)
       → SearchesForms key form_key hash s qs cost → KnownSearchCost key hash s (form_key q) now → SearchesForms key form_key hash s (qs ++ q ∷ []) (cost ++ now)
   SearchesForms-push s [] cost q now run spent = (now, [], rw run (sym (append-nil now)), spent, refl)
   SearchesForms-push s (x ∷ qs) cost q now run spent =
       (run.0, run.1 ++ now, rw (run.2, append_assoc) refl, run.3, SearchesForms-push s qs run.1 q now run.4 spent)
 
   -- look-ups, and one more
-  pub Adds-search_form : (s : State C) (qs : List Q) (q : Q) (before between after : List Mark)
+  pub Adds-search_form : (s : State C) (qs : List Q) (q : Q) (before between after : List Event)
       → Adds before between (SearchesForms key form_key hash s qs) → Adds between after (KnownSearchCost key hash s (form_key q))
       → Adds before after (SearchesForms key form_key hash s (qs ++ q ∷ []))
   Adds-search_form s qs q before between after run spent =
@@ -122,7 +122,7 @@ module _ {C : Type 0} (key : C → Key) (spelling : C → List ℕ) where
 
     module _ {Q : Type 0} (form_key : Q → Key) (form_spelling : Q → List ℕ) (form_law : (q : Q) → form_key q ≡ key_of (form_spelling q)) (hash : Key → ℕ) where
       -- the symbols are those that the spellings are issued, and what is held is spelled as what internings of the spellings leave
-      pub InternsEachForm-issues : (old new : State C) (qs : List Q) (is : List ℕ) (cost : List Mark) → InternsEachForm key spelling form_key form_spelling hash old qs is cost new
+      pub InternsEachForm-issues : (old new : State C) (qs : List Q) (is : List ℕ) (cost : List Event) → InternsEachForm key spelling form_key form_spelling hash old qs is cost new
           → (is ≡ issue_from key_of (map spelling old.contents) (map form_spelling qs)) × (map spelling new.contents ≡ interned_all key_of (map spelling old.contents) (map form_spelling qs))
       InternsEachForm-issues old new [] [] cost run = (refl, ap (λ (s : State C). map spelling s.contents) run.1)
       InternsEachForm-issues old new [] (i ∷ is) cost run = absurd run
@@ -133,7 +133,7 @@ module _ {C : Type 0} (key : C → Key) (spelling : C → List ℕ) where
           (rw (ok.0, later.0, ok.1) refl, rw (later.1, ok.1) refl)
 
       -- a symbol overflow comes only where all forms are more than the limit
-      pub overflows-forms : (old mid new : State C) (qs rest all : List Q) (is : List ℕ) (cost : List Mark) (q : Q) (e : InternError)
+      pub overflows-forms : (old mid new : State C) (qs rest all : List Q) (is : List ℕ) (cost : List Event) (q : Q) (e : InternError)
           → InternsEachForm key spelling form_key form_spelling hash old qs is cost mid → InternsForm key spelling mid (form_key q) (form_spelling q) (Err e) new → mid.limit ≡ old.limit → qs ++ q ∷ rest ≡ all
           → IfOverflow e (old.limit < length (interned_all key_of (map spelling old.contents) (map form_spelling all)))
       overflows-forms old mid new qs rest all is cost q (intern_error.Overflow e) run step limit whole =
@@ -146,7 +146,7 @@ module _ {C : Type 0} (key : C → Key) (spelling : C → List ℕ) where
 
   module _ {Q : Type 0} (form_key : Q → Key) (form_spelling : Q → List ℕ) (hash : Key → ℕ) where
     -- internings by forms, and one more
-    pub Adds-form : (old : State C) (qs : List Q) (is : List ℕ) (mid : State C) (q : Q) (i : ℕ) (new : State C) (before between after : List Mark)
+    pub Adds-form : (old : State C) (qs : List Q) (is : List ℕ) (mid : State C) (q : Q) (i : ℕ) (new : State C) (before between after : List Event)
         → Adds before between (λ cost. InternsEachForm key spelling form_key form_spelling hash old qs is cost mid) → InternsForm key spelling mid (form_key q) (form_spelling q) (Ok i) new
         → Adds between after (KnownInternCost key hash mid (form_key q) (Ok i) new) → IsValid key new
         → Adds before after (λ cost. InternsEachForm key spelling form_key form_spelling hash old (qs ++ q ∷ []) (is ++ i ∷ []) cost new)
@@ -154,7 +154,7 @@ module _ {C : Type 0} (key : C → Key) (spelling : C → List ℕ) where
         Adds-push (IsFormInterning key spelling form_key form_spelling hash) old qs is mid q i new before between after run (spent.0, spent.1, (step, spent.2, valid))
 
     -- what internings by forms cost up to a refused one
-    pub stops-forms : (old mid : State C) (qs rest all : List Q) (is : List ℕ) (q : Q) (before between after : List Mark)
+    pub stops-forms : (old mid : State C) (qs rest all : List Q) (is : List ℕ) (q : Q) (before between after : List Event)
         → Adds before between (λ cost. InternsEachForm key spelling form_key form_spelling hash old qs is cost mid) → Adds between after (KnownSearchCost key hash mid (form_key q)) → qs ++ q ∷ rest ≡ all
         → Adds before after (λ cost. (cost ≡ []) ⊎ InternsSomeForms key spelling form_key form_spelling hash old all cost)
     stops-forms old mid qs rest all is q before between after run spent whole =

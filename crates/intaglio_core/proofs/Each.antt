@@ -1,7 +1,7 @@
 -- Contents that are interned in order, with what that costs, and one content more.
 use Rattle.std.proofs.Common.{◌≡◌, ◌⊎◌, inr, IfSome, sym, ℕ, ◌<◌, cond, List, [], ◌∷◌, ◌++◌, length, take, Option, Some, None, Ok, Err, Result, MatchOption, is_some, length-append, append_assoc, append-nil, refl, ap, arith}
 use Rattle.intaglio_content.specs.Key.{Key}
-use Rattle.intaglio_content.specs.Work.{Mark, hashed}
+use Rattle.intaglio_content.specs.Work.{Event, hashed}
 use Rattle.intaglio_core.specs.State.{State, first, IsValid}
 use Rattle.intaglio_core.specs.Change.{Interns, Takes}
 use Rattle.intaglio_core.specs.Cost.{Adds, IsSearchCost, KnownSearchCost, KnownInternCost}
@@ -41,21 +41,21 @@ module _ {C : Type 0} (key : C → Key) where
   over-by (Some i) old new c e h = absurd (let never = h.0 in cc)
 
   module _ (hash : Key → ℕ) where
-    SearchesEach-push : (s : State C) (cs : List C) (cost : List Mark) (c : C) (now : List Mark)
+    SearchesEach-push : (s : State C) (cs : List C) (cost : List Event) (c : C) (now : List Event)
         → SearchesEach key hash s cs cost → KnownSearchCost key hash s (key c) now → SearchesEach key hash s (cs ++ c ∷ []) (cost ++ now)
     SearchesEach-push s [] cost c now run spent = (now, [], rw run (sym (append-nil now)), spent, refl)
     SearchesEach-push s (x ∷ cs) cost c now run spent =
         (run.0, run.1 ++ now, rw (run.2, append_assoc) refl, run.3, SearchesEach-push s cs run.1 c now run.4 spent)
 
     -- look-ups, and one more
-    pub Adds-search : (s : State C) (cs : List C) (c : C) (before between after : List Mark)
+    pub Adds-search : (s : State C) (cs : List C) (c : C) (before between after : List Event)
         → Adds before between (SearchesEach key hash s cs) → Adds between after (KnownSearchCost key hash s (key c))
         → Adds before after (SearchesEach key hash s (cs ++ c ∷ []))
     Adds-search s cs c before between after run spent =
         Adds-then _ _ _ before between after (λ cost now ran costs. SearchesEach-push s cs cost c now ran costs) run spent
 
     -- internings, and one more
-    pub Adds-each : (old : State C) (cs : List C) (is : List ℕ) (mid : State C) (c : C) (i : ℕ) (new : State C) (before between after : List Mark)
+    pub Adds-each : (old : State C) (cs : List C) (is : List ℕ) (mid : State C) (c : C) (i : ℕ) (new : State C) (before between after : List Event)
         → Adds before between (λ cost. InternsEach key hash old cs is cost mid) → Interns key mid c (Ok i) new
         → Adds between after (KnownInternCost key hash mid (key c) (Ok i) new) → IsValid key new
         → Adds before after (λ cost. InternsEach key hash old (cs ++ c ∷ []) (is ++ i ∷ []) cost new)
@@ -63,7 +63,7 @@ module _ {C : Type 0} (key : C → Key) where
         Adds-push (IsInterning key hash) old cs is mid c i new before between after run (spent.0, spent.1, (step, spent.2, valid))
 
     -- the symbols are those that are issued, and what is held is what internings one by one leave
-    pub InternsEach-issues : (old new : State C) (cs : List C) (is : List ℕ) (cost : List Mark) → InternsEach key hash old cs is cost new
+    pub InternsEach-issues : (old new : State C) (cs : List C) (is : List ℕ) (cost : List Event) → InternsEach key hash old cs is cost new
         → (is ≡ issue_from key old.contents cs) × (new.contents ≡ interned_all key old.contents cs)
     InternsEach-issues old new [] [] cost run = (refl, ap (λ (s : State C). s.contents) run.1)
     InternsEach-issues old new [] (i ∷ is) cost run = absurd run
@@ -86,23 +86,23 @@ module _ {C : Type 0} (key : C → Key) where
     }
 
     -- a content that is known to be held is answered with no more work
-    pub found-cost : (s : State C) (k : Key) (i : ℕ) (marks : List Mark) → first key s.contents k ≡ Some i → Adds marks marks (KnownInternCost key hash s k (Ok i) s)
-    found-cost s k i marks found = ([], sym (append-nil marks), rw found (hashing-alone k _))
+    pub found-cost : (s : State C) (k : Key) (i : ℕ) (events : List Event) → first key s.contents k ≡ Some i → Adds events events (KnownInternCost key hash s k (Ok i) s)
+    found-cost s k i events found = ([], sym (append-nil events), rw found (hashing-alone k _))
 
     -- what a look-up found is found there after internings
-    pub symbol-still : (old mid : State C) (cs : List C) (is : List ℕ) (cost : List Mark) (k : Key) (o : Option ℕ)
+    pub symbol-still : (old mid : State C) (cs : List C) (is : List ℕ) (cost : List Event) (k : Key) (o : Option ℕ)
         → InternsEach key hash old cs is cost mid → IfSome o (λ i. first key old.contents k ≡ Some i) → IfSome o (λ i. first key mid.contents k ≡ Some i)
     symbol-still old mid cs is cost k None run found = tt
     symbol-still old mid cs is cost k (Some i) run found = rw ((InternsEach-issues old mid cs is cost run).1) (first-still key old.contents cs k i found)
 
     -- where an interning is refused, what was held is still at the front
-    pub begins : (old mid new : State C) (cs : List C) (is : List ℕ) (cost : List Mark) (c : C) (e : InternError)
+    pub begins : (old mid new : State C) (cs : List C) (is : List ℕ) (cost : List Event) (c : C) (e : InternError)
         → InternsEach key hash old cs is cost mid → Interns key mid c (Err e) new → take (length old.contents) new.contents ≡ old.contents
     begins old mid new cs is cost c e run step =
         rw (Interns-refused mid new c e step, (InternsEach-issues old mid cs is cost run).1) (interned_all-begins key old.contents cs)
 
     -- a symbol overflow comes only where all contents are more than the limit
-    pub overflows : (old mid new : State C) (cs rest all : List C) (is : List ℕ) (cost : List Mark) (c : C) (e : InternError)
+    pub overflows : (old mid new : State C) (cs rest all : List C) (is : List ℕ) (cost : List Event) (c : C) (e : InternError)
         → InternsEach key hash old cs is cost mid → Interns key mid c (Err e) new → mid.limit ≡ old.limit → cs ++ c ∷ rest ≡ all
         → IfOverflow e (old.limit < length (interned_all key old.contents all))
     overflows old mid new cs rest all is cost c (intern_error.Overflow e) run step limit whole =
@@ -114,7 +114,7 @@ module _ {C : Type 0} (key : C → Key) where
     overflows old mid new cs rest all is cost c (intern_error.Memory e) run step limit whole = tt
 
     -- what internings cost up to a refused one
-    pub stops : (old mid : State C) (cs rest all : List C) (is : List ℕ) (c : C) (before between after : List Mark)
+    pub stops : (old mid : State C) (cs rest all : List C) (is : List ℕ) (c : C) (before between after : List Event)
         → Adds before between (λ cost. InternsEach key hash old cs is cost mid) → Adds between after (KnownSearchCost key hash mid (key c)) → cs ++ c ∷ rest ≡ all
         → Adds before after (λ cost. (cost ≡ []) ⊎ InternsSome key hash old all cost)
     stops old mid cs rest all is c before between after run spent whole =

@@ -3,7 +3,7 @@ use Rattle.std.proofs.Common.{◌≡◌, ◌≢◌, ℕ, suc, ◌+◌, ◌*◌, 
 use Rattle.std.proofs.lemmas.Bool.{cases_eq}
 use Rattle.std.proofs.lemmas.List.Elements.{All-cons}
 use Rattle.intaglio_content.specs.Key.{Key}
-use Rattle.intaglio_content.specs.Work.{Mark, hashed, compared, step, placed}
+use Rattle.intaglio_content.specs.Work.{Event, hashed, compared, step, placed}
 use Rattle.intaglio_core.specs.State.{State, first}
 use Rattle.intaglio_core.specs.Change.{IsTaken, IsRefused}
 use Rattle.intaglio_core.specs.Cost.{hashed_keys, placed_count, SearchCost, IsAddingCost}
@@ -17,14 +17,14 @@ use Rattle.intaglio_core.specs.declared.run.Call.TheVariants.{Intern, Check, Get
 use Rattle.intaglio_core.specs.declared.run.Reply.{Reply}
 use Rattle.intaglio_core.specs.declared.run.Reply.TheVariants as reply
 
-pub placed_count-append : (a b : List Mark) → placed_count (a ++ b) ≡ placed_count a + placed_count b
+pub placed_count-append : (a b : List Event) → placed_count (a ++ b) ≡ placed_count a + placed_count b
 placed_count-append [] b = omega arith
 placed_count-append (hashed k ∷ a) b = placed_count-append a b
 placed_count-append (compared k l ∷ a) b = placed_count-append a b
 placed_count-append (step ∷ a) b = placed_count-append a b
 placed_count-append (placed ∷ a) b = let e : placed_count (a ++ b) ≡ placed_count a + placed_count b = placed_count-append a b in omega arith
 
-pub hashed_keys-append : (a b : List Mark) → hashed_keys (a ++ b) ≡ hashed_keys a ++ hashed_keys b
+pub hashed_keys-append : (a b : List Event) → hashed_keys (a ++ b) ≡ hashed_keys a ++ hashed_keys b
 hashed_keys-append [] b = refl
 hashed_keys-append (hashed k ∷ a) b = ap (λ (ks : List Key). k ∷ ks) (hashed_keys-append a b)
 hashed_keys-append (compared k l ∷ a) b = hashed_keys-append a b
@@ -68,7 +68,7 @@ module _ {C : Type 0} (key : C → Key) (hash : Key → ℕ) where
       let same : next.limit ≡ old.limit = taken.limit in
       record { later = g + length old.contents; holds = record { below = λ lt. omega arith; twice = omega arith }; spent = omega arith }
 
-  added : (old next : State C) (c : C) (i g : ℕ) (k : Key) (now : List Mark) → IsTaken old c i next → IsAddingCost key hash old k next now → Holds old g → Goes old next (placed_count now) g
+  added : (old next : State C) (c : C) (i g : ℕ) (k : Key) (now : List Event) → IsTaken old c i next → IsAddingCost key hash old k next now → Holds old g → Goes old next (placed_count now) g
   added old next c i g k now taken cost h =
       let parts : placed_count now ≡ placed_count cost.search + placed_count cost.growth + 1 =
       rw (cost.parts, placed_count-append (cost.search ++ cost.growth) (placed ∷ []), placed_count-append cost.search cost.growth) (omega arith) in
@@ -88,7 +88,7 @@ module _ {C : Type 0} (key : C → Key) (hash : Key → ℕ) where
             grown old next c i (placed_count now) g taken differ (omega arith) h
       ]
 
-  answered : (o : Option ℕ) (old next : State C) (c : C) (i g : ℕ) (k : Key) (now : List Mark)
+  answered : (o : Option ℕ) (old next : State C) (c : C) (i g : ℕ) (k : Key) (now : List Event)
       → MatchOption o (IsTaken old c i next) (λ j. (◌≡◌ {A = Result ℕ InternError} (Ok i) (Ok j)) × (next ≡ old))
       → MatchOption o (IsAddingCost key hash old k next now) (λ _. SearchCost key hash old k now) → Holds old g → Goes old next (placed_count now) g
   answered None old next c i g k now taken cost h = added old next c i g k now taken cost h
@@ -103,14 +103,14 @@ module _ {C : Type 0} (key : C → Key) (hash : Key → ℕ) where
     refused None old next p g B h none holds = kept old next p g (ap (λ (cs : List C). length cs) h.contents) h.buckets h.limit none holds
     refused (Some j) old next p g B h none holds = unchanged old next p g h.1 none holds
 
-    intern-goes : (old next : State C) (c : C) (r : Reply) (now : List Mark) (g : ℕ) → Step key spelling old (Intern c) r next → StepCost key hash old (Intern c) r next now → Holds old g → Goes old next (placed_count now) g
+    intern-goes : (old next : State C) (c : C) (r : Reply) (now : List Event) (g : ℕ) → Step key spelling old (Intern c) r next → StepCost key hash old (Intern c) r next now → Holds old g → Goes old next (placed_count now) g
     intern-goes old next c (reply.Symbol (Some i)) now g made cost h = answered (first key old.contents (key c)) old next c i g (key c) now made cost h
     intern-goes old next c reply.Overflow now g made cost h = unchanged old next (placed_count now) g (same-state (first key old.contents (key c)) old next _ _ (made (record { private = tt }))) cost.placements h
     intern-goes old next c reply.NoMemory now g made cost h = refused (first key old.contents (key c)) old next (placed_count now) g _ made cost.placements h
     intern-goes old next c _ now g made cost h = absurd made
 
     -- an interning or a look-up
-    call-goes : (old next : State C) (call : Call C) (r : Reply) (now : List Mark) (g : ℕ) → KeepsContents call → Step key spelling old call r next → StepCost key hash old call r next now → Holds old g → Goes old next (placed_count now) g
+    call-goes : (old next : State C) (call : Call C) (r : Reply) (now : List Event) (g : ℕ) → KeepsContents call → Step key spelling old call r next → StepCost key hash old call r next now → Holds old g → Goes old next (placed_count now) g
     call-goes old next (Intern c) r now g kept made cost h = intern-goes old next c r now g made cost h
     call-goes old next (Check c) r now g kept made cost h = unchanged old next (placed_count now) g (check-same key spelling old next c r made) cost.placements h
     call-goes old next (GetInterned c) r now g kept made cost h = unchanged old next (placed_count now) g (get_interned-same key spelling old next c r made) cost.placements h
@@ -121,7 +121,7 @@ module _ {C : Type 0} (key : C → Key) (hash : Key → ℕ) where
     call-goes old next IsEmpty r now g kept made cost h = unchanged old next (placed_count now) g (is_empty-same key spelling old next r made) (rw cost refl) h
     call-goes old next _ r now g kept made cost h = absurd kept
 
-    places : (old new : State C) (calls : List (Call C)) (replies : List Reply) (cost : List Mark) (g : ℕ) → All KeepsContents calls → Holds old g → Runs key spelling hash old calls replies cost new
+    places : (old new : State C) (calls : List (Call C)) (replies : List Reply) (cost : List Event) (g : ℕ) → All KeepsContents calls → Holds old g → Runs key spelling hash old calls replies cost new
         → g + placed_count cost + length old.contents ≤ 3 * length new.contents
     places old new [] [] cost g all h run = rw (run.0, run.1) (omega (arith, h.twice))
     places old new [] (r ∷ replies) cost g all h run = absurd run
@@ -132,29 +132,29 @@ module _ {C : Type 0} (key : C → Key) (hash : Key → ℕ) where
         rw (run.3, placed_count-append run.1 run.2) (omega (arith, one.spent, rest))
 
     -- placements and contents before are at most three times the contents after
-    pub Runs-place : (old new : State C) (calls : List (Call C)) (replies : List Reply) (cost : List Mark) → All KeepsContents calls → Runs key spelling hash old calls replies cost new
+    pub Runs-place : (old new : State C) (calls : List (Call C)) (replies : List Reply) (cost : List Event) → All KeepsContents calls → Runs key spelling hash old calls replies cost new
         → placed_count cost + length old.contents ≤ 3 * length new.contents
     Runs-place old new calls replies cost keep run =
         let all = places old new calls replies cost 0 keep (record { below = λ lt. omega arith; twice = omega arith }) run in omega (arith, all)
 
-    had-room : (o : Option ℕ) (old next : State C) (B : ℕ → Type 0) → MatchOption o (IsRefused old next) (λ j. (◌≡◌ {A = Result ℕ InternError} (Err (error.Memory alloc_error)) (Ok j)) × (next ≡ old)) → 0 < old.room → ⊥
-    had-room None old next B h lt = let none : old.room ≡ 0 = h.no_room in omega arith
+    had-room : (o : Option ℕ) (old next : State C) (B : ℕ → Type 0) → MatchOption o (IsRefused old next) (λ j. (◌≡◌ {A = Result ℕ InternError} (Err (error.Memory alloc_error)) (Ok j)) × (next ≡ old)) → 0 < old.spare → ⊥
+    had-room None old next B h lt = let none : old.spare ≡ 0 = h.no_room in omega arith
     had-room (Some j) old next B h lt = let no = h.0 in cc
 
-    room-left : (o : Option ℕ) (old next : State C) (c : C) (i n : ℕ) → MatchOption o (IsTaken old c i next) (λ j. (◌≡◌ {A = Result ℕ InternError} (Ok i) (Ok j)) × (next ≡ old)) → suc n ≤ old.room → n ≤ next.room
-    room-left None old next c i n h lt = let left = (h.room (omega arith)).0 in omega (arith, left)
-    room-left (Some j) old next c i n h lt = let same : next.room ≡ old.room = ap (λ (s : State C). s.room) h.1 in omega arith
+    room-left : (o : Option ℕ) (old next : State C) (c : C) (i n : ℕ) → MatchOption o (IsTaken old c i next) (λ j. (◌≡◌ {A = Result ℕ InternError} (Ok i) (Ok j)) × (next ≡ old)) → suc n ≤ old.spare → n ≤ next.spare
+    room-left None old next c i n h lt = let left = (h.spare (omega arith)).0 in omega (arith, left)
+    room-left (Some j) old next c i n h lt = let same : next.spare ≡ old.spare = ap (λ (s : State C). s.spare) h.1 in omega arith
 
     -- one interning in room that is there: it isn't refused, and takes at most one place
-    taken-in-room : (old next : State C) (c : C) (r : Reply) (n : ℕ) → Step key spelling old (Intern c) r next → suc n ≤ old.room → (r ≢ reply.NoMemory) × (n ≤ next.room)
+    taken-in-room : (old next : State C) (c : C) (r : Reply) (n : ℕ) → Step key spelling old (Intern c) r next → suc n ≤ old.spare → (r ≢ reply.NoMemory) × (n ≤ next.spare)
     taken-in-room old next c (reply.Symbol (Some i)) n made lt = ((λ e. cc), room-left (first key old.contents (key c)) old next c i n made lt)
     taken-in-room old next c reply.Overflow n made lt =
-        ((λ e. cc), let same : next.room ≡ old.room = ap (λ (s : State C). s.room) (same-state (first key old.contents (key c)) old next _ _ (made (record { private = tt }))) in omega arith)
+        ((λ e. cc), let same : next.spare ≡ old.spare = ap (λ (s : State C). s.spare) (same-state (first key old.contents (key c)) old next _ _ (made (record { private = tt }))) in omega arith)
     taken-in-room old next c reply.NoMemory n made lt = absurd (had-room (first key old.contents (key c)) old next (λ j. ℕ) made (omega arith))
     taken-in-room old next c _ n made lt = absurd made
 
     -- as many contents as there is room for are interned without running out of memory
-    pub Runs-room : (old new : State C) (cs : List C) (replies : List Reply) (cost : List Mark) → Runs key spelling hash old (map Intern cs) replies cost new → length cs ≤ old.room → All (λ r. r ≢ reply.NoMemory) replies
+    pub Runs-room : (old new : State C) (cs : List C) (replies : List Reply) (cost : List Event) → Runs key spelling hash old (map Intern cs) replies cost new → length cs ≤ old.spare → All (λ r. r ≢ reply.NoMemory) replies
     Runs-room old new [] [] cost run le = λ k d lt. absurd (omega arith)
     Runs-room old new [] (r ∷ replies) cost run le = absurd run
     Runs-room old new (c ∷ cs) [] cost run le = absurd run
@@ -162,18 +162,18 @@ module _ {C : Type 0} (key : C → Key) (hash : Key → ℕ) where
         let one = taken-in-room old run.0 c r (length cs) run.4.0 le in
         All-cons (λ (x : Reply). x ≢ reply.NoMemory) r replies one.0 (Runs-room run.0 new cs replies run.2 run.5 one.1)
 
-  added-hashes : (o : Option ℕ) (old next : State C) (k : Key) (now : List Mark)
+  added-hashes : (o : Option ℕ) (old next : State C) (k : Key) (now : List Event)
       → MatchOption o (IsAddingCost key hash old k next now) (λ _. SearchCost key hash old k now) → hashed_keys now ≡ k ∷ []
   added-hashes None old next k now cost =
       rw (cost.parts, hashed_keys-append (cost.search ++ cost.growth) (placed ∷ []), hashed_keys-append cost.search cost.growth, cost.searches.hashings, cost.grows.hashings) refl
   added-hashes (Some j) old next k now cost = cost.hashings
 
-  intern-hashes : (old next : State C) (c : C) (r : Reply) (now : List Mark) → StepCost key hash old (Intern c) r next now → hashed_keys now ≡ key c ∷ []
+  intern-hashes : (old next : State C) (c : C) (r : Reply) (now : List Event) → StepCost key hash old (Intern c) r next now → hashed_keys now ≡ key c ∷ []
   intern-hashes old next c (reply.Symbol (Some i)) now cost = added-hashes (first key old.contents (key c)) old next (key c) now cost
   intern-hashes old next c _ now cost = cost.hashings
 
   -- a call hashes the key that it looks for
-  step-hashes : (old next : State C) (call : Call C) (r : Reply) (now : List Mark) (calls : List (Call C)) → StepCost key hash old call r next now → hashed_keys now ++ searched_keys key calls ≡ searched_keys key (call ∷ calls)
+  step-hashes : (old next : State C) (call : Call C) (r : Reply) (now : List Event) (calls : List (Call C)) → StepCost key hash old call r next now → hashed_keys now ++ searched_keys key calls ≡ searched_keys key (call ∷ calls)
   step-hashes old next (Intern c) r now calls cost = rw (intern-hashes old next c r now cost) refl
   step-hashes old next (Check c) r now calls cost = rw cost.hashings refl
   step-hashes old next (GetInterned c) r now calls cost = rw cost.hashings refl
@@ -185,7 +185,7 @@ module _ {C : Type 0} (key : C → Key) (hash : Key → ℕ) where
 
   module _ (spelling : C → List ℕ) where
     -- a run hashes the keys that its calls look for, in their order, and nothing else
-    pub Runs-hash : (old new : State C) (calls : List (Call C)) (replies : List Reply) (cost : List Mark) → Runs key spelling hash old calls replies cost new
+    pub Runs-hash : (old new : State C) (calls : List (Call C)) (replies : List Reply) (cost : List Event) → Runs key spelling hash old calls replies cost new
         → hashed_keys cost ≡ searched_keys key calls
     Runs-hash old new [] [] cost run = rw run.0 refl
     Runs-hash old new [] (r ∷ replies) cost run = absurd run

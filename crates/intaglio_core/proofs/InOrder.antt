@@ -1,11 +1,11 @@
 -- Steps in order with their costs, and one step more.
 use Rattle.std.proofs.Common.{List, [], ◌∷◌, ◌++◌, append_assoc, append-nil, refl, sym}
-use Rattle.intaglio_content.specs.Work.{Mark}
+use Rattle.intaglio_content.specs.Work.{Event}
 use Rattle.intaglio_core.specs.Cost.{Adds, InOrder}
 use Rattle.intaglio_core.proofs.Spent.{Adds-then}
 
-module _ {S X Y : Type 0} (OneStep : S → X → Y → List Mark → S → Type 0) where
-  InOrder-push : (old : S) (xs : List X) (ys : List Y) (cost : List Mark) (mid : S) (x : X) (y : Y) (now : List Mark) (new : S)
+module _ {S X Y : Type 0} (OneStep : S → X → Y → List Event → S → Type 0) where
+  InOrder-push : (old : S) (xs : List X) (ys : List Y) (cost : List Event) (mid : S) (x : X) (y : Y) (now : List Event) (new : S)
       → InOrder OneStep old xs ys cost mid → OneStep mid x y now new → InOrder OneStep old (xs ++ x ∷ []) (ys ++ y ∷ []) (cost ++ now) new
   InOrder-push old [] [] cost mid x y now new run one = (new, now, [], rw run.0 (sym (append-nil now)), rw (← run.1) one, (refl, refl))
   InOrder-push old [] (r ∷ ys) cost mid x y now new run one = absurd run
@@ -13,8 +13,8 @@ module _ {S X Y : Type 0} (OneStep : S → X → Y → List Mark → S → Type 
   InOrder-push old (c ∷ xs) (r ∷ ys) cost mid x y now new run one =
       (run.0, run.1, run.2 ++ now, rw (run.3, append_assoc) refl, run.4, InOrder-push run.0 xs ys run.2 mid x y now new run.5 one)
 
-  -- the marks of some steps, and those of one step more
-  pub Adds-push : (old : S) (xs : List X) (ys : List Y) (mid : S) (x : X) (y : Y) (new : S) (before between after : List Mark)
+  -- the events of some steps, and those of one step more
+  pub Adds-push : (old : S) (xs : List X) (ys : List Y) (mid : S) (x : X) (y : Y) (new : S) (before between after : List Event)
       → Adds before between (λ cost. InOrder OneStep old xs ys cost mid) → Adds between after (λ now. OneStep mid x y now new)
       → Adds before after (λ cost. InOrder OneStep old (xs ++ x ∷ []) (ys ++ y ∷ []) cost new)
   Adds-push old xs ys mid x y new before between after run one =

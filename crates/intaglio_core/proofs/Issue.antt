@@ -1,7 +1,7 @@
 -- Interns alone, none refused, are given the symbols of `issue_from`.
 use Rattle.std.proofs.Common.{◌≡◌, ℕ, suc, arith, List, [], ◌∷◌, ◌++◌, length, map, Option, Some, None, Ok, Result, MatchOption, unwrap_or, is_some, cond, All, refl, ap}
 use Rattle.intaglio_content.specs.Key.{Key}
-use Rattle.intaglio_content.specs.Work.{Mark}
+use Rattle.intaglio_content.specs.Work.{Event}
 use Rattle.intaglio_core.specs.State.{State, first}
 use Rattle.intaglio_core.specs.Change.{IsTaken, Interns}
 use Rattle.intaglio_core.specs.Issue.{issued, interned, issue_from}
@@ -31,7 +31,7 @@ module _ {C : Type 0} (key : C → Key) where
     accepted old new c reply.NoMemory step fine = absurd (fine tt)
     accepted old new c _ step fine = absurd step
 
-    pub Runs-issue : (old new : State C) (cs : List C) (replies : List Reply) (cost : List Mark) → Runs key spelling hash old (map Intern cs) replies cost new → All (λ r. ¬ IsRefusal r) replies
+    pub Runs-issue : (old new : State C) (cs : List C) (replies : List Reply) (cost : List Event) → Runs key spelling hash old (map Intern cs) replies cost new → All (λ r. ¬ IsRefusal r) replies
         → replies ≡ map (λ i. reply.Symbol (Some i)) (issue_from key old.contents cs)
     Runs-issue old new [] [] cost run none = refl
     Runs-issue old new [] (r ∷ replies) cost run none = absurd run

@@ -76,7 +76,7 @@ module _ {C : Type 0} (key : C → Key) (hash : Key → ℕ) where
       }
 
   pub indexed-valid : (cs : List C) (index : Placed) (most capacity : ℕ) → IsIndexed key hash cs index most
-      → IsValid key (record { contents = cs; room = min capacity index.room - length cs; buckets = index.count; limit = most })
+      → IsValid key (record { contents = cs; spare = min capacity index.room - length cs; buckets = index.count; limit = most })
   indexed-valid cs index most capacity is =
       let a = is.fits in
       let b = is.within in

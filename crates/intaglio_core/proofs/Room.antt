@@ -2,7 +2,7 @@
 use Rattle.std.proofs.Common.{◌≡◌, ◌⊎◌, ℕ, suc, ◌+◌, ◌≤◌, List, [], ◌∷◌, length, All, Option, Some, None, Ok, Err, Result, MatchOption, length-append, inl, inr, ap, arith}
 use Rattle.std.proofs.lemmas.Bool.{cases_lt}
 use Rattle.intaglio_content.specs.Key.{Key}
-use Rattle.intaglio_content.specs.Work.{Mark}
+use Rattle.intaglio_content.specs.Work.{Event}
 use Rattle.intaglio_core.specs.State.{State, first}
 use Rattle.intaglio_core.specs.Change.{HasNoLessRoom, Interns, InternsForm, IsTaken, IsCopyTaken, IsRefused, IsUncopied}
 use Rattle.intaglio_core.specs.Step.{Step}
@@ -19,17 +19,17 @@ module _ {C : Type 0} (key : C → Key) where
   same-roomier : (old next : State C) → next ≡ old → HasNoLessRoom old next
   same-roomier old next same =
       let size : length next.contents ≡ length old.contents = ap (λ (s : State C). length s.contents) same in
-      let room : next.room ≡ old.room = ap (λ (s : State C). s.room) same in
+      let room : next.spare ≡ old.spare = ap (λ (s : State C). s.spare) same in
       omega arith
 
-  kept-roomier : (old next : State C) → next.contents ≡ old.contents → old.room ≤ next.room → HasNoLessRoom old next
+  kept-roomier : (old next : State C) → next.contents ≡ old.contents → old.spare ≤ next.spare → HasNoLessRoom old next
   kept-roomier old next same more = let size : length next.contents ≡ length old.contents = ap (λ (cs : List C). length cs) same in omega arith
 
   answered-roomier : (o : Option ℕ) (old next : State C) (c : C) (i : ℕ) → MatchOption o (IsTaken old c i next) (λ j. (◌≡◌ {A = Result ℕ InternError} (Ok i) (Ok j)) × (next ≡ old)) → HasNoLessRoom old next
   answered-roomier None old next c i taken =
       let size : length next.contents ≡ length old.contents + 1 = rw taken.contents (simp length-append (omega arith)) in
-      elim (cases_lt 0 old.room) [
-        | inl some ↦ let left : old.room ≤ next.room + 1 = (taken.room some).0 in omega arith
+      elim (cases_lt 0 old.spare) [
+        | inl some ↦ let left : old.spare ≤ next.spare + 1 = (taken.spare some).0 in omega arith
         | inr none ↦ omega arith
       ]
   answered-roomier (Some j) old next c i found = same-roomier old next found.1
@@ -39,7 +39,7 @@ module _ {C : Type 0} (key : C → Key) where
   overflow-roomier (Some j) old next A B h = same-roomier old next h.1
 
   refused-roomier : (o : Option ℕ) (old next : State C) (B : ℕ → Type 0) → MatchOption o (IsRefused old next) (λ j. B j × (next ≡ old)) → HasNoLessRoom old next
-  refused-roomier None old next B h = kept-roomier old next h.contents h.room
+  refused-roomier None old next B h = kept-roomier old next h.contents h.spare
   refused-roomier (Some j) old next B h = same-roomier old next h.1
 
   pub Interns-roomier : (old next : State C) (c : C) (result : Result ℕ InternError) → Interns key old c result next → HasNoLessRoom old next
@@ -53,7 +53,7 @@ module _ {C : Type 0} (key : C → Key) where
 
   uncopied-roomier : (o : Option ℕ) (old next : State C) (B : ℕ → Type 0) → MatchOption o (IsUncopied old next ⊎ IsRefused old next) (λ j. B j × (next ≡ old)) → HasNoLessRoom old next
   uncopied-roomier None old next B (inl h) = same-roomier old next h.same
-  uncopied-roomier None old next B (inr h) = kept-roomier old next h.contents h.room
+  uncopied-roomier None old next B (inr h) = kept-roomier old next h.contents h.spare
   uncopied-roomier (Some j) old next B h = same-roomier old next h.1
 
   pub InternsForm-roomier : (spelling : C → List ℕ) (old next : State C) (k : Key) (w : List ℕ) (result : Result ℕ InternError) → InternsForm key spelling old k w result next → HasNoLessRoom old next
@@ -70,22 +70,22 @@ module _ {C : Type 0} (key : C → Key) where
 
     reserve-roomier : (old next : State C) (n : ℕ) (r : Reply) → Step key spelling old (Reserve n) r next → HasNoLessRoom old next
     reserve-roomier old next n reply.Done made =
-        elim (cases_lt old.room n) [
-          | inl missing ↦ let more : n ≤ next.room = made.room in kept-roomier old next made.contents (omega arith)
+        elim (cases_lt old.spare n) [
+          | inl missing ↦ let more : n ≤ next.spare = made.spare in kept-roomier old next made.contents (omega arith)
           | inr there ↦ same-roomier old next (made.enough there)
         ]
     reserve-roomier old next n reply.CapacityOverflow made = same-roomier old next made.1
-    reserve-roomier old next n reply.NoMemory made = kept-roomier old next made.contents made.room
+    reserve-roomier old next n reply.NoMemory made = kept-roomier old next made.contents made.spare
     reserve-roomier old next n _ made = absurd made
 
     clear-roomier : (old next : State C) (r : Reply) → Step key spelling old Clear r next → HasNoLessRoom old next
     clear-roomier old next reply.Done made =
         let none : length next.contents ≡ 0 = ap (λ (cs : List C). length cs) made.contents in
-        let room : next.room ≡ length old.contents + old.room = made.room in omega arith
+        let room : next.spare ≡ length old.contents + old.spare = made.spare in omega arith
     clear-roomier old next _ made = absurd made
 
     take_back-roomier : (old next : State C) (n : ℕ) (r : Reply) → Step key spelling old (TakeBack n) r next → HasNoLessRoom old next
-    take_back-roomier old next n reply.Done made = let same : length next.contents + next.room ≡ length old.contents + old.room = made.room in omega arith
+    take_back-roomier old next n reply.Done made = let same : length next.contents + next.spare ≡ length old.contents + old.spare = made.spare in omega arith
     take_back-roomier old next n reply.Stale made = same-roomier old next (made (record { private = tt })).1
     take_back-roomier old next n _ made = absurd made
 
@@ -104,7 +104,7 @@ module _ {C : Type 0} (key : C → Key) where
     call-roomier old next _ r keep made = absurd keep
 
     -- capacity doesn't fall over a run that drops nothing and shrinks nothing
-    pub Runs-roomier : (hash : Key → ℕ) (old new : State C) (calls : List (Call C)) (replies : List Reply) (cost : List Mark) → All KeepsRoom calls → Runs key spelling hash old calls replies cost new
+    pub Runs-roomier : (hash : Key → ℕ) (old new : State C) (calls : List (Call C)) (replies : List Reply) (cost : List Event) → All KeepsRoom calls → Runs key spelling hash old calls replies cost new
         → HasNoLessRoom old new
     Runs-roomier hash old new [] [] cost all run = rw run.1 (omega arith)
     Runs-roomier hash old new [] (r ∷ replies) cost all run = absurd run

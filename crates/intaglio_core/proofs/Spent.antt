@@ -3,7 +3,7 @@ use Rattle.std.proofs.Common.{◌≡◌, ◌≢◌, ℕ, zero, suc, ◌*◌, ◌
 use Rattle.std.proofs.lemmas.Bool.{cases_lt}
 use Rattle.std.specs.declared.alloc.AllocError.{AllocError}
 use Rattle.intaglio_content.specs.Key.{Key}
-use Rattle.intaglio_content.specs.Work.{Mark, hashed, placed}
+use Rattle.intaglio_content.specs.Work.{Event, hashed, placed}
 use Rattle.intaglio_core.specs.State.{State, first}
 use Rattle.intaglio_core.specs.Cost.{hashed_keys, stored_keys, step_count, placed_count, Adds, IsGrowthCost, IsRoomCost, KnownSearchCost, KnownInternCost}
 use Rattle.intaglio_symbol.specs.declared.symbol.Symbol.{Symbol}
@@ -44,7 +44,7 @@ grown old new more = record {
   placements = λ e. all-placed (length old.contents);
 }
 
-pub add-cost : {C : Type 0} (old new : State C) (s : Symbol) (before between after : List Mark)
+pub add-cost : {C : Type 0} (old new : State C) (s : Symbol) (before between after : List Event)
     → length old.contents < old.limit → length old.contents ≤ old.buckets
     → (length old.contents < old.buckets → new.buckets ≡ old.buckets)
     → (old.buckets ≤ length old.contents → min old.limit (max 4 (2 * old.buckets)) ≤ new.buckets)
@@ -63,18 +63,18 @@ add-cost old new s before between after below enough kept more stays places last
           )
     ]
 
-pub room-cost : {C : Type 0} (s : State C) (n : ℕ) (before after : List Mark) → n ≤ length s.contents → after ≡ before ++ replicate n placed → Adds before after (IsRoomCost s)
+pub room-cost : {C : Type 0} (s : State C) (n : ℕ) (before after : List Event) → n ≤ length s.contents → after ≡ before ++ replicate n placed → Adds before after (IsRoomCost s)
 room-cost s n before after le e = (
   replicate n placed,
   e,
   record { hashings = no-hashed n; comparisons = no-stored n; steps = no-steps n; placements = omega (arith, all-placed n, le) },
 )
 
-pub no-room-cost : {C : Type 0} (s : State C) (before after : List Mark) → after ≡ before → Adds before after (IsRoomCost s)
+pub no-room-cost : {C : Type 0} (s : State C) (before after : List Event) → after ≡ before → Adds before after (IsRoomCost s)
 no-room-cost s before after e = room-cost s 0 before after (omega arith) (e ∙ sym (append-nil before))
 
 -- what a reservation of the index costs
-pub reserve-cost : {C : Type 0} (s : State C) (result : Result (Unit {0}) AllocError) (count wanted n : ℕ) (before after : List Mark)
+pub reserve-cost : {C : Type 0} (s : State C) (result : Result (Unit {0}) AllocError) (count wanted n : ℕ) (before after : List Event)
     → n ≤ length s.contents → (wanted ≤ count → after ≡ before) → OnOk result (count < wanted → after ≡ before ++ replicate n placed) → OnErr result (after ≡ before)
     → Adds before after (IsRoomCost s)
 reserve-cost s (Ok _) count wanted n before after le stays places quiet =
@@ -85,25 +85,25 @@ reserve-cost s (Ok _) count wanted n before after le stays places quiet =
 reserve-cost s (Err _) count wanted n before after le stays places quiet = no-room-cost s before after quiet
 
 -- what new buckets cost
-pub remake-cost : {C : Type 0} (s : State C) (result : Result (Unit {0}) AllocError) (n : ℕ) (before after : List Mark)
+pub rebuild-cost : {C : Type 0} (s : State C) (result : Result (Unit {0}) AllocError) (n : ℕ) (before after : List Event)
     → n ≤ length s.contents → OnOk result (after ≡ before ++ replicate n placed) → OnErr result (after ≡ before) → Adds before after (IsRoomCost s)
-remake-cost s (Ok _) n before after le places quiet = room-cost s n before after le places
-remake-cost s (Err _) n before after le places quiet = no-room-cost s before after quiet
+rebuild-cost s (Ok _) n before after le places quiet = room-cost s n before after le places
+rebuild-cost s (Err _) n before after le places quiet = no-room-cost s before after quiet
 
 -- a mark, and what is added after it
 -- what two parts add, one after the other
-pub Adds-then : (P Q R : List Mark → Type 0) (before between after : List Mark) → ((xs ys : List Mark) → P xs → Q ys → R (xs ++ ys))
+pub Adds-then : (P Q R : List Event → Type 0) (before between after : List Event) → ((xs ys : List Event) → P xs → Q ys → R (xs ++ ys))
     → Adds before between P → Adds between after Q → Adds before after R
 Adds-then P Q R before between after joins first_part later =
     (first_part.0 ++ later.0, rw (later.1, first_part.1, append_assoc) refl, joins first_part.0 later.0 first_part.2 later.2)
 
-pub mark-first : (P : List Mark → Type 0) (m : Mark) (before between after : List Mark) → between ≡ before ++ m ∷ [] → Adds between after (λ cost. P (m ∷ cost)) → Adds before after P
+pub mark-first : (P : List Event → Type 0) (m : Event) (before between after : List Event) → between ≡ before ++ m ∷ [] → Adds between after (λ cost. P (m ∷ cost)) → Adds before after P
 mark-first P m before between after first_mark later =
     (m ∷ later.0, rw (later.1, first_mark) (append_assoc before (m ∷ []) later.0), later.2)
 
 module _ {C : Type 0} (key : C → Key) (hash : Key → ℕ) where
   -- what follows the hashing of an interning whose content wasn't found
-  pub intern-cost : (result : Result Symbol InternError) (old new : State C) (k : Key) (before walked after : List Mark)
+  pub intern-cost : (result : Result Symbol InternError) (old new : State C) (k : Key) (before walked after : List Event)
       → first key old.contents k ≡ None
       → Adds before walked (KnownSearchCost key hash old k) → Adds walked after (AddCost old result new)
       → Adds before after (KnownInternCost key hash old k result new)

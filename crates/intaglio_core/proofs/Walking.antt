@@ -13,7 +13,7 @@ use Rattle.intaglio_index.specs.Found.{IsFound, IsPassed}
 use Rattle.intaglio_index.specs.Placed.{Placed, head_of, leader_with, chain}
 use Rattle.std.specs.List.{AllByRecursion}
 use Rattle.intaglio_content.specs.Key.{Key}
-use Rattle.intaglio_content.specs.Work.{Mark, hashed, compared, step}
+use Rattle.intaglio_content.specs.Work.{Event, hashed, compared, step}
 use Rattle.intaglio_core.specs.State.{first_of, AreDistinct}
 use Rattle.intaglio_core.specs.Cost.{Adds, bucket_keys, IsSearchCost}
 use Rattle.intaglio_core.proofs.Along.{IsAlong, IsBucketPath, bucket_path, key_read, joined_twice, joined}
@@ -24,13 +24,13 @@ abbrev pub Leads : ℕ → Option (ℕ × ℕ) → Option ℕ → Type 0
 Leads h entry None = MatchOption entry (Unit {0}) (λ e. h < e.1)
 Leads h entry (Some s) = entry ≡ Some (s, h)
 
--- a walk through the bucket of a key, with the marks that it added to those of its start
-pub record IsWalking {C : Type 0} (key : C → Key) (hash : Key → ℕ) (index : Placed) (contents : List C) (k : Key) (start now : List Mark) (candidate : Option ℕ) : Type 0 where
+-- a walk through the bucket of a key, with the events that it added to those of its start
+pub record IsWalking {C : Type 0} (key : C → Key) (hash : Key → ℕ) (index : Placed) (contents : List C) (k : Key) (start now : List Event) (candidate : Option ℕ) : Type 0 where
   pub here : IsBucketPath hash index.count (map key contents) k (chain index (hash k % index.count))
-  pub marks : List Mark
-  pub added : now ≡ start ++ marks
+  pub events : List Event
+  pub added : now ≡ start ++ events
   pub entry : Option (ℕ × ℕ)
-  pub along : IsAlong hash (map key contents) k (chain index (hash k % index.count)) entry (hashed k ∷ marks)
+  pub along : IsAlong hash (map key contents) k (chain index (hash k % index.count)) entry (hashed k ∷ events)
   pub leads : Leads (hash k) entry candidate
 
 -- a symbol is followed by this one of the same hash, or by none
@@ -67,28 +67,28 @@ led h (x ∷ xs) next e above =
     ]
 
 -- a search that compared nothing
-pub passes : {C : Type 0} (key : C → Key) (hash : Key → ℕ) (index : Placed) (contents : List C) (k : Key) (start now : List Mark) → index.hashes ≡ map (λ c. hash (key c)) contents → AreDistinct (map key contents) →
+pub passes : {C : Type 0} (key : C → Key) (hash : Key → ℕ) (index : Placed) (contents : List C) (k : Key) (start now : List Event) → index.hashes ≡ map (λ c. hash (key c)) contents → AreDistinct (map key contents) →
     IsPassed (chain index (hash k % index.count)) start now → Adds start now (λ cost. IsSearchCost hash k (bucket_keys hash index.count (map key contents) k) (hashed k ∷ cost))
 passes key hash index contents k start now hashes distinct passed =
     let here = bucket_path key hash index contents k hashes distinct in
-    (replicate (passed.more + 1) step, passed.marks, along.passes _ _ _ _ _ here passed.more passed.few)
+    (replicate (passed.more + 1) step, passed.events, along.passes _ _ _ _ _ here passed.more passed.few)
 
-module _ {C : Type 0} {key : C → Key} {hash : Key → ℕ} {index : Placed} {contents : List C} {k : Key} {start now : List Mark} where
+module _ {C : Type 0} {key : C → Key} {hash : Key → ℕ} {index : Placed} {contents : List C} {k : Key} {start now : List Event} where
   pub begins : (s : ℕ) → index.hashes ≡ map (λ c. hash (key c)) contents → AreDistinct (map key contents) →
       IsFound (hash k) (chain index (hash k % index.count)) start now s → IsWalking key hash index contents k start now (Some s)
   begins s hashes distinct found =
       let here = bucket_path key hash index contents k hashes distinct in
       record {
         here = here;
-        marks = replicate (length found.front + 1) step;
-        added = found.marks;
+        events = replicate (length found.front + 1) step;
+        added = found.events;
         entry = Some (s, hash k);
         along = along.starts _ _ _ _ _ here found.front s found.behind found.split found.smaller;
         leads = refl;
       }
 
   -- a walk that stands at a symbol
-  at_symbol : (s : ℕ) (w : IsWalking key hash index contents k start now (Some s)) → IsAlong hash (map key contents) k (chain index (hash k % index.count)) (Some (s, hash k)) (hashed k ∷ w.marks)
+  at_symbol : (s : ℕ) (w : IsWalking key hash index contents k start now (Some s)) → IsAlong hash (map key contents) k (chain index (hash k % index.count)) (Some (s, hash k)) (hashed k ∷ w.events)
   at_symbol s w = rw w.leads at w.along
 
   pub within : (s : ℕ) → IsWalking key hash index contents k start now (Some s) → s < length contents
@@ -98,9 +98,9 @@ module _ {C : Type 0} {key : C → Key} {hash : Key → ℕ} {index : Placed} {c
       (None ≡ first_of (map key contents) k) × Adds start now (λ cost. IsSearchCost hash k (bucket_keys hash index.count (map key contents) k) (hashed k ∷ cost))
   ends w =
       let done = along.ends _ _ _ _ _ w.here _ w.entry w.along w.leads in
-      (done.0, (w.marks, w.added, done.1))
+      (done.0, (w.events, w.added, done.1))
 
-  pub finds : (s : ℕ) (x : C) (later : List Mark) → IsWalking key hash index contents k start now (Some s) → x ≡ get_or contents s x → k ≡ key x → later ≡ now ++ compared k (key x) ∷ [] →
+  pub finds : (s : ℕ) (x : C) (later : List Event) → IsWalking key hash index contents k start now (Some s) → x ≡ get_or contents s x → k ≡ key x → later ≡ now ++ compared k (key x) ∷ [] →
       (Some s ≡ first_of (map key contents) k) × Adds start later (λ cost. IsSearchCost hash k (bucket_keys hash index.count (map key contents) k) (hashed k ∷ cost))
   finds s x later w read same compares =
       let is = key_read key contents s x (within s w) read in
@@ -108,7 +108,7 @@ module _ {C : Type 0} {key : C → Key} {hash : Key → ℕ} {index : Placed} {c
       let adds : later ≡ now ++ compared k (get_or (map key contents) s []) ∷ [] = rw is compares in
       (found.0, (_, joined _ _ _ _ _ w.added adds, found.1))
 
-  pub goes_on : (s : ℕ) (x : C) (next : Option ℕ) (middle later : List Mark) → IsWalking key hash index contents k start now (Some s) → x ≡ get_or contents s x → k ≢ key x →
+  pub goes_on : (s : ℕ) (x : C) (next : Option ℕ) (middle later : List Event) → IsWalking key hash index contents k start now (Some s) → x ≡ get_or contents s x → k ≢ key x →
       middle ≡ now ++ compared k (key x) ∷ [] → later ≡ middle ++ step ∷ [] → Precedes index s next → IsWalking key hash index contents k start later next
   goes_on s x next middle later w read differ compares steps after =
       let is = key_read key contents s x (within s w) read in
@@ -119,7 +119,7 @@ module _ {C : Type 0} {key : C → Key} {hash : Key → ℕ} {index : Placed} {c
       let adds : middle ≡ now ++ compared k (get_or (map key contents) s []) ∷ [] = rw is compares in
       record {
         here = w.here;
-        marks = w.marks ++ compared k (get_or (map key contents) s []) ∷ step ∷ [];
+        events = w.events ++ compared k (get_or (map key contents) s []) ∷ step ∷ [];
         added = joined_twice _ _ _ _ _ _ _ w.added adds steps;
         entry = head_of stands.0;
         along = rw (eqb-equal (hash k) (hash k) refl) at on;

@@ -1,7 +1,7 @@
 -- What two runs of the same calls have in common.
 use Rattle.std.specs.Prelude.{◌≡◌, ◌≢◌, ℕ, Bool, List, map, Option, option_map, All}
 use Rattle.intaglio_content.specs.Key.{Key}
-use Rattle.intaglio_content.specs.Work.{Mark}
+use Rattle.intaglio_content.specs.Work.{Event}
 use Rattle.intaglio_core.specs.State.{State}
 use Rattle.intaglio_core.specs.Run.{Runs}
 use Rattle.intaglio_core.specs.declared.run.Call.{Call}
@@ -41,7 +41,7 @@ HasMemory replies = All (λ r. r ≢ reply.NoMemory) replies
 -- contents, whatever their hash functions, buckets and spare capacity, if neither ran out of memory
 abbrev pub AreAlike : {C : Type 0} → (C → Key) → (C → List ℕ) → Type 0
 AreAlike {C} key spells =
-    (hash hash' : Key → ℕ) (old old' new new' : State C) (calls : List (Call C)) (replies replies' : List Reply) (cost cost' : List Mark)
+    (hash hash' : Key → ℕ) (old old' new new' : State C) (calls : List (Call C)) (replies replies' : List Reply) (cost cost' : List Event)
     → old.contents ≡ old'.contents → old.limit ≡ old'.limit
     → Runs key spells hash old calls replies cost new → Runs key spells hash' old' calls replies' cost' new'
     → HasMemory replies → HasMemory replies'

@@ -10,7 +10,7 @@ use Rattle.intaglio_symbol.specs.declared.error.StaleMark.{StaleMark}
 
 -- the capacity isn't lower than before
 abbrev pub HasNoLessRoom : {C : Type 0} → State C → State C → Type 0
-HasNoLessRoom old new = length old.contents + old.room ≤ length new.contents + new.room
+HasNoLessRoom old new = length old.contents + old.spare ≤ length new.contents + new.spare
 
 -- a new content gets the next position. It uses spare capacity if there is some, and a growth of the buckets
 -- at least doubles them, up to the limit
@@ -18,16 +18,16 @@ pub record IsTaken {C : Type 0} (old : State C) (content : C) (symbol : ℕ) (ne
   pub below_limit : length old.contents < old.limit
   pub position : symbol ≡ length old.contents
   pub contents : new.contents ≡ old.contents ++ content ∷ []
-  pub room : 0 < old.room → (old.room ≤ new.room + 1) × (new.buckets ≡ old.buckets)
+  pub spare : 0 < old.spare → (old.spare ≤ new.spare + 1) × (new.buckets ≡ old.buckets)
   pub growth : new.buckets ≢ old.buckets → (length old.contents ≡ old.buckets) × (min old.limit (max 4 (2 * old.buckets)) ≤ new.buckets)
   pub limit : new.limit ≡ old.limit
 
 -- the table had to grow, and an allocation failed
 pub record IsRefused {C : Type 0} (old new : State C) : Type 0 where
   pub below_limit : length old.contents < old.limit
-  pub no_room : old.room ≡ 0
+  pub no_room : old.spare ≡ 0
   pub contents : new.contents ≡ old.contents
-  pub room : old.room ≤ new.room
+  pub spare : old.spare ≤ new.spare
   pub buckets : new.buckets ≡ old.buckets
   pub limit : new.limit ≡ old.limit
 
@@ -68,18 +68,18 @@ InternsForm key spelling old k w result new =
 -- there is spare capacity for n more. If there was before, nothing changed
 pub record IsReserved {C : Type 0} (old : State C) (n : ℕ) (new : State C) : Type 0 where
   pub within_limit : length old.contents + n ≤ old.limit
-  pub enough : n ≤ old.room → new ≡ old
+  pub enough : n ≤ old.spare → new ≡ old
   pub contents : new.contents ≡ old.contents
-  pub room : n ≤ new.room
+  pub spare : n ≤ new.spare
   pub buckets : length old.contents + n ≤ old.buckets → new.buckets ≡ old.buckets
   pub limit : new.limit ≡ old.limit
 
 -- spare capacity was missing, and an allocation failed
 pub record IsUnreserved {C : Type 0} (old : State C) (n : ℕ) (new : State C) : Type 0 where
   pub within_limit : length old.contents + n ≤ old.limit
-  pub missing : old.room < n
+  pub missing : old.spare < n
   pub contents : new.contents ≡ old.contents
-  pub room : old.room ≤ new.room
+  pub spare : old.spare ≤ new.spare
   pub buckets : new.buckets ≡ old.buckets
   pub limit : new.limit ≡ old.limit
 
@@ -91,24 +91,24 @@ Reserves old n (Err (room_error.Memory _)) new = IsUnreserved old n new
 
 -- a capacity above n becomes n, or the number of contents if that is more. Otherwise nothing changed
 pub record IsShrunk {C : Type 0} (old : State C) (n : ℕ) (new : State C) : Type 0 where
-  pub small : length old.contents + old.room ≤ n → new ≡ old
+  pub small : length old.contents + old.spare ≤ n → new ≡ old
   pub contents : new.contents ≡ old.contents
-  pub buckets : n < length old.contents + old.room → new.buckets ≡ max (length old.contents) n
-  pub room : n < length old.contents + old.room → length new.contents + new.room ≡ max (length old.contents) n
+  pub buckets : n < length old.contents + old.spare → new.buckets ≡ max (length old.contents) n
+  pub spare : n < length old.contents + old.spare → length new.contents + new.spare ≡ max (length old.contents) n
   pub limit : new.limit ≡ old.limit
 
 -- a shrink to n, by its result. If it had something to do and an allocation failed, nothing changed
 abbrev pub Shrinks : {C : Type 0} → State C → ℕ → Result (Unit {0}) RoomError → State C → Type 0
 Shrinks old n (Ok _) new = IsShrunk old n new
 Shrinks old n (Err room_error.CapacityOverflow) new = ⊥
-Shrinks old n (Err (room_error.Memory _)) new = (n < length old.contents + old.room) × (new ≡ old)
+Shrinks old n (Err (room_error.Memory _)) new = (n < length old.contents + old.spare) × (new ≡ old)
 
 -- only the first n contents are left, and the capacity stays. If those are all contents, nothing changed
 pub record IsCut {C : Type 0} (old : State C) (n : ℕ) (new : State C) : Type 0 where
   pub within : n ≤ length old.contents
   pub all : n ≡ length old.contents → new ≡ old
   pub contents : new.contents ≡ take n old.contents
-  pub room : length new.contents + new.room ≡ length old.contents + old.room
+  pub spare : length new.contents + new.spare ≡ length old.contents + old.spare
   pub buckets : new.buckets ≡ old.buckets
   pub limit : new.limit ≡ old.limit
 
@@ -120,6 +120,6 @@ TakesBack old n (Err _) new = (length old.contents < n) × (new ≡ old)
 -- no content is left, and the capacity stays
 pub record Empties {C : Type 0} (old new : State C) : Type 0 where
   pub contents : new.contents ≡ []
-  pub room : new.room ≡ length old.contents + old.room
+  pub spare : new.spare ≡ length old.contents + old.spare
   pub buckets : new.buckets ≡ old.buckets
   pub limit : new.limit ≡ old.limit

@@ -2,7 +2,7 @@
 use Rattle.std.specs.Prelude.{◌≡◌, ℕ, ◌*◌, ◌^◌, ◌<◌, ◌≤◌, min, max, replicate, List, [], ◌∷◌, ◌++◌, length, map, Result, Ok, Err}
 use Rattle.intaglio_content.specs.Key.{Key}
 use Rattle.intaglio_content.specs.declared.work.Work.{Work}
-use Rattle.intaglio_content.specs.Work.{Mark, placed}
+use Rattle.intaglio_content.specs.Work.{Event, placed}
 use Rattle.intaglio_index.specs.Placed.{Placed}
 use Rattle.intaglio_core.specs.State.{State, AreDistinct}
 use Rattle.intaglio_core.specs.Cost.{IsGrowthCost}
@@ -19,13 +19,13 @@ module _ {C : Type 0} (key : C → Key) (hash : Key → ℕ) where
     pub within : length contents ≤ index.room
 
 -- what is added for a content that isn't stored yet: a growth and a placement
-pub record IsGrowthAndPlacement {C : Type 0} (old new : State C) (cost : List Mark) : Type 0 where
-  pub growth : List Mark
+pub record IsGrowthAndPlacement {C : Type 0} (old new : State C) (cost : List Event) : Type 0 where
+  pub growth : List Event
   pub parts : cost ≡ growth ++ placed ∷ []
   pub grows : IsGrowthCost old new growth
 
 -- what is added for a content that isn't stored yet: nothing if the call fails
-abbrev pub AddCost : {C : Type 0} → State C → Result ℕ InternError → State C → List Mark → Type 0
+abbrev pub AddCost : {C : Type 0} → State C → Result ℕ InternError → State C → List Event → Type 0
 AddCost old (Ok s) new cost = IsGrowthAndPlacement old new cost
 AddCost old (Err e) new cost = cost ≡ []
 
@@ -48,12 +48,12 @@ pub record KeepsPlaces (old new : Placed) : Type 0 where
 pub record FindsPlace (n limit : ℕ) (old new : Placed) (before after : Work) : Type 0 where
   pub free : n < new.room
   pub kept : n < old.count → new.count ≡ old.count
-  pub quiet : n < old.count → after.marks ≡ before.marks
+  pub quiet : n < old.count → after.events ≡ before.events
   pub grown : old.count ≤ n → min limit (max 4 (2 * old.count)) ≤ new.count
-  pub placed_again : old.count ≤ n → after.marks ≡ before.marks ++ replicate n placed
+  pub placed_again : old.count ≤ n → after.events ≡ before.events ++ replicate n placed
 
 -- room for more than n symbols was missing, and an allocation failed
 pub record FindsNoPlace (n capacity : ℕ) (old new : Placed) (before after : Work) : Type 0 where
   pub full : min capacity old.room ≤ n
   pub kept : new.count ≡ old.count
-  pub quiet : after.marks ≡ before.marks
+  pub quiet : after.events ≡ before.events

@@ -1,7 +1,7 @@
 -- A list of calls, made in order, and what holds over all of it.
 use Rattle.std.specs.Prelude.{◌≡◌, ◌≢◌, ℕ, ◌+◌, ◌*◌, ◌≤◌, List, [], ◌∷◌, length, Some, All, map}
 use Rattle.intaglio_content.specs.Key.{Key}
-use Rattle.intaglio_content.specs.Work.{Mark}
+use Rattle.intaglio_content.specs.Work.{Event}
 use Rattle.intaglio_core.specs.State.{State, IsValid}
 use Rattle.intaglio_core.specs.Change.{HasNoLessRoom}
 use Rattle.intaglio_core.specs.Cost.{InOrder, placed_count}
@@ -14,12 +14,12 @@ use Rattle.intaglio_core.specs.declared.run.Reply.TheVariants as reply
 
 module _ {C : Type 0} (key : C → Key) where
   -- one call, with its reply and its cost, which leaves a valid state
-  abbrev pub IsCall : (C → List ℕ) → (Key → ℕ) → State C → Call C → Reply → List Mark → State C → Type 0
+  abbrev pub IsCall : (C → List ℕ) → (Key → ℕ) → State C → Call C → Reply → List Event → State C → Type 0
   IsCall spelling hash old call reply cost new =
       Step key spelling old call reply new × StepCost key hash old call reply new cost × IsValid key new
 
   -- calls in order, from one state to another
-  abbrev pub Runs : (C → List ℕ) → (Key → ℕ) → State C → List (Call C) → List Reply → List Mark → State C → Type 0
+  abbrev pub Runs : (C → List ℕ) → (Key → ℕ) → State C → List (Call C) → List Reply → List Event → State C → Type 0
   Runs spelling hash = InOrder (IsCall spelling hash)
 
   -- the keys of the contents that calls look for
@@ -42,7 +42,7 @@ KeepsContents _ = Unit {0}
 
 -- over internings and look-ups, the placements and the contents before are together at most three times the
 -- contents after. So from an empty table, at most three symbols are placed for each content that is added
-abbrev pub PlacesFew : {C : Type 0} → State C → List (Call C) → State C → List Mark → Type 0
+abbrev pub PlacesFew : {C : Type 0} → State C → List (Call C) → State C → List Event → Type 0
 PlacesFew old calls new cost =
     All KeepsContents calls → placed_count cost + length old.contents ≤ 3 * length new.contents
 
@@ -59,7 +59,7 @@ HoldsRoom old calls new = All KeepsRoom calls → HasNoLessRoom old new
 -- internings of no more contents than the spare capacity never run out of memory
 abbrev pub HonoursRoom : {C : Type 0} → State C → List (Call C) → List Reply → Type 0
 HonoursRoom {C} old calls replies =
-    (cs : List C) → calls ≡ map Intern cs → length cs ≤ old.room → All (λ r. r ≢ reply.NoMemory) replies
+    (cs : List C) → calls ≡ map Intern cs → length cs ≤ old.spare → All (λ r. r ≢ reply.NoMemory) replies
 
 -- a reply that is an error
 abbrev pub IsRefusal : Reply → Type 0

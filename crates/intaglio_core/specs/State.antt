@@ -8,7 +8,7 @@ use Rattle.intaglio_content.specs.Key.{Key}
 -- most contents that are held
 pub record State (C : Type 0) : Type 0 where
   pub contents : List C
-  pub room : ℕ
+  pub spare : ℕ
   pub buckets : ℕ
   pub limit : ℕ
 
@@ -20,7 +20,7 @@ pub record Table (C S : Type 0) : Type 0 where
 -- no contents yet, and this capacity
 abbrev pub empty_table : {C S : Type 0} → ℕ → ℕ → S → Table C S
 empty_table capacity limit hasher =
-    record { state = record { contents = []; room = capacity; buckets = capacity; limit = limit }; hasher = hasher }
+    record { state = record { contents = []; spare = capacity; buckets = capacity; limit = limit }; hasher = hasher }
 
 -- whether two keys are equal
 abbrev pub key_eq : Key → Key → Bool
@@ -48,5 +48,5 @@ module _ {C : Type 0} (key : C → Key) where
   pub record IsValid (s : State C) : Type 0 where
     pub distinct : Distinct s.contents
     pub limited : length s.contents ≤ s.limit
-    pub buckets : length s.contents + s.room ≤ s.buckets
+    pub buckets : length s.contents + s.spare ≤ s.buckets
     pub limit : s.limit ≤ 2 ^ 32

@@ -1,7 +1,7 @@
 -- One call, its reply, and its cost.
 use Rattle.std.specs.Prelude.{◌≡◌, ◌≢◌, ℕ, List, [], length, Option, Some, Ok, Err, is_some, nat_lt, nat_eq, option_map, option_and_then, slice_get, alloc_error, IsSomeAnd}
 use Rattle.intaglio_content.specs.Key.{Key}
-use Rattle.intaglio_content.specs.Work.{Mark}
+use Rattle.intaglio_content.specs.Work.{Event}
 use Rattle.intaglio_core.specs.State.{State, first}
 use Rattle.intaglio_core.specs.Change.{Interns, Reserves, Shrinks, TakesBack, Empties}
 use Rattle.intaglio_core.specs.Cost.{InternCost, SearchCost, IsRoomCost}
@@ -47,8 +47,8 @@ module _ {C : Type 0} (key : C → Key) where
     Step old (TakeBack n) reply.Stale new = (e : StaleMark) → TakesBack old n (Err e) new
     Step old _ _ new = ⊥
 
-  -- what one call adds to the marks
-  abbrev pub StepCost : (Key → ℕ) → State C → Call C → Reply → State C → List Mark → Type 0
+  -- what one call adds to the events
+  abbrev pub StepCost : (Key → ℕ) → State C → Call C → Reply → State C → List Event → Type 0
   StepCost hash old (Intern c) (reply.Symbol (Some i)) new cost = InternCost key hash old (key c) (Ok i) new cost
   StepCost hash old (Intern c) _ new cost = SearchCost key hash old (key c) cost
   StepCost hash old (Check c) _ new cost = SearchCost key hash old (key c) cost

@@ -89,7 +89,7 @@ pub fn intern_all<T: Interner>(
     let mark = table.mark();
     let hashed = hash_all(alloc, table, contents, work)?;
     let looked_up = search_all(alloc, table, hashed, work)?;
-    let taken = take_all(alloc, table, looked_up, work);
+    let taken = intern_each(alloc, table, looked_up, work);
     if taken.is_err() {
         let _ = table.take_back(mark);
     }
@@ -106,8 +106,8 @@ fn hash_all<T: Interner>(
     ensures contents { IfOk result (λ all. map (λ it. it.content) all.items ≡ contents.items) }
     ensures hashes { IfOk result (λ all.
         AllByRecursion (λ it. it.hash ≡ T.hash table.now (T.Content.key it.content)) all.items) }
-    ensures cost { OnOk result (work.new.marks ≡ work.old.marks ++ hashings T.Content.key contents.items) }
-    ensures no_cost { OnErr result (work.new.marks ≡ work.old.marks) }
+    ensures cost { OnOk result (work.new.events ≡ work.old.events ++ hashings T.Content.key contents.items) }
+    ensures no_cost { OnErr result (work.new.events ≡ work.old.events) }
 {
     let mut all = Vec::with_capacity(alloc, contents.len())?;
     for content in contents {
@@ -133,7 +133,7 @@ fn search_all<T: Interner>(
         (IsFound T.Content.key (T.state table.now) (T.Content.key it.content))) found.items) }
     ensures cost { OnOk result (Costs work.old work.new (SearchesEach T.Content.key
         (T.hash table.now) (T.state table.now) (map (λ it. it.content) all.items))) }
-    ensures no_cost { OnErr result (work.new.marks ≡ work.old.marks) }
+    ensures no_cost { OnErr result (work.new.events ≡ work.old.events) }
 {
     let mut found = Vec::with_capacity(alloc, all.len())?;
     for it in all {
@@ -148,7 +148,7 @@ fn search_all<T: Interner>(
 }
 
 // Interns contents that were looked up. After an error, those before the failed one are stored.
-fn take_all<T: Interner>(
+fn intern_each<T: Interner>(
     alloc: Global,
     table: &mut T,
     all: Vec<LookedUp<T::Content>>,
@@ -179,13 +179,13 @@ fn take_all<T: Interner>(
 {
     let mut symbols = Vec::with_capacity(alloc, all.len())?;
     for it in all {
-        symbols.push_reserved(take_one(table, it, work)?);
+        symbols.push_reserved(intern_one(table, it, work)?);
     }
     Ok(symbols)
 }
 
 // Interns a content that was looked up.
-fn take_one<T: Interner>(
+fn intern_one<T: Interner>(
     table: &mut T,
     it: LookedUp<T::Content>,
     work: &mut Work,

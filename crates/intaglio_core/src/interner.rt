@@ -53,7 +53,7 @@ pub trait Interner {
     /// The hash of a content or a form, for [`intern_hashed`](Interner::intern_hashed) and the like.
     fn hash_counted<Q: Sought<Self::Content>>(&self, sought: &Q, work: &mut Work) -> u64
         ensures hash { result ≡ hash self.now (Q.key sought.now) }
-        ensures cost { work.new.marks ≡ work.old.marks ++ hashed (Q.key sought.now) ∷ [] };
+        ensures cost { work.new.events ≡ work.old.events ++ hashed (Q.key sought.now) ∷ [] };
 
     /// As [`intern_counted`](Interner::intern_counted), for a content whose hash is known.
     ///

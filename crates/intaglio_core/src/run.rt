@@ -103,7 +103,7 @@ where
 
     // If the replies can't be allocated, no call is made.
     ensures err { OnErr result (T.state table.new ≡ T.state table.old) }
-    ensures no_cost { OnErr result (work.new.marks ≡ work.old.marks) }
+    ensures no_cost { OnErr result (work.new.events ≡ work.old.events) }
     ensures none_needed { calls.items ≡ [] → IsOk result }
 {
     let mut replies = Vec::with_capacity(alloc, calls.len())?;

@@ -41,7 +41,7 @@ impl<C: Keyed, S: BuildHasher> Model for Core<C, S> {
     ghost view = { λ t. record {
       state = record {
         contents = t.list.items;
-        room = min (vec_capacity t.list) t.index.room - length t.list.items;
+        spare = min (vec_capacity t.list) t.index.room - length t.list.items;
         buckets = t.index.count;
         limit = t.limit;
       };
@@ -71,7 +71,7 @@ impl<C: Keyed, S: BuildHasher> Core<C, S> {
 
     /// How many contents the table can hold before it has to grow.
     pub fn capacity(&self) -> usize
-        ensures { result ≡ length self.now.state.contents + self.now.state.room }
+        ensures { result ≡ length self.now.state.contents + self.now.state.spare }
     {
         self.list.capacity().min(self.index.room())
     }

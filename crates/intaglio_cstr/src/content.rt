@@ -94,7 +94,7 @@ impl<'a> Formed<'a> for CStrContent {
 
     ghost form_spelling = { c_str_spelling };
 
-    fn lend(&'a self) -> CStr<'a> {
+    fn borrow(&'a self) -> CStr<'a> {
         self.form()
     }
 }

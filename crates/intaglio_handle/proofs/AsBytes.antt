@@ -33,7 +33,7 @@ module _ {C : Type 0} (bytes : C → List ℕ) where
         within = subst (λ (m : ℕ). n ≤ m) (sym count) cut.within;
         all = λ e. ap (as_bytes bytes) (cut.all (e ∙ count));
         contents = ap (map bytes) cut.contents ∙ sym (take-map bytes n old.contents);
-        room = omega (arith, count, left, cut.room);
+        spare = omega (arith, count, left, cut.spare);
         buckets = cut.buckets;
         limit = cut.limit;
       }
@@ -70,7 +70,7 @@ module _ {C : Type 0} (kind : Kind) (bytes : C → List ℕ) (content_key : C �
         below_limit = subst (λ (m : ℕ). m < old.limit) (sym count) taken.below_limit;
         position = taken.position ∙ sym count;
         contents = ap (map bytes) taken.contents ∙ map-append bytes old.contents (c ∷ []) ∙ ap (λ (x : List ℕ). map bytes old.contents ++ x ∷ []) spelled;
-        room = taken.room;
+        spare = taken.spare;
         growth = λ grown. (count ∙ (taken.growth grown).0, (taken.growth grown).1);
         limit = taken.limit;
       }
@@ -79,7 +79,7 @@ module _ {C : Type 0} (kind : Kind) (bytes : C → List ℕ) (content_key : C �
     below_limit = subst (λ (m : ℕ). m < old.limit) (sym (length-map old.contents bytes)) refused.below_limit;
     no_room = refused.no_room;
     contents = ap (map bytes) refused.contents;
-    room = refused.room;
+    spare = refused.spare;
     buckets = refused.buckets;
     limit = refused.limit;
   }

@@ -41,7 +41,7 @@ begun-same : (s s' : State (List ℕ)) → s' ≡ s → IsBegun s s'
 begun-same s s' same =
     subst (λ (x : State (List ℕ)). IsBegun s x) (sym same) (record { within = le_refl _; contents = take-length s.contents; capacity = le_refl _; limit = refl })
 
-begun-grown : (s s' : State (List ℕ)) (string : List ℕ) → s'.contents ≡ s.contents ++ string ∷ [] → length s.contents + s.room ≤ length s'.contents + s'.room → s'.limit ≡ s.limit → IsBegun s s'
+begun-grown : (s s' : State (List ℕ)) (string : List ℕ) → s'.contents ≡ s.contents ++ string ∷ [] → length s.contents + s.spare ≤ length s'.contents + s'.spare → s'.limit ≡ s.limit → IsBegun s s'
 begun-grown s s' string grown capacity limit = record {
   within = omega (arith, ap length grown, length-append s.contents (string ∷ []));
   contents = ap (take (length s.contents)) grown ∙ take-append_seam s.contents (string ∷ []);
@@ -57,15 +57,15 @@ begun-then a b c first second = record {
   limit = second.limit ∙ first.limit;
 }
 
-taken-capacity : (s s' : State (List ℕ)) (string : List ℕ) (symbol : ℕ) → IsTaken s string symbol s' → length s.contents + s.room ≤ length s'.contents + s'.room
-taken-capacity s s' string symbol taken = by_room s.room refl
+taken-capacity : (s s' : State (List ℕ)) (string : List ℕ) (symbol : ℕ) → IsTaken s string symbol s' → length s.contents + s.spare ≤ length s'.contents + s'.spare
+taken-capacity s s' string symbol taken = by_room s.spare refl
   where
     count : length s'.contents ≡ length s.contents + 1
     count = ap length taken.contents ∙ length-append s.contents (string ∷ [])
 
-    by_room : (n : ℕ) → s.room ≡ n → length s.contents + s.room ≤ length s'.contents + s'.room
+    by_room : (n : ℕ) → s.spare ≡ n → length s.contents + s.spare ≤ length s'.contents + s'.spare
     by_room zero e = omega (arith, count, e)
-    by_room (suc n) e = omega (arith, count, (taken.room (omega (arith, e))).0)
+    by_room (suc n) e = omega (arith, count, (taken.spare (omega (arith, e))).0)
 
 -- one interning of a group
 accepted-by : (fault : Option Refusal) (o : Option ℕ) (s s' : State (List ℕ)) (string : List ℕ) (symbol : ℕ) → InternsBy IsUncopied string s (unless fault o) (Ok symbol) s'
@@ -111,7 +111,7 @@ refused-by None None s s' string refusal.Full full is = (refl, full.0, begun-sam
 refused-by None None s s' string refusal.NoMemory kept is = record {
   within = omega (arith, ap length kept.contents);
   contents = ap (take (length s.contents)) kept.contents ∙ take-length s.contents;
-  capacity = omega (arith, ap length kept.contents, kept.room);
+  capacity = omega (arith, ap length kept.contents, kept.spare);
   limit = kept.limit;
 }
 refused-by None None s s' string _ never is = absurd never
@@ -195,7 +195,7 @@ module _ (t0 : Seen) (strings : List (List ℕ)) where
 
 -- after a refusal the strings that came before it are dropped
 pub rolled_back : (s0 s1 s2 : State (List ℕ)) (result : Result (Unit {0}) StaleMark) → IsBegun s0 s1 → TakesBack s1 (length s0.contents) result s2 → IsRolledBack s0 s2
-rolled_back s0 s1 s2 (Ok done) begun cut = record { contents = cut.contents ∙ begun.contents; capacity = omega (arith, cut.room, begun.capacity); limit = cut.limit ∙ begun.limit }
+rolled_back s0 s1 s2 (Ok done) begun cut = record { contents = cut.contents ∙ begun.contents; capacity = omega (arith, cut.spare, begun.capacity); limit = cut.limit ∙ begun.limit }
 rolled_back s0 s1 s2 (Err stale) begun kept = absurd (omega (arith, kept.0, begun.within))
 
 pub none_left : (t : Seen) (strings : List (List ℕ)) (symbols : List ℕ) (s1 s2 : State (List ℕ)) (r : Refusal) → (IsBegun t.state s1 → IsRolledBack t.state s2) → InternsOr IsBegun strings symbols t (Err r) s1

@@ -43,20 +43,20 @@ pub record AreInterned (t : Seen) (strings : List (List ℕ)) (issued : List ℕ
   pub faultless : first_fault t.kind strings ≡ None
   pub symbols : issued ≡ issue_from (key t.kind) t.state.contents strings
   pub contents : new.contents ≡ interned_all (key t.kind) t.state.contents strings
-  pub capacity : length t.state.contents + t.state.room ≤ length new.contents + new.room
+  pub capacity : length t.state.contents + t.state.spare ≤ length new.contents + new.spare
   pub limit : new.limit ≡ t.state.limit
 
 -- the strings are as before, and the capacity isn't lower
 pub record IsRolledBack (old new : State (List ℕ)) : Type 0 where
   pub contents : new.contents ≡ old.contents
-  pub capacity : length old.contents + old.room ≤ length new.contents + new.room
+  pub capacity : length old.contents + old.spare ≤ length new.contents + new.spare
   pub limit : new.limit ≡ old.limit
 
 -- the first strings are as before, and the capacity isn't lower
 pub record IsBegun (old new : State (List ℕ)) : Type 0 where
   pub within : length old.contents ≤ length new.contents
   pub contents : take (length old.contents) new.contents ≡ old.contents
-  pub capacity : length old.contents + old.room ≤ length new.contents + new.room
+  pub capacity : length old.contents + old.spare ≤ length new.contents + new.spare
   pub limit : new.limit ≡ old.limit
 
 -- all strings are interned, or Left holds after an error

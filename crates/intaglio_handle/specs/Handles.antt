@@ -35,7 +35,7 @@ Clears old new = MatchOption (held old) (HoldsNone new) (λ before. IsSomeAnd (h
 -- a new table, whose builder makes this hasher
 pub record IsNew (t : Seen) (which : Kind) (room limit : ℕ) (made : DefaultHasher) : Type 0 where
   pub kind : t.kind ≡ which
-  pub state : t.state ≡ record { contents = []; room = room; buckets = room; limit = limit }
+  pub state : t.state ≡ record { contents = []; spare = room; buckets = room; limit = limit }
   pub hasher : initial_hasher t.hasher ≡ made
 
 -- a new table of a kind replaces what was held, unless the number is no kind's, the size is too large, or an
@@ -79,4 +79,4 @@ count (Some t) = length t.state.contents
 
 abbrev pub capacity : Option Seen → ℕ
 capacity None = 0
-capacity (Some t) = length t.state.contents + t.state.room
+capacity (Some t) = length t.state.contents + t.state.spare

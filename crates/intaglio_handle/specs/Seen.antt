@@ -27,7 +27,7 @@ pub record Seen : Type 0 where
 
 -- a state with contents as their bytes
 abbrev pub as_bytes : {C : Type 0} → (C → List ℕ) → State C → State (List ℕ)
-as_bytes bytes s = record { contents = map bytes s.contents; room = s.room; buckets = s.buckets; limit = s.limit }
+as_bytes bytes s = record { contents = map bytes s.contents; spare = s.spare; buckets = s.buckets; limit = s.limit }
 
 -- a table of this kind, by the bytes of its contents
 abbrev pub seen_as : {C : Type 0} → Kind → (C → List ℕ) → Table C KeyedState → Seen

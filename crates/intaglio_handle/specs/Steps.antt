@@ -10,7 +10,7 @@ use Rattle.intaglio_handle.specs.declared.refusal.Refusal.TheVariants.{Full, NoM
 pub record IsUncopied (old new : State (List ℕ)) : Type 0 where
   pub below_limit : length old.contents < old.limit
   pub contents : new.contents ≡ old.contents
-  pub room : old.room ≤ new.room
+  pub spare : old.spare ≤ new.spare
   pub buckets : new.buckets ≡ old.buckets
   pub limit : new.limit ≡ old.limit
 
@@ -45,7 +45,7 @@ Reserves n t (Err _) s' = ⊥
 -- a shrink to n, by its result
 abbrev pub Shrinks : ℕ → Seen → Result (Unit {0}) Refusal → State (List ℕ) → Type 0
 Shrinks n t (Ok _) s' = IsShrunk t.state n s'
-Shrinks n t (Err NoMemory) s' = (n < length t.state.contents + t.state.room) × (s' ≡ t.state)
+Shrinks n t (Err NoMemory) s' = (n < length t.state.contents + t.state.spare) × (s' ≡ t.state)
 Shrinks n t (Err _) s' = ⊥
 
 -- a rollback to a mark of n, by its result

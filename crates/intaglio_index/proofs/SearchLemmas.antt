@@ -6,7 +6,7 @@ use Rattle.std.proofs.lemmas.Bool.Decides.{eqb_tells}
 use Rattle.std.proofs.lemmas.Grind.{replicate_next}
 use Rattle.std.proofs.lemmas.List.{get_or_default, get_or-map, length-map}
 use Rattle.std.proofs.lemmas.List.Elements.{recursion_from_All}
-use Rattle.intaglio_content.specs.Work.{Mark, step}
+use Rattle.intaglio_content.specs.Work.{Event, step}
 use Rattle.intaglio_index.specs.declared.index.head.Head.{Head}
 use Rattle.intaglio_index.specs.declared.index.Node.{Node}
 use Rattle.intaglio_index.specs.Links.{hashes_of}
@@ -34,28 +34,28 @@ absent_on v hash none =
 pub entry_is : (e : ℕ × ℕ) (s h : ℕ) → e.0 ≡ s → e.1 ≡ h → e ≡ (s, h)
 entry_is e s h p q = rw (← p, ← q) refl
 
-steps_push : (old now new : List Mark) (front : List (ℕ × ℕ)) (e : ℕ × ℕ) → now ≡ old ++ replicate (length front + 1) step → new ≡ now ++ step ∷ [] → new ≡ old ++ replicate (length (front ++ e ∷ []) + 1) step
-steps_push old now new front e marks more =
+steps_push : (old now new : List Event) (front : List (ℕ × ℕ)) (e : ℕ × ℕ) → now ≡ old ++ replicate (length front + 1) step → new ≡ now ++ step ∷ [] → new ≡ old ++ replicate (length (front ++ e ∷ []) + 1) step
+steps_push old now new front e events more =
     let size : length (front ++ e ∷ []) ≡ length front + 1 = length-append front (e ∷ []) in
-    rw (more, marks, size, replicate_next (length front + 1) step, append_assoc) refl
+    rw (more, events, size, replicate_next (length front + 1) step, append_assoc) refl
 
 -- the search is at the bucket's first symbol
-pub begins : (h : ℕ) (path : List (ℕ × ℕ)) (old now : List Mark) (candidate : Option (ℕ × ℕ)) → now ≡ old ++ step ∷ [] → candidate ≡ head_of path → IsReached h path old now candidate
-begins h path old now candidate marks next = record { front = []; rest = path; split = refl; next = next; smaller = tt; marks = marks }
+pub begins : (h : ℕ) (path : List (ℕ × ℕ)) (old now : List Event) (candidate : Option (ℕ × ℕ)) → now ≡ old ++ step ∷ [] → candidate ≡ head_of path → IsReached h path old now candidate
+begins h path old now candidate events next = record { front = []; rest = path; split = refl; next = next; smaller = tt; events = events }
 
 -- behind the first two
-pub begins_third : (h : ℕ) (path : List (ℕ × ℕ)) (old now : List Mark) (candidate : Option (ℕ × ℕ)) (e f : ℕ × ℕ) (fs : List (ℕ × ℕ)) → path ≡ e ∷ f ∷ fs → e.1 < h → f.1 < h →
+pub begins_third : (h : ℕ) (path : List (ℕ × ℕ)) (old now : List Event) (candidate : Option (ℕ × ℕ)) (e f : ℕ × ℕ) (fs : List (ℕ × ℕ)) → path ≡ e ∷ f ∷ fs → e.1 < h → f.1 < h →
     now ≡ old ++ replicate 3 step → candidate ≡ head_of fs → IsReached h path old now candidate
-begins_third h path old now candidate e f fs split first second marks next =
-    record { front = e ∷ f ∷ []; rest = fs; split = split; next = next; smaller = (first, (second, tt)); marks = marks }
+begins_third h path old now candidate e f fs split first second events next =
+    record { front = e ∷ f ∷ []; rest = fs; split = split; next = next; smaller = (first, (second, tt)); events = events }
 
-module _ (h : ℕ) (path : List (ℕ × ℕ)) (old now : List Mark) where
+module _ (h : ℕ) (path : List (ℕ × ℕ)) (old now : List Event) where
   standing : (e : ℕ × ℕ) (at : IsReached h path old now (Some e)) → (behind : List (ℕ × ℕ)) × (path ≡ at.front ++ e ∷ behind)
   standing e at =
       let rest = some_rest at.rest e at.next in
       (rest.0, at.split ∙ ap (λ r. at.front ++ r) rest.1)
 
-  pub goes_on : (s k : ℕ) (new : List Mark) (next : Option (ℕ × ℕ)) → IsReached h path old now (Some (s, k)) → k < h → new ≡ now ++ step ∷ [] →
+  pub goes_on : (s k : ℕ) (new : List Event) (next : Option (ℕ × ℕ)) → IsReached h path old now (Some (s, k)) → k < h → new ≡ now ++ step ∷ [] →
       ((before behind : List (ℕ × ℕ)) → path ≡ before ++ (s, k) ∷ behind → next ≡ head_of behind) → IsReached h path old new next
   goes_on s k new next at l more after =
       let rest = standing (s, k) at in
@@ -65,17 +65,17 @@ module _ (h : ℕ) (path : List (ℕ × ℕ)) (old now : List Mark) where
         split = rest.1 ∙ sym (append_assoc at.front ((s, k) ∷ []) rest.0);
         next = after at.front rest.0 rest.1;
         smaller = Each-append (λ (e : ℕ × ℕ). e.1 < h) at.front ((s, k) ∷ []) at.smaller (l, tt);
-        marks = steps_push old now new at.front (s, k) at.marks more;
+        events = steps_push old now new at.front (s, k) at.events more;
       }
 
   pub finds : (s k : ℕ) → IsReached h path old now (Some (s, k)) → h ≡ k → IsFound h path old now s
   finds s k at same =
       let rest = standing (s, k) at in
-      record { front = at.front; behind = rest.0; split = rest.1 ∙ ap (λ n. at.front ++ (s, n) ∷ rest.0) (sym same); smaller = at.smaller; marks = at.marks }
+      record { front = at.front; behind = rest.0; split = rest.1 ∙ ap (λ n. at.front ++ (s, n) ∷ rest.0) (sym same); smaller = at.smaller; events = at.events }
 
   -- nothing is left, or a greater hash
   pub passes : (candidate : Option (ℕ × ℕ)) → IsReached h path old now candidate → IsPassed path old now
-  passes candidate at = record { more = length at.front; few = omega (arith, ap length at.split, length-append at.front at.rest); marks = at.marks }
+  passes candidate at = record { more = length at.front; few = omega (arith, ap length at.split, length-append at.front at.rest); events = at.events }
 
   others : (candidate : Option (ℕ × ℕ)) (rest : List (ℕ × ℕ)) → candidate ≡ head_of rest → InOrder rest → MatchOption candidate (Unit {0}) (λ e. h < e.1) → AllByRecursion (λ (e : ℕ × ℕ). e.1 ≢ h) rest
   others candidate [] next order m = tt
@@ -94,7 +94,7 @@ module _ (h : ℕ) (path : List (ℕ × ℕ)) (old now : List Mark) where
       rw at.split (Each-append (λ (e : ℕ × ℕ). e.1 ≢ h) at.front at.rest front behind)
 
 -- the candidate is a placed symbol, and each turn comes nearer to the bucket's end
-module _ (v : Placed) (h : ℕ) (old now : List Mark) where
+module _ (v : Placed) (h : ℕ) (old now : List Event) where
   pub within : (s k : ℕ) → IsReached h (chain v (h % v.count)) old now (Some (s, k)) → s < length v.hashes
   unfolding chain
   within s k at =
@@ -114,7 +114,7 @@ each_some P Q None f h = tt
 each_some P Q (Some s) f h = f s h
 
 -- what the head tells of a hash of its bucket
-module _ (v : Placed) (h size : ℕ) (head : Head) (some : 0 < size) (o : IsOccupied v (h % v.count) size head) (old new : List Mark) where
+module _ (v : Placed) (h size : ℕ) (head : Head) (some : 0 < size) (o : IsOccupied v (h % v.count) size head) (old new : List Event) where
   -- that no symbol has it
   pub absent_by_head : head.first / size ≢ h / size → head.second / size ≢ h / size → (h < head.second) ⊎ (head.first ≡ head.second) → AllByRecursion (λ placed. placed ≢ h) v.hashes
   absent_by_head first second end =
@@ -124,12 +124,12 @@ module _ (v : Placed) (h size : ℕ) (head : Head) (some : 0 < size) (o : IsOccu
   pub third : (candidate : Option (ℕ × ℕ)) → head.second / size ≢ h / size → head.second ≤ h → head.first ≢ head.second → new ≡ old ++ replicate 3 step →
       ((b hash : ℕ) (before behind : List (ℕ × ℕ)) → chain v b ≡ before ++ (head.second % size, hash) ∷ behind → candidate ≡ head_of behind) →
       IsReached h (chain v (h % v.count)) old new candidate
-  third candidate second at_most other marks after =
+  third candidate second at_most other events after =
       let r = both_below size some h head o.e o.es (order v (h % v.count) size head o) o.is second at_most other in
       let f_is : r.0 ≡ (head.second % size, r.0.1) = entry_is r.0 (head.second % size) r.0.1 (sym r.5) refl in
       let split : chain v (h % v.count) ≡ o.e ∷ r.0 ∷ r.1 = o.split ∙ ap (λ es. o.e ∷ es) r.2 in
       let next : candidate ≡ head_of r.1 = after (h % v.count) r.0.1 (o.e ∷ []) r.1 (split ∙ ap (λ f. o.e ∷ f ∷ r.1) f_is) in
-      begins_third h (chain v (h % v.count)) old new candidate o.e r.0 r.1 split r.3 r.4 marks next
+      begins_third h (chain v (h % v.count)) old new candidate o.e r.0 r.1 split r.3 r.4 events next
 
   -- an entry of the bucket with the same high bits has the hash, if that was read or if the bucket tells the other bits
   sure_of : (e : ℕ × ℕ) → IsEntry v.count (h % v.count) v.hashes e → e.1 / size ≡ h / size → (get_or v.hashes e.0 0 ≡ h) ⊎ (v.count ≡ size) → e.1 ≡ h
@@ -140,22 +140,22 @@ module _ (v : Placed) (h size : ℕ) (head : Head) (some : 0 < size) (o : IsOccu
 
   -- that it is the first one's
   pub first_found : head.first / size ≡ h / size → (get_or v.hashes (head.first % size) 0 ≡ h) ⊎ (v.count ≡ size) → new ≡ old ++ step ∷ [] → IsFound h (chain v (h % v.count)) old new (head.first % size)
-  first_found high sure marks =
+  first_found high sure events =
       let entry = (entries v (h % v.count) size head o).0 in
       let is : o.e.1 ≡ h = sure_of o.e entry (sym o.is.0.0 ∙ high) (rw (← o.is.0.1) sure) in
       let e_is : o.e ≡ (head.first % size, h) = entry_is o.e (head.first % size) h (sym o.is.0.1) is in
-      record { front = []; behind = o.es; split = o.split ∙ ap (λ e. e ∷ o.es) e_is; smaller = tt; marks = marks }
+      record { front = []; behind = o.es; split = o.split ∙ ap (λ e. e ∷ o.es) e_is; smaller = tt; events = events }
 
   -- or the second one's
   pub second_found : head.first / size ≢ h / size → head.second / size ≡ h / size → (get_or v.hashes (head.second % size) 0 ≡ h) ⊎ (v.count ≡ size) → new ≡ old ++ replicate 2 step →
       IsFound h (chain v (h % v.count)) old new (head.second % size)
-  second_found first high sure marks =
+  second_found first high sure events =
       let r = second_agrees size some h head o.e o.es (order v (h % v.count) size head o) o.is first high in
       let each = rw r.2 at (entries v (h % v.count) size head o).1 in
       let is : r.0.1 ≡ h = sure_of r.0 each.0 r.4 (rw (← r.5) sure) in
       let f_is : r.0 ≡ (head.second % size, h) = entry_is r.0 (head.second % size) h (sym r.5) is in
       let split : chain v (h % v.count) ≡ o.e ∷ r.0 ∷ r.1 = o.split ∙ ap (λ es. o.e ∷ es) r.2 in
-      record { front = o.e ∷ []; behind = r.1; split = split ∙ ap (λ f. o.e ∷ f ∷ r.1) f_is; smaller = (r.3, tt); marks = marks }
+      record { front = o.e ∷ []; behind = r.1; split = split ∙ ap (λ f. o.e ∷ f ∷ r.1) f_is; smaller = (r.3, tt); events = events }
 
 -- the symbol behind one, if it has the same hash
 pub next_with : (candidate : Option (ℕ × ℕ)) (behind : List (ℕ × ℕ)) (s k h : ℕ) → candidate ≡ head_of behind → candidate ≡ Some (s, k) → k ≡ h → Some s ≡ leader_with h behind
@@ -177,10 +177,10 @@ hash_placed v b s h before behind split =
     (Each-right (IsEntry v.count b v.hashes) before ((s, h) ∷ behind) each).0.1 0
 
 -- steps one after the other
-pub two_steps : (old a b : List Mark) → a ≡ old ++ step ∷ [] → b ≡ a ++ step ∷ [] → b ≡ old ++ replicate 2 step
+pub two_steps : (old a b : List Event) → a ≡ old ++ step ∷ [] → b ≡ a ++ step ∷ [] → b ≡ old ++ replicate 2 step
 two_steps old a b e f = rw (f, e, append_assoc) refl
 
-pub three_steps : (old a b d : List Mark) → a ≡ old ++ step ∷ [] → b ≡ a ++ step ∷ [] → d ≡ b ++ step ∷ [] → d ≡ old ++ replicate 3 step
+pub three_steps : (old a b d : List Event) → a ≡ old ++ step ∷ [] → b ≡ a ++ step ∷ [] → d ≡ b ++ step ∷ [] → d ≡ old ++ replicate 3 step
 three_steps old a b d e f g = rw (g, f, e, append_assoc, append_assoc) refl
 
 -- the word that is nearest a hash is one of the two

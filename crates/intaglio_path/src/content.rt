@@ -82,7 +82,7 @@ impl<'a> Formed<'a> for PathContent {
 
     ghost form_spelling = { path_text };
 
-    fn lend(&'a self) -> Path<'a> {
+    fn borrow(&'a self) -> Path<'a> {
         PathContent::form(self)
     }
 }

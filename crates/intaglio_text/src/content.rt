@@ -79,7 +79,7 @@ impl<'a> Formed<'a> for StrContent {
 
     ghost form_spelling = { λ text. text.now };
 
-    fn lend(&'a self) -> &'a str {
+    fn borrow(&'a self) -> &'a str {
         self.form()
     }
 }

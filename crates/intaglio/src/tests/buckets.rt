@@ -105,7 +105,7 @@ fn a_shrink_keeps_symbols(rt: HostRuntime) {
     let mut work = Work::new();
     let mut index = filled(&rt, &[13, 3, 23, 8, 14]);
     index.cut(3);
-    index.remake(3, &mut work).expect(&rt, "no memory");
+    index.rebuild(3, &mut work).expect(&rt, "no memory");
     same(&rt, (index.bucket_count(), index.room()), (3, 3));
     meets(&rt, &index, 3, 0, &[1]);
     meets(&rt, &index, 3, 1, &[0]);

@@ -58,7 +58,7 @@ fn forms<'a, C: Formed<'a>>(alloc: Global, contents: &'a [C]) -> Result<Vec<C::F
     let mut forms = Vec::with_capacity(alloc, contents.len())?;
     for content in contents {
         forms.reserve(1)?;
-        forms.push_reserved(content.lend());
+        forms.push_reserved(content.borrow());
     }
     Ok(forms)
 }

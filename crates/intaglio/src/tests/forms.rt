@@ -49,7 +49,7 @@ fn owned_and_borrowed_byte_strings_agree(rt: HostRuntime) -> Result<(), Fail> {
     let owned = BStrContent::Owned([0, 255].to_vec(rt.alloc())?.into());
     same(&rt, borrowed.form().as_bytes(), b"\x00\xff".as_slice());
     same(&rt, owned.form().as_bytes(), b"\x00\xff".as_slice());
-    same(&rt, owned.lend().as_bytes(), b"\x00\xff".as_slice());
+    same(&rt, owned.borrow().as_bytes(), b"\x00\xff".as_slice());
     holds(&rt, is_spelled(&owned, b"\x00\xff"));
     holds(&rt, finds(&owned, &borrowed));
     holds(&rt, finds(&owned.form(), &borrowed));
@@ -72,7 +72,11 @@ fn owned_and_borrowed_c_strings_agree(rt: HostRuntime) -> Result<(), Fail> {
         borrowed.form().to_bytes_with_nul(),
         b"abc\x00".as_slice(),
     );
-    same(&rt, owned.lend().to_bytes_with_nul(), b"abc\x00".as_slice());
+    same(
+        &rt,
+        owned.borrow().to_bytes_with_nul(),
+        b"abc\x00".as_slice(),
+    );
     holds(&rt, is_spelled(&owned, b"abc"));
     holds(&rt, owned.form() == text);
     holds(&rt, finds(&owned, &borrowed));

@@ -137,7 +137,7 @@ where
 {
     let contains = table.contains(symbol);
     let index = if contains {
-        spelled(alloc, Some(table[symbol].lend()))
+        spelled(alloc, Some(table[symbol].borrow()))
     } else {
         Reply::Spelling(None)
     };

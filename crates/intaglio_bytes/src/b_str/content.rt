@@ -83,7 +83,7 @@ impl<'a> Formed<'a> for BStrContent {
 
     ghost form_spelling = { bstr_bytes };
 
-    fn lend(&'a self) -> BStr<'a> {
+    fn borrow(&'a self) -> BStr<'a> {
         self.form()
     }
 }

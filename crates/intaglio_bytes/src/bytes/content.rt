@@ -79,7 +79,7 @@ impl<'a> Formed<'a> for BytesContent {
 
     ghost form_spelling = { λ bytes. bytes.now };
 
-    fn lend(&'a self) -> &'a [u8] {
+    fn borrow(&'a self) -> &'a [u8] {
         self.form()
     }
 }

@@ -88,7 +88,7 @@ pub fn get_or_intern_all<T: Interner, Q: ToContent<T::Content>>(
     let mark = table.mark();
     let hashes = hash_forms(alloc, table, forms, work)?;
     let found = search_forms(alloc, table, forms, &hashes, work)?;
-    let taken = take_forms(alloc, table, forms, &hashes, &found, work);
+    let taken = intern_each_form(alloc, table, forms, &hashes, &found, work);
     if taken.is_err() {
         let _ = table.take_back(mark);
     }
@@ -104,8 +104,8 @@ fn hash_forms<T: Interner, Q: Sought<T::Content>>(
 ) -> Result<Vec<u64>, AllocError>
     ensures hashes { IfOk result (λ hashes.
         hashes.items ≡ map (λ q. T.hash table.now (Q.key q)) forms.now) }
-    ensures cost { OnOk result (work.new.marks ≡ work.old.marks ++ hashings Q.key forms.now) }
-    ensures no_cost { OnErr result (work.new.marks ≡ work.old.marks) }
+    ensures cost { OnOk result (work.new.events ≡ work.old.events ++ hashings Q.key forms.now) }
+    ensures no_cost { OnErr result (work.new.events ≡ work.old.events) }
 {
     let mut hashes = Vec::with_capacity(alloc, forms.len())?;
     for form in forms {
@@ -127,7 +127,7 @@ fn search_forms<T: Interner, Q: Sought<T::Content>>(
         IfOk result (λ found. found.items ≡ map (λ q. first T.Content.key held (Q.key q)) forms.now) }
     ensures cost { OnOk result (Costs work.old work.new
         (SearchesForms T.Content.key Q.key (T.hash table.now) (T.state table.now) forms.now)) }
-    ensures no_cost { OnErr result (work.new.marks ≡ work.old.marks) }
+    ensures no_cost { OnErr result (work.new.events ≡ work.old.events) }
 {
     let mut found = Vec::with_capacity(alloc, forms.len())?;
     for place in 0..forms.len() {
@@ -137,7 +137,7 @@ fn search_forms<T: Interner, Q: Sought<T::Content>>(
 }
 
 // Interns forms that were looked up. After an error, those before the failed one are stored.
-fn take_forms<T: Interner, Q: ToContent<T::Content>>(
+fn intern_each_form<T: Interner, Q: ToContent<T::Content>>(
     alloc: Global,
     table: &mut T,
     forms: &[Q],
@@ -173,13 +173,19 @@ fn take_forms<T: Interner, Q: ToContent<T::Content>>(
 {
     let mut symbols = Vec::with_capacity(alloc, forms.len())?;
     for place in 0..forms.len() {
-        symbols.push_reserved(take_form(table, hashes[place], found[place], &forms[place], work)?);
+        symbols.push_reserved(intern_one_form(
+            table,
+            hashes[place],
+            found[place],
+            &forms[place],
+            work,
+        )?);
     }
     Ok(symbols)
 }
 
 // Interns a form that was looked up.
-fn take_form<T: Interner, Q: ToContent<T::Content>>(
+fn intern_one_form<T: Interner, Q: ToContent<T::Content>>(
     table: &mut T,
     hash: u64,
     found: Option<Symbol>,

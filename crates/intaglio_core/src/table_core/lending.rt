@@ -20,7 +20,7 @@ impl<'a, C: Formed<'a>, S: BuildHasher> Core<C, S> {
         ensures found { IfSome result (λ form.
             IsFound C.key self.now.state (C.key_of (C.form_spelling form)) symbol) }
     {
-        Some(self.get(symbol)?.lend())
+        Some(self.get(symbol)?.borrow())
     }
 
     /// The symbol of the content with the sought key and the form of what is stored, if there is one.

@@ -29,8 +29,8 @@ impl<C: Keyed> Core<C, BuildHasherDefault<FoldHasher>> {
     where
         C: Drop,
         ensures empty { IfOk result (λ t. t.state.contents ≡ []) }
-        ensures rounded { IfOk result (λ t. IsRounded capacity t.state.room) }
-        ensures buckets { IfOk result (λ t. t.state.buckets ≡ t.state.room) }
+        ensures rounded { IfOk result (λ t. IsRounded capacity t.state.spare) }
+        ensures buckets { IfOk result (λ t. t.state.buckets ≡ t.state.spare) }
         ensures limit { IfOk result (λ t. t.state.limit ≡ 2 ^ 32) }
         ensures valid { IfOk result (λ t. IsValid C.key t.state) }
         ensures overflow { (result ≡ Err CapacityOverflow) ↔ (2 ^ 32 < capacity) }

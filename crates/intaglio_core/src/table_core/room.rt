@@ -141,7 +141,7 @@ impl<C: Keyed, S: BuildHasher> Core<C, S> {
             return Ok(());
         }
         let buckets = count.max(min_capacity);
-        self.index.remake(buckets, work)?;
+        self.index.rebuild(buckets, work)?;
         self.list.shrink_to(buckets);
         Ok(())
     }

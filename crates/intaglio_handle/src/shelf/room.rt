@@ -29,7 +29,7 @@ impl Shelf {
     }
 
     pub(crate) fn capacity(&self) -> usize
-        ensures { result ≡ length (seen self.now).state.contents + (seen self.now).state.room }
+        ensures { result ≡ length (seen self.now).state.contents + (seen self.now).state.spare }
     {
         on_table!(self, table => table.capacity())
     }

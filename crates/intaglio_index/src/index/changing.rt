@@ -18,7 +18,7 @@ impl Index {
         ensures count { self.new.count ≡ self.old.count }
         ensures room { self.new.room ≡ self.old.room }
         ensures fits { self.new.room ≤ self.new.count }
-        ensures marks { work.new.marks ≡ work.old.marks ++ placed ∷ [] }
+        ensures events { work.new.events ≡ work.old.events ++ placed ∷ [] }
     {
         work.placed();
         self.insert(hash, symbol);

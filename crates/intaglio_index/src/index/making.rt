@@ -58,13 +58,13 @@ impl Index {
         ensures kept { count ≤ self.old.count → self.new.count ≡ self.old.count }
         ensures none_needed { count ≤ self.old.room → IsOk result }
         ensures unchanged { count ≤ self.old.room → self.new ≡ self.old }
-        ensures quiet { OnErr result (work.new.marks ≡ work.old.marks) }
-        ensures stays { count ≤ self.old.count → work.new.marks ≡ work.old.marks }
+        ensures quiet { OnErr result (work.new.events ≡ work.old.events) }
+        ensures stays { count ≤ self.old.count → work.new.events ≡ work.old.events }
         ensures places { OnOk result (self.old.count < count →
-            work.new.marks ≡ work.old.marks ++ replicate (length self.old.hashes) placed) }
+            work.new.events ≡ work.old.events ++ replicate (length self.old.hashes) placed) }
     {
         if count > self.heads.len() {
-            return self.remake(count, work);
+            return self.rebuild(count, work);
         }
         if count > self.nodes.capacity() {
             self.nodes.reserve(count - self.nodes.len())?;
@@ -78,14 +78,14 @@ impl Index {
     /// # Errors
     ///
     /// [`AllocError`] if an allocation fails. Then the index is unchanged.
-    pub fn remake(&mut self, count: usize, work: &mut Work) -> Result<(), AllocError>
+    pub fn rebuild(&mut self, count: usize, work: &mut Work) -> Result<(), AllocError>
         requires { length self.old.hashes ≤ count }
         ensures count { OnOk result (self.new.count ≡ count) }
         ensures room { OnOk result (self.new.room ≡ count) }
         ensures hashes { self.new.hashes ≡ self.old.hashes }
         ensures err { OnErr result (self.new ≡ self.old) }
-        ensures quiet { OnErr result (work.new.marks ≡ work.old.marks) }
-        ensures places { OnOk result (work.new.marks ≡ work.old.marks ++ replicate (length self.old.hashes) placed) }
+        ensures quiet { OnErr result (work.new.events ≡ work.old.events) }
+        ensures places { OnOk result (work.new.events ≡ work.old.events ++ replicate (length self.old.hashes) placed) }
     {
         *self = self.rebuilt(count, work)?;
         Ok(())
@@ -95,8 +95,8 @@ impl Index {
     fn rebuilt(&self, count: usize, work: &mut Work) -> Result<Index, AllocError>
         requires { length self.now.hashes ≤ count }
         ensures made { IfOk result (λ index. index ≡ record { count = count; hashes = self.now.hashes; room = count }) }
-        ensures quiet { OnErr result (work.new.marks ≡ work.old.marks) }
-        ensures places { OnOk result (work.new.marks ≡ work.old.marks ++ replicate (length self.now.hashes) placed) }
+        ensures quiet { OnErr result (work.new.events ≡ work.old.events) }
+        ensures places { OnOk result (work.new.events ≡ work.old.events ++ replicate (length self.now.hashes) placed) }
     {
         let mut index = Index::with_buckets(self.alloc, count)?;
         for (i, node) in self.nodes.iter().enumerate() {

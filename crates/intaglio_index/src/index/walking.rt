@@ -3,7 +3,7 @@ ghost use Rattle.std.specs.Prelude.{◌≡◌, ◌≢◌, ◌%◌, ◌<◌, ◌+
 ghost use Rattle.std.specs.Option.{option_map};
 ghost use Rattle.std.specs.List.{AllByRecursion};
 ghost use Rattle.std.specs.List.Sorted.{IsPermutation};
-ghost use Rattle.intaglio_content.specs.Work.{Mark, step};
+ghost use Rattle.intaglio_content.specs.Work.{Event, step};
 ghost use Rattle.intaglio_index.specs.Found.{IsFound, IsPassed, IsReached, IsAt};
 ghost use Rattle.intaglio_index.specs.Placed.{chain, members, head_of, leader_of, leader_with, symbols_of, AreSorted, BeginsAtOrAbove, IsPredecessor, IsEntry};
 ghost use Rattle.intaglio_index.specs.Links.{entry_of};
@@ -27,7 +27,7 @@ impl Index {
             (chain self.now (hash % self.now.count)) }
         ensures first { result ≡ head_of (chain self.now (hash % self.now.count)) }
         ensures none { self.now.count ≡ 0 → result ≡ None }
-        ensures marks { work.new.marks ≡ work.old.marks ++ step ∷ [] }
+        ensures events { work.new.events ≡ work.old.events ++ step ∷ [] }
     {
         work.step(); // in an empty bucket too
         if self.heads.is_empty() {
@@ -48,7 +48,7 @@ impl Index {
             (chain self.now (hash % self.now.count)) }
         ensures first { IfSome result (λ found. Some found ≡ head_of (chain self.now (hash % self.now.count))) }
         ensures none { result ≡ None → AllByRecursion (λ placed. placed ≢ hash) self.now.hashes }
-        ensures marks { work.new.marks ≡ work.old.marks ++ step ∷ [] }
+        ensures events { work.new.events ≡ work.old.events ++ step ∷ [] }
     {
         work.step(); // where the filter says no too
         if self.heads.is_empty() {
@@ -68,9 +68,9 @@ impl Index {
     /// high bits of their hashes, so most look-ups read no more of the index than a filter and a head.
     #[inline(always)]
     pub fn find(&self, hash: u64, work: &mut Work) -> Option<Symbol>
-        ensures found { IfSome result (λ symbol. IsFound hash (chain self.now (hash % self.now.count)) work.old.marks work.new.marks symbol) }
+        ensures found { IfSome result (λ symbol. IsFound hash (chain self.now (hash % self.now.count)) work.old.events work.new.events symbol) }
         ensures none { result ≡ None → AllByRecursion (λ placed. placed ≢ hash) self.now.hashes }
-        ensures passed { result ≡ None → IsPassed (chain self.now (hash % self.now.count)) work.old.marks work.new.marks }
+        ensures passed { result ≡ None → IsPassed (chain self.now (hash % self.now.count)) work.old.events work.new.events }
     {
         work.step(); // also where the filter says no
         if self.heads.is_empty() {
@@ -110,14 +110,14 @@ impl Index {
         hash: u64,
         work: &mut Work,
     ) -> Option<Symbol>
-        requires { (start : List Mark) × IsReached hash (chain self.now (hash % self.now.count)) start work.old.marks candidate }
-        ensures found { IfSome result (λ symbol. (start : List Mark) →
-            IsReached hash (chain self.now (hash % self.now.count)) start work.old.marks candidate →
-            IsFound hash (chain self.now (hash % self.now.count)) start work.new.marks symbol) }
+        requires { (start : List Event) × IsReached hash (chain self.now (hash % self.now.count)) start work.old.events candidate }
+        ensures found { IfSome result (λ symbol. (start : List Event) →
+            IsReached hash (chain self.now (hash % self.now.count)) start work.old.events candidate →
+            IsFound hash (chain self.now (hash % self.now.count)) start work.new.events symbol) }
         ensures none { result ≡ None → AllByRecursion (λ placed. placed ≢ hash) self.now.hashes }
-        ensures passed { result ≡ None → (start : List Mark) →
-            IsReached hash (chain self.now (hash % self.now.count)) start work.old.marks candidate →
-            IsPassed (chain self.now (hash % self.now.count)) start work.new.marks }
+        ensures passed { result ≡ None → (start : List Event) →
+            IsReached hash (chain self.now (hash % self.now.count)) start work.old.events candidate →
+            IsPassed (chain self.now (hash % self.now.count)) start work.new.events }
     {
         let mut candidate = candidate;
         while let Some(found) = candidate {
@@ -138,7 +138,7 @@ impl Index {
         requires { symbol < length self.now.hashes }
         ensures next { (b hash : ℕ) (before behind : List (ℕ × ℕ)) →
             chain self.now b ≡ before ++ (symbol, hash) ∷ behind → result ≡ leader_with hash behind }
-        ensures marks { work.new.marks ≡ work.old.marks ++ step ∷ [] }
+        ensures events { work.new.events ≡ work.old.events ++ step ∷ [] }
     {
         work.step(); // also at the bucket's end
         let hash = self.nodes[symbol.id() as usize].hash;
@@ -153,7 +153,7 @@ impl Index {
         requires { symbol < length self.now.hashes }
         ensures next { (b hash : ℕ) (before behind : List (ℕ × ℕ)) →
             chain self.now b ≡ before ++ (symbol, hash) ∷ behind → result ≡ head_of behind }
-        ensures marks { work.new.marks ≡ work.old.marks ++ step ∷ [] }
+        ensures events { work.new.events ≡ work.old.events ++ step ∷ [] }
     {
         work.step(); // at the bucket's end too
         self.behind(symbol)

@@ -80,7 +80,7 @@ impl<'a> Formed<'a> for OsStrContent {
 
     ghost form_spelling = { λ text. text.now };
 
-    fn lend(&'a self) -> &'a str {
+    fn borrow(&'a self) -> &'a str {
         self.form()
     }
 }

@@ -10,7 +10,7 @@ invariant-loop-content g l = record {
   finite : (goal.iterator-loop-content g).is_finite l.content-iterator;
   contents : map (λ it. it.content) l.all.items ≡ l.yielded;
   hashes : AllByRecursion (λ it. it.hash ≡ g.T.Interner.hash l.table (g.T.Content.Keyed.key it.content)) l.all.items;
-  marks : l.work.marks ≡ l.initial.work.marks ++ hashings g.T.Content.Keyed.key l.yielded;
+  events : l.work.events ≡ l.initial.work.events ++ hashings g.T.Content.Keyed.key l.yielded;
   whole : l.yielded ++ into_iter_items l.content-iterator ≡ l.fn.contents.items;
   room : vec_len l.all + into_iter_len l.content-iterator ≤ vec_capacity l.all;
 }

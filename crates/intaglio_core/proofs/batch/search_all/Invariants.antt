@@ -14,7 +14,7 @@ invariant-loop-it g l = record {
   hashes : AllByRecursion (λ it. it.hash ≡ g.T.Interner.hash l.table (g.T.Content.Keyed.key it.content)) l.found.items;
   symbols : AllByRecursion (λ it. IfSome it.symbol (λ s. first g.T.Content.Keyed.key (g.T.Interner.state l.table).contents (g.T.Content.Keyed.key it.content) ≡ Some s)) l.found.items;
   left : AllByRecursion (λ it. it.hash ≡ g.T.Interner.hash l.table (g.T.Content.Keyed.key it.content)) (into_iter_items l.it-iterator);
-  cost : Adds l.initial.work.marks l.work.marks (λ cost. SearchesEach g.T.Content.Keyed.key (g.T.Interner.hash l.table) (g.T.Interner.state l.table) (map (λ it. it.content) l.yielded) cost);
+  cost : Adds l.initial.work.events l.work.events (λ cost. SearchesEach g.T.Content.Keyed.key (g.T.Interner.hash l.table) (g.T.Interner.state l.table) (map (λ it. it.content) l.yielded) cost);
   whole : l.yielded ++ into_iter_items l.it-iterator ≡ l.fn.all.items;
   room : vec_len l.found + into_iter_len l.it-iterator ≤ vec_capacity l.found;
 }

@@ -13,13 +13,13 @@ returns-clause-found g c =
     let key_of = g.T.Content.Content.key_of in
     let spell = g.Q.ToContent.form_spelling in
     let old = g.T.Interner.state c.args.table.now in
-    let new = g.T.Interner.state c.take_forms-taken.new.table in
+    let new = g.T.Interner.state c.intern_each_form-taken.new.table in
     let forms = c.args.forms.now in
-    let issued : IfOk c.take_forms-taken.result (λ symbols. symbols.items ≡ issue_from key_of (map spelling old.contents) (map spell forms)) = search rules in
-    let held : OnOk c.take_forms-taken.result (map spelling new.contents ≡ interned_all key_of (map spelling old.contents) (map spell forms)) = search rules in
+    let issued : IfOk c.intern_each_form-taken.result (λ symbols. symbols.items ≡ issue_from key_of (map spelling old.contents) (map spell forms)) = search rules in
+    let held : OnOk c.intern_each_form-taken.result (map spelling new.contents ≡ interned_all key_of (map spelling old.contents) (map spell forms)) = search rules in
     elim c.if-is_err.branch [
-      | then-is_err w ↦ no-value _ c.take_forms-taken.result (search rules)
-      | else-is_err w ↦ rw w.table-is (on-ok _ _ c.take_forms-taken.result (λ symbols is all. spelled-found key spelling key_of g.met.T.Content.Content.key_of_spelling g.Q.Keyed.key spell g.met.Q.ToContent.key_of_form old new forms symbols.items is all) issued held)
+      | then-is_err w ↦ no-value _ c.intern_each_form-taken.result (search rules)
+      | else-is_err w ↦ rw w.table-is (on-ok _ _ c.intern_each_form-taken.result (λ symbols is all. spelled-found key spelling key_of g.met.T.Content.Content.key_of_spelling g.Q.Keyed.key spell g.met.Q.ToContent.key_of_form old new forms symbols.items is all) issued held)
     ]
 
 pub returns-clause-stored : goal.returns-clause-stored
@@ -29,22 +29,22 @@ returns-clause-stored g c =
     let key_of = g.T.Content.Content.key_of in
     let spell = g.Q.ToContent.form_spelling in
     let old = g.T.Interner.state c.args.table.now in
-    let new = g.T.Interner.state c.take_forms-taken.new.table in
+    let new = g.T.Interner.state c.intern_each_form-taken.new.table in
     let forms = c.args.forms.now in
-    let issued : IfOk c.take_forms-taken.result (λ symbols. symbols.items ≡ issue_from key_of (map spelling old.contents) (map spell forms)) = search rules in
-    let held : OnOk c.take_forms-taken.result (map spelling new.contents ≡ interned_all key_of (map spelling old.contents) (map spell forms)) = search rules in
+    let issued : IfOk c.intern_each_form-taken.result (λ symbols. symbols.items ≡ issue_from key_of (map spelling old.contents) (map spell forms)) = search rules in
+    let held : OnOk c.intern_each_form-taken.result (map spelling new.contents ≡ interned_all key_of (map spelling old.contents) (map spell forms)) = search rules in
     elim c.if-is_err.branch [
-      | then-is_err w ↦ no-value _ c.take_forms-taken.result (search rules)
-      | else-is_err w ↦ rw w.table-is (on-ok _ _ c.take_forms-taken.result (λ symbols is all. spelled-stored key spelling key_of g.met.T.Content.Content.key_of_spelling g.Q.Keyed.key spell g.met.Q.ToContent.key_of_form old new forms symbols.items is all) issued held)
+      | then-is_err w ↦ no-value _ c.intern_each_form-taken.result (search rules)
+      | else-is_err w ↦ rw w.table-is (on-ok _ _ c.intern_each_form-taken.result (λ symbols is all. spelled-stored key spelling key_of g.met.T.Content.Content.key_of_spelling g.Q.Keyed.key spell g.met.Q.ToContent.key_of_form old new forms symbols.items is all) issued held)
     ]
 
 pub returns-clause-kept : goal.returns-clause-kept
 returns-clause-kept g c =
     let old = g.T.Interner.state c.args.table.now in
-    let mid = g.T.Interner.state c.take_forms-taken.new.table in
+    let mid = g.T.Interner.state c.intern_each_form-taken.new.table in
     elim c.if-is_err.branch [
       | then-is_err w ↦
-          let front : take (length old.contents) mid.contents ≡ old.contents = err-then c.take_forms-taken.result (search rules) c.take_forms-taken.ensures.begins (λ h. h) in
-          rw w.table-is (same_contents-keeps g.T.Content.Keyed.key old (g.T.Interner.state w.take_back.new.self) (taken-back old mid _ _ w.take_back.result c.mark-mark.ensures.mark front w.take_back.ensures.step))
-      | else-is_err w ↦ rw w.table-is c.take_forms-taken.ensures.kept
+          let front : take (length old.contents) mid.contents ≡ old.contents = err-then c.intern_each_form-taken.result (search rules) c.intern_each_form-taken.ensures.begins (λ h. h) in
+          rw w.table-is (same_contents-keeps g.T.Content.Keyed.key old (g.T.Interner.state w.take_back.new.self) (taken-back old mid _ _ w.take_back.result c.mark-mark.ensures.event front w.take_back.ensures.step))
+      | else-is_err w ↦ rw w.table-is c.intern_each_form-taken.ensures.kept
     ]

@@ -7,7 +7,7 @@ use Rattle.intaglio_core.proofs.batch.forms.search_forms.Given as goal
 abbrev pub invariant-loop-place : goal.invariant-loop-place
 invariant-loop-place g l = record {
   symbols : l.found.items ≡ map (λ q. first g.T.Content.Keyed.key (g.T.Interner.state l.table).contents (g.Q.Keyed.key q)) (take l.place l.forms);
-  cost : Adds l.initial.work.marks l.work.marks (SearchesForms g.T.Content.Keyed.key g.Q.Keyed.key (g.T.Interner.hash l.table) (g.T.Interner.state l.table) (take l.place l.forms));
+  cost : Adds l.initial.work.events l.work.events (SearchesForms g.T.Content.Keyed.key g.Q.Keyed.key (g.T.Interner.hash l.table) (g.T.Interner.state l.table) (take l.place l.forms));
   count : vec_len l.found ≡ l.place;
   room : length l.forms ≤ vec_capacity l.found;
 }

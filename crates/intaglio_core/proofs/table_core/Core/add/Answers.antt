@@ -30,4 +30,4 @@ returns-clause-cost g c =
     let enough : length c.self.inside.list.items ≤ c.self.inside.index.count = omega (arith, c.self.invariant.within, c.self.invariant.fits) in
     let kept : length c.self.inside.list.items < c.self.inside.index.count → c.place.new.self.count ≡ c.self.inside.index.count = λ h. c.place.ensures.count ∙ c.in_ok-find_room.ensures.place.kept h in
     let more : c.self.inside.index.count ≤ length c.self.inside.list.items → min c.self.inside.limit (max 4 (2 * c.self.inside.index.count)) ≤ c.place.new.self.count = λ h. rw c.place.ensures.count (c.in_ok-find_room.ensures.place.grown h) in
-    rw (← c.self.view_is) (add-cost _ _ c.new-symbol.result c.args.work.now.marks c.find_room.new.work.marks c.place.new.work.marks below enough kept more c.in_ok-find_room.ensures.place.quiet c.in_ok-find_room.ensures.place.placed_again c.place.ensures.marks)
+    rw (← c.self.view_is) (add-cost _ _ c.new-symbol.result c.args.work.now.events c.find_room.new.work.events c.place.new.work.events below enough kept more c.in_ok-find_room.ensures.place.quiet c.in_ok-find_room.ensures.place.placed_again c.place.ensures.events)

@@ -7,4 +7,4 @@ use Rattle.intaglio_core.proofs.table_core.Core.get_or_intern.Goals as goal
 pub returns-clause-cost : goal.returns-clause-cost
 returns-clause-cost g c =
     let hash = key_hash g.S.Hasher.Hasher.finish g.S.Hasher.Hasher.write (g.S.BuildHasher.build_hasher c.args.self.now.hasher) in
-    mark-first (InternCost g.C.Keyed.key hash c.args.self.now.state (g.Q.Keyed.key c.args.form.now) c.get_or_intern_hashed.result c.get_or_intern_hashed.new.self.state) (hashed (g.Q.Keyed.key c.args.form.now)) _ _ _ c.hash_with-hash.ensures.mark c.get_or_intern_hashed.ensures.cost
+    mark-first (InternCost g.C.Keyed.key hash c.args.self.now.state (g.Q.Keyed.key c.args.form.now) c.get_or_intern_hashed.result c.get_or_intern_hashed.new.self.state) (hashed (g.Q.Keyed.key c.args.form.now)) _ _ _ c.hash_with-hash.ensures.event c.get_or_intern_hashed.ensures.cost

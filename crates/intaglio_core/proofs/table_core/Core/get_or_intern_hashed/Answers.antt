@@ -32,4 +32,4 @@ returns-in-None-clause-refused g c =
 
 pub returns-in-None-clause-cost : goal.returns-in-None-clause-cost
 returns-in-None-clause-cost g c =
-    intern-cost g.C.Keyed.key (key_hash g.S.Hasher.Hasher.finish g.S.Hasher.Hasher.write (g.S.BuildHasher.build_hasher c.args.self.now.hasher)) c.add_copy.result c.args.self.now.state c.add_copy.new.self.state (g.Q.Keyed.key c.args.form.now) c.args.work.now.marks c.search_hashed.new.work.marks c.add_copy.new.work.marks (sym c.in-None.ensures.found) c.in-None.ensures.cost c.add_copy.ensures.cost
+    intern-cost g.C.Keyed.key (key_hash g.S.Hasher.Hasher.finish g.S.Hasher.Hasher.write (g.S.BuildHasher.build_hasher c.args.self.now.hasher)) c.add_copy.result c.args.self.now.state c.add_copy.new.self.state (g.Q.Keyed.key c.args.form.now) c.args.work.now.events c.search_hashed.new.work.events c.add_copy.new.work.events (sym c.in-None.ensures.found) c.in-None.ensures.cost c.add_copy.ensures.cost

@@ -7,4 +7,4 @@ use Rattle.intaglio_core.proofs.table_core.Core.intern.Goals as goal
 pub returns-clause-cost : goal.returns-clause-cost
 returns-clause-cost g c =
     let hash = key_hash g.S.Hasher.Hasher.finish g.S.Hasher.Hasher.write (g.S.BuildHasher.build_hasher c.args.self.now.hasher) in
-    mark-first (InternCost g.C.Keyed.key hash c.args.self.now.state (g.C.Keyed.key c.args.content) c.intern_hashed.result c.intern_hashed.new.self.state) (hashed (g.C.Keyed.key c.args.content)) _ _ _ c.hash_with-hash.ensures.mark c.intern_hashed.ensures.cost
+    mark-first (InternCost g.C.Keyed.key hash c.args.self.now.state (g.C.Keyed.key c.args.content) c.intern_hashed.result c.intern_hashed.new.self.state) (hashed (g.C.Keyed.key c.args.content)) _ _ _ c.hash_with-hash.ensures.event c.intern_hashed.ensures.cost

@@ -28,4 +28,4 @@ returns-in-None-clause-others g c =
 
 pub returns-in-None-clause-cost : goal.returns-in-None-clause-cost
 returns-in-None-clause-cost g c =
-    intern-cost g.C.Keyed.key (key_hash g.S.Hasher.Hasher.finish g.S.Hasher.Hasher.write (g.S.BuildHasher.build_hasher c.args.self.now.hasher)) c.add.result c.args.self.now.state c.add.new.self.state (g.C.Keyed.key c.args.content) c.args.work.now.marks c.search_hashed.new.work.marks c.add.new.work.marks (sym c.in-None.ensures.found) c.in-None.ensures.cost c.add.ensures.cost
+    intern-cost g.C.Keyed.key (key_hash g.S.Hasher.Hasher.finish g.S.Hasher.Hasher.write (g.S.BuildHasher.build_hasher c.args.self.now.hasher)) c.add.result c.args.self.now.state c.add.new.self.state (g.C.Keyed.key c.args.content) c.args.work.now.events c.search_hashed.new.work.events c.add.new.work.events (sym c.in-None.ensures.found) c.in-None.ensures.cost c.add.ensures.cost

@@ -8,4 +8,4 @@ pub returns-clause-cost : goal.returns-clause-cost
 returns-clause-cost g c =
     let hash = key_hash g.S.Hasher.Hasher.finish g.S.Hasher.Hasher.write (g.S.BuildHasher.build_hasher c.self.inside.hasher) in
     let size : length c.self.inside.index.hashes ≤ length c.self.inside.list.items = rw c.self.invariant.hashes (omega (arith, length-map c.self.inside.list.items (λ (x : _). hash (g.C.Keyed.key x)))) in
-    rw (← c.self.view_is) (reserve-cost _ c.reserve-2.result c.self.inside.index.count (c.len-count.result + c.args.additional) (length c.self.inside.index.hashes) c.args.work.now.marks c.reserve-2.new.work.marks size c.reserve-2.ensures.stays c.reserve-2.ensures.places c.reserve-2.ensures.quiet)
+    rw (← c.self.view_is) (reserve-cost _ c.reserve-2.result c.self.inside.index.count (c.len-count.result + c.args.additional) (length c.self.inside.index.hashes) c.args.work.now.events c.reserve-2.new.work.events size c.reserve-2.ensures.stays c.reserve-2.ensures.places c.reserve-2.ensures.quiet)

@@ -12,4 +12,4 @@ returns-clause-within g c =
 pub returns-clause-cost : goal.returns-clause-cost
 returns-clause-cost g c =
     let hash = key_hash g.S.Hasher.Hasher.finish g.S.Hasher.Hasher.write (g.S.BuildHasher.build_hasher c.args.self.now.hasher) in
-    mark-first (SearchCost g.C.Keyed.key hash c.args.self.now.state (g.Q.Keyed.key c.args.sought.now)) (hashed (g.Q.Keyed.key c.args.sought.now)) _ _ _ c.hash_with-hash.ensures.mark c.search_hashed.ensures.cost
+    mark-first (SearchCost g.C.Keyed.key hash c.args.self.now.state (g.Q.Keyed.key c.args.sought.now)) (hashed (g.Q.Keyed.key c.args.sought.now)) _ _ _ c.hash_with-hash.ensures.event c.search_hashed.ensures.cost

@@ -35,12 +35,12 @@ bounds-contents-id g c = rw c.id.ensures (within c.in-Some.symbol (rw c.in-Some.
 
 pub returns-then-same_as-clause-found : goal.returns-then-same_as-clause-found
 returns-then-same_as-clause-found g c =
-    let found = finds c.in-Some.symbol c.index-contents-id.result _ (rw c.in-Some.is at c.loop-candidate.invariant) (rw (← c.id.ensures) c.index-contents-id.is) (c.if-same_as.ensures.same.0 refl) c.if-same_as.ensures.mark in
+    let found = finds c.in-Some.symbol c.index-contents-id.result _ (rw c.in-Some.is at c.loop-candidate.invariant) (rw (← c.id.ensures) c.index-contents-id.is) (c.if-same_as.ensures.same.0 refl) c.if-same_as.ensures.event in
     rw (← c.self.view_is) (rw c.as_slice-contents.ensures.value at found.0)
 
 pub returns-then-same_as-clause-cost : goal.returns-then-same_as-clause-cost
 returns-then-same_as-clause-cost g c =
-    let found = finds c.in-Some.symbol c.index-contents-id.result _ (rw c.in-Some.is at c.loop-candidate.invariant) (rw (← c.id.ensures) c.index-contents-id.is) (c.if-same_as.ensures.same.0 refl) c.if-same_as.ensures.mark in
+    let found = finds c.in-Some.symbol c.index-contents-id.result _ (rw c.in-Some.is at c.loop-candidate.invariant) (rw (← c.id.ensures) c.index-contents-id.is) (c.if-same_as.ensures.same.0 refl) c.if-same_as.ensures.event in
     rw (← c.self.view_is) (rw (c.as_slice-contents.ensures.value, ← c.self.view_is) at found.1)
 
 pub find_next-candidate-requires : goal.find_next-candidate-requires
@@ -54,8 +54,8 @@ loop-candidate-smaller g c =
 
 pub loop-candidate-preserved : goal.loop-candidate-preserved
 loop-candidate-preserved g c =
-    goes_on c.in-Some.symbol c.index-contents-id.result _ _ _ (rw c.in-Some.is at c.loop-candidate.invariant) (rw (← c.id.ensures) c.index-contents-id.is) (λ e. false≢true (c.if-same_as.ensures.same.1 e)) c.if-same_as.ensures.mark
-    c.find_next-candidate.ensures.marks c.find_next-candidate.ensures.next
+    goes_on c.in-Some.symbol c.index-contents-id.result _ _ _ (rw c.in-Some.is at c.loop-candidate.invariant) (rw (← c.id.ensures) c.index-contents-id.is) (λ e. false≢true (c.if-same_as.ensures.same.1 e)) c.if-same_as.ensures.event
+    c.find_next-candidate.ensures.events c.find_next-candidate.ensures.next
 
 pub returns-clause-found : goal.returns-clause-found
 returns-clause-found g c =

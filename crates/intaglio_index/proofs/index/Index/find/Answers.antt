@@ -2,7 +2,7 @@ use Rattle.std.proofs.Common.{◌≡◌, ◌≢◌, ◌⊎◌, ℕ, List, ◌∷
 use Rattle.std.proofs.lemmas.Bool.{eqb-false, true≢false}
 use Rattle.std.proofs.lemmas.List.{length-map}
 use Rattle.intaglio_index.specs.declared.index.Node.{Node}
-use Rattle.intaglio_content.specs.Work.{Mark}
+use Rattle.intaglio_content.specs.Work.{Event}
 use Rattle.intaglio_index.specs.Placed.{Placed, chain, head_of}
 use Rattle.intaglio_index.specs.Found.{IsReached, IsFound}
 use Rattle.intaglio_index.proofs.FilterLemmas.{marked_some}
@@ -40,10 +40,10 @@ pub returns-then-hash-head-clause-none : goal.returns-then-hash-head-clause-none
 returns-then-hash-head-clause-none c =
     let all = (goal.at.returns-then-hash-head-clause-none c).After-agrees in
     let end : (c.args.hash < c.index-head.result.now.second) ⊎ (c.index-head.result.now.first ≡ c.index-head.result.now.second) = elim c.then-hash-head.either [ inl l ↦ inl l | inr p ↦ inr p.1 ] in
-    λ e. absent_by_head _ _ _ _ (omega arith) (occupied all) c.args.work.now.marks c.args.work.now.marks (first_differs all c.if-not-agrees.true) (second_differs all c.if-not-agrees.true) end
+    λ e. absent_by_head _ _ _ _ (omega arith) (occupied all) c.args.work.now.events c.args.work.now.events (first_differs all c.if-not-agrees.true) (second_differs all c.if-not-agrees.true) end
 
 pub returns-then-hash-head-clause-passed : goal.returns-then-hash-head-clause-passed
-returns-then-hash-head-clause-passed c = λ e. record { more = 0; few = omega arith; marks = c.step.ensures }
+returns-then-hash-head-clause-passed c = λ e. record { more = 0; few = omega arith; events = c.step.ensures }
 
 pub symbol-second-requires-clause-number : goal.symbol-second-requires-clause-number
 symbol-second-requires-clause-number c =
@@ -55,7 +55,7 @@ behind-requires c = rw c.symbol-second.ensures (second_within _ _ _ _ (occupied 
 
 reached : (c : After-symbol-second) (candidate : Option (ℕ × ℕ)) →
     ((b hash : ℕ) (before behind : List (ℕ × ℕ)) → chain c.args.self.now b ≡ before ++ (c.symbol-second.result, hash) ∷ behind → candidate ≡ head_of behind) →
-    IsReached c.args.hash (chain c.args.self.now (c.args.hash % c.args.self.now.count)) c.args.work.now.marks c.step-then-not-agrees-2.new.self.marks candidate
+    IsReached c.args.hash (chain c.args.self.now (c.args.hash % c.args.self.now.count)) c.args.work.now.events c.step-then-not-agrees-2.new.self.events candidate
 reached c candidate after =
     let all = (goal.at.After-symbol-second c).After-agrees in
     let some : 0 < c.self.inside.modulus.mask + 1 = omega arith in
@@ -64,18 +64,18 @@ reached c candidate after =
     (λ b hash before behind split. after b hash before behind (split ∙ ap (λ s. before ++ (s, hash) ∷ behind) (sym c.symbol-second.ensures)))
 
 pub find_along-requires : goal.find_along-requires
-find_along-requires c = (c.args.work.now.marks, reached (goal.at.find_along-requires c).After-symbol-second c.behind.result c.behind.ensures.next)
+find_along-requires c = (c.args.work.now.events, reached (goal.at.find_along-requires c).After-symbol-second c.behind.result c.behind.ensures.next)
 
 pub returns-then-not-agrees-clause-found : goal.returns-then-not-agrees-clause-found
 returns-then-not-agrees-clause-found c =
     let at = reached (goal.at.returns-then-not-agrees-clause-found c).After-symbol-second c.behind.result c.behind.ensures.next in
     let path : List (ℕ × ℕ) = chain c.args.self.now (c.args.hash % c.args.self.now.count) in
-    each_some (λ s. (start : List Mark) → IsReached c.args.hash path start c.step-then-not-agrees-2.new.self.marks c.behind.result → IsFound c.args.hash path start c.find_along.new.work.marks s)
-    (λ s. IsFound c.args.hash path c.args.work.now.marks c.find_along.new.work.marks s) c.find_along.result (λ s f. f c.args.work.now.marks at) c.find_along.ensures.found
+    each_some (λ s. (start : List Event) → IsReached c.args.hash path start c.step-then-not-agrees-2.new.self.events c.behind.result → IsFound c.args.hash path start c.find_along.new.work.events s)
+    (λ s. IsFound c.args.hash path c.args.work.now.events c.find_along.new.work.events s) c.find_along.result (λ s f. f c.args.work.now.events at) c.find_along.ensures.found
 
 pub returns-then-not-agrees-clause-passed : goal.returns-then-not-agrees-clause-passed
 returns-then-not-agrees-clause-passed c =
-    λ e. c.find_along.ensures.passed e c.args.work.now.marks (reached (goal.at.returns-then-not-agrees-clause-passed c).After-symbol-second c.behind.result c.behind.ensures.next)
+    λ e. c.find_along.ensures.passed e c.args.work.now.events (reached (goal.at.returns-then-not-agrees-clause-passed c).After-symbol-second c.behind.result c.behind.ensures.next)
 
 pub symbol-symbol-requires-clause-number : goal.symbol-symbol-requires-clause-number
 symbol-symbol-requires-clause-number c =

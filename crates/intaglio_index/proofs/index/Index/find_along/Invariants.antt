@@ -1,5 +1,5 @@
 use Rattle.std.proofs.Common.{◌%◌, List, length}
-use Rattle.intaglio_content.specs.Work.{Mark}
+use Rattle.intaglio_content.specs.Work.{Event}
 use Rattle.intaglio_index.specs.Found.{IsReached}
 use Rattle.intaglio_index.specs.Placed.{chain}
 use Rattle.intaglio_index.proofs.WalkLemmas.{rest_of}
@@ -7,9 +7,9 @@ use Rattle.intaglio_index.proofs.index.Index.find_along.Given as goal
 
 abbrev pub invariant-loop-candidate : goal.invariant-loop-candidate
 invariant-loop-candidate l = record {
-  reached : (start : List Mark) × IsReached l.hash (chain l.self (l.hash % l.self.count)) start l.work.marks l.candidate;
-  since : (start : List Mark) → IsReached l.hash (chain l.self (l.hash % l.self.count)) start l.fn.work.marks l.fn.candidate →
-      IsReached l.hash (chain l.self (l.hash % l.self.count)) start l.work.marks l.candidate;
+  reached : (start : List Event) × IsReached l.hash (chain l.self (l.hash % l.self.count)) start l.work.events l.candidate;
+  since : (start : List Event) → IsReached l.hash (chain l.self (l.hash % l.self.count)) start l.fn.work.events l.fn.candidate →
+      IsReached l.hash (chain l.self (l.hash % l.self.count)) start l.work.events l.candidate;
 }
 
 abbrev pub decreases-loop-candidate : goal.decreases-loop-candidate

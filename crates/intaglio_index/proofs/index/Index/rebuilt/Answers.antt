@@ -2,12 +2,12 @@ use Rattle.std.proofs.Common.{◌≡◌, ℕ, ◌<◌, length, get_or, ◌+◌, 
 use Rattle.std.proofs.lemmas.List.{take_more, length-map, get_or-map, get_or_read}
 use Rattle.intaglio_index.specs.declared.index.Node.{Node}
 use Rattle.std.proofs.lemmas.Grind.{replicate_next}
-use Rattle.intaglio_content.specs.Work.{Mark, placed}
+use Rattle.intaglio_content.specs.Work.{Event, placed}
 use Rattle.intaglio_index.specs.Links.{hashes_of}
 use Rattle.intaglio_index.proofs.index.Index.rebuilt.Goals as goal
 
-marks-push : (start between after : List Mark) (n : ℕ) (m : Mark) → between ≡ start ++ replicate n m → after ≡ between ++ m ∷ [] → after ≡ start ++ replicate (n + 1) m
-marks-push start between after n m e f = rw (f, e, replicate_next n m, append_assoc) refl
+events-push : (start between after : List Event) (n : ℕ) (m : Event) → between ≡ start ++ replicate n m → after ≡ between ++ m ∷ [] → after ≡ start ++ replicate (n + 1) m
+events-push start between after n m e f = rw (f, e, replicate_next n m, append_assoc) refl
 
 pub loop-i-preserved : goal.loop-i-preserved
 loop-i-preserved c =
@@ -21,5 +21,5 @@ loop-i-preserved c =
       count = c.place.ensures.count ∙ c.loop-i.invariant.count;
       hashes = rw (← c.self.view_is, more) hashes_now;
       room = c.place.ensures.room ∙ c.loop-i.invariant.room;
-      marks = marks-push _ _ _ c.loop-i.i placed c.loop-i.invariant.marks c.place.ensures.marks;
+      events = events-push _ _ _ c.loop-i.i placed c.loop-i.invariant.events c.place.ensures.events;
     }

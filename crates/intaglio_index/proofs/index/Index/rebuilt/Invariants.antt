@@ -7,5 +7,5 @@ invariant-loop-i l = record {
   count : l.index.count ≡ l.count;
   hashes : l.index.hashes ≡ take l.i l.self.hashes;
   room : l.index.room ≡ l.count;
-  marks : l.work.marks ≡ l.initial.work.marks ++ replicate l.i placed;
+  events : l.work.events ≡ l.initial.work.events ++ replicate l.i placed;
 }
