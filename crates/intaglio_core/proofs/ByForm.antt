@@ -1,7 +1,7 @@
 -- Forms that are looked up or interned in order, with what that costs, and one form more.
 use Rattle.std.proofs.Common.{◌≡◌, ◌⊎◌, ◌∙◌, inl, inr, sym, ℕ, suc, ◌+◌, ◌<◌, cond, List, [], ◌∷◌, ◌++◌, length, map, take, drop, get_or, Option, Some, None, IfSome, option_map, Ok, Err, Result, MatchOption, is_some, unwrap_or, length-append, append_assoc, append-nil, refl, ap, arith}
 use Rattle.std.specs.Prelude.{slice_get}
-use Rattle.std.proofs.lemmas.List.{length-map, map-append, get_or-map, intern_each, take_more, take-append-drop}
+use Rattle.std.proofs.lemmas.List.{length-map, map-append, get_or-map, take_all, take_more, take-append-drop}
 use Rattle.std.proofs.lemmas.Option.{slice_get-map}
 use Rattle.intaglio_content.specs.Key.{Key}
 use Rattle.intaglio_content.specs.Work.{Event}
@@ -37,7 +37,7 @@ pub taken-back : {C : Type 0} (old mid new : State C) (n : ℕ) (r : Result (Uni
     → new.contents ≡ old.contents
 taken-back old mid new n (Ok u) at front step = step.contents ∙ ap (λ m. take m mid.contents) at ∙ front
 taken-back {C} old mid new n (Err e) at front step =
-    let whole = intern_each (length old.contents) mid.contents (omega (arith, step.0, at)) in
+    let whole = take_all (length old.contents) mid.contents (omega (arith, step.0, at)) in
     ap (λ (s : State C). s.contents) step.1 ∙ sym whole ∙ front
 
 module _ {C Q : Type 0} (key : C → Key) (form_key : Q → Key) (hash : Key → ℕ) where

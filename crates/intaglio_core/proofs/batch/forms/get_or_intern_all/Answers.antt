@@ -45,6 +45,6 @@ returns-clause-kept g c =
     elim c.if-is_err.branch [
       | then-is_err w ↦
           let front : take (length old.contents) mid.contents ≡ old.contents = err-then c.intern_each_form-taken.result (search rules) c.intern_each_form-taken.ensures.begins (λ h. h) in
-          rw w.table-is (same_contents-keeps g.T.Content.Keyed.key old (g.T.Interner.state w.take_back.new.self) (taken-back old mid _ _ w.take_back.result c.mark-mark.ensures.event front w.take_back.ensures.step))
+          rw w.table-is (same_contents-keeps g.T.Content.Keyed.key old (g.T.Interner.state w.take_back.new.self) (taken-back old mid _ _ w.take_back.result c.mark-mark.ensures.mark front w.take_back.ensures.step))
       | else-is_err w ↦ rw w.table-is c.intern_each_form-taken.ensures.kept
     ]

@@ -1,5 +1,5 @@
 use Rattle.std.proofs.Common.{◌≡◌, ◌∙◌, ◌+◌, ◌<◌, length, take, drop, Err, arith, rules}
-use Rattle.std.proofs.lemmas.List.{intern_each}
+use Rattle.std.proofs.lemmas.List.{take_all}
 use Rattle.intaglio_core.proofs.ByForm.{next-part, whole-parts, InternsForm-limit, InternsEachForm-issues, Adds-form, stops-forms, overflows-forms}
 use Rattle.intaglio_core.proofs.Laws.{keeps-then, keeps-front}
 use Rattle.intaglio_core.proofs.Room.{InternsForm-roomier}
@@ -46,12 +46,12 @@ returns-in_err-intern_one_form-clause-overflow g c =
 
 pub returns-clause-symbols : goal.returns-clause-symbols
 returns-clause-symbols g c =
-    let all : take c.loop-place.place c.args.forms.now ≡ c.args.forms.now = intern_each c.loop-place.place c.args.forms.now (search rules) in
+    let all : take c.loop-place.place c.args.forms.now ≡ c.args.forms.now = take_all c.loop-place.place c.args.forms.now (search rules) in
     let issues = InternsEachForm-issues g.T.Content.Keyed.key g.T.Content.Content.spelling g.T.Content.Content.key_of g.met.T.Content.Content.key_of_spelling g.Q.Keyed.key g.Q.ToContent.form_spelling g.met.Q.ToContent.key_of_form _ _ _ _ _ _ c.loop-place.invariant.ran.2 in
     rw all at issues.0
 
 pub returns-clause-held : goal.returns-clause-held
 returns-clause-held g c =
-    let all : take c.loop-place.place c.args.forms.now ≡ c.args.forms.now = intern_each c.loop-place.place c.args.forms.now (search rules) in
+    let all : take c.loop-place.place c.args.forms.now ≡ c.args.forms.now = take_all c.loop-place.place c.args.forms.now (search rules) in
     let issues = InternsEachForm-issues g.T.Content.Keyed.key g.T.Content.Content.spelling g.T.Content.Content.key_of g.met.T.Content.Content.key_of_spelling g.Q.Keyed.key g.Q.ToContent.form_spelling g.met.Q.ToContent.key_of_form _ _ _ _ _ _ c.loop-place.invariant.ran.2 in
     rw all at issues.1
