@@ -18,7 +18,7 @@ impl Shelf {
         capacity: usize,
         keys: KeyedState,
     ) -> Result<Shelf, RoomError>
-        ensures made { IfOk result (λ shelf. seen shelf ≡ record { kind = kind; state = record { contents = []; room = capacity; buckets = capacity; limit = 2 ^ 32 }; hasher = keys }) }
+        ensures made { IfOk result (λ shelf. seen shelf ≡ record { kind = kind; state = record { contents = []; spare = capacity; buckets = capacity; limit = 2 ^ 32 }; hasher = keys }) }
         ensures overflow { (result ≡ Err CapacityOverflow) ↔ (2 ^ 32 < capacity) }
     {
         Ok(match kind {
@@ -38,7 +38,7 @@ impl Shelf {
         limit: usize,
         keys: KeyedState,
     ) -> Result<Shelf, RoomError>
-        ensures made { IfOk result (λ shelf. seen shelf ≡ record { kind = kind; state = record { contents = []; room = 0; buckets = 0; limit = limit }; hasher = keys }) }
+        ensures made { IfOk result (λ shelf. seen shelf ≡ record { kind = kind; state = record { contents = []; spare = 0; buckets = 0; limit = limit }; hasher = keys }) }
         ensures overflow { (result ≡ Err CapacityOverflow) ↔ ((limit ≡ 0) ⊎ (2 ^ 32 < limit)) }
     {
         Ok(match kind {
