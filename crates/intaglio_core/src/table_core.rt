@@ -6,7 +6,7 @@ ghost use Rattle.intaglio_symbol.specs.AllSymbols.{numbers_from};
 ghost use Rattle.intaglio_index.specs.Change.{KeepsPlaces};
 ghost use Rattle.intaglio_core.specs.State.{first, IsValid};
 ghost use Rattle.intaglio_core.specs.Change.{Interns, Takes};
-ghost use Rattle.intaglio_core.specs.Lookup.{IsFound, IsStored, Keeps, FindsOthers};
+ghost use Rattle.intaglio_core.specs.Lookup.{IsFound, IsStored, Keeps, FindsInterned, FindsOthers};
 ghost use Rattle.intaglio_core.specs.Cost.{Costs, SearchCost, InternCost, KnownSearchCost, KnownInternCost};
 ghost use Rattle.intaglio_core.specs.Indexed.{AddCost, HasPlaces, FindsPlace, FindsNoPlace};
 
@@ -186,7 +186,8 @@ impl<C: Keyed, S: BuildHasher> Core<C, S> {
         ensures others { FindsOthers C.key self.old.state (C.key content) self.new.state }
         ensures refused { OnErr result (self.new.state.contents ≡ self.old.state.contents) }
         ensures cost { let hash = hash_of S.BuildHasher S.Hasher.Hasher self.old.hasher in
-            Costs work.old work.new (InternCost C.key hash self.old.state (C.key content) result self.new.state) }
+            let cost = InternCost C.key hash self.old.state in
+            Costs work.old work.new (cost (C.key content) result self.new.state) }
         ensures hasher { self.new.hasher ≡ self.old.hasher }
         ensures valid { IsValid C.key self.new.state }
     {
@@ -206,13 +207,10 @@ impl<C: Keyed, S: BuildHasher> Core<C, S> {
         C: Sought<C> + Drop,
         requires hash { hash ≡ hash_of S.BuildHasher S.Hasher.Hasher self.old.hasher (C.key content) }
         ensures step { Interns C.key self.old.state content result self.new.state }
-        ensures found { IfOk result (IsFound C.key self.new.state (C.key content)) }
-        ensures stored { IfOk result (IsStored C.key self.new.state (C.key content)) }
-        ensures kept { Keeps C.key self.old.state self.new.state }
-        ensures others { FindsOthers C.key self.old.state (C.key content) self.new.state }
-        ensures refused { OnErr result (self.new.state.contents ≡ self.old.state.contents) }
+        ensures interned { FindsInterned C.key self.old.state (C.key content) result self.new.state }
         ensures cost { let hash = hash_of S.BuildHasher S.Hasher.Hasher self.old.hasher in
-            Costs work.old work.new (KnownInternCost C.key hash self.old.state (C.key content) result self.new.state) }
+            let cost = KnownInternCost C.key hash self.old.state in
+            Costs work.old work.new (cost (C.key content) result self.new.state) }
         ensures hasher { self.new.hasher ≡ self.old.hasher }
         ensures valid { IsValid C.key self.new.state }
     {

@@ -3,7 +3,7 @@ ghost use Rattle.std.specs.Prelude.{◌≡◌, None, IfOk, OnErr};
 ghost use Rattle.intaglio_content.specs.Key.{hash_of};
 ghost use Rattle.intaglio_core.specs.State.{first, IsValid};
 ghost use Rattle.intaglio_core.specs.Change.{InternsForm, TakesCopy};
-ghost use Rattle.intaglio_core.specs.Lookup.{IsFound, IsStored, Keeps, FindsOthers};
+ghost use Rattle.intaglio_core.specs.Lookup.{IsFound, IsStored, Keeps, FindsInterned, FindsOthers};
 ghost use Rattle.intaglio_core.specs.Cost.{Costs, InternCost, KnownInternCost};
 ghost use Rattle.intaglio_core.specs.Indexed.{AddCost};
 
@@ -42,7 +42,8 @@ impl<C: Content + Drop, S: BuildHasher> Core<C, S> {
         ensures others { FindsOthers C.key self.old.state (Q.key form.now) self.new.state }
         ensures refused { OnErr result (self.new.state.contents ≡ self.old.state.contents) }
         ensures cost { let hash = hash_of S.BuildHasher S.Hasher.Hasher self.old.hasher in
-            Costs work.old work.new (InternCost C.key hash self.old.state (Q.key form.now) result self.new.state) }
+            let cost = InternCost C.key hash self.old.state in
+            Costs work.old work.new (cost (Q.key form.now) result self.new.state) }
         ensures hasher { self.new.hasher ≡ self.old.hasher }
         ensures valid { IsValid C.key self.new.state }
     {
@@ -61,13 +62,10 @@ impl<C: Content + Drop, S: BuildHasher> Core<C, S> {
         requires hash { hash ≡ hash_of S.BuildHasher S.Hasher.Hasher self.old.hasher (Q.key form.now) }
         ensures step { let interns = InternsForm C.key C.spelling self.old.state in
             interns (Q.key form.now) (Q.form_spelling form.now) result self.new.state }
-        ensures found { IfOk result (IsFound C.key self.new.state (Q.key form.now)) }
-        ensures stored { IfOk result (IsStored C.key self.new.state (Q.key form.now)) }
-        ensures kept { Keeps C.key self.old.state self.new.state }
-        ensures others { FindsOthers C.key self.old.state (Q.key form.now) self.new.state }
-        ensures refused { OnErr result (self.new.state.contents ≡ self.old.state.contents) }
+        ensures interned { FindsInterned C.key self.old.state (Q.key form.now) result self.new.state }
         ensures cost { let hash = hash_of S.BuildHasher S.Hasher.Hasher self.old.hasher in
-            Costs work.old work.new (KnownInternCost C.key hash self.old.state (Q.key form.now) result self.new.state) }
+            let cost = KnownInternCost C.key hash self.old.state in
+            Costs work.old work.new (cost (Q.key form.now) result self.new.state) }
         ensures hasher { self.new.hasher ≡ self.old.hasher }
         ensures valid { IsValid C.key self.new.state }
     {
