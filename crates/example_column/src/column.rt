@@ -26,7 +26,9 @@ impl Model for Column {
 
     ghost view = { λ column. rows_of column.texts.state.contents column.codes.items };
 
-    ghost invariant = { λ column. column.codes.items ≡ issue row_key (rows_of column.texts.state.contents column.codes.items) };
+    ghost invariant = { λ column.
+        let rows = rows_of column.texts.state.contents column.codes.items in
+        column.codes.items ≡ issue row_key rows };
 }
 
 impl Column {

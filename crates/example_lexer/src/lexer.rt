@@ -54,8 +54,10 @@ pub fn lex(
 pub fn have_same_text(texts: &SymbolTable, one: Symbol, other: Symbol) -> bool
     requires one { one < length texts.now.state.contents }
     requires other { other < length texts.now.state.contents }
-    ensures { IsTrue result ↔ (text_of texts.now.state.contents one ≡ text_of texts.now.state.contents other) }
+    ensures { let held = texts.now.state.contents in
+        IsTrue result ↔ (text_of held one ≡ text_of held other) }
 {
+    // Not used when run: a call of the table shows the prover that its texts are distinct.
     let _count = texts.len();
     one == other
 }

@@ -1,6 +1,6 @@
 //! What a table stores, and what can be looked up in it.
 ghost use Rattle.std.specs.Prelude.{◌≡◌, ℕ, List, [], ◌∷◌, ◌++◌, ◌↔◌, IsTrue, IfOk};
-ghost use Rattle.intaglio_content.specs.Key.{Key, key_hash};
+ghost use Rattle.intaglio_content.specs.Key.{Key, hash_of};
 ghost use Rattle.intaglio_content.specs.Work.{hashed, compared};
 
 use crate::work::Work;
@@ -49,13 +49,14 @@ pub trait LookedUp<'q>: Content {
 pub trait Sought<C: Keyed>: Keyed {
     /// Hashes the key with a new hasher of the builder, and returns the result.
     fn hash_with<S: BuildHasher>(&self, builder: &S, work: &mut Work) -> u64
-        ensures hash { result ≡ key_hash S.Hasher.finish S.Hasher.write (S.build_hasher builder.now) (Self.key self.now) }
+        ensures hash { result ≡ hash_of S.BuildHasher S.Hasher.Hasher builder.now (Self.key self.now) }
         ensures event { work.new.events ≡ work.old.events ++ hashed (Self.key self.now) ∷ [] };
 
     /// Whether the keys of `self` and of the stored content are equal.
     fn same_as(&self, stored: &C, work: &mut Work) -> bool
         ensures same { IsTrue result ↔ (Self.key self.now ≡ C.key stored.now) }
-        ensures event { work.new.events ≡ work.old.events ++ compared (Self.key self.now) (C.key stored.now) ∷ [] };
+        ensures event { work.new.events
+            ≡ work.old.events ++ compared (Self.key self.now) (C.key stored.now) ∷ [] };
 }
 
 /// A borrowed form of a content of type `C`: it can be looked up, and copied into a

@@ -12,7 +12,7 @@ use Rattle.std.proofs.lemmas.Map.Keys.{apart_from_distinct, IsDistinct-from_apar
 use Rattle.intaglio_index.proofs.ChainLemmas.{eqb-equal, eqb-unequal, Each-weaker, Each-left, Each-right, Each-append, places-complete, chain-permutation, chain-sorted, chain-entries}
 use Rattle.intaglio_index.proofs.LinkLemmas.{both, each_symbol}
 use Rattle.intaglio_index.proofs.WalkLemmas.{rest_of, rest_of-at, rest_of-none, some_rest}
-use Rattle.intaglio_index.specs.Placed.{Placed, places_from, head_of, members, chain, symbols_of, AreSorted, IsEntry}
+use Rattle.intaglio_index.specs.Placed.{Placed, places_from, head_of, chain, symbols_of, AreSorted, IsEntry}
 use Rattle.intaglio_content.specs.Key.{Key}
 use Rattle.intaglio_content.specs.Work.{Event, hashed, compared, step}
 use Rattle.intaglio_core.specs.State.{first_of, key_eq, AreDistinct}

@@ -1,5 +1,5 @@
 -- What holds of look-ups, for the proofs of callers: what is found after an interning, a rollback or a clear, and where.
-use Rattle.std.proofs.Common.{◌≡◌, ◌≢◌, ◌∙◌, sym, ap, refl, arith, ℕ, zero, suc, ◌+◌, ◌<◌, ◌≤◌, Bool, true, false, cond, List, [], ◌∷◌, ◌++◌, length, map, take, drop, get_or, Option, Some, None, option_map, option_copied, unwrap_or, is_some, Result, Ok, Err, IfSome, IfOk, OnErr, inl, inr}
+use Rattle.std.proofs.Common.{◌≡◌, ◌≢◌, ◌∙◌, sym, ap, refl, arith, ℕ, zero, suc, ◌+◌, ◌<◌, ◌≤◌, Bool, true, false, cond, List, [], ◌∷◌, ◌++◌, length, map, take, drop, get_or, Option, Some, None, option_map, option_copied, unwrap_or, is_some, Result, Ok, Err, IfSome, inl, inr}
 use Rattle.std.specs.Prelude.{slice_get, ◌↔◌}
 use Rattle.std.specs.Borrow.{Bor}
 use Rattle.std.proofs.lemmas.Option.{same_Some, slice_get_within, get_or_from_slice_get}
@@ -7,7 +7,7 @@ use Rattle.std.proofs.lemmas.List.{length-map, get_or-map, length-take-le, take-
 use Rattle.intaglio_content.specs.Key.{Key}
 use Rattle.intaglio_core.specs.State.{State, key_eq, first, IsValid}
 use Rattle.intaglio_core.specs.Change.{Interns, Takes, TakesCopy, IsCut, Empties}
-use Rattle.intaglio_core.specs.Lookup.{IsFound, FindsNothing, FindsOthers, IsStored, Keeps, KeepsBelow, FindsEach, StoresEach}
+use Rattle.intaglio_core.specs.Lookup.{IsFound, FindsNothing, FindsOthers, FindsInterned, IsStored, Keeps, KeepsBelow, FindsEach, StoresEach}
 use Rattle.intaglio_core.specs.Issue.{issued, interned, issue_from, interned_all}
 use Rattle.intaglio_core.proofs.First.{key_eq-decides, key_eq-unequal, first-append, first-some, some-below, or_at}
 use Rattle.intaglio_core.proofs.Held.{first-still, content-still, slice_get-front}
@@ -157,16 +157,18 @@ module _ {C : Type 0} (key : C → Key) where
       rw (Interns-ok key old new c i step).1 (cond-others (is_some (first key old.contents (key c))) old.contents c k n)
   interned-others old new c (Err e) step k n = rw (Interns-refused key old new c e step) refl
 
-  -- what an interning lets its callers see
-  pub record IsInterned (old : State C) (k : Key) (r : Result ℕ InternError) (new : State C) : Type 0 where
-    pub found : IfOk r (IsFound key new k)
-    pub stored : IfOk r (IsStored key new k)
-    pub kept : Keeps key old new
-    pub others : FindsOthers key old k new
-    pub refused : OnErr r (new.contents ≡ old.contents)
+  -- where the key was there
+  pub found_again : (s : State C) (k : Key) (i : ℕ) → IsFound key s k i → FindsInterned key s k (Ok i) s
+  found_again s k i found = record {
+    found = found;
+    stored = found-stored s k i found;
+    kept = same_contents-keeps s s refl;
+    others = λ other n. refl;
+    refused = tt;
+  }
 
-  -- whatever it returned
-  pub interned_clauses : (old new : State C) (c : C) (r : Result ℕ InternError) → Interns key old c r new → IsInterned old (key c) r new
+  -- after an interning, whatever it returned
+  pub interned_clauses : (old new : State C) (c : C) (r : Result ℕ InternError) → Interns key old c r new → FindsInterned key old (key c) r new
   interned_clauses old new c (Ok i) step = record {
     found = interned-found old new c i step;
     stored = interned-stored old new c i step;
@@ -183,11 +185,11 @@ module _ {C : Type 0} (key : C → Key) where
   }
 
   -- also where the content isn't there yet
-  pub taken : (old new : State C) (c : C) (r : Result ℕ InternError) → first key old.contents (key c) ≡ None → Takes old c r new → IsInterned old (key c) r new
+  pub taken : (old new : State C) (c : C) (r : Result ℕ InternError) → first key old.contents (key c) ≡ None → Takes old c r new → FindsInterned key old (key c) r new
   taken old new c r none step = interned_clauses old new c r (rw none step)
 
   -- an interning that is refused leaves what its callers see
-  refused_clauses : (old new : State C) (k : Key) (e : InternError) → new.contents ≡ old.contents → IsInterned old k (Err e) new
+  refused_clauses : (old new : State C) (k : Key) (e : InternError) → new.contents ≡ old.contents → FindsInterned key old k (Err e) new
   refused_clauses old new k e same = record {
     found = tt;
     stored = tt;
@@ -197,7 +199,7 @@ module _ {C : Type 0} (key : C → Key) where
   }
 
   -- and where a copy of a form is taken
-  pub copied : (spelling : C → List ℕ) (old new : State C) (k : Key) (w : List ℕ) (r : Result ℕ InternError) → first key old.contents k ≡ None → TakesCopy key spelling old k w r new → IsInterned old k r new
+  pub copied : (spelling : C → List ℕ) (old new : State C) (k : Key) (w : List ℕ) (r : Result ℕ InternError) → first key old.contents k ≡ None → TakesCopy key spelling old k w r new → FindsInterned key old k r new
   copied spelling old new k w (Ok i) none step =
       let absent : first key old.contents (key step.copy) ≡ None = rw step.same_key none in
       rw step.same_key at (taken old new step.copy (Ok i) absent step.taken)

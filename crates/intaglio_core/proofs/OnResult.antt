@@ -1,5 +1,5 @@
 -- What follows from the clauses of a call, by what it returned.
-use Rattle.std.proofs.Common.{◌≡◌, Bool, true, false, Result, Ok, Err, IfOk, OnOk, OnErr, is_err}
+use Rattle.std.proofs.Common.{◌≡◌, true, false, Result, Ok, Err, IfOk, OnOk, OnErr, is_err}
 
 -- what follows from two clauses of the value in an `Ok`
 pub on-ok : {V E Q : Type 0} (P R : V → Type 0) (r : Result V E) → ((v : V) → P v → Q → R v) → IfOk r P → OnOk r Q → IfOk r R

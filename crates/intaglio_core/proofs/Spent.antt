@@ -4,8 +4,11 @@ use Rattle.std.proofs.lemmas.Bool.{cases_lt}
 use Rattle.std.specs.declared.alloc.AllocError.{AllocError}
 use Rattle.intaglio_content.specs.Key.{Key}
 use Rattle.intaglio_content.specs.Work.{Event, hashed, placed}
+use Rattle.intaglio_content.specs.declared.work.Work.{Work}
+use Rattle.intaglio_index.specs.Placed.{Placed}
+use Rattle.intaglio_index.specs.Change.{KeepsBuckets, PlacesEach}
 use Rattle.intaglio_core.specs.State.{State, first}
-use Rattle.intaglio_core.specs.Cost.{hashed_keys, stored_keys, step_count, placed_count, Adds, IsGrowthCost, IsRoomCost, KnownSearchCost, KnownInternCost}
+use Rattle.intaglio_core.specs.Cost.{hashed_keys, stored_keys, step_count, placed_count, Adds, Costs, IsGrowthCost, IsRoomCost, KnownSearchCost, KnownInternCost}
 use Rattle.intaglio_symbol.specs.declared.symbol.Symbol.{Symbol}
 use Rattle.intaglio_symbol.specs.declared.error.InternError.{InternError}
 use Rattle.intaglio_core.specs.Indexed.{AddCost}
@@ -74,15 +77,15 @@ pub no-room-cost : {C : Type 0} (s : State C) (before after : List Event) → af
 no-room-cost s before after e = room-cost s 0 before after (omega arith) (e ∙ sym (append-nil before))
 
 -- what a reservation of the index costs
-pub reserve-cost : {C : Type 0} (s : State C) (result : Result (Unit {0}) AllocError) (count wanted n : ℕ) (before after : List Event)
-    → n ≤ length s.contents → (wanted ≤ count → after ≡ before) → OnOk result (count < wanted → after ≡ before ++ replicate n placed) → OnErr result (after ≡ before)
-    → Adds before after (IsRoomCost s)
-reserve-cost s (Ok _) count wanted n before after le stays places quiet =
-    elim (cases_lt count wanted) [
-      | inl more ↦ room-cost s n before after le (places more)
-      | inr enough ↦ no-room-cost s before after (stays enough)
+pub reserve-cost : {C : Type 0} (s : State C) (result : Result (Unit {0}) AllocError) (wanted : ℕ) (old new : Placed) (before after : Work)
+    → length old.hashes ≤ length s.contents → (wanted ≤ old.count → KeepsBuckets old new before after) → OnOk result (old.count < wanted → PlacesEach old before after)
+    → OnErr result (KeepsBuckets old new before after) → Costs before after (IsRoomCost s)
+reserve-cost s (Ok _) wanted old new before after le stays places err =
+    elim (cases_lt old.count wanted) [
+      | inl more ↦ room-cost s (length old.hashes) before.events after.events le (places more)
+      | inr enough ↦ no-room-cost s before.events after.events (stays enough).quiet
     ]
-reserve-cost s (Err _) count wanted n before after le stays places quiet = no-room-cost s before after quiet
+reserve-cost s (Err _) wanted old new before after le stays places err = no-room-cost s before.events after.events err.quiet
 
 -- what new buckets cost
 pub rebuild-cost : {C : Type 0} (s : State C) (result : Result (Unit {0}) AllocError) (n : ℕ) (before after : List Event)

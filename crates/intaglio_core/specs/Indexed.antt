@@ -37,12 +37,6 @@ pub record HasPlaces (n limit : ℕ) (index : Placed) : Type 0 where
   pub fits : index.room ≤ index.count
   pub within : n ≤ index.room
 
--- placed symbols stay placed, and the room isn't less
-pub record KeepsPlaces (old new : Placed) : Type 0 where
-  pub hashes : new.hashes ≡ old.hashes
-  pub room : old.room ≤ new.room
-  pub fits : new.room ≤ new.count
-
 -- there is room for more than n symbols. If the buckets were full, they grew
 -- and all symbols were placed again
 pub record FindsPlace (n limit : ℕ) (old new : Placed) (before after : Work) : Type 0 where

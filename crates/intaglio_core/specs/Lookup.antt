@@ -1,7 +1,8 @@
 -- What look-ups find, before and after a call.
-use Rattle.std.specs.Prelude.{◌≡◌, ◌≢◌, ℕ, ◌<◌, ◌≤◌, List, Some, None, slice_get}
+use Rattle.std.specs.Prelude.{◌≡◌, ◌≢◌, ℕ, ◌<◌, ◌≤◌, List, Some, None, slice_get, Result, IfOk, OnErr}
 use Rattle.intaglio_content.specs.Key.{Key}
 use Rattle.intaglio_core.specs.State.{State, first}
+use Rattle.intaglio_symbol.specs.declared.error.InternError.{InternError}
 
 module _ {C : Type 0} (key : C → Key) where
   -- a look-up of the key finds this symbol
@@ -27,7 +28,16 @@ module _ {C : Type 0} (key : C → Key) where
     pub stored : (i : ℕ) (c : C) → slice_get old.contents i ≡ Some c → slice_get new.contents i ≡ Some c
     pub found : (k : Key) (i : ℕ) → IsFound old k i → IsFound new k i
 
-  -- the same for the symbols below n, and no other symbol is found
+  -- after an interning, by its result: the key is found at its symbol, whose content has it. Earlier contents
+  -- keep their symbols and are found as before, and an error leaves the contents unchanged
+  pub record FindsInterned (old : State C) (k : Key) (result : Result ℕ InternError) (new : State C) : Type 0 where
+    pub found : IfOk result (IsFound new k)
+    pub stored : IfOk result (IsStored new k)
+    pub kept : Keeps old new
+    pub others : FindsOthers old k new
+    pub refused : OnErr result (new.contents ≡ old.contents)
+
+  -- symbols below n keep their contents and are found as before, and no other symbol is found
   pub record KeepsBelow (old : State C) (n : ℕ) (new : State C) : Type 0 where
     pub stored : (i : ℕ) (c : C) → i < n → slice_get old.contents i ≡ Some c → slice_get new.contents i ≡ Some c
     pub found : (k : Key) (i : ℕ) → i < n → IsFound old k i → IsFound new k i

@@ -4,7 +4,7 @@ use Rattle.intaglio_content.specs.Key.{Key}
 use Rattle.intaglio_content.specs.Work.{Event}
 use Rattle.intaglio_core.specs.State.{State, IsValid}
 use Rattle.intaglio_core.specs.Change.{HasNoLessRoom}
-use Rattle.intaglio_core.specs.Cost.{InOrder, placed_count}
+use Rattle.intaglio_core.specs.Cost.{InOrder, hashed_keys, placed_count}
 use Rattle.intaglio_core.specs.Issue.{issue}
 use Rattle.intaglio_core.specs.Step.{Step, StepCost}
 use Rattle.intaglio_core.specs.declared.run.Call.{Call}
@@ -30,6 +30,10 @@ module _ {C : Type 0} (key : C → Key) where
   searched_keys (GetInterned c ∷ calls) = key c ∷ searched_keys calls
   searched_keys (IsInterned c ∷ calls) = key c ∷ searched_keys calls
   searched_keys (_ ∷ calls) = searched_keys calls
+
+-- the sought keys alone are hashed, each once, in the order of the calls
+abbrev pub HashesOnce : {C : Type 0} → (C → Key) → List (Call C) → List Event → Type 0
+HashesOnce key calls cost = hashed_keys cost ≡ searched_keys key calls
 
 -- an interning or a look-up
 abbrev pub KeepsContents : {C : Type 0} → Call C → Type 0

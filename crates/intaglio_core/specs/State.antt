@@ -1,7 +1,8 @@
 -- What contracts see of a table.
-use Rattle.std.specs.Prelude.{◌≢◌, ℕ, ◌+◌, ◌^◌, ◌≤◌, Bool, if◌then◌else◌, List, [], ◌∷◌, length, map, Option, Some, None, option_map, AllPairs}
+use Rattle.std.specs.Prelude.{◌≢◌, ℕ, ◌+◌, ◌^◌, ◌≤◌, Bool, if◌then◌else◌, List, [], ◌∷◌, length, map, zip, slice_get, Option, Some, None, option_map, AllPairs}
 use Rattle.std.specs.Str.{bytes_eq}
 use Rattle.std.specs.Cmp.Lexicographic.{pointwise}
+use Rattle.intaglio_symbol.specs.AllSymbols.{numbers_from}
 use Rattle.intaglio_content.specs.Key.{Key}
 
 -- the contents in the order of their symbols, the spare capacity, the number of buckets, and the limit: the
@@ -17,10 +18,20 @@ pub record Table (C S : Type 0) : Type 0 where
   pub state : State C
   pub hasher : S
 
--- no contents yet, and this capacity
+-- no contents yet, this capacity and this limit
+abbrev pub empty_state : {C : Type 0} → ℕ → ℕ → State C
+empty_state capacity limit = record { contents = []; spare = capacity; buckets = capacity; limit = limit }
+
 abbrev pub empty_table : {C S : Type 0} → ℕ → ℕ → S → Table C S
-empty_table capacity limit hasher =
-    record { state = record { contents = []; spare = capacity; buckets = capacity; limit = limit }; hasher = hasher }
+empty_table capacity limit hasher = record { state = empty_state capacity limit; hasher = hasher }
+
+-- the spelling of a symbol's content
+abbrev pub spelling_at : {C : Type 0} → (C → List ℕ) → State C → ℕ → Option (List ℕ)
+spelling_at spelling s i = option_map spelling (slice_get s.contents i)
+
+-- the symbols of all contents with their spellings, in order
+abbrev pub pairs_of : {C : Type 0} → (C → List ℕ) → State C → List (ℕ × List ℕ)
+pairs_of spelling s = zip (numbers_from 0 (length s.contents)) (map spelling s.contents)
 
 -- whether two keys are equal
 abbrev pub key_eq : Key → Key → Bool

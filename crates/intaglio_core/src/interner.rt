@@ -1,6 +1,7 @@
 //! What every symbol table does, for code that is generic over tables.
-ghost use Rattle.std.specs.Prelude.{◌≡◌, ℕ, ◌++◌, ◌∷◌, [], length, slice_get, option_copied, IfOk, IfSome, OnOk, OnErr};
-ghost use Rattle.intaglio_content.specs.Key.{Key, key_hash};
+ghost use Rattle.std.specs.Prelude.{◌≡◌, ℕ, ◌++◌, ◌∷◌, [], length, slice_get, option_copied};
+ghost use Rattle.std.specs.Prelude.{IfOk, IfSome, OnOk, OnErr};
+ghost use Rattle.intaglio_content.specs.Key.{Key, hash_of};
 ghost use Rattle.intaglio_content.specs.Work.{hashed};
 ghost use Rattle.intaglio_core.specs.State.{State, first, IsValid};
 ghost use Rattle.intaglio_core.specs.Lookup.{IsFound, IsStored, Keeps, KeepsBelow, FindsOthers, FindsNothing};
@@ -42,11 +43,11 @@ pub trait Interner {
         ensures found { IfOk result (IsFound Self.Content.key (state self.new) (Self.Content.key content)) }
         ensures stored { IfOk result (IsStored Self.Content.key (state self.new) (Self.Content.key content)) }
         ensures kept { Keeps Self.Content.key (state self.old) (state self.new) }
-        ensures others { FindsOthers Self.Content.key (state self.old) (Self.Content.key content) (state self.new) }
+        ensures others { let k = Self.Content.key content in
+            FindsOthers Self.Content.key (state self.old) k (state self.new) }
         ensures refused { OnErr result ((state self.new).contents ≡ (state self.old).contents) }
-        ensures cost { let k = Self.Content.key content in
-            Costs work.old work.new
-            (InternCost Self.Content.key (hash self.old) (state self.old) k result (state self.new)) }
+        ensures cost { let cost = InternCost Self.Content.key (hash self.old) (state self.old) in
+            Costs work.old work.new (cost (Self.Content.key content) result (state self.new)) }
         ensures same_hash { hash self.new ≡ hash self.old }
         ensures valid { IsValid Self.Content.key (state self.new) };
 
@@ -70,11 +71,11 @@ pub trait Interner {
         ensures found { IfOk result (IsFound Self.Content.key (state self.new) (Self.Content.key content)) }
         ensures stored { IfOk result (IsStored Self.Content.key (state self.new) (Self.Content.key content)) }
         ensures kept { Keeps Self.Content.key (state self.old) (state self.new) }
-        ensures others { FindsOthers Self.Content.key (state self.old) (Self.Content.key content) (state self.new) }
+        ensures others { let k = Self.Content.key content in
+            FindsOthers Self.Content.key (state self.old) k (state self.new) }
         ensures refused { OnErr result ((state self.new).contents ≡ (state self.old).contents) }
-        ensures cost { let k = Self.Content.key content in
-            Costs work.old work.new
-            (KnownInternCost Self.Content.key (hash self.old) (state self.old) k result (state self.new)) }
+        ensures cost { let cost = KnownInternCost Self.Content.key (hash self.old) (state self.old) in
+            Costs work.old work.new (cost (Self.Content.key content) result (state self.new)) }
         ensures same_hash { hash self.new ≡ hash self.old }
         ensures valid { IsValid Self.Content.key (state self.new) };
 
@@ -92,16 +93,15 @@ pub trait Interner {
         work: &mut Work,
     ) -> Result<Symbol, InternError>
         requires known { known_hash ≡ hash self.old (Q.key form.now) }
-        ensures step { let k = Q.key form.now in
-            InternsForm Self.Content.key Self.Content.spelling (state self.old) k (Q.form_spelling form.now) result (state self.new) }
+        ensures step { let interns = InternsForm Self.Content.key Self.Content.spelling (state self.old) in
+            interns (Q.key form.now) (Q.form_spelling form.now) result (state self.new) }
         ensures found { IfOk result (IsFound Self.Content.key (state self.new) (Q.key form.now)) }
         ensures stored { IfOk result (IsStored Self.Content.key (state self.new) (Q.key form.now)) }
         ensures kept { Keeps Self.Content.key (state self.old) (state self.new) }
         ensures others { FindsOthers Self.Content.key (state self.old) (Q.key form.now) (state self.new) }
         ensures refused { OnErr result ((state self.new).contents ≡ (state self.old).contents) }
-        ensures cost { let k = Q.key form.now in
-            Costs work.old work.new
-            (KnownInternCost Self.Content.key (hash self.old) (state self.old) k result (state self.new)) }
+        ensures cost { let cost = KnownInternCost Self.Content.key (hash self.old) (state self.old) in
+            Costs work.old work.new (cost (Q.key form.now) result (state self.new)) }
         ensures same_hash { hash self.new ≡ hash self.old }
         ensures valid { IsValid Self.Content.key (state self.new) };
 
@@ -114,8 +114,8 @@ pub trait Interner {
     ) -> Option<Symbol>
         requires known { known_hash ≡ hash self.now (Q.key sought.now) }
         ensures found { result ≡ first Self.Content.key (state self.now).contents (Q.key sought.now) }
-        ensures cost { let k = Q.key sought.now in
-            Costs work.old work.new (KnownSearchCost Self.Content.key (hash self.now) (state self.now) k) }
+        ensures cost { let cost = KnownSearchCost Self.Content.key (hash self.now) (state self.now) in
+            Costs work.old work.new (cost (Q.key sought.now)) }
         ensures valid { IsValid Self.Content.key (state self.now) };
 
     /// The symbol of the content that is equal to this content or form, if there is one.
@@ -125,8 +125,8 @@ pub trait Interner {
         work: &mut Work,
     ) -> Option<Symbol>
         ensures found { result ≡ first Self.Content.key (state self.now).contents (Q.key sought.now) }
-        ensures cost { let k = Q.key sought.now in
-            Costs work.old work.new (SearchCost Self.Content.key (hash self.now) (state self.now) k) }
+        ensures cost { let cost = SearchCost Self.Content.key (hash self.now) (state self.now) in
+            Costs work.old work.new (cost (Q.key sought.now)) }
         ensures valid { IsValid Self.Content.key (state self.now) };
 
     /// Reserves capacity for `additional` more contents.
@@ -195,7 +195,7 @@ impl<C: Content + Sought<C> + Drop, S: BuildHasher> Interner for Core<C, S> {
 
     ghost state = { λ t. t.state };
 
-    ghost hash = { λ t. key_hash S.Hasher.finish S.Hasher.write (S.build_hasher t.hasher) };
+    ghost hash = { λ t. hash_of S.BuildHasher S.Hasher.Hasher t.hasher };
 
     fn intern_counted(&mut self, content: C, work: &mut Work) -> Result<Symbol, InternError> {
         self.intern(content, work)

@@ -1,10 +1,10 @@
 //! A list of calls, made in order on any table.
 ghost use Rattle.std.specs.Prelude.{◌≡◌, ◌≢◌, [], IfOk, IsOk, OnOk, OnErr};
 ghost use Rattle.intaglio_core.specs.State.{IsValid};
-ghost use Rattle.intaglio_core.specs.Cost.{Costs, SearchCost, hashed_keys};
+ghost use Rattle.intaglio_core.specs.Cost.{Costs, SearchCost};
 ghost use Rattle.intaglio_core.specs.Step.{Step, StepCost};
-ghost use Rattle.intaglio_core.specs.Run.{Runs, PlacesFew, HoldsRoom, HonoursRoom};
-ghost use Rattle.intaglio_core.specs.Run.{IssuesInOrder, searched_keys};
+ghost use Rattle.intaglio_core.specs.Run.{Runs, HashesOnce, PlacesFew, HoldsRoom, HonoursRoom};
+ghost use Rattle.intaglio_core.specs.Run.{IssuesInOrder};
 
 use crate::interner::Interner;
 use intaglio_content::{Spelled, Work};
@@ -84,16 +84,15 @@ pub fn run<T: Interner>(
 where
     T::Content: Spelled,
     // Each call is a step of the plain list, at its cost, and leaves a valid table.
-    ensures ok { IfOk result (λ replies. Costs work.old work.new (λ cost.
-        Runs T.Content.key T.Content.spelling (T.hash table.old)
-        (T.state table.old) calls.items replies.items cost (T.state table.new))) }
+    ensures ok { let runs = Runs T.Content.key T.Content.spelling (T.hash table.old) (T.state table.old) in
+        IfOk result (λ replies. Costs work.old work.new (λ cost.
+        runs calls.items replies.items cost (T.state table.new))) }
 
     // Over the whole run: which symbols are issued, what is hashed, what is
     // placed, and which capacity is kept.
     ensures issues { IfOk result (λ replies.
         IssuesInOrder T.Content.key (T.state table.old) calls.items replies.items) }
-    ensures hashes { OnOk result (Costs work.old work.new (λ cost.
-        hashed_keys cost ≡ searched_keys T.Content.key calls.items)) }
+    ensures hashes { OnOk result (Costs work.old work.new (HashesOnce T.Content.key calls.items)) }
     ensures growth { OnOk result
         (Costs work.old work.new (PlacesFew (T.state table.old) calls.items (T.state table.new))) }
     ensures capacity { OnOk result (HoldsRoom (T.state table.old) calls.items (T.state table.new)) }

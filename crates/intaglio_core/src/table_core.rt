@@ -1,13 +1,14 @@
 //! A list of contents with an index over it.
 ghost use Rattle.std.specs.Prelude.{◌≡◌, ◌+◌, ◌^◌, ◌<◌, ◌≤◌, ◌↔◌, [], length, slice_get, vec_capacity};
 ghost use Rattle.std.specs.Prelude.{option_copied, None, IfSome, IfOk, IsTrue, OnOk, OnErr};
-ghost use Rattle.intaglio_content.specs.Key.{Key, key_hash};
+ghost use Rattle.intaglio_content.specs.Key.{hash_of};
 ghost use Rattle.intaglio_symbol.specs.AllSymbols.{numbers_from};
+ghost use Rattle.intaglio_index.specs.Change.{KeepsPlaces};
 ghost use Rattle.intaglio_core.specs.State.{first, IsValid};
 ghost use Rattle.intaglio_core.specs.Change.{Interns, Takes};
-ghost use Rattle.intaglio_core.specs.Lookup.{IsFound, IsStored, Keeps, FindsOthers};
+ghost use Rattle.intaglio_core.specs.Lookup.{IsFound, IsStored, Keeps, FindsInterned, FindsOthers};
 ghost use Rattle.intaglio_core.specs.Cost.{Costs, SearchCost, InternCost, KnownSearchCost, KnownInternCost};
-ghost use Rattle.intaglio_core.specs.Indexed.{AddCost, HasPlaces, KeepsPlaces, FindsPlace, FindsNoPlace};
+ghost use Rattle.intaglio_core.specs.Indexed.{AddCost, HasPlaces, FindsPlace, FindsNoPlace};
 
 mod forms;
 mod lending;
@@ -32,7 +33,7 @@ pub struct Core<C: Keyed, S: BuildHasher> {
 
 impl<C: Keyed, S: BuildHasher> Model for Core<C, S> {
     ghost use Rattle.std.specs.Prelude.{◌-◌, length, min, vec_capacity};
-    ghost use Rattle.intaglio_content.specs.Key.{key_hash};
+    ghost use Rattle.intaglio_content.specs.Key.{hash_of};
     ghost use Rattle.intaglio_core.specs.State.{Table};
     ghost use Rattle.intaglio_core.specs.Indexed.{IsIndexed};
 
@@ -49,7 +50,7 @@ impl<C: Keyed, S: BuildHasher> Model for Core<C, S> {
     } };
 
     ghost invariant = { λ t.
-        let hash = key_hash S.Hasher.finish S.Hasher.write (S.build_hasher t.hasher) in
+        let hash = hash_of S.BuildHasher S.Hasher.Hasher t.hasher in
         IsIndexed C.key hash t.list.items t.index t.limit };
 }
 
@@ -128,7 +129,7 @@ impl<C: Keyed, S: BuildHasher> Core<C, S> {
     pub fn search<Q: Sought<C>>(&self, sought: &Q, work: &mut Work) -> Option<Symbol>
         ensures found { result ≡ first C.key self.now.state.contents (Q.key sought.now) }
         ensures within { IfSome result (λ symbol. symbol < length self.now.state.contents) }
-        ensures cost { let hash = key_hash S.Hasher.finish S.Hasher.write (S.build_hasher self.now.hasher) in
+        ensures cost { let hash = hash_of S.BuildHasher S.Hasher.Hasher self.now.hasher in
             Costs work.old work.new (SearchCost C.key hash self.now.state (Q.key sought.now)) }
         ensures valid { IsValid C.key self.now.state }
     {
@@ -144,9 +145,9 @@ impl<C: Keyed, S: BuildHasher> Core<C, S> {
         sought: &Q,
         work: &mut Work,
     ) -> Option<Symbol>
-        requires hash { hash ≡ key_hash S.Hasher.finish S.Hasher.write (S.build_hasher self.now.hasher) (Q.key sought.now) }
+        requires hash { hash ≡ hash_of S.BuildHasher S.Hasher.Hasher self.now.hasher (Q.key sought.now) }
         ensures found { result ≡ first C.key self.now.state.contents (Q.key sought.now) }
-        ensures cost { let hash = key_hash S.Hasher.finish S.Hasher.write (S.build_hasher self.now.hasher) in
+        ensures cost { let hash = hash_of S.BuildHasher S.Hasher.Hasher self.now.hasher in
             Costs work.old work.new (KnownSearchCost C.key hash self.now.state (Q.key sought.now)) }
         ensures valid { IsValid C.key self.now.state }
     {
@@ -184,8 +185,9 @@ impl<C: Keyed, S: BuildHasher> Core<C, S> {
         ensures kept { Keeps C.key self.old.state self.new.state }
         ensures others { FindsOthers C.key self.old.state (C.key content) self.new.state }
         ensures refused { OnErr result (self.new.state.contents ≡ self.old.state.contents) }
-        ensures cost { let hash = key_hash S.Hasher.finish S.Hasher.write (S.build_hasher self.old.hasher) in
-            Costs work.old work.new (InternCost C.key hash self.old.state (C.key content) result self.new.state) }
+        ensures cost { let hash = hash_of S.BuildHasher S.Hasher.Hasher self.old.hasher in
+            let cost = InternCost C.key hash self.old.state in
+            Costs work.old work.new (cost (C.key content) result self.new.state) }
         ensures hasher { self.new.hasher ≡ self.old.hasher }
         ensures valid { IsValid C.key self.new.state }
     {
@@ -203,15 +205,12 @@ impl<C: Keyed, S: BuildHasher> Core<C, S> {
     ) -> Result<Symbol, InternError>
     where
         C: Sought<C> + Drop,
-        requires hash { hash ≡ key_hash S.Hasher.finish S.Hasher.write (S.build_hasher self.old.hasher) (C.key content) }
+        requires hash { hash ≡ hash_of S.BuildHasher S.Hasher.Hasher self.old.hasher (C.key content) }
         ensures step { Interns C.key self.old.state content result self.new.state }
-        ensures found { IfOk result (IsFound C.key self.new.state (C.key content)) }
-        ensures stored { IfOk result (IsStored C.key self.new.state (C.key content)) }
-        ensures kept { Keeps C.key self.old.state self.new.state }
-        ensures others { FindsOthers C.key self.old.state (C.key content) self.new.state }
-        ensures refused { OnErr result (self.new.state.contents ≡ self.old.state.contents) }
-        ensures cost { let hash = key_hash S.Hasher.finish S.Hasher.write (S.build_hasher self.old.hasher) in
-            Costs work.old work.new (KnownInternCost C.key hash self.old.state (C.key content) result self.new.state) }
+        ensures interned { FindsInterned C.key self.old.state (C.key content) result self.new.state }
+        ensures cost { let hash = hash_of S.BuildHasher S.Hasher.Hasher self.old.hasher in
+            let cost = KnownInternCost C.key hash self.old.state in
+            Costs work.old work.new (cost (C.key content) result self.new.state) }
         ensures hasher { self.new.hasher ≡ self.old.hasher }
         ensures valid { IsValid C.key self.new.state }
     {
@@ -225,7 +224,7 @@ impl<C: Keyed, S: BuildHasher> Core<C, S> {
     fn add(&mut self, hash: u64, content: C, work: &mut Work) -> Result<Symbol, InternError>
     where
         C: Drop,
-        requires hash { hash ≡ key_hash S.Hasher.finish S.Hasher.write (S.build_hasher self.old.hasher) (C.key content) }
+        requires hash { hash ≡ hash_of S.BuildHasher S.Hasher.Hasher self.old.hasher (C.key content) }
         requires absent { first C.key self.old.state.contents (C.key content) ≡ None }
         ensures step { Takes self.old.state content result self.new.state }
         ensures cost { Costs work.old work.new (AddCost self.old.state result self.new.state) }

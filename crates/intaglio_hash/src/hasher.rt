@@ -1,6 +1,8 @@
 //! The hasher: four words of state, the bytes since the last whole word, and a count of bytes.
 ghost use Rattle.std.specs.Prelude.{◌≡◌, ◌+◌, ◌-◌, ◌^◌, ◌<◌, ◌≤◌, length};
-ghost use Rattle.std.specs.Hash.DefaultHasher.{with_keys, round as sip_round, write_word as sip_write_word, write as sip_write, finish as sip_finish};
+ghost use Rattle.std.specs.Hash.DefaultHasher.{with_keys, round as sip_round};
+ghost use Rattle.std.specs.Hash.DefaultHasher.{write_word as sip_write_word};
+ghost use Rattle.std.specs.Hash.DefaultHasher.{write as sip_write, finish as sip_finish};
 ghost use Rattle.intaglio_hash.specs.Push.{number, after_push};
 
 use std::fmt;
@@ -45,9 +47,23 @@ impl Model for KeyedHasher {
 
     ghost Value = { DefaultHasher };
 
-    ghost view = { λ s. record { v0 = s.v0; v1 = s.v1; v2 = s.v2; v3 = s.v3; tail = s.tail; length = s.length } };
+    ghost view = { λ s. record {
+      v0 = s.v0;
+      v1 = s.v1;
+      v2 = s.v2;
+      v3 = s.v3;
+      tail = s.tail;
+      length = s.length;
+    } };
 
-    ghost inverse = { λ s. record { v0 = s.v0; v1 = s.v1; v2 = s.v2; v3 = s.v3; tail = s.tail; length = s.length } };
+    ghost inverse = { λ s. record {
+      v0 = s.v0;
+      v1 = s.v1;
+      v2 = s.v2;
+      v3 = s.v3;
+      tail = s.tail;
+      length = s.length;
+    } };
 }
 
 impl KeyedHasher {

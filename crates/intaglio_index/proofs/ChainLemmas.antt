@@ -9,7 +9,7 @@ use Rattle.std.proofs.lemmas.List.Elements.{All-from_recursion}
 use Rattle.std.proofs.lemmas.List.Kept.{AllPairs-cons}
 use Rattle.std.proofs.lemmas.List.Sorted.{IsPermutation-refl, IsPermutation-trans, IsPermutation-middle, IsPermutation-sym, IsPermutation-cons, IsPermutation-append_right, Contains-permutation}
 use Rattle.std.proofs.lemmas.Map.Keys.{IsDistinct-IsPermutation}
-use Rattle.intaglio_index.specs.Placed.{Placed, chain, chain_from, places_from, members, put, symbols_of, AreSorted, BeginsAtOrAbove, IsEntry}
+use Rattle.intaglio_index.specs.Placed.{Placed, chain, chain_from, places_from, members, put, symbols_of, AreSorted, BeginsAtOrAbove, IsEntry, IsBucket}
 
 pub eqb-unequal : (a b : ℕ) → a ≢ b → eqb a b ≡ false
 eqb-unequal a b n = elim (eqb_tells a b) [ inl h ↦ absurd (n h.1) | inr h ↦ h.0 ]
@@ -172,6 +172,9 @@ InOrder-behind (x ∷ front) e behind o = InOrder-behind front e behind o.1
 pub chain-entries : (v : Placed) (b : ℕ) → AllByRecursion (IsEntry v.count b v.hashes) (chain v b)
 unfolding chain
 chain-entries v b = chain-each v.count b v.hashes
+
+pub chain-bucket : (v : Placed) (h : ℕ) → IsBucket v h
+chain-bucket v h = record { members = chain-permutation v (h % v.count); sorted = chain-sorted v (h % v.count); hashes = chain-entries v (h % v.count) }
 
 -- each place of a bucket is on its chain
 pub Contains-cons : (x : ℕ) (xs : List ℕ) (y : ℕ) → Contains xs y → Contains (x ∷ xs) y

@@ -1,8 +1,9 @@
 //! Conversions between a symbol and a number. Each keeps the number; the only ones that can fail are those
 //! from a 64-bit number, which fail exactly above 4294967295.
-ghost use Rattle.std.specs.Prelude.{◌≡◌, ◌^◌, ◌<◌, pos, OkIff};
+ghost use Rattle.std.specs.Prelude.{◌≡◌, pos};
 ghost use Rattle.std.specs.Int.NonZero.{non_zero_u8_get, non_zero_u16_get, non_zero_u32_get};
 ghost use Rattle.std.specs.Int.NonZero.{non_zero_u64_get, non_zero_usize_get};
+ghost use Rattle.intaglio_symbol.specs.Convert.{Converts};
 
 use crate::error::SymbolOverflowError;
 use crate::symbol::Symbol;
@@ -107,7 +108,7 @@ impl From<&NonZeroU32> for Symbol {
 impl TryFrom<u64> for Symbol {
     type Error = SymbolOverflowError;
 
-    ghost try_from_gives = { λ number r. OkIff r (number < 2 ^ 32) number };
+    ghost try_from_gives = { λ number r. Converts number r };
 
     fn try_from(number: u64) -> Result<Symbol, SymbolOverflowError> {
         let number = u32::try_from(number)?;
@@ -118,7 +119,7 @@ impl TryFrom<u64> for Symbol {
 impl TryFrom<&u64> for Symbol {
     type Error = SymbolOverflowError;
 
-    ghost try_from_gives = { λ number r. OkIff r (number.now < 2 ^ 32) number.now };
+    ghost try_from_gives = { λ number r. Converts number.now r };
 
     fn try_from(number: &u64) -> Result<Symbol, SymbolOverflowError> {
         Symbol::try_from(*number)
@@ -128,7 +129,7 @@ impl TryFrom<&u64> for Symbol {
 impl TryFrom<usize> for Symbol {
     type Error = SymbolOverflowError;
 
-    ghost try_from_gives = { λ number r. OkIff r (number < 2 ^ 32) number };
+    ghost try_from_gives = { λ number r. Converts number r };
 
     fn try_from(number: usize) -> Result<Symbol, SymbolOverflowError> {
         let number = u32::try_from(number)?;
@@ -139,7 +140,7 @@ impl TryFrom<usize> for Symbol {
 impl TryFrom<&usize> for Symbol {
     type Error = SymbolOverflowError;
 
-    ghost try_from_gives = { λ number r. OkIff r (number.now < 2 ^ 32) number.now };
+    ghost try_from_gives = { λ number r. Converts number.now r };
 
     fn try_from(number: &usize) -> Result<Symbol, SymbolOverflowError> {
         Symbol::try_from(*number)
@@ -149,7 +150,7 @@ impl TryFrom<&usize> for Symbol {
 impl TryFrom<NonZeroU64> for Symbol {
     type Error = SymbolOverflowError;
 
-    ghost try_from_gives = { λ number r. OkIff r (non_zero_u64_get number < 2 ^ 32) (non_zero_u64_get number) };
+    ghost try_from_gives = { λ number r. Converts (non_zero_u64_get number) r };
 
     fn try_from(number: NonZeroU64) -> Result<Symbol, SymbolOverflowError> {
         Symbol::try_from(number.get())
@@ -159,7 +160,7 @@ impl TryFrom<NonZeroU64> for Symbol {
 impl TryFrom<&NonZeroU64> for Symbol {
     type Error = SymbolOverflowError;
 
-    ghost try_from_gives = { λ number r. OkIff r (non_zero_u64_get number.now < 2 ^ 32) (non_zero_u64_get number.now) };
+    ghost try_from_gives = { λ number r. Converts (non_zero_u64_get number.now) r };
 
     fn try_from(number: &NonZeroU64) -> Result<Symbol, SymbolOverflowError> {
         Symbol::try_from(*number)
@@ -169,7 +170,7 @@ impl TryFrom<&NonZeroU64> for Symbol {
 impl TryFrom<NonZeroUsize> for Symbol {
     type Error = SymbolOverflowError;
 
-    ghost try_from_gives = { λ number r. OkIff r (non_zero_usize_get number < 2 ^ 32) (non_zero_usize_get number) };
+    ghost try_from_gives = { λ number r. Converts (non_zero_usize_get number) r };
 
     fn try_from(number: NonZeroUsize) -> Result<Symbol, SymbolOverflowError> {
         Symbol::try_from(number.get())
@@ -179,7 +180,7 @@ impl TryFrom<NonZeroUsize> for Symbol {
 impl TryFrom<&NonZeroUsize> for Symbol {
     type Error = SymbolOverflowError;
 
-    ghost try_from_gives = { λ number r. OkIff r (non_zero_usize_get number.now < 2 ^ 32) (non_zero_usize_get number.now) };
+    ghost try_from_gives = { λ number r. Converts (non_zero_usize_get number.now) r };
 
     fn try_from(number: &NonZeroUsize) -> Result<Symbol, SymbolOverflowError> {
         Symbol::try_from(*number)

@@ -25,7 +25,10 @@ impl Wanted {
 impl Watched for Wanted {}
 
 impl Hasher for Wanted {
-    ghost write = { λ state bytes. record state { heard = if option_map_or (λ wanted. pointwise ◌==◌ wanted.now bytes) (slice_get state.writes.now state.heard) false then state.heard + 1 else 2 ^ 64 - 1 } };
+    ghost write = { λ state bytes.
+        let expected = slice_get state.writes.now state.heard in
+        let is_met = option_map_or (λ wanted. pointwise ◌==◌ wanted.now bytes) expected false in
+        record state { heard = if is_met then state.heard + 1 else 2 ^ 64 - 1 } };
 
     ghost finish = { λ state. if state.heard == length state.writes.now then 1 else 0 };
 

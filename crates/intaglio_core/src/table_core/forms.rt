@@ -1,9 +1,9 @@
 //! Interning by a borrowed form, which is copied only if it is new.
 ghost use Rattle.std.specs.Prelude.{◌≡◌, None, IfOk, OnErr};
-ghost use Rattle.intaglio_content.specs.Key.{key_hash};
+ghost use Rattle.intaglio_content.specs.Key.{hash_of};
 ghost use Rattle.intaglio_core.specs.State.{first, IsValid};
 ghost use Rattle.intaglio_core.specs.Change.{InternsForm, TakesCopy};
-ghost use Rattle.intaglio_core.specs.Lookup.{IsFound, IsStored, Keeps, FindsOthers};
+ghost use Rattle.intaglio_core.specs.Lookup.{IsFound, IsStored, Keeps, FindsInterned, FindsOthers};
 ghost use Rattle.intaglio_core.specs.Cost.{Costs, InternCost, KnownInternCost};
 ghost use Rattle.intaglio_core.specs.Indexed.{AddCost};
 
@@ -34,14 +34,16 @@ impl<C: Content + Drop, S: BuildHasher> Core<C, S> {
         form: &Q,
         work: &mut Work,
     ) -> Result<Symbol, InternError>
-        ensures step { InternsForm C.key C.spelling self.old.state (Q.key form.now) (Q.form_spelling form.now) result self.new.state }
+        ensures step { let interns = InternsForm C.key C.spelling self.old.state in
+            interns (Q.key form.now) (Q.form_spelling form.now) result self.new.state }
         ensures found { IfOk result (IsFound C.key self.new.state (Q.key form.now)) }
         ensures stored { IfOk result (IsStored C.key self.new.state (Q.key form.now)) }
         ensures kept { Keeps C.key self.old.state self.new.state }
         ensures others { FindsOthers C.key self.old.state (Q.key form.now) self.new.state }
         ensures refused { OnErr result (self.new.state.contents ≡ self.old.state.contents) }
-        ensures cost { let hash = key_hash S.Hasher.finish S.Hasher.write (S.build_hasher self.old.hasher) in
-            Costs work.old work.new (InternCost C.key hash self.old.state (Q.key form.now) result self.new.state) }
+        ensures cost { let hash = hash_of S.BuildHasher S.Hasher.Hasher self.old.hasher in
+            let cost = InternCost C.key hash self.old.state in
+            Costs work.old work.new (cost (Q.key form.now) result self.new.state) }
         ensures hasher { self.new.hasher ≡ self.old.hasher }
         ensures valid { IsValid C.key self.new.state }
     {
@@ -57,15 +59,13 @@ impl<C: Content + Drop, S: BuildHasher> Core<C, S> {
         form: &Q,
         work: &mut Work,
     ) -> Result<Symbol, InternError>
-        requires hash { hash ≡ key_hash S.Hasher.finish S.Hasher.write (S.build_hasher self.old.hasher) (Q.key form.now) }
-        ensures step { InternsForm C.key C.spelling self.old.state (Q.key form.now) (Q.form_spelling form.now) result self.new.state }
-        ensures found { IfOk result (IsFound C.key self.new.state (Q.key form.now)) }
-        ensures stored { IfOk result (IsStored C.key self.new.state (Q.key form.now)) }
-        ensures kept { Keeps C.key self.old.state self.new.state }
-        ensures others { FindsOthers C.key self.old.state (Q.key form.now) self.new.state }
-        ensures refused { OnErr result (self.new.state.contents ≡ self.old.state.contents) }
-        ensures cost { let hash = key_hash S.Hasher.finish S.Hasher.write (S.build_hasher self.old.hasher) in
-            Costs work.old work.new (KnownInternCost C.key hash self.old.state (Q.key form.now) result self.new.state) }
+        requires hash { hash ≡ hash_of S.BuildHasher S.Hasher.Hasher self.old.hasher (Q.key form.now) }
+        ensures step { let interns = InternsForm C.key C.spelling self.old.state in
+            interns (Q.key form.now) (Q.form_spelling form.now) result self.new.state }
+        ensures interned { FindsInterned C.key self.old.state (Q.key form.now) result self.new.state }
+        ensures cost { let hash = hash_of S.BuildHasher S.Hasher.Hasher self.old.hasher in
+            let cost = KnownInternCost C.key hash self.old.state in
+            Costs work.old work.new (cost (Q.key form.now) result self.new.state) }
         ensures hasher { self.new.hasher ≡ self.old.hasher }
         ensures valid { IsValid C.key self.new.state }
     {
@@ -82,9 +82,10 @@ impl<C: Content + Drop, S: BuildHasher> Core<C, S> {
         form: &Q,
         work: &mut Work,
     ) -> Result<Symbol, InternError>
-        requires hash { hash ≡ key_hash S.Hasher.finish S.Hasher.write (S.build_hasher self.old.hasher) (Q.key form.now) }
+        requires hash { hash ≡ hash_of S.BuildHasher S.Hasher.Hasher self.old.hasher (Q.key form.now) }
         requires absent { first C.key self.old.state.contents (Q.key form.now) ≡ None }
-        ensures step { TakesCopy C.key C.spelling self.old.state (Q.key form.now) (Q.form_spelling form.now) result self.new.state }
+        ensures step { let takes = TakesCopy C.key C.spelling self.old.state in
+            takes (Q.key form.now) (Q.form_spelling form.now) result self.new.state }
         ensures cost { Costs work.old work.new (AddCost self.old.state result self.new.state) }
         ensures hasher { self.new.hasher ≡ self.old.hasher }
         ensures valid { IsValid C.key self.new.state }

@@ -1,9 +1,8 @@
 //! Look-ups that return borrowed forms of what is stored, and iterators over those forms.
-ghost use Rattle.std.specs.Prelude.{◌≡◌, ◌≤◌, ◌^◌, map, zip, length, Some, IfSome, slice_get};
+ghost use Rattle.std.specs.Prelude.{◌≡◌, ◌≤◌, ◌^◌, map, length, Some, IfSome};
 ghost use Rattle.std.specs.Option.{option_map};
-ghost use Rattle.intaglio_symbol.specs.AllSymbols.{numbers_from};
-ghost use Rattle.intaglio_content.specs.Key.{key_hash};
-ghost use Rattle.intaglio_core.specs.State.{first};
+ghost use Rattle.intaglio_content.specs.Key.{hash_of};
+ghost use Rattle.intaglio_core.specs.State.{first, spelling_at, pairs_of};
 ghost use Rattle.intaglio_core.specs.Lookup.{IsFound};
 ghost use Rattle.intaglio_core.specs.Cost.{Costs, SearchCost};
 
@@ -15,8 +14,7 @@ use std::hash::BuildHasher;
 impl<'a, C: Formed<'a>, S: BuildHasher> Core<C, S> {
     /// The form of a symbol's content.
     pub fn form(&'a self, symbol: Symbol) -> Option<C::Form>
-        ensures form { option_map C.form_spelling result
-            ≡ option_map C.spelling (slice_get self.now.state.contents symbol) }
+        ensures form { option_map C.form_spelling result ≡ spelling_at C.spelling self.now.state symbol }
         ensures found { IfSome result (λ form.
             IsFound C.key self.now.state (C.key_of (C.form_spelling form)) symbol) }
     {
@@ -29,10 +27,11 @@ impl<'a, C: Formed<'a>, S: BuildHasher> Core<C, S> {
         sought: &Q,
         work: &mut Work,
     ) -> Option<(Symbol, C::Form)>
-        ensures found { option_map (λ pair. pair.0) result ≡ first C.key self.now.state.contents (Q.key sought.now) }
+        ensures found { option_map (λ pair. pair.0) result
+            ≡ first C.key self.now.state.contents (Q.key sought.now) }
         ensures stored { IfSome result (λ pair.
-            Some (C.form_spelling pair.1) ≡ option_map C.spelling (slice_get self.now.state.contents pair.0)) }
-        ensures cost { let hash = key_hash S.Hasher.finish S.Hasher.write (S.build_hasher self.now.hasher) in
+            Some (C.form_spelling pair.1) ≡ spelling_at C.spelling self.now.state pair.0) }
+        ensures cost { let hash = hash_of S.BuildHasher S.Hasher.Hasher self.now.hasher in
             Costs work.old work.new (SearchCost C.key hash self.now.state (Q.key sought.now)) }
     {
         let symbol = self.search(sought, work)?;
@@ -49,8 +48,7 @@ impl<'a, C: Formed<'a>, S: BuildHasher> Core<C, S> {
 
     /// The symbols of all contents with their forms, in order.
     pub fn pairs(&'a self) -> Pairs<'a, C>
-        ensures all { let contents = self.now.state.contents in
-            result ≡ zip (numbers_from 0 (length contents)) (map C.spelling contents) }
+        ensures all { result ≡ pairs_of C.spelling self.now.state }
         ensures bound { length result ≤ 2 ^ 32 }
     {
         Pairs::of(self, self.contents())

@@ -33,8 +33,6 @@ impl Index {
         ensures room { self.new.room ≡ self.old.room }
         ensures fits { self.new.room ≤ self.new.count }
     {
-        // Not used when run: it shows the prover that the number is below 2^32.
-        let _number = symbol.id();
         let bucket = self.modulus.bucket(hash);
         let filter = self.filters[bucket];
         if filter != 0 {
@@ -60,8 +58,6 @@ impl Index {
         ensures room { self.new.room ≡ self.old.room }
         ensures fits { self.new.room ≤ self.new.count }
     {
-        // Not used when run: it shows the prover that the number is below 2^32.
-        let _number = symbol.id();
         let leader = self.leader(bucket);
         let place = self.predecessor(bucket, hash);
         let word = self.modulus.word(hash, symbol);

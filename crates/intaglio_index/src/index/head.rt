@@ -69,7 +69,8 @@ impl Head {
         requires made { IsModulus modulus }
         requires few { length nodes.now ≤ modulus.mask + 1 }
         requires linked { (path : List (ℕ × ℕ)) × IsThread nodes.now (Some leader) path }
-        ensures { (path : List (ℕ × ℕ)) → IsThread nodes.now (Some leader) path → IsHead (modulus.mask + 1) result path }
+        ensures { (path : List (ℕ × ℕ)) → IsThread nodes.now (Some leader) path →
+            IsHead (modulus.mask + 1) result path }
     {
         let node = nodes[leader.id() as usize];
         let first = modulus.word(node.hash, leader);

@@ -1,6 +1,6 @@
 //! Making buckets.
-ghost use Rattle.std.specs.Prelude.{◌≡◌, ◌<◌, ◌≤◌, ◌++◌, [], length, replicate, None, IfOk, IsOk, OnErr, OnOk};
-ghost use Rattle.intaglio_content.specs.Work.{placed};
+ghost use Rattle.std.specs.Prelude.{◌≡◌, ◌<◌, ◌≤◌, [], length, replicate, None, IfOk, IsOk, OnErr, OnOk};
+ghost use Rattle.intaglio_index.specs.Change.{KeepsPlaces, KeepsBuckets, PlacesEach};
 
 use super::Index;
 use super::head::Head;
@@ -49,19 +49,13 @@ impl Index {
     ///
     /// [`AllocError`] if an allocation fails. Then the buckets and the symbols in them are unchanged.
     pub fn reserve(&mut self, count: usize, work: &mut Work) -> Result<(), AllocError>
-        ensures count { OnOk result (count ≤ self.new.count) }
+        ensures kept { KeepsPlaces self.old self.new }
         ensures enough { OnOk result (count ≤ self.new.room) }
-        ensures room { self.old.room ≤ self.new.room }
-        ensures fits { self.new.room ≤ self.new.count }
-        ensures hashes { self.new.hashes ≡ self.old.hashes }
-        ensures err { OnErr result (self.new.count ≡ self.old.count) }
-        ensures kept { count ≤ self.old.count → self.new.count ≡ self.old.count }
+        ensures places { OnOk result (self.old.count < count → PlacesEach self.old work.old work.new) }
+        ensures err { OnErr result (KeepsBuckets self.old self.new work.old work.new) }
+        ensures stays { count ≤ self.old.count → KeepsBuckets self.old self.new work.old work.new }
         ensures none_needed { count ≤ self.old.room → IsOk result }
         ensures unchanged { count ≤ self.old.room → self.new ≡ self.old }
-        ensures quiet { OnErr result (work.new.events ≡ work.old.events) }
-        ensures stays { count ≤ self.old.count → work.new.events ≡ work.old.events }
-        ensures places { OnOk result (self.old.count < count →
-            work.new.events ≡ work.old.events ++ replicate (length self.old.hashes) placed) }
     {
         if count > self.heads.len() {
             return self.rebuild(count, work);
@@ -85,7 +79,7 @@ impl Index {
         ensures hashes { self.new.hashes ≡ self.old.hashes }
         ensures err { OnErr result (self.new ≡ self.old) }
         ensures quiet { OnErr result (work.new.events ≡ work.old.events) }
-        ensures places { OnOk result (work.new.events ≡ work.old.events ++ replicate (length self.old.hashes) placed) }
+        ensures places { OnOk result (PlacesEach self.old work.old work.new) }
     {
         *self = self.rebuilt(count, work)?;
         Ok(())
@@ -94,9 +88,10 @@ impl Index {
     // The same symbols in new buckets.
     fn rebuilt(&self, count: usize, work: &mut Work) -> Result<Index, AllocError>
         requires { length self.now.hashes ≤ count }
-        ensures made { IfOk result (λ index. index ≡ record { count = count; hashes = self.now.hashes; room = count }) }
+        ensures made { IfOk result (λ index.
+            index ≡ record { count = count; hashes = self.now.hashes; room = count }) }
         ensures quiet { OnErr result (work.new.events ≡ work.old.events) }
-        ensures places { OnOk result (work.new.events ≡ work.old.events ++ replicate (length self.now.hashes) placed) }
+        ensures places { OnOk result (PlacesEach self.now work.old work.new) }
     {
         let mut index = Index::with_buckets(self.alloc, count)?;
         for (i, node) in self.nodes.iter().enumerate() {

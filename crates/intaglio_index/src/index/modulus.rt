@@ -62,7 +62,8 @@ impl Modulus {
     pub fn word(self, hash: u64, symbol: Symbol) -> u64
         requires made { IsModulus self }
         requires below { symbol < self.mask + 1 }
-        ensures { IsWord (self.mask + 1) (symbol, hash) result }
+        ensures word { IsWord (self.mask + 1) (symbol, hash) result }
+        ensures number { symbol < 2 ^ 32 }
     {
         self.high(hash) + u64::from(symbol.id())
     }

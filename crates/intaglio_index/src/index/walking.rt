@@ -1,11 +1,11 @@
 //! Walking along a bucket.
-ghost use Rattle.std.specs.Prelude.{◌≡◌, ◌≢◌, ◌%◌, ◌<◌, ◌++◌, ◌∷◌, [], List, ℕ, length, None, Some, All, MatchOption, IfSome, IsTrue};
+ghost use Rattle.std.specs.Prelude.{◌≡◌, ◌%◌, ◌<◌, ◌++◌, ◌∷◌, [], List, ℕ, length};
+ghost use Rattle.std.specs.Prelude.{None, Some, MatchOption, IfSome};
 ghost use Rattle.std.specs.Option.{option_map};
-ghost use Rattle.std.specs.List.{AllByRecursion};
-ghost use Rattle.std.specs.List.Sorted.{IsPermutation};
 ghost use Rattle.intaglio_content.specs.Work.{Event, step};
 ghost use Rattle.intaglio_index.specs.Found.{IsFound, IsPassed, IsReached, IsAt};
-ghost use Rattle.intaglio_index.specs.Placed.{chain, members, head_of, leader_of, leader_with, symbols_of, AreSorted, BeginsAtOrAbove, IsPredecessor, IsEntry};
+ghost use Rattle.intaglio_index.specs.Placed.{chain, bucket_of, head_of, leader_of, leader_with};
+ghost use Rattle.intaglio_index.specs.Placed.{IsBucket, IsAbsent, BeginsAtOrAbove, IsPredecessor};
 ghost use Rattle.intaglio_index.specs.Links.{entry_of};
 ghost use Rattle.intaglio_symbol.specs.declared.symbol.Symbol.{Symbol};
 
@@ -19,13 +19,8 @@ impl Index {
     ///
     /// If there are no buckets, this is `None`.
     pub fn first(&self, hash: u64, work: &mut Work) -> Option<(Symbol, u64)>
-        // The bucket has exactly the symbols whose hashes fall in it, each once.
-        ensures members { IsPermutation (members self.now (hash % self.now.count))
-            (symbols_of (chain self.now (hash % self.now.count))) }
-        ensures sorted { AreSorted (chain self.now (hash % self.now.count)) }
-        ensures hashes { AllByRecursion (IsEntry self.now.count (hash % self.now.count) self.now.hashes)
-            (chain self.now (hash % self.now.count)) }
-        ensures first { result ≡ head_of (chain self.now (hash % self.now.count)) }
+        ensures bucket { IsBucket self.now hash }
+        ensures first { result ≡ head_of (bucket_of self.now hash) }
         ensures none { self.now.count ≡ 0 → result ≡ None }
         ensures events { work.new.events ≡ work.old.events ++ step ∷ [] }
     {
@@ -41,13 +36,9 @@ impl Index {
     ///
     /// A bucket's filter is one byte. A look-up that finds nothing mostly reads nothing else.
     pub fn seek(&self, hash: u64, work: &mut Work) -> Option<(Symbol, u64)>
-        ensures members { IsPermutation (members self.now (hash % self.now.count))
-            (symbols_of (chain self.now (hash % self.now.count))) }
-        ensures sorted { AreSorted (chain self.now (hash % self.now.count)) }
-        ensures hashes { AllByRecursion (IsEntry self.now.count (hash % self.now.count) self.now.hashes)
-            (chain self.now (hash % self.now.count)) }
-        ensures first { IfSome result (λ found. Some found ≡ head_of (chain self.now (hash % self.now.count))) }
-        ensures none { result ≡ None → AllByRecursion (λ placed. placed ≢ hash) self.now.hashes }
+        ensures bucket { IsBucket self.now hash }
+        ensures first { IfSome result (λ found. Some found ≡ head_of (bucket_of self.now hash)) }
+        ensures none { result ≡ None → IsAbsent self.now hash }
         ensures events { work.new.events ≡ work.old.events ++ step ∷ [] }
     {
         work.step(); // where the filter says no too
@@ -68,9 +59,10 @@ impl Index {
     /// high bits of their hashes, so most look-ups read no more of the index than a filter and a head.
     #[inline(always)]
     pub fn find(&self, hash: u64, work: &mut Work) -> Option<Symbol>
-        ensures found { IfSome result (λ symbol. IsFound hash (chain self.now (hash % self.now.count)) work.old.events work.new.events symbol) }
-        ensures none { result ≡ None → AllByRecursion (λ placed. placed ≢ hash) self.now.hashes }
-        ensures passed { result ≡ None → IsPassed (chain self.now (hash % self.now.count)) work.old.events work.new.events }
+        ensures found { IfSome result
+            (IsFound hash (bucket_of self.now hash) work.old.events work.new.events) }
+        ensures none { result ≡ None → IsAbsent self.now hash }
+        ensures passed { result ≡ None → IsPassed (bucket_of self.now hash) work.old.events work.new.events }
     {
         work.step(); // also where the filter says no
         if self.heads.is_empty() {
@@ -110,14 +102,15 @@ impl Index {
         hash: u64,
         work: &mut Work,
     ) -> Option<Symbol>
-        requires { (start : List Event) × IsReached hash (chain self.now (hash % self.now.count)) start work.old.events candidate }
+        requires { (start : List Event) ×
+            IsReached hash (bucket_of self.now hash) start work.old.events candidate }
         ensures found { IfSome result (λ symbol. (start : List Event) →
-            IsReached hash (chain self.now (hash % self.now.count)) start work.old.events candidate →
-            IsFound hash (chain self.now (hash % self.now.count)) start work.new.events symbol) }
-        ensures none { result ≡ None → AllByRecursion (λ placed. placed ≢ hash) self.now.hashes }
+            IsReached hash (bucket_of self.now hash) start work.old.events candidate →
+            IsFound hash (bucket_of self.now hash) start work.new.events symbol) }
+        ensures none { result ≡ None → IsAbsent self.now hash }
         ensures passed { result ≡ None → (start : List Event) →
-            IsReached hash (chain self.now (hash % self.now.count)) start work.old.events candidate →
-            IsPassed (chain self.now (hash % self.now.count)) start work.new.events }
+            IsReached hash (bucket_of self.now hash) start work.old.events candidate →
+            IsPassed (bucket_of self.now hash) start work.new.events }
     {
         let mut candidate = candidate;
         while let Some(found) = candidate {
@@ -192,8 +185,8 @@ impl Index {
     pub(super) fn predecessor(&self, bucket: usize, hash: u64) -> Option<Symbol>
         requires bucket { bucket ≡ hash % self.now.count }
         requires within { bucket < self.now.count }
-        ensures { MatchOption result (BeginsAtOrAbove hash (chain self.now (hash % self.now.count)))
-            (λ last. IsPredecessor hash (chain self.now (hash % self.now.count)) last) }
+        ensures { MatchOption result (BeginsAtOrAbove hash (bucket_of self.now hash))
+            (λ last. IsPredecessor hash (bucket_of self.now hash) last) }
     {
         if !self.modulus.is_power_of_two() {
             return self.last_below(None, self.front(bucket), hash);
@@ -218,9 +211,9 @@ impl Index {
         candidate: Option<(Symbol, u64)>,
         hash: u64,
     ) -> Option<Symbol>
-        requires { IsAt hash (chain self.now (hash % self.now.count)) last candidate }
-        ensures { MatchOption result (BeginsAtOrAbove hash (chain self.now (hash % self.now.count)))
-            (λ last. IsPredecessor hash (chain self.now (hash % self.now.count)) last) }
+        requires { IsAt hash (bucket_of self.now hash) last candidate }
+        ensures { MatchOption result (BeginsAtOrAbove hash (bucket_of self.now hash))
+            (λ last. IsPredecessor hash (bucket_of self.now hash) last) }
     {
         let mut last = last;
         let mut candidate = candidate;

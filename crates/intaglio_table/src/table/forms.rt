@@ -31,7 +31,8 @@ impl<'q, C: LookedUp<'q> + Drop, S: BuildHasher> Table<C, S> {
     /// assert!(rt; table.len() == 4);
     /// ```
     pub fn get_or_intern(&mut self, form: C::By) -> Result<Symbol, InternError>
-        ensures step { InternsForm C.key C.spelling self.old.state (C.By.key form) (C.By.form_spelling form) result self.new.state }
+        ensures step { let interns = InternsForm C.key C.spelling self.old.state in
+            interns (C.By.key form) (C.By.form_spelling form) result self.new.state }
         ensures found { IfOk result (IsFound C.key self.new.state (C.By.key form)) }
         ensures stored { IfOk result (IsStored C.key self.new.state (C.By.key form)) }
         ensures kept { Keeps C.key self.old.state self.new.state }

@@ -1,4 +1,4 @@
-use Rattle.std.proofs.Common.{◌≡◌, ◌<◌, length, map, refl, rules}
+use Rattle.std.proofs.Common.{◌<◌, length, refl, rules}
 use Rattle.std.proofs.lemmas.List.{map-append}
 use Rattle.intaglio_core.proofs.ByForm.{next-part, Adds-search_form}
 use Rattle.intaglio_core.proofs.batch.forms.search_forms.Goals as goal

@@ -1,5 +1,5 @@
 use Rattle.std.proofs.Common.{◌≡◌, ◌<◌, ◌≤◌, ◌*◌, ◌∙◌, min, max, length, arith, None, vec_capacity}
-use Rattle.intaglio_content.specs.Key.{key_hash}
+use Rattle.intaglio_content.specs.Key.{hash_of}
 use Rattle.intaglio_core.specs.State.{first}
 use Rattle.intaglio_core.proofs.Kept.{indexed-push, indexed-valid}
 use Rattle.intaglio_core.proofs.Spent.{add-cost}
@@ -12,7 +12,7 @@ invariant_of-self-2 g c =
     let below : length c.self.inside.list.items < c.self.inside.limit = omega (arith, c.if-count-self.false, c.len-count.ensures, c.self.inside.list.ok.0) in
     let free : length c.self.inside.list.items < c.place.new.self.room = omega (arith, c.in_ok-find_room.ensures.place.free, c.place.ensures.room) in
     rw (c.push_reserved.ensures.items, c.find_room.ensures.items)
-    (indexed-push g.C.Keyed.key (key_hash g.S.Hasher.Hasher.finish g.S.Hasher.Hasher.write (g.S.BuildHasher.build_hasher c.self.inside.hasher)) c.self.inside.list.items c.args.content c.self.inside.index c.place.new.self c.self.inside.limit c.args.hash c.self.invariant none below hash (rw c.find_room.ensures.index.hashes at c.place.ensures.hashes) c.place.ensures.fits free)
+    (indexed-push g.C.Keyed.key (hash_of g.S.BuildHasher g.S.Hasher.Hasher c.self.inside.hasher) c.self.inside.list.items c.args.content c.self.inside.index c.place.new.self c.self.inside.limit c.args.hash c.self.invariant none below hash (rw c.find_room.ensures.index.hashes at c.place.ensures.hashes) c.place.ensures.fits free)
 
 pub returns-clause-valid : goal.returns-clause-valid
 returns-clause-valid g c =
@@ -20,9 +20,9 @@ returns-clause-valid g c =
     let hash = rw (← c.self.view_is) at c.requires.hash in
     let below : length c.self.inside.list.items < c.self.inside.limit = omega (arith, c.if-count-self.false, c.len-count.ensures, c.self.inside.list.ok.0) in
     let free : length c.self.inside.list.items < c.place.new.self.room = omega (arith, c.in_ok-find_room.ensures.place.free, c.place.ensures.room) in
-    indexed-valid g.C.Keyed.key (key_hash g.S.Hasher.Hasher.finish g.S.Hasher.Hasher.write (g.S.BuildHasher.build_hasher c.self.inside.hasher)) c.push_reserved.new.self.items c.place.new.self c.self.inside.limit (vec_capacity c.push_reserved.new.self)
+    indexed-valid g.C.Keyed.key (hash_of g.S.BuildHasher g.S.Hasher.Hasher c.self.inside.hasher) c.push_reserved.new.self.items c.place.new.self c.self.inside.limit (vec_capacity c.push_reserved.new.self)
     (rw (c.push_reserved.ensures.items, c.find_room.ensures.items)
-    (indexed-push g.C.Keyed.key (key_hash g.S.Hasher.Hasher.finish g.S.Hasher.Hasher.write (g.S.BuildHasher.build_hasher c.self.inside.hasher)) c.self.inside.list.items c.args.content c.self.inside.index c.place.new.self c.self.inside.limit c.args.hash c.self.invariant none below hash (rw c.find_room.ensures.index.hashes at c.place.ensures.hashes) c.place.ensures.fits free))
+    (indexed-push g.C.Keyed.key (hash_of g.S.BuildHasher g.S.Hasher.Hasher c.self.inside.hasher) c.self.inside.list.items c.args.content c.self.inside.index c.place.new.self c.self.inside.limit c.args.hash c.self.invariant none below hash (rw c.find_room.ensures.index.hashes at c.place.ensures.hashes) c.place.ensures.fits free))
 
 pub returns-clause-cost : goal.returns-clause-cost
 returns-clause-cost g c =

@@ -1,4 +1,4 @@
-use Rattle.intaglio_content.specs.Key.{key_hash}
+use Rattle.intaglio_content.specs.Key.{hash_of}
 use Rattle.intaglio_content.specs.Work.{hashed}
 use Rattle.intaglio_core.specs.Cost.{SearchCost}
 use Rattle.intaglio_core.proofs.First.{found-within}
@@ -11,5 +11,5 @@ returns-clause-within g c =
 
 pub returns-clause-cost : goal.returns-clause-cost
 returns-clause-cost g c =
-    let hash = key_hash g.S.Hasher.Hasher.finish g.S.Hasher.Hasher.write (g.S.BuildHasher.build_hasher c.args.self.now.hasher) in
+    let hash = hash_of g.S.BuildHasher g.S.Hasher.Hasher c.args.self.now.hasher in
     mark-first (SearchCost g.C.Keyed.key hash c.args.self.now.state (g.Q.Keyed.key c.args.sought.now)) (hashed (g.Q.Keyed.key c.args.sought.now)) _ _ _ c.hash_with-hash.ensures.event c.search_hashed.ensures.cost

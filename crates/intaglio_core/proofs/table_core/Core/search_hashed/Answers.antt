@@ -1,13 +1,13 @@
-use Rattle.std.proofs.Common.{◌≡◌, ℕ, List, None, arith, refl, rules}
+use Rattle.std.proofs.Common.{◌≡◌, None, arith, refl, rules}
 use Rattle.std.proofs.lemmas.Bool.{false≢true}
 use Rattle.std.proofs.lemmas.List.{length-map}
-use Rattle.intaglio_content.specs.Key.{key_hash}
+use Rattle.intaglio_content.specs.Key.{hash_of}
 use Rattle.intaglio_core.proofs.Walking.{absent, passes, begins, within, ends, finds, goes_on, falls}
 use Rattle.intaglio_core.proofs.table_core.Core.search_hashed.Goals as goal
 
 pub returns-in_err-find-clause-found : goal.returns-in_err-find-clause-found
 returns-in_err-find-clause-found g c =
-    let hash = key_hash g.S.Hasher.Hasher.finish g.S.Hasher.Hasher.write (g.S.BuildHasher.build_hasher c.self.inside.hasher) in
+    let hash = hash_of g.S.BuildHasher g.S.Hasher.Hasher c.self.inside.hasher in
     let none : c.from_residual.result ≡ None = search rules in
     let known = rw (← c.self.view_is) at c.requires.hash in
     rw (none, ← c.self.view_is)
@@ -15,7 +15,7 @@ returns-in_err-find-clause-found g c =
 
 pub returns-in_err-find-clause-cost : goal.returns-in_err-find-clause-cost
 returns-in_err-find-clause-cost g c =
-    let hash = key_hash g.S.Hasher.Hasher.finish g.S.Hasher.Hasher.write (g.S.BuildHasher.build_hasher c.self.inside.hasher) in
+    let hash = hash_of g.S.BuildHasher g.S.Hasher.Hasher c.self.inside.hasher in
     let known = rw (← c.self.view_is) at c.requires.hash in
     rw (← c.self.view_is) (passes g.C.Keyed.key hash c.self.inside.index c.self.inside.list.items (g.Q.Keyed.key c.args.sought.now) _ _ c.self.invariant.hashes c.self.invariant.distinct (rw known at (c.in_err-find.ensures.passed refl)))
 
@@ -46,7 +46,7 @@ returns-then-same_as-clause-cost g c =
 pub find_next-candidate-requires : goal.find_next-candidate-requires
 find_next-candidate-requires g c =
     let l = rw c.as_slice-contents.ensures.value at (within c.in-Some.symbol (rw c.in-Some.is at c.loop-candidate.invariant)) in
-    rw c.self.invariant.hashes (omega (arith, l, length-map c.self.inside.list.items (λ x. key_hash g.S.Hasher.Hasher.finish g.S.Hasher.Hasher.write (g.S.BuildHasher.build_hasher c.self.inside.hasher) (g.C.Keyed.key x))))
+    rw c.self.invariant.hashes (omega (arith, l, length-map c.self.inside.list.items (λ x. hash_of g.S.BuildHasher g.S.Hasher.Hasher c.self.inside.hasher (g.C.Keyed.key x))))
 
 pub loop-candidate-smaller : goal.loop-candidate-smaller
 loop-candidate-smaller g c =

@@ -1,16 +1,16 @@
-use Rattle.std.proofs.Common.{◌%◌, List, length}
+use Rattle.std.proofs.Common.{List, length}
 use Rattle.intaglio_content.specs.Work.{Event}
 use Rattle.intaglio_index.specs.Found.{IsReached}
-use Rattle.intaglio_index.specs.Placed.{chain}
+use Rattle.intaglio_index.specs.Placed.{bucket_of}
 use Rattle.intaglio_index.proofs.WalkLemmas.{rest_of}
 use Rattle.intaglio_index.proofs.index.Index.find_along.Given as goal
 
 abbrev pub invariant-loop-candidate : goal.invariant-loop-candidate
 invariant-loop-candidate l = record {
-  reached : (start : List Event) × IsReached l.hash (chain l.self (l.hash % l.self.count)) start l.work.events l.candidate;
-  since : (start : List Event) → IsReached l.hash (chain l.self (l.hash % l.self.count)) start l.fn.work.events l.fn.candidate →
-      IsReached l.hash (chain l.self (l.hash % l.self.count)) start l.work.events l.candidate;
+  reached : (start : List Event) × IsReached l.hash (bucket_of l.self l.hash) start l.work.events l.candidate;
+  since : (start : List Event) → IsReached l.hash (bucket_of l.self l.hash) start l.fn.work.events l.fn.candidate →
+      IsReached l.hash (bucket_of l.self l.hash) start l.work.events l.candidate;
 }
 
 abbrev pub decreases-loop-candidate : goal.decreases-loop-candidate
-decreases-loop-candidate l = length (rest_of (chain l.self (l.hash % l.self.count)) l.candidate)
+decreases-loop-candidate l = length (rest_of (bucket_of l.self l.hash) l.candidate)

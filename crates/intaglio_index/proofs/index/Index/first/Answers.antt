@@ -1,18 +1,9 @@
 use Rattle.std.proofs.Common.{◌≡◌, ◌%◌, [], length, sym, ap, ◌∙◌, arith}
 use Rattle.std.proofs.lemmas.Bool.{eqb-true}
 use Rattle.intaglio_index.specs.Placed.{head_of}
-use Rattle.intaglio_index.proofs.ChainLemmas.{chain-permutation, chain-sorted, chain-entries, none_placed}
+use Rattle.intaglio_index.proofs.ChainLemmas.{chain-bucket, none_placed}
 use Rattle.intaglio_index.proofs.LinkLemmas.{no_buckets}
 use Rattle.intaglio_index.proofs.index.Index.first.Goals as goal
-
-pub returns-then-is_empty-clause-members : goal.returns-then-is_empty-clause-members
-returns-then-is_empty-clause-members c = chain-permutation _ _
-
-pub returns-then-is_empty-clause-sorted : goal.returns-then-is_empty-clause-sorted
-returns-then-is_empty-clause-sorted c = chain-sorted _ _
-
-pub returns-then-is_empty-clause-hashes : goal.returns-then-is_empty-clause-hashes
-returns-then-is_empty-clause-hashes c = chain-entries _ _
 
 pub returns-then-is_empty-clause-first : goal.returns-then-is_empty-clause-first
 returns-then-is_empty-clause-first c =
@@ -20,11 +11,8 @@ returns-then-is_empty-clause-first c =
     let none : c.args.self.now.hashes ≡ [] = rw (← c.self.view_is) (no_buckets _ c.self.inside.nodes.items c.self.invariant.linked empty) in
     sym (ap head_of (none_placed c.args.self.now (c.args.hash % c.args.self.now.count) none))
 
-pub returns-clause-members : goal.returns-clause-members
-returns-clause-members c = chain-permutation _ _
+pub returns-then-is_empty-clause-bucket : goal.returns-then-is_empty-clause-bucket
+returns-then-is_empty-clause-bucket c = chain-bucket _ _
 
-pub returns-clause-sorted : goal.returns-clause-sorted
-returns-clause-sorted c = chain-sorted _ _
-
-pub returns-clause-hashes : goal.returns-clause-hashes
-returns-clause-hashes c = chain-entries _ _
+pub returns-clause-bucket : goal.returns-clause-bucket
+returns-clause-bucket c = chain-bucket _ _

@@ -1,4 +1,4 @@
-use Rattle.std.proofs.Common.{◌≡◌, ◌<◌, ◌+◌, ◌%◌, ◌^◌, ◌∷◌, [], length, arith, ◌∙◌, sym, ap, refl, None}
+use Rattle.std.proofs.Common.{◌≡◌, ◌<◌, ◌+◌, ◌%◌, ◌∷◌, [], length, arith, ◌∙◌, sym, ap, refl, None}
 use Rattle.std.proofs.lemmas.List.{length-map, length-set, map-append, get_or_read}
 use Rattle.intaglio_index.specs.declared.index.Node.{Node}
 use Rattle.intaglio_index.specs.declared.index.head.Head.{Head}
@@ -20,10 +20,9 @@ invariant_of-self c =
     let within : c.args.hash % length c.self.inside.heads.items < length c.self.inside.heads.items = omega (arith, free) in
     let none = is_vacant c.args.self.now c.self.inside.heads.items c.self.inside.filters.items (c.self.inside.modulus.mask + 1) (c.args.hash % length c.self.inside.heads.items) (ap (λ (v : Placed). v.count) (sym c.self.view_is)) c.self.invariant.filtered.size (rw (← c.self.view_is) c.self.invariant.headed) within _ (rw at at c.index-filter.ensures) c.if-filter-ne0.false in
     let empty : chain_from (length c.self.inside.heads.items) (c.args.hash % length c.self.inside.heads.items) 0 [] (hashes_of c.self.inside.nodes.items) ≡ [] = rw (← c.self.view_is) at none in
-    let small : c.args.symbol < 2 ^ 32 = omega (arith, c.id-number.ensures, c.id-number.type_inv) in
     let e : c.args.symbol ≡ length c.self.inside.nodes.items = number ∙ length-map c.self.inside.nodes.items (λ (n : Node). n.hash) in
-    let linked = place_first (length c.self.inside.heads.items) c.self.inside.nodes.items c.self.invariant.linked c.args.hash c.args.symbol e small free None (rw empty refl) (rw empty tt) in
-    let word : IsWord (c.self.inside.modulus.mask + 1) (length (hashes_of c.self.inside.nodes.items), c.args.hash) c.word-word.result = (c.word-word.ensures.0, c.word-word.ensures.1 ∙ number) in
+    let linked = place_first (length c.self.inside.heads.items) c.self.inside.nodes.items c.self.invariant.linked c.args.hash c.args.symbol e c.word-word.ensures.number free None (rw empty refl) (rw empty tt) in
+    let word : IsWord (c.self.inside.modulus.mask + 1) (length (hashes_of c.self.inside.nodes.items), c.args.hash) c.word-word.result = (c.word-word.ensures.word.0, c.word-word.ensures.word.1 ∙ number) in
     let head : Head = record { first = c.word-word.result; second = c.word-word.result } in
     let alone = head_alone _ _ _ _ word _ empty in
     let headed = headed_pushed _ _ _ _ c.args.hash head c.marked.result within c.self.invariant.filtered.size c.self.invariant.headed (marked_some _ _ c.marked.ensures.set) alone in

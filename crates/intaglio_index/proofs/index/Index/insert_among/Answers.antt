@@ -1,4 +1,4 @@
-use Rattle.std.proofs.Common.{◌≡◌, ◌<◌, ◌+◌, ◌%◌, ◌^◌, ◌++◌, ◌∷◌, [], length, set, arith, ◌∙◌, sym, refl, None, Some, length-append}
+use Rattle.std.proofs.Common.{◌≡◌, ◌<◌, ◌+◌, ◌%◌, ◌++◌, ◌∷◌, [], length, set, arith, ◌∙◌, sym, refl, None, Some, length-append}
 use Rattle.std.proofs.lemmas.List.{length-map, length-set, map-append, get_or_default, get_or_read, get_or_append_left}
 use Rattle.intaglio_index.specs.declared.index.Node.{Node}
 use Rattle.intaglio_index.specs.Placed.{chain, chain_from, leader_of}
@@ -32,7 +32,7 @@ old_head : (c : After-marked) → IsHead (c.self.inside.modulus.mask + 1) c.inde
 old_head c = head_read _ _ _ _ _ _ c.self.invariant.headed (within c) (rw (at_bucket c) at c.index-head.ensures)
 
 new_word : (c : After-marked) → IsWord (c.self.inside.modulus.mask + 1) (length (hashes_of c.self.inside.nodes.items), c.args.hash) c.word-word.result
-new_word c = (c.word-word.ensures.0, c.word-word.ensures.1 ∙ number_is c)
+new_word c = (c.word-word.ensures.word.0, c.word-word.ensures.word.1 ∙ number_is c)
 
 filtered : (c : After-marked) → IsFiltered (set c.self.inside.filters.items (c.args.hash % length c.self.inside.heads.items) c.marked.result) (length c.self.inside.heads.items) (hashes_of c.self.inside.nodes.items ++ c.args.hash ∷ [])
 filtered c =
@@ -44,10 +44,9 @@ pub invariant_of-self : goal.invariant_of-self
 unfolding chain
 invariant_of-self c =
     let all = (goal.at.invariant_of-self c).After-marked in
-    let small : c.args.symbol < 2 ^ 32 = omega (arith, c.id-number.ensures, c.id-number.type_inv) in
     let e : c.args.symbol ≡ length c.self.inside.nodes.items = number_is all ∙ length-map c.self.inside.nodes.items (λ (n : Node). n.hash) in
     let begins = rw (← c.self.view_is) at c.in-None.ensures in
-    let linked = place_first (length c.self.inside.heads.items) c.self.inside.nodes.items c.self.invariant.linked c.args.hash c.args.symbol e small (free all) c.leader-leader.result (leads all) begins in
+    let linked = place_first (length c.self.inside.heads.items) c.self.inside.nodes.items c.self.invariant.linked c.args.hash c.args.symbol e c.word-word.ensures.number (free all) c.leader-leader.result (leads all) begins in
     let alone = alone_is _ _ c.is_none.result (leads all) c.is_none.ensures in
     let head = c.led.ensures _ _ _ _ (old_head all) alone begins (new_word all) in
     let headed = headed_pushed _ _ _ _ c.args.hash c.led.result c.marked.result (within all) c.self.invariant.filtered.size c.self.invariant.headed (marked_some _ _ c.marked.ensures.set) head in
@@ -86,9 +85,8 @@ invariant_of-self-in-Some c =
     let lm : c.in-Some.last < length (c.self.inside.nodes.items ++ record { hash = c.args.hash; next = c.index-in-Some.result.now.next } ∷ []) = omega (arith, l, length-append c.self.inside.nodes.items (record { hash = c.args.hash; next = c.index-in-Some.result.now.next } ∷ [])) in
     let second : c.index_mut-node.result.now ≡ node_at c.self.inside.nodes.items c.in-Some.last =
     get_or_read _ _ _ lm (rw (c.id-at.ensures, items) at c.index_mut-node.ensures.value) (record { hash = 0; next = None }) ∙ get_or_append_left c.self.inside.nodes.items _ (record { hash = 0; next = None }) c.in-Some.last l in
-    let small : c.args.symbol < 2 ^ 32 = omega (arith, c.id-number.ensures, c.id-number.type_inv) in
     let e : c.args.symbol ≡ length c.self.inside.nodes.items = number_is all ∙ length-map c.self.inside.nodes.items (λ (n : Node). n.hash) in
-    let linked = place_behind (length c.self.inside.heads.items) c.self.inside.nodes.items c.self.invariant.linked c.args.hash c.args.symbol e small (free all) c.in-Some.last (node_at c.self.inside.nodes.items c.in-Some.last) l refl pred in
+    let linked = place_behind (length c.self.inside.heads.items) c.self.inside.nodes.items c.self.invariant.linked c.args.hash c.args.symbol e c.word-word.ensures.number (free all) c.in-Some.last (node_at c.self.inside.nodes.items c.in-Some.last) l refl pred in
     let apart = chain-distinct (length c.self.inside.heads.items) (c.args.hash % length c.self.inside.heads.items) (hashes_of c.self.inside.nodes.items) in
     let head = c.followed.ensures _ _ _ _ (old_head all) (leads all) apart pred (new_word all) in
     let headed = headed_pushed _ _ _ _ c.args.hash c.followed.result c.marked.result (within all) c.self.invariant.filtered.size c.self.invariant.headed (marked_some _ _ c.marked.ensures.set) head in

@@ -1,11 +1,11 @@
-use Rattle.std.proofs.Common.{◌%◌, length}
+use Rattle.std.proofs.Common.{length}
 use Rattle.intaglio_index.specs.Found.{IsAt}
-use Rattle.intaglio_index.specs.Placed.{chain}
+use Rattle.intaglio_index.specs.Placed.{bucket_of}
 use Rattle.intaglio_index.proofs.WalkLemmas.{rest_of}
 use Rattle.intaglio_index.proofs.index.Index.last_below.Given as goal
 
 abbrev pub invariant-loop-candidate : goal.invariant-loop-candidate
-invariant-loop-candidate l = IsAt l.hash (chain l.self (l.hash % l.self.count)) l.last l.candidate
+invariant-loop-candidate l = IsAt l.hash (bucket_of l.self l.hash) l.last l.candidate
 
 abbrev pub decreases-loop-candidate : goal.decreases-loop-candidate
-decreases-loop-candidate l = length (rest_of (chain l.self (l.hash % l.self.count)) l.candidate)
+decreases-loop-candidate l = length (rest_of (bucket_of l.self l.hash) l.candidate)

@@ -2,27 +2,9 @@ use Rattle.std.proofs.Common.{◌≡◌, ◌<◌, ◌%◌, length, get_or, sym, 
 use Rattle.std.proofs.lemmas.Bool.{eqb-false, true≢false}
 use Rattle.std.proofs.lemmas.List.{get_or_read}
 use Rattle.intaglio_index.specs.Filter.{IsMarked}
-use Rattle.intaglio_index.proofs.ChainLemmas.{chain-permutation, chain-sorted, chain-entries}
+use Rattle.intaglio_index.proofs.ChainLemmas.{chain-bucket}
 use Rattle.intaglio_index.proofs.FilterLemmas.{not_in_empty, not_marked}
 use Rattle.intaglio_index.proofs.index.Index.seek.Goals as goal
-
-pub returns-then-not-is_marked-clause-members : goal.returns-then-not-is_marked-clause-members
-returns-then-not-is_marked-clause-members c = chain-permutation _ _
-
-pub returns-then-not-is_marked-clause-sorted : goal.returns-then-not-is_marked-clause-sorted
-returns-then-not-is_marked-clause-sorted c = chain-sorted _ _
-
-pub returns-then-not-is_marked-clause-hashes : goal.returns-then-not-is_marked-clause-hashes
-returns-then-not-is_marked-clause-hashes c = chain-entries _ _
-
-pub returns-clause-members : goal.returns-clause-members
-returns-clause-members c = chain-permutation _ _
-
-pub returns-clause-sorted : goal.returns-clause-sorted
-returns-clause-sorted c = chain-sorted _ _
-
-pub returns-clause-hashes : goal.returns-clause-hashes
-returns-clause-hashes c = chain-entries _ _
 
 pub returns-clause-none : goal.returns-clause-none
 returns-clause-none c =
@@ -38,11 +20,11 @@ returns-then-not-is_marked-clause-none c =
     let unset : IsMarked (get_or c.self.inside.filters.items (c.args.hash % length c.self.inside.heads.items) 0) c.args.hash → ⊥ = λ m. true≢false (sym (c.is_marked.ensures.1 (rw (← read) at m)) ∙ c.if-not-is_marked.true) in
     λ e. rw (← c.self.view_is) (not_marked _ _ _ _ c.self.invariant.filtered unset)
 
-pub returns-then-is_empty-clause-members : goal.returns-then-is_empty-clause-members
-returns-then-is_empty-clause-members c = chain-permutation _ _
+pub returns-then-is_empty-clause-bucket : goal.returns-then-is_empty-clause-bucket
+returns-then-is_empty-clause-bucket c = chain-bucket _ _
 
-pub returns-then-is_empty-clause-sorted : goal.returns-then-is_empty-clause-sorted
-returns-then-is_empty-clause-sorted c = chain-sorted _ _
+pub returns-clause-bucket : goal.returns-clause-bucket
+returns-clause-bucket c = chain-bucket _ _
 
-pub returns-then-is_empty-clause-hashes : goal.returns-then-is_empty-clause-hashes
-returns-then-is_empty-clause-hashes c = chain-entries _ _
+pub returns-then-not-is_marked-clause-bucket : goal.returns-then-not-is_marked-clause-bucket
+returns-then-not-is_marked-clause-bucket c = chain-bucket _ _

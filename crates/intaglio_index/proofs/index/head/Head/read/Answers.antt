@@ -33,7 +33,7 @@ pub returns-in-None : goal.returns-in-None
 returns-in-None c =
     let within = thread_within c.args.nodes.now c.args.leader _ c.requires.linked.1 in
     let node : c.index-nodes-id.result ≡ node_at c.args.nodes.now c.args.leader = get_or_read _ _ _ within (rw c.id.ensures at c.index-nodes-id.is) (record { hash = 0; next = None }) in
-    λ path thread. head_of_one c.args.nodes.now c.args.leader _ (omega arith) _ path thread (ap (λ (n : Node). n.next) (sym node) ∙ c.in-None.is) (rw node at c.word-first.ensures)
+    λ path thread. head_of_one c.args.nodes.now c.args.leader _ (omega arith) _ path thread (ap (λ (n : Node). n.next) (sym node) ∙ c.in-None.is) (rw node at c.word-first.ensures.word)
 
 pub returns-in-Some : goal.returns-in-Some
 returns-in-Some c =
@@ -42,4 +42,4 @@ returns-in-Some c =
     let follows : next_of c.args.nodes.now c.args.leader ≡ Some c.in-Some.symbol = ap (λ (n : Node). n.next) (sym node) ∙ c.in-Some.is in
     let below = thread_next c.args.nodes.now c.args.leader _ c.in-Some.symbol c.requires.linked.1 follows in
     let behind : get_or c.args.nodes.now c.in-Some.symbol c.index-nodes-id-in-Some.result ≡ node_at c.args.nodes.now c.in-Some.symbol = get_or_default _ _ _ _ below in
-    λ path thread. head_of_two c.args.nodes.now c.args.leader _ (omega arith) _ _ c.in-Some.symbol path thread follows (rw node at c.word-first.ensures) (rw (c.id-in-Some.ensures, behind) at c.word-second.ensures)
+    λ path thread. head_of_two c.args.nodes.now c.args.leader _ (omega arith) _ _ c.in-Some.symbol path thread follows (rw node at c.word-first.ensures.word) (rw (c.id-in-Some.ensures, behind) at c.word-second.ensures.word)
