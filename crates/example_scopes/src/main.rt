@@ -1,4 +1,4 @@
-//! Names with scopes: a mark at a block's entry, and a rollback to it at the exit.
+//! Scoped names: a mark at a block's entry, and a rollback to it at its exit.
 //!
 //! The program declares `x` and `y`, visits two blocks that declare names of
 //! their own, and finds `x` as it was.
@@ -11,11 +11,12 @@ ghost use Rattle.intaglio.specs.Lookup.{Keeps};
 use anyhow::Result;
 use intaglio::{InternError, StrContent, SymbolTable};
 
-/// Declares names, separated by blanks. A name that is visible keeps its symbol.
+/// Declares the names in `block`, separated by whitespace. A name that is already visible
+/// keeps its symbol.
 ///
 /// # Errors
 ///
-/// Those of [`intern`](SymbolTable::intern). The names before the failed one are then declared.
+/// Those of [`intern`](SymbolTable::intern). Then the names before the failed one stay declared.
 fn declare(names: &mut SymbolTable, block: &'static str) -> Result<(), InternError>
     ensures kept { Keeps str_key names.old.state names.new.state }
 {
@@ -25,10 +26,10 @@ fn declare(names: &mut SymbolTable, block: &'static str) -> Result<(), InternErr
     Ok(())
 }
 
-/// Visits a block that declares these names, and returns how many of them weren't visible outside.
+/// Declares the names of a block, drops them at its end, and returns how many were new.
 ///
-/// Afterwards exactly the names are visible that were visible before, each with
-/// its symbol, also after an error.
+/// Afterwards the same names are visible as before, each with its symbol, even
+/// after an error.
 ///
 /// # Errors
 ///
@@ -38,10 +39,11 @@ fn visit(names: &mut SymbolTable, block: &'static str) -> Result<usize, InternEr
 {
     let entry = names.mark();
     let declared = declare(names, block);
-    let inner = names.len() - entry.count();
+    let added = names.len() - entry.count();
+    // The mark isn't stale: `declare` keeps the earlier names.
     names.take_back(entry).unwrap();
     declared?;
-    Ok(inner)
+    Ok(added)
 }
 
 fn main(rt: HostRuntime) -> Result<()> {

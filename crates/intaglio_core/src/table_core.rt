@@ -244,7 +244,7 @@ impl<C: Keyed, S: BuildHasher> Core<C, S> {
 }
 
 // Makes room for one more content: in the list, in the links and in the buckets. The index grows last, so
-// that a failed call adds no mark.
+// that a failed growth records no event.
 fn find_room<C>(
     list: &mut Vec<C>,
     index: &mut Index,

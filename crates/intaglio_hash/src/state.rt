@@ -1,4 +1,4 @@
-//! The builder: two keys.
+//! A hash builder with two keys.
 ghost use Rattle.std.specs.Prelude.{◌≡◌};
 ghost use Rattle.std.specs.Hash.DefaultHasher.{with_keys};
 ghost use Rattle.intaglio_hash.specs.KeyedState.{initial_hasher, random_key};
@@ -8,10 +8,10 @@ use std::fmt;
 use std::fmt::{Debug, Formatter};
 use std::hash::{BuildHasher, RandomState};
 
-/// A builder of [`KeyedHasher`]s, all with the same two keys.
+/// A hash builder: each [`KeyedHasher`] that it builds has the same two keys.
 ///
-/// Use it instead of std's `RandomState` where hashing should be faster, and instead of a builder with a
-/// fixed seed where contents come from untrusted sources. The [crate's page](crate) compares the builders.
+/// Use it instead of std's `RandomState` if hashing should be faster, and with random keys instead of a
+/// builder with a fixed seed if contents come from untrusted sources. The [crate's page](crate) compares the builders.
 ///
 /// Copies have the same keys. `Debug` doesn't print them.
 ///
@@ -34,8 +34,8 @@ pub struct KeyedState {
 impl KeyedState {
     /// A builder with these two keys.
     ///
-    /// The same keys give the same hashes in each table, run and program. They protect against chosen
-    /// contents only while they are random and secret.
+    /// The same keys give the same hashes in each table, run and program. They protect against
+    /// contents chosen to collide only if they are random and secret.
     ///
     /// ```
     /// # use intaglio_hash::KeyedState;
@@ -50,10 +50,9 @@ impl KeyedState {
         KeyedState { key0, key1 }
     }
 
-    /// A builder whose keys are the hashes of `0u64` and of `1u64` by `random`.
+    /// A builder whose keys are `random.hash_one(0u64)` and `random.hash_one(1u64)`.
     ///
-    /// They are as hard to guess as those of `random`. The hashes differ from those of `random`, since a
-    /// `RandomState` doesn't show its keys. The same `random` always gives the same builder.
+    /// Its hashes aren't those of `random`, since the keys of a `RandomState` can't be read. The same `random` always gives the same builder.
     ///
     /// ```
     /// # use intaglio_hash::KeyedState;

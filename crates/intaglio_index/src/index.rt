@@ -14,18 +14,18 @@ use modulus::Modulus;
 use std::alloc::Global;
 use std::marker::Model;
 
-// A placed symbol's hash, and the next symbol of its bucket. The node's position in
-// the list is the symbol's number.
+// A placed symbol's hash, and the next symbol of its bucket. Its position in
+// `nodes` is the symbol's number.
 #[derive(Clone, Copy)]
 pub(crate) struct Node {
     hash: u64,
     next: Option<Symbol>,
 }
 
-/// Symbols in buckets, by the hashes of their contents.
+/// A hash index: symbols in buckets, found by the hashes of their contents.
 ///
-/// A bucket takes 17 bytes and a placed symbol 16. No symbol's number is reserved for "none": all 2^32
-/// symbols can be placed.
+/// A bucket takes 17 bytes and a placed symbol 16. No symbol is reserved as "none", so all 2^32 can be
+/// placed.
 ///
 /// ```
 /// # use intaglio::{Index, Symbol, Work};
@@ -33,10 +33,11 @@ pub(crate) struct Node {
 /// let mut index = Index::with_buckets(rt.alloc(), 4)?;
 /// index.place(6, Symbol::new(0), &mut work);
 /// index.place(2, Symbol::new(1), &mut work);
-/// // Both are in bucket 2, as a symbol of hash 10 would be. The smaller hash comes first.
+/// // Both are in bucket 2, as a symbol of hash 10 would be. `first` returns the first symbol of the
+/// // bucket, whatever its hash. The smaller hash comes first.
 /// assert_eq!(rt; index.first(10, &mut work), Some((Symbol::new(1), 2)));
 /// assert_eq!(rt; index.after(Symbol::new(1), &mut work), Some((Symbol::new(0), 6)));
-/// // A search by a hash finds symbols of this very hash.
+/// // `find` returns only a symbol with exactly this hash.
 /// assert_eq!(rt; index.find(6, &mut work), Some(Symbol::new(0)));
 /// assert_eq!(rt; index.find(10, &mut work), None);
 /// ```
@@ -72,7 +73,8 @@ impl Model for Index {
       modulus : IsModulus index.modulus;
       counted : index.modulus.count ≡ length index.heads.items;
       linked : IsLinked (length index.heads.items) index.nodes.items;
-      headed : IsHeaded (index.modulus.mask + 1) index.heads.items index.filters.items (hashes_of index.nodes.items);
+      headed : let hashes = hashes_of index.nodes.items in
+          IsHeaded (index.modulus.mask + 1) index.heads.items index.filters.items hashes;
       filtered : IsFiltered index.filters.items (length index.heads.items) (hashes_of index.nodes.items);
     } };
 }

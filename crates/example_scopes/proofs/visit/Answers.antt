@@ -3,8 +3,8 @@ use Rattle.intaglio.specs.Keys.{str_key}
 use Rattle.intaglio.proofs.Rollbacks.{kept-count, not_stale, rolled_back}
 use Rattle.example_scopes.proofs.visit.Goals as goal
 
-pub overflow_sub-inner : goal.overflow_sub-inner
-overflow_sub-inner c =
+pub overflow_sub-added : goal.overflow_sub-added
+overflow_sub-added c =
     let le = kept-count str_key c.args.names.now.state c.declare-declared.new.names.state c.declare-declared.ensures.kept in
     omega (arith, le, c.mark-entry.ensures, c.count.ensures, c.len.ensures.count)
 

@@ -1,4 +1,4 @@
-//! Making buckets.
+//! Construction and growth.
 ghost use Rattle.std.specs.Prelude.{◌≡◌, ◌<◌, ◌≤◌, [], length, replicate, None, IfOk, IsOk, OnErr, OnOk};
 ghost use Rattle.intaglio_index.specs.Change.{KeepsPlaces, KeepsBuckets, PlacesEach};
 
@@ -10,8 +10,8 @@ use intaglio_symbol::Symbol;
 use std::alloc::{AllocError, Global};
 
 impl Index {
-    /// An index with exactly `count` empty buckets, and room for as many symbols. With no buckets it
-    /// allocates nothing.
+    /// An index with exactly `count` empty buckets, and capacity for as many symbols. With `count` 0
+    /// nothing is allocated.
     ///
     /// # Errors
     ///
@@ -39,8 +39,8 @@ impl Index {
         })
     }
 
-    /// Makes room for `count` symbols in total, and makes sure that there are at least as many buckets.
-    /// Placed symbols stay placed.
+    /// Reserves capacity for `count` symbols in total (not for `count` more, as `Vec::reserve` does), with
+    /// at least as many buckets. Placed symbols stay placed.
     ///
     /// New buckets are made only if there are fewer than `count`. Then all symbols are placed again by their
     /// stored hashes: one placement each.
@@ -66,7 +66,7 @@ impl Index {
         Ok(())
     }
 
-    /// Makes exactly `count` buckets, with room for as many symbols. All symbols are placed again by their
+    /// Makes exactly `count` buckets, with capacity for as many symbols. All symbols are placed again by their
     /// stored hashes: one placement each.
     ///
     /// # Errors
@@ -85,7 +85,7 @@ impl Index {
         Ok(())
     }
 
-    // The same symbols in new buckets.
+    // An index with the same symbols in `count` new buckets.
     fn rebuilt(&self, count: usize, work: &mut Work) -> Result<Index, AllocError>
         requires { length self.now.hashes ≤ count }
         ensures made { IfOk result (λ index.
