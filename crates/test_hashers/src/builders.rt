@@ -33,7 +33,8 @@ pub struct Known {
 }
 
 impl Hasher for Known {
-    ghost write = { λ state bytes. record { fixed = state.fixed; first = option_or state.first (slice_get bytes 0) } };
+    ghost write = { λ state bytes.
+        record { fixed = state.fixed; first = option_or state.first (slice_get bytes 0) } };
 
     ghost finish = { λ state. unwrap_or state.fixed (unwrap_or state.first 0) };
 

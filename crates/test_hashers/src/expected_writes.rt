@@ -23,7 +23,10 @@ impl ExpectedWrites {
 impl HasherCount for ExpectedWrites {}
 
 impl Hasher for ExpectedWrites {
-    ghost write = { λ state bytes. record state { matched = if option_map_or (λ wanted. pointwise ◌==◌ wanted.now bytes) (slice_get state.writes.now state.matched) false then state.matched + 1 else 2 ^ 64 - 1 } };
+    ghost write = { λ state bytes.
+        let expected = slice_get state.writes.now state.matched in
+        let is_met = option_map_or (λ wanted. pointwise ◌==◌ wanted.now bytes) expected false in
+        record state { matched = if is_met then state.matched + 1 else 2 ^ 64 - 1 } };
 
     ghost finish = { λ state. if state.matched == length state.writes.now then 1 else 0 };
 
