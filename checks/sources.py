@@ -146,7 +146,7 @@ def edits_in(crate, path):
 def is_of_type(edit):
     """Whether an edit turns a type, which stands before all functions of its file, and no body."""
     text = (TOP / "crates" / edit.crate / edit.file).read_text(encoding="utf-8")
-    return any(old in text and not re.search(r"\bfn ", text[: text.index(old)]) for old, _ in edit.pairs)
+    return any(old in text and not re.search(r"\bfn ", text[: text.index(old) + len(old)]) for old, _ in edit.pairs)
 
 
 class Sources:

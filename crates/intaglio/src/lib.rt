@@ -22,6 +22,3 @@ pub use intaglio_cstr as cstr;
 pub use intaglio_path as path;
 pub use intaglio_table::Table;
 pub use intaglio_text::{Iter, StrContent, Strings, SymbolTable, osstr};
-
-#[cfg(test)]
-mod tests;

@@ -5,4 +5,5 @@ pub mod Encoded
 pub mod Decoded
 pub mod Fault
 pub mod Laws
+pub mod Puts
 pub mod StreamError

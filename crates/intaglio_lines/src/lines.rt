@@ -1,12 +1,12 @@
 //! The first line of an input.
-ghost use Rattle.std.specs.Prelude.{◌≡◌, ◌<◌, ◌==◌, ◌⊎◌, [], ◌++◌, ◌∷◌, length, position, IfSome};
-ghost use Rattle.intaglio_lines.specs.Lines.{lines_of};
+ghost use Rattle.std.specs.Prelude.{◌≡◌, ◌<◌, ◌==◌, ◌∷◌, length, position, IfSome};
+ghost use Rattle.intaglio_lines.specs.Lines.{lines_of, Splits};
 
 /// The first line of an input, and what follows it and its byte 10.
 pub fn first_line(input: &[u8]) -> (&[u8], &[u8])
     requires { 0 < length input.now }
     ensures lines { lines_of input.now ≡ result.0.now ∷ lines_of result.1.now }
-    ensures whole { (input.now ≡ result.0.now ++ 10 ∷ result.1.now) ⊎ ((input.now ≡ result.0.now) × (result.1.now ≡ [])) }
+    ensures whole { Splits input.now result.0.now result.1.now }
     ensures shorter { length result.1.now < length input.now }
 {
     match end_of_line(input) {

@@ -1,7 +1,8 @@
 //! Writes outputs through a block of fixed size.
 ghost use Rattle.std.specs.Prelude.{◌≡◌, ◌≢◌, ◌+◌, ◌≤◌, ◌⊎◌, ℕ, List, [], OnOk, IfErr, vec_len, vec_capacity};
-ghost use Rattle.std.specs.Io.KnownBytes.{Appends, Keeps, append_known};
+ghost use Rattle.std.specs.Io.KnownBytes.{Keeps};
 ghost use Rattle.intaglio_lines.specs.Encoded.{spelling_line};
+ghost use Rattle.intaglio_lines.specs.Puts.{Puts, Writes, held};
 ghost use Rattle.intaglio_lines.specs.StreamError.{IsWritingError};
 ghost use Rattle.intaglio_lines.specs.declared.error.StreamError.TheVariants.{Write as WriteFailed};
 
@@ -23,7 +24,7 @@ pub trait Output {
     /// Writes all of its bytes, with [`put`].
     fn put_all<W: Write>(&self, block: &mut Vec<u8>, writer: &mut W) -> io::Result<()>
         requires { is_ready self.now }
-        ensures { OnOk result (Appends (append_known (W.contents writer.old) block.old.items) (append_known (W.contents writer.new) block.new.items) (bytes self.now)) };
+        ensures { OnOk result (Puts W.contents writer.old block.old writer.new block.new (bytes self.now)) };
 }
 
 /// Writes all bytes of an output, and flushes.
@@ -40,7 +41,7 @@ pub fn write_output<O: Output, W: Write>(
     writer: &mut W,
 ) -> Result<(), StreamError>
     requires { O.is_ready output.now }
-    ensures written { OnOk result (Appends (W.contents writer.old) (W.contents writer.new) (O.bytes output.now)) }
+    ensures written { OnOk result (Writes W.contents writer.old writer.new (O.bytes output.now)) }
     ensures nothing_written { IfErr result (λ e. e ≢ WriteFailed → writer.new ≡ writer.old) }
     ensures err { IfErr result IsWritingError }
 {
@@ -59,7 +60,7 @@ fn write_through<O: Output, W: Write>(
 ) -> io::Result<()>
     requires ready { O.is_ready output.now }
     requires empty { block.old.items ≡ [] }
-    ensures { OnOk result (Appends (W.contents writer.old) (W.contents writer.new) (O.bytes output.now)) }
+    ensures { OnOk result (Writes W.contents writer.old writer.new (O.bytes output.now)) }
 {
     output.put_all(block, writer)?;
     writer.write_all(block)?;
@@ -72,7 +73,8 @@ fn write_through<O: Output, W: Write>(
 ///
 /// Those of the writer.
 pub fn put_line<W: Write>(line: &[u8], block: &mut Vec<u8>, writer: &mut W) -> io::Result<()>
-    ensures { OnOk result (Appends (append_known (W.contents writer.old) block.old.items) (append_known (W.contents writer.new) block.new.items) (spelling_line line.now)) }
+    ensures { OnOk result
+        (Puts W.contents writer.old block.old writer.new block.new (spelling_line line.now)) }
 {
     put(line, block, writer)?;
     put(b"\n", block, writer)
@@ -85,7 +87,7 @@ pub fn put_line<W: Write>(line: &[u8], block: &mut Vec<u8>, writer: &mut W) -> i
 ///
 /// Those of the writer.
 pub fn put<W: Write>(piece: &[u8], block: &mut Vec<u8>, writer: &mut W) -> io::Result<()>
-    ensures { OnOk result (Appends (append_known (W.contents writer.old) block.old.items) (append_known (W.contents writer.new) block.new.items) piece.now) }
+    ensures { OnOk result (Puts W.contents writer.old block.old writer.new block.new piece.now) }
 {
     make_room(piece.len(), block, writer)?;
     if piece.len() > block.capacity() - block.len() {
@@ -102,8 +104,10 @@ pub fn put<W: Write>(piece: &[u8], block: &mut Vec<u8>, writer: &mut W) -> io::R
 ///
 /// Those of the writer.
 pub fn make_room<W: Write>(count: usize, block: &mut Vec<u8>, writer: &mut W) -> io::Result<()>
-    ensures same { OnOk result (Keeps (append_known (W.contents writer.old) block.old.items) (append_known (W.contents writer.new) block.new.items)) }
-    ensures room { OnOk result ((block.new.items ≡ []) ⊎ (vec_len block.new + count ≤ vec_capacity block.new)) }
+    ensures same { OnOk result
+        (Keeps (held W.contents writer.old block.old) (held W.contents writer.new block.new)) }
+    ensures room { OnOk result
+        ((block.new.items ≡ []) ⊎ (vec_len block.new + count ≤ vec_capacity block.new)) }
 {
     if count > block.capacity() - block.len() {
         writer.write_all(block)?;

@@ -1,16 +1,14 @@
 //! Decodes an output of `intaglio_tool`: writes the string of each symbol, as a line.
 #![tactic(auto)]
 
-mod error;
-mod number;
-mod parts;
-mod restore;
-mod serve;
+ghost use Rattle.std.specs.Prelude.{◌≡◌, IfErr};
+ghost use Rattle.intaglio_lines.specs.declared.error.StreamError.TheVariants.{Memory};
+
 #[cfg(test)]
 mod tests;
 
+use intaglio_decode::serve::serve;
 use intaglio_lines::error::{StreamError, report};
-use serve::serve;
 use std::env;
 use std::io::ErrorKind;
 use std::process::ExitCode;
@@ -32,7 +30,9 @@ fn main(rt: HostRuntime) -> ExitCode {
 }
 
 // Whether there are arguments after the program's name. One that isn't text counts too.
-fn has_arguments<R: Env + AllocGlobal>(rt: &R) -> Result<bool, StreamError> {
+fn has_arguments<R: Env + AllocGlobal>(rt: &R) -> Result<bool, StreamError>
+    ensures err { IfErr result (λ e. e ≡ Memory) }
+{
     match env::args(rt) {
         Ok(args) => Ok(args.skip(1).next().is_some()),
         Err(e) => {

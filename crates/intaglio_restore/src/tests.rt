@@ -2,9 +2,9 @@
 //!
 //! A line of a test is a call of a function, which is proved once; an assertion is
 //! proved again wherever it is written.
-use crate::error::RestoreError;
-use crate::restore::restore;
-use crate::serve::serve;
+use intaglio_decode::error::RestoreError;
+use intaglio_decode::restore::restore;
+use intaglio_decode::serve::serve;
 use intaglio_lines::error::{StreamError, report};
 use intaglio_lines::fakes::{SlowReader, SmallWriter, StuckWriter, UnflushedWriter};
 use std::io::{ErrorKind, Read, Write};

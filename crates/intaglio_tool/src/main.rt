@@ -1,18 +1,15 @@
 //! Interns the lines of its input, and writes the symbol of each line and then each distinct line.
 #![tactic(auto)]
 
-mod encode;
-mod error;
-mod from_line;
-mod serve;
-mod take;
+ghost use Rattle.std.specs.Prelude.{◌≡◌, IfErr};
+ghost use Rattle.intaglio_encode.specs.declared.error.ToolError.TheVariants.{Memory};
+
 #[cfg(test)]
 mod tests;
-mod write;
 
-use error::ToolError;
+use intaglio_encode::error::ToolError;
+use intaglio_encode::serve::serve;
 use intaglio_lines::error::report;
-use serve::serve;
 use std::env;
 use std::hash::RandomState;
 use std::io::ErrorKind;
@@ -38,7 +35,9 @@ fn main(rt: HostRuntime) -> ExitCode {
 
 // The arguments after the program's name. If one of them isn't text, there are
 // none, so that it is a usage error.
-fn words<R: Env + AllocGlobal>(rt: &R) -> Result<Vec<String>, ToolError> {
+fn words<R: Env + AllocGlobal>(rt: &R) -> Result<Vec<String>, ToolError>
+    ensures err { IfErr result (λ e. e ≡ Memory) }
+{
     match env::args(rt) {
         Ok(args) => {
             // A loop, since `collect` asks for less memory again after an allocation failed.

@@ -2,9 +2,9 @@
 //!
 //! A line of a test is a call of a function, which is proved once; an assertion is
 //! proved again wherever it is written.
-use crate::encode::encode;
-use crate::error::ToolError;
-use crate::serve::serve;
+use intaglio_encode::encode::encode;
+use intaglio_encode::error::ToolError;
+use intaglio_encode::serve::serve;
 use intaglio_lines::error::report;
 use intaglio_lines::fakes::{SlowReader, SmallWriter, StuckWriter, UnflushedWriter};
 use intaglio_lines::kind::Kind;

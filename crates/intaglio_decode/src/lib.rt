@@ -1,0 +1,11 @@
+//! Decodes an encoded output: the string of each symbol, as a line.
+//!
+//! [`restore::restore`] does so over any reader and writer, and [`serve::serve`] is a run of the program
+//! `intaglio_restore`.
+#![tactic(auto)]
+
+pub mod error;
+pub mod number;
+pub mod parts;
+pub mod restore;
+pub mod serve;

@@ -1,0 +1,5 @@
+-- What the contracts of the program cite.
+pub mod Cuts
+pub mod Encodes
+pub mod Taken
+pub mod ToolError

@@ -1,0 +1,128 @@
+//! From the bytes read to the bytes written.
+ghost use Rattle.std.specs.Prelude.{◌≡◌, ◌≢◌, ◌<◌, ◌^◌, OnOk, IfErr, IfSome};
+ghost use Rattle.std.specs.Io.KnownBytes.{IsAtEnd};
+ghost use Rattle.intaglio_lines.specs.Encoded.{encoded, encoded_by};
+ghost use Rattle.intaglio_lines.specs.Kind.{is_fit};
+ghost use Rattle.intaglio_lines.specs.Puts.{Writes};
+ghost use Rattle.intaglio_encode.specs.Encodes.{Encodes, Forbids, IsTooMany};
+ghost use Rattle.intaglio_encode.specs.Taken.{AllFit, distinct_count};
+ghost use Rattle.intaglio_encode.specs.ToolError.{IsEncodingError, IsNotUtf8OrUnread, IsTakingOrWritingError};
+ghost use Rattle.intaglio_encode.specs.ToolError.{ReportsFirstUnfit};
+ghost use Rattle.intaglio_encode.specs.declared.error.ToolError.TheVariants.{NotUtf8, Overflow, Write as WriteFailed};
+
+use crate::error::ToolError;
+use crate::from_line::FromLine;
+use crate::take::take_lines;
+use crate::write::Encoding;
+use intaglio_bytes::b_str::BStrContent;
+use intaglio_bytes::bytes::BytesContent;
+use intaglio_cstr::CStrContent;
+use intaglio_lines::kind::Kind;
+use intaglio_lines::read::read_all;
+use intaglio_lines::write::write_output;
+use intaglio_path::PathContent;
+use intaglio_table::Table;
+use intaglio_text::StrContent;
+use intaglio_text::osstr::OsStrContent;
+use std::alloc::Global;
+use std::hash::BuildHasher;
+use std::io::{Read, Write};
+
+/// Interns the lines of the input into a table of that kind, and writes the symbol of each line, an empty
+/// line, and the spelling of each symbol.
+///
+/// The whole input is read before the first line is interned, all lines are interned before anything is
+/// written, and nothing is allocated after the first write.
+///
+/// # Errors
+///
+/// Those of [`ToolError`]; the first one that occurs is returned. After each but `Write` nothing was written.
+pub fn encode<S: BuildHasher + Drop, R: Read, W: Write>(
+    alloc: Global,
+    kind: Kind,
+    builder: S,
+    reader: &mut R,
+    writer: &mut W,
+) -> Result<(), ToolError>
+    ensures written { OnOk result (Encodes kind (R.remaining reader.old) W.contents writer.old writer.new) }
+    ensures all_read { OnOk result (IsAtEnd (R.remaining reader.new)) }
+
+    // `NotUtf8` is returned only after the whole input was read, and only if the kind doesn't allow that
+    // input. A contract can't distinguish a reader at its end from one that has reported it, so an allocation
+    // may have failed there: `encode_input` is exact.
+    ensures not_utf8 { result ≡ Err NotUtf8 → IfSome (R.remaining reader.old) (Forbids kind) }
+    ensures end_met { result ≡ Err NotUtf8 → IsAtEnd (R.remaining reader.new) }
+    ensures refuses { IfSome (R.remaining reader.old)
+        (λ input. Forbids kind input → IsNotUtf8OrUnread result) }
+
+    // The first line that doesn't fit is reported by its number, and never passed over.
+    ensures zero { IfSome (R.remaining reader.old)
+        (λ input. IfErr result (ReportsFirstUnfit (is_fit kind) input)) }
+    ensures fit { IfSome (R.remaining reader.old) (λ input. OnOk result (AllFit (is_fit kind) input)) }
+
+    ensures overflow { result ≡ Err Overflow → IfSome (R.remaining reader.old) (IsTooMany kind) }
+    ensures nothing_written { IfErr result (λ e. e ≢ WriteFailed → writer.new ≡ writer.old) }
+{
+    let input = read_all(alloc, reader)?;
+    encode_input(alloc, kind, builder, &input, writer)
+}
+
+/// The same for an input that was read: it returns `NotUtf8` exactly if the kind doesn't allow the input.
+///
+/// # Errors
+///
+/// Those of [`ToolError`] but `Read`; the first one that occurs is returned. After each
+/// but `Write` nothing was written.
+pub fn encode_input<S: BuildHasher + Drop, W: Write>(
+    alloc: Global,
+    kind: Kind,
+    builder: S,
+    input: &[u8],
+    writer: &mut W,
+) -> Result<(), ToolError>
+    ensures written { OnOk result (Writes W.contents writer.old writer.new (encoded kind input.now)) }
+    ensures not_utf8 { result ≡ Err NotUtf8 → Forbids kind input.now }
+    ensures refuses { Forbids kind input.now → result ≡ Err NotUtf8 }
+    ensures zero { IfErr result (ReportsFirstUnfit (is_fit kind) input.now) }
+    ensures fit { OnOk result (AllFit (is_fit kind) input.now) }
+    ensures overflow { result ≡ Err Overflow → IsTooMany kind input.now }
+    ensures nothing_written { IfErr result (λ e. e ≢ WriteFailed → writer.new ≡ writer.old) }
+    ensures err { IfErr result IsEncodingError }
+{
+    if !kind.allows(input) {
+        return Err(ToolError::NotUtf8);
+    }
+    match kind {
+        Kind::Text => encode_by::<StrContent, S, W>(alloc, builder, input, writer),
+        Kind::Bytes => encode_by::<BytesContent, S, W>(alloc, builder, input, writer),
+        Kind::BStr => encode_by::<BStrContent, S, W>(alloc, builder, input, writer),
+        Kind::CStr => encode_by::<CStrContent, S, W>(alloc, builder, input, writer),
+        Kind::OsStr => encode_by::<OsStrContent, S, W>(alloc, builder, input, writer),
+        Kind::Path => encode_by::<PathContent, S, W>(alloc, builder, input, writer),
+    }
+}
+
+// As `encode_input`, for an input whose lines become contents of this type.
+fn encode_by<'a, C: FromLine<'a>, S: BuildHasher + Drop, W: Write>(
+    alloc: Global,
+    builder: S,
+    input: &'a [u8],
+    writer: &mut W,
+) -> Result<(), ToolError>
+    requires allowed { C.allows input.now }
+    ensures written { OnOk result (Writes W.contents writer.old writer.new (encoded_by C.key_of input.now)) }
+    ensures zero { IfErr result (ReportsFirstUnfit C.fits input.now) }
+    ensures fit { OnOk result (AllFit C.fits input.now) }
+    ensures overflow { result ≡ Err Overflow → 2 ^ 32 < distinct_count C.key_of input.now }
+    ensures nothing_written { IfErr result (λ e. e ≢ WriteFailed → writer.new ≡ writer.old) }
+    ensures err { IfErr result IsTakingOrWritingError }
+{
+    let mut table = Table::<C, S>::with_hasher(alloc, builder)?;
+    let symbols = take_lines(alloc, &mut table, input)?;
+    let encoding = Encoding {
+        symbols: &symbols,
+        table: &table,
+    };
+    write_output(alloc, &encoding, writer)?;
+    Ok(())
+}

@@ -1,3 +1,0 @@
--- What the contracts of the program cite.
-pub mod Parts
-pub mod RestoreError

@@ -1,3 +1,0 @@
--- What the contracts of the program cite.
-pub mod Cuts
-pub mod ToolError

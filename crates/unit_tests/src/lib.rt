@@ -1,0 +1,6 @@
+//! Tests of symbols, errors, the index, the core and contents.
+#![tactic(auto)]
+
+pub mod counting;
+#[cfg(test)]
+mod tests;

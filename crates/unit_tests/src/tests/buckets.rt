@@ -1,0 +1,183 @@
+//! Buckets of an index after each kind of change, with memory enough.
+ghost use Rattle.std.specs.Prelude.{◌≡◌, ◌^◌, ◌≤◌, length};
+
+use super::assertions::same;
+use intaglio::{Index, Symbol, Work};
+use std::process::Abort;
+
+// An index with symbols of these hashes, and as many buckets.
+fn filled<Rt: Abort + AllocGlobal>(rt: &Rt, hashes: &[u64]) -> Index
+    requires { length hashes.now ≤ 2 ^ 32 }
+    ensures { length result.hashes ≡ length hashes.now }
+{
+    let mut work = Work::new();
+    let mut index = Index::with_buckets(rt.alloc(), hashes.len()).expect(rt, "no memory");
+    for (i, hash) in hashes.iter().enumerate() {
+        index.place(*hash, Symbol::new(i as u32), &mut work);
+    }
+    index
+}
+
+// Asserts that a walk of the hash's bucket meets these symbols in this order, and no others.
+fn meets(rt: &impl Abort, index: &Index, count: u32, hash: u64, wanted: &[u32])
+    requires { count ≤ length index.now.hashes }
+{
+    let mut work = Work::new();
+    let mut next = index.first(hash, &mut work);
+    for number in wanted {
+        let symbol = next.expect(rt, "a symbol is missing").0;
+        assert!(rt; symbol.id() == *number && symbol.id() < count);
+        next = index.after(symbol, &mut work);
+    }
+    assert!(rt; next.is_none());
+}
+
+// Asserts that a search for the hash finds these symbols in this order, and no others.
+fn finds(rt: &impl Abort, index: &Index, count: u32, hash: u64, wanted: &[u32])
+    requires { count ≤ length index.now.hashes }
+{
+    let mut work = Work::new();
+    let mut next = index.find(hash, &mut work);
+    for number in wanted {
+        let symbol = next.expect(rt, "a symbol is missing");
+        assert!(rt; symbol.id() == *number && symbol.id() < count);
+        next = index.find_next(symbol, &mut work);
+    }
+    assert!(rt; next.is_none());
+}
+
+// Asserts that a walk meets symbols of these hashes, in as many buckets, in this order.
+fn fills<Rt: Abort + AllocGlobal>(rt: &Rt, hashes: &[u64], hash: u64, wanted: &[u32])
+    requires { length hashes.now ≤ 5 }
+{
+    let index = filled(rt, hashes);
+    meets(rt, &index, hashes.len() as u32, hash, wanted);
+}
+
+#[test]
+fn one_bucket_is_in_order(rt: HostRuntime) {
+    fills(&rt, &[3, 8, 13, 18, 23], 28, &[0, 1, 2, 3, 4]);
+    fills(&rt, &[23, 18, 13, 8, 3], 28, &[4, 3, 2, 1, 0]);
+    fills(&rt, &[13, 3, 23, 8, 13], 28, &[1, 3, 4, 0, 2]);
+    fills(&rt, &[13, 3, 23, 8, 13], 2, &[]);
+}
+
+#[test]
+fn a_search_finds_the_symbols_of_its_hash(rt: HostRuntime) {
+    let index = filled(&rt, &[13, 3, 23, 8, 13]);
+    finds(&rt, &index, 5, 3, &[1]);
+    finds(&rt, &index, 5, 13, &[4, 0]);
+    finds(&rt, &index, 5, 23, &[2]);
+    finds(&rt, &index, 5, 18, &[]);
+    let index = filled(&rt, &[32, 16, 48, 16]);
+    finds(&rt, &index, 4, 16, &[3, 1]);
+    finds(&rt, &index, 4, 48, &[2]);
+    finds(&rt, &index, 4, 64, &[]);
+    finds(&rt, &index, 4, 17, &[]);
+}
+
+#[test]
+fn a_cut_leaves_the_first_symbols(rt: HostRuntime) {
+    let mut index = filled(&rt, &[13, 3, 23, 8, 13]);
+    index.cut(5);
+    meets(&rt, &index, 5, 3, &[1, 3, 4, 0, 2]);
+    index.cut(3);
+    meets(&rt, &index, 3, 3, &[1, 0, 2]);
+    index.cut(0);
+    meets(&rt, &index, 0, 3, &[]);
+    same(&rt, (index.bucket_count(), index.room()), (5, 5));
+}
+
+#[test]
+fn a_cleared_index_takes_symbols_again(rt: HostRuntime) {
+    let mut work = Work::new();
+    let mut index = filled(&rt, &[13, 3, 23]);
+    index.clear();
+    meets(&rt, &index, 0, 1, &[]);
+    index.place(7, Symbol::new(0), &mut work);
+    index.place(4, Symbol::new(1), &mut work);
+    meets(&rt, &index, 2, 1, &[1, 0]);
+    meets(&rt, &index, 2, 3, &[]);
+}
+
+#[test]
+fn a_shrink_keeps_symbols(rt: HostRuntime) {
+    let mut work = Work::new();
+    let mut index = filled(&rt, &[13, 3, 23, 8, 14]);
+    index.cut(3);
+    index.rebuild(3, &mut work).expect(&rt, "no memory");
+    same(&rt, (index.bucket_count(), index.room()), (3, 3));
+    meets(&rt, &index, 3, 0, &[1]);
+    meets(&rt, &index, 3, 1, &[0]);
+    meets(&rt, &index, 3, 2, &[2]);
+}
+
+// A hash for each number, spread over the buckets.
+fn spread(number: u32) -> u64 {
+    (number as u64).wrapping_mul(0x9E37_79B9_7F4A_7C15) >> 7
+}
+
+// How many symbols are in the hash's bucket, and whether that of the number is one of them.
+fn walk(rt: &impl Abort, index: &Index, count: u32, hash: u64, number: u32) -> (u32, bool)
+    requires { count ≤ length index.now.hashes }
+{
+    let mut work = Work::new();
+    let mut found = false;
+    let mut next = index.first(hash, &mut work);
+    for met in 0..count {
+        let Some((symbol, _)) = next else {
+            return (met, found);
+        };
+        assert!(rt; symbol.id() < count);
+        found |= symbol.is(number);
+        next = index.after(symbol, &mut work);
+    }
+    assert!(rt; next.is_none());
+    (count, found)
+}
+
+// Asserts that each symbol is in its own bucket, and in no other one.
+fn stands(rt: &impl Abort, index: &Index, count: u32)
+    requires { count ≤ length index.now.hashes }
+{
+    for number in 0..count {
+        let (_, found) = walk(rt, index, count, spread(number), number);
+        assert!(rt; found, "symbol {number} of {count}");
+    }
+    let mut placed = 0u32;
+    for bucket in 0..index.bucket_count() {
+        let (met, _) = walk(rt, index, count, bucket as u64, 0);
+        placed = placed.wrapping_add(met);
+    }
+    same(rt, placed, count);
+}
+
+// Makes room for more symbols, and places them.
+fn grow<Rt: Abort>(rt: &Rt, index: &mut Index, from: u32, to: u32)
+    requires from { length index.old.hashes ≡ from }
+    requires more { from ≤ to }
+    ensures { length index.new.hashes ≡ to }
+{
+    let mut work = Work::new();
+    index
+        .reserve(to as usize, &mut work)
+        .expect(rt, "no memory");
+    for number in from..to {
+        index.place(spread(number), Symbol::new(number), &mut work);
+    }
+    stands(rt, index, to);
+}
+
+#[test]
+fn growth_keeps_symbols_in_their_buckets(rt: HostRuntime) {
+    let mut index = Index::with_buckets(rt.alloc(), 0).expect(&rt, "no memory");
+    same(&rt, (index.bucket_count(), index.room()), (0, 0));
+    meets(&rt, &index, 0, 3, &[]);
+    grow(&rt, &mut index, 0, 4);
+    grow(&rt, &mut index, 4, 8);
+    grow(&rt, &mut index, 8, 16);
+    grow(&rt, &mut index, 16, 32);
+    grow(&rt, &mut index, 32, 64);
+    grow(&rt, &mut index, 64, 128);
+    same(&rt, (index.bucket_count(), index.room()), (128, 128));
+}

@@ -1,0 +1,94 @@
+//! Bytes that are C strings, and bytes that are none.
+use super::assertions::{holds, same};
+use intaglio::cstr::{CStr, CStrError, CString, CStringError};
+use std::alloc::{AllocError, Global};
+use std::process::Abort;
+
+const MISSING: Result<&[u8], CStrError> = Err(CStrError::MissingZero);
+
+fn reads(bytes: &[u8], wanted: Result<&[u8], CStrError>) -> bool {
+    match (CStr::from_bytes_with_nul(bytes), wanted) {
+        (Ok(found), Ok(spelling)) => {
+            *found.to_bytes() == *spelling && *found.to_bytes_with_nul() == *bytes
+        }
+        (Err(found), Err(error)) => found == error,
+        _ => false,
+    }
+}
+
+fn takes(bytes: Vec<u8>, wanted: Result<&[u8], CStrError>) -> bool {
+    match (CString::from_vec_with_nul(bytes), wanted) {
+        (Ok(found), Ok(spelling)) => *found.as_c_str().to_bytes() == *spelling,
+        (Err(found), Err(error)) => found == error,
+        _ => false,
+    }
+}
+
+fn makes(alloc: Global, bytes: Vec<u8>, wanted: Result<&[u8], usize>) -> bool {
+    match (CString::new(alloc, bytes), wanted) {
+        (Ok(found), Ok(ended)) => *found.as_c_str().to_bytes_with_nul() == *ended,
+        (Err(CStringError::InnerZero(found)), Err(place)) => found == place,
+        _ => false,
+    }
+}
+
+// Asserts what `from_bytes_with_nul` and `from_vec_with_nul` return, the spelling, and what `new` returns:
+// the bytes with the final zero, or the position of the first one.
+fn agrees(
+    rt: &impl Abort,
+    alloc: Global,
+    bytes: &[u8],
+    read: Result<&[u8], CStrError>,
+    made: Result<&[u8], usize>,
+) {
+    holds(rt, reads(bytes, read));
+    holds(rt, takes(bytes.to_vec(alloc).expect(rt, "memory"), read));
+    holds(
+        rt,
+        makes(alloc, bytes.to_vec(alloc).expect(rt, "memory"), made),
+    );
+}
+
+#[test]
+fn constructors_agree_with_the_vectors(rt: HostRuntime) {
+    let alloc = rt.alloc();
+    agrees(&rt, alloc, b"", MISSING, Ok(b"\x00"));
+    agrees(&rt, alloc, b"\x00", Ok(b""), Err(0));
+    agrees(&rt, alloc, b"a", MISSING, Ok(b"a\x00"));
+    agrees(&rt, alloc, b"a\x00", Ok(b"a"), Err(1));
+    agrees(&rt, alloc, b"a\x00b", Err(CStrError::InnerZero(1)), Err(1));
+    agrees(
+        &rt,
+        alloc,
+        b"a\x00b\x00",
+        Err(CStrError::InnerZero(1)),
+        Err(1),
+    );
+    agrees(
+        &rt,
+        alloc,
+        b"\x00\x00",
+        Err(CStrError::InnerZero(0)),
+        Err(0),
+    );
+    agrees(&rt, alloc, b"\xff\x00", Ok(b"\xff"), Err(1));
+    holds(&rt, reads(b"abc", MISSING));
+}
+
+// Asserts what the errors print.
+fn prints(rt: &impl Abort, text: Result<String, AllocError>, wanted: &str) {
+    assert_eq!(rt; text.expect(rt, "memory").as_str(), wanted);
+}
+
+#[test]
+fn errors_print_what_is_wrong(rt: HostRuntime) {
+    let alloc = rt.alloc();
+    let missing = CStrError::MissingZero;
+    prints(&rt, format!(in alloc; "{missing}"), "no ending zero byte");
+    let inner = CStrError::InnerZero(10);
+    prints(&rt, format!(in alloc; "{inner}"), "zero byte at place 10");
+    let within = CStringError::InnerZero(0);
+    prints(&rt, format!(in alloc; "{within}"), "zero byte at place 0");
+    let refused = CStringError::Memory(AllocError);
+    prints(&rt, format!(in alloc; "{refused}"), "out of memory");
+}
