@@ -1,6 +1,6 @@
 //! What the errors print, and that `SymbolOverflowError` has one value.
 use super::assertions::{copy_of, holds, same};
-use intaglio::{InternError, RoomError, StaleMark, SymbolOverflowError};
+use intaglio::{InternError, RoomError, StaleMark, SymbolOverflowError, TableError};
 use std::alloc::AllocError;
 use std::cmp::Ordering;
 use std::fmt::Display;
@@ -28,6 +28,19 @@ fn error_texts(rt: HostRuntime) {
     prints(&rt, StaleMark::new(), "stale mark");
     let shown = format!(in rt.alloc(); "{full:?}").expect(&rt, "no memory");
     holds(&rt, !shown.is_empty());
+}
+
+#[test]
+fn a_table_error_prints_what_it_holds(rt: HostRuntime) {
+    let full = InternError::from(SymbolOverflowError::new());
+    prints(
+        &rt,
+        TableError::from(RoomError::CapacityOverflow),
+        "capacity overflow",
+    );
+    prints(&rt, TableError::from(full), "Symbol overflow");
+    prints(&rt, TableError::from(StaleMark::new()), "stale mark");
+    same(&rt, TableError::from(full), TableError::Intern(full));
 }
 
 #[test]
