@@ -1,5 +1,5 @@
 -- Forms that are looked up or interned in order, with what that costs, and one form more.
-use Rattle.std.proofs.Common.{◌≡◌, ◌⊎◌, ◌∙◌, inl, inr, sym, ℕ, suc, ◌+◌, ◌<◌, cond, List, [], ◌∷◌, ◌++◌, length, map, take, drop, get_or, Option, Some, None, IfSome, option_map, Ok, Err, Result, MatchOption, is_some, unwrap_or, length-append, append_assoc, append-nil, refl, ap, arith}
+use Rattle.std.proofs.Common.{◌≡◌, ◌⊎◌, ◌∙◌, inl, inr, sym, ℕ, ◌+◌, ◌<◌, cond, List, [], ◌∷◌, ◌++◌, length, map, take, drop, get_or, Option, Some, None, IfSome, option_map, Ok, Err, Result, MatchOption, is_some, unwrap_or, length-append, append_assoc, append-nil, refl, ap, arith}
 use Rattle.std.specs.Prelude.{slice_get}
 use Rattle.std.proofs.lemmas.List.{length-map, map-append, get_or-map, take_all, take_more, take-append-drop}
 use Rattle.std.proofs.lemmas.Option.{slice_get-map}

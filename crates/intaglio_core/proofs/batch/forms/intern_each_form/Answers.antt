@@ -1,4 +1,4 @@
-use Rattle.std.proofs.Common.{◌≡◌, ◌∙◌, ◌+◌, ◌<◌, length, take, drop, Err, arith, rules}
+use Rattle.std.proofs.Common.{◌≡◌, ◌∙◌, ◌<◌, length, take, Err, arith, rules}
 use Rattle.std.proofs.lemmas.List.{take_all}
 use Rattle.intaglio_core.proofs.ByForm.{next-part, whole-parts, InternsForm-limit, InternsEachForm-issues, Adds-form, stops-forms, overflows-forms}
 use Rattle.intaglio_core.proofs.Laws.{keeps-then, keeps-front}
