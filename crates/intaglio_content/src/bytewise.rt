@@ -29,6 +29,10 @@ impl<Q: Bytewise, C: Bytewise> Sought<C> for Q {
         work.compared(self, stored);
         *self.compared_bytes() == *stored.compared_bytes()
     }
+
+    fn touch(&self, stored: &C) -> u8 {
+        stored.compared_bytes().first().copied().unwrap_or(0)
+    }
 }
 
 impl Keyed for &str {

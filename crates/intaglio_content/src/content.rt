@@ -57,6 +57,10 @@ pub trait Sought<C: Keyed>: Keyed {
         ensures same { IsTrue result ↔ (Self.key self.now ≡ C.key stored.now) }
         ensures event { work.new.events
             ≡ work.old.events ++ compared (Self.key self.now) (C.key stored.now) ∷ [] };
+
+    /// Reads a byte that [`same_as`](Sought::same_as) will read of the stored content, so that it is in the
+    /// cache then. The byte itself means nothing.
+    fn touch(&self, stored: &C) -> u8;
 }
 
 /// A borrowed form of a content of type `C`: it can be looked up, and copied into a

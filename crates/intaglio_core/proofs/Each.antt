@@ -1,12 +1,13 @@
 -- Contents that are interned in order, with what that costs, and one content more.
-use Rattle.std.proofs.Common.{◌≡◌, ◌⊎◌, inr, IfSome, sym, ℕ, ◌<◌, cond, List, [], ◌∷◌, ◌++◌, length, take, Option, Some, None, Ok, Err, Result, MatchOption, is_some, length-append, append_assoc, append-nil, refl, ap, arith}
+use Rattle.std.proofs.Common.{◌≡◌, ◌∙◌, ◌⊎◌, inr, get_or, map, IfSome, sym, ℕ, ◌<◌, cond, List, [], ◌∷◌, ◌++◌, length, take, Option, Some, None, Ok, Err, Result, MatchOption, is_some, length-append, append-nil, refl, ap, arith}
+use Rattle.std.proofs.lemmas.List.{get_or_at, get_or-map}
 use Rattle.intaglio_content.specs.Key.{Key}
 use Rattle.intaglio_content.specs.Work.{Event, hashed}
 use Rattle.intaglio_core.specs.State.{State, first, IsValid}
 use Rattle.intaglio_core.specs.Change.{Interns, Takes}
 use Rattle.intaglio_core.specs.Cost.{Adds, IsSearchCost, KnownSearchCost, KnownInternCost}
 use Rattle.intaglio_core.specs.Issue.{interned, issue_from, interned_all}
-use Rattle.intaglio_core.specs.Batch.{IfOverflow, SearchesEach, IsInterning, InternsEach, InternsSome}
+use Rattle.intaglio_core.specs.Batch.{IfOverflow, IsInterning, InternsEach, InternsSome}
 use Rattle.intaglio_core.proofs.Issue.{Interns-ok}
 use Rattle.intaglio_core.proofs.Spent.{Adds-then}
 use Rattle.intaglio_core.proofs.InOrder.{Adds-push}
@@ -41,19 +42,6 @@ module _ {C : Type 0} (key : C → Key) where
   over-by (Some i) old new c e h = absurd (let never = h.0 in cc)
 
   module _ (hash : Key → ℕ) where
-    SearchesEach-push : (s : State C) (cs : List C) (cost : List Event) (c : C) (now : List Event)
-        → SearchesEach key hash s cs cost → KnownSearchCost key hash s (key c) now → SearchesEach key hash s (cs ++ c ∷ []) (cost ++ now)
-    SearchesEach-push s [] cost c now run spent = (now, [], rw run (sym (append-nil now)), spent, refl)
-    SearchesEach-push s (x ∷ cs) cost c now run spent =
-        (run.0, run.1 ++ now, rw (run.2, append_assoc) refl, run.3, SearchesEach-push s cs run.1 c now run.4 spent)
-
-    -- look-ups, and one more
-    pub Adds-search : (s : State C) (cs : List C) (c : C) (before between after : List Event)
-        → Adds before between (SearchesEach key hash s cs) → Adds between after (KnownSearchCost key hash s (key c))
-        → Adds before after (SearchesEach key hash s (cs ++ c ∷ []))
-    Adds-search s cs c before between after run spent =
-        Adds-then _ _ _ before between after (λ cost now ran costs. SearchesEach-push s cs cost c now ran costs) run spent
-
     -- internings, and one more
     pub Adds-each : (old : State C) (cs : List C) (is : List ℕ) (mid : State C) (c : C) (i : ℕ) (new : State C) (before between after : List Event)
         → Adds before between (λ cost. InternsEach key hash old cs is cost mid) → Interns key mid c (Ok i) new
@@ -131,3 +119,12 @@ module _ {C : Type 0} (key : C → Key) where
           interns = interns;
           searches = searches;
         })) run spent
+
+-- what stands in a list of answers at the place of a content
+pub answer-at : {C : Type 0} (f : C → Option ℕ) (before rest all : List C) (c : C) (answers : List (Option ℕ)) (n : ℕ) (o : Option ℕ)
+    → before ++ c ∷ rest ≡ all → answers ≡ map f all → n ≡ length before → o ≡ get_or answers n o → IfSome o (λ i. f c ≡ Some i)
+answer-at f before rest all c answers n o whole are place is =
+    let within : n < length all = rw (← whole) (omega (arith, place, length-append before (c ∷ rest))) in
+    let content : get_or all n c ≡ c = rw (← whole) (get_or_at before c rest c n (sym place)) in
+    let same : o ≡ f c = is ∙ rw are (get_or-map f all n c o within) ∙ ap f content in
+    elim o as (λ t. t ≡ f c → IfSome t (λ i. f c ≡ Some i)) [ None ↦ λ e. tt | Some i ↦ λ e. sym e ] same

@@ -15,3 +15,4 @@ pub mod Laws
 pub mod ByForm
 pub mod OnResult
 pub mod Alike
+pub mod Starts

@@ -19,47 +19,7 @@ module _ {C : Type 0} (key : C → Key) where
   abbrev pub hashings : List C → List Event
   hashings cs = map (λ c. hashed (key c)) cs
 
-  module _ (hash : Key → ℕ) where
-    -- the cost of looking each up, without the hashing
-    abbrev pub SearchesEach : State C → List C → List Event → Type 0
-    SearchesEach s [] cost = cost ≡ []
-    SearchesEach s (c ∷ cs) cost = (now later : List Event) × (cost ≡ now ++ later) × KnownSearchCost key hash s (key c) now × SearchesEach s cs later
-
-    -- one interning, with its symbol and its cost without the hashing, which leaves a valid state
-    abbrev pub IsInterning : State C → C → ℕ → List Event → State C → Type 0
-    IsInterning old c i cost new = Interns key old c (Ok i) new × KnownInternCost key hash old (key c) (Ok i) new cost × IsValid key new
-
-    -- internings in order, from one state to another
-    abbrev pub InternsEach : State C → List C → List ℕ → List Event → State C → Type 0
-    InternsEach = InOrder IsInterning
-
-    -- all are hashed, then all are looked up, and then each is interned
-    abbrev pub InternsAll : State C → List C → List ℕ → List Event → State C → Type 0
-    InternsAll old cs is cost new =
-        (searches internings : List Event) × (cost ≡ hashings cs ++ searches ++ internings) × SearchesEach old cs searches × InternsEach old cs is internings new
-
-    -- the first contents were interned, and the next was looked up, whose interning failed
-    pub record InternsSome (old : State C) (cs : List C) (cost : List Event) : Type 0 where
-      pub before : List C
-      pub refused : C
-      pub after : List C
-      pub contents : cs ≡ before ++ refused ∷ after
-      pub symbols : List ℕ
-      pub held : State C
-      pub internings : List Event
-      pub search : List Event
-      pub parts : cost ≡ internings ++ search
-      pub interns : InternsEach old before symbols internings held
-      pub searches : KnownSearchCost key hash held (key refused) search
-
-    -- the cost of a batch that failed: nothing was done, or all were hashed, or then looked
-    -- up, or then some were interned
-    abbrev pub RefusedCost : State C → List C → List Event → Type 0
-    RefusedCost old cs cost =
-        (cost ≡ []) ⊎ (cost ≡ hashings cs)
-        ⊎ ((searches later : List Event) × (cost ≡ hashings cs ++ searches ++ later) × SearchesEach old cs searches × ((later ≡ []) ⊎ InternsSome old cs later))
-
--- forms of contents, with their keys
+-- contents or forms of contents, by their keys
 module _ {C Q : Type 0} (key : C → Key) (form_key : Q → Key) (hash : Key → ℕ) where
   -- the cost of looking each up, without the hashing
   abbrev pub SearchesForms : State C → List Q → List Event → Type 0
@@ -70,7 +30,43 @@ module _ {C Q : Type 0} (key : C → Key) (form_key : Q → Key) (hash : Key →
   abbrev pub ChecksForms : State C → List Q → List Event → Type 0
   ChecksForms s qs cost = (searches : List Event) × (cost ≡ hashings form_key qs ++ searches) × SearchesForms s qs searches
 
--- and with the spellings of their copies
+-- contents
+module _ {C : Type 0} (key : C → Key) (hash : Key → ℕ) where
+  -- one interning, with its symbol and its cost without the hashing, which leaves a valid state
+  abbrev pub IsInterning : State C → C → ℕ → List Event → State C → Type 0
+  IsInterning old c i cost new = Interns key old c (Ok i) new × KnownInternCost key hash old (key c) (Ok i) new cost × IsValid key new
+
+  -- internings in order, from one state to another
+  abbrev pub InternsEach : State C → List C → List ℕ → List Event → State C → Type 0
+  InternsEach = InOrder IsInterning
+
+  -- all are hashed, then all are looked up, and then each is interned
+  abbrev pub InternsAll : State C → List C → List ℕ → List Event → State C → Type 0
+  InternsAll old cs is cost new =
+      (searches internings : List Event) × (cost ≡ hashings key cs ++ searches ++ internings) × SearchesForms key key hash old cs searches × InternsEach old cs is internings new
+
+  -- the first contents were interned, and the next was looked up, whose interning failed
+  pub record InternsSome (old : State C) (cs : List C) (cost : List Event) : Type 0 where
+    pub before : List C
+    pub refused : C
+    pub after : List C
+    pub contents : cs ≡ before ++ refused ∷ after
+    pub symbols : List ℕ
+    pub held : State C
+    pub internings : List Event
+    pub search : List Event
+    pub parts : cost ≡ internings ++ search
+    pub interns : InternsEach old before symbols internings held
+    pub searches : KnownSearchCost key hash held (key refused) search
+
+  -- the cost of a batch that failed: nothing was done, or all were hashed, or then looked
+  -- up, or then some were interned
+  abbrev pub RefusedCost : State C → List C → List Event → Type 0
+  RefusedCost old cs cost =
+      (cost ≡ []) ⊎ (cost ≡ hashings key cs)
+      ⊎ ((searches later : List Event) × (cost ≡ hashings key cs ++ searches ++ later) × SearchesForms key key hash old cs searches × ((later ≡ []) ⊎ InternsSome old cs later))
+
+-- forms of contents, with their keys and the spellings of their copies
 module _ {C Q : Type 0} (key : C → Key) (spelling : C → List ℕ) (form_key : Q → Key) (form_spelling : Q → List ℕ) (hash : Key → ℕ) where
   -- one interning by a form, with its symbol and its cost without the hashing, which leaves a valid state
   abbrev pub IsFormInterning : State C → Q → ℕ → List Event → State C → Type 0

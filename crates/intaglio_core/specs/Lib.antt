@@ -11,3 +11,4 @@ pub mod Issue
 pub mod Pattern
 pub mod Indexed
 pub mod Batch
+pub mod Begun

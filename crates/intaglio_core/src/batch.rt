@@ -1,43 +1,28 @@
 //! Batches: many contents are interned at once.
-ghost use Rattle.std.specs.Prelude.{◌≡◌, ◌<◌, ◌++◌, ◌⊎◌, [], length, map, take};
+ghost use Rattle.std.specs.Prelude.{◌≡◌, ◌<◌, ◌⊎◌, [], length, map, take};
 ghost use Rattle.std.specs.Prelude.{IfOk, IfErr, IfSome, OnOk, OnErr};
-ghost use Rattle.std.specs.List.{AllByRecursion};
-ghost use Rattle.intaglio_core.specs.State.{IsValid};
+ghost use Rattle.intaglio_core.specs.State.{first, IsValid};
 ghost use Rattle.intaglio_core.specs.Change.{Interns, HasNoLessRoom};
 ghost use Rattle.intaglio_core.specs.Lookup.{IsFound, Keeps, FindsEach, StoresEach};
 ghost use Rattle.intaglio_core.specs.Cost.{Costs, KnownInternCost};
 ghost use Rattle.intaglio_core.specs.Issue.{issue_from, interned_all};
-ghost use Rattle.intaglio_core.specs.Batch.{IfOverflow, hashings, SearchesEach, InternsEach};
+ghost use Rattle.intaglio_core.specs.Batch.{IfOverflow, InternsEach};
 ghost use Rattle.intaglio_core.specs.Batch.{InternsAll, InternsSome, RefusedCost};
 
 mod forms;
 
 use crate::interner::Interner;
+use forms::{hash_forms, search_forms};
 pub use forms::{check_all, get_or_intern_all};
 use intaglio_content::Work;
 use intaglio_symbol::{InternError, Symbol};
-use std::alloc::{AllocError, Global};
-
-// A content and its hash.
-#[derive(Drop)]
-struct Hashed<C> {
-    hash: u64,
-    content: C,
-}
-
-// A hashed content, and the symbol of the equal content that was found, if one was.
-#[derive(Drop)]
-struct LookedUp<C> {
-    hash: u64,
-    content: C,
-    symbol: Option<Symbol>,
-}
+use std::alloc::Global;
 
 /// Interns a batch of contents, all or none, and returns their symbols in the same order.
 ///
 /// All contents are hashed, then all are looked up, and then those that weren't found are interned, so the
 /// cache misses of several look-ups overlap. That pays if the table is large and most contents are in it,
-/// with some dozens of contents at a time. It allocates three temporary lists as long as the batch.
+/// with some dozens of contents at a time. It allocates four temporary lists as long as the batch.
 ///
 /// # Errors
 ///
@@ -87,99 +72,51 @@ pub fn intern_all<T: Interner>(
     ensures valid { IsValid T.Content.key (T.state table.new) }
 {
     let mark = table.mark();
-    let hashed = hash_all(alloc, table, contents, work)?;
-    let looked_up = search_all(alloc, table, hashed, work)?;
-    let taken = intern_each(alloc, table, looked_up, work);
+    let hashes = hash_forms(alloc, table, &contents, work)?;
+    let found = search_forms(alloc, table, &contents, &hashes, work)?;
+    let taken = intern_each(alloc, table, contents, &hashes, &found, work);
     if taken.is_err() {
         let _ = table.take_back(mark);
     }
     taken
 }
 
-// Hashes the contents.
-fn hash_all<T: Interner>(
-    alloc: Global,
-    table: &T,
-    contents: Vec<T::Content>,
-    work: &mut Work,
-) -> Result<Vec<Hashed<T::Content>>, AllocError>
-    ensures contents { IfOk result (λ all. map (λ it. it.content) all.items ≡ contents.items) }
-    ensures hashes { IfOk result (λ all.
-        AllByRecursion (λ it. it.hash ≡ T.hash table.now (T.Content.key it.content)) all.items) }
-    ensures cost { OnOk result (work.new.events ≡ work.old.events ++ hashings T.Content.key contents.items) }
-    ensures no_cost { OnErr result (work.new.events ≡ work.old.events) }
-{
-    let mut all = Vec::with_capacity(alloc, contents.len())?;
-    for content in contents {
-        let hash = table.hash_counted(&content, work);
-        all.push_reserved(Hashed { hash, content });
-    }
-    Ok(all)
-}
-
-// Looks up hashed contents.
-fn search_all<T: Interner>(
-    alloc: Global,
-    table: &T,
-    all: Vec<Hashed<T::Content>>,
-    work: &mut Work,
-) -> Result<Vec<LookedUp<T::Content>>, AllocError>
-    requires hashes { AllByRecursion (λ it. it.hash ≡ T.hash table.now (T.Content.key it.content)) all.items }
-    ensures contents { IfOk result (λ found.
-        map (λ it. it.content) found.items ≡ map (λ it. it.content) all.items) }
-    ensures hashes { IfOk result (λ found.
-        AllByRecursion (λ it. it.hash ≡ T.hash table.now (T.Content.key it.content)) found.items) }
-    ensures symbols { IfOk result (λ found. AllByRecursion (λ it. IfSome it.symbol
-        (IsFound T.Content.key (T.state table.now) (T.Content.key it.content))) found.items) }
-    ensures cost { OnOk result (Costs work.old work.new (SearchesEach T.Content.key
-        (T.hash table.now) (T.state table.now) (map (λ it. it.content) all.items))) }
-    ensures no_cost { OnErr result (work.new.events ≡ work.old.events) }
-{
-    let mut found = Vec::with_capacity(alloc, all.len())?;
-    for it in all {
-        let symbol = table.search_hashed(it.hash, &it.content, work);
-        found.push_reserved(LookedUp {
-            hash: it.hash,
-            content: it.content,
-            symbol,
-        });
-    }
-    Ok(found)
-}
-
 // Interns contents that were looked up. After an error, those before the failed one are stored.
 fn intern_each<T: Interner>(
     alloc: Global,
     table: &mut T,
-    all: Vec<LookedUp<T::Content>>,
+    contents: Vec<T::Content>,
+    hashes: &[u64],
+    found: &[Option<Symbol>],
     work: &mut Work,
 ) -> Result<Vec<Symbol>, InternError>
     requires valid { IsValid T.Content.key (T.state table.old) }
-    requires hashes { AllByRecursion (λ it. it.hash ≡ T.hash table.old (T.Content.key it.content)) all.items }
-    requires symbols { AllByRecursion (λ it. IfSome it.symbol
-        (IsFound T.Content.key (T.state table.old) (T.Content.key it.content))) all.items }
+    requires hashes { hashes.now ≡ map (λ c. T.hash table.old (T.Content.key c)) contents.items }
+    requires found { let held = (T.state table.old).contents in
+        found.now ≡ map (λ c. first T.Content.key held (T.Content.key c)) contents.items }
     ensures ok { IfOk result (λ symbols. Costs work.old work.new (λ cost.
         InternsEach T.Content.key (T.hash table.old) (T.state table.old)
-        (map (λ it. it.content) all.items) symbols.items cost (T.state table.new))) }
+        contents.items symbols.items cost (T.state table.new))) }
     ensures symbols { IfOk result (λ symbols. symbols.items
-        ≡ issue_from T.Content.key (T.state table.old).contents (map (λ it. it.content) all.items)) }
+        ≡ issue_from T.Content.key (T.state table.old).contents contents.items) }
     ensures held { OnOk result ((T.state table.new).contents
-        ≡ interned_all T.Content.key (T.state table.old).contents (map (λ it. it.content) all.items)) }
+        ≡ interned_all T.Content.key (T.state table.old).contents contents.items) }
     ensures refused_cost { OnErr result (Costs work.old work.new (λ cost. (cost ≡ [])
         ⊎ InternsSome T.Content.key (T.hash table.old) (T.state table.old)
-        (map (λ it. it.content) all.items) cost)) }
+        contents.items cost)) }
     ensures begins { let held = (T.state table.old).contents in
         OnErr result (take (length held) (T.state table.new).contents ≡ held) }
     ensures overflow { IfErr result (λ e. IfOverflow e ((T.state table.old).limit < length
-        (interned_all T.Content.key (T.state table.old).contents (map (λ it. it.content) all.items)))) }
+        (interned_all T.Content.key (T.state table.old).contents contents.items))) }
     ensures capacity { HasNoLessRoom (T.state table.old) (T.state table.new) }
     ensures limit { (T.state table.new).limit ≡ (T.state table.old).limit }
     ensures same_hash { T.hash table.new ≡ T.hash table.old }
     ensures valid { IsValid T.Content.key (T.state table.new) }
 {
-    let mut symbols = Vec::with_capacity(alloc, all.len())?;
-    for it in all {
-        symbols.push_reserved(intern_one(table, it, work)?);
+    let mut symbols = Vec::with_capacity(alloc, contents.len())?;
+    for content in contents {
+        let place = symbols.len();
+        symbols.push_reserved(intern_one(table, hashes[place], found[place], content, work)?);
     }
     Ok(symbols)
 }
@@ -187,21 +124,23 @@ fn intern_each<T: Interner>(
 // Interns a content that was looked up.
 fn intern_one<T: Interner>(
     table: &mut T,
-    it: LookedUp<T::Content>,
+    hash: u64,
+    found: Option<Symbol>,
+    content: T::Content,
     work: &mut Work,
 ) -> Result<Symbol, InternError>
     requires valid { IsValid T.Content.key (T.state table.old) }
-    requires hash { it.hash ≡ T.hash table.old (T.Content.key it.content) }
-    requires symbol { IfSome it.symbol (IsFound T.Content.key (T.state table.old) (T.Content.key it.content)) }
-    ensures step { Interns T.Content.key (T.state table.old) it.content result (T.state table.new) }
-    ensures cost { let k = T.Content.key it.content in
+    requires hash { hash ≡ T.hash table.old (T.Content.key content) }
+    requires found { IfSome found (IsFound T.Content.key (T.state table.old) (T.Content.key content)) }
+    ensures step { Interns T.Content.key (T.state table.old) content result (T.state table.new) }
+    ensures cost { let k = T.Content.key content in
         Costs work.old work.new
         (KnownInternCost T.Content.key (T.hash table.old) (T.state table.old) k result (T.state table.new)) }
     ensures same_hash { T.hash table.new ≡ T.hash table.old }
     ensures valid { IsValid T.Content.key (T.state table.new) }
 {
-    match it.symbol {
+    match found {
         Some(symbol) => Ok(symbol),
-        None => table.intern_hashed(it.hash, it.content, work),
+        None => table.intern_hashed(hash, content, work),
     }
 }

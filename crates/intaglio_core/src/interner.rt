@@ -4,11 +4,13 @@ ghost use Rattle.std.specs.Prelude.{IfOk, IfSome, OnOk, OnErr};
 ghost use Rattle.intaglio_content.specs.Key.{Key, hash_of};
 ghost use Rattle.intaglio_content.specs.Work.{hashed};
 ghost use Rattle.intaglio_core.specs.State.{State, first, IsValid};
+ghost use Rattle.intaglio_core.specs.Begun.{IsBegun};
 ghost use Rattle.intaglio_core.specs.Lookup.{IsFound, IsStored, Keeps, KeepsBelow, FindsOthers, FindsNothing};
 ghost use Rattle.intaglio_core.specs.Change.{Interns, InternsForm, Reserves, Shrinks, TakesBack, Empties};
 ghost use Rattle.intaglio_core.specs.Cost.{Costs, InternCost, SearchCost, IsRoomCost};
 ghost use Rattle.intaglio_core.specs.Cost.{KnownInternCost, KnownSearchCost};
 
+use crate::begun::Begun;
 use crate::table_core::Core;
 use intaglio_content::{Content, Sought, ToContent, Work};
 use intaglio_symbol::{InternError, Mark, RoomError, StaleMark, Symbol};
@@ -116,6 +118,31 @@ pub trait Interner {
         ensures found { result ≡ first Self.Content.key (state self.now).contents (Q.key sought.now) }
         ensures cost { let cost = KnownSearchCost Self.Content.key (hash self.now) (state self.now) in
             Costs work.old work.new (cost (Q.key sought.now)) }
+        ensures valid { IsValid Self.Content.key (state self.now) };
+
+    /// Begins a search by a known hash: finds the first content with this hash, and doesn't read it.
+    /// [`end_search`](Interner::end_search) compares it.
+    ///
+    /// If several searches are begun before the first of them is ended, their cache misses overlap.
+    fn begin_search(&self, known_hash: u64) -> Begun
+        ensures { IsBegun Self.Content.key (hash self.now) (state self.now) known_hash result };
+
+    /// Reads a byte of the content that the search will compare first, so that it is in the cache then. The
+    /// byte itself means nothing.
+    fn touch<Q: Sought<Self::Content>>(&self, begun: &Begun, sought: &Q) -> u8;
+
+    /// Ends a search that was begun with the hash of this content or form.
+    fn end_search<Q: Sought<Self::Content>>(
+        &self,
+        begun: &Begun,
+        sought: &Q,
+        work: &mut Work,
+    ) -> Option<Symbol>
+        requires begun { let h = hash self.now (Q.key sought.now) in
+            IsBegun Self.Content.key (hash self.now) (state self.now) h begun.now }
+        ensures found { result ≡ first Self.Content.key (state self.now).contents (Q.key sought.now) }
+        ensures cost { let k = Q.key sought.now in
+            Costs work.old work.new (KnownSearchCost Self.Content.key (hash self.now) (state self.now) k) }
         ensures valid { IsValid Self.Content.key (state self.now) };
 
     /// The symbol of the content that is equal to this content or form, if there is one.
@@ -230,6 +257,29 @@ impl<C: Content + Sought<C> + Drop, S: BuildHasher> Interner for Core<C, S> {
         work: &mut Work,
     ) -> Option<Symbol> {
         Core::search_hashed(self, known_hash, sought, work)
+    }
+
+    fn begin_search(&self, known_hash: u64) -> Begun {
+        Core::begin_search(self, known_hash)
+    }
+
+    fn touch<Q: Sought<C>>(&self, begun: &Begun, sought: &Q) -> u8 {
+        match begun.candidate {
+            None => 0,
+            Some(symbol) => match self.get(symbol) {
+                None => 0,
+                Some(content) => sought.touch(content),
+            },
+        }
+    }
+
+    fn end_search<Q: Sought<C>>(
+        &self,
+        begun: &Begun,
+        sought: &Q,
+        work: &mut Work,
+    ) -> Option<Symbol> {
+        Core::end_search(self, begun, sought, work)
     }
 
     fn search_counted<Q: Sought<C>>(&self, sought: &Q, work: &mut Work) -> Option<Symbol> {

@@ -6,11 +6,13 @@
 #![tactic(auto)]
 
 mod batch;
+pub mod begun;
 pub mod interner;
 pub mod run;
 pub mod table_core;
 
 pub use batch::{check_all, get_or_intern_all, intern_all};
+pub use begun::Begun;
 pub use intaglio_content::{
     Bytewise, Content, Formed, Forms, Keyed, LookedUp, Pairs, Sought, Spelled, ToContent, Work,
     feed_item,

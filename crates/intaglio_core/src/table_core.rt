@@ -5,6 +5,7 @@ ghost use Rattle.intaglio_content.specs.Key.{hash_of};
 ghost use Rattle.intaglio_symbol.specs.AllSymbols.{numbers_from};
 ghost use Rattle.intaglio_index.specs.Change.{KeepsPlaces};
 ghost use Rattle.intaglio_core.specs.State.{first, IsValid};
+ghost use Rattle.intaglio_core.specs.Begun.{IsBegun};
 ghost use Rattle.intaglio_core.specs.Change.{Interns, Takes};
 ghost use Rattle.intaglio_core.specs.Lookup.{IsFound, IsStored, Keeps, FindsInterned, FindsOthers};
 ghost use Rattle.intaglio_core.specs.Cost.{Costs, SearchCost, InternCost, KnownSearchCost, KnownInternCost};
@@ -15,6 +16,7 @@ mod lending;
 mod make;
 mod room;
 
+use crate::begun::Begun;
 use intaglio_content::{Keyed, Sought, Work};
 use intaglio_index::Index;
 use intaglio_symbol::{AllSymbols, InternError, Symbol, SymbolOverflowError};
@@ -151,9 +153,40 @@ impl<C: Keyed, S: BuildHasher> Core<C, S> {
             Costs work.old work.new (KnownSearchCost C.key hash self.now.state (Q.key sought.now)) }
         ensures valid { IsValid C.key self.now.state }
     {
+        let begun = self.begin_search(hash);
+        self.end_search(&begun, sought, work)
+    }
+
+    // Finds the first content with this hash, which `end_search` compares.
+    #[inline(always)]
+    pub(crate) fn begin_search(&self, hash: u64) -> Begun
+        ensures { let key_hash = key_hash S.Hasher.finish S.Hasher.write (S.build_hasher self.now.hasher) in
+            IsBegun C.key key_hash self.now.state hash result }
+    {
+        let mut work = Work::new();
+        let candidate = self.index.find(hash, &mut work);
+        Begun { candidate, work }
+    }
+
+    // The rest of a search.
+    #[inline(always)]
+    pub(crate) fn end_search<Q: Sought<C>>(
+        &self,
+        begun: &Begun,
+        sought: &Q,
+        work: &mut Work,
+    ) -> Option<Symbol>
+        requires begun { let hash = key_hash S.Hasher.finish S.Hasher.write (S.build_hasher self.now.hasher) in
+            IsBegun C.key hash self.now.state (hash (Q.key sought.now)) begun.now }
+        ensures found { result ≡ first C.key self.now.state.contents (Q.key sought.now) }
+        ensures cost { let hash = key_hash S.Hasher.finish S.Hasher.write (S.build_hasher self.now.hasher) in
+            Costs work.old work.new (KnownSearchCost C.key hash self.now.state (Q.key sought.now)) }
+        ensures valid { IsValid C.key self.now.state }
+    {
+        work.append(&begun.work);
         let index = &self.index;
         let contents = self.list.as_slice();
-        let mut candidate = Some(index.find(hash, work)?);
+        let mut candidate = Some(begun.candidate?);
         while let Some(symbol) = candidate {
             if sought.same_as(&contents[symbol.id() as usize], work) {
                 return Some(symbol);

@@ -104,6 +104,10 @@ impl<'a> Sought<PathContent> for Path<'a> {
         work.compared(self, stored);
         *self == stored.form()
     }
+
+    fn touch(&self, stored: &PathContent) -> u8 {
+        stored.spelling().first().copied().unwrap_or(0)
+    }
 }
 
 impl Sought<PathContent> for PathContent {
@@ -113,6 +117,10 @@ impl Sought<PathContent> for PathContent {
 
     fn same_as(&self, stored: &PathContent, work: &mut Work) -> bool {
         self.form().same_as(stored, work)
+    }
+
+    fn touch(&self, stored: &PathContent) -> u8 {
+        self.form().touch(stored)
     }
 }
 

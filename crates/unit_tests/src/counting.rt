@@ -39,4 +39,8 @@ impl Sought<Counting> for Counting {
         self.compared.set(self.compared.get().wrapping_add(1));
         self.text.same_as(&stored.text, work)
     }
+
+    fn touch(&self, stored: &Counting) -> u8 {
+        self.text.touch(&stored.text)
+    }
 }

@@ -2,13 +2,15 @@
 ghost use Rattle.std.specs.Prelude.{◌≡◌, ◌<◌, ◌++◌, ◌⊎◌, [], length, map, take};
 ghost use Rattle.std.specs.Prelude.{IfOk, IfErr, IfSome, OnOk, OnErr};
 ghost use Rattle.intaglio_core.specs.State.{first, IsValid};
+ghost use Rattle.intaglio_core.specs.Begun.{AreBegun};
 ghost use Rattle.intaglio_core.specs.Change.{InternsForm, HasNoLessRoom};
 ghost use Rattle.intaglio_core.specs.Lookup.{IsFound, Keeps, FindsEachKey, StoresEachKey};
 ghost use Rattle.intaglio_core.specs.Cost.{Costs, KnownInternCost};
 ghost use Rattle.intaglio_core.specs.Issue.{issue_from, interned_all};
-ghost use Rattle.intaglio_core.specs.Batch.{IfOverflow, hashings, SearchesForms, ChecksForms, InternsEachForm};
-ghost use Rattle.intaglio_core.specs.Batch.{InternsForms, InternsSomeForms, RefusedFormsCost};
+ghost use Rattle.intaglio_core.specs.Batch.{IfOverflow, hashings, SearchesForms, ChecksForms};
+ghost use Rattle.intaglio_core.specs.Batch.{InternsEachForm, InternsForms, InternsSomeForms, RefusedFormsCost};
 
+use crate::begun::Begun;
 use crate::interner::Interner;
 use intaglio_content::{Sought, ToContent, Work};
 use intaglio_symbol::{InternError, Symbol};
@@ -16,9 +18,9 @@ use std::alloc::{AllocError, Global};
 
 /// Looks up a batch of forms, and returns what single look-ups return, in the same order.
 ///
-/// All forms are hashed before the first is looked up, so the cache misses of several look-ups
-/// overlap. That pays if the table is large, with some dozens of forms at a time. It allocates
-/// two lists as long as the batch.
+/// All forms are hashed, then the first content with each hash is found, and then they are compared, so
+/// the cache misses of several look-ups overlap. That pays if the table is large, with some dozens of
+/// forms at a time. It allocates four lists as long as the batch.
 ///
 /// # Errors
 ///
@@ -33,7 +35,8 @@ pub fn check_all<T: Interner, Q: Sought<T::Content>>(
         IfOk result (λ found. found.items ≡ map (λ q. first T.Content.key held (Q.key q)) forms.now) }
     ensures cost { OnOk result (Costs work.old work.new
         (ChecksForms T.Content.key Q.key (T.hash table.now) (T.state table.now) forms.now)) }
-    ensures refused_cost { OnErr result (Costs work.old work.new (λ cost. (cost ≡ []) ⊎ (cost ≡ hashings Q.key forms.now))) }
+    ensures refused_cost { OnErr result (Costs work.old work.new
+        (λ cost. (cost ≡ []) ⊎ (cost ≡ hashings Q.key forms.now))) }
 {
     let hashes = hash_forms(alloc, table, forms, work)?;
     search_forms(alloc, table, forms, &hashes, work)
@@ -43,7 +46,7 @@ pub fn check_all<T: Interner, Q: Sought<T::Content>>(
 /// order. Only new forms are copied.
 ///
 /// All forms are hashed, then all are looked up, and then those that weren't found are interned, as by
-/// [`intern_all`](crate::intern_all). It allocates three temporary lists as long as the batch.
+/// [`intern_all`](crate::intern_all). It allocates four temporary lists as long as the batch.
 ///
 /// # Errors
 ///
@@ -60,7 +63,8 @@ pub fn get_or_intern_all<T: Interner, Q: ToContent<T::Content>>(
         InternsForms T.Content.key T.Content.spelling Q.key Q.form_spelling (T.hash table.old)
         (T.state table.old) forms.now symbols.items cost (T.state table.new))) }
     ensures symbols { let held = map T.Content.spelling (T.state table.old).contents in
-        IfOk result (λ symbols. symbols.items ≡ issue_from T.Content.key_of held (map Q.form_spelling forms.now)) }
+        let issued = issue_from T.Content.key_of held (map Q.form_spelling forms.now) in
+        IfOk result (λ symbols. symbols.items ≡ issued) }
     ensures held { let held = map T.Content.spelling (T.state table.old).contents in
         let all = interned_all T.Content.key_of held (map Q.form_spelling forms.now) in
         OnOk result (map T.Content.spelling (T.state table.new).contents ≡ all) }
@@ -77,8 +81,9 @@ pub fn get_or_intern_all<T: Interner, Q: ToContent<T::Content>>(
     ensures overflow { let held = map T.Content.spelling (T.state table.old).contents in
         let all = interned_all T.Content.key_of held (map Q.form_spelling forms.now) in
         IfErr result (λ e. IfOverflow e ((T.state table.old).limit < length all)) }
-    ensures refused_cost { OnErr result (Costs work.old work.new (RefusedFormsCost T.Content.key T.Content.spelling
-        Q.key Q.form_spelling (T.hash table.old) (T.state table.old) forms.now)) }
+    ensures refused_cost { OnErr result (Costs work.old work.new
+        (RefusedFormsCost T.Content.key T.Content.spelling Q.key Q.form_spelling
+        (T.hash table.old) (T.state table.old) forms.now)) }
 
     ensures capacity { HasNoLessRoom (T.state table.old) (T.state table.new) }
     ensures limit { (T.state table.new).limit ≡ (T.state table.old).limit }
@@ -95,8 +100,8 @@ pub fn get_or_intern_all<T: Interner, Q: ToContent<T::Content>>(
     taken
 }
 
-// Hashes the forms.
-fn hash_forms<T: Interner, Q: Sought<T::Content>>(
+// Hashes the forms, or contents.
+pub(super) fn hash_forms<T: Interner, Q: Sought<T::Content>>(
     alloc: Global,
     table: &T,
     forms: &[Q],
@@ -114,8 +119,8 @@ fn hash_forms<T: Interner, Q: Sought<T::Content>>(
     Ok(hashes)
 }
 
-// Looks up hashed forms.
-fn search_forms<T: Interner, Q: Sought<T::Content>>(
+// Looks up hashed forms, or contents.
+pub(super) fn search_forms<T: Interner, Q: Sought<T::Content>>(
     alloc: Global,
     table: &T,
     forms: &[Q],
@@ -129,9 +134,62 @@ fn search_forms<T: Interner, Q: Sought<T::Content>>(
         (SearchesForms T.Content.key Q.key (T.hash table.now) (T.state table.now) forms.now)) }
     ensures no_cost { OnErr result (work.new.events ≡ work.old.events) }
 {
+    let begun = begin_searches(alloc, table, hashes)?;
+    let _ = touch_candidates(alloc, table, forms, &begun)?;
+    end_searches(alloc, table, forms, &begun, work)
+}
+
+// Begins a search for each hash.
+fn begin_searches<T: Interner>(
+    alloc: Global,
+    table: &T,
+    hashes: &[u64],
+) -> Result<Vec<Begun>, AllocError>
+    ensures { let held = T.state table.now in
+        IfOk result (λ begun. AreBegun T.Content.key (T.hash table.now) held hashes.now begun.items) }
+{
+    let mut begun = Vec::with_capacity(alloc, hashes.len())?;
+    for place in 0..hashes.len() {
+        begun.push_reserved(table.begin_search(hashes[place]));
+    }
+    Ok(begun)
+}
+
+// Reads a byte of each content that will be compared. They are returned as a list, and the call isn't
+// inlined, so that the compiler can't leave out the reads.
+#[inline(never)]
+fn touch_candidates<T: Interner, Q: Sought<T::Content>>(
+    alloc: Global,
+    table: &T,
+    forms: &[Q],
+    begun: &[Begun],
+) -> Result<Vec<u8>, AllocError> {
+    let mut touched = Vec::with_capacity(alloc, forms.len())?;
+    for (form, search) in forms.iter().zip(begun) {
+        touched.push(table.touch(search, form))?;
+    }
+    Ok(touched)
+}
+
+// Ends the searches that were begun.
+fn end_searches<T: Interner, Q: Sought<T::Content>>(
+    alloc: Global,
+    table: &T,
+    forms: &[Q],
+    begun: &[Begun],
+    work: &mut Work,
+) -> Result<Vec<Option<Symbol>>, AllocError>
+    requires begun { let hashes = map (λ q. T.hash table.now (Q.key q)) forms.now in
+        AreBegun T.Content.key (T.hash table.now) (T.state table.now) hashes begun.now }
+    ensures symbols { let held = (T.state table.now).contents in
+        IfOk result (λ found. found.items ≡ map (λ q. first T.Content.key held (Q.key q)) forms.now) }
+    ensures cost { OnOk result (Costs work.old work.new
+        (SearchesForms T.Content.key Q.key (T.hash table.now) (T.state table.now) forms.now)) }
+    ensures no_cost { OnErr result (work.new.events ≡ work.old.events) }
+{
     let mut found = Vec::with_capacity(alloc, forms.len())?;
     for place in 0..forms.len() {
-        found.push_reserved(table.search_hashed(hashes[place], &forms[place], work));
+        found.push_reserved(table.end_search(&begun[place], &forms[place], work));
     }
     Ok(found)
 }
@@ -153,7 +211,8 @@ fn intern_each_form<T: Interner, Q: ToContent<T::Content>>(
         InternsEachForm T.Content.key T.Content.spelling Q.key Q.form_spelling (T.hash table.old)
         (T.state table.old) forms.now symbols.items cost (T.state table.new))) }
     ensures symbols { let held = map T.Content.spelling (T.state table.old).contents in
-        IfOk result (λ symbols. symbols.items ≡ issue_from T.Content.key_of held (map Q.form_spelling forms.now)) }
+        let issued = issue_from T.Content.key_of held (map Q.form_spelling forms.now) in
+        IfOk result (λ symbols. symbols.items ≡ issued) }
     ensures held { let held = map T.Content.spelling (T.state table.old).contents in
         let all = interned_all T.Content.key_of held (map Q.form_spelling forms.now) in
         OnOk result (map T.Content.spelling (T.state table.new).contents ≡ all) }

@@ -40,7 +40,8 @@ impl<C: Content + Sought<C> + Drop, S: BuildHasher> Table<C, S> {
         ensures held { let all = interned_all C.key self.old.state.contents contents.items in
             OnOk result (self.new.state.contents ≡ all) }
         ensures found { IfOk result (λ symbols. FindsEach C.key self.new.state contents.items symbols.items) }
-        ensures stored { IfOk result (λ symbols. StoresEach C.key self.new.state contents.items symbols.items) }
+        ensures stored { IfOk result (λ symbols.
+            StoresEach C.key self.new.state contents.items symbols.items) }
         ensures kept { Keeps C.key self.old.state self.new.state }
         ensures refused { OnErr result (self.new.state.contents ≡ self.old.state.contents) }
         ensures overflow { let all = interned_all C.key self.old.state.contents contents.items in
@@ -101,14 +102,19 @@ impl<'q, C: LookedUp<'q> + Sought<C> + Drop, S: BuildHasher> Table<C, S> {
     /// ```
     pub fn get_or_intern_all(&mut self, forms: &[C::By]) -> Result<Vec<Symbol>, InternError>
         ensures symbols { let held = map C.spelling self.old.state.contents in
-            IfOk result (λ symbols. symbols.items ≡ issue_from C.key_of held (map C.By.form_spelling forms.now)) }
-        ensures held { let all = interned_all C.key_of (map C.spelling self.old.state.contents) (map C.By.form_spelling forms.now) in
+            let issued = issue_from C.key_of held (map C.By.form_spelling forms.now) in
+            IfOk result (λ symbols. symbols.items ≡ issued) }
+        ensures held { let held = map C.spelling self.old.state.contents in
+            let all = interned_all C.key_of held (map C.By.form_spelling forms.now) in
             OnOk result (map C.spelling self.new.state.contents ≡ all) }
-        ensures found { IfOk result (λ symbols. FindsEachKey C.key self.new.state (map C.By.key forms.now) symbols.items) }
-        ensures stored { IfOk result (λ symbols. StoresEachKey C.key self.new.state (map C.By.key forms.now) symbols.items) }
+        ensures found { IfOk result (λ symbols.
+            FindsEachKey C.key self.new.state (map C.By.key forms.now) symbols.items) }
+        ensures stored { IfOk result (λ symbols.
+            StoresEachKey C.key self.new.state (map C.By.key forms.now) symbols.items) }
         ensures kept { Keeps C.key self.old.state self.new.state }
         ensures refused { OnErr result (self.new.state.contents ≡ self.old.state.contents) }
-        ensures overflow { let all = interned_all C.key_of (map C.spelling self.old.state.contents) (map C.By.form_spelling forms.now) in
+        ensures overflow { let held = map C.spelling self.old.state.contents in
+            let all = interned_all C.key_of held (map C.By.form_spelling forms.now) in
             IfErr result (λ e. IfOverflow e (self.old.state.limit < length all)) }
         ensures capacity { HasNoLessRoom self.old.state self.new.state }
         ensures limit { self.new.state.limit ≡ self.old.state.limit }

@@ -1,4 +1,5 @@
-use Rattle.std.proofs.Common.{◌≡◌, ◌∙◌, arith, append_assoc, map}
+use Rattle.std.proofs.Common.{◌≡◌, ◌∙◌, [], arith, append_assoc, append-nil, map, refl, sym, rules}
+use Rattle.std.specs.Vec.Iter.{into_iter_items}
 use Rattle.std.proofs.lemmas.Grind.{common_steps}
 use Rattle.intaglio_core.specs.declared.run.Call.TheVariants.{Intern}
 use Rattle.intaglio_core.proofs.Growth.{Runs-hash, Runs-place, Runs-room}
@@ -6,6 +7,18 @@ use Rattle.intaglio_core.proofs.Issue.{Runs-issue}
 use Rattle.intaglio_core.proofs.Room.{Runs-roomier}
 use Rattle.intaglio_core.proofs.InOrder.{Adds-push}
 use Rattle.intaglio_core.proofs.run.run.Goals as goal
+
+pub loop-call-init : goal.loop-call-init
+loop-call-init g c =
+    let all : into_iter_items c.into_iter-call-iterator.result ≡ c.args.calls.items = search rules in
+    record {
+      can = tt;
+      finite = tt;
+      ran = ([], sym (append-nil _), rw c.in_ok-replies.ensures.items (refl, refl));
+      same_hash = refl;
+      whole = all;
+      room = search rules;
+    }
 
 pub loop-call-preserved : goal.loop-call-preserved
 loop-call-preserved g c = record {

@@ -1,7 +1,7 @@
 use Rattle.std.proofs.Common.{length}
 use Rattle.intaglio_content.specs.Key.{hash_of}
 use Rattle.intaglio_core.proofs.Walking.{IsWalking, rest_at}
-use Rattle.intaglio_core.proofs.table_core.Core.search_hashed.Given as goal
+use Rattle.intaglio_core.proofs.table_core.Core.end_search.Given as goal
 
 abbrev pub invariant-loop-candidate : goal.invariant-loop-candidate
 invariant-loop-candidate g l =

@@ -2,7 +2,7 @@ use Rattle.std.proofs.Common.{◌≡◌, ◌≤◌, length, map, take, vec_len, 
 use Rattle.intaglio_core.specs.State.{first}
 use Rattle.intaglio_core.specs.Cost.{Adds}
 use Rattle.intaglio_core.specs.Batch.{SearchesForms}
-use Rattle.intaglio_core.proofs.batch.forms.search_forms.Given as goal
+use Rattle.intaglio_core.proofs.batch.forms.end_searches.Given as goal
 
 abbrev pub invariant-loop-place : goal.invariant-loop-place
 invariant-loop-place g l = record {

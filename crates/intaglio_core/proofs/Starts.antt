@@ -1,0 +1,73 @@
+-- Searches that were begun, by what the index says.
+use Rattle.std.proofs.Common.{◌≡◌, ◌≢◌, ℕ, zero, suc, ◌%◌, ◌<◌, List, [], ◌∷◌, ◌++◌, length, get_or, map, ap, arith, Option, Some, None, IfSome, refl}
+use Rattle.std.specs.List.{AllByRecursion}
+use Rattle.intaglio_content.specs.Key.{Key}
+use Rattle.intaglio_content.specs.Work.{Event}
+use Rattle.intaglio_index.specs.Placed.{Placed, chain}
+use Rattle.intaglio_index.specs.Found.{IsFound, IsPassed}
+use Rattle.intaglio_core.specs.State.{State}
+use Rattle.intaglio_core.specs.Begun.{placed_of, HasBegun, IsBegun, AreBegun}
+use Rattle.intaglio_core.specs.declared.begun.Begun.{Begun}
+
+-- a chain depends on the hashes and the number of buckets alone
+pub chain-same : (v w : Placed) (b : ℕ) → v.hashes ≡ w.hashes → v.count ≡ w.count → chain v b ≡ chain w b
+unfolding chain
+chain-same v w b hashes count = rw (hashes, count) refl
+
+unwraps : {j i : ℕ} → ◌≡◌ {A = Option ℕ} (Some j) (Some i) → j ≡ i
+unwraps e = cc
+
+pub begun : {C : Type 0} (key : C → Key) (hash : Key → ℕ) (s : State C) (index : Placed) (h : ℕ) (before after : List Event) (candidate : Option ℕ)
+    → index.hashes ≡ map (λ c. hash (key c)) s.contents → index.count ≡ s.buckets → before ≡ []
+    → IfSome candidate (λ i. IsFound h (chain index (h % index.count)) before after i)
+    → (candidate ≡ None → AllByRecursion (λ placed. placed ≢ h) index.hashes)
+    → (candidate ≡ None → IsPassed (chain index (h % index.count)) before after)
+    → HasBegun key hash s h after candidate
+begun key hash s index h before after None hashes count start found none passed =
+    let same = chain-same index (placed_of key hash s) (h % index.count) hashes count in
+    (rw hashes at (none refl), rw (same, count, start) at (passed refl))
+begun key hash s index h before after (Some i) hashes count start found none passed =
+    let same = chain-same index (placed_of key hash s) (h % index.count) hashes count in
+    rw (same, count, start) at found
+
+-- a search that was begun and found nothing, with its events after those of others
+pub nothing : {C : Type 0} (key : C → Key) (hash : Key → ℕ) (s : State C) (index : Placed) (h : ℕ) (cost before after : List Event) (candidate : Option ℕ)
+    → HasBegun key hash s h cost candidate → candidate ≡ None → index.hashes ≡ map (λ c. hash (key c)) s.contents → index.count ≡ s.buckets → after ≡ before ++ cost
+    → AllByRecursion (λ placed. placed ≢ h) index.hashes × IsPassed (chain index (h % index.count)) before after
+nothing key hash s index h cost before after None b none hashes count adds =
+    let same = chain-same index (placed_of key hash s) (h % index.count) hashes count in
+    (rw hashes b.0, record { more = b.1.more; few = rw (same, count) b.1.few; events = rw b.1.events at adds })
+nothing key hash s index h cost before after (Some i) b none hashes count adds = absurd (let never = none in cc)
+
+-- the same where it found a symbol
+pub something : {C : Type 0} (key : C → Key) (hash : Key → ℕ) (s : State C) (index : Placed) (h : ℕ) (cost before after : List Event) (candidate : Option ℕ) (i : ℕ)
+    → HasBegun key hash s h cost candidate → candidate ≡ Some i → index.hashes ≡ map (λ c. hash (key c)) s.contents → index.count ≡ s.buckets → after ≡ before ++ cost
+    → IsFound h (chain index (h % index.count)) before after i
+something key hash s index h cost before after None i b is hashes count adds = absurd (let never = is in cc)
+something key hash s index h cost before after (Some j) i b is hashes count adds =
+    let same = chain-same index (placed_of key hash s) (h % index.count) hashes count in
+    let found : IsFound h (chain index (h % index.count)) [] cost i = rw (same, count, ← unwraps is) b in
+    record { front = found.front; behind = found.behind; split = found.split; smaller = found.smaller; events = rw found.events at adds }
+
+module _ {C : Type 0} (key : C → Key) (hash : Key → ℕ) (s : State C) where
+  -- one search more
+  pub AreBegun-push : (hs : List ℕ) (bs : List Begun) (h : ℕ) (b : Begun) → AreBegun key hash s hs bs → IsBegun key hash s h b
+      → AreBegun key hash s (hs ++ h ∷ []) (bs ++ b ∷ [])
+  AreBegun-push [] [] h b all last = (last, tt)
+  AreBegun-push [] (x ∷ bs) h b all last = absurd all
+  AreBegun-push (y ∷ hs) [] h b all last = absurd all
+  AreBegun-push (y ∷ hs) (x ∷ bs) h b all last = (all.0, AreBegun-push hs bs h b all.1 last)
+
+  pub AreBegun-length : {Q : Type 0} (f : Q → ℕ) (qs : List Q) (bs : List Begun) → AreBegun key hash s (map f qs) bs → length bs ≡ length qs
+  AreBegun-length f [] [] all = refl
+  AreBegun-length f [] (x ∷ bs) all = absurd all
+  AreBegun-length f (q ∷ qs) [] all = absurd all
+  AreBegun-length f (q ∷ qs) (x ∷ bs) all = ap suc (AreBegun-length f qs bs all.1)
+
+  -- the search at a position
+  pub begun-at : {Q : Type 0} (f : Q → ℕ) (qs : List Q) (bs : List Begun) (i : ℕ) (q : Q) (b : Begun) → AreBegun key hash s (map f qs) bs → i < length qs
+      → q ≡ get_or qs i q → b ≡ get_or bs i b → IsBegun key hash s (f q) b
+  begun-at f [] bs i q b all lt is same = absurd (omega (arith, lt))
+  begun-at f (y ∷ qs) [] i q b all lt is same = absurd all
+  begun-at f (y ∷ qs) (x ∷ bs) zero q b all lt is same = rw (is, same) all.0
+  begun-at f (y ∷ qs) (x ∷ bs) (suc i) q b all lt is same = begun-at f qs bs i q b all.1 (omega (arith, lt)) is same

@@ -1,0 +1,14 @@
+use Rattle.std.proofs.Common.{◌<◌, length, rules}
+use Rattle.std.proofs.lemmas.List.{take_more}
+use Rattle.intaglio_core.proofs.Starts.{AreBegun-push}
+use Rattle.intaglio_core.proofs.batch.forms.begin_searches.Goals as goal
+
+pub loop-place-preserved : goal.loop-place-preserved
+loop-place-preserved g c =
+    let lt : c.loop-place.place < length c.args.hashes.now = search rules in
+    let more = take_more c.args.hashes.now c.loop-place.place 0 lt in
+    record {
+      begun = rw (c.push_reserved.ensures.items, more) (AreBegun-push g.T.Content.Keyed.key (g.T.Interner.hash c.args.table.now) (g.T.Interner.state c.args.table.now) _ _ _ c.begin_search.result c.loop-place.invariant.begun c.begin_search.ensures);
+      count = search rules;
+      room = search rules;
+    }
