@@ -1,4 +1,4 @@
--- What the walks over a pointer with an allocator share. `Box`, `Parts` and `Held` are each a struct of the two, and so is the pair that a box is taken apart into.
+-- What the walks over a pointer with an allocator share. `Box`, `BoxParts` and `TablePtr` are each a struct of the two, and so is the pair that a box is taken apart into.
 use mathlib.Core.Path.{◌≡◌, refl, sym, ◌∙◌}
 use mathlib.Core.List.{List, [], ◌∷◌, ◌++◌}
 use seplogic.Ra.Ura.{Ura}
