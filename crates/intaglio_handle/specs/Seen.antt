@@ -1,5 +1,5 @@
 -- How C sees a table: its kind, its contents as their bytes, and its keys.
-use Rattle.std.specs.Prelude.{◌≡◌, ℕ, List, [], ◌∷◌, ◌++◌, length, map, Option, Some, None, Result, Ok, Err}
+use Rattle.std.specs.Prelude.{◌≡◌, ℕ, List, [], ◌∷◌, ◌++◌, map, Option, Some, None, Result, Ok, Err}
 use Rattle.intaglio_core.specs.State.{State, Table, first}
 use Rattle.intaglio_bytes.specs.BStrContent.{bstr_content_bytes}
 use Rattle.intaglio_bytes.specs.BytesContent.{bytes_content_bytes}

@@ -13,7 +13,7 @@ use crate::any_table::AnyTable;
 use crate::box_parts::BoxParts;
 use crate::table_ptr::TablePtr;
 use std::alloc::Global;
-use std::mem::replace;
+use std::mem::{forget, replace};
 
 /// A table, or nothing. C holds it by value, initializes it with
 /// zeros, and changes nothing in it.
@@ -60,6 +60,14 @@ impl Handle {
         ensures left { self.new.ptr.table ≡ None }
     {
         replace(self, Handle::none(alloc)).into_table()
+    }
+
+    // Puts a table into an empty handle. An empty handle owns nothing, so there is nothing to drop.
+    pub(crate) fn put_back(&mut self, table: Box<AnyTable>)
+        requires empty { self.old.ptr.table ≡ None }
+        ensures table { self.new.ptr.table ≡ Some table.value }
+    {
+        forget(replace(self, Handle::over(table)));
     }
 }
 

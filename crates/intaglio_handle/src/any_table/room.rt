@@ -1,5 +1,5 @@
 //! The calls that are the same for each kind.
-ghost use Rattle.std.specs.Prelude.{◌≡◌, ◌+◌, ◌≤◌, length};
+ghost use Rattle.std.specs.Prelude.{◌≡◌, ◌+◌, length};
 ghost use Rattle.intaglio_core.specs.Change.{Empties, Reserves, Shrinks, TakesBack};
 ghost use Rattle.intaglio_handle.specs.Seen.{IsChanged, contents_of, seen};
 
@@ -23,7 +23,6 @@ macro_rules! on_table {
 impl AnyTable {
     pub(crate) fn len(&self) -> usize
         ensures count { result ≡ length (contents_of self.now) }
-        ensures limited { length (contents_of self.now) ≤ (seen self.now).state.limit }
     {
         on_table!(self, table => table.len())
     }
@@ -32,12 +31,6 @@ impl AnyTable {
         ensures capacity { result ≡ length (contents_of self.now) + (seen self.now).state.spare }
     {
         on_table!(self, table => table.capacity())
-    }
-
-    pub(crate) fn limit(&self) -> usize
-        ensures limit { result ≡ (seen self.now).state.limit }
-    {
-        on_table!(self, table => table.limit())
     }
 
     pub(crate) fn reserve(&mut self, additional: usize) -> Result<(), RoomError>

@@ -27,7 +27,7 @@ impl Handle {
             return Err(Refusal::NoTable);
         };
         let answer = table.intern_all(bytes, ends, symbols);
-        *self = Handle::over(table);
+        self.put_back(table);
         answer
     }
 
@@ -53,7 +53,7 @@ impl Handle {
         if is_good {
             table.find_each(bytes, ends, symbols);
         }
-        *self = Handle::over(table);
+        self.put_back(table);
         if is_good {
             Ok(())
         } else {
@@ -84,7 +84,7 @@ impl Handle {
         } else {
             Err(Refusal::BadEnds)
         };
-        *self = Handle::over(table);
+        self.put_back(table);
         answer
     }
 }

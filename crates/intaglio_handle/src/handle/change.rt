@@ -19,7 +19,7 @@ impl Handle {
             return 0;
         };
         let count = table.len();
-        *self = Handle::over(table);
+        self.put_back(table);
         count
     }
 
@@ -32,7 +32,7 @@ impl Handle {
             return 0;
         };
         let capacity = table.capacity();
-        *self = Handle::over(table);
+        self.put_back(table);
         capacity
     }
 
@@ -48,7 +48,7 @@ impl Handle {
             return Err(Refusal::NoTable);
         };
         let answer = table.reserve(additional);
-        *self = Handle::over(table);
+        self.put_back(table);
         room_answer(answer)
     }
 
@@ -64,7 +64,7 @@ impl Handle {
             return Err(Refusal::NoTable);
         };
         let answer = table.shrink_to(min_capacity);
-        *self = Handle::over(table);
+        self.put_back(table);
         room_answer(answer)
     }
 
@@ -76,7 +76,7 @@ impl Handle {
             return;
         };
         table.clear();
-        *self = Handle::over(table);
+        self.put_back(table);
     }
 
     /// Drops all contents but the first ones, as many as the mark says.
@@ -91,7 +91,7 @@ impl Handle {
             return Err(Refusal::NoTable);
         };
         let answer = table.take_back(Mark::new(mark));
-        *self = Handle::over(table);
+        self.put_back(table);
         match answer {
             Ok(()) => Ok(()),
             Err(_) => Err(Refusal::Stale),

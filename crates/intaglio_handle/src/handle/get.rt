@@ -26,7 +26,7 @@ impl Handle {
             }
             None => false,
         };
-        *self = Handle::over(table);
+        self.put_back(table);
         found
     }
 
@@ -49,7 +49,7 @@ impl Handle {
             }
             None => false,
         };
-        *self = Handle::over(table);
+        self.put_back(table);
         found
     }
 }

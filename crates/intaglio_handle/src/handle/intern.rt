@@ -22,7 +22,7 @@ impl Handle {
             return Err(Refusal::NoTable);
         };
         let answer = table.intern(bytes);
-        *self = Handle::over(table);
+        self.put_back(table);
         answer
     }
 
@@ -38,7 +38,7 @@ impl Handle {
             return Err(Refusal::NoTable);
         };
         let answer = table.intern_static(bytes);
-        *self = Handle::over(table);
+        self.put_back(table);
         answer
     }
 
@@ -49,7 +49,7 @@ impl Handle {
     {
         let table = self.take(alloc)?;
         let found = table.find(bytes);
-        *self = Handle::over(table);
+        self.put_back(table);
         match found {
             Ok(symbol) => symbol,
             Err(_) => None,

@@ -29,7 +29,7 @@ impl Handle {
         let Ok(table) = Box::new(alloc, made?) else {
             return Err(Refusal::NoMemory);
         };
-        *self = Handle::over(table);
+        self.put_back(table);
         Ok(())
     }
 

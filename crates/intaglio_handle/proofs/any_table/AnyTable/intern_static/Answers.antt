@@ -1,8 +1,7 @@
 -- An interning without a copy in the table of each kind.
-use Rattle.std.proofs.Common.{List, ℕ, [], ◌∷◌, ◌++◌, refl, ap, ◌∙◌}
+use Rattle.std.proofs.Common.{refl, ap}
 use Rattle.intaglio_bytes.specs.BStrContent.{bstr_content_bytes}
 use Rattle.intaglio_bytes.specs.BytesContent.{bytes_content_bytes}
-use Rattle.intaglio_path.specs.Components.{components}
 use Rattle.intaglio_path.specs.PathContent.{path_content_bytes}
 use Rattle.intaglio_text.specs.OsStrContent.{os_str_content_bytes}
 use Rattle.intaglio_text.specs.StrContent.{str_content_bytes}

@@ -29,11 +29,10 @@ use denote.Triple.Walked.{Stays, walk_of, says, stay_dropped, ends_at}
 use Rattle.std.below.core.proofs.alloc.Calls.{Goes-blank}
 use Rattle.std.below.core.proofs.alloc.Shapes.{after}
 use Rattle.std.proofs.raw_atomic.Walks.{proved_at}
-use Rattle.std.specs.Box.Ownership.{box_owns}
 use Rattle.std.specs.contracts.boxed.Box.{the_row as box_of}
 use Rattle.std.specs.contracts.boxed.Box.from_raw as callee
 use Rattle.std.proofs.boxed.Box.from_raw.Met as callee_met
-use Rattle.intaglio_handle.proofs.Walks.{word, word_fits, pair_out, pair_in}
+use Rattle.intaglio_handle.proofs.Walks.{word_fits, pair_out, pair_in}
 use Rattle.intaglio_handle.specs.contracts.box_parts.BoxParts.{the_row as parts_of}
 use Rattle.intaglio_handle.specs.contracts.box_parts.BoxParts.into_box as f
 use Rattle.intaglio_handle.proofs.box_parts.BoxParts.into_box.Statement.{statement}

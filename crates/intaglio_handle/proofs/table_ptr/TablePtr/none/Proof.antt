@@ -1,6 +1,6 @@
 -- A null pointer owns nothing.
 use mathlib.Core.Path.{refl}
-use mathlib.Core.List.{List, [], ◌∷◌}
+use mathlib.Core.List.{[], ◌∷◌}
 use lib.Dec.{lit<}
 use base.Fml.{ftrue}
 use types.Kit.{‵, ◌⊛◌, ◌$◌, ◌∵◌, !, qed, done, move, keep, split, join, fjoin, suffices}
