@@ -95,7 +95,8 @@ pub extern "C" fn intaglio_intern_static(
     bytes: &'static [u8],
     symbol: &mut u32,
 ) -> u32
-    ensures step { ChangesWithSymbol handle.old handle.new result symbol.old symbol.new (InternsStatic bytes.now) }
+    ensures step { ChangesWithSymbol handle.old handle.new result symbol.old symbol.new
+        (InternsStatic bytes.now) }
 {
     symbol_code(handle.intern_static(alloc, bytes), symbol)
 }
@@ -212,7 +213,8 @@ pub extern "C" fn intaglio_intern_all(
     ends: &[usize],
     symbols: &mut [u32],
 ) -> u32
-    ensures step { ChangesWithCode handle.old handle.new result (InternsAll bytes.now ends.now symbols.old symbols.new) }
+    ensures step { ChangesWithCode handle.old handle.new result
+        (InternsAll bytes.now ends.now symbols.old symbols.new) }
 {
     code(handle.intern_all(alloc, bytes, ends, symbols))
 }
@@ -241,7 +243,8 @@ pub extern "C" fn intaglio_copy_all(
     buffer: &mut [u8],
     ends: &mut [usize],
 ) -> u32
-    ensures copied { IsCodeOf result (CopiesAll symbols.now buffer.old ends.old buffer.new ends.new handle.old) }
+    ensures copied { IsCodeOf result
+        (CopiesAll symbols.now buffer.old ends.old buffer.new ends.new handle.old) }
     ensures kept { Keeps handle.old handle.new }
 {
     code(handle.copy_all(alloc, symbols, buffer, ends))

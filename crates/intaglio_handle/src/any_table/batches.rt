@@ -71,7 +71,8 @@ impl AnyTable {
         ends: &[usize],
         symbols: &mut [u32],
     ) -> Result<(), Refusal>
-        ensures step { TakesStep self.old self.new result (InternsAll bytes.now ends.now symbols.old symbols.new) }
+        ensures step { TakesStep self.old self.new result
+            (InternsAll bytes.now ends.now symbols.old symbols.new) }
     {
         if !is_batch(bytes, ends, symbols.len()) {
             return Err(Refusal::BadEnds);

@@ -21,7 +21,8 @@ impl Handle {
         ends: &[usize],
         symbols: &mut [u32],
     ) -> Result<(), Refusal>
-        ensures step { Changes self.old self.new result (InternsAll bytes.now ends.now symbols.old symbols.new) }
+        ensures step { Changes self.old self.new result
+            (InternsAll bytes.now ends.now symbols.old symbols.new) }
     {
         let Some(mut table) = self.take(alloc) else {
             return Err(Refusal::NoTable);
