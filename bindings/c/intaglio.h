@@ -1,31 +1,31 @@
 /* Intaglio: symbol tables (string interners) for C and C++, proved correct.
  *
- * A symbol table gives each distinct string a small number, its symbol, and gives the string back for it. Symbols count up
- * from 0. There are six kinds of tables, which take the same calls:
+ * A symbol table assigns each distinct string a number, its symbol, and returns the string of a symbol. Symbols count up from
+ * 0. There are six kinds of tables with the same functions:
  *
  *   intaglio_text    UTF-8 texts
  *   intaglio_bytes   bytes
- *   intaglio_cstr    C strings: bytes whose only zero is the last one, which the length counts
- *   intaglio_path    paths: UTF-8 texts, equal where their components are, as "a//b" and "a/./b"
+ *   intaglio_cstr    C strings: bytes whose only zero is the last one, which is included in the length
+ *   intaglio_path    paths: UTF-8 texts that are equal if their components are, as "a//b" and "a/./b"
  *   intaglio_osstr   platform strings: UTF-8 texts
  *   intaglio_bstr    byte strings: bytes that are text by convention
  *
- * So `intaglio_text_intern` interns in an `intaglio_text`. A program that knows the kind only when it runs takes an
- * `intaglio_table`, and `intaglio_intern`.
+ * For example, intaglio_text_intern interns a string in an intaglio_text. If the kind is known only at run time, use
+ * intaglio_table and the functions without a kind in their names, such as intaglio_intern.
  *
- * Link libintaglio.a or libintaglio.so, which bindings/build makes. docs/FROM-C.md says how, and what is proved.
+ * Link with libintaglio.a or libintaglio.so, which bindings/build makes. docs/FROM-C.md describes how, and what is proved.
  *
- * POINTERS. Each pointer is to be valid for its count, aligned and not null, also where the count is 0, and stay so for the
- * call. No memory that a call writes may overlap any other that it is passed. Nothing checks this.
+ * Errors: a function that fails returns an error code, and leaves the strings and symbols of the table unchanged.
  *
- * OWNERSHIP. The table owns what it holds: strings are copied when they are new, but for those of intern_static. Free each
- * table by its free. No call keeps a pointer, but for intern_static's.
+ * Pointers: each pointer must be valid for the given number of elements, aligned, and not null, even if that number is 0. Memory
+ * that a function writes must not overlap other memory that is passed to it. None of this is checked.
  *
- * THREADS. One call at a time on a table, also of those calls that only read. A table may be passed to another thread, if
- * that is ordered by a lock, or by a thread's start or join. No call may be made in a signal handler, or in the forked
- * child of a process with threads.
+ * Ownership: a table owns its strings. New strings are copied, except by intern_static. Each table must be freed. No pointer
+ * is kept after a call, except by intern_static.
  *
- * A CALL THAT FAILS returns a code, and leaves the strings and symbols of the table as they were.
+ * Threads: a table must not be used by two threads at the same time, even by functions that only read. It may be passed to
+ * another thread through a lock, or by starting or joining a thread. No function may be called in a signal handler, or in the
+ * forked child of a process with threads.
  */
 #ifndef INTAGLIO_H
 #define INTAGLIO_H
@@ -38,11 +38,11 @@
 extern "C" {
 #endif
 
-/* A table of any kind, or none. Begin with zeros: none. Don't change the fields, and don't copy the struct: it may be moved,
- * but of two copies only one may be used. */
-typedef struct { bool live; void *held; } intaglio_table;
+/* A handle, which holds a table of any kind or none. Initialize it with zeros: then it holds none. The fields are private. The
+ * struct may be moved, but after a copy only one of the two may be used. */
+typedef struct { bool live; void *ptr; } intaglio_table;
 
-/* Where the bytes of a symbol are. `at` is null where `len` is 0. */
+/* The bytes of a symbol. `at` is null if `len` is 0. */
 typedef struct { const uint8_t *at; size_t len; } intaglio_spelling;
 
 /* The kinds. */
@@ -55,91 +55,93 @@ enum {
     INTAGLIO_BSTR = 5
 };
 
-/* What a call that returns uint32_t returns. */
+/* The codes that functions of type uint32_t return. */
 enum {
     INTAGLIO_DONE = 0,
     INTAGLIO_NO_TABLE = 1,      /* the handle holds no table */
     INTAGLIO_FULL = 2,          /* the string is new, and the table holds as many as its limit */
     INTAGLIO_NO_MEMORY = 3,     /* malloc or realloc returned null */
-    INTAGLIO_TOO_LARGE = 4,     /* more room was asked for than there are symbols, or a limit of 0 or above 2^32 */
-    INTAGLIO_STALE = 5,         /* the mark is above the table's length */
+    INTAGLIO_TOO_LARGE = 4,     /* a capacity above 2^32 or the limit, or a limit of 0 or above 2^32 */
+    INTAGLIO_STALE = 5,         /* the table has fewer strings than the mark counts */
     INTAGLIO_NOT_UTF8 = 6,      /* text, path, osstr: the bytes aren't UTF-8 */
     INTAGLIO_INNER_ZERO = 7,    /* cstr: a zero byte before the last byte */
     INTAGLIO_MISSING_ZERO = 8,  /* cstr: no zero byte at all */
-    INTAGLIO_BAD_ENDS = 9,      /* a group's ends don't ascend within its bytes, or its lists differ in length */
+    INTAGLIO_BAD_ENDS = 9,      /* the ends of a batch decrease or exceed its bytes, or its arrays differ in length */
     INTAGLIO_NO_SYMBOL = 10,    /* the table has no such symbol */
     INTAGLIO_NO_SPACE = 11,     /* the buffer is too short */
-    INTAGLIO_NO_KIND = 12       /* the number is of no kind */
+    INTAGLIO_NO_KIND = 12       /* the number is not that of a kind */
 };
 
-/* What check_all writes for a string that isn't in the table. */
+/* The number that check_all writes for a string that isn't in the table. */
 #define INTAGLIO_ABSENT UINT64_MAX
 
-/* new, with_capacity, with_limit: put a new table into the handle, and free the one that it held. The keys are SipHash's:
- * random ones protect from strings that were chosen to collide. `new` makes room for 4096 strings, with_capacity for exactly
- * that many; with_limit makes a table that never holds more than `limit`.
- * NO_MEMORY, TOO_LARGE, NO_KIND: then the handle holds none. */
+/* Puts a new table into the handle, and frees the table that it held. `new` reserves capacity for 4096 strings, with_capacity for
+ * exactly `capacity`; a table made by with_limit never holds more than `limit` strings. The keys are those of the hash function,
+ * SipHash-1-3: random keys protect against strings that are chosen to collide.
+ * Errors: NO_MEMORY, TOO_LARGE, NO_KIND. The handle then holds no table. */
 uint32_t intaglio_new(intaglio_table *table, uint32_t kind, uint64_t key0, uint64_t key1);
 uint32_t intaglio_with_capacity(intaglio_table *table, uint32_t kind, size_t capacity, uint64_t key0, uint64_t key1);
 uint32_t intaglio_with_limit(intaglio_table *table, uint32_t kind, size_t limit, uint64_t key0, uint64_t key1);
 
-/* Frees the table. Then the handle holds none, and all calls are still allowed. Freeing again does nothing. */
+/* Frees the table. The handle then holds none; freeing it again does nothing. */
 void intaglio_free(intaglio_table *table);
 
-/* The symbol of the bytes, which are copied if they are new. NO_TABLE, FULL, NO_MEMORY, and for kinds that don't take all
- * bytes NOT_UTF8, INNER_ZERO, MISSING_ZERO: then *symbol is unchanged. */
+/* Interns a string: stores its symbol in *symbol. A new string is copied.
+ * Errors: NO_TABLE, FULL, NO_MEMORY, and NOT_UTF8, INNER_ZERO, MISSING_ZERO for kinds that don't take all bytes. *symbol is then
+ * unchanged. */
 uint32_t intaglio_intern(intaglio_table *table, const uint8_t *bytes, size_t len, uint32_t *symbol);
 
-/* The same, and doesn't copy. The bytes must stay as they are until the program ends. */
+/* The same without a copy. The bytes must not change until the program ends. */
 uint32_t intaglio_intern_static(intaglio_table *table, const uint8_t *bytes, size_t len, uint32_t *symbol);
 
-/* Whether the bytes are in the table. If so *symbol is theirs, and else it is unchanged. */
+/* Returns whether a string is in the table. If so, its symbol is stored in *symbol; otherwise *symbol is unchanged. */
 bool intaglio_check_interned(intaglio_table *table, const uint8_t *bytes, size_t len, uint32_t *symbol);
 
-/* Where the bytes of a symbol are. They stay there until the table is cleared, taken back to before the symbol, freed, or
- * replaced by a new one; interning doesn't move them. False if there is no such symbol; then *out is unchanged. */
+/* Stores the address and the length of a symbol's bytes in *out. They stay valid until the table is cleared, rolled back to
+ * before the symbol, freed or replaced; interning doesn't move them. Returns false if there is no such symbol; *out is then
+ * unchanged. */
 bool intaglio_get(intaglio_table *table, uint32_t symbol, intaglio_spelling *out);
 
-/* The number of a symbol's bytes, in *len. If the buffer has room for them they are copied to its front, and else it is
- * unchanged. False if there is no such symbol; then nothing is written. */
+/* Stores the number of a symbol's bytes in *len, and copies them to the start of the buffer if it has space for all of them.
+ * Returns false if there is no such symbol; then nothing is written. */
 bool intaglio_copy(intaglio_table *table, uint32_t symbol, uint8_t *buffer, size_t size, size_t *len);
 
-/* How many strings there are. Symbols are 0 to len - 1. 0 if there is no table. */
+/* Returns the number of strings, or 0 if there is no table. The symbols are the numbers below it. */
 size_t intaglio_len(intaglio_table *table);
 
-/* How many strings fit before the table has to grow. 0 if there is no table. */
+/* Returns how many strings the table can hold before it has to grow, or 0 if there is no table. */
 size_t intaglio_capacity(intaglio_table *table);
 
-/* Makes room for this many more: as many new strings are then taken without NO_MEMORY for the table itself (a copy of a
- * string still takes memory). NO_TABLE, TOO_LARGE, NO_MEMORY. */
+/* Reserves capacity for `additional` more strings. The table then doesn't grow for that many new strings, but each copy of a
+ * string is still allocated. Errors: NO_TABLE, TOO_LARGE, NO_MEMORY. */
 uint32_t intaglio_reserve(intaglio_table *table, size_t additional);
 
-/* Gives back room above this capacity, or above len. NO_TABLE, NO_MEMORY. */
+/* Shrinks the capacity to `min_capacity`, or to the number of strings if that is greater. Errors: NO_TABLE, NO_MEMORY. */
 uint32_t intaglio_shrink_to(intaglio_table *table, size_t min_capacity);
 
-/* Drops all strings; room and keys stay. */
+/* Removes all strings. The capacity and the keys stay, and the next symbol is 0. */
 void intaglio_clear(intaglio_table *table);
 
-/* Drops the strings that came after the first `mark`, as when len was `mark`. NO_TABLE, STALE. */
+/* Rolls the table back to the first `mark` strings, where `mark` is an earlier result of len. Errors: NO_TABLE, STALE. */
 uint32_t intaglio_take_back(intaglio_table *table, size_t mark);
 
-/* A group of strings is passed as one run of bytes with the end of each: string i is bytes[ends[i - 1] .. ends[i]], and the
- * first begins at 0. */
+/* A batch of strings is passed as their concatenated bytes and an array with the end of each: string i is the bytes from
+ * ends[i - 1], or 0 for the first string, up to ends[i]. */
 
-/* Interns a group, all or none, and writes the symbol of each. `symbols_count` must equal `count`. NO_TABLE, BAD_ENDS, FULL,
- * NO_MEMORY, NOT_UTF8, INNER_ZERO, MISSING_ZERO: then the strings are as before, and what `symbols` holds is of no use. */
+/* Interns a batch, all strings or none, and stores the symbol of each. `symbols_count` must equal `count`.
+ * Errors: NO_TABLE, BAD_ENDS, FULL, NO_MEMORY, NOT_UTF8, INNER_ZERO, MISSING_ZERO. The contents of `symbols` are then unspecified. */
 uint32_t intaglio_intern_all(intaglio_table *table, const uint8_t *bytes, size_t len, const size_t *ends, size_t count, uint32_t *symbols, size_t symbols_count);
 
-/* Looks a group up, and writes the symbol of each, or INTAGLIO_ABSENT, also for bytes that the kind doesn't take.
- * `symbols_count` must equal `count`. NO_TABLE, BAD_ENDS: then nothing is written. */
+/* Looks up a batch, and stores the symbol of each string, or INTAGLIO_ABSENT if it isn't in the table or isn't valid for the
+ * kind. `symbols_count` must equal `count`. Errors: NO_TABLE, BAD_ENDS. Nothing is then written. */
 uint32_t intaglio_check_all(intaglio_table *table, const uint8_t *bytes, size_t len, const size_t *ends, size_t count, uint64_t *symbols, size_t symbols_count);
 
-/* Copies the bytes of many symbols to the front of the buffer, one after the other, and writes the end of each, so as a group
- * is passed. `ends_count` must equal `count`. NO_TABLE, BAD_ENDS: then nothing is written. NO_SYMBOL, NO_SPACE: then what
- * `buffer` and `ends` hold is of no use. */
+/* Copies the bytes of many symbols to the buffer, one after the other, and stores the end of each, in the form in which a batch
+ * is passed. `ends_count` must equal `count`. Errors: NO_TABLE, BAD_ENDS; nothing is then written. NO_SYMBOL, NO_SPACE; the
+ * contents of `buffer` and `ends` are then unspecified. */
 uint32_t intaglio_copy_all(intaglio_table *table, const uint32_t *symbols, size_t count, uint8_t *buffer, size_t size, size_t *ends, size_t ends_count);
 
-/* The same calls with a kind in their names, over a struct of that kind. */
+/* The same functions for each kind, on a struct of that kind. Initialize it with INTAGLIO_NONE. */
 #define INTAGLIO_NONE {{false, NULL}}
 #define INTAGLIO_KIND(NAME, KIND) \
     typedef struct { intaglio_table table; } intaglio_##NAME; \

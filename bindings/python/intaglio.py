@@ -97,7 +97,7 @@ class MissingZero(Refused, ValueError):
 
 
 class BadEnds(Refused, ValueError):
-    """The ends of a group don't ascend within its bytes."""
+    """The ends of a batch don't ascend within its bytes."""
 
     code = 9
 
@@ -122,14 +122,18 @@ class NoKind(Refused, ValueError):
 
 REFUSALS: dict[int, type[Refused]] = {refusal.code: refusal for refusal in Refused.__subclasses__()}
 
-ABSENT = 2**64 - 1
+# What check_all writes for a string that isn't in the table: 2**64 - 1, which is -1 as a signed number.
+ABSENT = -1
+_ABSENT_BYTES = ABSENT.to_bytes(8, sys.byteorder, signed=True)
 DEFAULT_CAPACITY = 4096
 # How many strings an iterator copies at once.
 CHUNK = 4096
+# How many strings of a batch are joined at once.
+PART = 1024
 
 
 class _Handle(ctypes.Structure):
-    _fields_ = [("live", ctypes.c_bool), ("held", ctypes.c_void_p)]
+    _fields_ = [("live", ctypes.c_bool), ("ptr", ctypes.c_void_p)]
 
 
 class _Spelling(ctypes.Structure):
@@ -204,8 +208,8 @@ def _at(numbers: array[int]) -> int:
     return numbers.buffer_info()[0]
 
 
-# Numbers of 4 and of 8 bytes.
-_U32, _U64 = "I", "Q"
+# Numbers of 4 and of 8 bytes. Python reads a signed number faster where many are the same small one.
+_U32, _U64, _I64 = "I", "Q", "q"
 assert array(_U32).itemsize == 4 and array(_U64).itemsize == ctypes.sizeof(_size) == 8, "this platform's numbers are of other sizes"
 
 
@@ -254,9 +258,26 @@ class Table(Generic[Content]):
         raise NotImplementedError
 
     @classmethod
-    def _group(cls, contents: list[Content]) -> tuple[bytes, array[int]]:
-        """The strings one after the other, and the end of each."""
-        return _joined([cls._encode(content) for content in contents])
+    def _join(cls, contents: list[Content]) -> tuple[bytes, list[Any]]:
+        """The bytes of the strings one after the other, and what has their lengths."""
+        spellings = [cls._encode(content) for content in contents]
+        return b"".join(spellings), spellings
+
+    @classmethod
+    def _batch(cls, contents: Iterable[Content]) -> tuple[bytes, array[int], int]:
+        """The strings one after the other, the end of each, and how many there are."""
+        if type(contents) is not list:
+            contents = list(contents)
+        parts, ends, size = [], array(_U64), 0
+        # (by parts that stay in the cache between joining and measuring)
+        for start in range(0, len(contents), PART):
+            joined, measured = cls._join(contents[start : start + PART])
+            part_ends = accumulate(map(len, measured), initial=size)
+            next(part_ends)
+            ends.extend(part_ends)
+            parts.append(joined)
+            size += len(joined)
+        return b"".join(parts), ends or _numbers(_U64, 0), len(ends)
 
     def close(self) -> None:
         """Frees the table. Then it has no strings, and what would change it raises NoTable."""
@@ -291,9 +312,7 @@ class Table(Generic[Content]):
 
     def intern_all(self, contents: Iterable[Content]) -> list[int]:
         """The symbols of the strings, all of which are stored, or none. Raises what intern raises."""
-        contents = list(contents)
-        joined, ends = self._group(contents)
-        count = len(contents)
+        joined, ends, count = self._batch(contents)
         symbols = _numbers(_U32, count)
         _check(_calls.intern_all(self._pointer, joined, len(joined), _at(ends), count, _at(symbols), count))
         return symbols.tolist()[:count]
@@ -310,12 +329,12 @@ class Table(Generic[Content]):
 
     def check_all(self, contents: Iterable[Content]) -> list[int | None]:
         """The symbols of the strings, or None for those that aren't in the table. Raises NotUtf8, NoTable."""
-        contents = list(contents)
-        joined, ends = self._group(contents)
-        count = len(contents)
-        symbols = _numbers(_U64, count)
+        joined, ends, count = self._batch(contents)
+        symbols = _numbers(_I64, count)
         _check(_calls.check_all(self._pointer, joined, len(joined), _at(ends), count, _at(symbols), count))
-        return [None if symbol == ABSENT else symbol for symbol in symbols.tolist()[:count]]
+        if symbols.tobytes() == _ABSENT_BYTES * len(symbols):
+            return [None] * count
+        return [None if symbol < 0 else symbol for symbol in symbols[:count]]
 
     def __contains__(self, content: object) -> bool:
         """Whether the string is in the table."""
@@ -395,23 +414,18 @@ def _size_of(number: int) -> int:
     return number
 
 
-def _ends(lengths: Iterable[int]) -> array[int]:
-    return array(_U64, accumulate(lengths)) or _numbers(_U64, 0)
-
-
-def _joined(spellings: list[bytes]) -> tuple[bytes, array[int]]:
-    return b"".join(spellings), _ends(map(len, spellings))
-
-
-def _group_of_texts(contents: list[str]) -> tuple[bytes, array[int]]:
+def _join_texts(contents: list[str]) -> tuple[bytes, list[Any]]:
     joined = "".join(contents)
-    if joined.isascii():
-        return joined.encode(), _ends(map(str.__len__, contents))
-    return _joined([_of_text(content) for content in contents])
+    # (a subclass may have another `len`)
+    if joined.isascii() and set(map(type, contents)) <= {str}:
+        return joined.encode(), contents
+    spellings = [_of_text(content) for content in contents]
+    return b"".join(spellings), spellings
 
 
-def _group_of_bytes(contents: list[bytes]) -> tuple[bytes, array[int]]:
-    return _joined(contents if set(map(type, contents)) <= {bytes} else [_of_bytes(content) for content in contents])
+def _join_bytes(contents: list[bytes]) -> tuple[bytes, list[Any]]:
+    spellings = contents if set(map(type, contents)) <= {bytes} else [_of_bytes(content) for content in contents]
+    return b"".join(spellings), spellings
 
 
 def _of_bytes(content: bytes) -> bytes:
@@ -435,7 +449,7 @@ class SymbolTable(Table[str]):
     __slots__ = ()
     _kind = 0
     _encode = staticmethod(_of_text)
-    _group = staticmethod(_group_of_texts)
+    _join = staticmethod(_join_texts)
     _decode = staticmethod(bytes.decode)
 
 
@@ -445,7 +459,7 @@ class BytesTable(Table[bytes]):
     __slots__ = ()
     _kind = 1
     _encode = staticmethod(_of_bytes)
-    _group = staticmethod(_group_of_bytes)
+    _join = staticmethod(_join_bytes)
     _decode = staticmethod(bytes)
 
 
@@ -483,7 +497,7 @@ class OsStringTable(Table[str]):
     __slots__ = ()
     _kind = 4
     _encode = staticmethod(_of_text)
-    _group = staticmethod(_group_of_texts)
+    _join = staticmethod(_join_texts)
     _decode = staticmethod(bytes.decode)
 
 
@@ -493,5 +507,5 @@ class ByteStringTable(Table[bytes]):
     __slots__ = ()
     _kind = 5
     _encode = staticmethod(_of_bytes)
-    _group = staticmethod(_group_of_bytes)
+    _join = staticmethod(_join_bytes)
     _decode = staticmethod(bytes)

@@ -14,7 +14,7 @@ use crate::refusal::Refusal;
 #[repr(C)]
 struct RawHandle {
     live: bool,
-    held: *mut c_void,
+    ptr: *mut c_void,
 }
 
 #[repr(C)]
@@ -107,20 +107,20 @@ impl Kind for Bytes {
 
 /// Many strings in a row: their bytes, and the end of each.
 #[derive(Default)]
-pub struct Group {
+pub struct Batch {
     bytes: Vec<u8>,
     ends: Vec<usize>,
 }
 
-impl Group {
+impl Batch {
     /// The strings in order.
-    pub fn of<K: Kind, T: AsRef<K::Content>>(contents: impl IntoIterator<Item = T>) -> Group {
-        let mut group = Group::default();
+    pub fn of<K: Kind, T: AsRef<K::Content>>(contents: impl IntoIterator<Item = T>) -> Batch {
+        let mut batch = Batch::default();
         for content in contents {
-            group.bytes.extend_from_slice(K::bytes(content.as_ref()));
-            group.ends.push(group.bytes.len());
+            batch.bytes.extend_from_slice(K::bytes(content.as_ref()));
+            batch.ends.push(batch.bytes.len());
         }
-        group
+        batch
     }
 }
 
@@ -138,7 +138,7 @@ unsafe impl<K: Kind> Send for RawTable<K> {}
 impl<K: Kind> RawTable<K> {
     // A table that the call makes.
     fn made(make: impl FnOnce(*mut RawHandle) -> u32) -> Result<RawTable<K>, Refusal> {
-        let table = RawTable { handle: UnsafeCell::new(RawHandle { live: false, held: null_mut() }), kind: PhantomData };
+        let table = RawTable { handle: UnsafeCell::new(RawHandle { live: false, ptr: null_mut() }), kind: PhantomData };
         Refusal::check(make(table.at()))?;
         Ok(table)
     }
@@ -228,8 +228,8 @@ impl<K: Kind> RawTable<K> {
         Refusal::check(unsafe { intaglio_take_back(self.at(), mark) })
     }
 
-    pub fn intern_all(&mut self, group: &Group) -> Result<Vec<u32>, Refusal> {
-        let Group { bytes, ends } = group;
+    pub fn intern_all(&mut self, batch: &Batch) -> Result<Vec<u32>, Refusal> {
+        let Batch { bytes, ends } = batch;
         let mut symbols = vec![0; ends.len()];
         // SAFETY: As in `len`. The three are vectors of their own.
         let code = unsafe {
@@ -239,8 +239,8 @@ impl<K: Kind> RawTable<K> {
         Ok(symbols)
     }
 
-    pub fn check_all(&self, group: &Group) -> Vec<Option<u32>> {
-        let Group { bytes, ends } = group;
+    pub fn check_all(&self, batch: &Batch) -> Vec<Option<u32>> {
+        let Batch { bytes, ends } = batch;
         let mut symbols = vec![0; ends.len()];
         // SAFETY: As in `intern_all`.
         let code = unsafe {

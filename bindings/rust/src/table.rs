@@ -5,7 +5,7 @@ use std::borrow::Cow;
 use std::collections::TryReserveError;
 use std::hash::{BuildHasher, RandomState};
 
-use crate::library::{Bytes, Group, Kind, RawTable, Text};
+use crate::library::{Bytes, Batch, Kind, RawTable, Text};
 use crate::{AllSymbols, Contents, DEFAULT_SYMBOL_TABLE_CAPACITY, Iter, Refusal, Symbol, SymbolOverflowError};
 
 /// A table of distinct strings of a kind, each with a [`Symbol`].
@@ -164,7 +164,7 @@ impl<K: Kind> Table<K> {
     ///
     /// [`Refusal::Full`], [`Refusal::NoMemory`]. Then the strings are as before.
     pub fn intern_all<T: AsRef<K::Content>>(&mut self, contents: impl IntoIterator<Item = T>) -> Result<Vec<Symbol>, Refusal> {
-        let symbols = self.raw.intern_all(&Group::of::<K, T>(contents))?;
+        let symbols = self.raw.intern_all(&Batch::of::<K, T>(contents))?;
         Ok(symbols.into_iter().map(Symbol::new).collect())
     }
 
@@ -177,7 +177,7 @@ impl<K: Kind> Table<K> {
     /// The symbols of those of many strings that are in the table, in one call of the library.
     #[must_use]
     pub fn check_all<T: AsRef<K::Content>>(&self, contents: impl IntoIterator<Item = T>) -> Vec<Option<Symbol>> {
-        let symbols = self.raw.check_all(&Group::of::<K, T>(contents));
+        let symbols = self.raw.check_all(&Batch::of::<K, T>(contents));
         symbols.into_iter().map(|symbol| symbol.map(Symbol::new)).collect()
     }
 

@@ -6,9 +6,9 @@
 
 ghost use Rattle.std.specs.Prelude.{◌≡◌, false, length};
 ghost use Rattle.std.specs.Option.{option_map};
-ghost use Rattle.intaglio_handle.specs.Answers.{Tells, TellsSymbol, given};
-ghost use Rattle.intaglio_handle.specs.Groups.{CopiesAll, FindsAll, InternsAll};
-ghost use Rattle.intaglio_handle.specs.Handles.{Changes, Clears, HoldsNone, Keeps, MakesLimited, MakesRoom, capacity, count, filled, held, known, stored};
+ghost use Rattle.intaglio_handle.specs.Answers.{IsCodeOf, given};
+ghost use Rattle.intaglio_handle.specs.Batches.{CopiesAll, FindsAll, InternsAll};
+ghost use Rattle.intaglio_handle.specs.Handles.{ChangesWithCode, ChangesWithSymbol, Clears, HoldsNone, Keeps, MakesLimited, MakesRoom, capacity, count, filled, known, stored, table_of};
 ghost use Rattle.intaglio_handle.specs.Steps.{Interns, InternsStatic, Reserves, Shrinks, TakesBack};
 ghost use Rattle.std.specs.Hash.DefaultHasher.{with_keys};
 
@@ -28,7 +28,7 @@ pub extern "C" fn intaglio_new(
     key0: u64,
     key1: u64,
 ) -> u32
-    ensures { Tells result (MakesRoom kind 4096 (with_keys key0 key1) handle.new) }
+    ensures made { IsCodeOf result (MakesRoom kind 4096 (with_keys key0 key1) handle.new) }
 {
     let keys = KeyedState::with_keys(key0, key1);
     code(handle.with_capacity(alloc, kind, DEFAULT_CAPACITY, keys))
@@ -44,7 +44,7 @@ pub extern "C" fn intaglio_with_capacity(
     key0: u64,
     key1: u64,
 ) -> u32
-    ensures { Tells result (MakesRoom kind capacity (with_keys key0 key1) handle.new) }
+    ensures made { IsCodeOf result (MakesRoom kind capacity (with_keys key0 key1) handle.new) }
 {
     let keys = KeyedState::with_keys(key0, key1);
     code(handle.with_capacity(alloc, kind, capacity, keys))
@@ -60,7 +60,7 @@ pub extern "C" fn intaglio_with_limit(
     key0: u64,
     key1: u64,
 ) -> u32
-    ensures { Tells result (MakesLimited kind limit (with_keys key0 key1) handle.new) }
+    ensures made { IsCodeOf result (MakesLimited kind limit (with_keys key0 key1) handle.new) }
 {
     let keys = KeyedState::with_keys(key0, key1);
     code(handle.with_limit(alloc, kind, limit, keys))
@@ -69,7 +69,7 @@ pub extern "C" fn intaglio_with_limit(
 /// Frees the table, if there is one.
 #[unsafe(no_mangle)]
 pub extern "C" fn intaglio_free(alloc: Global, handle: &mut Handle)
-    ensures { HoldsNone handle.new }
+    ensures empty { HoldsNone handle.new }
 {
     handle.free(alloc);
 }
@@ -82,7 +82,7 @@ pub extern "C" fn intaglio_intern(
     bytes: &[u8],
     symbol: &mut u32,
 ) -> u32
-    ensures { TellsSymbol result symbol.old symbol.new (λ answer. Changes handle.old handle.new answer (Interns bytes.now)) }
+    ensures step { ChangesWithSymbol handle.old handle.new result symbol.old symbol.new (Interns bytes.now) }
 {
     symbol_code(handle.intern(alloc, bytes), symbol)
 }
@@ -95,7 +95,8 @@ pub extern "C" fn intaglio_intern_static(
     bytes: &'static [u8],
     symbol: &mut u32,
 ) -> u32
-    ensures { TellsSymbol result symbol.old symbol.new (λ answer. Changes handle.old handle.new answer (InternsStatic bytes.now)) }
+    ensures step { ChangesWithSymbol handle.old handle.new result symbol.old symbol.new
+        (InternsStatic bytes.now) }
 {
     symbol_code(handle.intern_static(alloc, bytes), symbol)
 }
@@ -156,7 +157,7 @@ pub extern "C" fn intaglio_copy(
 /// The number of contents.
 #[unsafe(no_mangle)]
 pub extern "C" fn intaglio_len(alloc: Global, handle: &mut Handle) -> usize
-    ensures count { result ≡ count (held handle.old) }
+    ensures count { result ≡ count (table_of handle.old) }
     ensures kept { Keeps handle.old handle.new }
 {
     handle.len(alloc)
@@ -165,7 +166,7 @@ pub extern "C" fn intaglio_len(alloc: Global, handle: &mut Handle) -> usize
 /// How many contents the table can hold before it has to grow.
 #[unsafe(no_mangle)]
 pub extern "C" fn intaglio_capacity(alloc: Global, handle: &mut Handle) -> usize
-    ensures capacity { result ≡ capacity (held handle.old) }
+    ensures capacity { result ≡ capacity (table_of handle.old) }
     ensures kept { Keeps handle.old handle.new }
 {
     handle.capacity(alloc)
@@ -174,7 +175,7 @@ pub extern "C" fn intaglio_capacity(alloc: Global, handle: &mut Handle) -> usize
 /// Reserves capacity for `additional` more contents.
 #[unsafe(no_mangle)]
 pub extern "C" fn intaglio_reserve(alloc: Global, handle: &mut Handle, additional: usize) -> u32
-    ensures { Tells result (λ answer. Changes handle.old handle.new answer (Reserves additional)) }
+    ensures step { ChangesWithCode handle.old handle.new result (Reserves additional) }
 {
     code(handle.reserve(alloc, additional))
 }
@@ -182,7 +183,7 @@ pub extern "C" fn intaglio_reserve(alloc: Global, handle: &mut Handle, additiona
 /// Shrinks the capacity to `min_capacity`, or to the number of contents if that is greater.
 #[unsafe(no_mangle)]
 pub extern "C" fn intaglio_shrink_to(alloc: Global, handle: &mut Handle, min_capacity: usize) -> u32
-    ensures { Tells result (λ answer. Changes handle.old handle.new answer (Shrinks min_capacity)) }
+    ensures step { ChangesWithCode handle.old handle.new result (Shrinks min_capacity) }
 {
     code(handle.shrink_to(alloc, min_capacity))
 }
@@ -190,7 +191,7 @@ pub extern "C" fn intaglio_shrink_to(alloc: Global, handle: &mut Handle, min_cap
 /// Drops all contents.
 #[unsafe(no_mangle)]
 pub extern "C" fn intaglio_clear(alloc: Global, handle: &mut Handle)
-    ensures { Clears handle.old handle.new }
+    ensures step { Clears handle.old handle.new }
 {
     handle.clear(alloc);
 }
@@ -198,12 +199,12 @@ pub extern "C" fn intaglio_clear(alloc: Global, handle: &mut Handle)
 /// Drops all contents but the first ones, as many as the mark says.
 #[unsafe(no_mangle)]
 pub extern "C" fn intaglio_take_back(alloc: Global, handle: &mut Handle, mark: usize) -> u32
-    ensures { Tells result (λ answer. Changes handle.old handle.new answer (TakesBack mark)) }
+    ensures step { ChangesWithCode handle.old handle.new result (TakesBack mark) }
 {
     code(handle.take_back(alloc, mark))
 }
 
-/// Interns a group of strings, all or none, and writes their symbols.
+/// Interns a batch of strings, all or none, and writes their symbols.
 #[unsafe(no_mangle)]
 pub extern "C" fn intaglio_intern_all(
     alloc: Global,
@@ -212,12 +213,13 @@ pub extern "C" fn intaglio_intern_all(
     ends: &[usize],
     symbols: &mut [u32],
 ) -> u32
-    ensures { Tells result (λ answer. Changes handle.old handle.new answer (InternsAll bytes.now ends.now (length symbols.old) symbols.new)) }
+    ensures step { ChangesWithCode handle.old handle.new result
+        (InternsAll bytes.now ends.now symbols.old symbols.new) }
 {
     code(handle.intern_all(alloc, bytes, ends, symbols))
 }
 
-/// Looks up a group of strings, and writes the symbol of each, or 2^64 - 1 if it has none.
+/// Looks up a batch of strings, and writes the symbol of each, or 2^64 - 1 if it has none.
 #[unsafe(no_mangle)]
 pub extern "C" fn intaglio_check_all(
     alloc: Global,
@@ -226,7 +228,7 @@ pub extern "C" fn intaglio_check_all(
     ends: &[usize],
     symbols: &mut [u64],
 ) -> u32
-    ensures found { Tells result (λ answer. FindsAll bytes.now ends.now symbols.old (held handle.old) answer symbols.new) }
+    ensures found { IsCodeOf result (FindsAll bytes.now ends.now symbols.old symbols.new handle.old) }
     ensures kept { Keeps handle.old handle.new }
 {
     code(handle.check_all(alloc, bytes, ends, symbols))
@@ -241,7 +243,8 @@ pub extern "C" fn intaglio_copy_all(
     buffer: &mut [u8],
     ends: &mut [usize],
 ) -> u32
-    ensures copied { Tells result (λ answer. CopiesAll symbols.now buffer.old ends.old (held handle.old) answer buffer.new ends.new) }
+    ensures copied { IsCodeOf result
+        (CopiesAll symbols.now buffer.old ends.old buffer.new ends.new handle.old) }
     ensures kept { Keeps handle.old handle.new }
 {
     code(handle.copy_all(alloc, symbols, buffer, ends))

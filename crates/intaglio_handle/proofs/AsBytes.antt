@@ -1,13 +1,13 @@
 -- What a change of a table is to the bytes of its contents.
-use Rattle.std.proofs.Common.{◌≡◌, ℕ, ◌-◌, ◌<◌, ◌≤◌, List, [], ◌∷◌, ◌++◌, length, map, take, refl, sym, ap, subst, ◌∙◌, arith}
+use Rattle.std.proofs.Common.{◌≡◌, ℕ, ◌-◌, ◌<◌, ◌≤◌, ◌⊎◌, inl, inr, le_refl, List, [], ◌∷◌, ◌++◌, length, map, take, refl, sym, ap, subst, ◌∙◌, arith}
 use Rattle.std.specs.Prelude.{Option, Some, None, MatchOption, Result, Ok, Err}
-use Rattle.std.proofs.lemmas.Result.{IfOk-at_ok}
 use Rattle.std.specs.List.{take-map}
 use Rattle.std.proofs.Math.Seq.{take-append_seam}
 use Rattle.std.proofs.lemmas.List.{length-append, length-map, map-append}
 use Rattle.intaglio_content.specs.Key.{Key}
 use Rattle.intaglio_core.specs.State.{State, Table, first, first_of}
-use Rattle.intaglio_core.specs.Change.{Interns, Takes, TakesBack, IsTaken, IsCut}
+use Rattle.intaglio_core.specs.Change as core_change
+use Rattle.intaglio_core.specs.Change.{InternsForm, TakesCopy, TakesBack, IsRefused}
 use Rattle.intaglio_cstr.specs.CStrContent.{c_str_content_bytes}
 use Rattle.intaglio_cstr.specs.Zeros.{without_last}
 use Rattle.intaglio_cstr.specs.declared.content.CStrContent.{CStrContent}
@@ -15,7 +15,9 @@ use Rattle.intaglio_symbol.specs.declared.error.InternError.{InternError}
 use Rattle.intaglio_symbol.specs.declared.error.InternError.TheVariants.{Overflow, Memory}
 use Rattle.intaglio_symbol.specs.declared.error.StaleMark.{StaleMark}
 use Rattle.intaglio_handle.specs.Kinds.{fault, key}
-use Rattle.intaglio_handle.specs.Seen.{Seen, as_bytes, seen_as, c_str_bytes, position, look_up, unless, AddsBytes, IsChangedBy}
+use Rattle.intaglio_handle.specs.Answers.{symbol_answer}
+use Rattle.intaglio_handle.specs.Seen.{Seen, as_bytes, seen_as, c_str_bytes, position, look_up, unless, IsChangedBy}
+use Rattle.intaglio_handle.specs.Steps.{Interns, InternsBy, InternsStatic, IsUncopied, Takes}
 use Rattle.intaglio_hash.specs.declared.state.KeyedState.{KeyedState}
 use Rattle.intaglio_handle.specs.declared.kind.Kind.{Kind}
 use Rattle.intaglio_handle.specs.declared.refusal.Refusal.{Refusal}
@@ -39,14 +41,6 @@ module _ {C : Type 0} (bytes : C → List ℕ) where
       }
   taken_back old new n (Err stale) kept = (subst (λ (m : ℕ). m < n) (sym (length-map old.contents bytes)) kept.0, ap (as_bytes bytes) kept.1)
 
--- what was looked up without a fault
-unless-ok : {X : Type 0} (fault : Option Refusal) (x y : X) → unless fault x ≡ Ok y → (fault ≡ None) × (x ≡ y)
-unless-ok None x y e = (refl, IfOk-at_ok (λ z. x ≡ z) e refl)
-unless-ok (Some refusal) x y e = absurd (IfOk-at_ok (λ _. ⊥) e tt)
-
-pub allowed : {C : Type 0} (old : Seen) (kind : Kind) (bytes : C → List ℕ) (t : Table C KeyedState) (b : List ℕ) (o : Option ℕ) → old ≡ seen_as kind bytes t → look_up old b ≡ Ok o → fault kind b ≡ None
-allowed old kind bytes t b o is found = (unless-ok (fault kind b) _ o (subst (λ (x : Seen). look_up x b ≡ Ok o) is found)).0
-
 -- a kind whose contents have their bytes' keys
 module _ {C : Type 0} (kind : Kind) (bytes : C → List ℕ) (content_key : C → Key) (same : (c : C) → content_key c ≡ key kind (bytes c)) where
   keys : (cs : List C) → map content_key cs ≡ map (key kind) (map bytes cs)
@@ -63,8 +57,9 @@ module _ {C : Type 0} (kind : Kind) (bytes : C → List ℕ) (content_key : C �
       let position = answer ∙ first-bytes t.state.contents sought ∙ ap (first (key kind) (map bytes t.state.contents)) spelled in
       subst (λ (x : Seen). Ok result ≡ look_up x b) (sym is) (rw allowed (ap Ok position))
 
-  -- a content that isn't there
-  takes : (old new : State C) (c : C) (b : List ℕ) (result : Result ℕ InternError) → bytes c ≡ b → Takes old c result new → AddsBytes b result (as_bytes bytes old) (as_bytes bytes new)
+  -- a content that isn't there is stored
+  takes : (old new : State C) (c : C) (b : List ℕ) (result : Result ℕ InternError) → bytes c ≡ b → core_change.Takes old c result new
+      → Takes IsRefused b (as_bytes bytes old) (symbol_answer result) (as_bytes bytes new)
   takes old new c b (Ok symbol) spelled taken =
       let count = length-map old.contents bytes in record {
         below_limit = subst (λ (m : ℕ). m < old.limit) (sym count) taken.below_limit;
@@ -84,15 +79,73 @@ module _ {C : Type 0} (kind : Kind) (bytes : C → List ℕ) (content_key : C �
     limit = refused.limit;
   }
 
-  pub added : (old : Seen) (t t' : Table C KeyedState) (c : C) (b : List ℕ) (result : Result ℕ InternError) → old ≡ seen_as kind bytes t → t'.hasher ≡ t.hasher → bytes c ≡ b → look_up old b ≡ Ok None
-      → Interns content_key t.state c result t'.state → IsChangedBy old (seen_as kind bytes t') (AddsBytes b result)
-  added old t t' c b result is hasher spelled absent step =
-      let none = first-bytes t.state.contents (content_key c) ∙ ap (first (key kind) (map bytes t.state.contents)) (same c ∙ ap (key kind) spelled) ∙ subst (λ (x : Seen). position x b ≡ None) is (unless-ok _ _ _ absent).1 in
-      changed old kind bytes t t' (AddsBytes b result) is hasher
-      (takes t.state t'.state c b result spelled (subst (λ (o : Option ℕ). MatchOption o (Takes t.state c result t'.state) (λ i. (result ≡ Ok i) × (t'.state ≡ t.state))) none step))
+  -- a copy of a form
+  uncopied : (old new : State C) → core_change.IsUncopied old new ⊎ IsRefused old new → IsUncopied (as_bytes bytes old) (as_bytes bytes new)
+  uncopied old new (inl before) = record {
+    below_limit = subst (λ (m : ℕ). m < old.limit) (sym (length-map old.contents bytes)) before.below_limit;
+    contents = ap (λ (s : State C). map bytes s.contents) before.same;
+    spare = subst (λ (s : State C). old.spare ≤ s.spare) (sym before.same) (le_refl _);
+    buckets = ap (λ (s : State C). s.buckets) before.same;
+    limit = ap (λ (s : State C). s.limit) before.same;
+  }
+  uncopied old new (inr refused) = record {
+    below_limit = subst (λ (m : ℕ). m < old.limit) (sym (length-map old.contents bytes)) refused.below_limit;
+    contents = ap (map bytes) refused.contents;
+    spare = refused.spare;
+    buckets = refused.buckets;
+    limit = refused.limit;
+  }
+
+  copies : (spelling : C → List ℕ) (old new : State C) (k : Key) (w b : List ℕ) (result : Result ℕ InternError) → ((c : C) → spelling c ≡ w → bytes c ≡ b) → TakesCopy content_key spelling old k w result new
+      → Takes IsUncopied b (as_bytes bytes old) (symbol_answer result) (as_bytes bytes new)
+  copies spelling old new k w b (Ok symbol) spelled copied = takes old new copied.copy b (Ok symbol) (spelled copied.copy copied.same_spelling) copied.taken
+  copies spelling old new k w b (Err (Overflow full)) spelled refused = (length-map old.contents bytes ∙ refused.0, ap (as_bytes bytes) refused.1)
+  copies spelling old new k w b (Err (Memory e)) spelled refused = uncopied old new refused
+
+  -- an interning, by the result of the look-up
+  by_look_up : (Refused : State (List ℕ) → State (List ℕ) → Type 0) (Taken : Type 0) (o : Option ℕ) (old new : State C) (b : List ℕ) (result : Result ℕ InternError)
+      → (Taken → Takes Refused b (as_bytes bytes old) (symbol_answer result) (as_bytes bytes new)) → MatchOption o Taken (λ i. (result ≡ Ok i) × (new ≡ old))
+      → InternsBy Refused b (as_bytes bytes old) (Ok o) (symbol_answer result) (as_bytes bytes new)
+  by_look_up Refused Taken None old new b result takes step = takes step
+  by_look_up Refused Taken (Some i) old new b result takes step = (ap symbol_answer step.0, ap (as_bytes bytes) step.1)
+
+  interned : (Refused : State (List ℕ) → State (List ℕ) → Type 0) (old : Seen) (t t' : Table C KeyedState) (b : List ℕ) (k : Key) (result : Result ℕ InternError) → old ≡ seen_as kind bytes t → t'.hasher ≡ t.hasher
+      → fault kind b ≡ None → k ≡ key kind b → InternsBy Refused b (as_bytes bytes t.state) (Ok (first content_key t.state.contents k)) (symbol_answer result) (as_bytes bytes t'.state)
+      → IsChangedBy old (seen_as kind bytes t') (λ _ s'. InternsBy Refused b old.state (look_up old b) (symbol_answer result) s')
+  interned Refused old t t' b k result is hasher allowed spelled step =
+      let answer = symbol_answer result in let s = as_bytes bytes t.state in let s' = as_bytes bytes t'.state in
+      let place = first-bytes t.state.contents k ∙ ap (first (key kind) (map bytes t.state.contents)) spelled in
+      let found = subst (λ (o : Option ℕ). InternsBy Refused b s (Ok o) answer s') place step in
+      let looked_up = subst (λ (f : Option Refusal). InternsBy Refused b s (unless f (position (seen_as kind bytes t) b)) answer s') (sym allowed) found in
+      changed old kind bytes t t' (λ _ x. InternsBy Refused b old.state (look_up old b) answer x) is hasher
+      (subst (λ (x : Seen). InternsBy Refused b x.state (look_up x b) answer s') (sym is) looked_up)
+
+  -- by a form, which is copied
+  pub interned_form : (spelling : C → List ℕ) (old : Seen) (t t' : Table C KeyedState) (b w : List ℕ) (k : Key) (result : Result ℕ InternError) (answer : Result ℕ Refusal) → old ≡ seen_as kind bytes t → t'.hasher ≡ t.hasher
+      → fault kind b ≡ None → k ≡ key kind b → ((c : C) → spelling c ≡ w → bytes c ≡ b) → InternsForm content_key spelling t.state k w result t'.state → answer ≡ symbol_answer result
+      → IsChangedBy old (seen_as kind bytes t') (λ _ s'. Interns b old answer s')
+  interned_form spelling old t t' b w k result answer is hasher allowed same_key spelled step answered =
+      subst (λ (a : Result ℕ Refusal). IsChangedBy old (seen_as kind bytes t') (λ _ s'. Interns b old a s')) (sym answered)
+      (interned IsUncopied old t t' b k result is hasher allowed same_key
+      (by_look_up IsUncopied (TakesCopy content_key spelling t.state k w result t'.state) (first content_key t.state.contents k) t.state t'.state b result (copies spelling t.state t'.state k w b result spelled) step))
+
+  -- by a content, which is moved in
+  pub interned_content : (old : Seen) (t t' : Table C KeyedState) (c : C) (b : List ℕ) (result : Result ℕ InternError) (answer : Result ℕ Refusal) → old ≡ seen_as kind bytes t → t'.hasher ≡ t.hasher
+      → fault kind b ≡ None → bytes c ≡ b → core_change.Interns content_key t.state c result t'.state → answer ≡ symbol_answer result
+      → IsChangedBy old (seen_as kind bytes t') (λ _ s'. InternsStatic b old answer s')
+  interned_content old t t' c b result answer is hasher allowed spelled step answered =
+      subst (λ (a : Result ℕ Refusal). IsChangedBy old (seen_as kind bytes t') (λ _ s'. InternsStatic b old a s')) (sym answered)
+      (interned IsRefused old t t' b (content_key c) result is hasher allowed (same c ∙ ap (key kind) spelled)
+      (by_look_up IsRefused (core_change.Takes t.state c result t'.state) (first content_key t.state.contents (content_key c)) t.state t'.state b result (takes t.state t'.state c b result spelled) step))
 
 -- the key of a C string is that of its bytes without their last
-pub c_str_key : (content : CStrContent) → c_str_content_bytes content ∷ [] ≡ without_last (c_str_bytes content) ∷ []
-c_str_key content =
-    let bytes = c_str_content_bytes content in let n : length (bytes ++ 0 ∷ []) - 1 ≡ length bytes = omega (arith, length-append bytes (0 ∷ [])) in
+without_zero : (bytes : List ℕ) → bytes ∷ [] ≡ without_last (bytes ++ 0 ∷ []) ∷ []
+without_zero bytes =
+    let n : length (bytes ++ 0 ∷ []) - 1 ≡ length bytes = omega (arith, length-append bytes (0 ∷ [])) in
     ap (λ (b : List ℕ). b ∷ []) (sym (ap (λ (k : ℕ). take k (bytes ++ 0 ∷ [])) n ∙ take-append_seam bytes (0 ∷ [])))
+
+pub c_str_key : (content : CStrContent) → c_str_content_bytes content ∷ [] ≡ without_last (c_str_bytes content) ∷ []
+c_str_key content = without_zero (c_str_content_bytes content)
+
+pub ended_key : (text bytes : List ℕ) → text ++ 0 ∷ [] ≡ bytes → text ∷ [] ≡ without_last bytes ∷ []
+ended_key text bytes is = subst (λ (b : List ℕ). text ∷ [] ≡ without_last b ∷ []) is (without_zero text)

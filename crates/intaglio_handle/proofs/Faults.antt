@@ -1,5 +1,5 @@
 -- Which bytes a kind doesn't take.
-use Rattle.std.proofs.Common.{◌≡◌, ℕ, ◌+◌, ◌-◌, ◌<◌, Bool, true, false, List, length, refl, sym, ap, subst, ◌∙◌, arith}
+use Rattle.std.proofs.Common.{◌≡◌, ℕ, ◌+◌, ◌-◌, ◌<◌, true, false, List, length, refl, sym, ap, arith}
 use Rattle.std.specs.Prelude.{Option, Some, None, ◌==◌, IsUtf8}
 use Rattle.std.specs.Str.{is_utf8}
 use Rattle.std.proofs.lemmas.Bool.{eqb-true, eq-eqb, ne_eqb}
@@ -7,7 +7,6 @@ use Rattle.std.proofs.lemmas.Option.{none-some}
 use Rattle.std.proofs.lemmas.Str.{IsUtf8-from_is_utf8, is_utf8-from_IsUtf8}
 use Rattle.intaglio_cstr.specs.Zeros.{EndsAtFirstZero, first_zero}
 use Rattle.intaglio_handle.specs.Kinds.{utf8_fault, zero_fault, zero_fault_at}
-use Rattle.intaglio_handle.specs.declared.refusal.Refusal.{Refusal}
 use Rattle.intaglio_handle.specs.declared.refusal.Refusal.TheVariants.{NotUtf8, InnerZero, MissingZero}
 
 -- texts

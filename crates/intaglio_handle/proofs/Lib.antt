@@ -1,5 +1,5 @@
 -- What the proofs share.
 pub mod AsBytes
 pub mod Faults
-pub mod Groups
+pub mod Batches
 pub mod Walks

@@ -1,16 +1,16 @@
--- What the walks over a pointer with an allocator share. `Box`, `Parts` and `Held` are each a struct of the two, and so is the pair that a box is taken apart into.
-use mathlib.Core.Path.{◌≡◌, refl, sym, ◌∙◌}
+-- What the walks over a pointer with an allocator share. `Box`, `BoxParts` and `TablePtr` are each a struct of the two, and so is the pair that a box is taken apart into.
+use mathlib.Core.Path.{◌≡◌, refl, ◌∙◌}
 use mathlib.Core.List.{List, [], ◌∷◌, ◌++◌}
 use seplogic.Ra.Ura.{Ura}
 use lib.Dec.{T}
 use mir.Syntax.{ty_ptr, tcons, tnil}
-use mir.Val.{Val, vstruct, vcons, vnil, of_list, has_ty, has_tys, WT, WTs}
+use mir.Val.{Val, vstruct, vcons, vnil, of_list, has_ty, has_tys, WT}
 use base.Fml.{Fml}
 use types.Logic.{Logic}
 use types.Kit.{Goal, Seq, Step, step, Item, ‵, ◌$◌, move, drop, fjoin, fsplit, fpick, fpack, feq_i, feq_l, rewrite}
 use denote.RattleType.{RattleType, Valss}
 use denote.Laws.{Is, shows}
-use denote.Param.{layout, param}
+use denote.Param.{layout}
 use denote.Param.Laws.{Laws, param_laws}
 use denote.Param.Steps.{one_value}
 use denote.RawPtr.{Ptr, RawPtr, ptr_val, rawptr_Lawful}

@@ -29,8 +29,8 @@ module _ {X : Type 0} where
   answer_code (Err refusal) = refusal_code refusal
 
   -- the code is that of a result of which P holds
-  abbrev pub Tells : ℕ → (Result X Refusal → Type 0) → Type 0
-  Tells code P = (answer : Result X Refusal) × (code ≡ answer_code answer) × P answer
+  abbrev pub IsCodeOf : ℕ → (Result X Refusal → Type 0) → Type 0
+  IsCodeOf code P = (answer : Result X Refusal) × (code ≡ answer_code answer) × P answer
 
 -- a symbol that is returned is written; otherwise what was there stays
 abbrev pub IsWritten : Result ℕ Refusal → ℕ → ℕ → Type 0
@@ -38,8 +38,8 @@ IsWritten (Ok symbol) before after = after ≡ symbol
 IsWritten (Err _) before after = after ≡ before
 
 -- the same for a result with a symbol, which is written over another number
-abbrev pub TellsSymbol : ℕ → ℕ → ℕ → (Result ℕ Refusal → Type 0) → Type 0
-TellsSymbol code before after P = (answer : Result ℕ Refusal) × (code ≡ answer_code answer) × IsWritten answer before after × P answer
+abbrev pub IsSymbolCodeOf : ℕ → ℕ → ℕ → (Result ℕ Refusal → Type 0) → Type 0
+IsSymbolCodeOf code before after P = (answer : Result ℕ Refusal) × (code ≡ answer_code answer) × IsWritten answer before after × P answer
 
 -- a value, if it is given
 abbrev pub given : {X : Type 0} → Bool → X → Option X
@@ -60,3 +60,8 @@ room_refusal (room_error.Memory _) = NoMemory
 abbrev pub room_answer : Result (Unit {0}) RoomError → Result (Unit {0}) Refusal
 room_answer (Ok done) = Ok done
 room_answer (Err error) = Err (room_refusal error)
+
+-- the result for C of an interning
+abbrev pub symbol_answer : Result ℕ InternError → Result ℕ Refusal
+symbol_answer (Ok symbol) = Ok symbol
+symbol_answer (Err error) = Err (intern_refusal error)

@@ -1,6 +1,6 @@
 -- What the contracts cite.
 pub mod Answers
-pub mod Groups
+pub mod Batches
 pub mod Handles
 pub mod Kinds
 pub mod Owned

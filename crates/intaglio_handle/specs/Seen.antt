@@ -1,9 +1,6 @@
 -- How C sees a table: its kind, its contents as their bytes, and its keys.
-use Rattle.std.specs.Prelude.{◌≡◌, ℕ, List, [], ◌∷◌, ◌++◌, length, map, Option, Some, None, Result, Ok, Err}
-use Rattle.intaglio_core.specs.Change.{IsTaken, IsRefused}
+use Rattle.std.specs.Prelude.{◌≡◌, ℕ, List, [], ◌∷◌, ◌++◌, map, Option, Some, None, Result, Ok, Err}
 use Rattle.intaglio_core.specs.State.{State, Table, first}
-use Rattle.intaglio_symbol.specs.declared.error.InternError.{InternError}
-use Rattle.intaglio_symbol.specs.declared.error.InternError.TheVariants.{Overflow, Memory}
 use Rattle.intaglio_bytes.specs.BStrContent.{bstr_content_bytes}
 use Rattle.intaglio_bytes.specs.BytesContent.{bytes_content_bytes}
 use Rattle.intaglio_cstr.specs.CStrContent.{c_str_content_bytes}
@@ -16,8 +13,8 @@ use Rattle.intaglio_hash.specs.declared.state.KeyedState.{KeyedState}
 use Rattle.intaglio_handle.specs.declared.kind.Kind.{Kind}
 use Rattle.intaglio_handle.specs.declared.kind.Kind.TheVariants as kind
 use Rattle.intaglio_handle.specs.declared.refusal.Refusal.{Refusal}
-use Rattle.intaglio_handle.specs.declared.shelf.Shelf.{Shelf}
-use Rattle.intaglio_handle.specs.declared.shelf.Shelf.TheVariants as shelf
+use Rattle.intaglio_handle.specs.declared.any_table.AnyTable.{AnyTable}
+use Rattle.intaglio_handle.specs.declared.any_table.AnyTable.TheVariants as any_table
 
 -- a table as C sees it
 pub record Seen : Type 0 where
@@ -37,17 +34,25 @@ seen_as k bytes t = record { kind = k; state = as_bytes bytes t.state; hasher = 
 abbrev pub c_str_bytes : CStrContent → List ℕ
 c_str_bytes content = c_str_content_bytes content ++ 0 ∷ []
 
-abbrev pub seen : Shelf → Seen
-seen (shelf.Text t) = seen_as kind.Text str_content_bytes t
-seen (shelf.Bytes t) = seen_as kind.Bytes bytes_content_bytes t
-seen (shelf.CStr t) = seen_as kind.CStr c_str_bytes t
-seen (shelf.Path t) = seen_as kind.Path path_content_bytes t
-seen (shelf.OsStr t) = seen_as kind.OsStr os_str_content_bytes t
-seen (shelf.BStr t) = seen_as kind.BStr bstr_content_bytes t
+abbrev pub seen : AnyTable → Seen
+seen (any_table.Text t) = seen_as kind.Text str_content_bytes t
+seen (any_table.Bytes t) = seen_as kind.Bytes bytes_content_bytes t
+seen (any_table.CStr t) = seen_as kind.CStr c_str_bytes t
+seen (any_table.Path t) = seen_as kind.Path path_content_bytes t
+seen (any_table.OsStr t) = seen_as kind.OsStr os_str_content_bytes t
+seen (any_table.BStr t) = seen_as kind.BStr bstr_content_bytes t
 
 -- the symbol of the content that is equal to the one with these bytes, if one is stored
 abbrev pub position : Seen → List ℕ → Option ℕ
 position t bytes = first (key t.kind) t.state.contents (key t.kind bytes)
+
+-- the contents of a table, as their bytes
+abbrev pub contents_of : AnyTable → List (List ℕ)
+contents_of table = (seen table).state.contents
+
+-- a new table, whose capacity is that of its buckets
+abbrev pub new_table : Kind → ℕ → ℕ → KeyedState → Seen
+new_table which room most keys = record { kind = which; state = record { contents = []; spare = room; buckets = room; limit = most }; hasher = keys }
 
 -- a result, unless there is a fault
 abbrev pub unless : {X : Type 0} → Option Refusal → X → Result X Refusal
@@ -58,17 +63,15 @@ unless (Some refusal) x = Err refusal
 abbrev pub look_up : Seen → List ℕ → Result (Option ℕ) Refusal
 look_up t bytes = unless (fault t.kind bytes) (position t bytes)
 
--- bytes that aren't stored are added
-abbrev pub AddsBytes : List ℕ → Result ℕ InternError → State (List ℕ) → State (List ℕ) → Type 0
-AddsBytes bytes (Ok symbol) s s' = IsTaken s bytes symbol s'
-AddsBytes bytes (Err (Overflow _)) s s' = (length s.contents ≡ s.limit) × (s' ≡ s)
-AddsBytes bytes (Err (Memory _)) s s' = IsRefused s s'
-
 -- a change of the state alone
 pub record IsChangedBy (old new : Seen) (Step : State (List ℕ) → State (List ℕ) → Type 0) : Type 0 where
   pub kind : new.kind ≡ old.kind
   pub hasher : new.hasher ≡ old.hasher
   pub step : Step old.state new.state
 
-abbrev pub IsChanged : Shelf → Shelf → (State (List ℕ) → State (List ℕ) → Type 0) → Type 0
+abbrev pub IsChanged : AnyTable → AnyTable → (State (List ℕ) → State (List ℕ) → Type 0) → Type 0
 IsChanged old new step = IsChangedBy (seen old) (seen new) step
+
+-- a call takes a step, by its result
+abbrev pub TakesStep : {X : Type 0} → AnyTable → AnyTable → Result X Refusal → (Seen → Result X Refusal → State (List ℕ) → Type 0) → Type 0
+TakesStep old new result Step = IsChanged old new (λ _ s'. Step (seen old) result s')

@@ -1,13 +1,13 @@
 //! Results, as C gets them.
 ghost use Rattle.std.specs.Prelude.{◌≡◌};
-ghost use Rattle.intaglio_handle.specs.Answers.{answer_code, room_answer, IsWritten};
+ghost use Rattle.intaglio_handle.specs.Answers.{answer_code, room_answer, symbol_answer, IsWritten};
 
 use crate::refusal::Refusal;
-use intaglio_core::{RoomError, Symbol};
+use intaglio_core::{InternError, RoomError, Symbol};
 
 /// The code of a result: 0 if the call succeeded.
 pub fn code(answer: Result<(), Refusal>) -> u32
-    ensures { result ≡ answer_code answer }
+    ensures code { result ≡ answer_code answer }
 {
     match answer {
         Ok(()) => 0,
@@ -31,10 +31,20 @@ pub fn symbol_code(answer: Result<Symbol, Refusal>, symbol: &mut u32) -> u32
 
 // The result for C of a constructor, a reservation or a shrink.
 pub(crate) fn room_answer(answer: Result<(), RoomError>) -> Result<(), Refusal>
-    ensures { result ≡ room_answer answer }
+    ensures answer { result ≡ room_answer answer }
 {
     match answer {
         Ok(()) => Ok(()),
+        Err(error) => Err(Refusal::from(error)),
+    }
+}
+
+// The result for C of an interning.
+pub(crate) fn symbol_answer(answer: Result<Symbol, InternError>) -> Result<Symbol, Refusal>
+    ensures answer { result ≡ symbol_answer answer }
+{
+    match answer {
+        Ok(symbol) => Ok(symbol),
         Err(error) => Err(Refusal::from(error)),
     }
 }

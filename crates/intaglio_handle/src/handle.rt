@@ -3,68 +3,76 @@ ghost use Rattle.std.specs.Prelude.{◌≡◌, is_some};
 ghost use Rattle.std.specs.Option.{option_map};
 ghost use Rattle.std.specs.declared.option.Option.TheVariants.{None, Some};
 
+mod batches;
 mod change;
-mod groups;
+mod get;
 mod intern;
-mod lend;
 mod make;
 
-use crate::held::Held;
-use crate::parts::Parts;
-use crate::shelf::Shelf;
+use crate::any_table::AnyTable;
+use crate::box_parts::BoxParts;
+use crate::table_ptr::TablePtr;
 use std::alloc::Global;
-use std::mem::replace;
+use std::mem::{forget, replace};
 
-/// A shelf with a table, or nothing. C holds it by value, initializes it with
+/// A table, or nothing. C holds it by value, initializes it with
 /// zeros, and changes nothing in it.
 #[repr(C)]
 pub struct Handle {
     live: bool,
-    pub held: Held,
-    pub ghost agrees: { live ≡ is_some held.shelf },
+    pub ptr: TablePtr,
+    pub ghost agrees: { live ≡ is_some ptr.table },
 }
 
 impl Handle {
     pub(crate) fn none(alloc: Global) -> Handle
-        ensures { result.held.shelf ≡ None }
+        ensures empty { result.ptr.table ≡ None }
     {
         Handle {
             live: false,
-            held: Held::none(alloc),
+            ptr: TablePtr::none(alloc),
         }
     }
 
-    pub(crate) fn over(shelf: Box<Shelf>) -> Handle
-        ensures { result.held.shelf ≡ Some shelf.value }
+    pub(crate) fn over(table: Box<AnyTable>) -> Handle
+        ensures table { result.ptr.table ≡ Some table.value }
     {
         Handle {
             live: true,
-            held: Held::of_parts(Parts::of(shelf)),
+            ptr: TablePtr::of_parts(BoxParts::of(table)),
         }
     }
 
-    pub(crate) fn into_shelf(self) -> Option<Box<Shelf>>
-        ensures { option_map (λ shelf. shelf.value) result ≡ self.held.shelf }
+    pub(crate) fn into_table(self) -> Option<Box<AnyTable>>
+        ensures table { option_map (λ boxed. boxed.value) result ≡ self.ptr.table }
     {
-        let Handle { live, held } = self;
+        let Handle { live, ptr } = self;
         if live {
-            Some(held.into_parts().into_box())
+            Some(ptr.into_parts().into_box())
         } else {
             None
         }
     }
 
-    // Takes the shelf out. Each call does so, and puts it back before it returns.
-    pub(crate) fn take(&mut self, alloc: Global) -> Option<Box<Shelf>>
-        ensures taken { option_map (λ shelf. shelf.value) result ≡ self.old.held.shelf }
-        ensures left { self.new.held.shelf ≡ None }
+    // Takes the table out. Each call does so, and puts it back before it returns.
+    pub(crate) fn take(&mut self, alloc: Global) -> Option<Box<AnyTable>>
+        ensures taken { option_map (λ boxed. boxed.value) result ≡ self.old.ptr.table }
+        ensures left { self.new.ptr.table ≡ None }
     {
-        replace(self, Handle::none(alloc)).into_shelf()
+        replace(self, Handle::none(alloc)).into_table()
+    }
+
+    // Puts a table into an empty handle. An empty handle owns nothing, so there is nothing to drop.
+    pub(crate) fn put_back(&mut self, table: Box<AnyTable>)
+        requires empty { self.old.ptr.table ≡ None }
+        ensures table { self.new.ptr.table ≡ Some table.value }
+    {
+        forget(replace(self, Handle::over(table)));
     }
 }
 
 impl Drop for Handle {
     fn drop(self) {
-        drop(self.into_shelf());
+        drop(self.into_table());
     }
 }

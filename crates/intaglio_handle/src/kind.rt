@@ -23,7 +23,7 @@ impl Kind {
 
     // The kind with this number in C.
     pub(crate) fn of(number: u32) -> Option<Kind>
-        ensures { result ≡ kind_of number }
+        ensures kind { result ≡ kind_of number }
     {
         match number {
             0 => Some(Kind::Text),

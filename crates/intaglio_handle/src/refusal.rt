@@ -23,7 +23,7 @@ pub enum Refusal {
     InnerZero,
     /// The bytes don't end with a zero.
     MissingZero,
-    /// The ends of a group decrease or exceed its bytes, or its lists differ in length.
+    /// The ends of a batch decrease or exceed its bytes, or its lists differ in length.
     BadEnds,
     /// The table has no content for a symbol.
     NoSymbol,
@@ -38,7 +38,7 @@ impl Refusal {
 
     // The code that C gets.
     pub(crate) fn code(self) -> u32
-        ensures { result ≡ refusal_code self }
+        ensures code { result ≡ refusal_code self }
     {
         match self {
             Refusal::NoTable => 1,

@@ -15,7 +15,7 @@ pub struct Spelling {
 
 impl Spelling {
     pub(crate) fn of(bytes: &[u8]) -> Spelling
-        ensures { result.len ≡ length bytes.now }
+        ensures len { result.len ≡ length bytes.now }
     {
         if bytes.is_empty() {
             return Spelling { at: null(), len: 0 };

@@ -1,6 +1,6 @@
 //! Measuring and changing tables.
 ghost use Rattle.std.specs.Prelude.{◌≡◌};
-ghost use Rattle.intaglio_handle.specs.Handles.{Changes, Clears, Keeps, capacity, count, held};
+ghost use Rattle.intaglio_handle.specs.Handles.{Changes, Clears, Keeps, capacity, count, table_of};
 ghost use Rattle.intaglio_handle.specs.Steps.{Reserves, Shrinks, TakesBack};
 
 use super::Handle;
@@ -12,27 +12,27 @@ use std::alloc::Global;
 impl Handle {
     /// The number of contents, or 0 without a table.
     pub fn len(&mut self, alloc: Global) -> usize
-        ensures count { result ≡ count (held self.old) }
+        ensures count { result ≡ count (table_of self.old) }
         ensures kept { Keeps self.old self.new }
     {
-        let Some(shelf) = self.take(alloc) else {
+        let Some(table) = self.take(alloc) else {
             return 0;
         };
-        let count = shelf.len();
-        *self = Handle::over(shelf);
+        let count = table.len();
+        self.put_back(table);
         count
     }
 
     /// How many contents the table can hold before it has to grow, or 0 without a table.
     pub fn capacity(&mut self, alloc: Global) -> usize
-        ensures capacity { result ≡ capacity (held self.old) }
+        ensures capacity { result ≡ capacity (table_of self.old) }
         ensures kept { Keeps self.old self.new }
     {
-        let Some(shelf) = self.take(alloc) else {
+        let Some(table) = self.take(alloc) else {
             return 0;
         };
-        let capacity = shelf.capacity();
-        *self = Handle::over(shelf);
+        let capacity = table.capacity();
+        self.put_back(table);
         capacity
     }
 
@@ -42,13 +42,13 @@ impl Handle {
     ///
     /// `NoTable`, `TooLarge`, `NoMemory`. Then the contents are unchanged.
     pub fn reserve(&mut self, alloc: Global, additional: usize) -> Result<(), Refusal>
-        ensures { Changes self.old self.new result (Reserves additional) }
+        ensures step { Changes self.old self.new result (Reserves additional) }
     {
-        let Some(mut shelf) = self.take(alloc) else {
+        let Some(mut table) = self.take(alloc) else {
             return Err(Refusal::NoTable);
         };
-        let answer = shelf.reserve(additional);
-        *self = Handle::over(shelf);
+        let answer = table.reserve(additional);
+        self.put_back(table);
         room_answer(answer)
     }
 
@@ -58,25 +58,25 @@ impl Handle {
     ///
     /// `NoTable`, `NoMemory`. Then nothing has changed.
     pub fn shrink_to(&mut self, alloc: Global, min_capacity: usize) -> Result<(), Refusal>
-        ensures { Changes self.old self.new result (Shrinks min_capacity) }
+        ensures step { Changes self.old self.new result (Shrinks min_capacity) }
     {
-        let Some(mut shelf) = self.take(alloc) else {
+        let Some(mut table) = self.take(alloc) else {
             return Err(Refusal::NoTable);
         };
-        let answer = shelf.shrink_to(min_capacity);
-        *self = Handle::over(shelf);
+        let answer = table.shrink_to(min_capacity);
+        self.put_back(table);
         room_answer(answer)
     }
 
     /// Drops all contents.
     pub fn clear(&mut self, alloc: Global)
-        ensures { Clears self.old self.new }
+        ensures step { Clears self.old self.new }
     {
-        let Some(mut shelf) = self.take(alloc) else {
+        let Some(mut table) = self.take(alloc) else {
             return;
         };
-        shelf.clear();
-        *self = Handle::over(shelf);
+        table.clear();
+        self.put_back(table);
     }
 
     /// Drops all contents but the first ones, as many as the mark says.
@@ -85,13 +85,13 @@ impl Handle {
     ///
     /// `NoTable`; `Stale` if there are fewer. Then nothing has changed.
     pub fn take_back(&mut self, alloc: Global, mark: usize) -> Result<(), Refusal>
-        ensures { Changes self.old self.new result (TakesBack mark) }
+        ensures step { Changes self.old self.new result (TakesBack mark) }
     {
-        let Some(mut shelf) = self.take(alloc) else {
+        let Some(mut table) = self.take(alloc) else {
             return Err(Refusal::NoTable);
         };
-        let answer = shelf.take_back(Mark::new(mark));
-        *self = Handle::over(shelf);
+        let answer = table.take_back(Mark::new(mark));
+        self.put_back(table);
         match answer {
             Ok(()) => Ok(()),
             Err(_) => Err(Refusal::Stale),

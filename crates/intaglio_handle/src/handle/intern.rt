@@ -16,13 +16,13 @@ impl Handle {
     /// `NoTable`, `Full`, `NoMemory`, and the kind's errors for bytes that it doesn't take. Then the contents
     /// are unchanged.
     pub fn intern(&mut self, alloc: Global, bytes: &[u8]) -> Result<Symbol, Refusal>
-        ensures { Changes self.old self.new result (Interns bytes.now) }
+        ensures step { Changes self.old self.new result (Interns bytes.now) }
     {
-        let Some(mut shelf) = self.take(alloc) else {
+        let Some(mut table) = self.take(alloc) else {
             return Err(Refusal::NoTable);
         };
-        let answer = shelf.intern(alloc, bytes);
-        *self = Handle::over(shelf);
+        let answer = table.intern(bytes);
+        self.put_back(table);
         answer
     }
 
@@ -32,13 +32,13 @@ impl Handle {
     ///
     /// Those of [`intern`](Handle::intern).
     pub fn intern_static(&mut self, alloc: Global, bytes: &'static [u8]) -> Result<Symbol, Refusal>
-        ensures { Changes self.old self.new result (InternsStatic bytes.now) }
+        ensures step { Changes self.old self.new result (InternsStatic bytes.now) }
     {
-        let Some(mut shelf) = self.take(alloc) else {
+        let Some(mut table) = self.take(alloc) else {
             return Err(Refusal::NoTable);
         };
-        let answer = shelf.intern_static(bytes);
-        *self = Handle::over(shelf);
+        let answer = table.intern_static(bytes);
+        self.put_back(table);
         answer
     }
 
@@ -47,9 +47,9 @@ impl Handle {
         ensures found { result ≡ known self.old bytes.now }
         ensures kept { Keeps self.old self.new }
     {
-        let shelf = self.take(alloc)?;
-        let found = shelf.find(bytes);
-        *self = Handle::over(shelf);
+        let table = self.take(alloc)?;
+        let found = table.find(bytes);
+        self.put_back(table);
         match found {
             Ok(symbol) => symbol,
             Err(_) => None,

@@ -1,15 +1,13 @@
 //! Making and freeing tables.
-ghost use Rattle.std.specs.Prelude.{◌≡◌, Err, IfOk, IfErr, MatchResult};
-ghost use Rattle.std.specs.declared.option.Option.TheVariants.{Some};
+ghost use Rattle.std.specs.Prelude.{◌≡◌, Err, IfOk, IfErr};
 ghost use Rattle.intaglio_hash.specs.KeyedState.{initial_hasher};
 ghost use Rattle.intaglio_handle.specs.Answers.{room_refusal};
-ghost use Rattle.intaglio_handle.specs.Handles.{HoldsNone, MakesLimited, MakesRoom};
-ghost use Rattle.intaglio_handle.specs.declared.refusal.Refusal.TheVariants.{NoMemory};
+ghost use Rattle.intaglio_handle.specs.Handles.{HoldsNone, MakesLimited, MakesRoom, Puts};
 
 use super::Handle;
+use crate::any_table::AnyTable;
 use crate::kind::Kind;
 use crate::refusal::Refusal;
-use crate::shelf::Shelf;
 use intaglio_core::RoomError;
 use intaglio_hash::KeyedState;
 use std::alloc::Global;
@@ -17,21 +15,21 @@ use std::alloc::Global;
 impl Handle {
     /// Frees the table, if there is one.
     pub fn free(&mut self, alloc: Global)
-        ensures { HoldsNone self.new }
+        ensures empty { HoldsNone self.new }
     {
         *self = Handle::none(alloc);
     }
 
-    // Puts a shelf into the handle, and drops the earlier one.
-    fn put(&mut self, alloc: Global, made: Result<Shelf, RoomError>) -> Result<(), Refusal>
-        ensures made { IfOk made (λ shelf. MatchResult result (λ _. self.new.held.shelf ≡ Some shelf) (λ refusal. (refusal ≡ NoMemory) × HoldsNone self.new)) }
+    // Puts a table into the handle, and drops the earlier one.
+    fn put(&mut self, alloc: Global, made: Result<AnyTable, RoomError>) -> Result<(), Refusal>
+        ensures made { IfOk made (λ table. Puts table self.new result) }
         ensures refused { IfErr made (λ error. (result ≡ Err (room_refusal error)) × HoldsNone self.new) }
     {
         *self = Handle::none(alloc);
-        let Ok(shelf) = Box::new(alloc, made?) else {
+        let Ok(table) = Box::new(alloc, made?) else {
             return Err(Refusal::NoMemory);
         };
-        *self = Handle::over(shelf);
+        self.put_back(table);
         Ok(())
     }
 
@@ -48,13 +46,13 @@ impl Handle {
         capacity: usize,
         keys: KeyedState,
     ) -> Result<(), Refusal>
-        ensures { MakesRoom kind capacity (initial_hasher keys) self.new result }
+        ensures made { MakesRoom kind capacity (initial_hasher keys) self.new result }
     {
         let Some(kind) = Kind::of(kind) else {
             *self = Handle::none(alloc);
             return Err(Refusal::NoKind);
         };
-        self.put(alloc, Shelf::with_capacity(alloc, kind, capacity, keys))
+        self.put(alloc, AnyTable::with_capacity(alloc, kind, capacity, keys))
     }
 
     /// Puts a new table of a kind into the handle, which can hold at most this many
@@ -71,12 +69,12 @@ impl Handle {
         limit: usize,
         keys: KeyedState,
     ) -> Result<(), Refusal>
-        ensures { MakesLimited kind limit (initial_hasher keys) self.new result }
+        ensures made { MakesLimited kind limit (initial_hasher keys) self.new result }
     {
         let Some(kind) = Kind::of(kind) else {
             *self = Handle::none(alloc);
             return Err(Refusal::NoKind);
         };
-        self.put(alloc, Shelf::with_limit(alloc, kind, limit, keys))
+        self.put(alloc, AnyTable::with_limit(alloc, kind, limit, keys))
     }
 }

@@ -1,0 +1,12 @@
+use Rattle.std.proofs.Common.{◌≡◌, true, length, take, drop}
+use Rattle.intaglio_handle.specs.Batches.{are_ends, pieces}
+use Rattle.intaglio_handle.specs.Seen.{seen}
+use Rattle.intaglio_handle.proofs.Batches.{IsAt}
+use Rattle.intaglio_handle.proofs.any_table.AnyTable.intern_each.Given as goal
+
+abbrev pub invariant-loop-i : goal.invariant-loop-i
+invariant-loop-i l = record {
+  ends : are_ends (length l.bytes) l.start (drop l.i l.ends) ≡ true;
+  places : length l.symbols ≡ length l.ends;
+  at : IsAt (seen l.initial.self) (pieces l.bytes 0 l.ends) (seen l.self) (pieces l.bytes l.start (drop l.i l.ends)) (take l.i l.symbols);
+}

@@ -1,0 +1,31 @@
+//! A table of any of the kinds.
+use intaglio_bytes::b_str::BStrContent;
+use intaglio_bytes::bytes::BytesContent;
+use intaglio_cstr::CStrContent;
+use intaglio_hash::KeyedState;
+use intaglio_path::PathContent;
+use intaglio_table::Table;
+use intaglio_text::StrContent;
+use intaglio_text::osstr::OsStrContent;
+
+pub(crate) mod batches;
+mod bytes;
+mod making;
+mod room;
+
+/// A table of one of the kinds.
+#[derive(Drop)]
+pub enum AnyTable {
+    /// Texts.
+    Text(Table<StrContent, KeyedState>),
+    /// Bytes.
+    Bytes(Table<BytesContent, KeyedState>),
+    /// C strings.
+    CStr(Table<CStrContent, KeyedState>),
+    /// Paths.
+    Path(Table<PathContent, KeyedState>),
+    /// Platform strings.
+    OsStr(Table<OsStrContent, KeyedState>),
+    /// Byte strings.
+    BStr(Table<BStrContent, KeyedState>),
+}
