@@ -160,8 +160,8 @@ impl<C: Keyed, S: BuildHasher> Core<C, S> {
     // Finds the first content with this hash, which `end_search` compares.
     #[inline(always)]
     pub(crate) fn begin_search(&self, hash: u64) -> Begun
-        ensures { let key_hash = key_hash S.Hasher.finish S.Hasher.write (S.build_hasher self.now.hasher) in
-            IsBegun C.key key_hash self.now.state hash result }
+        ensures { let of_key = hash_of S.BuildHasher S.Hasher.Hasher self.now.hasher in
+            IsBegun C.key of_key self.now.state hash result }
     {
         let mut work = Work::new();
         let candidate = self.index.find(hash, &mut work);
@@ -176,10 +176,10 @@ impl<C: Keyed, S: BuildHasher> Core<C, S> {
         sought: &Q,
         work: &mut Work,
     ) -> Option<Symbol>
-        requires begun { let hash = key_hash S.Hasher.finish S.Hasher.write (S.build_hasher self.now.hasher) in
+        requires begun { let hash = hash_of S.BuildHasher S.Hasher.Hasher self.now.hasher in
             IsBegun C.key hash self.now.state (hash (Q.key sought.now)) begun.now }
         ensures found { result ≡ first C.key self.now.state.contents (Q.key sought.now) }
-        ensures cost { let hash = key_hash S.Hasher.finish S.Hasher.write (S.build_hasher self.now.hasher) in
+        ensures cost { let hash = hash_of S.BuildHasher S.Hasher.Hasher self.now.hasher in
             Costs work.old work.new (KnownSearchCost C.key hash self.now.state (Q.key sought.now)) }
         ensures valid { IsValid C.key self.now.state }
     {

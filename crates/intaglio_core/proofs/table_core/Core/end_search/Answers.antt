@@ -1,14 +1,14 @@
 use Rattle.std.proofs.Common.{◌≡◌, map, None, Some, arith, refl, rules}
 use Rattle.std.proofs.lemmas.Bool.{false≢true}
 use Rattle.std.proofs.lemmas.List.{length-map}
-use Rattle.intaglio_content.specs.Key.{key_hash}
+use Rattle.intaglio_content.specs.Key.{hash_of}
 use Rattle.intaglio_core.proofs.Starts.{nothing, something}
 use Rattle.intaglio_core.proofs.Walking.{absent, passes, begins, within, ends, finds, goes_on, falls}
 use Rattle.intaglio_core.proofs.table_core.Core.end_search.Goals as goal
 
 pub returns-in_err-begun-clause-found : goal.returns-in_err-begun-clause-found
 returns-in_err-begun-clause-found g c =
-    let old = key_hash g.S.Hasher.Hasher.finish g.S.Hasher.Hasher.write (g.S.BuildHasher.build_hasher c.args.self.now.hasher) in
+    let old = hash_of g.S.BuildHasher g.S.Hasher.Hasher c.args.self.now.hasher in
     let hashes : c.self.inside.index.hashes ≡ map (λ x. old (g.C.Keyed.key x)) c.args.self.now.state.contents = rw (← c.self.view_is) c.self.invariant.hashes in
     let count : c.self.inside.index.count ≡ c.args.self.now.state.buckets = rw (← c.self.view_is) refl in
     let k = g.Q.Keyed.key c.args.sought.now in
@@ -19,7 +19,7 @@ returns-in_err-begun-clause-found g c =
 
 pub returns-in_err-begun-clause-cost : goal.returns-in_err-begun-clause-cost
 returns-in_err-begun-clause-cost g c =
-    let old = key_hash g.S.Hasher.Hasher.finish g.S.Hasher.Hasher.write (g.S.BuildHasher.build_hasher c.args.self.now.hasher) in
+    let old = hash_of g.S.BuildHasher g.S.Hasher.Hasher c.args.self.now.hasher in
     let hashes : c.self.inside.index.hashes ≡ map (λ x. old (g.C.Keyed.key x)) c.args.self.now.state.contents = rw (← c.self.view_is) c.self.invariant.hashes in
     let count : c.self.inside.index.count ≡ c.args.self.now.state.buckets = rw (← c.self.view_is) refl in
     let k = g.Q.Keyed.key c.args.sought.now in
@@ -29,7 +29,7 @@ returns-in_err-begun-clause-cost g c =
 
 pub loop-candidate-init : goal.loop-candidate-init
 loop-candidate-init g c =
-    let old = key_hash g.S.Hasher.Hasher.finish g.S.Hasher.Hasher.write (g.S.BuildHasher.build_hasher c.args.self.now.hasher) in
+    let old = hash_of g.S.BuildHasher g.S.Hasher.Hasher c.args.self.now.hasher in
     let hashes : c.self.inside.index.hashes ≡ map (λ x. old (g.C.Keyed.key x)) c.args.self.now.state.contents = rw (← c.self.view_is) c.self.invariant.hashes in
     let count : c.self.inside.index.count ≡ c.args.self.now.state.buckets = rw (← c.self.view_is) refl in
     let k = g.Q.Keyed.key c.args.sought.now in
@@ -59,7 +59,7 @@ returns-then-same_as-clause-cost g c =
 pub find_next-candidate-requires : goal.find_next-candidate-requires
 find_next-candidate-requires g c =
     let l = rw c.as_slice-contents.ensures.value at (within c.in-Some.symbol (rw c.in-Some.is at c.loop-candidate.invariant)) in
-    rw c.self.invariant.hashes (omega (arith, l, length-map c.self.inside.list.items (λ x. key_hash g.S.Hasher.Hasher.finish g.S.Hasher.Hasher.write (g.S.BuildHasher.build_hasher c.self.inside.hasher) (g.C.Keyed.key x))))
+    rw c.self.invariant.hashes (omega (arith, l, length-map c.self.inside.list.items (λ x. hash_of g.S.BuildHasher g.S.Hasher.Hasher c.self.inside.hasher (g.C.Keyed.key x))))
 
 pub loop-candidate-smaller : goal.loop-candidate-smaller
 loop-candidate-smaller g c =
