@@ -8,8 +8,8 @@ mod turn;
 mod words;
 
 use anyhow::Result;
+use intaglio::SymbolTable;
 use intaglio_hash::KeyedState;
-use intaglio_text::SymbolTable;
 use plan::{Hashing, Plan, Task};
 use std::env;
 use std::hash::{BuildHasher, RandomState};

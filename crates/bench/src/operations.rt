@@ -1,8 +1,7 @@
 //! What is measured. Each operation returns a sum that shows what it found.
 ghost use Rattle.std.specs.Prelude.{◌≡◌, []};
 
-use intaglio_symbol::{InternError, Symbol};
-use intaglio_text::{StrContent, SymbolTable};
+use intaglio::{InternError, StrContent, Symbol, SymbolTable};
 use std::alloc::{AllocError, Global};
 use std::hash::BuildHasher;
 

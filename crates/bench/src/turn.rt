@@ -7,8 +7,7 @@ use crate::operations::{
 use crate::plan::{Calls, Plan, Task};
 use crate::words::{numbers, shuffle, word, words};
 use anyhow::Result;
-use intaglio_symbol::InternError;
-use intaglio_text::{StrContent, SymbolTable};
+use intaglio::{InternError, StrContent, SymbolTable};
 use std::alloc::{AllocError, Global};
 use std::hash::BuildHasher;
 use std::rt::Clock;

@@ -6,11 +6,16 @@
 //! whose symbols are their positions.
 #![tactic(auto)]
 
+pub mod bstr;
+pub mod bytes;
+pub mod cstr;
 mod error;
 pub mod laws;
+pub mod osstr;
+pub mod path;
+mod text;
 
 pub use error::TableError;
-pub use intaglio_bytes::{b_str as bstr, bytes};
 pub use intaglio_core::run::run;
 pub use intaglio_core::{
     AllSymbols, Bytewise, Call, Content, Core, DEFAULT_SYMBOL_TABLE_CAPACITY, Formed, Forms, Index,
@@ -18,7 +23,6 @@ pub use intaglio_core::{
     StaleMark, Symbol, SymbolOverflowError, ToContent, Work, check_all, get_or_intern_all,
     intern_all,
 };
-pub use intaglio_cstr as cstr;
-pub use intaglio_path as path;
 pub use intaglio_table::Table;
-pub use intaglio_text::{Iter, StrContent, Strings, SymbolTable, osstr};
+pub use intaglio_text::StrContent;
+pub use text::{Iter, Strings, SymbolTable};

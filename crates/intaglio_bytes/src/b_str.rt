@@ -1,32 +1,4 @@
-//! The table of the byte strings of the crate `bstr`: bytes that are text by convention.
+//! The byte strings of the crate `bstr`: bytes that are text by convention.
 mod content;
 
 pub use content::BStrContent;
-pub use intaglio_core::AllSymbols;
-use intaglio_core::{Forms, Pairs};
-use intaglio_table::Table;
-use std::hash::{BuildHasherDefault, FoldHasher};
-
-/// The byte strings of a table, in the order of their symbols.
-pub type BStrings<'a> = Forms<'a, BStrContent>;
-
-/// The symbols and byte strings of a table, in order.
-pub type Iter<'a> = Pairs<'a, BStrContent>;
-
-/// A table of distinct byte strings of the crate `bstr`, each with a [`Symbol`](intaglio_core::Symbol). Its
-/// calls are those of [`Table`].
-///
-/// A byte string is stored as a `BStr<'static>` or a `BString`, and looked up by a `BStr`. Byte strings are
-/// equal if their bytes are.
-/// their bytes are.
-///
-/// ```
-/// # use bstr::BStr;
-/// # use intaglio::bstr::{BStrContent, SymbolTable};
-/// let mut table = SymbolTable::new(rt.alloc())?;
-/// let symbol = table.intern(BStrContent::from(BStr::new(b"abc")))?;
-/// assert!(rt; table.check_interned(BStr::new(b"abc")) == Some(symbol));
-/// ```
-pub type SymbolTable<S = BuildHasherDefault<FoldHasher>> = Table<BStrContent, S>;
-
-impl intaglio_table::BStrings for BStrContent {}

@@ -6,7 +6,7 @@ ghost use Rattle.intaglio_cstr.specs.declared.content.CStrContent.TheVariants.{B
 
 use crate::c_str::CStr;
 use crate::c_string::CString;
-use intaglio_content::{Bytewise, Content, Formed, Keyed, LookedUp, Spelled, ToContent};
+use intaglio_content::{Bytewise, CStrings, Content, Formed, Keyed, LookedUp, Spelled, ToContent};
 use std::alloc::{AllocError, Global};
 
 /// A C string that a table stores. Its spelling is its bytes before the final
@@ -76,6 +76,8 @@ impl Content for CStrContent {
 
     ghost key_of_spelling = { λ _. refl };
 }
+
+impl CStrings for CStrContent {}
 
 impl Bytewise for CStrContent {
     fn compared_bytes(&self) -> &[u8] {

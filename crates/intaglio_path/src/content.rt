@@ -6,7 +6,7 @@ ghost use Rattle.intaglio_path.specs.PathContent.{path_content_bytes};
 ghost use Rattle.intaglio_path.specs.declared.content.PathContent.TheVariants.{Borrowed, Owned};
 
 use crate::path::Path;
-use intaglio_content::{Content, Formed, Keyed, LookedUp, Sought, Spelled, ToContent, Work};
+use intaglio_content::{Content, Formed, Keyed, LookedUp, Paths, Sought, Spelled, ToContent, Work};
 use std::alloc::{AllocError, Global};
 use std::hash::{BuildHasher, Hash, Hasher};
 
@@ -70,6 +70,8 @@ impl Content for PathContent {
 
     ghost key_of_spelling = { λ _. refl };
 }
+
+impl Paths for PathContent {}
 
 impl Spelled for PathContent {
     fn spelling(&self) -> &[u8] {

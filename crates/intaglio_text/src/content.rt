@@ -3,7 +3,7 @@ ghost use Rattle.std.specs.Prelude.{◌≡◌, [], ◌∷◌, refl};
 ghost use Rattle.intaglio_text.specs.StrContent.{str_content_bytes};
 ghost use Rattle.intaglio_text.specs.declared.content.StrContent.TheVariants.{Borrowed, Owned};
 
-use intaglio_content::{Bytewise, Content, Formed, Keyed, LookedUp, Spelled, ToContent};
+use intaglio_content::{Bytewise, Content, Formed, Keyed, LookedUp, Spelled, Texts, ToContent};
 use std::alloc::{AllocError, Global};
 
 /// A text that a table stores. Its spelling is its UTF-8 bytes, and its key is that one item.
@@ -61,6 +61,8 @@ impl Content for StrContent {
 
     ghost key_of_spelling = { λ _. refl };
 }
+
+impl Texts for StrContent {}
 
 impl Bytewise for StrContent {
     fn compared_bytes(&self) -> &[u8] {

@@ -1,12 +1,9 @@
-//! Symbol tables of texts.
+//! Texts, and platform strings, as contents of symbol tables.
 //!
-//! [`SymbolTable`] stores texts; [`osstr::SymbolTable`] stores platform strings, which are UTF-8 texts here.
+//! [`StrContent`] is a text; [`osstr::OsStrContent`] is a platform string, which is a UTF-8 text here.
 #![tactic(auto)]
 
 mod content;
 pub mod osstr;
-mod table;
 
 pub use content::StrContent;
-pub use intaglio_core::AllSymbols;
-pub use table::{Iter, Strings, SymbolTable};

@@ -5,7 +5,7 @@ ghost use Rattle.intaglio_bytes.specs.BStrContent.{bstr_content_bytes};
 ghost use Rattle.intaglio_bytes.specs.declared.b_str.content.BStrContent.TheVariants.{Borrowed, Owned};
 
 use bstr::{BStr, BString};
-use intaglio_content::{Bytewise, Content, Formed, Keyed, LookedUp, Spelled, ToContent};
+use intaglio_content::{BStrings, Bytewise, Content, Formed, Keyed, LookedUp, Spelled, ToContent};
 use std::alloc::{AllocError, Global};
 
 /// A byte string that a table stores. Its spelling is its bytes, and its key is that one item.
@@ -65,6 +65,8 @@ impl Content for BStrContent {
 
     ghost key_of_spelling = { λ _. refl };
 }
+
+impl BStrings for BStrContent {}
 
 impl Bytewise for BStrContent {
     fn compared_bytes(&self) -> &[u8] {

@@ -3,7 +3,9 @@ ghost use Rattle.std.specs.Prelude.{◌≡◌, [], ◌∷◌, refl};
 ghost use Rattle.intaglio_bytes.specs.BytesContent.{bytes_content_bytes};
 ghost use Rattle.intaglio_bytes.specs.declared.bytes.content.BytesContent.TheVariants.{Borrowed, Owned};
 
-use intaglio_content::{Bytewise, Content, Formed, Keyed, LookedUp, Spelled, ToContent};
+use intaglio_content::{
+    Bytestrings, Bytewise, Content, Formed, Keyed, LookedUp, Spelled, ToContent,
+};
 use std::alloc::{AllocError, Global};
 
 /// A byte string that a table stores. Its spelling is its bytes, and its key is that one item.
@@ -61,6 +63,8 @@ impl Content for BytesContent {
 
     ghost key_of_spelling = { λ _. refl };
 }
+
+impl Bytestrings for BytesContent {}
 
 impl Bytewise for BytesContent {
     fn compared_bytes(&self) -> &[u8] {

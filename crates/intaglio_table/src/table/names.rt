@@ -2,26 +2,9 @@
 ghost use Rattle.std.specs.Prelude.{◌≡◌, ◌≤◌, ◌^◌, map, length};
 
 use super::Table;
-use intaglio_core::{Content, Formed, Forms};
+use intaglio_content::{BStrings, Bytestrings, CStrings, OsStrings, Paths, Texts};
+use intaglio_core::{Formed, Forms};
 use std::hash::BuildHasher;
-
-/// Contents that are texts. Their table has [`strings`](Table::strings).
-pub trait Texts: Content {}
-
-/// Contents that are bytes. Their table has [`bytestrings`](Table::bytestrings).
-pub trait Bytestrings: Content {}
-
-/// Contents that are byte strings of the crate `bstr`. Their table has [`bstrings`](Table::bstrings).
-pub trait BStrings: Content {}
-
-/// Contents that are C strings. Their table has [`c_strings`](Table::c_strings).
-pub trait CStrings: Content {}
-
-/// Contents that are platform strings. Their table has [`os_strings`](Table::os_strings).
-pub trait OsStrings: Content {}
-
-/// Contents that are paths. Their table has [`paths`](Table::paths).
-pub trait Paths: Content {}
 
 impl<'a, C: Formed<'a> + Texts, S: BuildHasher> Table<C, S> {
     /// All texts, in the order of their symbols.

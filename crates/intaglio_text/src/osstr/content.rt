@@ -3,7 +3,7 @@ ghost use Rattle.std.specs.Prelude.{◌≡◌, [], ◌∷◌, refl};
 ghost use Rattle.intaglio_text.specs.OsStrContent.{os_str_content_bytes};
 ghost use Rattle.intaglio_text.specs.declared.osstr.content.OsStrContent.TheVariants.{Borrowed, Owned};
 
-use intaglio_content::{Bytewise, Content, Formed, Keyed, LookedUp, Spelled, ToContent};
+use intaglio_content::{Bytewise, Content, Formed, Keyed, LookedUp, OsStrings, Spelled, ToContent};
 use std::alloc::{AllocError, Global};
 
 /// A platform string that a table stores: a UTF-8 text. Its spelling is its
@@ -62,6 +62,8 @@ impl Content for OsStrContent {
 
     ghost key_of_spelling = { λ _. refl };
 }
+
+impl OsStrings for OsStrContent {}
 
 impl Bytewise for OsStrContent {
     fn compared_bytes(&self) -> &[u8] {

@@ -1,7 +1,11 @@
-//! The table of paths.
-use crate::content::PathContent;
-use intaglio_core::{Forms, Pairs};
-use intaglio_table::Table;
+//! Paths by their components, and the table of paths.
+//!
+//! - [`Path`] is the text of a path. Two are equal if their components are.
+//! - [`Components`] yields each [`Component`] of a path, from the front.
+//! - [`PathContent`] is what [`SymbolTable`] stores.
+use crate::{Forms, Pairs, Table};
+pub use intaglio_path::{Component, Components, Path, PathContent};
+pub use intaglio_symbol::AllSymbols;
 use std::hash::{BuildHasherDefault, FoldHasher};
 
 /// The paths of a table, in the order of their symbols.
@@ -10,10 +14,10 @@ pub type Paths<'a> = Forms<'a, PathContent>;
 /// The symbols and paths of a table, in order.
 pub type Iter<'a> = Pairs<'a, PathContent>;
 
-/// A table of distinct paths, each with a [`Symbol`](intaglio_core::Symbol).
+/// A table of distinct paths, each with a [`Symbol`](crate::Symbol).
 /// Its calls are those of [`Table`].
 ///
-/// A path is stored as a `&'static str` or a `String`, and looked up by a [`Path`](crate::Path). Paths are
+/// A path is stored as a `&'static str` or a `String`, and looked up by a [`Path`]. Paths are
 /// equal if their components are; the first spelling is stored.
 ///
 /// ```
@@ -24,5 +28,3 @@ pub type Iter<'a> = Pairs<'a, PathContent>;
 /// assert!(rt; table.get(symbol).map(|path| path.as_str()) == Some("a//b"));
 /// ```
 pub type SymbolTable<S = BuildHasherDefault<FoldHasher>> = Table<PathContent, S>;
-
-impl intaglio_table::Paths for PathContent {}

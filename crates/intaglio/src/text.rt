@@ -1,7 +1,6 @@
 //! The table of texts.
-use crate::content::StrContent;
-use intaglio_core::{Forms, Pairs};
-use intaglio_table::{Table, Texts};
+use crate::{Forms, Pairs, Table};
+use intaglio_text::StrContent;
 use std::hash::{BuildHasherDefault, FoldHasher};
 
 /// The texts of a table, in the order of their symbols.
@@ -10,7 +9,7 @@ pub type Strings<'a> = Forms<'a, StrContent>;
 /// The symbols and texts of a table, in order.
 pub type Iter<'a> = Pairs<'a, StrContent>;
 
-/// A table of distinct texts, each with a [`Symbol`](intaglio_core::Symbol).
+/// A table of distinct texts, each with a [`Symbol`](crate::Symbol).
 /// Its calls are those of [`Table`].
 ///
 /// A text is stored as a `&'static str` or a `String`, and looked up by a `&str`.
@@ -24,5 +23,3 @@ pub type Iter<'a> = Pairs<'a, StrContent>;
 /// assert!(rt; table.check_interned("abc") == Some(symbol));
 /// ```
 pub type SymbolTable<S = BuildHasherDefault<FoldHasher>> = Table<StrContent, S>;
-
-impl Texts for StrContent {}
