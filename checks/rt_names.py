@@ -206,12 +206,28 @@ def without_good_news(said):
     return re.sub(r"(?m)^(fn \S+: proved|statements |logic /|rt: chose ).*\n", "", said)
 
 
+def longest_chain(crates):
+    """The names of the crates of the longest chain, in lines, in which each waits for the one before it. The crates come lowest first."""
+    behind, after = {}, {}
+    for crate in reversed(crates):
+        above = [it.name for it in crates if crate.name in {below.name for below in it.below()}]
+        after[crate.name] = max(above, key=behind.get, default=None)
+        behind[crate.name] = lines_of(crate) + behind.get(after[crate.name], 0)
+    chain, name = set(), max(behind, key=behind.get, default=None)
+    while name:
+        chain.add(name)
+        name = after[name]
+    return chain
+
+
 def in_lanes(crates, prove):
-    """Proves these crates side by side, by `prove` of a crate and its jobs, each once those of them below it are proved, and returns whether all are."""
-    rt, names = load(), {it.name for it in crates}
+    """Proves these crates side by side, by `prove` of a crate and its jobs, each once those of them below it are proved, and returns whether all are.
+    Those of the longest chain have a job for each processor, since all waits for them; the others share what is left."""
+    rt, names, chain, most = load(), {it.name for it in crates}, longest_chain(crates), min(4, processors())
 
     def task(crate):
-        waits = [(it.name, "proof") for it in crate.below() if it.name in names]
-        return waits, lines_of(crate), rt.need(crate), lambda given, jobs: all(given[it] for it in waits) and prove(crate, jobs)
+        waits, least = [(it.name, "proof") for it in crate.below() if it.name in names], most if crate.name in chain else 1
+        need = rt.need(crate) * (1 + 0.6 * (least - 1))
+        return waits, lines_of(crate), need, lambda given, jobs: all(given[it] for it in waits) and prove(crate, max(jobs, least))
 
     return all(rt.in_lanes({(it.name, "proof"): task(it) for it in crates}).values())
