@@ -134,7 +134,7 @@ impl PartialEq<Symbol> for &u32 {
     }
 }
 
-/// The table holds as many strings as it can, or a number is larger than any symbol's.
+/// The table holds as many strings as its limit, or a number is too large for a symbol.
 #[derive(Default, Debug, Clone, Copy, Hash, PartialEq, Eq, PartialOrd, Ord)]
 pub struct SymbolOverflowError(());
 
