@@ -15,7 +15,8 @@
  *
  * Link with libintaglio.a or libintaglio.so, which bindings/build makes. docs/FROM-C.md describes how, and what is proved.
  *
- * Errors: a function that fails returns an error code, and leaves the strings and symbols of the table unchanged.
+ * Errors: a function that fails returns an error code, and leaves the strings and symbols of the table unchanged. The comments
+ * below name the codes without INTAGLIO_.
  *
  * Pointers: each pointer must be valid for the given number of elements, aligned, and not null, even if that number is 0. Memory
  * that a function writes must not overlap other memory that is passed to it. None of this is checked.
@@ -42,7 +43,7 @@ extern "C" {
  * struct may be moved, but after a copy only one of the two may be used. */
 typedef struct { bool live; void *ptr; } intaglio_table;
 
-/* The bytes of a symbol. `at` is null if `len` is 0. */
+/* The bytes of a symbol. `at` is null if `len` is 0; then it must not be passed to a function, since none takes null. */
 typedef struct { const uint8_t *at; size_t len; } intaglio_spelling;
 
 /* The kinds. */
@@ -141,7 +142,7 @@ uint32_t intaglio_check_all(intaglio_table *table, const uint8_t *bytes, size_t 
  * contents of `buffer` and `ends` are then unspecified. */
 uint32_t intaglio_copy_all(intaglio_table *table, const uint32_t *symbols, size_t count, uint8_t *buffer, size_t size, size_t *ends, size_t ends_count);
 
-/* The same functions for each kind, on a struct of that kind. Initialize it with INTAGLIO_NONE. */
+/* The same functions for each kind, on a struct of that kind, such as intaglio_text. Initialize it with INTAGLIO_NONE. */
 #define INTAGLIO_NONE {{false, NULL}}
 #define INTAGLIO_KIND(NAME, KIND) \
     typedef struct { intaglio_table table; } intaglio_##NAME; \

@@ -1,6 +1,6 @@
 """A string interner over a library that is proved correct.
 
-A SymbolTable gives each distinct string a small number, its symbol, and gives the string back for it:
+A SymbolTable gives each distinct string a small number, its symbol, and returns the string of a symbol:
 
     >>> table = SymbolTable(["b", "a", "b"])
     >>> table.intern("a")
@@ -13,10 +13,10 @@ A SymbolTable gives each distinct string a small number, its symbol, and gives t
 The other kinds take the same calls: BytesTable, CStringTable, PathTable, OsStringTable and ByteStringTable. A call for each
 string costs about a microsecond, nearly all of it in Python: intern_all, check_all and iterating make one call for many.
 
-A call that fails raises a subclass of Refused that is named for the reason, and leaves the strings as they were.
+A call that fails raises a subclass of Refused, named after the reason, and leaves the strings unchanged.
 
-The library is libintaglio.so: the file that the variable INTAGLIO_LIB names, or the one in bindings/out, or else one that the
-system finds. bindings/build makes it, and docs/FROM-C.md says what is proved.
+The library is libintaglio.so: the file that the environment variable INTAGLIO_LIB names, or the one in bindings/out, or else one
+that the system finds. bindings/build makes it, and docs/FROM-C.md says what is proved.
 
 A call holds the interpreter's lock, so a table may be used from any thread of an interpreter that has one.
 """
@@ -43,7 +43,7 @@ Content = TypeVar("Content")
 
 
 class Refused(Exception):
-    """The library did nothing, and this says why."""
+    """A call failed, and the strings of the table are unchanged. The subclass says why."""
 
     code: int
 
@@ -61,25 +61,25 @@ class Full(Refused, OverflowError):
 
 
 class NoMemory(Refused, MemoryError):
-    """There was no memory."""
+    """Out of memory."""
 
     code = 3
 
 
 class TooLarge(Refused, ValueError):
-    """More room was asked for than there are symbols, or a limit of 0 or above 2**32."""
+    """A capacity above 2**32 or the limit, or a limit of 0 or above 2**32."""
 
     code = 4
 
 
 class Stale(Refused, ValueError):
-    """The table has fewer strings than it was to be taken back to."""
+    """The table has fewer strings than the length to roll back to."""
 
     code = 5
 
 
 class NotUtf8(Refused, ValueError):
-    """The string has no UTF-8: it has a lone surrogate."""
+    """The string isn't valid UTF-8: it contains a lone surrogate."""
 
     code = 6
 
@@ -115,7 +115,7 @@ class NoSpace(Refused, ValueError):
 
 
 class NoKind(Refused, ValueError):
-    """The number is of no kind."""
+    """The number is not that of a kind."""
 
     code = 12
 
@@ -200,7 +200,7 @@ def _check(code: int) -> None:
 
 
 def _numbers(code: str, count: int) -> array[int]:
-    """An array of zeros. It has a place also where there are none, since no pointer may be null."""
+    """An array of zeros. It has at least one element, since no pointer may be null."""
     return array(code, bytes(array(code).itemsize * max(count, 1)))
 
 
@@ -230,8 +230,9 @@ class Table(Generic[Content]):
     ) -> None:
         """A table with these strings.
 
-        capacity: how many strings there is room for. limit: how many it may ever hold; then there is no room at first. keys:
-        those of the hasher, SipHash-1-3; without them they are random, which protects from strings that were chosen to collide.
+        capacity: how many strings fit before the table has to grow. limit: the maximum number of strings; the capacity is then 0
+        at first. keys: those of the hash function, SipHash-1-3. By default they are random, which protects against strings that
+        are chosen to collide.
 
         Raises TooLarge, NoMemory, Full.
         """
@@ -259,13 +260,13 @@ class Table(Generic[Content]):
 
     @classmethod
     def _join(cls, contents: list[Content]) -> tuple[bytes, list[Any]]:
-        """The bytes of the strings one after the other, and what has their lengths."""
+        """The concatenated bytes of the strings, and a list whose elements have the lengths of these bytes."""
         spellings = [cls._encode(content) for content in contents]
         return b"".join(spellings), spellings
 
     @classmethod
     def _batch(cls, contents: Iterable[Content]) -> tuple[bytes, array[int], int]:
-        """The strings one after the other, the end of each, and how many there are."""
+        """The concatenated bytes of the strings, the end of each, and how many there are."""
         if type(contents) is not list:
             contents = list(contents)
         parts, ends, size = [], array(_U64), 0
@@ -280,7 +281,7 @@ class Table(Generic[Content]):
         return b"".join(parts), ends or _numbers(_U64, 0), len(ends)
 
     def close(self) -> None:
-        """Frees the table. Then it has no strings, and what would change it raises NoTable."""
+        """Frees the table. It then has no strings, and calls that would change it raise NoTable."""
         self._finalizer()
 
     def __enter__(self) -> Table[Content]:
@@ -311,7 +312,7 @@ class Table(Generic[Content]):
         return self._symbol.value
 
     def intern_all(self, contents: Iterable[Content]) -> list[int]:
-        """The symbols of the strings, all of which are stored, or none. Raises what intern raises."""
+        """Interns all strings or none, and returns their symbols. Raises what intern raises."""
         joined, ends, count = self._batch(contents)
         symbols = _numbers(_U32, count)
         _check(_calls.intern_all(self._pointer, joined, len(joined), _at(ends), count, _at(symbols), count))
@@ -396,15 +397,15 @@ class Table(Generic[Content]):
         _calls.clear(self._pointer)
 
     def take_back(self, length: int) -> None:
-        """Drops the strings after the first `length`, as when len(table) was `length`. Raises Stale, NoTable."""
+        """Rolls the table back to its first `length` strings. Raises Stale, TooLarge, NoTable."""
         _check(_calls.take_back(self._pointer, _size_of(length)))
 
     def reserve(self, additional: int) -> None:
-        """Makes room for this many more strings. Raises TooLarge, NoMemory, NoTable."""
+        """Reserves capacity for this many more strings. Raises TooLarge, NoMemory, NoTable."""
         _check(_calls.reserve(self._pointer, _size_of(additional)))
 
     def shrink_to(self, min_capacity: int = 0) -> None:
-        """Gives back the room above this many strings. Raises NoMemory, NoTable."""
+        """Shrinks the capacity to this, or to the number of strings if that is greater. Raises TooLarge, NoMemory, NoTable."""
         _check(_calls.shrink_to(self._pointer, _size_of(min_capacity)))
 
 
@@ -479,7 +480,7 @@ class CStringTable(Table[bytes]):
 
 
 class PathTable(Table[str]):
-    """A table of paths, which are equal where their components are, as "a//b" and "a/./b"."""
+    """A table of paths, which are equal if their components are, as "a//b" and "a/./b"."""
 
     __slots__ = ()
     _kind = 3

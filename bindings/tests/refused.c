@@ -1,11 +1,11 @@
-/* Refuses each request for memory in turn, in a run of every call that may make one. A refusal must be answered with NO_MEMORY by
- * the very call in which it came, and leave the strings as they were. Linked with -Wl,--wrap=malloc,--wrap=realloc. */
+/* Makes each allocation fail in turn, in a run of every call that may allocate. The very call in which it fails must return
+ * NO_MEMORY and leave the strings unchanged. Linked with -Wl,--wrap=malloc,--wrap=realloc. */
 #include "intaglio.h"
 #include <stdio.h>
 #include <stdlib.h>
 #include <string.h>
 
-/* Which request is refused, counting down; none where it is negative. */
+/* How many allocations succeed before one fails; if negative, none fails. */
 static long left = -1;
 static long refused;
 
@@ -42,7 +42,7 @@ static void holds(intaglio_bytes *table, size_t count, long nth) {
     }
 }
 
-/* Whether the call was done. If not, it had a refusal, and there was none before it. */
+/* Whether the call succeeded. Then no allocation failed in it, and otherwise one did. */
 static bool done(uint32_t code, long before, long nth) {
     if (code == INTAGLIO_DONE) WANT(refused == before);
     else WANT(code == INTAGLIO_NO_MEMORY && refused == before + 1);
@@ -68,7 +68,7 @@ static void intern_group(intaglio_bytes *table, long nth) {
     holds(table, 13, nth);
 }
 
-/* One run. Each call is made again after a refusal, and then is done. */
+/* One run. A call that failed is made again, and then succeeds. */
 static void run(long nth) {
     intaglio_bytes table = INTAGLIO_NONE;
     uint32_t symbol;
@@ -100,7 +100,7 @@ static void run(long nth) {
     }
     WANT(intaglio_bytes_capacity(&table) >= 114);
     before = refused;
-    /* Of two requests of a shrink the second may be refused without an answer: the list of strings then keeps its room. */
+    /* If the second of a shrink's two allocations fails, nothing may report it: the list of strings then keeps its memory. */
     uint32_t code = intaglio_bytes_shrink_to(&table, 0);
     WANT(code == INTAGLIO_DONE || (code == INTAGLIO_NO_MEMORY && refused == before + 1));
     holds(&table, 14, nth);

@@ -12,10 +12,10 @@ LONE_SURROGATE = "\ud800"
 
 
 class EachKind:
-    """What holds of each kind. `kind` is its class."""
+    """Tests of every kind. `kind` is its class."""
 
     def of(self, text):
-        """A text as this kind of tables takes it."""
+        """A text, as a string of this kind."""
         return text if self.kind in (SymbolTable, PathTable, OsStringTable) else text.encode()
 
     def test_symbols_count_up_from_0_and_give_their_string_back(self):

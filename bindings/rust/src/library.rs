@@ -59,7 +59,7 @@ pub trait Kind: sealed::Sealed {
 
     /// # Safety
     ///
-    /// A table of this kind gave the bytes.
+    /// The bytes come from a table of this kind.
     #[doc(hidden)]
     unsafe fn content(bytes: &[u8]) -> &Self::Content;
 }
@@ -80,7 +80,7 @@ impl Kind for Text {
     }
 
     unsafe fn content(bytes: &[u8]) -> &str {
-        // SAFETY: A table of texts takes no other bytes than UTF-8, and gives those that it took. Both are proved.
+        // SAFETY: A table of texts accepts only UTF-8, which is proved. That `get` returns the bytes that were accepted is tested.
         unsafe { core::str::from_utf8_unchecked(bytes) }
     }
 }
@@ -105,7 +105,7 @@ impl Kind for Bytes {
     }
 }
 
-/// Many strings in a row: their bytes, and the end of each.
+/// A batch of strings: their concatenated bytes, and the end of each.
 #[derive(Default)]
 pub struct Batch {
     bytes: Vec<u8>,
@@ -126,13 +126,14 @@ impl Batch {
 
 /// A table of the library.
 pub struct RawTable<K: Kind> {
-    // Also a call that only reads takes the table out of the handle and puts it back.
+    // Even a call that only reads takes the table out of the handle and puts it back.
     handle: UnsafeCell<RawHandle>,
     kind: PhantomData<K>,
 }
 
-// SAFETY: A table is a few blocks of memory that nothing else points to. The library has no other data, and none of a thread, and
-// C's allocator takes a block back from any thread. Calls of two threads aren't made at once, since the type isn't `Sync`.
+// SAFETY: A table is a few blocks of memory that nothing else points to. The library's only other data are constants and a byte of
+// which only the address is used, and C's allocator accepts a block from any thread. Calls of two threads aren't made at once, since
+// the type isn't `Sync`.
 unsafe impl<K: Kind> Send for RawTable<K> {}
 
 impl<K: Kind> RawTable<K> {
@@ -171,7 +172,7 @@ impl<K: Kind> RawTable<K> {
     pub fn intern(&mut self, content: &K::Content) -> Result<u32, Refusal> {
         let bytes = K::bytes(content);
         let mut symbol = 0;
-        // SAFETY: As in `len`. A slice's pointer isn't null, also where it is empty, and `symbol` isn't in it.
+        // SAFETY: As in `len`. A slice's pointer isn't null even if the slice is empty, and `symbol` isn't in it.
         Refusal::check(unsafe { intaglio_intern(self.at(), bytes.as_ptr(), bytes.len(), &mut symbol) })?;
         Ok(symbol)
     }
@@ -200,11 +201,11 @@ impl<K: Kind> RawTable<K> {
         }
         let bytes = match out.len {
             0 => &[],
-            // SAFETY: The bytes stay where they are until the table is cleared, taken back, or freed. Each of these takes
+            // SAFETY: The bytes stay where they are until the table is cleared, rolled back, or freed. Each of these takes
             // `&mut self` or `self`, so not while the slice is borrowed from `self`.
             len => unsafe { core::slice::from_raw_parts(out.at, len) },
         };
-        // SAFETY: This table gave the bytes.
+        // SAFETY: The bytes come from this table.
         Some(unsafe { K::content(bytes) })
     }
 

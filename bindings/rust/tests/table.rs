@@ -1,4 +1,4 @@
-//! The calls that the crate adds, and what the library's handle asks of it. Expected values are worked out by hand.
+//! The calls that the crate adds, and what the library requires of its handle. Expected values are worked out by hand.
 use std::thread;
 
 use intaglio_proved::{Refusal, Symbol, SymbolTable, bytes};

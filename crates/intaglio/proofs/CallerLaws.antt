@@ -1,5 +1,5 @@
--- The laws that callers cite, by their own names. Each is proved in the crate of the core, and stands here so that a crate
--- that lists `intaglio` alone finds it.
+-- The laws that callers cite. Each is proved in `intaglio_core`, and stated again here so that a crate that lists only
+-- `intaglio` finds it.
 use Rattle.std.proofs.Common.{◌≡◌, ℕ, ◌<◌, List, [], length, take, Some, option_map}
 use Rattle.std.specs.Prelude.{slice_get, ◌↔◌}
 use Rattle.intaglio_content.specs.Key.{Key}
@@ -30,7 +30,7 @@ module _ {C : Type 0} (key : C → Key) where
   pub same_symbol : (s : State C) (k l : Key) (i j : ℕ) → IsFound key s k i → IsFound key s l j → (k ≡ l) ↔ (i ≡ j)
   same_symbol = below.same_symbol key
 
-  -- where there is no content, nothing is found
+  -- if there are no contents, nothing is found
   pub empty-finds_nothing : (s : State C) → s.contents ≡ [] → FindsNothing key s
   empty-finds_nothing = below.empty-finds_nothing key
 
@@ -46,10 +46,10 @@ module _ {C : Type 0} (key : C → Key) where
   pub keeps-then : (old next new : State C) → Keeps key old next → Keeps key next new → Keeps key old new
   keeps-then = below.keeps-then key
 
-  -- what is kept stands at the front
+  -- the contents that are kept are the first ones afterwards
   pub keeps-front : (old new : State C) → Keeps key old new → take (length old.contents) new.contents ≡ old.contents
   keeps-front = below.keeps-front key
 
-  -- after contents came in order, each is found at the symbol that it was given
+  -- after contents were interned in order, each is found at the symbol that it was issued
   pub issued-each : (held cs : List C) (n : ℕ) (c : C) (i : ℕ) → slice_get cs n ≡ Some c → slice_get (issue_from key held cs) n ≡ Some i → first key (interned_all key held cs) (key c) ≡ Some i
   issued-each = below.issued-each key

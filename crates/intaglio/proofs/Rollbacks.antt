@@ -1,4 +1,4 @@
--- What a rollback to a mark restores, where what stood at the mark was kept since.
+-- What a rollback to a mark restores, if every call since the mark kept the contents.
 use Rattle.std.proofs.Common.{◌≡◌, ◌≤◌, ap, refl, arith, List, length, take, Result, Ok, Err, IsOk}
 use Rattle.std.proofs.lemmas.List.{length-take}
 use Rattle.intaglio_content.specs.Key.{Key}
@@ -9,7 +9,7 @@ use Rattle.intaglio_core.proofs.Laws.{keeps-front, restored}
 use Rattle.intaglio_symbol.specs.declared.error.StaleMark.{StaleMark}
 
 module _ {C : Type 0} (key : C → Key) where
-  -- what is kept stays as many
+  -- after a call that keeps the contents there are no fewer
   pub kept-count : (old next : State C) → Keeps key old next → length old.contents ≤ length next.contents
   kept-count old next kept =
       let front : length (take (length old.contents) next.contents) ≡ length old.contents = ap (λ (cs : List C). length cs) (keeps-front key old next kept) in
@@ -21,7 +21,7 @@ module _ {C : Type 0} (key : C → Key) where
     not_stale (Ok _) step = refl
     not_stale (Err _) step = let le = kept-count old next kept in let lt = step.0 in absurd (omega arith)
 
-    -- and the contents are those that stood at the mark
+    -- and the contents are those at the time of the mark
     pub rolled_back : (r : Result (Unit {0}) StaleMark) → TakesBack next (length old.contents) r new → new.contents ≡ old.contents
     rolled_back (Ok _) step = restored key old next new kept step
     rolled_back (Err _) step = let le = kept-count old next kept in let lt = step.0 in absurd (omega arith)

@@ -1,9 +1,9 @@
 //! Symbol tables: each distinct string gets a small stable number, and the number gives the string back.
 //!
-//! [`SymbolTable`] interns texts; each of the modules [`bytes`], [`bstr`], [`cstr`], [`osstr`] and
-//! [`path`] has a table: for byte strings, C strings, platform strings and paths. Each is a [`Table`]
-//! of one kind of content. It is proved that a table behaves as a plain list of distinct contents,
-//! whose symbols are their positions.
+//! [`SymbolTable`] interns texts. The modules [`bytes`], [`bstr`], [`cstr`], [`osstr`] and [`path`] have
+//! a table each, for bytes, byte strings, C strings, platform strings and paths. Each is a [`Table`] of
+//! one kind of content. It is proved that a table behaves as a plain list of distinct contents, whose
+//! symbols are their positions.
 #![tactic(auto)]
 
 pub mod bstr;

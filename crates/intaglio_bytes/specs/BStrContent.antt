@@ -1,4 +1,4 @@
--- What contracts read of a `BStrContent`.
+-- What a contract sees of a `BStrContent`.
 use Rattle.std.specs.Prelude.{ℕ, List}
 use Rattle.bstr.specs.BStr.{bstr_bytes}
 use Rattle.bstr.specs.Owned.{bstring_bytes}

@@ -1,4 +1,4 @@
--- What contracts read of a `BytesContent`.
+-- What a contract sees of a `BytesContent`.
 use Rattle.std.specs.Prelude.{ℕ, List}
 use Rattle.intaglio_bytes.specs.declared.bytes.content.BytesContent.{BytesContent}
 use Rattle.intaglio_bytes.specs.declared.bytes.content.BytesContent.TheVariants.{Borrowed, Owned}

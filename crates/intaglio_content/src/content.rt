@@ -29,7 +29,7 @@ pub trait Spelled: Content {
         ensures { result.now ≡ Self.spelling self.now };
 }
 
-/// A content that can be borrowed as a form with the same spelling.
+/// A content that can be borrowed as a form, such as `&str`, with the same spelling.
 pub trait Formed<'a>: Content {
     type Form: Drop;
 

@@ -1,4 +1,4 @@
-//! The six kinds of contents, by which a table's iterator over them has its name.
+//! Marker traits of the six kinds. Each decides the name of a table's iterator over its contents.
 use crate::content::Content;
 
 /// Contents that are texts. The iterator of their tables is `strings`.

@@ -1,11 +1,11 @@
 //! What tables store and compare.
 //!
 //! - [`Keyed`], [`Content`], [`Spelled`], [`Formed`], [`LookedUp`], [`Sought`] and [`ToContent`] say what a
-//!   content is, what finds it and what can be copied into one.
+//!   content is, what it can be looked up by, and what can be copied into one.
 //! - [`Work`] records, for contracts alone, what a call did.
 //! - [`Bytewise`] is for the kinds that are compared by their bytes; [`feed_item`] feeds one item of a key
 //!   into a hasher.
-//! - [`Forms`] and [`Pairs`] iterate over a list of contents; [`Texts`] and the like tell the kinds apart.
+//! - [`Forms`] and [`Pairs`] iterate over a list of contents; [`Texts`] and the like mark the six kinds.
 #![tactic(auto)]
 
 mod bytewise;

@@ -1,4 +1,4 @@
--- What contracts read of a `CStrContent`.
+-- What a contract sees of a `CStrContent`.
 use Rattle.std.specs.Prelude.{ℕ, List}
 use Rattle.intaglio_cstr.specs.CStr.{c_str_spelling}
 use Rattle.intaglio_cstr.specs.declared.content.CStrContent.{CStrContent}

@@ -1,4 +1,4 @@
--- What contracts read of a `KeyedState`.
+-- What a contract sees of a `KeyedState`.
 use Rattle.std.specs.Prelude.{ℕ}
 use Rattle.std.specs.Hash.{u64}
 use Rattle.std.specs.Hash.DefaultHasher.{with_keys, write, finish}

@@ -1,19 +1,19 @@
 #![tactic(auto)]
-//! A hasher with two keys: SipHash-1-3, with the values of std's hashers.
+//! A hash builder with two keys. Its hashers compute SipHash-1-3, as std's `DefaultHasher` does.
 //!
-//! A table hashes contents with the hashers of its builder. These are the builders to choose from:
+//! A table hashes contents with the hashers of its hash builder. These are the builders to choose from:
 //!
-//! - `BuildHasherDefault<FoldHasher>`, a table's default, has a fixed seed. Use it where nobody chooses
-//!   contents to slow the program down: it is the fastest of the three.
-//! - [`KeyedState`] has random keys, or two numbers. Use it where contents come from untrusted sources, or
-//!   where several tables or runs must agree on hashes.
-//! - std's `RandomState` has random keys. Use it where a type requires it: [`KeyedState::from_random`] has
-//!   keys that are as unpredictable, and is faster.
+//! - std's `BuildHasherDefault<FoldHasher>`, a table's default, has a fixed seed. Use it where nobody
+//!   chooses contents to slow the program down: it is the fastest of the three.
+//! - [`KeyedState`] has two keys: random ones, or two numbers of yours. Use it where contents come from
+//!   untrusted sources, or where several tables or runs must agree on hashes.
+//! - std's `RandomState` has random keys. Use it where a type requires it. [`KeyedState::from_random`]
+//!   computes its keys from one, and hashes faster.
 //!
 //! # What keys protect against
 //!
-//! Whoever can compute a table's hashes can find contents that all fall in one bucket. Each search
-//! among n of them then takes n steps. A fixed seed is the same in every program, so one such list
+//! Whoever can compute a table's hashes can find contents that all fall in one bucket. A search
+//! among n of them then takes up to n steps. A fixed seed is the same in every program, so one such list
 //! of contents works against all of them. With two random keys that stay secret, nobody is known to
 //! be able to find such contents.
 //!

@@ -1,4 +1,4 @@
--- What contracts read of a `PathContent`.
+-- What a contract sees of a `PathContent`.
 use Rattle.std.specs.Prelude.{ℕ, List, string_bytes}
 use Rattle.intaglio_path.specs.declared.content.PathContent.{PathContent}
 use Rattle.intaglio_path.specs.declared.content.PathContent.TheVariants.{Borrowed, Owned}

@@ -53,7 +53,7 @@ pointwise-range a zero b (suc n) = shorter a b n
 pointwise-range a (suc m) b zero = longer a b m
 pointwise-range a (suc m) b (suc n) = ap (λ rest. a == b && rest) (pointwise-range (a + 1) m (b + 1) n) ∙ heads a b m n
 
--- two such lists are equal exactly if they are as long, and begin alike where they have a number
+-- two such lists are equal exactly if they have the same length and, unless they are empty, the same first number
 pub pointwise-numbers_from : (a m b n : ℕ) → pointwise ◌==◌ (numbers_from a m) (numbers_from b n) ≡ (m == n && (m == 0 || a == b))
 unfolding numbers_from
 pointwise-numbers_from a m b n = pointwise-range a m b n

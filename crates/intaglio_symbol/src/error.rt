@@ -9,7 +9,8 @@ use std::error::Error;
 use std::fmt;
 use std::num::TryFromIntError;
 
-/// A number is too large for a symbol, or a table has issued all symbols. The type has one value.
+/// A number is too large for a symbol, or a table holds as many contents as its limit. The type has one
+/// value.
 #[derive(Debug, Clone, Copy, Hash, PartialEq, Eq, PartialOrd, Ord, Default)]
 pub struct SymbolOverflowError {
     private: (),
@@ -47,12 +48,12 @@ impl fmt::Display for SymbolOverflowError {
 
 impl Error for SymbolOverflowError {}
 
-/// Why a content wasn't interned. The table is unchanged, but for its capacity, which isn't lower.
+/// Why a content, or a batch, wasn't interned. The contents are unchanged, and the capacity isn't lower.
 #[derive(Debug, Clone, Copy, PartialEq, Eq)]
 pub enum InternError {
-    /// The table has issued all of its symbols.
+    /// A content is new, and the table holds as many as its limit.
     Overflow(SymbolOverflowError),
-    /// The table had to grow, and an allocation failed.
+    /// An allocation failed: for a growth of the table, for the copy of a form, or for a batch's lists.
     Memory(AllocError),
 }
 
@@ -87,11 +88,12 @@ impl From<AllocError> for InternError {
 
 /// Why a table wasn't made, or why a change of its capacity failed.
 ///
-/// After `CapacityOverflow` nothing has changed. After `Memory` a constructor has made no table; elsewhere
-/// the contents and their symbols are unchanged, and some part of the table may have grown or shrunk.
+/// After `CapacityOverflow` nothing has changed. After `Memory` a constructor has made no table, a reservation
+/// has left the contents unchanged and the capacity no lower, and a shrink has changed nothing.
 #[derive(Debug, Clone, Copy, PartialEq, Eq)]
 pub enum RoomError {
-    /// More capacity was requested than there are symbols. Nothing was allocated.
+    /// The requested capacity is above 2^32 or the table's limit, or the requested limit is 0 or above 2^32.
+    /// Nothing was allocated.
     CapacityOverflow,
     /// An allocation failed.
     Memory(AllocError),

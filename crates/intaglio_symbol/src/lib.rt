@@ -19,5 +19,5 @@ pub use error::{InternError, RoomError, StaleMark, SymbolOverflowError};
 pub use mark::Mark;
 pub use symbol::Symbol;
 
-/// How many contents a table has room for if its constructor takes no capacity.
+/// The capacity of a table whose constructor takes none.
 pub const DEFAULT_SYMBOL_TABLE_CAPACITY: usize = 4096;

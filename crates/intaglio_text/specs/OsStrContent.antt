@@ -1,4 +1,4 @@
--- What contracts read of an `OsStrContent`.
+-- What a contract sees of an `OsStrContent`.
 use Rattle.std.specs.Prelude.{ℕ, List, string_bytes}
 use Rattle.intaglio_text.specs.declared.osstr.content.OsStrContent.{OsStrContent}
 use Rattle.intaglio_text.specs.declared.osstr.content.OsStrContent.TheVariants.{Borrowed, Owned}

@@ -1,4 +1,4 @@
--- What contracts read of a `StrContent`.
+-- What a contract sees of a `StrContent`.
 use Rattle.std.specs.Prelude.{ℕ, List, string_bytes}
 use Rattle.intaglio_text.specs.declared.content.StrContent.{StrContent}
 use Rattle.intaglio_text.specs.declared.content.StrContent.TheVariants.{Borrowed, Owned}

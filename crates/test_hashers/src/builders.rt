@@ -1,21 +1,21 @@
-//! Builders of hashers.
+//! Hash builders that count their hashers, and hashers with known results.
 ghost use Rattle.std.specs.Prelude.{None, slice_get, unwrap_or};
 ghost use Rattle.std.specs.Option.{option_or};
 
 use std::cell::Cell;
 use std::hash::{BuildHasher, BuildHasherDefault, FoldHasher, Hash, Hasher, RandomState};
 
-/// Std's builder of fixed seed.
+/// Std's hash builder with a fixed seed.
 pub type Fold = BuildHasherDefault<FoldHasher>;
 
-/// The hash of a value by std's builder of fixed seed.
+/// The hash of a value by [`Fold`].
 pub fn hash_of<T: Hash + Drop>(value: T) -> u64 {
     Fold::new().hash_one(value)
 }
 
-/// A builder of hashers that may count how many it has made.
+/// A hash builder that may count the hashers that it has made.
 pub trait HasherCount: BuildHasher + Drop {
-    /// How many it has made, if it counts them.
+    /// The number of hashers that it has made, if it counts them.
     fn made(&self) -> Option<usize> {
         None
     }
@@ -25,7 +25,7 @@ impl HasherCount for BuildHasherDefault<FoldHasher> {}
 
 impl HasherCount for RandomState {}
 
-/// Finishes with a fixed number, if there is one, or else with the first byte that was written, or 0.
+/// A hasher that returns a fixed number, if there is one, or else the first byte that was written, or 0.
 #[derive(Clone, Copy)]
 pub struct Known {
     fixed: Option<u64>,
@@ -50,7 +50,7 @@ impl Hasher for Known {
     }
 }
 
-/// A builder of hashers with known hashes, which it counts.
+/// A hash builder that counts its hashers, whose hashes are known.
 #[derive(Drop)]
 pub struct Counted {
     fixed: Option<u64>,
@@ -58,7 +58,7 @@ pub struct Counted {
 }
 
 impl Counted {
-    /// For hashers that finish with this number, or else with the first byte that was written.
+    /// A builder whose hashers return this number, or if it is `None`, the first byte that was written, or 0.
     pub fn new(fixed: Option<u64>) -> Counted {
         Counted {
             fixed,

@@ -6,7 +6,8 @@ ghost use Rattle.std.specs.Cmp.Lexicographic.{pointwise};
 use crate::builders::HasherCount;
 use std::hash::{BuildHasher, Hasher};
 
-/// Finishes with 1 if it got exactly the expected writes in order, and else with 0.
+/// A hasher that returns 1 if it got exactly the expected writes in order, and otherwise 0. It is also the
+/// hash builder.
 #[derive(Clone, Copy)]
 pub struct ExpectedWrites {
     writes: &'static [&'static [u8]],
@@ -14,7 +15,7 @@ pub struct ExpectedWrites {
 }
 
 impl ExpectedWrites {
-    /// Expects these writes.
+    /// A hasher that expects these writes.
     pub fn of(writes: &'static [&'static [u8]]) -> ExpectedWrites {
         ExpectedWrites { writes, matched: 0 }
     }

@@ -1,5 +1,5 @@
-//! Builders of hashers for tests: with known hashes, with a count of what they made, and with the writes
-//! that they expect.
+//! Hash builders for tests: they have known hashes, count the hashers that they made, or expect certain
+//! writes.
 #![tactic(auto)]
 
 pub mod builders;
