@@ -88,7 +88,7 @@ fn single_calls<R: Print + Clock + AllocGlobal, S: BuildHasher>(
     measure(rt, table, plan, "refill", Operation::Intern(absent))
 }
 
-// The operations of single calls in batches, where there is a call that takes a batch.
+// The same operations in batches, as far as there is a call that takes a batch.
 fn batches<R: Print + Clock + AllocGlobal, S: BuildHasher>(
     rt: &R,
     table: &mut SymbolTable<S>,
@@ -119,7 +119,7 @@ fn shuffled_numbers(alloc: Global, plan: Plan) -> Result<Vec<u32>, AllocError> {
     Ok(shuffled)
 }
 
-// Words that differ from the first ones.
+// As many words, none of them among the first ones.
 fn other_words(alloc: Global, plan: Plan) -> Result<Vec<String>, AllocError> {
     words(alloc, &numbers(alloc, plan.size, plan.size)?)
 }
@@ -154,7 +154,7 @@ fn report<R: Print + Clock>(
     Ok(())
 }
 
-/// Prints the same line for hashing alone. The sum is that of the hashes.
+/// Prints such a line for hashing alone. The sum is that of the hashes.
 pub fn hash_alone<R: Print + Clock + AllocGlobal, S: BuildHasher>(
     rt: &R,
     table: &mut SymbolTable<S>,
@@ -165,7 +165,7 @@ pub fn hash_alone<R: Print + Clock + AllocGlobal, S: BuildHasher>(
 }
 
 /// Fills the table with words made one at a time, prints the number of texts and of their bytes, and returns
-/// when the input ends.
+/// when the input ends: the table's memory can be measured while it waits.
 pub fn hold<R: Print + Input + AllocGlobal, S: BuildHasher>(
     rt: &R,
     table: &mut SymbolTable<S>,
