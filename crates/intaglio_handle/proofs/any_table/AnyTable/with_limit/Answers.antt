@@ -1,5 +1,6 @@
 -- A new table of each kind.
 use Rattle.std.proofs.Common.{sym, ap, ◌∙◌, rules, Err, ◌≡◌}
+use Rattle.std.proofs.lemmas.Result.{IfOk-from_err}
 use Rattle.intaglio_bytes.specs.BStrContent.{bstr_content_bytes}
 use Rattle.intaglio_bytes.specs.BytesContent.{bytes_content_bytes}
 use Rattle.intaglio_path.specs.PathContent.{path_content_bytes}
@@ -64,3 +65,21 @@ returns-in_ok-with_limit-in-BStr-clause-overflow c = too_large_not _ _ c.in_ok-w
 
 pub returns-in_err-with_limit-in-BStr-clause-overflow : goal.returns-in_err-with_limit-in-BStr-clause-overflow
 returns-in_err-with_limit-in-BStr-clause-overflow c = too_large _ _ _ _ (let e : c.from_residual-in_err-with_limit-in-BStr.result ≡ Err c.in_err-with_limit-in-BStr.field-0.0 = search rules in e) c.in_err-with_limit-in-BStr.was c.with_limit-in-BStr.ensures.overflow
+
+pub returns-in_err-with_limit-in-Text-clause-made : goal.returns-in_err-with_limit-in-Text-clause-made
+returns-in_err-with_limit-in-Text-clause-made c = IfOk-from_err _ _ c.from_residual.ensures.0
+
+pub returns-in_err-with_limit-in-Bytes-clause-made : goal.returns-in_err-with_limit-in-Bytes-clause-made
+returns-in_err-with_limit-in-Bytes-clause-made c = IfOk-from_err _ _ c.from_residual-in_err-with_limit-in-Bytes.ensures.0
+
+pub returns-in_err-with_limit-in-CStr-clause-made : goal.returns-in_err-with_limit-in-CStr-clause-made
+returns-in_err-with_limit-in-CStr-clause-made c = IfOk-from_err _ _ c.from_residual-in_err-with_limit-in-CStr.ensures.0
+
+pub returns-in_err-with_limit-in-Path-clause-made : goal.returns-in_err-with_limit-in-Path-clause-made
+returns-in_err-with_limit-in-Path-clause-made c = IfOk-from_err _ _ c.from_residual-in_err-with_limit-in-Path.ensures.0
+
+pub returns-in_err-with_limit-in-OsStr-clause-made : goal.returns-in_err-with_limit-in-OsStr-clause-made
+returns-in_err-with_limit-in-OsStr-clause-made c = IfOk-from_err _ _ c.from_residual-in_err-with_limit-in-OsStr.ensures.0
+
+pub returns-in_err-with_limit-in-BStr-clause-made : goal.returns-in_err-with_limit-in-BStr-clause-made
+returns-in_err-with_limit-in-BStr-clause-made c = IfOk-from_err _ _ c.from_residual-in_err-with_limit-in-BStr.ensures.0
