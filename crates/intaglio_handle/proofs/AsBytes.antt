@@ -1,9 +1,10 @@
 -- What a change of a table is to the bytes of its contents.
-use Rattle.std.proofs.Common.{◌≡◌, ℕ, ◌-◌, ◌<◌, ◌≤◌, ◌⊎◌, inl, inr, le_refl, List, [], ◌∷◌, ◌++◌, length, map, take, refl, sym, ap, subst, ◌∙◌, arith}
-use Rattle.std.specs.Prelude.{Option, Some, None, MatchOption, Result, Ok, Err}
+use Rattle.std.proofs.Common.{◌≡◌, ℕ, ◌+◌, ◌-◌, ◌<◌, ◌≤◌, ◌⊎◌, inl, inr, le_refl, List, [], ◌∷◌, ◌++◌, length, map, take, refl, sym, ap, subst, ◌∙◌, arith}
+use Rattle.std.specs.Prelude.{max, ◌↔◌, option_map, slice_get, Option, Some, None, MatchOption, Result, Ok, Err}
 use Rattle.std.specs.List.{take-map}
 use Rattle.std.proofs.Math.Seq.{take-append_seam}
 use Rattle.std.proofs.lemmas.List.{length-append, length-map, map-append}
+use Rattle.std.proofs.lemmas.Option.{slice_get-map}
 use Rattle.intaglio_content.specs.Key.{Key}
 use Rattle.intaglio_core.specs.State.{State, Table, first, first_of}
 use Rattle.intaglio_core.specs.Change as core_change
@@ -13,6 +14,8 @@ use Rattle.intaglio_cstr.specs.Zeros.{without_last}
 use Rattle.intaglio_cstr.specs.declared.content.CStrContent.{CStrContent}
 use Rattle.intaglio_symbol.specs.declared.error.InternError.{InternError}
 use Rattle.intaglio_symbol.specs.declared.error.InternError.TheVariants.{Overflow, Memory}
+use Rattle.intaglio_symbol.specs.declared.error.RoomError.{RoomError}
+use Rattle.intaglio_symbol.specs.declared.error.RoomError.TheVariants as room_error
 use Rattle.intaglio_symbol.specs.declared.error.StaleMark.{StaleMark}
 use Rattle.intaglio_handle.specs.Kinds.{fault, key}
 use Rattle.intaglio_handle.specs.Answers.{symbol_answer}
@@ -40,6 +43,69 @@ module _ {C : Type 0} (bytes : C → List ℕ) where
         limit = cut.limit;
       }
   taken_back old new n (Err stale) kept = (subst (λ (m : ℕ). m < n) (sym (length-map old.contents bytes)) kept.0, ap (as_bytes bytes) kept.1)
+
+  -- a reservation
+  pub reserved : (old new : State C) (n : ℕ) (result : Result (Unit {0}) RoomError) → core_change.Reserves old n result new → core_change.Reserves (as_bytes bytes old) n result (as_bytes bytes new)
+  reserved old new n (Ok done) made =
+      let count = length-map old.contents bytes in record {
+        within_limit = subst (λ (m : ℕ). m + n ≤ old.limit) (sym count) made.within_limit;
+        enough = λ e. ap (as_bytes bytes) (made.enough e);
+        contents = ap (map bytes) made.contents;
+        spare = made.spare;
+        buckets = λ e. made.buckets (subst (λ (m : ℕ). m + n ≤ old.buckets) count e);
+        limit = made.limit;
+      }
+  reserved old new n (Err room_error.CapacityOverflow) kept = (subst (λ (m : ℕ). old.limit < m + n) (sym (length-map old.contents bytes)) kept.0, ap (as_bytes bytes) kept.1)
+  reserved old new n (Err (room_error.Memory _)) failed = record {
+    within_limit = subst (λ (m : ℕ). m + n ≤ old.limit) (sym (length-map old.contents bytes)) failed.within_limit;
+    missing = failed.missing;
+    contents = ap (map bytes) failed.contents;
+    spare = failed.spare;
+    buckets = failed.buckets;
+    limit = failed.limit;
+  }
+
+  -- a shrink
+  pub shrunk : (old new : State C) (n : ℕ) (result : Result (Unit {0}) RoomError) → core_change.Shrinks old n result new → core_change.Shrinks (as_bytes bytes old) n result (as_bytes bytes new)
+  shrunk old new n (Ok done) made =
+      let count = length-map old.contents bytes in let left = length-map new.contents bytes in record {
+        small = λ e. ap (as_bytes bytes) (made.small (subst (λ (m : ℕ). m + old.spare ≤ n) count e));
+        contents = ap (map bytes) made.contents;
+        buckets = λ e. made.buckets (subst (λ (m : ℕ). n < m + old.spare) count e) ∙ ap (λ (m : ℕ). max m n) (sym count);
+        spare = λ e. ap (λ (m : ℕ). m + new.spare) left ∙ made.spare (subst (λ (m : ℕ). n < m + old.spare) count e) ∙ ap (λ (m : ℕ). max m n) (sym count);
+        limit = made.limit;
+      }
+  shrunk old new n (Err room_error.CapacityOverflow) never = never
+  shrunk old new n (Err (room_error.Memory _)) kept = (subst (λ (m : ℕ). n < m + old.spare) (sym (length-map old.contents bytes)) kept.0, ap (as_bytes bytes) kept.1)
+
+module _ {C : Type 0} (kind : Kind) (bytes : C → List ℕ) where
+  -- bytes that the kind doesn't take
+  refused : (Refused : State (List ℕ) → State (List ℕ) → Type 0) (old : Seen) (t : Table C KeyedState) (b : List ℕ) (r : Refusal) (result : Result ℕ Refusal) → old ≡ seen_as kind bytes t → fault kind b ≡ Some r → result ≡ Err r
+      → IsChangedBy old (seen_as kind bytes t) (λ _ s'. InternsBy Refused b old.state (look_up old b) result s')
+  refused Refused old t b r result is fault_is err =
+      let s = as_bytes bytes t.state in
+      let step = subst (λ (f : Option Refusal). InternsBy Refused b s (unless f (position (seen_as kind bytes t) b)) result s) (sym fault_is) (err, refl) in
+      changed old kind bytes t t (λ _ x. InternsBy Refused b old.state (look_up old b) result x) is refl
+      (subst (λ (x : Seen). InternsBy Refused b x.state (look_up x b) result s) (sym is) step)
+
+  pub refused_form : (old : Seen) (t : Table C KeyedState) (b : List ℕ) (r : Refusal) (result : Result ℕ Refusal) → old ≡ seen_as kind bytes t → fault kind b ≡ Some r → result ≡ Err r → IsChangedBy old (seen_as kind bytes t) (λ _ s'. Interns b old result s')
+  refused_form = refused IsUncopied
+
+  pub refused_content : (old : Seen) (t : Table C KeyedState) (b : List ℕ) (r : Refusal) (result : Result ℕ Refusal) → old ≡ seen_as kind bytes t → fault kind b ≡ Some r → result ≡ Err r → IsChangedBy old (seen_as kind bytes t) (λ _ s'. InternsStatic b old result s')
+  refused_content = refused IsRefused
+
+-- whether a size is too large, by the result
+module _ {X Y E P : Type 0} where
+  pub too_large_not : (x : X) (y : Y) {e : E} → ((Ok x ≡ Err e) ↔ P) → (Ok y ≡ Err e) ↔ P
+  too_large_not x y over = (λ q. absurd (cc), λ p. absurd (let q = over.1 p in cc))
+
+  pub too_large : (r : Result Y E) (s : Result X E) (d e : E) → r ≡ Err d → s ≡ Err d → ((s ≡ Err e) ↔ P) → (r ≡ Err e) ↔ P
+  too_large r s d e err was over = (λ q. over.0 (let f : d ≡ e = cc in was ∙ ap Err f), λ p. let q = over.1 p in cc)
+
+-- the bytes of a symbol
+module _ {C : Type 0} (kind : Kind) (bytes : C → List ℕ) where
+  pub stored : (old : Seen) (t : Table C KeyedState) (i : ℕ) (o : Option (List ℕ)) → old ≡ seen_as kind bytes t → o ≡ option_map bytes (slice_get t.state.contents i) → o ≡ slice_get old.state.contents i
+  stored old t i o is found = subst (λ (x : Seen). o ≡ slice_get x.state.contents i) (sym is) (found ∙ sym (slice_get-map bytes t.state.contents i))
 
 -- a kind whose contents have their bytes' keys
 module _ {C : Type 0} (kind : Kind) (bytes : C → List ℕ) (content_key : C → Key) (same : (c : C) → content_key c ≡ key kind (bytes c)) where

@@ -1,23 +1,27 @@
 -- Which bytes a kind doesn't take.
-use Rattle.std.proofs.Common.{◌≡◌, ℕ, ◌+◌, ◌-◌, ◌<◌, true, false, List, length, refl, sym, ap, arith}
-use Rattle.std.specs.Prelude.{Option, Some, None, ◌==◌, IsUtf8}
+use Rattle.std.proofs.Common.{◌∙◌, Bool, ◌≡◌, ℕ, ◌+◌, ◌-◌, ◌<◌, true, false, List, length, refl, sym, ap, arith}
+use Rattle.std.specs.Prelude.{if◌then◌else◌, Option, Some, None, ◌==◌, IsUtf8}
 use Rattle.std.specs.Str.{is_utf8}
 use Rattle.std.proofs.lemmas.Bool.{eqb-true, eq-eqb, ne_eqb}
 use Rattle.std.proofs.lemmas.Option.{none-some}
 use Rattle.std.proofs.lemmas.Str.{IsUtf8-from_is_utf8, is_utf8-from_IsUtf8}
 use Rattle.intaglio_cstr.specs.Zeros.{EndsAtFirstZero, first_zero}
 use Rattle.intaglio_handle.specs.Kinds.{utf8_fault, zero_fault, zero_fault_at}
+use Rattle.intaglio_handle.specs.declared.refusal.Refusal.{Refusal}
 use Rattle.intaglio_handle.specs.declared.refusal.Refusal.TheVariants.{NotUtf8, InnerZero, MissingZero}
 
 -- texts
+abbrev utf8_fault_by : Bool → Option Refusal
+utf8_fault_by valid = if valid then None else Some NotUtf8
+
 pub good_text : (bs : List ℕ) → IsUtf8 bs → utf8_fault bs ≡ None
-good_text bs good = rw (is_utf8-from_IsUtf8 bs good) refl
+good_text bs good = ap utf8_fault_by (is_utf8-from_IsUtf8 bs good)
 
 pub bad_text : (bs : List ℕ) → ¬ (IsUtf8 bs) → utf8_fault bs ≡ Some NotUtf8
-bad_text bs bad = elim (is_utf8 bs) as (λ b. is_utf8 bs ≡ b → utf8_fault bs ≡ Some NotUtf8) [ true ↦ λ e. absurd (bad (IsUtf8-from_is_utf8 bs e)) | false ↦ λ e. rw e refl ] refl
+bad_text bs bad = elim (is_utf8 bs) as (λ b. is_utf8 bs ≡ b → utf8_fault bs ≡ Some NotUtf8) [ true ↦ λ e. absurd (bad (IsUtf8-from_is_utf8 bs e)) | false ↦ λ e. ap utf8_fault_by e ] refl
 
 pub is_text : (bs : List ℕ) → utf8_fault bs ≡ None → IsUtf8 bs
-is_text bs none = elim (is_utf8 bs) as (λ b. is_utf8 bs ≡ b → IsUtf8 bs) [ true ↦ λ e. IsUtf8-from_is_utf8 bs e | false ↦ λ e. absurd (none-some NotUtf8 (sym (rw e at none))) ] refl
+is_text bs none = elim (is_utf8 bs) as (λ b. is_utf8 bs ≡ b → IsUtf8 bs) [ true ↦ λ e. IsUtf8-from_is_utf8 bs e | false ↦ λ e. absurd (none-some NotUtf8 (sym none ∙ ap utf8_fault_by e)) ] refl
 
 -- C strings
 pub good_c_string : (bs : List ℕ) → EndsAtFirstZero bs → zero_fault bs ≡ None

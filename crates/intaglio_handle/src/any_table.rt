@@ -10,8 +10,8 @@ use intaglio_text::osstr::OsStrContent;
 
 pub(crate) mod batches;
 mod bytes;
-mod making;
-mod room;
+mod constructors;
+mod size;
 
 /// A table of one of the kinds.
 #[derive(Drop)]

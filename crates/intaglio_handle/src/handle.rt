@@ -4,10 +4,10 @@ ghost use Rattle.std.specs.Option.{option_map};
 ghost use Rattle.std.specs.declared.option.Option.TheVariants.{None, Some};
 
 mod batches;
-mod change;
 mod get;
 mod intern;
-mod make;
+mod lifecycle;
+mod size;
 
 use crate::any_table::AnyTable;
 use crate::box_parts::BoxParts;

@@ -7,17 +7,17 @@
 //! The crate `intaglio_c` exports these calls.
 #![tactic(auto)]
 
-mod answer;
 mod any_table;
 mod box_parts;
+mod codes;
 mod handle;
 mod kind;
 mod refusal;
 mod spelling;
 mod table_ptr;
 
-pub use answer::{code, symbol_code};
 pub use any_table::AnyTable;
+pub use codes::{code, symbol_code};
 pub use handle::Handle;
 pub use kind::Kind;
 pub use refusal::Refusal;

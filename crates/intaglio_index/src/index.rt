@@ -1,12 +1,12 @@
 //! The index, and its sizes.
 ghost use Rattle.std.specs.Prelude.{◌≡◌, ◌≤◌, length};
 
-mod changing;
+mod capacity;
 mod filter;
 mod head;
-mod making;
+mod lookup;
 mod modulus;
-mod walking;
+mod placement;
 
 use head::Head;
 use intaglio_symbol::Symbol;

@@ -7,7 +7,7 @@ ghost use Rattle.intaglio_handle.specs.Seen.{TakesStep, contents_of, look_up, se
 ghost use Rattle.intaglio_handle.specs.Steps.{Interns, InternsStatic};
 
 use super::AnyTable;
-use crate::answer::symbol_answer;
+use crate::codes::symbol_answer;
 use crate::refusal::Refusal;
 use bstr::BStr;
 use intaglio_bytes::b_str::BStrContent;
@@ -19,7 +19,6 @@ use intaglio_text::StrContent;
 use intaglio_text::osstr::OsStrContent;
 
 // The text with these bytes.
-#[tactic(auto, using(crate::proofs::Faults::good_text, crate::proofs::Faults::bad_text))]
 fn text_of(bytes: &[u8]) -> Result<&str, Refusal>
     ensures ok { IfOk result (λ text. text.now ≡ bytes.now) }
     ensures faultless { IfOk result (λ _. utf8_fault bytes.now ≡ None) }
@@ -49,14 +48,14 @@ impl AnyTable {
     pub(crate) fn bytes_at(&self, symbol: Symbol) -> Option<&[u8]>
         ensures bytes { option_map (λ bytes. bytes.now) result ≡ slice_get (contents_of self.now) symbol }
     {
-        Some(match self {
-            AnyTable::Text(table) => table.get(symbol)?.as_bytes(),
-            AnyTable::Bytes(table) => table.get(symbol)?,
-            AnyTable::CStr(table) => table.get(symbol)?.to_bytes_with_nul(),
-            AnyTable::Path(table) => table.get(symbol)?.as_str().as_bytes(),
-            AnyTable::OsStr(table) => table.get(symbol)?.as_bytes(),
-            AnyTable::BStr(table) => table.get(symbol)?.as_bytes(),
-        })
+        match self {
+            AnyTable::Text(table) => Some(table.get(symbol)?.as_bytes()),
+            AnyTable::Bytes(table) => table.get(symbol),
+            AnyTable::CStr(table) => Some(table.get(symbol)?.to_bytes_with_nul()),
+            AnyTable::Path(table) => Some(table.get(symbol)?.as_str().as_bytes()),
+            AnyTable::OsStr(table) => Some(table.get(symbol)?.as_bytes()),
+            AnyTable::BStr(table) => Some(table.get(symbol)?.as_bytes()),
+        }
     }
 
     // The symbol of the content that is equal to the one with these bytes, if there is one.

@@ -1,5 +1,5 @@
 -- An interning without a copy in the table of each kind.
-use Rattle.std.proofs.Common.{refl, ap}
+use Rattle.std.proofs.Common.{refl, ap, rules, Err, ◌≡◌}
 use Rattle.intaglio_bytes.specs.BStrContent.{bstr_content_bytes}
 use Rattle.intaglio_bytes.specs.BytesContent.{bytes_content_bytes}
 use Rattle.intaglio_path.specs.PathContent.{path_content_bytes}
@@ -13,7 +13,7 @@ use Rattle.intaglio_text.specs.declared.osstr.content.OsStrContent.TheVariants a
 use Rattle.intaglio_bytes.specs.declared.b_str.content.BStrContent.TheVariants as bstr
 use Rattle.intaglio_handle.specs.Seen.{seen, c_str_bytes}
 use Rattle.intaglio_handle.specs.declared.kind.Kind.TheVariants as kind
-use Rattle.intaglio_handle.proofs.AsBytes.{interned_content, c_str_key}
+use Rattle.intaglio_handle.proofs.AsBytes.{interned_content, refused_content, c_str_key}
 use Rattle.intaglio_handle.proofs.any_table.AnyTable.intern_static.Goals as goal
 
 pub returns-in_ok-text_of-in-Text : goal.returns-in_ok-text_of-in-Text
@@ -33,3 +33,15 @@ returns-in_ok-text_of-in-OsStr c = record { step = interned_content kind.OsStr o
 
 pub returns-in-BStr : goal.returns-in-BStr
 returns-in-BStr c = record { step = interned_content kind.BStr bstr_content_bytes _ (λ _. refl) _ _ c.intern-in-BStr.new.self (bstr.Borrowed c.new.result) c.args.bytes.now _ _ (ap seen c.in-BStr.is) c.intern-in-BStr.ensures.hasher refl c.new.ensures c.intern-in-BStr.ensures.step c.symbol_answer-in-BStr.ensures.answer }
+
+pub returns-in_err-text_of-in-Text : goal.returns-in_err-text_of-in-Text
+returns-in_err-text_of-in-Text c = record { step = refused_content kind.Text str_content_bytes _ _ _ _ _ (ap seen c.in-Text.is) c.in_err-text_of-in-Text.ensures.err (let e : c.from_residual.result ≡ Err c.in_err-text_of-in-Text.field-0.0 = search rules in e) }
+
+pub returns-in_err-c_str_of-in-CStr : goal.returns-in_err-c_str_of-in-CStr
+returns-in_err-c_str_of-in-CStr c = record { step = refused_content kind.CStr c_str_bytes _ _ _ _ _ (ap seen c.in-CStr.is) c.in_err-c_str_of-in-CStr.ensures.err (let e : c.from_residual-in_err-c_str_of-in-CStr.result ≡ Err c.in_err-c_str_of-in-CStr.field-0.0 = search rules in e) }
+
+pub returns-in_err-text_of-in-Path : goal.returns-in_err-text_of-in-Path
+returns-in_err-text_of-in-Path c = record { step = refused_content kind.Path path_content_bytes _ _ _ _ _ (ap seen c.in-Path.is) c.in_err-text_of-in-Path.ensures.err (let e : c.from_residual-in_err-text_of-in-Path.result ≡ Err c.in_err-text_of-in-Path.field-0.0 = search rules in e) }
+
+pub returns-in_err-text_of-in-OsStr : goal.returns-in_err-text_of-in-OsStr
+returns-in_err-text_of-in-OsStr c = record { step = refused_content kind.OsStr os_str_content_bytes _ _ _ _ _ (ap seen c.in-OsStr.is) c.in_err-text_of-in-OsStr.ensures.err (let e : c.from_residual-in_err-text_of-in-OsStr.result ≡ Err c.in_err-text_of-in-OsStr.field-0.0 = search rules in e) }

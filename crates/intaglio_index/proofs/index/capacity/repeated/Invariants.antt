@@ -1,5 +1,5 @@
 use Rattle.std.proofs.Common.{◌≡◌, ◌≤◌, replicate}
-use Rattle.intaglio_index.proofs.index.making.repeated.Given as goal
+use Rattle.intaglio_index.proofs.index.capacity.repeated.Given as goal
 
 abbrev pub invariant-loop-i : goal.invariant-loop-i
 invariant-loop-i g l = record { items : l.list.items ≡ replicate l._i l.value; room : l.count ≤ l.list.cap }

@@ -10,7 +10,7 @@ use crate::kind::Kind;
 use crate::refusal::Refusal;
 use intaglio_core::RoomError;
 use intaglio_hash::KeyedState;
-use std::alloc::Global;
+use std::alloc::{AllocError, Global};
 
 impl Handle {
     /// Frees the table, if there is one.
@@ -26,11 +26,13 @@ impl Handle {
         ensures refused { IfErr made (λ error. (result ≡ Err (room_refusal error)) × HoldsNone self.new) }
     {
         *self = Handle::none(alloc);
-        let Ok(table) = Box::new(alloc, made?) else {
-            return Err(Refusal::NoMemory);
-        };
-        self.put_back(table);
-        Ok(())
+        match Box::new(alloc, made?) {
+            Ok(table) => {
+                self.put_back(table);
+                Ok(())
+            }
+            Err(failed) => Err(Refusal::from(AllocError::from(failed))),
+        }
     }
 
     /// Puts a new table of a kind with exactly this capacity into the handle. The earlier one is freed.

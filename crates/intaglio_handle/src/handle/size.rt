@@ -1,10 +1,10 @@
-//! Measuring and changing tables.
+//! Length and capacity, and the calls that change them.
 ghost use Rattle.std.specs.Prelude.{◌≡◌};
 ghost use Rattle.intaglio_handle.specs.Handles.{Changes, Clears, Keeps, capacity, count, table_of};
 ghost use Rattle.intaglio_handle.specs.Steps.{Reserves, Shrinks, TakesBack};
 
 use super::Handle;
-use crate::answer::room_answer;
+use crate::codes::room_answer;
 use crate::refusal::Refusal;
 use intaglio_core::Mark;
 use std::alloc::Global;

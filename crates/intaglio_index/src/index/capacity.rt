@@ -1,4 +1,4 @@
-//! Construction and growth.
+//! Construction and capacity.
 ghost use Rattle.std.specs.Prelude.{◌≡◌, ◌<◌, ◌≤◌, [], length, replicate, None, IfOk, IsOk, OnErr, OnOk};
 ghost use Rattle.intaglio_index.specs.Change.{KeepsPlaces, KeepsBuckets, PlacesEach};
 

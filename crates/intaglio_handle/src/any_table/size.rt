@@ -1,4 +1,4 @@
-//! The calls that are the same for each kind.
+//! Length and capacity: the calls that are the same for each kind.
 ghost use Rattle.std.specs.Prelude.{◌≡◌, ◌+◌, length};
 ghost use Rattle.intaglio_core.specs.Change.{Empties, Reserves, Shrinks, TakesBack};
 ghost use Rattle.intaglio_handle.specs.Seen.{IsChanged, contents_of, seen};

@@ -1,4 +1,4 @@
-//! Walking along a bucket.
+//! Look-ups along a bucket.
 ghost use Rattle.std.specs.Prelude.{◌≡◌, ◌%◌, ◌<◌, ◌++◌, ◌∷◌, [], List, ℕ, length};
 ghost use Rattle.std.specs.Prelude.{None, Some, MatchOption, IfSome};
 ghost use Rattle.std.specs.Option.{option_map};
