@@ -26,6 +26,10 @@ use Rattle.intaglio_symbol.specs.declared.error.SymbolOverflowError.{SymbolOverf
 pub next-part : {X : Type 0} (xs : List X) (n : ℕ) (x : X) → n < length xs → x ≡ get_or xs n x → take (n + 1) xs ≡ take n xs ++ x ∷ []
 next-part xs n x lt is = rw (take_more xs n x lt, ← is) refl
 
+-- what each of some adds, and what the next one adds
+pub map-more : {X Y : Type 0} (f : X → Y) (xs : List X) (x : X) (before between after : List Y) → between ≡ before ++ map f xs → after ≡ between ++ f x ∷ [] → after ≡ before ++ map f (xs ++ x ∷ [])
+map-more f xs x before between after ran one = rw (one, ran, map-append f xs (x ∷ [])) (append_assoc before (map f xs) (f x ∷ []))
+
 pub whole-parts : {X : Type 0} (xs : List X) (n : ℕ) (x : X) → n < length xs → x ≡ get_or xs n x → take n xs ++ x ∷ drop (n + 1) xs ≡ xs
 whole-parts xs n x lt is =
     sym (append_assoc (take n xs) (x ∷ []) (drop (n + 1) xs)) ∙ ap (λ t. t ++ drop (n + 1) xs) (sym (next-part xs n x lt is)) ∙ take-append-drop (n + 1) xs
