@@ -1,4 +1,5 @@
 use Rattle.std.proofs.Common.{rules, ◌≡◌, [], ◌∷◌, Err, length-append, sym, le_refl, arith, append_assoc, append-nil, refl}
+use Rattle.std.proofs.lemmas.Grind.{common_steps}
 use Rattle.std.specs.Vec.Iter.{into_iter_items}
 use Rattle.intaglio_core.specs.State.{first}
 use Rattle.intaglio_core.proofs.Each.{Adds-each, keeps-interned, begins, stops, symbol-still, answer-at, place-within}
@@ -68,3 +69,8 @@ pub returns-in_err-intern_one-clause-table : goal.returns-in_err-intern_one-clau
 returns-in_err-intern_one-clause-table g c =
     let one = c.in_err-intern_one.ensures in
     keeps-interned g.T.Content.Keyed.key _ _ _ _ (g.T.Interner.state c.loop-content.table) (g.T.Interner.state c.intern_one.new.table) c.in-Some.content c.intern_one.result c.loop-content.invariant.table c.intern_one.ensures.step one.same_hash one.valid
+
+pub returns-clause-ok : goal.returns-clause-ok
+returns-clause-ok g c =
+    let all : c.loop-content.yielded ≡ c.args.contents.items = grind (arith, common_steps, c.in-None.ensures.steps, c.loop-content.invariant.whole) in
+    rw all at c.loop-content.invariant.ran

@@ -1,5 +1,5 @@
-use Rattle.std.proofs.Common.{refl, rules}
-use Rattle.std.proofs.lemmas.List.{map-append}
+use Rattle.std.proofs.Common.{◌≡◌, take, refl, rules}
+use Rattle.std.proofs.lemmas.List.{map-append, take_all}
 use Rattle.intaglio_content.specs.Work.{hashed}
 use Rattle.intaglio_core.proofs.ByForm.{map-more, next-part}
 use Rattle.intaglio_core.proofs.batch.forms.hash_forms.Goals as goal
@@ -13,3 +13,13 @@ loop-form-preserved g c =
       count = search rules;
       room = search rules;
     }
+
+pub returns-clause-hashes : goal.returns-clause-hashes
+returns-clause-hashes g c =
+    let all : take c.loop-form.form-index c.args.forms.now ≡ c.args.forms.now = take_all c.loop-form.form-index c.args.forms.now (search rules) in
+    rw all at c.loop-form.invariant.hashes
+
+pub returns-clause-cost : goal.returns-clause-cost
+returns-clause-cost g c =
+    let all : take c.loop-form.form-index c.args.forms.now ≡ c.args.forms.now = take_all c.loop-form.form-index c.args.forms.now (search rules) in
+    rw all at c.loop-form.invariant.events
