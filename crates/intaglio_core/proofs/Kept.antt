@@ -7,7 +7,9 @@ use Rattle.std.proofs.lemmas.List.{map-append, length-map, take-map, length-take
 use Rattle.intaglio_index.specs.Placed.{Placed}
 use Rattle.intaglio_content.specs.Key.{Key}
 use Rattle.intaglio_core.specs.State.{key_eq, first_of, AreDistinct, IsValid}
-use Rattle.intaglio_core.specs.Indexed.{IsIndexed}
+use Rattle.intaglio_core.specs.Change.{IsTaken}
+use Rattle.intaglio_core.specs.Indexed.{IsIndexed, FindsPlace}
+use Rattle.intaglio_content.specs.declared.work.Work.{Work}
 use Rattle.intaglio_core.proofs.First.{key_eq-decides}
 
 mapped-none : (o : Option ℕ) → option_map (λ i. 1 + i) o ≡ None → o ≡ None
@@ -43,6 +45,24 @@ distinct-take keys n le apart = λ i j d lt below.
     let a : i < n = omega arith in
     let b : j < n = omega arith in
     rw (get_or-take n keys i d a, get_or-take n keys j d b) (apart i j d lt (omega arith))
+
+-- a content is taken where a place was found for it
+pub list-taken : {C : Type 0} (cs : List C) (c : C) (n capacity more limit : ℕ) (old mid new : Placed) (before after : Work) → n ≡ length cs → length cs < limit → length cs ≤ old.room → old.room ≤ old.count
+    → capacity ≤ more → old.room ≤ mid.room → FindsPlace (length cs) limit old mid before after → new.count ≡ mid.count → new.room ≡ mid.room
+    → IsTaken (record { contents = cs; spare = min capacity old.room - length cs; buckets = old.count; limit = limit }) c n (record { contents = cs ++ c ∷ []; spare = min more new.room - length (cs ++ c ∷ []); buckets = new.count; limit = limit })
+list-taken cs c n capacity more limit old mid new before after at below within fits list index place count room =
+    let size : length (cs ++ c ∷ []) ≡ length cs + 1 = simp length-append in
+    record {
+      below_limit = below;
+      position = at;
+      contents = refl;
+      spare = λ some. (omega arith, count ∙ place.kept (omega arith));
+      growth = λ grew. elim (cases_lt (length cs) old.count) [
+        | inl inside ↦ absurd (grew (count ∙ place.kept inside))
+        | inr full ↦ (omega arith, rw count (place.grown full))
+      ];
+      limit = refl;
+    }
 
 module _ {C : Type 0} (key : C → Key) (hash : Key → ℕ) where
   pub indexed-push : (cs : List C) (c : C) (old new : Placed) (most h : ℕ) → IsIndexed key hash cs old most → first_of (map key cs) (key c) ≡ None → length cs < most

@@ -1,10 +1,10 @@
 -- Batches: contents, or forms of contents, that are interned in order after all of
 -- them were hashed and looked up.
-use Rattle.std.specs.Prelude.{◌≡◌, ◌⊎◌, ℕ, List, [], ◌∷◌, ◌++◌, map, Ok}
+use Rattle.std.specs.Prelude.{◌≡◌, ◌⊎◌, ℕ, List, [], ◌∷◌, ◌++◌, map, Ok, Err}
 use Rattle.intaglio_content.specs.Key.{Key}
 use Rattle.intaglio_content.specs.Work.{Event, hashed}
 use Rattle.intaglio_core.specs.State.{State, IsValid}
-use Rattle.intaglio_core.specs.Change.{Interns, InternsForm}
+use Rattle.intaglio_core.specs.Change.{HasNoLessRoom, Interns, InternsForm}
 use Rattle.intaglio_core.specs.Cost.{InOrder, KnownSearchCost, KnownInternCost}
 use Rattle.intaglio_symbol.specs.declared.error.InternError.{InternError}
 use Rattle.intaglio_symbol.specs.declared.error.InternError.TheVariants.{Overflow}
@@ -13,6 +13,13 @@ use Rattle.intaglio_symbol.specs.declared.error.InternError.TheVariants.{Overflo
 abbrev pub IfOverflow : InternError → Type 0 → Type 0
 IfOverflow (Overflow _) P = P
 IfOverflow _ P = Unit {0}
+
+-- what a batch leaves, also a failed one: a valid table with the same hash and limit, and no lower capacity
+pub record KeepsTable {C : Type 0} (key : C → Key) (old_hash : Key → ℕ) (old : State C) (new_hash : Key → ℕ) (new : State C) : Type 0 where
+  pub capacity : HasNoLessRoom old new
+  pub limit : new.limit ≡ old.limit
+  pub same_hash : new_hash ≡ old_hash
+  pub valid : IsValid key new
 
 module _ {C : Type 0} (key : C → Key) where
   -- one hashing of each
@@ -59,6 +66,15 @@ module _ {C : Type 0} (key : C → Key) (hash : Key → ℕ) where
     pub interns : InternsEach old before symbols internings held
     pub searches : KnownSearchCost key hash held (key refused) search
 
+  -- the state and the error of the failed one
+  pub record InternsUpTo (old : State C) (cs : List C) (e : InternError) (cost : List Event) (new : State C) : Type 0 where
+    pub some : InternsSome old cs cost
+    pub fails : Interns key some.held some.refused (Err e) new
+
+  -- internings in order, of which one failed, or whose list of symbols couldn't be allocated
+  abbrev pub FailsEach : State C → List C → InternError → List Event → State C → Type 0
+  FailsEach old cs e cost new = ((cost ≡ []) × IfOverflow e ⊥) ⊎ InternsUpTo old cs e cost new
+
   -- the cost of a batch that failed: nothing was done, or all were hashed, or then looked
   -- up, or then some were interned
   abbrev pub RefusedCost : State C → List C → List Event → Type 0
@@ -95,6 +111,15 @@ module _ {C Q : Type 0} (key : C → Key) (spelling : C → List ℕ) (form_key 
     pub parts : cost ≡ internings ++ search
     pub interns : InternsEachForm old before symbols internings held
     pub searches : KnownSearchCost key hash held (form_key refused) search
+
+  -- the state and the error of the failed one
+  pub record InternsFormsUpTo (old : State C) (qs : List Q) (e : InternError) (cost : List Event) (new : State C) : Type 0 where
+    pub some : InternsSomeForms old qs cost
+    pub fails : InternsForm key spelling some.held (form_key some.refused) (form_spelling some.refused) (Err e) new
+
+  -- internings by forms in order, of which one failed, or whose list of symbols couldn't be allocated
+  abbrev pub FailsEachForm : State C → List Q → InternError → List Event → State C → Type 0
+  FailsEachForm old qs e cost new = ((cost ≡ []) × IfOverflow e ⊥) ⊎ InternsFormsUpTo old qs e cost new
 
   -- the cost of a batch that failed: nothing was done, or all were hashed, or then looked
   -- up, or then some were interned

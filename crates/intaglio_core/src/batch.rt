@@ -1,13 +1,13 @@
 //! Batches: many contents are interned at once.
-ghost use Rattle.std.specs.Prelude.{◌≡◌, ◌<◌, ◌⊎◌, [], length, map, take};
+ghost use Rattle.std.specs.Prelude.{◌≡◌, ◌<◌, length, map, take};
 ghost use Rattle.std.specs.Prelude.{IfOk, IfErr, IfSome, OnOk, OnErr};
 ghost use Rattle.intaglio_core.specs.State.{first, IsValid};
-ghost use Rattle.intaglio_core.specs.Change.{Interns, HasNoLessRoom};
+ghost use Rattle.intaglio_core.specs.Change.{Interns};
 ghost use Rattle.intaglio_core.specs.Lookup.{IsFound, Keeps, FindsEach, StoresEach};
 ghost use Rattle.intaglio_core.specs.Cost.{Costs, KnownInternCost};
 ghost use Rattle.intaglio_core.specs.Issue.{issue_from, interned_all};
-ghost use Rattle.intaglio_core.specs.Batch.{IfOverflow, InternsEach};
-ghost use Rattle.intaglio_core.specs.Batch.{InternsAll, InternsSome, RefusedCost};
+ghost use Rattle.intaglio_core.specs.Batch.{IfOverflow, KeepsTable, InternsAll, RefusedCost};
+ghost use Rattle.intaglio_core.specs.Batch.{InternsEach, FailsEach};
 
 mod forms;
 
@@ -66,10 +66,8 @@ pub fn intern_all<T: Interner>(
     ensures refused_cost { OnErr result (Costs work.old work.new
         (RefusedCost T.Content.key (T.hash table.old) (T.state table.old) contents.items)) }
 
-    ensures capacity { HasNoLessRoom (T.state table.old) (T.state table.new) }
-    ensures limit { (T.state table.new).limit ≡ (T.state table.old).limit }
-    ensures same_hash { T.hash table.new ≡ T.hash table.old }
-    ensures valid { IsValid T.Content.key (T.state table.new) }
+    ensures table { KeepsTable T.Content.key (T.hash table.old) (T.state table.old)
+        (T.hash table.new) (T.state table.new) }
 {
     let mark = table.mark();
     let hashes = hash_forms(alloc, table, &contents, work)?;
@@ -97,21 +95,13 @@ fn intern_each<T: Interner>(
     ensures ok { IfOk result (λ symbols. Costs work.old work.new (λ cost.
         InternsEach T.Content.key (T.hash table.old) (T.state table.old)
         contents.items symbols.items cost (T.state table.new))) }
-    ensures symbols { IfOk result (λ symbols. symbols.items
-        ≡ issue_from T.Content.key (T.state table.old).contents contents.items) }
-    ensures held { OnOk result ((T.state table.new).contents
-        ≡ interned_all T.Content.key (T.state table.old).contents contents.items) }
-    ensures refused_cost { OnErr result (Costs work.old work.new (λ cost. (cost ≡ [])
-        ⊎ InternsSome T.Content.key (T.hash table.old) (T.state table.old)
-        contents.items cost)) }
+    ensures stops { IfErr result (λ e. Costs work.old work.new (λ cost.
+        FailsEach T.Content.key (T.hash table.old) (T.state table.old)
+        contents.items e cost (T.state table.new))) }
     ensures begins { let held = (T.state table.old).contents in
         OnErr result (take (length held) (T.state table.new).contents ≡ held) }
-    ensures overflow { IfErr result (λ e. IfOverflow e ((T.state table.old).limit < length
-        (interned_all T.Content.key (T.state table.old).contents contents.items))) }
-    ensures capacity { HasNoLessRoom (T.state table.old) (T.state table.new) }
-    ensures limit { (T.state table.new).limit ≡ (T.state table.old).limit }
-    ensures same_hash { T.hash table.new ≡ T.hash table.old }
-    ensures valid { IsValid T.Content.key (T.state table.new) }
+    ensures table { KeepsTable T.Content.key (T.hash table.old) (T.state table.old)
+        (T.hash table.new) (T.state table.new) }
 {
     let mut symbols = Vec::with_capacity(alloc, contents.len())?;
     for content in contents {

@@ -3,12 +3,13 @@ ghost use Rattle.std.specs.Prelude.{◌≡◌, ◌<◌, ◌++◌, ◌⊎◌, [],
 ghost use Rattle.std.specs.Prelude.{IfOk, IfErr, IfSome, OnOk, OnErr};
 ghost use Rattle.intaglio_core.specs.State.{first, IsValid};
 ghost use Rattle.intaglio_core.specs.Begun.{AreBegun};
-ghost use Rattle.intaglio_core.specs.Change.{InternsForm, HasNoLessRoom};
+ghost use Rattle.intaglio_core.specs.Change.{InternsForm};
 ghost use Rattle.intaglio_core.specs.Lookup.{IsFound, Keeps, FindsEachKey, StoresEachKey};
 ghost use Rattle.intaglio_core.specs.Cost.{Costs, KnownInternCost};
 ghost use Rattle.intaglio_core.specs.Issue.{issue_from, interned_all};
-ghost use Rattle.intaglio_core.specs.Batch.{IfOverflow, hashings, SearchesForms, ChecksForms};
-ghost use Rattle.intaglio_core.specs.Batch.{InternsEachForm, InternsForms, InternsSomeForms, RefusedFormsCost};
+ghost use Rattle.intaglio_core.specs.Batch.{IfOverflow, KeepsTable, InternsForms, RefusedFormsCost};
+ghost use Rattle.intaglio_core.specs.Batch.{hashings, SearchesForms, ChecksForms};
+ghost use Rattle.intaglio_core.specs.Batch.{InternsEachForm, FailsEachForm};
 
 use crate::begun::Begun;
 use crate::interner::Interner;
@@ -85,10 +86,8 @@ pub fn get_or_intern_all<T: Interner, Q: ToContent<T::Content>>(
         (RefusedFormsCost T.Content.key T.Content.spelling Q.key Q.form_spelling
         (T.hash table.old) (T.state table.old) forms.now)) }
 
-    ensures capacity { HasNoLessRoom (T.state table.old) (T.state table.new) }
-    ensures limit { (T.state table.new).limit ≡ (T.state table.old).limit }
-    ensures same_hash { T.hash table.new ≡ T.hash table.old }
-    ensures valid { IsValid T.Content.key (T.state table.new) }
+    ensures table { KeepsTable T.Content.key (T.hash table.old) (T.state table.old)
+        (T.hash table.new) (T.state table.new) }
 {
     let mark = table.mark();
     let hashes = hash_forms(alloc, table, forms, work)?;
@@ -210,25 +209,13 @@ fn intern_each_form<T: Interner, Q: ToContent<T::Content>>(
     ensures ok { IfOk result (λ symbols. Costs work.old work.new (λ cost.
         InternsEachForm T.Content.key T.Content.spelling Q.key Q.form_spelling (T.hash table.old)
         (T.state table.old) forms.now symbols.items cost (T.state table.new))) }
-    ensures symbols { let held = map T.Content.spelling (T.state table.old).contents in
-        let issued = issue_from T.Content.key_of held (map Q.form_spelling forms.now) in
-        IfOk result (λ symbols. symbols.items ≡ issued) }
-    ensures held { let held = map T.Content.spelling (T.state table.old).contents in
-        let all = interned_all T.Content.key_of held (map Q.form_spelling forms.now) in
-        OnOk result (map T.Content.spelling (T.state table.new).contents ≡ all) }
-    ensures refused_cost { OnErr result (Costs work.old work.new (λ cost. (cost ≡ [])
-        ⊎ InternsSomeForms T.Content.key T.Content.spelling Q.key Q.form_spelling (T.hash table.old)
-        (T.state table.old) forms.now cost)) }
-    ensures kept { Keeps T.Content.key (T.state table.old) (T.state table.new) }
+    ensures stops { IfErr result (λ e. Costs work.old work.new (λ cost.
+        FailsEachForm T.Content.key T.Content.spelling Q.key Q.form_spelling (T.hash table.old)
+        (T.state table.old) forms.now e cost (T.state table.new))) }
     ensures begins { let held = (T.state table.old).contents in
         OnErr result (take (length held) (T.state table.new).contents ≡ held) }
-    ensures overflow { let held = map T.Content.spelling (T.state table.old).contents in
-        let all = interned_all T.Content.key_of held (map Q.form_spelling forms.now) in
-        IfErr result (λ e. IfOverflow e ((T.state table.old).limit < length all)) }
-    ensures capacity { HasNoLessRoom (T.state table.old) (T.state table.new) }
-    ensures limit { (T.state table.new).limit ≡ (T.state table.old).limit }
-    ensures same_hash { T.hash table.new ≡ T.hash table.old }
-    ensures valid { IsValid T.Content.key (T.state table.new) }
+    ensures table { KeepsTable T.Content.key (T.hash table.old) (T.state table.old)
+        (T.hash table.new) (T.state table.new) }
 {
     let mut symbols = Vec::with_capacity(alloc, forms.len())?;
     for place in 0..forms.len() {
@@ -256,7 +243,6 @@ fn intern_one_form<T: Interner, Q: ToContent<T::Content>>(
     requires found { IfSome found (IsFound T.Content.key (T.state table.old) (Q.key form.now)) }
     ensures step { InternsForm T.Content.key T.Content.spelling (T.state table.old)
         (Q.key form.now) (Q.form_spelling form.now) result (T.state table.new) }
-    ensures kept { Keeps T.Content.key (T.state table.old) (T.state table.new) }
     ensures cost { let k = Q.key form.now in
         Costs work.old work.new
         (KnownInternCost T.Content.key (T.hash table.old) (T.state table.old) k result (T.state table.new)) }

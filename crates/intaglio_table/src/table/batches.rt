@@ -1,11 +1,10 @@
 //! Batches of contents or forms.
 ghost use Rattle.std.specs.Prelude.{◌≡◌, ◌<◌, length, map, IfErr, IfOk, OnErr, OnOk};
-ghost use Rattle.intaglio_content.specs.Key.{key_hash};
-ghost use Rattle.intaglio_core.specs.State.{first, IsValid};
-ghost use Rattle.intaglio_core.specs.Change.{HasNoLessRoom};
+ghost use Rattle.intaglio_content.specs.Key.{hash_of};
+ghost use Rattle.intaglio_core.specs.State.{first};
 ghost use Rattle.intaglio_core.specs.Lookup.{FindsEach, FindsEachKey, Keeps, StoresEach, StoresEachKey};
 ghost use Rattle.intaglio_core.specs.Issue.{interned_all, issue_from};
-ghost use Rattle.intaglio_core.specs.Batch.{IfOverflow};
+ghost use Rattle.intaglio_core.specs.Batch.{IfOverflow, KeepsTable};
 
 use super::Table;
 use intaglio_core::{
@@ -46,11 +45,8 @@ impl<C: Content + Sought<C> + Drop, S: BuildHasher> Table<C, S> {
         ensures refused { OnErr result (self.new.state.contents ≡ self.old.state.contents) }
         ensures overflow { let all = interned_all C.key self.old.state.contents contents.items in
             IfErr result (λ e. IfOverflow e (self.old.state.limit < length all)) }
-        ensures capacity { HasNoLessRoom self.old.state self.new.state }
-        ensures limit { self.new.state.limit ≡ self.old.state.limit }
-        ensures same_hash { let hash = key_hash S.Hasher.finish S.Hasher.write in
-            hash (S.build_hasher self.new.hasher) ≡ hash (S.build_hasher self.old.hasher) }
-        ensures valid { IsValid C.key self.new.state }
+        ensures table { let hash = hash_of S.BuildHasher S.Hasher.Hasher in
+            KeepsTable C.key (hash self.old.hasher) self.old.state (hash self.new.hasher) self.new.state }
     {
         let alloc = self.core.allocator();
         intern_all(alloc, &mut self.core, contents, &mut Work::new())
@@ -116,11 +112,8 @@ impl<'q, C: LookedUp<'q> + Sought<C> + Drop, S: BuildHasher> Table<C, S> {
         ensures overflow { let held = map C.spelling self.old.state.contents in
             let all = interned_all C.key_of held (map C.By.form_spelling forms.now) in
             IfErr result (λ e. IfOverflow e (self.old.state.limit < length all)) }
-        ensures capacity { HasNoLessRoom self.old.state self.new.state }
-        ensures limit { self.new.state.limit ≡ self.old.state.limit }
-        ensures same_hash { let hash = key_hash S.Hasher.finish S.Hasher.write in
-            hash (S.build_hasher self.new.hasher) ≡ hash (S.build_hasher self.old.hasher) }
-        ensures valid { IsValid C.key self.new.state }
+        ensures table { let hash = hash_of S.BuildHasher S.Hasher.Hasher in
+            KeepsTable C.key (hash self.old.hasher) self.old.state (hash self.new.hasher) self.new.state }
     {
         let alloc = self.core.allocator();
         get_or_intern_all(alloc, &mut self.core, forms, &mut Work::new())

@@ -30,6 +30,11 @@ loop-call-preserved g c = record {
   room = omega (arith, c.in-Some.ensures.steps);
 }
 
+pub returns-clause-ok : goal.returns-clause-ok
+returns-clause-ok g c =
+    let all : c.loop-call.yielded ≡ c.args.calls.items = grind (arith, common_steps, c.in-None.ensures.steps, c.loop-call.invariant.whole) in
+    rw all at c.loop-call.invariant.ran
+
 pub returns-clause-issues : goal.returns-clause-issues
 returns-clause-issues g c = λ cs empty interns none.
     let e : c.loop-call.yielded ≡ map Intern cs = grind (arith, common_steps, c.in-None.ensures.steps, c.loop-call.invariant.whole) in

@@ -1,5 +1,5 @@
-use Rattle.std.proofs.Common.{◌<◌, length, rules}
-use Rattle.std.proofs.lemmas.List.{take_more}
+use Rattle.std.proofs.Common.{◌≡◌, ◌<◌, length, take, rules}
+use Rattle.std.proofs.lemmas.List.{take_all, take_more}
 use Rattle.intaglio_core.proofs.Starts.{AreBegun-push}
 use Rattle.intaglio_core.proofs.batch.forms.begin_searches.Goals as goal
 
@@ -12,3 +12,8 @@ loop-place-preserved g c =
       count = search rules;
       room = search rules;
     }
+
+pub returns : goal.returns
+returns g c =
+    let all : take c.loop-place.place c.args.hashes.now ≡ c.args.hashes.now = take_all c.loop-place.place c.args.hashes.now (search rules) in
+    rw all at c.loop-place.invariant.begun

@@ -1,5 +1,5 @@
-use Rattle.std.proofs.Common.{◌<◌, length, refl, rules}
-use Rattle.std.proofs.lemmas.List.{map-append}
+use Rattle.std.proofs.Common.{◌≡◌, ◌<◌, length, take, refl, rules}
+use Rattle.std.proofs.lemmas.List.{map-append, take_all}
 use Rattle.intaglio_core.proofs.Starts.{AreBegun-length, begun-at}
 use Rattle.intaglio_core.proofs.ByForm.{next-part, Adds-search_form}
 use Rattle.intaglio_core.proofs.batch.forms.end_searches.Goals as goal
@@ -27,3 +27,13 @@ loop-place-preserved g c =
       count = search rules;
       room = search rules;
     }
+
+pub returns-clause-symbols : goal.returns-clause-symbols
+returns-clause-symbols g c =
+    let all : take c.loop-place.place c.args.forms.now ≡ c.args.forms.now = take_all c.loop-place.place c.args.forms.now (search rules) in
+    rw all at c.loop-place.invariant.symbols
+
+pub returns-clause-cost : goal.returns-clause-cost
+returns-clause-cost g c =
+    let all : take c.loop-place.place c.args.forms.now ≡ c.args.forms.now = take_all c.loop-place.place c.args.forms.now (search rules) in
+    rw all at c.loop-place.invariant.cost
