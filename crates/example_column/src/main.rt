@@ -19,16 +19,29 @@ fn column_of(alloc: Global, text: &'static str) -> Result<Column> {
     Ok(Column::encode(alloc, rows)?)
 }
 
+fn print_rows(rt: &impl Print, rows: &[&str]) -> Result<()> {
+    for row in rows {
+        println!(rt; "{row}")?;
+    }
+    Ok(())
+}
+
+fn print_comparison(rt: &impl Print, text: &str, has_same_codes: bool) -> Result<()> {
+    println!(rt; "{text}: same codes: {has_same_codes}")?;
+    Ok(())
+}
+
+// Prints whether the column of this text has the codes of the other.
+fn compare(rt: &(impl Print + AllocGlobal), column: &Column, text: &'static str) -> Result<()> {
+    let other = column_of(rt.alloc(), text)?;
+    print_comparison(rt, text, column.has_codes_of(&other))
+}
+
 fn main(rt: HostRuntime) -> Result<()> {
     let alloc = rt.alloc();
     let colours = column_of(alloc, "red green red blue green red")?;
-    for row in colours.decode(alloc)? {
-        println!(rt; "{row}")?;
-    }
+    print_rows(&rt, &colours.decode(alloc)?)?;
     println!(rt; "{} distinct", colours.distinct())?;
-    for text in ["1 2 1 3 2 1", "1 2 1 3 2 3"] {
-        let numbers = column_of(alloc, text)?;
-        println!(rt; "{text}: same codes: {}", colours.has_codes_of(&numbers))?;
-    }
-    Ok(())
+    compare(&rt, &colours, "1 2 1 3 2 1")?;
+    compare(&rt, &colours, "1 2 1 3 2 3")
 }

@@ -19,13 +19,13 @@ pub enum Kind {
 
 impl fmt::Display for Kind {
     fn fmt<W: fmt::Write>(&self, f: &mut fmt::Formatter<W>) -> fmt::Result {
-        match self {
-            Kind::Keyword => write!(f, "keyword"),
-            Kind::Identifier => write!(f, "identifier"),
-            Kind::Number => write!(f, "number"),
-            Kind::Blank => write!(f, "blank"),
-            Kind::Punctuation => write!(f, "punctuation"),
-        }
+        f.write_str(match self {
+            Kind::Keyword => "keyword",
+            Kind::Identifier => "identifier",
+            Kind::Number => "number",
+            Kind::Blank => "blank",
+            Kind::Punctuation => "punctuation",
+        })
     }
 }
 

@@ -42,8 +42,22 @@ fn spelled_twice(alloc: Global) -> Result<Symbol, TableError> {
     Ok(entry)
 }
 
-fn main(rt: HostRuntime) -> Result<()> {
-    let mut files = SymbolTable::new(rt.alloc())?;
+// Prints the entry of a path, under its first spelling.
+fn print_entry(rt: &impl Print, files: &mut SymbolTable, text: &'static str) -> Result<()> {
+    let entry = files.intern(PathContent::from(text))?;
+    if let Some(spelled) = files.get(entry) {
+        print_line(rt, entry.id(), text, spelled.as_str())?;
+    }
+    Ok(())
+}
+
+// Prints a path's entry, the path and the entry's first spelling.
+fn print_line(rt: &impl Print, id: u32, text: &str, spelled: &str) -> Result<()> {
+    println!(rt; "{id} {text} is {spelled}")?;
+    Ok(())
+}
+
+fn print_entries(rt: &impl Print, files: &mut SymbolTable) -> Result<()> {
     for text in [
         "src/main.rt",
         "src//main.rt",
@@ -52,10 +66,14 @@ fn main(rt: HostRuntime) -> Result<()> {
         "src/lib.rt/",
         "src/../src",
     ] {
-        let entry = files.intern(PathContent::from(text))?;
-        let spelled = files.get(entry).map_or("", |path| path.as_str());
-        println!(rt; "{} {text} is {spelled}", entry.id())?;
+        print_entry(rt, files, text)?;
     }
+    Ok(())
+}
+
+fn main(rt: HostRuntime) -> Result<()> {
+    let mut files = SymbolTable::new(rt.alloc())?;
+    print_entries(&rt, &mut files)?;
     let same = are_one_entry(&mut files, "src/main.rt", "src/./main.rt/")?;
     println!(rt; "one entry: {same}")?;
     println!(rt; "{}", spelled_twice(rt.alloc())?.id())?;

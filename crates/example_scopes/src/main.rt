@@ -46,6 +46,11 @@ fn visit(names: &mut SymbolTable, block: &'static str) -> Result<usize, InternEr
     Ok(added)
 }
 
+fn print_counts(rt: &impl Print, first: usize, second: usize, outside: usize) -> Result<()> {
+    println!(rt; "{first} and {second} names inside, {outside} outside")?;
+    Ok(())
+}
+
 fn main(rt: HostRuntime) -> Result<()> {
     let mut names = SymbolTable::new(rt.alloc())?;
     let symbol = names.intern(StrContent::from("x"))?;
@@ -54,10 +59,7 @@ fn main(rt: HostRuntime) -> Result<()> {
     let second = visit(&mut names, "p q y p")?;
     let found = names.check_interned("x");
     prove!(found == Some(symbol));
-    println!(rt;
-        "{first} and {second} names inside, {} outside",
-        names.len()
-    )?;
+    print_counts(&rt, first, second, names.len())?;
     println!(rt; "x is {} as before", symbol.id())?;
     Ok(())
 }

@@ -18,19 +18,19 @@ abbrev pub ReportsFirstUnfit : (List ℕ → Bool) → List ℕ → ToolError �
 ReportsFirstUnfit fits input error = IfZeroByte error (IsFirstUnfit fits input)
 
 -- a line wasn't interned
-abbrev pub IsTakingError : ToolError → Type 0
-IsTakingError (ZeroByte n) = Unit {0}
-IsTakingError Memory = Unit {0}
-IsTakingError Overflow = Unit {0}
-IsTakingError _ = ⊥
+abbrev pub IsInterningError : ToolError → Type 0
+IsInterningError (ZeroByte n) = Unit {0}
+IsInterningError Memory = Unit {0}
+IsInterningError Overflow = Unit {0}
+IsInterningError _ = ⊥
 
 -- the lines weren't interned, or their output wasn't written
-abbrev pub IsTakingOrWritingError : ToolError → Type 0
-IsTakingOrWritingError (ZeroByte n) = Unit {0}
-IsTakingOrWritingError Memory = Unit {0}
-IsTakingOrWritingError Overflow = Unit {0}
-IsTakingOrWritingError Write = Unit {0}
-IsTakingOrWritingError _ = ⊥
+abbrev pub IsInterningOrWritingError : ToolError → Type 0
+IsInterningOrWritingError (ZeroByte n) = Unit {0}
+IsInterningOrWritingError Memory = Unit {0}
+IsInterningOrWritingError Overflow = Unit {0}
+IsInterningOrWritingError Write = Unit {0}
+IsInterningOrWritingError _ = ⊥
 
 -- an input that was read wasn't encoded
 abbrev pub IsEncodingError : ToolError → Type 0
@@ -41,21 +41,21 @@ IsEncodingError Overflow = Unit {0}
 IsEncodingError Write = Unit {0}
 IsEncodingError _ = ⊥
 
--- the run ended because the input isn't UTF-8, or before the end of the input
-abbrev pub IsNotUtf8OrUnread : {T : Type 0} → Result T ToolError → Type 0
-IsNotUtf8OrUnread (Ok x) = ⊥
-IsNotUtf8OrUnread (Err NotUtf8) = Unit {0}
-IsNotUtf8OrUnread (Err Memory) = Unit {0}
-IsNotUtf8OrUnread (Err Read) = Unit {0}
-IsNotUtf8OrUnread (Err _) = ⊥
+-- the run failed: the input isn't UTF-8, or wasn't read to its end
+abbrev pub IsInputError : {T : Type 0} → Result T ToolError → Type 0
+IsInputError (Ok x) = ⊥
+IsInputError (Err NotUtf8) = Unit {0}
+IsInputError (Err Memory) = Unit {0}
+IsInputError (Err Read) = Unit {0}
+IsInputError (Err _) = ⊥
 
--- the error of a run for that of an interning
-abbrev pub refused_as : InternError → ToolError
-refused_as (intern_error.Overflow _) = Overflow
-refused_as (intern_error.Memory _) = Memory
+-- an interning's error as an error of a run
+abbrev pub from_intern_error : InternError → ToolError
+from_intern_error (intern_error.Overflow _) = Overflow
+from_intern_error (intern_error.Memory _) = Memory
 
--- the error of a run for that of a reader or a writer
-abbrev pub stopped_as : StreamError → ToolError
-stopped_as stream_error.Memory = Memory
-stopped_as stream_error.Read = Read
-stopped_as stream_error.Write = Write
+-- a stream's error as an error of a run
+abbrev pub from_stream_error : StreamError → ToolError
+from_stream_error stream_error.Memory = Memory
+from_stream_error stream_error.Read = Read
+from_stream_error stream_error.Write = Write

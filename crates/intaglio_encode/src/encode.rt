@@ -6,7 +6,7 @@ ghost use Rattle.intaglio_lines.specs.Kind.{is_fit};
 ghost use Rattle.intaglio_lines.specs.Puts.{Writes};
 ghost use Rattle.intaglio_encode.specs.Encodes.{Encodes, Forbids, IsTooMany};
 ghost use Rattle.intaglio_encode.specs.Taken.{AllFit, distinct_count};
-ghost use Rattle.intaglio_encode.specs.ToolError.{IsEncodingError, IsNotUtf8OrUnread, IsTakingOrWritingError};
+ghost use Rattle.intaglio_encode.specs.ToolError.{IsEncodingError, IsInputError, IsInterningOrWritingError};
 ghost use Rattle.intaglio_encode.specs.ToolError.{ReportsFirstUnfit};
 ghost use Rattle.intaglio_encode.specs.declared.error.ToolError.TheVariants.{NotUtf8, Overflow, Write as WriteFailed};
 
@@ -53,7 +53,7 @@ pub fn encode<S: BuildHasher + Drop, R: Read, W: Write>(
     ensures not_utf8 { result ≡ Err NotUtf8 → IfSome (R.remaining reader.old) (Forbids kind) }
     ensures end_met { result ≡ Err NotUtf8 → IsAtEnd (R.remaining reader.new) }
     ensures refuses { IfSome (R.remaining reader.old)
-        (λ input. Forbids kind input → IsNotUtf8OrUnread result) }
+        (λ input. Forbids kind input → IsInputError result) }
 
     // The first line that doesn't fit is reported by its number, and never passed over.
     ensures zero { IfSome (R.remaining reader.old)
@@ -115,7 +115,7 @@ fn encode_by<'a, C: FromLine<'a>, S: BuildHasher + Drop, W: Write>(
     ensures fit { OnOk result (AllFit C.fits input.now) }
     ensures overflow { result ≡ Err Overflow → 2 ^ 32 < distinct_count C.key_of input.now }
     ensures nothing_written { IfErr result (λ e. e ≢ WriteFailed → writer.new ≡ writer.old) }
-    ensures err { IfErr result IsTakingOrWritingError }
+    ensures err { IfErr result IsInterningOrWritingError }
 {
     let mut table = Table::<C, S>::with_hasher(alloc, builder)?;
     let symbols = take_lines(alloc, &mut table, input)?;

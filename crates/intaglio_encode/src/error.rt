@@ -1,6 +1,6 @@
 //! Errors of a run.
 ghost use Rattle.std.specs.Prelude.{◌≡◌};
-ghost use Rattle.intaglio_encode.specs.ToolError.{refused_as, stopped_as};
+ghost use Rattle.intaglio_encode.specs.ToolError.{from_intern_error, from_stream_error};
 ghost use Rattle.intaglio_encode.specs.declared.error.RunError.TheVariants.{Encode};
 ghost use Rattle.intaglio_encode.specs.declared.error.ToolError.TheVariants.{Memory};
 
@@ -59,7 +59,7 @@ impl From<RoomError> for ToolError {
 }
 
 impl From<InternError> for ToolError {
-    ghost from_gives = { λ refused error. error ≡ refused_as refused };
+    ghost from_gives = { λ refused error. error ≡ from_intern_error refused };
 
     fn from(refused: InternError) -> ToolError {
         match refused {
@@ -70,7 +70,7 @@ impl From<InternError> for ToolError {
 }
 
 impl From<StreamError> for ToolError {
-    ghost from_gives = { λ stopped error. error ≡ stopped_as stopped };
+    ghost from_gives = { λ stopped error. error ≡ from_stream_error stopped };
 
     fn from(stopped: StreamError) -> ToolError {
         match stopped {

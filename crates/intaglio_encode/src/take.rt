@@ -3,7 +3,7 @@ ghost use Rattle.std.specs.Prelude.{◌≡◌, ◌+◌, ◌<◌, ◌≤◌, true
 ghost use Rattle.intaglio_core.specs.Issue.{issue};
 ghost use Rattle.intaglio_lines.specs.Lines.{lines_of};
 ghost use Rattle.intaglio_encode.specs.Taken.{AllFit, Begins, BeginsUnfit, HoldsLines, distinct_count, fit_count};
-ghost use Rattle.intaglio_encode.specs.ToolError.{IsTakingError, ReportsFirstUnfit};
+ghost use Rattle.intaglio_encode.specs.ToolError.{IsInterningError, ReportsFirstUnfit};
 ghost use Rattle.intaglio_encode.specs.declared.error.ToolError.TheVariants.{Overflow};
 
 use crate::error::ToolError;
@@ -46,7 +46,7 @@ where
     ensures zero { IfErr result (ReportsFirstUnfit T.Content.fits input.now) }
     ensures overflow { result ≡ Err Overflow →
         (T.state table.old).limit < distinct_count T.Content.key_of input.now }
-    ensures err { IfErr result IsTakingError }
+    ensures err { IfErr result IsInterningError }
 {
     let mut symbols = Vec::new(alloc);
     let mut rest = input;

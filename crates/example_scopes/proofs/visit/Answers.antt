@@ -1,12 +1,11 @@
-use Rattle.std.proofs.Common.{arith}
 use Rattle.intaglio.specs.Keys.{str_key}
 use Rattle.intaglio.proofs.Rollbacks.{kept-count, not_stale, rolled_back}
 use Rattle.example_scopes.proofs.visit.Goals as goal
 
 pub overflow_sub-added : goal.overflow_sub-added
 overflow_sub-added c =
-    let le = kept-count str_key c.args.names.now.state c.declare-declared.new.names.state c.declare-declared.ensures.kept in
-    omega (arith, le, c.mark-entry.ensures, c.count.ensures, c.len.ensures.count)
+    rw (c.count.ensures, c.mark-entry.ensures, c.len.ensures.count)
+    (kept-count str_key c.args.names.now.state c.declare-declared.new.names.state c.declare-declared.ensures.kept)
 
 pub unwrap-requires : goal.unwrap-requires
 unwrap-requires c =
