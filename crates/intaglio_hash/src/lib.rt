@@ -27,8 +27,6 @@
 
 mod hasher;
 mod state;
-#[cfg(test)]
-mod tests;
 
 pub use hasher::KeyedHasher;
 pub use state::KeyedState;

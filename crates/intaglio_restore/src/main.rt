@@ -4,9 +4,6 @@
 ghost use Rattle.std.specs.Prelude.{◌≡◌, IfErr};
 ghost use Rattle.intaglio_lines.specs.declared.error.StreamError.TheVariants.{Memory};
 
-#[cfg(test)]
-mod tests;
-
 use intaglio_decode::serve::serve;
 use intaglio_lines::error::{StreamError, report};
 use std::env;

@@ -4,9 +4,6 @@
 ghost use Rattle.std.specs.Prelude.{◌≡◌, IfErr};
 ghost use Rattle.intaglio_encode.specs.declared.error.ToolError.TheVariants.{Memory};
 
-#[cfg(test)]
-mod tests;
-
 use intaglio_encode::error::ToolError;
 use intaglio_encode::serve::serve;
 use intaglio_lines::error::report;

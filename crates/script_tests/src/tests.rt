@@ -1,8 +1,9 @@
-//! What no contract says: vectors from outside, the tests of the ported crate, and each public call made once
-//! on each table.
+//! Tests of what no contract says: values from outside, the tests of the ported crate, and each public call once on
+//! tables of each kind.
 
 mod assertions;
 mod batches;
+mod calls;
 mod columns;
 mod contents;
 mod each;

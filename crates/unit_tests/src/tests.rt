@@ -1,4 +1,4 @@
-//! What no contract says: vectors from outside, the tests of the ported crate, and each public call made once.
+//! Tests of what no contract says: values from outside, the tests of the ported crate, and each public call once.
 
 mod assertions;
 mod buckets;
@@ -6,8 +6,11 @@ mod c_strings;
 mod components;
 mod conversions;
 mod core_calls;
+mod decoding;
+mod encoding;
 mod errors;
 mod feeds;
 mod forms;
+mod hashes;
 mod searches;
 mod symbols_to_come;

@@ -1,4 +1,4 @@
-//! Assertions as functions: each is proved once, so that a call costs a test no proof.
+//! Assertions as functions: each is proved once, however many tests call it.
 use std::fmt::Debug;
 use std::process::Abort;
 

@@ -1,30 +1,27 @@
-//! Calls that are made in one run.
+//! Scripts whose calls one call of `run` makes, on tables of each kind.
 use super::contents::Made;
+use super::each::{Trial, on_each, on_paths};
 use super::runs::runs;
-use intaglio::bstr::BStrContent;
-use intaglio::bytes::BytesContent;
-use intaglio::cstr::CStrContent;
-use intaglio::osstr::OsStrContent;
-use intaglio::path::PathContent;
-use intaglio::{StrContent, Table};
+use super::table::{Make, make_table};
 use std::alloc::Global;
 use std::process::Abort;
-use test_hashers::builders::Fold;
 
-// Makes the calls of a script in one run, on a table with this limit.
-fn runs_on<C: Made>(rt: &impl Abort, alloc: Global, limit: usize, script: &'static str) {
-    let made = Table::<C, Fold>::with_limit(alloc, limit, Fold::new());
-    runs(rt, alloc, made.expect(rt, "no table"), script);
+// A script whose calls are made in one run, on a table with this limit.
+#[derive(Clone, Copy)]
+struct Run {
+    limit: usize,
+    script: &'static str,
 }
 
-// The same on a table of each kind.
+impl Trial for Run {
+    fn try_on<C: Made, R: Abort>(&self, rt: &R, alloc: Global) {
+        let table = make_table::<C>(alloc, Make::Limited(self.limit)).expect(rt, "no table");
+        runs(rt, alloc, table, self.script);
+    }
+}
+
 fn runs_on_each(rt: &impl Abort, alloc: Global, limit: usize, script: &'static str) {
-    runs_on::<StrContent>(rt, alloc, limit, script);
-    runs_on::<OsStrContent>(rt, alloc, limit, script);
-    runs_on::<BytesContent>(rt, alloc, limit, script);
-    runs_on::<BStrContent>(rt, alloc, limit, script);
-    runs_on::<CStrContent>(rt, alloc, limit, script);
-    runs_on::<PathContent>(rt, alloc, limit, script);
+    on_each(rt, alloc, &Run { limit, script });
 }
 
 #[test]
@@ -126,5 +123,13 @@ fn equal_patterns_are_issued_equal_symbols(rt: HostRuntime) {
     runs_on_each(&rt, rt.alloc(), 4294967296, left);
     runs_on_each(&rt, rt.alloc(), 4294967296, right);
     let paths = "intern x/y > 0\nintern x > 1\nintern x//y > 0";
-    runs_on::<PathContent>(&rt, rt.alloc(), 4294967296, paths);
+    let limit = 4294967296;
+    on_paths(
+        &rt,
+        rt.alloc(),
+        &Run {
+            limit,
+            script: paths,
+        },
+    );
 }

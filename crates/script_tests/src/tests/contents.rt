@@ -1,14 +1,14 @@
-//! Contents of each kind, made from their spelling, and the bytes of what is read back.
+//! Contents of each kind, made from their spelling, and the calls that differ by kind.
+use super::calls::{Ask, answer, forms};
 use super::printed::paired;
-use super::steps::{Steps, walks};
-use super::table::{Found, Read, read_at, walk_pairs};
+use super::steps::{Steps, walk_pairs, walks};
 use intaglio::bstr::BStrContent;
 use intaglio::bytes::BytesContent;
 use intaglio::cstr::{CStr, CStrContent, CString};
 use intaglio::osstr::OsStrContent;
 use intaglio::path::{Path, PathContent};
-use intaglio::{Formed, InternError, Reply, Sought, Spelled, StrContent, Symbol, Table};
-use std::alloc::{AllocError, Global};
+use intaglio::{Formed, Reply, Sought, Spelled, StrContent, Table};
+use std::alloc::Global;
 use std::process::Abort;
 use std::str;
 use test_hashers::builders::HasherCount;
@@ -21,31 +21,17 @@ pub trait Made: Spelled + Sought<Self> + Drop {
     /// A borrowed content. A zero follows its spelling.
     fn borrowed(ended: &'static str) -> Option<Self>;
 
-    /// Looks it up by its borrowed form.
-    fn find_in<S: HasherCount>(&self, alloc: Global, table: &Table<Self, S>) -> Found;
+    /// Looks its borrowed form up, as `get_interned`.
+    fn pair_in<S: HasherCount>(&self, alloc: Global, table: &Table<Self, S>) -> Reply;
 
-    /// Interns its borrowed form.
-    fn put_form_in<S: HasherCount>(
-        &self,
-        table: &mut Table<Self, S>,
-    ) -> Result<Symbol, InternError>;
-
-    /// Interns the borrowed forms of contents as a batch.
-    fn put_forms_in<S: HasherCount>(
+    /// Makes a call by the borrowed forms of contents, and returns its result as text.
+    fn ask<R: Abort, S: HasherCount>(
+        rt: &R,
         alloc: Global,
-        contents: &[Self],
         table: &mut Table<Self, S>,
-    ) -> Result<Vec<Symbol>, InternError>;
-
-    /// Looks up the borrowed forms of contents as a batch.
-    fn find_forms_in<S: HasherCount>(
-        alloc: Global,
         contents: &[Self],
-        table: &Table<Self, S>,
-    ) -> Result<Vec<Option<Symbol>>, AllocError>;
-
-    /// Looks a symbol up.
-    fn read_in<S: HasherCount>(alloc: Global, table: &Table<Self, S>, symbol: Symbol) -> Read;
+        ask: Ask,
+    ) -> String;
 
     /// Makes the steps on the iterators of forms.
     fn go_through<R: Abort, S: HasherCount>(
@@ -54,16 +40,6 @@ pub trait Made: Spelled + Sought<Self> + Drop {
         table: &Table<Self, S>,
         steps: Steps,
     );
-}
-
-// The borrowed forms of contents.
-fn forms<'a, C: Formed<'a>>(alloc: Global, contents: &'a [C]) -> Result<Vec<C::Form>, AllocError> {
-    let mut forms = Vec::with_capacity(alloc, contents.len())?;
-    for content in contents {
-        forms.reserve(1)?;
-        forms.push_reserved(content.borrow());
-    }
-    Ok(forms)
 }
 
 fn text_of(alloc: Global, spelling: &[u8]) -> Option<String> {
@@ -79,46 +55,21 @@ impl Made for StrContent {
         Some(StrContent::from(ended.strip_suffix('\0')?))
     }
 
-    fn find_in<S: HasherCount>(&self, alloc: Global, table: &Table<StrContent, S>) -> Found {
-        Found {
-            check: Reply::Symbol(table.check_interned(self.form())),
-            pair: match table.get_interned(self.form()) {
-                None => Reply::Pair(None),
-                Some((symbol, form)) => paired(alloc, symbol, form),
-            },
-            is: Reply::Bool(table.is_interned(self.form())),
+    fn pair_in<S: HasherCount>(&self, alloc: Global, table: &Table<StrContent, S>) -> Reply {
+        match table.get_interned(self.form()) {
+            None => Reply::Pair(None),
+            Some((symbol, form)) => paired(alloc, symbol, form),
         }
     }
 
-    fn put_form_in<S: HasherCount>(
-        &self,
+    fn ask<R: Abort, S: HasherCount>(
+        rt: &R,
+        alloc: Global,
         table: &mut Table<StrContent, S>,
-    ) -> Result<Symbol, InternError> {
-        table.get_or_intern(self.form())
-    }
-
-    fn put_forms_in<S: HasherCount>(
-        alloc: Global,
         contents: &[StrContent],
-        table: &mut Table<StrContent, S>,
-    ) -> Result<Vec<Symbol>, InternError> {
-        table.get_or_intern_all(&forms(alloc, contents)?)
-    }
-
-    fn find_forms_in<S: HasherCount>(
-        alloc: Global,
-        contents: &[StrContent],
-        table: &Table<StrContent, S>,
-    ) -> Result<Vec<Option<Symbol>>, AllocError> {
-        table.check_all(&forms(alloc, contents)?)
-    }
-
-    fn read_in<S: HasherCount>(
-        alloc: Global,
-        table: &Table<StrContent, S>,
-        symbol: Symbol,
-    ) -> Read {
-        read_at(table, alloc, symbol)
+        ask: Ask,
+    ) -> String {
+        answer(rt, alloc, table, forms(rt, alloc, contents), ask)
     }
 
     fn go_through<R: Abort, S: HasherCount>(
@@ -141,46 +92,21 @@ impl Made for OsStrContent {
         Some(OsStrContent::from(ended.strip_suffix('\0')?))
     }
 
-    fn find_in<S: HasherCount>(&self, alloc: Global, table: &Table<OsStrContent, S>) -> Found {
-        Found {
-            check: Reply::Symbol(table.check_interned(self.form())),
-            pair: match table.get_interned(self.form()) {
-                None => Reply::Pair(None),
-                Some((symbol, form)) => paired(alloc, symbol, form),
-            },
-            is: Reply::Bool(table.is_interned(self.form())),
+    fn pair_in<S: HasherCount>(&self, alloc: Global, table: &Table<OsStrContent, S>) -> Reply {
+        match table.get_interned(self.form()) {
+            None => Reply::Pair(None),
+            Some((symbol, form)) => paired(alloc, symbol, form),
         }
     }
 
-    fn put_form_in<S: HasherCount>(
-        &self,
+    fn ask<R: Abort, S: HasherCount>(
+        rt: &R,
+        alloc: Global,
         table: &mut Table<OsStrContent, S>,
-    ) -> Result<Symbol, InternError> {
-        table.get_or_intern(self.form())
-    }
-
-    fn put_forms_in<S: HasherCount>(
-        alloc: Global,
         contents: &[OsStrContent],
-        table: &mut Table<OsStrContent, S>,
-    ) -> Result<Vec<Symbol>, InternError> {
-        table.get_or_intern_all(&forms(alloc, contents)?)
-    }
-
-    fn find_forms_in<S: HasherCount>(
-        alloc: Global,
-        contents: &[OsStrContent],
-        table: &Table<OsStrContent, S>,
-    ) -> Result<Vec<Option<Symbol>>, AllocError> {
-        table.check_all(&forms(alloc, contents)?)
-    }
-
-    fn read_in<S: HasherCount>(
-        alloc: Global,
-        table: &Table<OsStrContent, S>,
-        symbol: Symbol,
-    ) -> Read {
-        read_at(table, alloc, symbol)
+        ask: Ask,
+    ) -> String {
+        answer(rt, alloc, table, forms(rt, alloc, contents), ask)
     }
 
     fn go_through<R: Abort, S: HasherCount>(
@@ -203,46 +129,21 @@ impl Made for BytesContent {
         Some(BytesContent::from(ended.strip_suffix('\0')?.as_bytes()))
     }
 
-    fn find_in<S: HasherCount>(&self, alloc: Global, table: &Table<BytesContent, S>) -> Found {
-        Found {
-            check: Reply::Symbol(table.check_interned(self.form())),
-            pair: match table.get_interned(self.form()) {
-                None => Reply::Pair(None),
-                Some((symbol, form)) => paired(alloc, symbol, form),
-            },
-            is: Reply::Bool(table.is_interned(self.form())),
+    fn pair_in<S: HasherCount>(&self, alloc: Global, table: &Table<BytesContent, S>) -> Reply {
+        match table.get_interned(self.form()) {
+            None => Reply::Pair(None),
+            Some((symbol, form)) => paired(alloc, symbol, form),
         }
     }
 
-    fn put_form_in<S: HasherCount>(
-        &self,
+    fn ask<R: Abort, S: HasherCount>(
+        rt: &R,
+        alloc: Global,
         table: &mut Table<BytesContent, S>,
-    ) -> Result<Symbol, InternError> {
-        table.get_or_intern(self.form())
-    }
-
-    fn put_forms_in<S: HasherCount>(
-        alloc: Global,
         contents: &[BytesContent],
-        table: &mut Table<BytesContent, S>,
-    ) -> Result<Vec<Symbol>, InternError> {
-        table.get_or_intern_all(&forms(alloc, contents)?)
-    }
-
-    fn find_forms_in<S: HasherCount>(
-        alloc: Global,
-        contents: &[BytesContent],
-        table: &Table<BytesContent, S>,
-    ) -> Result<Vec<Option<Symbol>>, AllocError> {
-        table.check_all(&forms(alloc, contents)?)
-    }
-
-    fn read_in<S: HasherCount>(
-        alloc: Global,
-        table: &Table<BytesContent, S>,
-        symbol: Symbol,
-    ) -> Read {
-        read_at(table, alloc, symbol)
+        ask: Ask,
+    ) -> String {
+        answer(rt, alloc, table, forms(rt, alloc, contents), ask)
     }
 
     fn go_through<R: Abort, S: HasherCount>(
@@ -265,46 +166,21 @@ impl Made for BStrContent {
         Some(BStrContent::Borrowed(ended.strip_suffix('\0')?.into()))
     }
 
-    fn find_in<S: HasherCount>(&self, alloc: Global, table: &Table<BStrContent, S>) -> Found {
-        Found {
-            check: Reply::Symbol(table.check_interned(self.form())),
-            pair: match table.get_interned(self.form()) {
-                None => Reply::Pair(None),
-                Some((symbol, form)) => paired(alloc, symbol, form),
-            },
-            is: Reply::Bool(table.is_interned(self.form())),
+    fn pair_in<S: HasherCount>(&self, alloc: Global, table: &Table<BStrContent, S>) -> Reply {
+        match table.get_interned(self.form()) {
+            None => Reply::Pair(None),
+            Some((symbol, form)) => paired(alloc, symbol, form),
         }
     }
 
-    fn put_form_in<S: HasherCount>(
-        &self,
+    fn ask<R: Abort, S: HasherCount>(
+        rt: &R,
+        alloc: Global,
         table: &mut Table<BStrContent, S>,
-    ) -> Result<Symbol, InternError> {
-        table.get_or_intern(self.form())
-    }
-
-    fn put_forms_in<S: HasherCount>(
-        alloc: Global,
         contents: &[BStrContent],
-        table: &mut Table<BStrContent, S>,
-    ) -> Result<Vec<Symbol>, InternError> {
-        table.get_or_intern_all(&forms(alloc, contents)?)
-    }
-
-    fn find_forms_in<S: HasherCount>(
-        alloc: Global,
-        contents: &[BStrContent],
-        table: &Table<BStrContent, S>,
-    ) -> Result<Vec<Option<Symbol>>, AllocError> {
-        table.check_all(&forms(alloc, contents)?)
-    }
-
-    fn read_in<S: HasherCount>(
-        alloc: Global,
-        table: &Table<BStrContent, S>,
-        symbol: Symbol,
-    ) -> Read {
-        read_at(table, alloc, symbol)
+        ask: Ask,
+    ) -> String {
+        answer(rt, alloc, table, forms(rt, alloc, contents), ask)
     }
 
     fn go_through<R: Abort, S: HasherCount>(
@@ -328,46 +204,21 @@ impl Made for CStrContent {
         Some(CStrContent::from(CStr::from_bytes_with_nul(ended.as_bytes()).ok()?))
     }
 
-    fn find_in<S: HasherCount>(&self, alloc: Global, table: &Table<CStrContent, S>) -> Found {
-        Found {
-            check: Reply::Symbol(table.check_interned(self.form())),
-            pair: match table.get_interned(self.form()) {
-                None => Reply::Pair(None),
-                Some((symbol, form)) => paired(alloc, symbol, form),
-            },
-            is: Reply::Bool(table.is_interned(self.form())),
+    fn pair_in<S: HasherCount>(&self, alloc: Global, table: &Table<CStrContent, S>) -> Reply {
+        match table.get_interned(self.form()) {
+            None => Reply::Pair(None),
+            Some((symbol, form)) => paired(alloc, symbol, form),
         }
     }
 
-    fn put_form_in<S: HasherCount>(
-        &self,
+    fn ask<R: Abort, S: HasherCount>(
+        rt: &R,
+        alloc: Global,
         table: &mut Table<CStrContent, S>,
-    ) -> Result<Symbol, InternError> {
-        table.get_or_intern(self.form())
-    }
-
-    fn put_forms_in<S: HasherCount>(
-        alloc: Global,
         contents: &[CStrContent],
-        table: &mut Table<CStrContent, S>,
-    ) -> Result<Vec<Symbol>, InternError> {
-        table.get_or_intern_all(&forms(alloc, contents)?)
-    }
-
-    fn find_forms_in<S: HasherCount>(
-        alloc: Global,
-        contents: &[CStrContent],
-        table: &Table<CStrContent, S>,
-    ) -> Result<Vec<Option<Symbol>>, AllocError> {
-        table.check_all(&forms(alloc, contents)?)
-    }
-
-    fn read_in<S: HasherCount>(
-        alloc: Global,
-        table: &Table<CStrContent, S>,
-        symbol: Symbol,
-    ) -> Read {
-        read_at(table, alloc, symbol)
+        ask: Ask,
+    ) -> String {
+        answer(rt, alloc, table, forms(rt, alloc, contents), ask)
     }
 
     fn go_through<R: Abort, S: HasherCount>(
@@ -390,46 +241,21 @@ impl Made for PathContent {
         Some(PathContent::from(ended.strip_suffix('\0')?))
     }
 
-    fn find_in<S: HasherCount>(&self, alloc: Global, table: &Table<PathContent, S>) -> Found {
-        Found {
-            check: Reply::Symbol(table.check_interned(self.form())),
-            pair: match table.get_interned(self.form()) {
-                None => Reply::Pair(None),
-                Some((symbol, form)) => paired(alloc, symbol, form),
-            },
-            is: Reply::Bool(table.is_interned(self.form())),
+    fn pair_in<S: HasherCount>(&self, alloc: Global, table: &Table<PathContent, S>) -> Reply {
+        match table.get_interned(self.form()) {
+            None => Reply::Pair(None),
+            Some((symbol, form)) => paired(alloc, symbol, form),
         }
     }
 
-    fn put_form_in<S: HasherCount>(
-        &self,
+    fn ask<R: Abort, S: HasherCount>(
+        rt: &R,
+        alloc: Global,
         table: &mut Table<PathContent, S>,
-    ) -> Result<Symbol, InternError> {
-        table.get_or_intern(self.form())
-    }
-
-    fn put_forms_in<S: HasherCount>(
-        alloc: Global,
         contents: &[PathContent],
-        table: &mut Table<PathContent, S>,
-    ) -> Result<Vec<Symbol>, InternError> {
-        table.get_or_intern_all(&forms(alloc, contents)?)
-    }
-
-    fn find_forms_in<S: HasherCount>(
-        alloc: Global,
-        contents: &[PathContent],
-        table: &Table<PathContent, S>,
-    ) -> Result<Vec<Option<Symbol>>, AllocError> {
-        table.check_all(&forms(alloc, contents)?)
-    }
-
-    fn read_in<S: HasherCount>(
-        alloc: Global,
-        table: &Table<PathContent, S>,
-        symbol: Symbol,
-    ) -> Read {
-        read_at(table, alloc, symbol)
+        ask: Ask,
+    ) -> String {
+        answer(rt, alloc, table, forms(rt, alloc, contents), ask)
     }
 
     fn go_through<R: Abort, S: HasherCount>(
@@ -446,6 +272,13 @@ impl Made for PathContent {
 /// An owned content of this spelling.
 pub fn content<C: Made>(rt: &impl Abort, alloc: Global, spelling: &[u8]) -> C {
     C::owned(alloc, spelling).expect(rt, "no such content")
+}
+
+/// A content alone.
+pub fn alone<C: Drop>(rt: &impl Abort, alloc: Global, content: C) -> Vec<C> {
+    let mut contents = Vec::new(alloc);
+    contents.push(content).expect(rt, "memory");
+    contents
 }
 
 /// A borrowed content of this spelling, which a zero follows.

@@ -1,36 +1,42 @@
-//! Trials on tables of each of the six kinds.
-use super::contents::{Made, content};
-use super::loops::{gives, keeps, numbered};
+//! What is run on tables of each of the six kinds: scripts, steps on iterators, and more.
+use super::assertions::same;
+use super::calls::Ask;
+use super::contents::Made;
+use super::loops::{gives, interns, keeps};
 use super::printed::said;
-use super::script::{Line, plays, same, way};
+use super::script::{Line, plays, same_text, way};
 use super::steps::{Steps, walks};
-use super::table::{Make, New, Table};
+use super::table::{Make, Table, make_table};
 use crate::replies::roomy;
 use intaglio::bstr::BStrContent;
 use intaglio::bytes::BytesContent;
 use intaglio::cstr::CStrContent;
 use intaglio::osstr::OsStrContent;
 use intaglio::path::PathContent;
-use intaglio::{AllSymbols, Reply, StrContent, SymbolTable, bstr, bytes, cstr, osstr, path};
+use intaglio::{AllSymbols, StrContent};
 use std::alloc::Global;
-use std::hash::{BuildHasher, BuildHasherDefault, FoldHasher};
 use std::process::Abort;
-use test_hashers::builders::Counted;
+use test_hashers::builders::{Counted, hash_of};
 
 /// What can be tried on tables of any kind.
 pub trait Trial {
-    /// Tries it on tables of this type, which it makes.
-    fn try_on<T: New, R: Abort>(&self, rt: &R, alloc: Global);
+    /// Tries it on tables of this kind of content, which it makes.
+    fn try_on<C: Made, R: Abort>(&self, rt: &R, alloc: Global);
 }
 
 /// Runs the trial on tables of each kind.
 pub fn on_each<Q: Trial>(rt: &impl Abort, alloc: Global, trial: &Q) {
-    trial.try_on::<SymbolTable, _>(rt, alloc);
-    trial.try_on::<osstr::SymbolTable, _>(rt, alloc);
-    trial.try_on::<bytes::SymbolTable, _>(rt, alloc);
-    trial.try_on::<bstr::SymbolTable, _>(rt, alloc);
-    trial.try_on::<cstr::SymbolTable, _>(rt, alloc);
-    trial.try_on::<path::SymbolTable, _>(rt, alloc);
+    trial.try_on::<StrContent, _>(rt, alloc);
+    trial.try_on::<OsStrContent, _>(rt, alloc);
+    trial.try_on::<BytesContent, _>(rt, alloc);
+    trial.try_on::<BStrContent, _>(rt, alloc);
+    trial.try_on::<CStrContent, _>(rt, alloc);
+    trial.try_on::<PathContent, _>(rt, alloc);
+}
+
+/// Runs the trial on tables of paths.
+pub fn on_paths<Q: Trial>(rt: &impl Abort, alloc: Global, trial: &Q) {
+    trial.try_on::<PathContent, _>(rt, alloc);
 }
 
 /// A script, with one part for each table: how it is made, and the calls on it.
@@ -38,29 +44,24 @@ pub fn on_each<Q: Trial>(rt: &impl Abort, alloc: Global, trial: &Q) {
 pub struct Script(pub &'static str);
 
 impl Trial for Script {
-    fn try_on<T: New, R: Abort>(&self, rt: &R, alloc: Global) {
-        on::<T>(rt, alloc, self.0);
+    fn try_on<C: Made, R: Abort>(&self, rt: &R, alloc: Global) {
+        for part in self.0.split("\n\n") {
+            plays_part::<C>(rt, alloc, part);
+        }
     }
 }
 
-/// Makes the calls of a script on tables of this type.
-pub fn on<T: New>(rt: &impl Abort, alloc: Global, script: &'static str) {
-    for part in script.split("\n\n") {
-        plays_part::<T>(rt, alloc, part);
-    }
-}
-
-fn plays_part<T: New>(rt: &impl Abort, alloc: Global, part: &'static str) {
+fn plays_part<C: Made>(rt: &impl Abort, alloc: Global, part: &'static str) {
     let (first, rest) = part.split_once('\n').unwrap_or((part, ""));
     let line = Line::of(first).expect(rt, first);
-    match T::make(alloc, way(rt, line).expect(rt, first)) {
+    match make_table::<C>(alloc, way(rt, line).expect(rt, first)) {
         Ok(mut table) => {
-            same(rt, "done", line.wanted, first);
+            same_text(rt, "done", line.wanted, first);
             plays(rt, alloc, &mut table, rest);
         }
         Err(refused) => {
             let answer = said(rt, alloc, &roomy(Err(refused)));
-            same(rt, answer.as_str(), line.wanted, first);
+            same_text(rt, answer.as_str(), line.wanted, first);
         }
     }
 }
@@ -73,16 +74,12 @@ pub struct Walked {
 }
 
 impl Trial for Walked {
-    fn try_on<T: New, R: Abort>(&self, rt: &R, alloc: Global) {
-        let mut table: T = make(rt, alloc);
+    fn try_on<C: Made, R: Abort>(&self, rt: &R, alloc: Global) {
+        let mut table = make_table::<C>(alloc, Make::New).expect(rt, "no table");
         plays(rt, alloc, &mut table, self.words);
         walks(rt, alloc, table.symbols(), self.steps.symbols);
         table.go(rt, alloc, self.steps);
     }
-}
-
-fn make<T: New>(rt: &impl Abort, alloc: Global) -> T {
-    T::make(alloc, Make::New).expect(rt, "no table")
 }
 
 /// Exhausted symbol iterators, beside those of an empty table.
@@ -90,20 +87,18 @@ fn make<T: New>(rt: &impl Abort, alloc: Global) -> T {
 pub struct RunOut;
 
 impl Trial for RunOut {
-    fn try_on<T: New, R: Abort>(&self, rt: &R, alloc: Global) {
-        let empty: T = make(rt, alloc);
-        let mut one: T = make(rt, alloc);
-        gives(rt, one.put(content(rt, alloc, b"a")), numbered(0));
-        let mut symbols = one.symbols();
-        assert!(rt; symbols.next().is_some());
-        alike(rt, symbols, empty.symbols());
+    fn try_on<C: Made, R: Abort>(&self, rt: &R, alloc: Global) {
+        let empty = make_table::<C>(alloc, Make::New).expect(rt, "no table");
+        let mut one = make_table::<C>(alloc, Make::New).expect(rt, "no table");
+        interns(rt, alloc, &mut one, b"a", 0);
+        run_out(rt, one.symbols(), empty.symbols());
     }
 }
 
-fn alike(rt: &impl Abort, left: AllSymbols<'_>, right: AllSymbols<'_>) {
-    let builder = BuildHasherDefault::<FoldHasher>::new();
-    assert_eq!(rt; builder.hash_one(&left), builder.hash_one(&right));
-    assert!(rt; left == right);
+fn run_out(rt: &impl Abort, mut one: AllSymbols<'_>, empty: AllSymbols<'_>) {
+    same(rt, one.next().is_some(), true);
+    same(rt, one == empty, true);
+    same(rt, hash_of(one), hash_of(empty));
 }
 
 /// A content, in a new table.
@@ -111,10 +106,9 @@ fn alike(rt: &impl Abort, left: AllSymbols<'_>, right: AllSymbols<'_>) {
 pub struct Kept<'a>(pub &'a [u8]);
 
 impl<'a> Trial for Kept<'a> {
-    fn try_on<T: New, R: Abort>(&self, rt: &R, alloc: Global) {
-        let mut table: T = make(rt, alloc);
-        let before = table.find(alloc, &content(rt, alloc, self.0));
-        gives(rt, before.is, Reply::Bool(false));
+    fn try_on<C: Made, R: Abort>(&self, rt: &R, alloc: Global) {
+        let mut table = make_table::<C>(alloc, Make::New).expect(rt, "no table");
+        gives(rt, alloc, &mut table, self.0, Ask::IsInterned, "false");
         keeps(rt, alloc, &mut table, self.0, 0);
         keeps(rt, alloc, &mut table, self.0, 0);
     }
@@ -122,30 +116,22 @@ impl<'a> Trial for Kept<'a> {
 
 /// Makes the calls of a script on tables of this capacity, whose hashers finish with this number, or else
 /// with the first byte that was written.
-pub fn on_each_with(
-    rt: &impl Abort,
-    alloc: Global,
-    capacity: usize,
-    fixed: Option<u64>,
-    script: &'static str,
-) {
-    plays_counted::<StrContent>(rt, alloc, capacity, fixed, script);
-    plays_counted::<OsStrContent>(rt, alloc, capacity, fixed, script);
-    plays_counted::<BytesContent>(rt, alloc, capacity, fixed, script);
-    plays_counted::<BStrContent>(rt, alloc, capacity, fixed, script);
-    plays_counted::<CStrContent>(rt, alloc, capacity, fixed, script);
-    plays_counted::<PathContent>(rt, alloc, capacity, fixed, script);
+#[derive(Clone, Copy)]
+pub struct Hashed {
+    pub capacity: usize,
+    pub fixed: Option<u64>,
+    pub script: &'static str,
 }
 
-fn plays_counted<C: Made>(
-    rt: &impl Abort,
-    alloc: Global,
-    capacity: usize,
-    fixed: Option<u64>,
-    script: &'static str,
-) {
-    let hasher = Counted::new(fixed);
-    let made = intaglio::Table::<C, Counted>::with_capacity_and_hasher(alloc, capacity, hasher);
-    let mut table = made.expect(rt, "no table");
-    plays(rt, alloc, &mut table, script);
+impl Trial for Hashed {
+    fn try_on<C: Made, R: Abort>(&self, rt: &R, alloc: Global) {
+        let hasher = Counted::new(self.fixed);
+        let made = intaglio::Table::<C, Counted>::with_capacity_and_hasher(
+            alloc,
+            self.capacity,
+            hasher,
+        );
+        let mut table = made.expect(rt, "no table");
+        plays(rt, alloc, &mut table, self.script);
+    }
 }

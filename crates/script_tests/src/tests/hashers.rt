@@ -1,6 +1,6 @@
-//! Builders of hashers that count, and hashes that are bad.
+//! How many hashers a table makes, and tables whose hashes are equal, share buckets or are random.
 use super::assertions::same;
-use super::each::on_each_with;
+use super::each::{Hashed, on_each};
 use super::script::plays;
 use intaglio::path::{Path, PathContent};
 use intaglio::{Keyed, Sought, StrContent, SymbolTable, Work};
@@ -9,57 +9,64 @@ use test_hashers::builders::Counted;
 
 #[test]
 fn a_call_hashes_once_and_a_growth_never(rt: HostRuntime) {
-    on_each_with(
+    on_each(
         &rt,
         rt.alloc(),
-        0,
-        None,
-        "intern_all 100 > done
+        &Hashed {
+            capacity: 0,
+            fixed: None,
+            script: "intern_numbers 100 > done
 hashers > 100
-find_all 100 > done
+find_numbers 100 > done
 hashers > 400
 reserve 1000 > done
 hashers > 400
 take_back 50 > done
 shrink_to_fit > done
 hashers > 400",
+        },
     );
 }
 
 #[test]
 fn two_thousand_equal_hashes_on_each_table(rt: HostRuntime) {
-    on_each_with(
+    on_each(
         &rt,
         rt.alloc(),
-        0,
-        Some(7),
-        "intern_all 2000 > done
-check_all 2000 > done
+        &Hashed {
+            capacity: 0,
+            fixed: Some(7),
+            script: "intern_numbers 2000 > done
+check_numbers 2000 > done
 check 2000 > none",
+        },
     );
 }
 
 #[test]
 fn two_thousand_first_bytes_on_each_table(rt: HostRuntime) {
-    on_each_with(
+    on_each(
         &rt,
         rt.alloc(),
-        0,
-        None,
-        "intern_all 2000 > done
-check_all 2000 > done
+        &Hashed {
+            capacity: 0,
+            fixed: None,
+            script: "intern_numbers 2000 > done
+check_numbers 2000 > done
 check 2000 > none",
+        },
     );
 }
 
 #[test]
 fn a_cut_unlinks_each_symbol_of_a_bucket(rt: HostRuntime) {
-    on_each_with(
+    on_each(
         &rt,
         rt.alloc(),
-        4096,
-        Some(7),
-        "intern e0 > 0
+        &Hashed {
+            capacity: 4096,
+            fixed: Some(7),
+            script: "intern e0 > 0
 intern e1 > 1
 intern e2 > 2
 intern e3 > 3
@@ -81,6 +88,7 @@ check e6 > none
 check e7 > none
 check e8 > none
 check e9 > none",
+        },
     );
 }
 

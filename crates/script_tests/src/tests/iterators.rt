@@ -1,4 +1,4 @@
-//! The iterators of each table, from each end that they have.
+//! The iterators of tables of each kind, from both ends.
 use super::each::{RunOut, Walked, on_each};
 use super::steps::Steps;
 

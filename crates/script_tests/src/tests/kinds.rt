@@ -1,19 +1,20 @@
-//! What tells one kind of content from another.
+//! What only some kinds of content have: spellings of equal paths, zero bytes, and bytes that aren't UTF-8.
 use super::assertions::same;
-use super::each::{Kept, Trial, on, on_each};
-use super::table::New;
+use super::each::{Kept, Script, Trial, on_each, on_paths};
+use intaglio::bstr::BStrContent;
+use intaglio::bytes::BytesContent;
+use intaglio::cstr;
 use intaglio::cstr::{CStr, CStrContent};
-use intaglio::{bstr, bytes, cstr, path};
 use std::alloc::Global;
 use std::process::Abort;
-use std::test::Fail;
 
 #[test]
 fn spellings_of_a_path(rt: HostRuntime) {
-    on::<path::SymbolTable>(
+    on_paths(
         &rt,
         rt.alloc(),
-        "new > done
+        &Script(
+            "new > done
 intern a//b > 0
 intern a/b > 0
 get 0 > a//b
@@ -37,15 +38,17 @@ intern // > 2
 intern /. > 2
 intern .. > 3
 intern /.. > 4",
+        ),
     );
 }
 
 #[test]
 fn thirty_paths_have_sixteen_symbols(rt: HostRuntime) {
-    on::<path::SymbolTable>(
+    on_paths(
         &rt,
         rt.alloc(),
-        "new > done
+        &Script(
+            "new > done
 intern > 0
 intern . > 1
 intern ./ > 1
@@ -77,21 +80,24 @@ intern ... > 13
 intern .a/b. > 14
 intern a b/c > 15
 len > 16",
+        ),
     );
 }
 
 #[test]
 fn a_path_may_come_back_in_another_spelling(rt: HostRuntime) {
-    on::<path::SymbolTable>(
+    on_paths(
         &rt,
         rt.alloc(),
-        "with_hasher > done
+        &Script(
+            "with_hasher > done
 intern x > 0
 mark > 1
 intern a//b > 1
 take_back 1 > done
 intern a/b > 1
 get 1 > a/b",
+        ),
     );
 }
 
@@ -101,25 +107,22 @@ intern > 1
 intern \0\0 > 2
 intern \0 > 0";
 
-#[test]
-fn zeros_are_bytes(rt: HostRuntime) {
-    on::<bytes::SymbolTable>(&rt, rt.alloc(), ZEROS);
-    on::<bstr::SymbolTable>(&rt, rt.alloc(), ZEROS);
+fn on_bytes<Q: Trial>(rt: &impl Abort, alloc: Global, trial: &Q) {
+    trial.try_on::<BytesContent, _>(rt, alloc);
+    trial.try_on::<BStrContent, _>(rt, alloc);
 }
 
-fn is_kept<T: New>(rt: &impl Abort, alloc: Global, spelling: &[u8]) {
-    Kept(spelling).try_on::<T, _>(rt, alloc);
+#[test]
+fn zeros_are_bytes(rt: HostRuntime) {
+    on_bytes(&rt, rt.alloc(), &Script(ZEROS));
 }
 
 #[test]
 fn bytes_that_are_no_text_are_kept(rt: HostRuntime) {
-    is_kept::<bytes::SymbolTable>(&rt, rt.alloc(), b"\x00");
-    is_kept::<bytes::SymbolTable>(&rt, rt.alloc(), b"\xff");
-    is_kept::<bytes::SymbolTable>(&rt, rt.alloc(), b"\x00\xff\x00");
-    is_kept::<bstr::SymbolTable>(&rt, rt.alloc(), b"\x00");
-    is_kept::<bstr::SymbolTable>(&rt, rt.alloc(), b"\xff");
-    is_kept::<bstr::SymbolTable>(&rt, rt.alloc(), b"\x00\xff\x00");
-    is_kept::<cstr::SymbolTable>(&rt, rt.alloc(), b"\xff");
+    on_bytes(&rt, rt.alloc(), &Kept(b"\x00"));
+    on_bytes(&rt, rt.alloc(), &Kept(b"\xff"));
+    on_bytes(&rt, rt.alloc(), &Kept(b"\x00\xff\x00"));
+    Kept(b"\xff").try_on::<CStrContent, _>(&rt, rt.alloc());
 }
 
 #[test]
@@ -134,12 +137,18 @@ fn each_content_of_the_list_is_kept(rt: HostRuntime) {
     on_each(&rt, rt.alloc(), &Kept(long.as_slice()));
 }
 
+// Asserts that a table returns the bytes of a C string and the zero after them.
+fn keeps_the_zero(rt: &impl Abort, alloc: Global, ended: &'static [u8]) {
+    let mut table = cstr::SymbolTable::new(alloc).expect(rt, "no table");
+    let text = CStr::from_bytes_with_nul(ended).expect(rt, "no C string");
+    let symbol = table
+        .intern(CStrContent::from(text))
+        .expect(rt, "no symbol");
+    let stored = table.get(symbol).expect(rt, "no content");
+    same(rt, stored.to_bytes_with_nul(), ended);
+}
+
 #[test]
-fn a_zero_ends_a_c_string(rt: HostRuntime) -> Result<(), Fail> {
-    let mut table = cstr::SymbolTable::new(rt.alloc())?;
-    let text = CStr::from_bytes_with_nul(b"abc\x00")?;
-    let symbol = table.intern(CStrContent::from(text))?;
-    let stored = table.get(symbol).ok_or("no C string")?;
-    same(&rt, stored.to_bytes_with_nul(), b"abc\x00".as_slice());
-    Ok(())
+fn a_zero_ends_a_c_string(rt: HostRuntime) {
+    keeps_the_zero(&rt, rt.alloc(), b"abc\x00");
 }

@@ -1,6 +1,7 @@
-//! Replies with spellings, and replies as scripts write them.
+//! Results of calls as text, as scripts have them.
 use super::contents::Shown;
-use intaglio::{Reply, Symbol};
+use crate::replies::interned;
+use intaglio::{InternError, Reply, Symbol};
 use std::alloc::Global;
 use std::process::Abort;
 use std::str;
@@ -33,15 +34,25 @@ pub fn said(rt: &impl Abort, alloc: Global, reply: &Reply) -> String {
     }
 }
 
+/// The symbols of a batch as text, or the error.
+pub fn listed(rt: &impl Abort, alloc: Global, symbols: Result<Vec<Symbol>, InternError>) -> String {
+    match symbols {
+        Ok(symbols) => format!(in alloc; "{symbols:?}").expect(rt, "memory"),
+        Err(refused) => said(rt, alloc, &interned(Err(refused))),
+    }
+}
+
 /// A number as text.
 pub fn number(rt: &impl Abort, alloc: Global, number: usize) -> String {
     number.to_string(alloc).expect(rt, "memory")
 }
 
-/// A spelling as text.
+/// A spelling as text: its bytes, if it isn't UTF-8.
 pub fn text(rt: &impl Abort, alloc: Global, spelling: &[u8]) -> String {
-    let text = str::from_utf8(spelling).expect(rt, "no text");
-    text.to_string(alloc).expect(rt, "memory")
+    match str::from_utf8(spelling) {
+        Ok(text) => text.to_string(alloc).expect(rt, "memory"),
+        Err(_) => format!(in alloc; "{spelling:?}").expect(rt, "memory"),
+    }
 }
 
 /// A symbol and a spelling as text.

@@ -1,6 +1,5 @@
-//! Capacities, reservations, shrinks, limits and marks.
-use super::each::{Script, on, on_each};
-use intaglio::path;
+//! Capacities, reservations, shrinks, limits and rollbacks.
+use super::each::{Script, on_each, on_paths};
 
 #[test]
 fn tables_are_made_of_their_capacity(rt: HostRuntime) {
@@ -46,20 +45,20 @@ fn a_table_grows_from_nothing_to_a_hundred(rt: HostRuntime) {
         rt.alloc(),
         &Script(
             "with_capacity_and_hasher 0 > done
-intern_all 1 > done
+intern_numbers 1 > done
 fits 4 > true
-intern_all 5 > done
+intern_numbers 5 > done
 fits 8 > true
-intern_all 9 > done
+intern_numbers 9 > done
 fits 16 > true
-intern_all 17 > done
+intern_numbers 17 > done
 fits 32 > true
-intern_all 33 > done
+intern_numbers 33 > done
 fits 64 > true
-intern_all 65 > done
+intern_numbers 65 > done
 fits 128 > true
-intern_all 100 > done
-check_all 100 > done
+intern_numbers 100 > done
+check_numbers 100 > done
 fits 100 > true",
         ),
     );
@@ -213,15 +212,17 @@ intern d > 0",
 
 #[test]
 fn a_limit_counts_equal_paths_once(rt: HostRuntime) {
-    on::<path::SymbolTable>(
+    on_paths(
         &rt,
         rt.alloc(),
-        "with_limit 1 > done
+        &Script(
+            "with_limit 1 > done
 intern a/b > 0
 intern a//b > 0
 intern c > Symbol overflow
 get 0 > a/b
 len > 1",
+        ),
     );
 }
 

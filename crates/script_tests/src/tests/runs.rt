@@ -1,7 +1,7 @@
-//! Scripts whose calls are made in one run.
+//! Makes the calls of a script by one call of `run`.
 use super::contents::{Made, content, lent};
 use super::printed::said;
-use super::script::{Line, same, size, symbol};
+use super::script::{Line, same_text, size, symbol};
 use intaglio::{Call, Interner, Mark, Reply, Work, run};
 use std::alloc::Global;
 use std::process::Abort;
@@ -21,7 +21,7 @@ fn agree(rt: &impl Abort, alloc: Global, script: &'static str, replies: &[Reply]
     assert_eq!(rt; replies.len(), script.lines().count());
     for (text, reply) in script.lines().zip(replies.iter()) {
         let line = Line::of(text).expect(rt, text);
-        same(rt, said(rt, alloc, reply).as_str(), line.wanted, text);
+        same_text(rt, said(rt, alloc, reply).as_str(), line.wanted, text);
     }
 }
 

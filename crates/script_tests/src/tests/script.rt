@@ -1,8 +1,9 @@
 //! Scripts: each line has a call and its expected result.
-use super::contents::{content, lent};
-use super::loops::{checks_all, finds_all, interns_all, keeps_all};
-use super::printed::said;
-use super::table::{Counts, Found, Make, Read, Table, Update};
+use super::calls::Ask;
+use super::contents::{Made, alone, content, lent};
+use super::loops::{checks_numbers, finds_numbers, interns_numbers, keeps_numbers};
+use super::printed::{listed, said};
+use super::table::{Counts, Make, Table, Update};
 use crate::replies::counted;
 use intaglio::{Mark, Reply, Symbol};
 use std::alloc::Global;
@@ -36,7 +37,7 @@ pub fn symbol(rt: &impl Abort, word: &str) -> Symbol {
 }
 
 /// Asserts that the result is the one expected at this line.
-pub fn same(rt: &impl Abort, got: &str, wanted: &str, line: &str) {
+pub fn same_text(rt: &impl Abort, got: &str, wanted: &str, line: &str) {
     assert_eq!(rt; got, wanted, "{line}");
 }
 
@@ -56,35 +57,36 @@ pub fn way(rt: &impl Abort, line: Line) -> Option<Make> {
 pub fn plays<T: Table>(rt: &impl Abort, alloc: Global, table: &mut T, script: &'static str) {
     for text in script.lines() {
         let line = Line::of(text).expect(rt, text);
-        let reply = asks(rt, alloc, table, line).expect(rt, text);
-        same(rt, said(rt, alloc, &reply).as_str(), line.wanted, text);
+        let answer = answers(rt, alloc, table, line).expect(rt, text);
+        same_text(rt, answer.as_str(), line.wanted, text);
     }
 }
 
 // What the table returns for one call.
-fn asks<T: Table>(rt: &impl Abort, alloc: Global, table: &mut T, line: Line) -> Option<Reply> {
-    if let Some(reply) = puts(rt, alloc, table, line) {
-        return Some(reply);
+fn answers<T: Table>(rt: &impl Abort, alloc: Global, table: &mut T, line: Line) -> Option<String> {
+    if let Some(reply) = replies(rt, alloc, table, line) {
+        return Some(said(rt, alloc, &reply));
     }
-    if let Some(update) = update(rt, line) {
-        return Some(table.update(update));
+    if let Some(ask) = ask(rt, line) {
+        let contents = alone(rt, alloc, content(rt, alloc, line.word.as_bytes()));
+        return Some(table.ask(rt, alloc, &contents, ask));
     }
-    if let Some(reply) = finds(rt, alloc, table, line) {
-        return Some(reply);
-    }
-    counts(rt, table.counts(), line)
+    batches(rt, alloc, table, line)
 }
 
-fn puts<T: Table>(rt: &impl Abort, alloc: Global, table: &mut T, line: Line) -> Option<Reply> {
+fn replies<T: Table>(rt: &impl Abort, alloc: Global, table: &mut T, line: Line) -> Option<Reply> {
     match line.name {
         "intern" => Some(table.put(content(rt, alloc, line.word.as_bytes()))),
-        "get_or_intern" => Some(table.put_form(&content(rt, alloc, line.word.as_bytes()))),
         "lend" => Some(table.put(lent(rt, line.word))),
-        "intern_all" => Some(interns_all(rt, alloc, table, size(rt, line.word))),
-        "keep_all" => Some(keeps_all(rt, alloc, table, size(rt, line.word))),
-        "check_all" => Some(checks_all(rt, alloc, table, size(rt, line.word))),
-        "find_all" => Some(finds_all(rt, alloc, table, size(rt, line.word))),
-        _ => None,
+        "get_interned" => Some(table.pair(alloc, &content(rt, alloc, line.word.as_bytes()))),
+        "intern_numbers" => Some(interns_numbers(rt, alloc, table, size(rt, line.word))),
+        "keep_numbers" => Some(keeps_numbers(rt, alloc, table, size(rt, line.word))),
+        "check_numbers" => Some(checks_numbers(rt, alloc, table, size(rt, line.word))),
+        "find_numbers" => Some(finds_numbers(rt, alloc, table, size(rt, line.word))),
+        _ => match update(rt, line) {
+            Some(update) => Some(table.update(update)),
+            None => counts(rt, table.counts(), line),
+        },
     }
 }
 
@@ -100,26 +102,6 @@ fn update(rt: &impl Abort, line: Line) -> Option<Update> {
     }
 }
 
-fn finds<T: Table>(rt: &impl Abort, alloc: Global, table: &T, line: Line) -> Option<Reply> {
-    match line.name {
-        "check" => Some(found(rt, alloc, table, line).check),
-        "get_interned" => Some(found(rt, alloc, table, line).pair),
-        "is_interned" => Some(found(rt, alloc, table, line).is),
-        "contains" => Some(Reply::Bool(read(rt, alloc, table, line).contains)),
-        "get" => Some(read(rt, alloc, table, line).get),
-        "index" => Some(read(rt, alloc, table, line).index),
-        _ => None,
-    }
-}
-
-fn found<T: Table>(rt: &impl Abort, alloc: Global, table: &T, line: Line) -> Found {
-    table.find(alloc, &content(rt, alloc, line.word.as_bytes()))
-}
-
-fn read<T: Table>(rt: &impl Abort, alloc: Global, table: &T, line: Line) -> Read {
-    table.read(alloc, symbol(rt, line.word))
-}
-
 fn counts(rt: &impl Abort, counts: Counts, line: Line) -> Option<Reply> {
     match line.name {
         "len" => Some(Reply::Count(counts.len)),
@@ -131,4 +113,38 @@ fn counts(rt: &impl Abort, counts: Counts, line: Line) -> Option<Reply> {
         "hashers" => Some(counted(counts.hashers)),
         _ => None,
     }
+}
+
+fn ask(rt: &impl Abort, line: Line) -> Option<Ask> {
+    match line.name {
+        "get_or_intern" => Some(Ask::GetOrIntern),
+        "check" => Some(Ask::CheckInterned),
+        "is_interned" => Some(Ask::IsInterned),
+        "contains" => Some(Ask::Contains(symbol(rt, line.word))),
+        "get" => Some(Ask::Get(symbol(rt, line.word))),
+        "index" => Some(Ask::Index(symbol(rt, line.word))),
+        _ => None,
+    }
+}
+
+// The same for a batch of words.
+fn batches<T: Table>(rt: &impl Abort, alloc: Global, table: &mut T, line: Line) -> Option<String> {
+    let words = contents(rt, alloc, line.word);
+    match line.name {
+        "intern_all" => Some(listed(rt, alloc, table.put_all(words))),
+        "intaglio::intern_all" => Some(listed(rt, alloc, table.put_counted(alloc, words))),
+        "get_or_intern_all" => Some(table.ask(rt, alloc, &words, Ask::GetOrInternAll)),
+        "check_all" => Some(table.ask(rt, alloc, &words, Ask::CheckAll)),
+        _ => None,
+    }
+}
+
+fn contents<C: Made>(rt: &impl Abort, alloc: Global, words: &'static str) -> Vec<C> {
+    let mut contents = Vec::new(alloc);
+    for word in words.split_whitespace() {
+        contents
+            .push(content(rt, alloc, word.as_bytes()))
+            .expect(rt, "memory");
+    }
+    contents
 }

@@ -1,10 +1,11 @@
-//! Steps on iterators.
+//! Scripts for iterators: each line has a step and its expected result.
 use super::contents::Shown;
 use super::printed::{number, numbered, text};
-use super::script::same;
-use intaglio::{AllSymbols, Formed, Forms, Pairs, Symbol};
+use super::script::same_text;
+use intaglio::{AllSymbols, Formed, Forms, Pairs, Symbol, Table};
 use std::alloc::Global;
 use std::process::Abort;
+use test_hashers::builders::HasherCount;
 
 /// Scripts whose lines have the steps on an iterator and their expected results.
 #[derive(Clone, Copy)]
@@ -28,8 +29,22 @@ pub fn walks<W: Walk>(rt: &impl Abort, alloc: Global, mut walked: W, script: &st
     for line in script.lines() {
         let (step, wanted) = line.split_once(" > ").expect(rt, line);
         let answer = walked.step(rt, alloc, step).expect(rt, line);
-        same(rt, answer.as_str(), wanted, line);
+        same_text(rt, answer.as_str(), wanted, line);
     }
+}
+
+/// Makes the steps on the iterator of symbols and forms of a table.
+pub fn walk_pairs<'a, C: Formed<'a>, S: HasherCount>(
+    rt: &impl Abort,
+    alloc: Global,
+    table: &'a Table<C, S>,
+    pairs: &str,
+)
+where
+    C::Form: Shown,
+{
+    walks(rt, alloc, table.iter(), pairs);
+    walks(rt, alloc, table.into_iter(), pairs);
 }
 
 fn none(rt: &impl Abort, alloc: Global) -> String {

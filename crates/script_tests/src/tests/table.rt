@@ -1,10 +1,10 @@
-//! The calls of a table, as scripts make them, for tables of any kind.
-use super::contents::{Made, Shown};
-use super::printed::spelled;
-use super::steps::{Steps, walks};
+//! A trait with the calls of a table and no contract, so that its callers are proved without that of each call.
+use super::calls::Ask;
+use super::contents::Made;
+use super::steps::Steps;
 use crate::replies::{interned, roomy, taken};
-use intaglio::{AllSymbols, Formed, InternError, Mark, Reply, RoomError, Symbol};
-use std::alloc::{AllocError, Global};
+use intaglio::{AllSymbols, InternError, Mark, Reply, RoomError, Symbol, Work, intern_all};
+use std::alloc::Global;
 use std::process::Abort;
 use test_hashers::builders::{Fold, HasherCount};
 
@@ -40,28 +40,6 @@ pub enum Update {
     TakeBack(Mark),
 }
 
-/// What the look-ups by a content return.
-#[derive(Drop)]
-pub struct Found {
-    /// That of `check_interned`.
-    pub check: Reply,
-    /// That of `get_interned`.
-    pub pair: Reply,
-    /// That of `is_interned`.
-    pub is: Reply,
-}
-
-/// What the look-ups by a symbol return.
-#[derive(Drop)]
-pub struct Read {
-    /// That of `contains`.
-    pub contains: bool,
-    /// That of `get`.
-    pub get: Reply,
-    /// That of `table[symbol]`, if the symbol was issued.
-    pub index: Reply,
-}
-
 /// The numbers of a table.
 #[derive(Drop)]
 pub struct Counts {
@@ -82,34 +60,24 @@ pub trait Table: Drop {
     /// As `intern`.
     fn put(&mut self, content: Self::Kind) -> Reply;
 
-    /// As `get_or_intern`.
-    fn put_form(&mut self, form: &Self::Kind) -> Reply;
-
     /// As `intern_all`.
     fn put_all(&mut self, contents: Vec<Self::Kind>) -> Result<Vec<Symbol>, InternError>;
 
-    /// As `get_or_intern_all`.
-    fn put_forms(
+    /// By the function `intern_all`.
+    fn put_counted(
         &mut self,
         alloc: Global,
-        contents: &[Self::Kind],
+        contents: Vec<Self::Kind>,
     ) -> Result<Vec<Symbol>, InternError>;
 
-    /// As `check_all`.
-    fn find_forms(
-        &self,
-        alloc: Global,
-        contents: &[Self::Kind],
-    ) -> Result<Vec<Option<Symbol>>, AllocError>;
+    /// As `get_interned`.
+    fn pair(&self, alloc: Global, sought: &Self::Kind) -> Reply;
+
+    /// Makes a call by the borrowed forms of contents.
+    fn ask<R: Abort>(&mut self, rt: &R, alloc: Global, contents: &[Self::Kind], ask: Ask) -> String;
 
     /// Makes a call that changes the table.
     fn update(&mut self, update: Update) -> Reply;
-
-    /// Looks a content up.
-    fn find(&self, alloc: Global, sought: &Self::Kind) -> Found;
-
-    /// Looks a symbol up.
-    fn read(&self, alloc: Global, symbol: Symbol) -> Read;
 
     /// Gets the numbers.
     fn counts(&self) -> Counts;
@@ -121,49 +89,6 @@ pub trait Table: Drop {
     fn go<R: Abort>(&self, rt: &R, alloc: Global, steps: Steps);
 }
 
-/// A table with std's builder of fixed seed.
-pub trait New: Table {
-    /// Makes a table.
-    fn make(alloc: Global, how: Make) -> Result<Self, RoomError>;
-}
-
-/// What the look-ups by a symbol return.
-pub fn read_at<'a, C: Formed<'a>, S: HasherCount>(
-    table: &'a intaglio::Table<C, S>,
-    alloc: Global,
-    symbol: Symbol,
-) -> Read
-where
-    C::Form: Shown,
-{
-    let contains = table.contains(symbol);
-    let index = if contains {
-        spelled(alloc, Some(table[symbol].borrow()))
-    } else {
-        Reply::Spelling(None)
-    };
-    let get = spelled(alloc, table.get(symbol));
-    Read {
-        contains,
-        get,
-        index,
-    }
-}
-
-/// Makes the steps on the iterator of symbols and forms of a table.
-pub fn walk_pairs<'a, C: Formed<'a>, S: HasherCount>(
-    rt: &impl Abort,
-    alloc: Global,
-    table: &'a intaglio::Table<C, S>,
-    pairs: &str,
-)
-where
-    C::Form: Shown,
-{
-    walks(rt, alloc, table.iter(), pairs);
-    walks(rt, alloc, table.into_iter(), pairs);
-}
-
 impl<C: Made, S: HasherCount> Table for intaglio::Table<C, S> {
     type Kind = C;
 
@@ -171,20 +96,20 @@ impl<C: Made, S: HasherCount> Table for intaglio::Table<C, S> {
         interned(self.intern(content))
     }
 
-    fn put_form(&mut self, form: &C) -> Reply {
-        interned(form.put_form_in(self))
-    }
-
     fn put_all(&mut self, contents: Vec<C>) -> Result<Vec<Symbol>, InternError> {
         self.intern_all(contents)
     }
 
-    fn put_forms(&mut self, alloc: Global, contents: &[C]) -> Result<Vec<Symbol>, InternError> {
-        C::put_forms_in(alloc, contents, self)
+    fn put_counted(&mut self, alloc: Global, contents: Vec<C>) -> Result<Vec<Symbol>, InternError> {
+        intern_all(alloc, self, contents, &mut Work::new())
     }
 
-    fn find_forms(&self, alloc: Global, contents: &[C]) -> Result<Vec<Option<Symbol>>, AllocError> {
-        C::find_forms_in(alloc, contents, self)
+    fn pair(&self, alloc: Global, sought: &C) -> Reply {
+        sought.pair_in(alloc, self)
+    }
+
+    fn ask<R: Abort>(&mut self, rt: &R, alloc: Global, contents: &[C], ask: Ask) -> String {
+        C::ask(rt, alloc, self, contents, ask)
     }
 
     fn update(&mut self, update: Update) -> Reply {
@@ -199,14 +124,6 @@ impl<C: Made, S: HasherCount> Table for intaglio::Table<C, S> {
             }
             Update::TakeBack(mark) => taken(self.take_back(mark)),
         }
-    }
-
-    fn find(&self, alloc: Global, sought: &C) -> Found {
-        sought.find_in(alloc, self)
-    }
-
-    fn read(&self, alloc: Global, symbol: Symbol) -> Read {
-        C::read_in(alloc, self, symbol)
     }
 
     fn counts(&self) -> Counts {
@@ -229,18 +146,20 @@ impl<C: Made, S: HasherCount> Table for intaglio::Table<C, S> {
     }
 }
 
-impl<C: Made> New for intaglio::Table<C, Fold> {
-    fn make(alloc: Global, how: Make) -> Result<intaglio::Table<C, Fold>, RoomError> {
-        match how {
-            Make::New => intaglio::Table::new(alloc),
-            Make::Rounded(capacity) => intaglio::Table::with_capacity(alloc, capacity),
-            Make::Usual => intaglio::Table::with_hasher(alloc, Fold::new()),
-            Make::Exact(capacity) => intaglio::Table::with_capacity_and_hasher(
-                alloc,
-                capacity,
-                Fold::new(),
-            ),
-            Make::Limited(limit) => intaglio::Table::with_limit(alloc, limit, Fold::new()),
-        }
+/// Makes a table with std's builder of fixed seed.
+pub fn make_table<C: Made>(
+    alloc: Global,
+    how: Make,
+) -> Result<intaglio::Table<C, Fold>, RoomError> {
+    match how {
+        Make::New => intaglio::Table::new(alloc),
+        Make::Rounded(capacity) => intaglio::Table::with_capacity(alloc, capacity),
+        Make::Usual => intaglio::Table::with_hasher(alloc, Fold::new()),
+        Make::Exact(capacity) => intaglio::Table::with_capacity_and_hasher(
+            alloc,
+            capacity,
+            Fold::new(),
+        ),
+        Make::Limited(limit) => intaglio::Table::with_limit(alloc, limit, Fold::new()),
     }
 }

@@ -1,4 +1,4 @@
-//! What is stored, and what is found again.
+//! Interning, looking up and clearing, with texts as contents of each kind.
 use super::each::{Script, on_each};
 
 #[test]
@@ -175,7 +175,7 @@ fn owned_texts_of_a_hundred_bytes_are_kept_once(rt: HostRuntime) {
         rt.alloc(),
         &Script(
             "with_capacity_and_hasher 0 > done
-keep_all 100 > done
+keep_numbers 100 > done
 len > 100",
         ),
     );

@@ -1,4 +1,4 @@
-//! Buckets of an index after each kind of change, with memory enough.
+//! Which symbols a bucket of an index contains, and in which order, after places, rollbacks, shrinks and growth.
 ghost use Rattle.std.specs.Prelude.{◌≡◌, ◌^◌, ◌≤◌, length};
 
 use super::assertions::same;

@@ -1,4 +1,4 @@
-//! Bytes that are C strings, and bytes that are none.
+//! Which bytes `CStr` and `CString` accept, and the errors for the others.
 use super::assertions::{holds, same};
 use intaglio::cstr::{CStr, CStrError, CString, CStringError};
 use std::alloc::{AllocError, Global};

@@ -1,4 +1,4 @@
-//! The components of path texts, and what equal paths have in common.
+//! The components of paths, and that paths are equal exactly if their components are.
 use super::assertions::{holds, same};
 use intaglio::path::{Component, Path, PathContent};
 use intaglio::{Sought, Work};

@@ -1,4 +1,4 @@
-//! The numbers of symbols and marks, and conversions between a symbol and a number.
+//! Conversions between symbols and numbers.
 use super::assertions::{holds, same};
 use intaglio::{DEFAULT_SYMBOL_TABLE_CAPACITY, Mark, Symbol, SymbolOverflowError};
 use std::num::{NonZeroU8, NonZeroU16, NonZeroU32, NonZeroU64, NonZeroUsize};

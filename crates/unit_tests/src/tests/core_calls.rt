@@ -1,4 +1,4 @@
-//! Each public call of the core, made once on a table of random hashes.
+//! Each public call of `Core`, made once on a table with random keys.
 use super::assertions::same;
 use intaglio::{Call, Core, Interner, Mark, RoomError, StrContent, Symbol, Work, run};
 use std::alloc::Global;

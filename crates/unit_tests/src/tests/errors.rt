@@ -1,4 +1,4 @@
-//! What the errors print, and that `SymbolOverflowError` has one value.
+//! What errors print, and that all values of `SymbolOverflowError` are equal.
 use super::assertions::{copy_of, holds, same};
 use intaglio::{InternError, RoomError, StaleMark, SymbolOverflowError, TableError};
 use std::alloc::AllocError;

@@ -1,4 +1,4 @@
-//! What a content feeds to a hasher: each item of its key, with a byte 255 after it.
+//! The bytes that each kind of content writes to a hasher.
 use intaglio::bstr::BStrContent;
 use intaglio::bytes::BytesContent;
 use intaglio::cstr::{CStr, CStrContent};

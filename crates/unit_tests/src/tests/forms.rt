@@ -1,5 +1,5 @@
-//! What contents give, and the iterators that all tables share.
-use super::assertions::{holds, same};
+//! Owned and borrowed contents of each kind, and the iterators over contents.
+use super::assertions::{copy_of, holds, same};
 use intaglio::bstr::BStrContent;
 use intaglio::bytes::BytesContent;
 use intaglio::cstr::{CStr, CStrContent, CString};
@@ -7,101 +7,115 @@ use intaglio::path::{Path, PathContent};
 use intaglio::{
     Formed, Forms, Keyed, Pairs, Sought, Spelled, StrContent, Symbol, SymbolTable, Work,
 };
+use std::alloc::Global;
+use std::process::Abort;
 use std::test::Fail;
 
 fn finds<C: Keyed, Q: Sought<C>>(sought: &Q, stored: &C) -> bool {
     sought.same_as(stored, &mut Work::new())
 }
 
-fn is_spelled<C: Spelled>(content: &C, wanted: &[u8]) -> bool {
-    *content.spelling() == *wanted
+// Asserts that both contents are found by the form and by each other, and what the spelling is.
+fn agree<C: Spelled + Sought<C>, Q: Sought<C>>(
+    rt: &impl Abort,
+    owned: &C,
+    borrowed: &C,
+    form: &Q,
+    spelling: &[u8],
+) {
+    holds(rt, *owned.spelling() == *spelling);
+    holds(rt, finds(owned, borrowed));
+    holds(rt, finds(form, owned));
+}
+
+// Asserts that neither the content nor the form finds the other content beside it.
+fn differ<C: Sought<C>, Q: Sought<C>>(
+    rt: &impl Abort,
+    content: &C,
+    owned: &C,
+    form: &Q,
+    borrowed: &C,
+) {
+    holds(rt, !finds(content, owned));
+    holds(rt, !finds(form, borrowed));
+}
+
+fn text(rt: &impl Abort, alloc: Global, text: &str) -> String {
+    text.to_string(alloc).expect(rt, "memory")
+}
+
+fn bytes(rt: &impl Abort, alloc: Global, bytes: &[u8]) -> Vec<u8> {
+    bytes.to_vec(alloc).expect(rt, "memory")
 }
 
 #[test]
-fn owned_and_borrowed_texts_agree(rt: HostRuntime) -> Result<(), Fail> {
+fn owned_and_borrowed_texts_agree(rt: HostRuntime) {
     let borrowed = StrContent::from("abc");
-    let owned = StrContent::from("abc".to_string(rt.alloc())?);
+    let owned = StrContent::from(text(&rt, rt.alloc(), "abc"));
     same(&rt, borrowed.form(), "abc");
     same(&rt, owned.form(), "abc");
-    holds(&rt, is_spelled(&owned, b"abc"));
-    holds(&rt, finds(&owned, &borrowed));
-    holds(&rt, finds(&"abc", &owned));
-    holds(&rt, !finds(&StrContent::from("ab"), &owned));
-    holds(&rt, !finds(&"abd", &borrowed));
-    Ok(())
+    agree(&rt, &owned, &borrowed, &"abc", b"abc");
+    differ(&rt, &StrContent::from("ab"), &owned, &"abd", &borrowed);
 }
 
 #[test]
-fn owned_and_borrowed_bytes_agree(rt: HostRuntime) -> Result<(), Fail> {
-    let borrowed = BytesContent::from(b"\x00\xff".as_slice());
-    let owned = BytesContent::from([0, 255].to_vec(rt.alloc())?);
-    same(&rt, borrowed.form(), b"\x00\xff".as_slice());
-    same(&rt, owned.form(), b"\x00\xff".as_slice());
-    holds(&rt, is_spelled(&owned, b"\x00\xff"));
-    holds(&rt, finds(&owned, &borrowed));
-    holds(&rt, finds(&b"\x00\xff".as_slice(), &owned));
-    holds(&rt, !finds(&BytesContent::from(b"\x00".as_slice()), &owned));
-    holds(&rt, !finds(&b"\x00\xfe".as_slice(), &borrowed));
-    Ok(())
+fn owned_and_borrowed_bytes_agree(rt: HostRuntime) {
+    let (spelling, other) = (b"\x00\xff".as_slice(), b"\x00\xfe".as_slice());
+    let borrowed = BytesContent::from(spelling);
+    let owned = BytesContent::from(bytes(&rt, rt.alloc(), spelling));
+    same(&rt, borrowed.form(), spelling);
+    same(&rt, owned.form(), spelling);
+    agree(&rt, &owned, &borrowed, &spelling, spelling);
+    let shorter = BytesContent::from(b"\x00".as_slice());
+    differ(&rt, &shorter, &owned, &other, &borrowed);
 }
 
 #[test]
-fn owned_and_borrowed_byte_strings_agree(rt: HostRuntime) -> Result<(), Fail> {
-    let borrowed = BStrContent::Borrowed(b"\x00\xff".as_slice().into());
-    let owned = BStrContent::Owned([0, 255].to_vec(rt.alloc())?.into());
-    same(&rt, borrowed.form().as_bytes(), b"\x00\xff".as_slice());
-    same(&rt, owned.form().as_bytes(), b"\x00\xff".as_slice());
-    same(&rt, owned.borrow().as_bytes(), b"\x00\xff".as_slice());
-    holds(&rt, is_spelled(&owned, b"\x00\xff"));
-    holds(&rt, finds(&owned, &borrowed));
-    holds(&rt, finds(&owned.form(), &borrowed));
-    holds(
-        &rt,
-        !finds(&BStrContent::Borrowed(b"\x00".as_slice().into()), &owned),
-    );
+fn owned_and_borrowed_byte_strings_agree(rt: HostRuntime) {
+    let spelling = b"\x00\xff".as_slice();
+    let borrowed = BStrContent::Borrowed(spelling.into());
+    let owned = BStrContent::Owned(bytes(&rt, rt.alloc(), spelling).into());
+    same(&rt, borrowed.form().as_bytes(), spelling);
+    same(&rt, owned.form().as_bytes(), spelling);
+    same(&rt, owned.borrow().as_bytes(), spelling);
+    agree(&rt, &owned, &borrowed, &owned.form(), spelling);
+    let shorter = BStrContent::Borrowed(b"\x00".as_slice().into());
     let empty = BStrContent::Borrowed(b"".as_slice().into());
-    holds(&rt, !finds(&empty.form(), &borrowed));
-    Ok(())
+    differ(&rt, &shorter, &owned, &empty.form(), &borrowed);
+}
+
+// A C string of bytes whose only zero is the last one.
+fn c_str(rt: &impl Abort, ended: &'static [u8]) -> CStr<'static> {
+    CStr::from_bytes_with_nul(ended).expect(rt, "no C string")
+}
+
+fn c_string(rt: &impl Abort, alloc: Global, spelling: &[u8]) -> CString {
+    CString::new(alloc, bytes(rt, alloc, spelling)).expect(rt, "no C string")
 }
 
 #[test]
-fn owned_and_borrowed_c_strings_agree(rt: HostRuntime) -> Result<(), Fail> {
-    let text = CStr::from_bytes_with_nul(b"abc\x00")?;
+fn owned_and_borrowed_c_strings_agree(rt: HostRuntime) {
+    let (text, other) = (c_str(&rt, b"abc\x00"), c_str(&rt, b"ab\x00"));
     let borrowed = CStrContent::from(text);
-    let owned = CStrContent::from(CString::new(rt.alloc(), b"abc".to_vec(rt.alloc())?)?);
-    same(
-        &rt,
-        borrowed.form().to_bytes_with_nul(),
-        b"abc\x00".as_slice(),
-    );
-    same(
-        &rt,
-        owned.borrow().to_bytes_with_nul(),
-        b"abc\x00".as_slice(),
-    );
-    holds(&rt, is_spelled(&owned, b"abc"));
+    let owned = CStrContent::from(c_string(&rt, rt.alloc(), b"abc"));
+    let ended = b"abc\x00".as_slice();
+    same(&rt, borrowed.form().to_bytes_with_nul(), ended);
+    same(&rt, owned.borrow().to_bytes_with_nul(), ended);
     holds(&rt, owned.form() == text);
-    holds(&rt, finds(&owned, &borrowed));
-    holds(&rt, finds(&text, &owned));
-    let other = CStr::from_bytes_with_nul(b"ab\x00")?;
     holds(&rt, owned.form() != other);
-    holds(&rt, !finds(&other, &owned));
-    holds(&rt, !finds(&CStrContent::from(other), &borrowed));
-    Ok(())
+    agree(&rt, &owned, &borrowed, &text, b"abc");
+    differ(&rt, &CStrContent::from(other), &borrowed, &other, &owned);
 }
 
 #[test]
-fn paths_keep_their_text_and_are_found_by_components(rt: HostRuntime) -> Result<(), Fail> {
+fn paths_keep_their_text_and_are_found_by_components(rt: HostRuntime) {
     let borrowed = PathContent::from("a//b");
-    let owned = PathContent::from("a/./b".to_string(rt.alloc())?);
+    let owned = PathContent::from(text(&rt, rt.alloc(), "a/./b"));
     same(&rt, borrowed.form().as_str(), "a//b");
     same(&rt, owned.form().as_str(), "a/./b");
-    holds(&rt, is_spelled(&owned, b"a/./b"));
-    holds(&rt, finds(&owned, &borrowed));
-    holds(&rt, finds(&Path::new("a/b/"), &owned));
-    holds(&rt, !finds(&PathContent::from("./a/b"), &owned));
-    holds(&rt, !finds(&Path::new("a"), &borrowed));
-    Ok(())
+    agree(&rt, &owned, &borrowed, &Path::new("a/b/"), b"a/./b");
+    let other = PathContent::from("./a/b");
+    differ(&rt, &other, &owned, &Path::new("a"), &borrowed);
 }
 
 fn letters() -> [StrContent; 3] {
@@ -127,15 +141,14 @@ fn forms_come_from_both_ends(rt: HostRuntime) {
 }
 
 #[test]
-fn forms_are_skipped_counted_and_cloned(rt: HostRuntime) -> Result<(), Fail> {
+fn forms_are_skipped_counted_and_cloned(rt: HostRuntime) {
     let contents = letters();
     let forms = Forms::of(&contents);
-    same(&rt, forms.clone()?.nth(1), Some("b"));
-    same(&rt, forms.clone()?.nth_back(1), Some("b"));
-    same(&rt, forms.clone()?.nth_back(3), None);
-    same(&rt, forms.clone()?.count(), 3);
+    same(&rt, copy_of(&rt, &forms).nth(1), Some("b"));
+    same(&rt, copy_of(&rt, &forms).nth_back(1), Some("b"));
+    same(&rt, copy_of(&rt, &forms).nth_back(3), None);
+    same(&rt, copy_of(&rt, &forms).count(), 3);
     same(&rt, forms.last(), Some("c"));
-    Ok(())
 }
 
 #[test]
@@ -160,12 +173,16 @@ fn pairs_are_skipped_counted_and_cloned(rt: HostRuntime) -> Result<(), Fail> {
     Ok(())
 }
 
-#[test]
-fn the_pairs_of_a_table_are_counted(rt: HostRuntime) -> Result<(), Fail> {
-    let mut table = SymbolTable::new(rt.alloc())?;
-    for text in ["abc", "xyz", "123", "789"] {
-        table.intern(StrContent::from(text))?;
+fn table_of(rt: &impl Abort, alloc: Global, texts: &'static str) -> SymbolTable {
+    let mut table = SymbolTable::new(alloc).expect(rt, "no table");
+    for text in texts.split(' ') {
+        table.intern(StrContent::from(text)).expect(rt, "no symbol");
     }
+    table
+}
+
+#[test]
+fn the_pairs_of_a_table_are_counted(rt: HostRuntime) {
+    let table = table_of(&rt, rt.alloc(), "abc xyz 123 789");
     same(&rt, table.iter().count(), 4);
-    Ok(())
 }

@@ -1,4 +1,4 @@
-//! How many comparisons and hashings a search makes, and what a table of one bucket answers.
+//! How many contents a search compares, and how often it hashes, if many hashes are equal or share a bucket.
 use super::assertions::same;
 use crate::counting::Counting;
 use intaglio::{Core, Symbol, Work};

@@ -1,4 +1,4 @@
-//! The symbols of a table, from both ends.
+//! The iterator over the symbols of a table, from both ends.
 use super::assertions::{copy_of, holds, same};
 use intaglio::{AllSymbols, Symbol};
 use test_hashers::builders::hash_of;

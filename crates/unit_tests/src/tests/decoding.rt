@@ -1,7 +1,5 @@
-//! Whole runs, their errors, and readers and writers that fail.
-//!
-//! A line of a test is a call of a function, which is proved once; an assertion is
-//! proved again wherever it is written.
+//! What decoding writes for whole inputs, and its errors, with readers and writers that fail.
+use super::assertions::holds;
 use intaglio_decode::error::RestoreError;
 use intaglio_decode::restore::restore;
 use intaglio_decode::serve::serve;
@@ -13,10 +11,6 @@ use std::process::Abort;
 const INPUT: &[u8] = b"0\n1\n0\n\nb\na\n";
 
 const OUTPUT: &[u8] = b"b\na\nb\n";
-
-fn holds(rt: &impl Abort, value: bool) {
-    assert!(rt; value);
-}
 
 fn is(rt: &impl Abort, bytes: &Vec<u8>, wanted: &[u8]) {
     assert!(rt; bytes.as_slice() == wanted);

@@ -1,8 +1,10 @@
-//! Hashes from outside: those of Rust's own `DefaultHasher` and, under keys, `SipHasher13`.
-use crate::{KeyedHasher, KeyedState};
+//! Hashes of `KeyedHasher`, compared with those of Rust's own `DefaultHasher` and, with keys, of `SipHasher13`.
+use super::assertions::{holds, same};
+use intaglio_hash::{KeyedHasher, KeyedState};
+use std::alloc::{AllocError, Global};
 use std::collections::HashMap;
-use std::hash::{BuildHasher, DefaultHasher, Hasher, RandomState};
-use std::test::Fail;
+use std::hash::{BuildHasher, DefaultHasher, Hash, Hasher, RandomState};
+use std::process::Abort;
 
 // The bytes 0 to 7 and 8 to 15, as in the vectors of SipHash's authors.
 const KEY0: u64 = 0x0706_0504_0302_0100;
@@ -168,24 +170,32 @@ fn hash_of(key0: u64, key1: u64, bytes: &[u8]) -> u64 {
     hasher.finish()
 }
 
+// Asserts that the bytes have this hash with the keys above.
+fn is_keyed(rt: &impl Abort, bytes: &[u8], wanted: u64) {
+    let len = bytes.len();
+    same(rt, (len, hash_of(KEY0, KEY1, bytes)), (len, wanted));
+}
+
 #[test]
 fn bytes_have_the_hashes_of_rust(rt: HostRuntime) {
     let bytes = upward();
     for len in 0..64 {
-        assert_eq!(rt; hash_of(0, 0, &bytes[..len]), PLAIN[len], "{len} bytes");
-        assert_eq!(rt;
-            hash_of(KEY0, KEY1, &bytes[..len]),
-            KEYED[len],
-            "{len} bytes, keys"
-        );
+        let plain = hash_of(0, 0, &bytes[..len]);
+        same(&rt, (len, plain), (len, PLAIN[len]));
+        is_keyed(&rt, &bytes[..len], KEYED[len]);
     }
     for (len, hash) in LONG {
-        assert_eq!(rt;
-            hash_of(KEY0, KEY1, &bytes[..len]),
-            hash,
-            "{len} bytes, keys"
-        );
+        is_keyed(&rt, &bytes[..len], hash);
     }
+}
+
+// The hash of two slices and a byte, written one after the other.
+fn written(first: &[u8], second: &[u8], third: u8) -> u64 {
+    let mut hasher = KeyedHasher::with_keys(KEY0, KEY1);
+    hasher.write(first);
+    hasher.write(second);
+    hasher.write_u8(third);
+    hasher.finish()
 }
 
 #[test]
@@ -193,74 +203,86 @@ fn writes_may_be_split_anywhere(rt: HostRuntime) {
     let bytes = upward();
     for first in 0..20 {
         for second in first..63 {
-            let mut hasher = KeyedHasher::with_keys(KEY0, KEY1);
-            hasher.write(&bytes[..first]);
-            hasher.write(&bytes[first..second]);
-            hasher.write_u8(second as u8);
-            assert_eq!(rt; hasher.finish(), KEYED[second + 1], "{first}, {second}");
+            let hash = written(&bytes[..first], &bytes[first..second], second as u8);
+            same(
+                &rt,
+                (first, second, hash),
+                (first, second, KEYED[second + 1]),
+            );
         }
     }
 }
 
+fn value_hash<T: Hash + Drop>(key0: u64, key1: u64, value: T) -> u64 {
+    KeyedState::with_keys(key0, key1).hash_one(value)
+}
+
 #[test]
 fn values_have_the_hashes_of_rust(rt: HostRuntime) {
-    assert_eq!(rt;
-        KeyedState::with_keys(0, 0).hash_one("word"),
-        0xcbb9_9deb_b8ab_baae
-    );
-    let state = KeyedState::with_keys(KEY0, KEY1);
-    assert_eq!(rt; state.hash_one(""), 0x336d_3897_9e4a_286b);
-    assert_eq!(rt; state.hash_one("word"), 0x0d3b_fe62_ac14_d036);
-    assert_eq!(rt;
-        state.hash_one("a text of more than eight bytes"),
-        0xfa2b_6545_c678_6051
-    );
-    assert_eq!(rt; state.hash_one(0u64), 0x5cb9_6f6b_a2a4_fcfc);
-    assert_eq!(rt; state.hash_one((263u32, true, "x")), 0xcac3_2a21_e861_43f1);
+    same(&rt, value_hash(0, 0, "word"), 0xcbb9_9deb_b8ab_baae);
+    same(&rt, value_hash(KEY0, KEY1, ""), 0x336d_3897_9e4a_286b);
+    same(&rt, value_hash(KEY0, KEY1, "word"), 0x0d3b_fe62_ac14_d036);
+    let long = "a text of more than eight bytes";
+    same(&rt, value_hash(KEY0, KEY1, long), 0xfa2b_6545_c678_6051);
+    same(&rt, value_hash(KEY0, KEY1, 0u64), 0x5cb9_6f6b_a2a4_fcfc);
+    let three = (263u32, true, "x");
+    same(&rt, value_hash(KEY0, KEY1, three), 0xcac3_2a21_e861_43f1);
+}
+
+fn std_hash(bytes: &[u8]) -> u64 {
+    let mut hasher = DefaultHasher::new();
+    hasher.write(bytes);
+    hasher.finish()
 }
 
 #[test]
 fn a_new_hasher_is_that_of_std(rt: HostRuntime) {
     let mut hasher = KeyedHasher::with_keys(0, 0);
-    let mut std = DefaultHasher::new();
-    assert_eq!(rt; hasher.finish(), std.finish());
+    same(&rt, hasher.finish(), DefaultHasher::new().finish());
     hasher.write(b"wo");
     hasher.write(b"rd");
-    std.write(b"word");
-    assert_eq!(rt; hasher.finish(), std.finish());
+    same(&rt, hasher.finish(), std_hash(b"word"));
+}
+
+fn hash_by<S: BuildHasher>(builder: &S, text: &str) -> u64 {
+    builder.hash_one(text)
+}
+
+fn keyed(random: &RandomState) -> KeyedState {
+    KeyedState::with_keys(random.hash_one(0u64), random.hash_one(1u64))
 }
 
 #[test]
-fn keys_are_drawn_from_a_random_state(rt: HostRuntime) -> Result<(), Fail> {
-    let random = RandomState::new(&rt)?;
-    let state = KeyedState::from_random(&random);
-    let same = KeyedState::with_keys(random.hash_one(0u64), random.hash_one(1u64));
-    assert_eq!(rt; state.hash_one("word"), same.hash_one("word"));
-    assert_ne!(rt; state.hash_one("word"), random.hash_one("word"));
-    Ok(())
+fn keys_are_drawn_from_a_random_state(rt: HostRuntime) {
+    let random = RandomState::new(&rt).expect(&rt, "a seed");
+    let hash = hash_by(&KeyedState::from_random(&random), "word");
+    same(&rt, hash, hash_by(&keyed(&random), "word"));
+    holds(&rt, hash != hash_by(&random, "word"));
 }
 
-#[test]
-fn a_map_takes_it(rt: HostRuntime) -> Result<(), Fail> {
-    let state = KeyedState::from_random(&RandomState::new(&rt)?);
-    let mut counts = HashMap::with_hasher(rt.alloc(), state);
+// Whether a map of `word` alone contains it, and another text.
+fn contains(alloc: Global, state: KeyedState) -> Result<(bool, bool), AllocError> {
+    let mut counts = HashMap::with_hasher(alloc, state);
     counts.insert("word", 1)?;
-    assert_eq!(rt; counts.get(&"word"), Some(&1));
-    assert_eq!(rt; counts.get(&"words"), None);
-    Ok(())
+    Ok((
+        counts.get(&"word") == Some(&1),
+        counts.get(&"words").is_some(),
+    ))
 }
 
 #[test]
-fn keys_are_not_printed(rt: HostRuntime) -> Result<(), Fail> {
+fn a_map_takes_it(rt: HostRuntime) {
+    let random = RandomState::new(&rt).expect(&rt, "a seed");
+    let found = contains(rt.alloc(), KeyedState::from_random(&random));
+    same(&rt, found, Ok((true, false)));
+}
+
+#[test]
+fn keys_are_not_printed(rt: HostRuntime) {
     let state = KeyedState::with_keys(263, 264);
-    assert_eq!(rt;
-        format!(in rt.alloc(); "{state:?}")?.as_str(),
-        "KeyedState { .. }"
-    );
+    let shown = format!(in rt.alloc(); "{state:?}").expect(&rt, "memory");
+    same(&rt, shown.as_str(), "KeyedState { .. }");
     let hasher = state.build_hasher();
-    assert_eq!(rt;
-        format!(in rt.alloc(); "{hasher:?}")?.as_str(),
-        "KeyedHasher { .. }"
-    );
-    Ok(())
+    let shown = format!(in rt.alloc(); "{hasher:?}").expect(&rt, "memory");
+    same(&rt, shown.as_str(), "KeyedHasher { .. }");
 }

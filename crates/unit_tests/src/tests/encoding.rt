@@ -1,7 +1,5 @@
-//! Whole runs, their faults, and readers and writers that fail.
-//!
-//! A line of a test is a call of a function, which is proved once; an assertion is
-//! proved again wherever it is written.
+//! What encoding writes for whole inputs, and its errors, with readers and writers that fail.
+use super::assertions::holds;
 use intaglio_encode::encode::encode;
 use intaglio_encode::error::ToolError;
 use intaglio_encode::serve::serve;
@@ -20,10 +18,6 @@ const INPUT: &[u8] = b"b\na\nb";
 const OUTPUT: &[u8] = b"0\n1\n0\n\nb\na\n";
 
 const USAGE: &[u8] = b"usage: intaglio_tool text|bytes|bstr|cstr|osstr|path\n";
-
-fn holds(rt: &impl Abort, value: bool) {
-    assert!(rt; value);
-}
 
 fn is(rt: &impl Abort, bytes: &Vec<u8>, wanted: &[u8]) {
     assert!(rt; bytes.as_slice() == wanted);

@@ -1,0 +1,102 @@
+//! Calls of a table by borrowed forms, whose results are text.
+use super::contents::Shown;
+use super::printed::{listed, said, spelled};
+use crate::replies::interned;
+use intaglio::{Formed, LookedUp, Reply, Sought, Symbol, Table};
+use std::alloc::{AllocError, Global};
+use std::process::Abort;
+use test_hashers::builders::HasherCount;
+
+/// A call by borrowed forms, or one that borrows what is stored.
+#[derive(Clone, Copy)]
+pub enum Ask {
+    /// `get_or_intern`.
+    GetOrIntern,
+    /// `get_or_intern_all`.
+    GetOrInternAll,
+    /// `check_interned`.
+    CheckInterned,
+    /// `check_all`.
+    CheckAll,
+    /// `is_interned`.
+    IsInterned,
+    /// `contains`.
+    Contains(Symbol),
+    /// `get`.
+    Get(Symbol),
+    /// `table[symbol]`, if the symbol was issued.
+    Index(Symbol),
+}
+
+/// The borrowed forms of contents.
+pub fn forms<'a, C: Formed<'a>>(rt: &impl Abort, alloc: Global, contents: &'a [C]) -> Vec<C::Form> {
+    let mut forms = Vec::new(alloc);
+    for content in contents {
+        forms.push(content.borrow()).expect(rt, "memory");
+    }
+    forms
+}
+
+fn only<T: Drop>(rt: &impl Abort, mut forms: Vec<T>) -> T {
+    forms.pop().expect(rt, "no form")
+}
+
+/// What the table returns for a call by these forms.
+pub fn answer<'a, C: Formed<'a> + LookedUp<'a> + Sought<C> + Drop, S: HasherCount>(
+    rt: &impl Abort,
+    alloc: Global,
+    table: &'a mut Table<C, S>,
+    forms: Vec<<C as LookedUp<'a>>::By>,
+    ask: Ask,
+) -> String
+where
+    C::Form: Shown,
+{
+    let reply = match ask {
+        Ask::GetOrInternAll => return listed(rt, alloc, table.get_or_intern_all(&forms)),
+        Ask::CheckAll => return found(rt, alloc, table.check_all(&forms)),
+        Ask::GetOrIntern => interned(table.get_or_intern(only(rt, forms))),
+        Ask::CheckInterned => Reply::Symbol(table.check_interned(only(rt, forms))),
+        Ask::IsInterned => Reply::Bool(table.is_interned(only(rt, forms))),
+        Ask::Contains(symbol) => Reply::Bool(table.contains(symbol)),
+        Ask::Get(symbol) => stored(alloc, table, symbol),
+        Ask::Index(symbol) => index(alloc, table, symbol),
+    };
+    said(rt, alloc, &reply)
+}
+
+// What a batch of look-ups returns.
+fn found(
+    rt: &impl Abort,
+    alloc: Global,
+    symbols: Result<Vec<Option<Symbol>>, AllocError>,
+) -> String {
+    let symbols = symbols.expect(rt, "memory");
+    format!(in alloc; "{symbols:?}").expect(rt, "memory")
+}
+
+fn stored<'a, C: Formed<'a>, S: HasherCount>(
+    alloc: Global,
+    table: &'a Table<C, S>,
+    symbol: Symbol,
+) -> Reply
+where
+    C::Form: Shown,
+{
+    spelled(alloc, table.get(symbol))
+}
+
+fn index<'a, C: Formed<'a>, S: HasherCount>(
+    alloc: Global,
+    table: &'a Table<C, S>,
+    symbol: Symbol,
+) -> Reply
+where
+    C::Form: Shown,
+{
+    if table.contains(symbol) {
+        spelled(alloc, Some(table[symbol].borrow()))
+    } else {
+        Reply::Spelling(None)
+    }
+}
