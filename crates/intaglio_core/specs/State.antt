@@ -13,7 +13,7 @@ pub record State (C : Type 0) : Type 0 where
   pub buckets : ℕ
   pub limit : ℕ
 
--- a table: its state and its builder of hashers
+-- a table: its state and its hash builder
 pub record Table (C S : Type 0) : Type 0 where
   pub state : State C
   pub hasher : S

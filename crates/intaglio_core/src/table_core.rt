@@ -57,7 +57,7 @@ impl<C: Keyed, S: BuildHasher> Model for Core<C, S> {
 }
 
 impl<C: Keyed, S: BuildHasher> Core<C, S> {
-    /// The table's builder of hashers.
+    /// The table's hash builder.
     pub fn hasher(&self) -> &S
         ensures { result.now ≡ self.now.hasher }
     {

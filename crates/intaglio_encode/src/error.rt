@@ -84,7 +84,7 @@ impl From<StreamError> for ToolError {
 /// Why a run whose arguments name a kind failed.
 #[derive(Debug, Drop, Error)]
 pub enum RunError {
-    /// There is no builder of hashers, since the runtime gave no random seed.
+    /// There is no hash builder, since the runtime gave no random seed.
     #[error("no random seed")]
     NoSeed,
     /// The input wasn't encoded.

@@ -9,11 +9,11 @@ use std::alloc::AllocError;
 pub enum Refusal {
     /// The handle holds no table.
     NoTable,
-    /// The table holds as many contents as its limit.
+    /// A content is new, and the table holds as many as its limit.
     Full,
     /// An allocation failed.
     NoMemory,
-    /// More capacity was requested than there are symbols, or a limit that no table can have.
+    /// A capacity above 2^32 or the limit was requested, or a limit of 0 or above 2^32.
     TooLarge,
     /// The mark counts more contents than the table holds.
     Stale,
@@ -21,7 +21,7 @@ pub enum Refusal {
     NotUtf8,
     /// A byte before the last one is zero.
     InnerZero,
-    /// The bytes don't end with a zero.
+    /// There is no zero byte.
     MissingZero,
     /// The ends of a batch decrease or exceed its bytes, or its lists differ in length.
     BadEnds,

@@ -59,7 +59,7 @@ impl<C: Keyed, S: BuildHasher> Core<C, S> {
         Ok(())
     }
 
-    /// Reserves capacity for `additional` more contents, so that interning them can't fail for memory.
+    /// Reserves capacity for `additional` more contents, so that `intern` of them can't fail for memory.
     ///
     /// # Errors
     ///

@@ -10,7 +10,7 @@ use intaglio_symbol::Symbol;
 
 impl Index {
     /// Inserts the next symbol into the hash's bucket, after the smaller hashes and
-    /// before the others. One placement.
+    /// before the others. Records one placement.
     pub fn place(&mut self, hash: u64, symbol: Symbol, work: &mut Work)
         requires next { symbol ≡ length self.old.hashes }
         requires room { symbol < self.old.room }
@@ -79,7 +79,7 @@ impl Index {
         }
     }
 
-    /// Removes all symbols. The buckets and the room stay.
+    /// Removes all symbols. The buckets and the capacity stay.
     pub fn clear(&mut self)
         ensures hashes { self.new.hashes ≡ [] }
         ensures count { self.new.count ≡ self.old.count }
@@ -90,7 +90,7 @@ impl Index {
     }
 
     /// Removes the symbols from `count` on. The others stay where they are, and
-    /// the buckets and the room stay.
+    /// the buckets and the capacity stay.
     ///
     /// Costs a walk along a bucket for each removed symbol.
     pub fn cut(&mut self, count: usize)

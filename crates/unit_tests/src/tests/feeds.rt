@@ -9,6 +9,7 @@ use std::mem::size_of;
 use std::process::Abort;
 use test_hashers::expected_writes::ExpectedWrites;
 
+// The hash by a builder that expects these writes: 1 if it gets exactly them.
 fn hash<C: Keyed, Q: Sought<C>>(sought: &Q, writes: &'static [&'static [u8]]) -> u64 {
     sought.hash_with(&ExpectedWrites::of(writes), &mut Work::new())
 }
@@ -18,7 +19,7 @@ fn feeds<C: Keyed, Q: Sought<C>>(rt: &impl Abort, sought: &Q, writes: &'static [
     assert!(rt; hash(sought, writes) == 1);
 }
 
-// Asserts that hashing the value makes other writes.
+// Asserts that hashing the value doesn't make exactly these writes.
 fn feeds_else<C: Keyed, Q: Sought<C>>(
     rt: &impl Abort,
     sought: &Q,
