@@ -207,7 +207,7 @@ def without_good_news(said):
 
 
 def functions_of(crate):
-    """How many functions the crate's source has, without its tests. A proof takes about as long for each."""
+    """How many functions the crate's source has, without its tests: a measure of how long its proof takes."""
     files = (Path(it) for it in load().rtlib.files_of(crate.folder) if it.endswith(".rt"))
     return sum(len(re.findall(rb"\bfn \w", it.read_bytes())) for it in files if not {"tests", "tests.rt"} & {*it.parts})
 
@@ -234,6 +234,6 @@ def in_lanes(crates, prove):
     def task(crate):
         waits, least = [(it.name, "proof") for it in crate.below() if it.name in names], most if crate.name in chain else 1
         need = rt.need(crate) * (1 + 0.6 * (least - 1))
-        return waits, lines_of(crate), need, lambda given, jobs: all(given[it] for it in waits) and prove(crate, max(jobs, least))
+        return waits, functions_of(crate), need, lambda given, jobs: all(given[it] for it in waits) and prove(crate, max(jobs, least))
 
     return all(rt.in_lanes({(it.name, "proof"): task(it) for it in crates}).values())
