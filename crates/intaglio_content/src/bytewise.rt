@@ -18,6 +18,8 @@ pub trait Bytewise: Keyed {
 }
 
 impl<Q: Bytewise, C: Bytewise> Sought<C> for Q {
+    // Inlined, so that the hasher's state stays in registers.
+    #[inline(always)]
     fn hash_with<S: BuildHasher>(&self, builder: &S, work: &mut Work) -> u64 {
         work.hashed(self);
         let mut hasher = builder.build_hasher();

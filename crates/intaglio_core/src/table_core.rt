@@ -128,6 +128,7 @@ impl<C: Keyed, S: BuildHasher> Core<C, S> {
     /// The symbol of the content with the sought key, if there is one.
     ///
     /// Costs one hashing, and comparisons only with contents whose hash is equal.
+    #[inline(always)]
     pub fn search<Q: Sought<C>>(&self, sought: &Q, work: &mut Work) -> Option<Symbol>
         ensures found { result ≡ first C.key self.now.state.contents (Q.key sought.now) }
         ensures within { IfSome result (λ symbol. symbol < length self.now.state.contents) }
@@ -254,6 +255,7 @@ impl<C: Keyed, S: BuildHasher> Core<C, S> {
     }
 
     // Adds a content that isn't stored.
+    #[inline(always)]
     fn add(&mut self, hash: u64, content: C, work: &mut Work) -> Result<Symbol, InternError>
     where
         C: Drop,
@@ -278,6 +280,7 @@ impl<C: Keyed, S: BuildHasher> Core<C, S> {
 
 // Makes room for one more content: in the list, in the links and in the buckets. The index grows last, so
 // that a failed growth records no event.
+#[inline(always)]
 fn find_room<C>(
     list: &mut Vec<C>,
     index: &mut Index,

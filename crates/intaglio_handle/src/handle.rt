@@ -59,6 +59,10 @@ impl Handle {
         ensures taken { option_map (λ boxed. boxed.value) result ≡ self.old.ptr.table }
         ensures left { self.new.ptr.table ≡ None }
     {
+        // (`into_table` tests it too, but with this test first the compiler needs no second pointer)
+        if !self.live {
+            return None;
+        }
         replace(self, Handle::none(alloc)).into_table()
     }
 

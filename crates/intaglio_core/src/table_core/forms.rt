@@ -29,6 +29,7 @@ impl<C: Content + Drop, S: BuildHasher> Core<C, S> {
     ///
     /// `Overflow` if the form is new and the table holds as many contents as its limit: then it isn't copied.
     /// `Memory` if the allocation of the copy or of a growth fails. The contents are then unchanged.
+    #[inline(always)]
     pub fn get_or_intern<Q: ToContent<C>>(
         &mut self,
         form: &Q,

@@ -19,6 +19,7 @@ use intaglio_text::StrContent;
 use intaglio_text::osstr::OsStrContent;
 
 // The text with these bytes.
+#[inline(always)]
 fn text_of(bytes: &[u8]) -> Result<&str, Refusal>
     ensures ok { IfOk result (λ text. text.now ≡ bytes.now) }
     ensures faultless { IfOk result (λ _. utf8_fault bytes.now ≡ None) }
@@ -45,6 +46,8 @@ fn c_str_of(bytes: &[u8]) -> Result<CStr<'_>, Refusal>
 
 impl AnyTable {
     // The bytes of a symbol's content.
+    // This call and the next two are inlined, so that a call from C has one frame.
+    #[inline(always)]
     pub(crate) fn bytes_at(&self, symbol: Symbol) -> Option<&[u8]>
         ensures bytes { option_map (λ bytes. bytes.now) result ≡ slice_get (contents_of self.now) symbol }
     {
@@ -59,6 +62,7 @@ impl AnyTable {
     }
 
     // The symbol of the content that is equal to the one with these bytes, if there is one.
+    #[inline(always)]
     pub(crate) fn find(&self, bytes: &[u8]) -> Result<Option<Symbol>, Refusal>
         ensures found { result ≡ look_up (seen self.now) bytes.now }
     {
@@ -73,6 +77,7 @@ impl AnyTable {
     }
 
     // Interns these bytes, which are copied if they are new, and returns their symbol.
+    #[inline(always)]
     pub(crate) fn intern(&mut self, bytes: &[u8]) -> Result<Symbol, Refusal>
         ensures step { TakesStep self.old self.new result (Interns bytes.now) }
     {

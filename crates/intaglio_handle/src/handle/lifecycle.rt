@@ -26,13 +26,10 @@ impl Handle {
         ensures refused { IfErr made (λ error. (result ≡ Err (room_refusal error)) × HoldsNone self.new) }
     {
         *self = Handle::none(alloc);
-        match Box::new(alloc, made?) {
-            Ok(table) => {
-                self.put_back(table);
-                Ok(())
-            }
-            Err(failed) => Err(Refusal::from(AllocError::from(failed))),
-        }
+        // If there is no memory, std's conversion of the error drops the table.
+        let table = Box::new(alloc, made?).map_err(AllocError::from)?;
+        self.put_back(table);
+        Ok(())
     }
 
     /// Puts a new table of a kind with exactly this capacity into the handle. The earlier one is freed.

@@ -30,6 +30,8 @@ impl<'q, C: LookedUp<'q> + Drop, S: BuildHasher> Table<C, S> {
     /// }
     /// assert!(rt; table.len() == 4);
     /// ```
+    // Inlined, as `check_interned` is.
+    #[inline(always)]
     pub fn get_or_intern(&mut self, form: C::By) -> Result<Symbol, InternError>
         ensures step { let interns = InternsForm C.key C.spelling self.old.state in
             interns (C.By.key form) (C.By.form_spelling form) result self.new.state }
