@@ -273,9 +273,9 @@ class Table(Generic[Content]):
         # (by parts that stay in the cache between joining and measuring)
         for start in range(0, len(contents), PART):
             joined, measured = cls._join(contents[start : start + PART])
-            part_ends = accumulate(map(len, measured), initial=size)
-            next(part_ends)
-            ends.extend(part_ends)
+            part_ends = list(accumulate(map(len, measured), initial=size))
+            del part_ends[0]
+            ends.fromlist(part_ends)
             parts.append(joined)
             size += len(joined)
         return b"".join(parts), ends or _numbers(_U64, 0), len(ends)
@@ -415,17 +415,22 @@ def _size_of(number: int) -> int:
     return number
 
 
+def _are_all(kind: type, contents: list[Any]) -> bool:
+    """Whether each of these is of this class, and not of a subclass."""
+    return [*map(type, contents)].count(kind) == len(contents)
+
+
 def _join_texts(contents: list[str]) -> tuple[bytes, list[Any]]:
     joined = "".join(contents)
     # (a subclass may have another `len`)
-    if joined.isascii() and set(map(type, contents)) <= {str}:
+    if joined.isascii() and _are_all(str, contents):
         return joined.encode(), contents
     spellings = [_of_text(content) for content in contents]
     return b"".join(spellings), spellings
 
 
 def _join_bytes(contents: list[bytes]) -> tuple[bytes, list[Any]]:
-    spellings = contents if set(map(type, contents)) <= {bytes} else [_of_bytes(content) for content in contents]
+    spellings = contents if _are_all(bytes, contents) else [_of_bytes(content) for content in contents]
     return b"".join(spellings), spellings
 
 
