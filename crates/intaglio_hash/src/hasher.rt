@@ -116,7 +116,7 @@ impl KeyedHasher {
     }
 
     // Writes the `count` low bytes of `number`, whose other bytes are 0.
-    #[inline]
+    #[inline(always)]
     fn push(&mut self, number: u64, count: u64)
         requires { count ≤ 8 }
         ensures value { self.new ≡ after_push self.old number count }
