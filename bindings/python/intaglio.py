@@ -333,7 +333,11 @@ class Table(Generic[Content]):
         joined, ends, count = self._batch(contents)
         symbols = _numbers(_I64, count)
         _check(_calls.check_all(self._pointer, joined, len(joined), _at(ends), count, _at(symbols), count))
-        if symbols.tobytes() == _ABSENT_BYTES * len(symbols):
+        # (a symbol has four bytes, so eight that are all ones are an absent string's)
+        numbers = symbols.tobytes()
+        if _ABSENT_BYTES not in numbers:
+            return symbols.tolist()[:count]
+        if numbers == _ABSENT_BYTES * len(symbols):
             return [None] * count
         return [None if symbol < 0 else symbol for symbol in symbols[:count]]
 
