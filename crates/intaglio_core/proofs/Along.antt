@@ -14,7 +14,7 @@ use Rattle.intaglio_index.proofs.LinkLemmas.{both, each_symbol}
 use Rattle.intaglio_index.proofs.WalkLemmas.{rest_of, rest_of-at, rest_of-none, some_rest}
 use Rattle.intaglio_index.specs.Placed.{Placed, places_from, head_of, chain, symbols_of, AreSorted, IsEntry}
 use Rattle.intaglio_content.specs.Key.{Key}
-use Rattle.intaglio_content.specs.Work.{Event, hashed, compared, step}
+use Rattle.intaglio_content.specs.Work.{Event, hashed, compared, step, placed}
 use Rattle.intaglio_core.specs.State.{first_of, key_eq, AreDistinct}
 use Rattle.intaglio_core.specs.Cost.{hashed_keys, sought_keys, stored_keys, step_count, placed_count, bucket_keys, IsSearchCost}
 use Rattle.intaglio_core.proofs.First.{first-none, first-some, key_eq-decides, key_eq-unequal}
@@ -198,9 +198,16 @@ steps-stored : (n : ℕ) → stored_keys (replicate n step) ≡ []
 steps-stored zero = refl
 steps-stored (suc n) = steps-stored n
 
-steps-counted : (n : ℕ) → step_count (replicate n step) ≡ n
+pub steps-counted : (n : ℕ) → step_count (replicate n step) ≡ n
 steps-counted zero = refl
 steps-counted (suc n) = omega (arith, steps-counted n)
+
+pub step_count-append : (xs ys : List Event) → step_count (xs ++ ys) ≡ step_count xs + step_count ys
+step_count-append [] ys = omega arith
+step_count-append (hashed k ∷ xs) ys = step_count-append xs ys
+step_count-append (compared k x ∷ xs) ys = step_count-append xs ys
+step_count-append (step ∷ xs) ys = omega (arith, step_count-append xs ys)
+step_count-append (placed ∷ xs) ys = step_count-append xs ys
 
 steps-placed : (n : ℕ) → placed_count (replicate n step) ≡ 0
 steps-placed zero = refl

@@ -1,5 +1,5 @@
 -- What an interning costs, from the costs of its parts.
-use Rattle.std.proofs.Common.{◌≡◌, ◌≢◌, ℕ, zero, suc, ◌*◌, ◌<◌, ◌≤◌, min, max, List, [], ◌∷◌, ◌++◌, length, replicate, None, Result, Ok, Err, OnOk, OnErr, append_assoc, append-nil, inl, inr, refl, sym, ◌∙◌, arith}
+use Rattle.std.proofs.Common.{◌≡◌, ◌≢◌, ℕ, zero, suc, ◌*◌, ◌<◌, ◌≤◌, min, max, List, [], ◌∷◌, ◌++◌, length, replicate, None, Some, Option, ap, Result, Ok, Err, OnOk, OnErr, append_assoc, append-nil, inl, inr, refl, sym, ◌∙◌, arith}
 use Rattle.std.proofs.lemmas.Bool.{cases_lt}
 use Rattle.std.specs.declared.alloc.AllocError.{AllocError}
 use Rattle.intaglio_content.specs.Key.{Key}
@@ -8,7 +8,7 @@ use Rattle.intaglio_content.specs.declared.work.Work.{Work}
 use Rattle.intaglio_index.specs.Placed.{Placed}
 use Rattle.intaglio_index.specs.Change.{KeepsBuckets, PlacesEach}
 use Rattle.intaglio_core.specs.State.{State, first}
-use Rattle.intaglio_core.specs.Cost.{hashed_keys, stored_keys, step_count, placed_count, Adds, Costs, IsGrowthCost, IsRoomCost, KnownSearchCost, KnownInternCost}
+use Rattle.intaglio_core.specs.Cost.{hashed_keys, stored_keys, step_count, placed_count, Adds, Costs, IsRecorded, IsGrowthCost, IsRoomCost, KnownSearchCost, KnownInternCost}
 use Rattle.intaglio_symbol.specs.declared.symbol.Symbol.{Symbol}
 use Rattle.intaglio_symbol.specs.declared.error.InternError.{InternError}
 use Rattle.intaglio_core.specs.Indexed.{AddCost}
@@ -109,6 +109,13 @@ Adds-parts P Q R known before between then after joins first_part next later =
 pub mark-first : (P : List Event → Type 0) (m : Event) (before between after : List Event) → between ≡ before ++ m ∷ [] → Adds between after (λ cost. P (m ∷ cost)) → Adds before after P
 mark-first P m before between after first_mark later =
     (m ∷ later.0, rw (later.1, first_mark) (append_assoc before (m ∷ []) later.0), later.2)
+
+-- what a search records stands behind a hashing too
+pub hashed-recorded : (k : Key) (found : Option ℕ) (before after : List Event) → Adds before after (IsRecorded k found) → Adds before after (λ cost. IsRecorded k found (hashed k ∷ cost))
+hashed-recorded k None before after r = (r.0, r.1, record { steps = r.2.steps; comparison = tt })
+hashed-recorded k (Some i) before after r =
+    let c = r.2.comparison in
+    (r.0, r.1, record { steps = r.2.steps; comparison = (hashed k ∷ c.0, c.1, ap (λ ms. hashed k ∷ ms) c.2) })
 
 module _ {C : Type 0} (key : C → Key) (hash : Key → ℕ) where
   -- what follows the hashing of an interning whose content wasn't found

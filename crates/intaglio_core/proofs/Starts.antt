@@ -1,12 +1,12 @@
 -- Searches that were begun, by what the index says.
-use Rattle.std.proofs.Common.{◌≡◌, ◌≢◌, ℕ, zero, suc, ◌%◌, ◌<◌, List, [], ◌∷◌, ◌++◌, length, get_or, map, ap, arith, Option, Some, None, IfSome, refl}
+use Rattle.std.proofs.Common.{◌≡◌, ◌≢◌, ℕ, zero, suc, ◌+◌, ◌%◌, ◌<◌, List, [], ◌∷◌, ◌++◌, length, replicate, get_or, map, ap, arith, Option, Some, None, IfSome, refl}
 use Rattle.std.specs.List.{AllByRecursion}
 use Rattle.intaglio_content.specs.Key.{Key}
-use Rattle.intaglio_content.specs.Work.{Event}
+use Rattle.intaglio_content.specs.Work.{Event, step}
 use Rattle.intaglio_index.specs.Placed.{Placed, chain}
 use Rattle.intaglio_index.specs.Found.{IsFound, IsPassed}
 use Rattle.intaglio_core.specs.State.{State}
-use Rattle.intaglio_core.specs.Begun.{placed_of, HasBegun, IsBegun, AreBegun}
+use Rattle.intaglio_core.specs.Begun.{placed_of, HasBegun, HasBegunSince, IsBegun, AreBegun}
 use Rattle.intaglio_core.specs.declared.begun.Begun.{Begun}
 
 -- a chain depends on the hashes and the number of buckets alone
@@ -29,6 +29,22 @@ begun key hash s index h before after None hashes count start found none passed 
 begun key hash s index h before after (Some i) hashes count start found none passed =
     let same = chain-same index (placed_of key hash s) (h % index.count) hashes count in
     rw (same, count, start) at found
+
+-- a search that goes on where it was begun
+pub begun-since : {C : Type 0} (key : C → Key) (hash : Key → ℕ) (s : State C) (index : Placed) (k : Key) (start now : List Event) (candidate : Option ℕ)
+    → index.hashes ≡ map (λ c. hash (key c)) s.contents → index.count ≡ s.buckets
+    → IfSome candidate (λ i. IsFound (hash k) (chain index (hash k % index.count)) start now i)
+    → (candidate ≡ None → AllByRecursion (λ placed. placed ≢ hash k) index.hashes)
+    → (candidate ≡ None → IsPassed (chain index (hash k % index.count)) start now)
+    → HasBegunSince key hash s k start now candidate
+begun-since key hash s index k start now None hashes count found none passed =
+    let same = chain-same index (placed_of key hash s) (hash k % index.count) hashes count in
+    let p = rw (same, count) at (passed refl) in
+    (replicate (p.more + 1) step, p.events, (rw hashes at (none refl), record { more = p.more; few = p.few; events = refl }))
+begun-since key hash s index k start now (Some i) hashes count found none passed =
+    let same = chain-same index (placed_of key hash s) (hash k % index.count) hashes count in
+    let f = rw (same, count) at found in
+    (replicate (length f.front + 1) step, f.events, record { front = f.front; behind = f.behind; split = f.split; smaller = f.smaller; events = refl })
 
 -- a search that was begun and found nothing, with its events after those of others
 pub nothing : {C : Type 0} (key : C → Key) (hash : Key → ℕ) (s : State C) (index : Placed) (h : ℕ) (cost before after : List Event) (candidate : Option ℕ)

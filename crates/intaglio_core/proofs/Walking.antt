@@ -15,8 +15,8 @@ use Rattle.std.specs.List.{AllByRecursion}
 use Rattle.intaglio_content.specs.Key.{Key}
 use Rattle.intaglio_content.specs.Work.{Event, hashed, compared, step}
 use Rattle.intaglio_core.specs.State.{first_of, AreDistinct}
-use Rattle.intaglio_core.specs.Cost.{Adds, bucket_keys, IsSearchCost}
-use Rattle.intaglio_core.proofs.Along.{IsAlong, IsBucketPath, bucket_path, key_read, joined_twice, joined}
+use Rattle.intaglio_core.specs.Cost.{Adds, step_count, bucket_keys, IsSearchCost, IsRecorded}
+use Rattle.intaglio_core.proofs.Along.{IsAlong, IsBucketPath, walked, bucket_path, key_read, joined_twice, joined, steps-counted, step_count-append}
 use Rattle.intaglio_core.proofs.Along as along
 
 -- the entry at which a walk stands has the hash, or is behind all that have it
@@ -73,6 +73,11 @@ passes key hash index contents k start now hashes distinct passed =
     let here = bucket_path key hash index contents k hashes distinct in
     (replicate (passed.more + 1) step, passed.events, along.passes _ _ _ _ _ here passed.more passed.few)
 
+-- and what it records
+pub passes-recorded : (path : List (ℕ × ℕ)) (k : Key) (start now : List Event) → IsPassed path start now → Adds start now (IsRecorded k None)
+passes-recorded path k start now passed =
+    (replicate (passed.more + 1) step, passed.events, record { steps = omega (arith, steps-counted (passed.more + 1)); comparison = tt })
+
 module _ {C : Type 0} {key : C → Key} {hash : Key → ℕ} {index : Placed} {contents : List C} {k : Key} {start now : List Event} where
   pub begins : (s : ℕ) → index.hashes ≡ map (λ c. hash (key c)) contents → AreDistinct (map key contents) →
       IsFound (hash k) (chain index (hash k % index.count)) start now s → IsWalking key hash index contents k start now (Some s)
@@ -99,6 +104,22 @@ module _ {C : Type 0} {key : C → Key} {hash : Key → ℕ} {index : Placed} {c
   ends w =
       let done = along.ends _ _ _ _ _ w.here _ w.entry w.along w.leads in
       (done.0, (w.events, w.added, done.1))
+
+  -- a walk has taken a step
+  walks : {candidate : Option ℕ} → (w : IsWalking key hash index contents k start now candidate) → 1 ≤ step_count w.events
+  walks w = let counts : step_count w.events ≡ 1 + step_count (walked hash (map key contents) k w.along.seen) = ap step_count w.along.walk in omega (arith, counts)
+
+  pub ends-recorded : IsWalking key hash index contents k start now None → Adds start now (IsRecorded k None)
+  ends-recorded w = (w.events, w.added, record { steps = walks w; comparison = tt })
+
+  pub finds-recorded : (s : ℕ) (x : C) (later : List Event) → IsWalking key hash index contents k start now (Some s) → k ≡ key x → later ≡ now ++ compared k (key x) ∷ [] →
+      Adds start later (IsRecorded k (Some s))
+  finds-recorded s x later w same compares =
+      let adds : later ≡ now ++ compared k k ∷ [] = rw (← same) at compares in (
+        w.events ++ compared k k ∷ [],
+        joined _ _ _ _ _ w.added adds,
+        record { steps = omega (arith, walks w, step_count-append w.events (compared k k ∷ [])); comparison = (w.events, [], refl) },
+      )
 
   pub finds : (s : ℕ) (x : C) (later : List Event) → IsWalking key hash index contents k start now (Some s) → x ≡ get_or contents s x → k ≡ key x → later ≡ now ++ compared k (key x) ∷ [] →
       (Some s ≡ first_of (map key contents) k) × Adds start later (λ cost. IsSearchCost hash k (bucket_keys hash index.count (map key contents) k) (hashed k ∷ cost))

@@ -6,6 +6,7 @@ use Rattle.intaglio_content.specs.Work.{Event}
 use Rattle.intaglio_index.specs.Placed.{Placed, chain}
 use Rattle.intaglio_index.specs.Found.{IsFound, IsPassed}
 use Rattle.intaglio_core.specs.State.{State}
+use Rattle.intaglio_core.specs.Cost.{Adds}
 use Rattle.intaglio_core.specs.declared.begun.Begun.{Begun}
 
 module _ {C : Type 0} (key : C → Key) (hash : Key → ℕ) where
@@ -22,6 +23,10 @@ module _ {C : Type 0} (key : C → Key) (hash : Key → ℕ) where
   -- a search for hash h
   abbrev pub IsBegun : State C → ℕ → Begun → Type 0
   IsBegun s h b = HasBegun s h b.work.events b.candidate
+
+  -- a search for a key that was begun at the events `start`, and has reached the events `now`
+  abbrev pub HasBegunSince : State C → Key → List Event → List Event → Option ℕ → Type 0
+  HasBegunSince s k start now candidate = Adds start now (λ cost. HasBegun s (hash k) cost candidate)
 
   -- a search for each of these hashes
   abbrev pub AreBegun : State C → List ℕ → List Begun → Type 0

@@ -1,5 +1,5 @@
 -- What calls add to the events of a `Work`.
-use Rattle.std.specs.Prelude.{◌≡◌, ◌≢◌, ℕ, ◌+◌, ◌%◌, ◌≤◌, ◌==◌, List, [], ◌∷◌, ◌++◌, length, map, filter, All, Contains, Result, Ok, Err, MatchOption}
+use Rattle.std.specs.Prelude.{◌≡◌, ◌≢◌, ℕ, ◌+◌, ◌%◌, ◌≤◌, ◌==◌, List, [], ◌∷◌, ◌++◌, length, map, filter, All, Contains, Option, IfSome, Result, Ok, Err, MatchOption}
 use Rattle.intaglio_content.specs.Key.{Key}
 use Rattle.intaglio_content.specs.declared.work.Work.{Work}
 use Rattle.intaglio_content.specs.Work.{Event, hashed, compared, step, placed}
@@ -65,6 +65,11 @@ pub record IsSearchCost (hash : Key → ℕ) (k : Key) (bucket : List Key) (cost
   pub equal_hashes : All (λ x. hash x ≡ hash k) (stored_keys cost)
   pub steps : step_count cost ≤ length bucket + 1
   pub placements : placed_count cost ≡ 0
+
+-- a search records at least a step, and the comparison with what it finds
+pub record IsRecorded (k : Key) (found : Option ℕ) (cost : List Event) : Type 0 where
+  pub steps : 1 ≤ step_count cost
+  pub comparison : IfSome found (λ _. (earlier later : List Event) × (cost ≡ earlier ++ compared k k ∷ later))
 
 -- a growth of the buckets hashes nothing and places each symbol again
 pub record IsGrowthCost {C : Type 0} (old new : State C) (cost : List Event) : Type 0 where

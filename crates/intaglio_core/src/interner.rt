@@ -1,14 +1,14 @@
 //! What every symbol table does, for code that is generic over tables.
-ghost use Rattle.std.specs.Prelude.{◌≡◌, ℕ, ◌++◌, ◌∷◌, [], length, slice_get, option_copied};
+ghost use Rattle.std.specs.Prelude.{◌≡◌, ℕ, ◌++◌, ◌∷◌, List, [], length, slice_get, option_copied};
 ghost use Rattle.std.specs.Prelude.{IfOk, IfSome, OnOk, OnErr};
 ghost use Rattle.intaglio_content.specs.Key.{Key, hash_of};
-ghost use Rattle.intaglio_content.specs.Work.{hashed};
+ghost use Rattle.intaglio_content.specs.Work.{Event, hashed};
 ghost use Rattle.intaglio_core.specs.State.{State, first, IsValid};
 ghost use Rattle.intaglio_core.specs.Begun.{IsBegun};
 ghost use Rattle.intaglio_core.specs.Lookup.{IsFound, IsStored, Keeps, KeepsBelow, FindsOthers, FindsNothing};
 ghost use Rattle.intaglio_core.specs.Change.{Interns, InternsForm, Reserves, Shrinks, TakesBack, Empties};
 ghost use Rattle.intaglio_core.specs.Cost.{Costs, InternCost, SearchCost, IsRoomCost};
-ghost use Rattle.intaglio_core.specs.Cost.{KnownInternCost, KnownSearchCost};
+ghost use Rattle.intaglio_core.specs.Cost.{KnownInternCost, KnownSearchCost, IsRecorded};
 
 use crate::begun::Begun;
 use crate::table_core::Core;
@@ -118,6 +118,7 @@ pub trait Interner {
         ensures found { result ≡ first Self.Content.key (state self.now).contents (Q.key sought.now) }
         ensures cost { let cost = KnownSearchCost Self.Content.key (hash self.now) (state self.now) in
             Costs work.old work.new (cost (Q.key sought.now)) }
+        ensures recorded { Costs work.old work.new (IsRecorded (Q.key sought.now) result) }
         ensures valid { IsValid Self.Content.key (state self.now) };
 
     /// Begins a search by a known hash: finds the first content with this hash, and doesn't read it.
@@ -131,7 +132,8 @@ pub trait Interner {
     /// byte itself means nothing.
     fn touch<Q: Sought<Self::Content>>(&self, begun: &Begun, sought: &Q) -> u8;
 
-    /// Ends a search that was begun with the hash of this content or form.
+    /// Ends a search that was begun with the hash of this content or form. Records in `work` what was done
+    /// for it before, and then the rest.
     fn end_search<Q: Sought<Self::Content>>(
         &self,
         begun: &Begun,
@@ -141,8 +143,11 @@ pub trait Interner {
         requires begun { let h = hash self.now (Q.key sought.now) in
             IsBegun Self.Content.key (hash self.now) (state self.now) h begun.now }
         ensures found { result ≡ first Self.Content.key (state self.now).contents (Q.key sought.now) }
+        ensures events { (more : List Event) ×
+            (work.new.events ≡ work.old.events ++ begun.now.work.events ++ more) }
         ensures cost { let k = Q.key sought.now in
             Costs work.old work.new (KnownSearchCost Self.Content.key (hash self.now) (state self.now) k) }
+        ensures recorded { Costs work.old work.new (IsRecorded (Q.key sought.now) result) }
         ensures valid { IsValid Self.Content.key (state self.now) };
 
     /// The symbol of the content that is equal to this content or form, if there is one.
@@ -154,6 +159,7 @@ pub trait Interner {
         ensures found { result ≡ first Self.Content.key (state self.now).contents (Q.key sought.now) }
         ensures cost { let cost = SearchCost Self.Content.key (hash self.now) (state self.now) in
             Costs work.old work.new (cost (Q.key sought.now)) }
+        ensures recorded { Costs work.old work.new (IsRecorded (Q.key sought.now) result) }
         ensures valid { IsValid Self.Content.key (state self.now) };
 
     /// Reserves capacity for `additional` more contents.

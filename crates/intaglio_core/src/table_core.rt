@@ -1,14 +1,16 @@
 //! A list of contents with an index over it.
-ghost use Rattle.std.specs.Prelude.{◌≡◌, ◌+◌, ◌^◌, ◌<◌, ◌≤◌, ◌↔◌, [], length, slice_get, vec_capacity};
+ghost use Rattle.std.specs.Prelude.{◌≡◌, ◌+◌, ◌^◌, ◌<◌, ◌≤◌, ◌↔◌, ◌++◌, List, [], length, slice_get};
+ghost use Rattle.std.specs.Prelude.{vec_capacity};
 ghost use Rattle.std.specs.Prelude.{option_copied, None, IfSome, IfOk, IsTrue, OnOk, OnErr};
 ghost use Rattle.intaglio_content.specs.Key.{hash_of};
+ghost use Rattle.intaglio_content.specs.Work.{Event};
 ghost use Rattle.intaglio_symbol.specs.AllSymbols.{numbers_from};
 ghost use Rattle.intaglio_index.specs.Change.{KeepsPlaces};
 ghost use Rattle.intaglio_core.specs.State.{first, IsValid};
-ghost use Rattle.intaglio_core.specs.Begun.{IsBegun};
+ghost use Rattle.intaglio_core.specs.Begun.{IsBegun, HasBegunSince};
 ghost use Rattle.intaglio_core.specs.Change.{Interns, Takes};
 ghost use Rattle.intaglio_core.specs.Lookup.{IsFound, IsStored, Keeps, FindsInterned, FindsOthers};
-ghost use Rattle.intaglio_core.specs.Cost.{Costs, SearchCost, InternCost, KnownSearchCost, KnownInternCost};
+ghost use Rattle.intaglio_core.specs.Cost.{Costs, Adds, SearchCost, InternCost, KnownSearchCost, KnownInternCost, IsRecorded};
 ghost use Rattle.intaglio_core.specs.Indexed.{AddCost, HasPlaces, FindsPlace, FindsNoPlace};
 
 mod forms;
@@ -134,6 +136,7 @@ impl<C: Keyed, S: BuildHasher> Core<C, S> {
         ensures within { IfSome result (λ symbol. symbol < length self.now.state.contents) }
         ensures cost { let hash = hash_of S.BuildHasher S.Hasher.Hasher self.now.hasher in
             Costs work.old work.new (SearchCost C.key hash self.now.state (Q.key sought.now)) }
+        ensures recorded { Costs work.old work.new (IsRecorded (Q.key sought.now) result) }
         ensures valid { IsValid C.key self.now.state }
     {
         let hash = sought.hash_with(&self.hasher, work);
@@ -152,13 +155,15 @@ impl<C: Keyed, S: BuildHasher> Core<C, S> {
         ensures found { result ≡ first C.key self.now.state.contents (Q.key sought.now) }
         ensures cost { let hash = hash_of S.BuildHasher S.Hasher.Hasher self.now.hasher in
             Costs work.old work.new (KnownSearchCost C.key hash self.now.state (Q.key sought.now)) }
+        ensures recorded { Costs work.old work.new (IsRecorded (Q.key sought.now) result) }
         ensures valid { IsValid C.key self.now.state }
     {
-        let begun = self.begin_search(hash);
-        self.end_search(&begun, sought, work)
+        let candidate = self.index.find(hash, work);
+        self.search_from(candidate, sought, work)
     }
 
-    // Finds the first content with this hash, which `end_search` compares.
+    // Finds the first content with this hash, which `end_search` compares. Its events are apart, since other
+    // searches may be begun before it is ended.
     #[inline(always)]
     pub(crate) fn begin_search(&self, hash: u64) -> Begun
         ensures { let of_key = hash_of S.BuildHasher S.Hasher.Hasher self.now.hasher in
@@ -169,7 +174,7 @@ impl<C: Keyed, S: BuildHasher> Core<C, S> {
         Begun { candidate, work }
     }
 
-    // The rest of a search.
+    // The rest of a search that was begun apart. Records what was done for it before, too.
     #[inline(always)]
     pub(crate) fn end_search<Q: Sought<C>>(
         &self,
@@ -180,14 +185,46 @@ impl<C: Keyed, S: BuildHasher> Core<C, S> {
         requires begun { let hash = hash_of S.BuildHasher S.Hasher.Hasher self.now.hasher in
             IsBegun C.key hash self.now.state (hash (Q.key sought.now)) begun.now }
         ensures found { result ≡ first C.key self.now.state.contents (Q.key sought.now) }
+        ensures events { (more : List Event) ×
+            (work.new.events ≡ work.old.events ++ begun.now.work.events ++ more) }
         ensures cost { let hash = hash_of S.BuildHasher S.Hasher.Hasher self.now.hasher in
             Costs work.old work.new (KnownSearchCost C.key hash self.now.state (Q.key sought.now)) }
+        ensures recorded { Costs work.old work.new (IsRecorded (Q.key sought.now) result) }
         ensures valid { IsValid C.key self.now.state }
     {
         work.append(&begun.work);
+        self.search_from(begun.candidate, sought, work)
+    }
+
+    // The rest of a search, from the first content with the sought hash on. `start` in the clauses is the list
+    // of events at the search's begin.
+    #[inline(always)]
+    fn search_from<Q: Sought<C>>(
+        &self,
+        candidate: Option<Symbol>,
+        sought: &Q,
+        work: &mut Work,
+    ) -> Option<Symbol>
+        requires begun { let hash = hash_of S.BuildHasher S.Hasher.Hasher self.now.hasher in
+            (start : List Event) ×
+            HasBegunSince C.key hash self.now.state (Q.key sought.now) start work.old.events candidate }
+        ensures found { result ≡ first C.key self.now.state.contents (Q.key sought.now) }
+        ensures events { (more : List Event) × (work.new.events ≡ work.old.events ++ more) }
+        ensures cost { let hash = hash_of S.BuildHasher S.Hasher.Hasher self.now.hasher in
+            let k = Q.key sought.now in
+            (start : List Event) →
+            HasBegunSince C.key hash self.now.state k start work.old.events candidate →
+            Adds start work.new.events (KnownSearchCost C.key hash self.now.state k) }
+        ensures recorded { let hash = hash_of S.BuildHasher S.Hasher.Hasher self.now.hasher in
+            let k = Q.key sought.now in
+            (start : List Event) →
+            HasBegunSince C.key hash self.now.state k start work.old.events candidate →
+            Adds start work.new.events (IsRecorded k result) }
+        ensures valid { IsValid C.key self.now.state }
+    {
         let index = &self.index;
         let contents = self.list.as_slice();
-        let mut candidate = Some(begun.candidate?);
+        let mut candidate = Some(candidate?);
         while let Some(symbol) = candidate {
             if sought.same_as(&contents[symbol.id() as usize], work) {
                 return Some(symbol);
