@@ -19,6 +19,14 @@ use std::alloc::Global;
 /// The capacity of a new table.
 const DEFAULT_CAPACITY: usize = 4096;
 
+/// Returns the version of the library: its first number times 10000, its second times 100, and its third.
+#[unsafe(no_mangle)]
+pub extern "C" fn intaglio_version() -> u32
+    ensures version { result ≡ 20000 }
+{
+    20000
+}
+
 /// Puts a new table of a kind with capacity 4096 into the handle.
 #[unsafe(no_mangle)]
 pub extern "C" fn intaglio_new(

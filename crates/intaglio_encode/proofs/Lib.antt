@@ -1,3 +1,4 @@
+pub mod Accepted
 pub mod Known
 pub mod Spellings
 pub mod Written

@@ -1,5 +1,5 @@
 -- What is written for a list of contents, one after the other.
-use Rattle.std.proofs.Common.{◌≡◌, ℕ, suc, zero, ◌+◌, add-one, List, [], ◌∷◌, ◌++◌, append_assoc, take, map, Option, Some, None, refl, ap}
+use Rattle.std.proofs.Common.{◌≡◌, ℕ, suc, zero, ◌+◌, add-one, List, [], ◌∷◌, ◌++◌, take, map, Option, Some, refl, ap}
 use Rattle.std.specs.List.{slice_get, flat_map}
 use Rattle.std.specs.Io.KnownBytes.{Appends}
 use Rattle.std.proofs.lemmas.List.{append-nil, map-append}

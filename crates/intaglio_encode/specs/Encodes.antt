@@ -1,8 +1,9 @@
 -- What a run promises of the input that it reads.
-use Rattle.std.specs.Prelude.{ℕ, ◌^◌, ◌<◌, not, List, Option, String, map, string_bytes, IfSome}
-use Rattle.intaglio_encode.specs.Taken.{distinct_count}
+use Rattle.std.specs.Prelude.{◌≡◌, ℕ, ◌^◌, ◌<◌, List, Option, Result, String, map, string_bytes, IfSome, OnOk}
+use Rattle.std.specs.Io.KnownBytes.{IsAtEnd}
+use Rattle.intaglio_encode.specs.Taken.{AllFit, distinct_count}
 use Rattle.intaglio_lines.specs.Encoded.{encoded}
-use Rattle.intaglio_lines.specs.Kind.{Allows, key_of, kind_of_words}
+use Rattle.intaglio_lines.specs.Kind.{Allows, is_fit, key_of, kind_of_words}
 use Rattle.intaglio_lines.specs.Puts.{Writes}
 use Rattle.intaglio_lines.specs.declared.kind.Kind.{Kind}
 
@@ -18,6 +19,23 @@ EncodesBy words known contents old new =
 -- the input can't be split into lines of this kind
 abbrev pub Forbids : Kind → List ℕ → Type 0
 Forbids kind input = ¬ (Allows kind input)
+
+-- all of the input was read, and it can't be split into lines of this kind
+abbrev pub ReadsForbidden : Kind → Option (List ℕ) → Option (List ℕ) → Type 0
+ReadsForbidden kind old new = IfSome old (Forbids kind) × IsAtEnd new
+
+-- the input can be split into lines of this kind, and each line fits
+abbrev pub Accepts : Kind → List ℕ → Type 0
+Accepts kind input = Allows kind input × AllFit (is_fit kind) input
+
+-- the call succeeds only if P holds, and nothing is written if it doesn't
+abbrev pub WritesOnlyIf : {T E W : Type 0} → Type 0 → Result T E → W → W → Type 0
+WritesOnlyIf P result old new = OnOk result P × (¬ P → new ≡ old)
+
+-- the status is 1, and nothing is written, if the input isn't one that the kind of the arguments accepts
+abbrev pub RefusesBy : {W Z : Type 0} → List (String Z) → Option (List ℕ) → ℕ → W → W → Type 0
+RefusesBy words known status old new =
+    IfSome (kind_of_words (map string_bytes words)) (λ kind. IfSome known (λ input. ¬ (Accepts kind input) → (status ≡ 1) × (new ≡ old)))
 
 -- there are more distinct lines than symbols
 abbrev pub IsTooMany : Kind → List ℕ → Type 0

@@ -1,10 +1,12 @@
 -- What errors say.
-use Rattle.std.specs.Prelude.{ℕ, List, Bool, Result, Ok, Err}
+use Rattle.std.specs.Prelude.{ℕ, List, Bool}
 use Rattle.intaglio_symbol.specs.declared.error.InternError.{InternError}
 use Rattle.intaglio_symbol.specs.declared.error.InternError.TheVariants as intern_error
 use Rattle.intaglio_lines.specs.declared.error.StreamError.{StreamError}
 use Rattle.intaglio_lines.specs.declared.error.StreamError.TheVariants as stream_error
 use Rattle.intaglio_encode.specs.Taken.{IsFirstUnfit}
+use Rattle.intaglio_encode.specs.declared.error.RunError.{RunError}
+use Rattle.intaglio_encode.specs.declared.error.RunError.TheVariants.{NoSeed, Encode}
 use Rattle.intaglio_encode.specs.declared.error.ToolError.{ToolError}
 use Rattle.intaglio_encode.specs.declared.error.ToolError.TheVariants.{NotUtf8, ZeroByte, Memory, Overflow, Read, Write}
 
@@ -41,13 +43,17 @@ IsEncodingError Overflow = Unit {0}
 IsEncodingError Write = Unit {0}
 IsEncodingError _ = ⊥
 
--- the run failed: the input isn't UTF-8, or wasn't read to its end
-abbrev pub IsInputError : {T : Type 0} → Result T ToolError → Type 0
-IsInputError (Ok x) = ⊥
-IsInputError (Err NotUtf8) = Unit {0}
-IsInputError (Err Memory) = Unit {0}
-IsInputError (Err Read) = Unit {0}
-IsInputError (Err _) = ⊥
+-- the input isn't UTF-8, or wasn't read to its end
+abbrev pub IsInputError : ToolError → Type 0
+IsInputError NotUtf8 = Unit {0}
+IsInputError Memory = Unit {0}
+IsInputError Read = Unit {0}
+IsInputError _ = ⊥
+
+-- P holds of the encoding's error if the error is one
+abbrev pub IfEncode : RunError → (ToolError → Type 0) → Type 0
+IfEncode (Encode error) P = P error
+IfEncode NoSeed P = Unit {0}
 
 -- an interning's error as an error of a run
 abbrev pub from_intern_error : InternError → ToolError

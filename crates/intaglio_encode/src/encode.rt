@@ -1,10 +1,10 @@
 //! From the bytes read to the bytes written.
-ghost use Rattle.std.specs.Prelude.{◌≡◌, ◌≢◌, ◌<◌, ◌^◌, OnOk, IfErr, IfSome};
+ghost use Rattle.std.specs.Prelude.{◌≡◌, ◌≢◌, ◌<◌, ◌^◌, OnOk, IfErr, IfSome, IsErrAnd};
 ghost use Rattle.std.specs.Io.KnownBytes.{IsAtEnd};
 ghost use Rattle.intaglio_lines.specs.Encoded.{encoded, encoded_by};
 ghost use Rattle.intaglio_lines.specs.Kind.{is_fit};
 ghost use Rattle.intaglio_lines.specs.Puts.{Writes};
-ghost use Rattle.intaglio_encode.specs.Encodes.{Encodes, Forbids, IsTooMany};
+ghost use Rattle.intaglio_encode.specs.Encodes.{Accepts, Encodes, Forbids, IsTooMany, ReadsForbidden, WritesOnlyIf};
 ghost use Rattle.intaglio_encode.specs.Taken.{AllFit, distinct_count};
 ghost use Rattle.intaglio_encode.specs.ToolError.{IsEncodingError, IsInputError, IsInterningOrWritingError};
 ghost use Rattle.intaglio_encode.specs.ToolError.{ReportsFirstUnfit};
@@ -50,15 +50,16 @@ pub fn encode<S: BuildHasher + Drop, R: Read, W: Write>(
     // `NotUtf8` is returned only after the whole input was read, and only if the kind doesn't allow that
     // input. A contract can't distinguish a reader at its end from one that has reported it, so an allocation
     // may have failed there: `encode_input` is exact.
-    ensures not_utf8 { result ≡ Err NotUtf8 → IfSome (R.remaining reader.old) (Forbids kind) }
-    ensures end_met { result ≡ Err NotUtf8 → IsAtEnd (R.remaining reader.new) }
+    ensures not_utf8 { result ≡ Err NotUtf8 →
+        ReadsForbidden kind (R.remaining reader.old) (R.remaining reader.new) }
     ensures refuses { IfSome (R.remaining reader.old)
-        (λ input. Forbids kind input → IsInputError result) }
+        (λ input. Forbids kind input → IsErrAnd result IsInputError) }
 
     // The first line that doesn't fit is reported by its number, and never passed over.
     ensures zero { IfSome (R.remaining reader.old)
         (λ input. IfErr result (ReportsFirstUnfit (is_fit kind) input)) }
-    ensures fit { IfSome (R.remaining reader.old) (λ input. OnOk result (AllFit (is_fit kind) input)) }
+    ensures accepts { IfSome (R.remaining reader.old)
+        (λ input. WritesOnlyIf (Accepts kind input) result writer.old writer.new) }
 
     ensures overflow { result ≡ Err Overflow → IfSome (R.remaining reader.old) (IsTooMany kind) }
     ensures nothing_written { IfErr result (λ e. e ≢ WriteFailed → writer.new ≡ writer.old) }
@@ -84,7 +85,7 @@ pub fn encode_input<S: BuildHasher + Drop, W: Write>(
     ensures not_utf8 { result ≡ Err NotUtf8 → Forbids kind input.now }
     ensures refuses { Forbids kind input.now → result ≡ Err NotUtf8 }
     ensures zero { IfErr result (ReportsFirstUnfit (is_fit kind) input.now) }
-    ensures fit { OnOk result (AllFit (is_fit kind) input.now) }
+    ensures accepts { WritesOnlyIf (Accepts kind input.now) result writer.old writer.new }
     ensures overflow { result ≡ Err Overflow → IsTooMany kind input.now }
     ensures nothing_written { IfErr result (λ e. e ≢ WriteFailed → writer.new ≡ writer.old) }
     ensures err { IfErr result IsEncodingError }
@@ -112,7 +113,7 @@ fn encode_by<'a, C: FromLine<'a>, S: BuildHasher + Drop, W: Write>(
     requires allowed { C.allows input.now }
     ensures written { OnOk result (Writes W.contents writer.old writer.new (encoded_by C.key_of input.now)) }
     ensures zero { IfErr result (ReportsFirstUnfit C.fits input.now) }
-    ensures fit { OnOk result (AllFit C.fits input.now) }
+    ensures fit { WritesOnlyIf (AllFit C.fits input.now) result writer.old writer.new }
     ensures overflow { result ≡ Err Overflow → 2 ^ 32 < distinct_count C.key_of input.now }
     ensures nothing_written { IfErr result (λ e. e ≢ WriteFailed → writer.new ≡ writer.old) }
     ensures err { IfErr result IsInterningOrWritingError }

@@ -1,9 +1,12 @@
 //! A run of the program over any input and output.
-ghost use Rattle.std.specs.Prelude.{◌≡◌, ◌≢◌, ◌≤◌, ◌↔◌, None, OnOk, map, string_bytes};
+ghost use Rattle.std.specs.Prelude.{◌≡◌, ◌≢◌, ◌≤◌, ◌↔◌, None, OnOk, IfErr, IfSome, IsErrAnd, map, string_bytes};
 ghost use Rattle.std.specs.Io.KnownBytes.{IsAtEnd};
-ghost use Rattle.intaglio_lines.specs.Kind.{kind_of_words};
-ghost use Rattle.intaglio_encode.specs.Encodes.{Encodes, EncodesBy};
-ghost use Rattle.intaglio_encode.specs.declared.error.RunError.TheVariants.{NoSeed};
+ghost use Rattle.intaglio_lines.specs.Kind.{is_fit, kind_of_words};
+ghost use Rattle.intaglio_encode.specs.Encodes.{Accepts, Encodes, EncodesBy, Forbids, IsTooMany, ReadsForbidden};
+ghost use Rattle.intaglio_encode.specs.Encodes.{RefusesBy, WritesOnlyIf};
+ghost use Rattle.intaglio_encode.specs.ToolError.{IfEncode, IsInputError, ReportsFirstUnfit};
+ghost use Rattle.intaglio_encode.specs.declared.error.RunError.TheVariants.{Encode, NoSeed};
+ghost use Rattle.intaglio_encode.specs.declared.error.ToolError.TheVariants.{NotUtf8, Overflow, Write as WriteFailed};
 
 use crate::encode::encode;
 use crate::error::RunError;
@@ -36,6 +39,7 @@ pub fn serve<S: BuildHasher + Drop, R: Read, W: Write, E: Write>(
     ensures written { result ≡ 0 → EncodesBy words.now
         (R.remaining reader.old) W.contents writer.old writer.new }
     ensures all_read { result ≡ 0 → IsAtEnd (R.remaining reader.new) }
+    ensures refuses { RefusesBy words.now (R.remaining reader.old) result writer.old writer.new }
 {
     let Some(kind) = Kind::from_words(words) else {
         let _ = writeln!(faults, "{USAGE}");
@@ -51,8 +55,8 @@ pub fn serve<S: BuildHasher + Drop, R: Read, W: Write, E: Write>(
 ///
 /// # Errors
 ///
-/// `NoSeed` exactly if there is none, and then nothing was read or written;
-/// otherwise the error of [`encode`].
+/// `NoSeed` exactly if there is none, and then nothing was read; otherwise the error of [`encode`]. After each
+/// error but a failed write nothing was written.
 pub fn run<S: BuildHasher + Drop, R: Read, W: Write>(
     alloc: Global,
     kind: Kind,
@@ -62,9 +66,20 @@ pub fn run<S: BuildHasher + Drop, R: Read, W: Write>(
 ) -> Result<(), RunError>
     ensures no_seed { (result ≡ Err NoSeed) ↔ (builder ≡ None) }
     ensures unread { result ≡ Err NoSeed → reader.new ≡ reader.old }
-    ensures unwritten { result ≡ Err NoSeed → writer.new ≡ writer.old }
     ensures written { OnOk result (Encodes kind (R.remaining reader.old) W.contents writer.old writer.new) }
     ensures all_read { OnOk result (IsAtEnd (R.remaining reader.new)) }
+
+    // What `encode` promises of its errors.
+    ensures not_utf8 { result ≡ Err (Encode NotUtf8) →
+        ReadsForbidden kind (R.remaining reader.old) (R.remaining reader.new) }
+    ensures refuses { IfSome (R.remaining reader.old)
+        (λ input. Forbids kind input → IsErrAnd result (λ e. IfEncode e IsInputError)) }
+    ensures zero { IfSome (R.remaining reader.old)
+        (λ input. IfErr result (λ e. IfEncode e (ReportsFirstUnfit (is_fit kind) input))) }
+    ensures accepts { IfSome (R.remaining reader.old)
+        (λ input. WritesOnlyIf (Accepts kind input) result writer.old writer.new) }
+    ensures overflow { result ≡ Err (Encode Overflow) → IfSome (R.remaining reader.old) (IsTooMany kind) }
+    ensures nothing_written { IfErr result (λ e. e ≢ Encode WriteFailed → writer.new ≡ writer.old) }
 {
     let Some(builder) = builder else {
         return Err(RunError::NoSeed);

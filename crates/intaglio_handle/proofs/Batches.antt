@@ -1,26 +1,23 @@
 -- Batches, one string at a time.
 use Rattle.std.proofs.Common.{◌≡◌, ℕ, zero, suc, ◌+◌, ◌-◌, ◌<◌, ◌≤◌, Bool, true, false, cond, List, [], ◌∷◌, ◌++◌, length, take, drop, refl, sym, ap, subst, ◌∙◌, le_refl, arith, length-append, append_assoc, append-nil}
-use Rattle.std.specs.Prelude.{◌==◌, if◌then◌else◌, Option, Some, None, IfSome, Result, Ok, Err, is_some, unwrap_or, slice_get, option_map, option_and_then}
+use Rattle.std.specs.Prelude.{if◌then◌else◌, Option, Some, None, IfSome, Result, Ok, Err, is_some, unwrap_or, slice_get, option_map, option_and_then}
 use Rattle.std.specs.List.{concat}
-use Rattle.std.specs.Str.{is_utf8}
 use Rattle.std.proofs.Math.ListN.{get_or, set}
 use Rattle.std.proofs.Math.Seq.{take-append_seam, take-length}
 use Rattle.std.proofs.lemmas.List.{take-take, take_more, take_more_set, take_at, take-append-drop, drop_more, drop_at, drop-drop, at_drop_more, length-drop}
 use Rattle.std.proofs.lemmas.List.Folds.{concat-append}
 use borrow.Rule.Slice.PartMut.{put_mid}
 use Rattle.std.proofs.lemmas.Result.{IfOk-at_ok, IfErr-at_err}
-use Rattle.intaglio_core.proofs.Held.{interned_all-longer}
+use Rattle.intaglio_core.proofs.Held.{interned_all-append, issue_from-append}
 use Rattle.intaglio_core.specs.Change.{IsTaken, TakesBack}
 use Rattle.intaglio_core.specs.Issue.{issued, interned, interned_all, issue_from}
 use Rattle.intaglio_core.specs.State.{State}
-use Rattle.intaglio_cstr.specs.Zeros.{first_zero}
 use Rattle.intaglio_symbol.specs.declared.error.StaleMark.{StaleMark}
-use Rattle.intaglio_handle.specs.Batches.{all_stored, earlier, ends_from, first_fault, are_ends, pieces, AreInterned, IsBegun, IsRolledBack, InternsOr}
-use Rattle.intaglio_handle.specs.Kinds.{fault, key, utf8_fault, zero_fault_at}
+use Rattle.intaglio_handle.specs.Batches.{all_stored, earlier, ends_from, first_fault, are_ends, pieces, AreInterned, IsBegun, IsRolledBack, InternsOr, StopsAt}
+use Rattle.intaglio_handle.specs.Kinds.{fault, key}
 use Rattle.intaglio_handle.specs.Seen.{Seen, position, unless, IsChangedBy}
 use Rattle.intaglio_handle.specs.Steps.{Interns, InternsBy, IsUncopied}
 use Rattle.intaglio_handle.specs.declared.kind.Kind.{Kind}
-use Rattle.intaglio_handle.specs.declared.kind.Kind.TheVariants as kind
 use Rattle.intaglio_handle.specs.declared.refusal.Refusal.{Refusal}
 use Rattle.intaglio_handle.specs.declared.refusal.Refusal.TheVariants as refusal
 
@@ -73,75 +70,56 @@ accepted-by None None s s' string symbol taken = (refl, taken.position, taken.co
 accepted-by None (Some i) s s' string symbol known = (refl, IfOk-at_ok (λ n. symbol ≡ n) known.0 refl, ap (λ (x : State (List ℕ)). x.contents) known.1, begun-same s s' known.1)
 accepted-by (Some r) o s s' string symbol refused = absurd (IfErr-at_err (λ _. ⊥) refused.0 tt)
 
--- what bytes may be refused for
-abbrev IsFault : Refusal → Type 0
-IsFault refusal.Full = ⊥
-IsFault refusal.NoMemory = ⊥
-IsFault _ = Unit {0}
-
-text_faulty : (bytes : List ℕ) → IfSome (utf8_fault bytes) IsFault
-text_faulty bytes = elim (is_utf8 bytes) as (λ b. IfSome (cond b None (Some refusal.NotUtf8)) IsFault) [ true ↦ tt | false ↦ tt ]
-
-zero_faulty : (n : ℕ) (first : Option ℕ) → IfSome (zero_fault_at n first) IsFault
-zero_faulty n None = tt
-zero_faulty n (Some place) = elim (place == n - 1) as (λ b. IfSome (cond b None (Some refusal.InnerZero)) IsFault) [ true ↦ tt | false ↦ tt ]
-
-faulty : (k : Kind) (bytes : List ℕ) → IfSome (fault k bytes) IsFault
-faulty kind.Text bytes = text_faulty bytes
-faulty kind.Bytes bytes = tt
-faulty kind.CStr bytes = zero_faulty (length bytes) (first_zero bytes)
-faulty kind.Path bytes = text_faulty bytes
-faulty kind.OsStr bytes = text_faulty bytes
-faulty kind.BStr bytes = tt
-
--- what a refused interning says
-abbrev Refuses : Option Refusal → Option ℕ → State (List ℕ) → State (List ℕ) → Refusal → Type 0
-Refuses f o s s' refusal.Full = (o ≡ None) × (length s.contents ≡ s.limit) × IsBegun s s'
-Refuses f o s s' refusal.NoMemory = IsBegun s s'
-Refuses f o s s' r = (f ≡ Some r) × IsBegun s s'
-
-by_fault : (o : Option ℕ) (s s' : State (List ℕ)) (r : Refusal) → IsFault r → IsBegun s s' → Refuses (Some r) o s s' r
-by_fault o s s' refusal.Full is begun = absurd is
-by_fault o s s' refusal.NoMemory is begun = absurd is
-by_fault o s s' r is begun = (refl, begun)
-
-refused-by : (f : Option Refusal) (o : Option ℕ) (s s' : State (List ℕ)) (string : List ℕ) (r : Refusal) → InternsBy IsUncopied string s (unless f o) (Err r) s' → IfSome f IsFault → Refuses f o s s' r
-refused-by None None s s' string refusal.Full full is = (refl, full.0, begun-same s s' full.1)
-refused-by None None s s' string refusal.NoMemory kept is = record {
+-- an interning that fails keeps what stands before it
+kept-by : (f : Option Refusal) (o : Option ℕ) (s s' : State (List ℕ)) (string : List ℕ) (r : Refusal) → InternsBy IsUncopied string s (unless f o) (Err r) s' → IsBegun s s'
+kept-by None None s s' string refusal.Full full = begun-same s s' full.1
+kept-by None None s s' string refusal.NoMemory kept = record {
   within = omega (arith, ap length kept.contents);
   contents = ap (take (length s.contents)) kept.contents ∙ take-length s.contents;
   capacity = omega (arith, ap length kept.contents, kept.spare);
   limit = kept.limit;
 }
-refused-by None None s s' string _ never is = absurd never
-refused-by None (Some i) s s' string r known is = absurd (IfOk-at_ok (λ _. ⊥) known.0 tt)
-refused-by (Some f) o s s' string r refused is =
-    subst (λ (x : Refusal). Refuses (Some f) o s s' x) (sym (IfErr-at_err (λ x. r ≡ x) refused.0 refl)) (by_fault o s s' f is (begun-same s s' refused.1))
+kept-by None None s s' string _ never = absurd never
+kept-by None (Some i) s s' string r known = begun-same s s' known.1
+kept-by (Some f) o s s' string r refused = begun-same s s' refused.1
+
+-- the first fault of strings one after the other
+earlier-assoc : (a b c : Option Refusal) → earlier (earlier a b) c ≡ earlier a (earlier b c)
+earlier-assoc None b c = refl
+earlier-assoc (Some r) b c = refl
+
+first_fault-append : (k : Kind) (xs ys : List (List ℕ)) → first_fault k (xs ++ ys) ≡ earlier (first_fault k xs) (first_fault k ys)
+first_fault-append k [] ys = refl
+first_fault-append k (x ∷ xs) ys = ap (earlier (fault k x)) (first_fault-append k xs ys) ∙ sym (earlier-assoc (fault k x) (first_fault k xs) (first_fault k ys))
 
 module _ (t0 : Seen) (strings : List (List ℕ)) where
-  -- a batch on its way: these strings are left, and these symbols are written
+  -- a batch on its way: the strings before these are interned, and their symbols are written
   pub record IsAt (t : Seen) (left : List (List ℕ)) (given : List ℕ) : Type 0 where
     pub kind : t.kind ≡ t0.kind
     pub hasher : t.hasher ≡ t0.hasher
-    pub faults : first_fault t0.kind left ≡ first_fault t0.kind strings
-    pub symbols : given ++ issue_from (key t0.kind) t.state.contents left ≡ issue_from (key t0.kind) t0.state.contents strings
-    pub contents : interned_all (key t0.kind) t.state.contents left ≡ interned_all (key t0.kind) t0.state.contents strings
+    pub before : List (List ℕ)
+    pub are : before ++ left ≡ strings
+    pub faultless : first_fault t0.kind before ≡ None
+    pub symbols : given ≡ issue_from (key t0.kind) t0.state.contents before
+    pub contents : t.state.contents ≡ interned_all (key t0.kind) t0.state.contents before
     pub begun : IsBegun t0.state t.state
 
   pub begin : IsAt t0 strings []
-  begin = record { kind = refl; hasher = refl; faults = refl; symbols = refl; contents = refl; begun = begun-same t0.state t0.state refl }
+  begin = record { kind = refl; hasher = refl; before = []; are = refl; faultless = refl; symbols = refl; contents = refl; begun = begun-same t0.state t0.state refl }
 
   pub turn : (t t' : Seen) (string : List ℕ) (left : List (List ℕ)) (given : List ℕ) (symbol : ℕ) → IsAt t (string ∷ left) given → IsChangedBy t t' (λ _ s'. Interns string t (Ok symbol) s') → IsAt t' left (given ++ symbol ∷ [])
   turn t t' string left given symbol at step =
-      let k = key t0.kind in let ok = accepted-by (fault t.kind string) (position t string) t.state t'.state string symbol step.step in
+      let k = key t0.kind in let one = string ∷ [] in let ok = accepted-by (fault t.kind string) (position t string) t.state t'.state string symbol step.step in
       let none : fault t0.kind string ≡ None = subst (λ (x : Kind). fault x string ≡ None) at.kind ok.0 in
       let issue : symbol ≡ issued k t.state.contents string = subst (λ (x : Kind). symbol ≡ issued (key x) t.state.contents string) at.kind ok.1 in
       let grown : t'.state.contents ≡ interned k t.state.contents string = subst (λ (x : Kind). t'.state.contents ≡ interned (key x) t.state.contents string) at.kind ok.2 in record {
         kind = step.kind ∙ at.kind;
         hasher = step.hasher ∙ at.hasher;
-        faults = sym (ap (λ (f : Option Refusal). earlier f (first_fault t0.kind left)) none) ∙ at.faults;
-        symbols = append_assoc given (symbol ∷ []) (issue_from k t'.state.contents left) ∙ (λ i. given ++ issue i ∷ issue_from k (grown i) left) ∙ at.symbols;
-        contents = ap (λ (cs : List (List ℕ)). interned_all k cs left) grown ∙ at.contents;
+        before = at.before ++ one;
+        are = append_assoc at.before one left ∙ at.are;
+        faultless = first_fault-append t0.kind at.before one ∙ (λ i. earlier (at.faultless i) (earlier (none i) None));
+        symbols = (λ i. at.symbols i ++ (issue ∙ ap (λ (cs : List (List ℕ)). issued k cs string) at.contents) i ∷ []) ∙ sym (issue_from-append k t0.state.contents at.before one);
+        contents = grown ∙ ap (λ (cs : List (List ℕ)). interned k cs string) at.contents ∙ sym (interned_all-append k t0.state.contents at.before one);
         begun = begun-then t0.state t.state t'.state at.begun ok.3;
       }
 
@@ -157,29 +135,32 @@ module _ (t0 : Seen) (strings : List (List ℕ)) where
       (subst (λ (r : Result ℕ Refusal). IsChangedBy t t' (λ _ s'. Interns string t r s')) ok step))
 
   pub finished : (t : Seen) (given : List ℕ) → IsAt t [] given → AreInterned t0 strings given t.state
-  finished t given at = record { faultless = sym at.faults; symbols = sym (append-nil given) ∙ at.symbols; contents = at.contents; capacity = at.begun.capacity; limit = at.begun.limit }
+  finished t given at =
+      let all : at.before ≡ strings = sym (append-nil at.before) ∙ at.are in record {
+        faultless = ap (first_fault t0.kind) (sym all) ∙ at.faultless;
+        symbols = at.symbols ∙ ap (issue_from (key t0.kind) t0.state.contents) all;
+        contents = at.contents ∙ ap (interned_all (key t0.kind) t0.state.contents) all;
+        capacity = at.begun.capacity;
+        limit = at.begun.limit;
+      }
 
   pub refused : (t t' : Seen) (string : List ℕ) (left : List (List ℕ)) (given symbols : List ℕ) (r : Refusal) → IsAt t (string ∷ left) given → IsChangedBy t t' (λ _ s'. Interns string t (Err r) s')
       → InternsOr IsBegun strings symbols t0 (Err r) t'.state
-  refused t t' string left given symbols r at step = told r (refused-by (fault t.kind string) (position t string) t.state t'.state string r step.step (faulty t.kind string))
+  refused t t' string left given symbols r at step = (stops, begun-then t0.state t.state t'.state at.begun (kept-by (fault t.kind string) (position t string) t.state t'.state string r step.step))
     where
-      over : position t string ≡ None → length t.state.contents ≡ t.state.limit → t0.state.limit < length (interned_all (key t0.kind) t0.state.contents strings)
-      over new full =
-          let one : length (interned (key t.kind) t.state.contents string) ≡ length t.state.contents + 1 =
-          ap (λ (o : Option ℕ). length (cond (is_some o) t.state.contents (t.state.contents ++ string ∷ []))) new ∙ length-append t.state.contents (string ∷ []) in
-          let longer = interned_all-longer (key t0.kind) (interned (key t0.kind) t.state.contents string) left in
-          omega (arith, subst (λ (x : Kind). length (interned (key x) t.state.contents string) ≡ length t.state.contents + 1) at.kind one, longer, ap length at.contents, full, at.begun.limit)
-
-      begun : IsBegun t.state t'.state → IsBegun t0.state t'.state
-      begun = begun-then t0.state t.state t'.state at.begun
-
-      first : (x : Refusal) → fault t.kind string ≡ Some x → first_fault t0.kind strings ≡ Some x
-      first x e = sym at.faults ∙ ap (λ (f : Option Refusal). earlier f (first_fault t0.kind left)) (subst (λ (y : Kind). fault y string ≡ Some x) at.kind e)
-
-      told : (x : Refusal) → Refuses (fault t.kind string) (position t string) t.state t'.state x → InternsOr IsBegun strings symbols t0 (Err x) t'.state
-      told refusal.Full why = (over why.0 why.1, begun why.2)
-      told refusal.NoMemory why = begun why
-      told x why = (first x why.0, begun why.1)
+      stops : StopsAt t0 strings r
+      stops = record {
+        before = at.before;
+        string = string;
+        behind = left;
+        are = sym at.are;
+        faultless = at.faultless;
+        reached = t.state;
+        contents = at.contents;
+        limit = at.begun.limit;
+        left = t'.state;
+        alone = subst (λ (x : Kind). Interns string (record { kind = x; state = t.state; hasher = t0.hasher }) (Err r) t'.state) at.kind step.step;
+      }
 
   pub stopped : (t t' : Seen) (bytes ends symbols written : List ℕ) (start i : ℕ) (refusal : Refusal) (result : Result ℕ Refusal) → i < length ends → IsAt t (pieces bytes start (drop i ends)) (take i symbols)
       → result ≡ Err refusal → IsChangedBy t t' (λ _ s'. Interns (take (get_or ends i 0 - start) (drop start bytes)) t result s')
@@ -199,8 +180,6 @@ rolled_back s0 s1 s2 (Err stale) begun kept = absurd (omega (arith, kept.0, begu
 
 pub none_left : (t : Seen) (strings : List (List ℕ)) (symbols : List ℕ) (s1 s2 : State (List ℕ)) (r : Refusal) → (IsBegun t.state s1 → IsRolledBack t.state s2) → InternsOr IsBegun strings symbols t (Err r) s1
     → InternsOr IsRolledBack strings symbols t (Err r) s2
-none_left t strings symbols s1 s2 refusal.Full rolled why = (why.0, rolled why.1)
-none_left t strings symbols s1 s2 refusal.NoMemory rolled why = rolled why
 none_left t strings symbols s1 s2 r rolled why = (why.0, rolled why.1)
 
 -- the strings of symbols

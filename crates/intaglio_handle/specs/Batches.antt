@@ -6,10 +6,11 @@ use Rattle.intaglio_core.specs.State.{State}
 use Rattle.intaglio_handle.specs.Handles.{found, table_of}
 use Rattle.intaglio_handle.specs.Kinds.{fault, key}
 use Rattle.intaglio_handle.specs.Seen.{Seen, look_up}
+use Rattle.intaglio_handle.specs.Steps.{Interns}
 use Rattle.intaglio_handle.specs.declared.handle.Handle.{Handle}
 use Rattle.intaglio_handle.specs.declared.kind.Kind.{Kind}
 use Rattle.intaglio_handle.specs.declared.refusal.Refusal.{Refusal}
-use Rattle.intaglio_handle.specs.declared.refusal.Refusal.TheVariants.{NoTable, Full, NoMemory, BadEnds, NoSymbol, NoSpace}
+use Rattle.intaglio_handle.specs.declared.refusal.Refusal.TheVariants.{NoTable, BadEnds, NoSymbol, NoSpace}
 
 -- the strings of a batch, from a position in its bytes on
 abbrev pub pieces : List ℕ → ℕ → List ℕ → List (List ℕ)
@@ -60,12 +61,23 @@ pub record IsBegun (old new : State (List ℕ)) : Type 0 where
   pub capacity : length old.contents + old.spare ≤ length new.contents + new.spare
   pub limit : new.limit ≡ old.limit
 
--- all strings are interned, or Left holds after an error
+-- the strings before one are interned, and the call that interns this one alone then returns the error
+pub record StopsAt (t : Seen) (strings : List (List ℕ)) (refusal : Refusal) : Type 0 where
+  pub before : List (List ℕ)
+  pub string : List ℕ
+  pub behind : List (List ℕ)
+  pub are : strings ≡ before ++ string ∷ behind
+  pub faultless : first_fault t.kind before ≡ None
+  pub reached : State (List ℕ)
+  pub contents : reached.contents ≡ interned_all (key t.kind) t.state.contents before
+  pub limit : reached.limit ≡ t.state.limit
+  pub left : State (List ℕ)
+  pub alone : Interns string (record { kind = t.kind; state = reached; hasher = t.hasher }) (Err refusal) left
+
+-- all strings are interned, or Left holds after the error of the first one that can't be
 abbrev pub InternsOr : (State (List ℕ) → State (List ℕ) → Type 0) → List (List ℕ) → List ℕ → Seen → Result (Unit {0}) Refusal → State (List ℕ) → Type 0
 InternsOr Left strings symbols t (Ok _) s' = AreInterned t strings symbols s'
-InternsOr Left strings symbols t (Err Full) s' = (t.state.limit < length (interned_all (key t.kind) t.state.contents strings)) × Left t.state s'
-InternsOr Left strings symbols t (Err NoMemory) s' = Left t.state s'
-InternsOr Left strings symbols t (Err refusal) s' = (first_fault t.kind strings ≡ Some refusal) × Left t.state s'
+InternsOr Left strings symbols t (Err refusal) s' = StopsAt t strings refusal × Left t.state s'
 
 -- a batch is interned, up to the first string that fails
 abbrev pub InternsEach : List ℕ → List ℕ → List ℕ → Seen → Result (Unit {0}) Refusal → State (List ℕ) → Type 0

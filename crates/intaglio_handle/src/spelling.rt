@@ -1,9 +1,12 @@
 //! The place of a content's bytes.
 ghost use Rattle.std.specs.Prelude.{◌≡◌, length};
 
-use std::ptr::{from_ref, null};
+use std::ptr::from_ref;
 
-/// Bytes, as a pointer and a length. If the length is 0, the pointer is null.
+// What the pointer of no bytes leads to. C may pass it on, since it isn't null.
+const NO_BYTES: &'static u8 = &0;
+
+/// Bytes, as a pointer and a length. If the length is 0, the pointer leads to a byte of no string.
 #[repr(C)]
 #[derive(Drop)]
 pub struct Spelling {
@@ -18,7 +21,10 @@ impl Spelling {
         ensures len { result.len ≡ length bytes.now }
     {
         if bytes.is_empty() {
-            return Spelling { at: null(), len: 0 };
+            return Spelling {
+                at: from_ref(NO_BYTES),
+                len: 0,
+            };
         }
         Spelling {
             at: from_ref(&bytes[0]),

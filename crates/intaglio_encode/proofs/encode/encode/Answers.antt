@@ -4,5 +4,5 @@ use Rattle.intaglio_encode.proofs.encode.encode.Goals as goal
 pub returns-clause-zero : goal.returns-clause-zero
 returns-clause-zero g c = of_input _ _ _ _ c.in_ok-input.ensures.bytes c.deref.ensures.value c.encode_input.ensures.zero
 
-pub returns-clause-fit : goal.returns-clause-fit
-returns-clause-fit g c = of_input _ _ _ _ c.in_ok-input.ensures.bytes c.deref.ensures.value c.encode_input.ensures.fit
+pub returns-clause-accepts : goal.returns-clause-accepts
+returns-clause-accepts g c = of_input _ _ _ _ c.in_ok-input.ensures.bytes c.deref.ensures.value c.encode_input.ensures.accepts

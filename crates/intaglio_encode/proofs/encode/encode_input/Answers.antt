@@ -1,3 +1,6 @@
+use Rattle.std.proofs.Common.{rules}
+use Rattle.intaglio_lines.specs.Kind.{Allows}
+use Rattle.intaglio_encode.proofs.Accepted.{writes-if-both}
 use Rattle.intaglio_encode.proofs.encode.encode_input.Goals as goal
 
 pub returns-in-Text-clause-zero : goal.returns-in-Text-clause-zero
@@ -17,3 +20,33 @@ returns-in-OsStr-clause-zero g c = rw c.in-OsStr.is c.encode_by-in-OsStr.ensures
 
 pub returns-in-Path-clause-zero : goal.returns-in-Path-clause-zero
 returns-in-Path-clause-zero g c = rw c.in-Path.is c.encode_by-in-Path.ensures.zero
+
+pub returns-in-Text-clause-accepts : goal.returns-in-Text-clause-accepts
+returns-in-Text-clause-accepts g c =
+    let allowed : Allows c.args.kind c.args.input.now = search rules in
+    rw c.in-Text.is (writes-if-both _ _ _ _ _ (rw c.in-Text.is at allowed) c.encode_by.ensures.fit)
+
+pub returns-in-Bytes-clause-accepts : goal.returns-in-Bytes-clause-accepts
+returns-in-Bytes-clause-accepts g c =
+    let allowed : Allows c.args.kind c.args.input.now = search rules in
+    rw c.in-Bytes.is (writes-if-both _ _ _ _ _ (rw c.in-Bytes.is at allowed) c.encode_by-in-Bytes.ensures.fit)
+
+pub returns-in-BStr-clause-accepts : goal.returns-in-BStr-clause-accepts
+returns-in-BStr-clause-accepts g c =
+    let allowed : Allows c.args.kind c.args.input.now = search rules in
+    rw c.in-BStr.is (writes-if-both _ _ _ _ _ (rw c.in-BStr.is at allowed) c.encode_by-in-BStr.ensures.fit)
+
+pub returns-in-CStr-clause-accepts : goal.returns-in-CStr-clause-accepts
+returns-in-CStr-clause-accepts g c =
+    let allowed : Allows c.args.kind c.args.input.now = search rules in
+    rw c.in-CStr.is (writes-if-both _ _ _ _ _ (rw c.in-CStr.is at allowed) c.encode_by-in-CStr.ensures.fit)
+
+pub returns-in-OsStr-clause-accepts : goal.returns-in-OsStr-clause-accepts
+returns-in-OsStr-clause-accepts g c =
+    let allowed : Allows c.args.kind c.args.input.now = search rules in
+    rw c.in-OsStr.is (writes-if-both _ _ _ _ _ (rw c.in-OsStr.is at allowed) c.encode_by-in-OsStr.ensures.fit)
+
+pub returns-in-Path-clause-accepts : goal.returns-in-Path-clause-accepts
+returns-in-Path-clause-accepts g c =
+    let allowed : Allows c.args.kind c.args.input.now = search rules in
+    rw c.in-Path.is (writes-if-both _ _ _ _ _ (rw c.in-Path.is at allowed) c.encode_by-in-Path.ensures.fit)
