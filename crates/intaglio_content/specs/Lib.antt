@@ -1,3 +1,4 @@
 -- What the contracts of this crate, and of the crates above it, cite.
 pub mod Key
+pub mod Store
 pub mod Work

@@ -1,0 +1,22 @@
+use Rattle.std.proofs.Common.{◌≤◌, ◌∷◌, length, get_or, arith, sym, take_all, length-take-le}
+use Rattle.intaglio_packed.proofs.Ends.{ends-take, strings-take, strings_length, starts-within}
+use Rattle.intaglio_packed.proofs.packed.Packed.truncate.Goals as goal
+
+pub invariant_of-self : goal.invariant_of-self
+invariant_of-self c =
+    let below : c.args.n ≤ length c.self.inside.ends.items = omega (arith, c.if-n-len.true, c.len.ensures, c.self.inside.ends.ok.0) in
+    let end = rw c.deref.ensures.value at c.start_of-end.ensures in
+    let within = starts-within 0 (length c.self.inside.bytes.items) c.self.inside.ends.items c.args.n c.self.invariant below in
+    rw (c.truncate.ensures.items, c.truncate-then-n-len.ensures.items, end, length-take-le (get_or (0 ∷ c.self.inside.ends.items) c.args.n 0) c.self.inside.bytes.items within)
+    (ends-take 0 (length c.self.inside.bytes.items) c.self.inside.ends.items c.args.n c.self.invariant below)
+
+pub returns-then-n-len-clause-list : goal.returns-then-n-len-clause-list
+returns-then-n-len-clause-list c =
+    let below : c.args.n ≤ length c.self.inside.ends.items = omega (arith, c.if-n-len.true, c.len.ensures, c.self.inside.ends.ok.0) in
+    let end = rw c.deref.ensures.value at c.start_of-end.ensures in
+    rw (← c.self.view_is, c.truncate.ensures.items, c.truncate-then-n-len.ensures.items)
+    (strings-take 0 (length c.self.inside.bytes.items) c.self.inside.bytes.items c.self.inside.ends.items c.args.n c.start_of-end.result c.self.invariant below (omega (arith, end)))
+
+pub returns-else-n-len-clause-list : goal.returns-else-n-len-clause-list
+returns-else-n-len-clause-list c =
+    rw (← c.self.view_is) (sym (take_all c.args.n _ (omega (arith, c.if-n-len.false, c.len.ensures, c.self.inside.ends.ok.0, strings_length 0 c.self.inside.bytes.items c.self.inside.ends.items))))

@@ -1,0 +1,243 @@
+//! A list of strings in one buffer of bytes, with a list of their ends.
+ghost use Rattle.std.specs.Prelude.{◌≡◌, ◌+◌, ◌<◌, ◌≤◌, [], ◌∷◌, ◌++◌, length, min, sum_by, take, slice_get, slice_range, get_or, Some};
+ghost use Rattle.std.specs.Prelude.{IfOk, IsOk, OnOk, OnErr, option_copied};
+ghost use Rattle.intaglio_packed.specs.Strings.{HasRoom, KeepsRoom};
+
+use crate::iter::PackedIter;
+use std::alloc::{AllocError, Global};
+use std::marker::Model;
+
+/// A list of strings of bytes. All bytes are in one buffer, so a string costs no allocation of its own.
+///
+/// A contract sees the list of the strings, and the room for further strings and for further bytes.
+#[derive(Drop)]
+pub struct Packed {
+    bytes: Vec<u8>,
+    ends: Vec<usize>,
+}
+
+impl Model for Packed {
+    ghost use Rattle.std.specs.Prelude.{◌-◌, length, vec_capacity};
+    ghost use Rattle.intaglio_packed.specs.Strings.{Strings, strings_code, strings_from, AreEnds};
+
+    ghost Value = { Strings };
+
+    ghost coded = { strings_code };
+
+    ghost view = { λ p. record {
+      list = strings_from 0 p.bytes.items p.ends.items;
+      most = vec_capacity p.ends;
+      spare_bytes = vec_capacity p.bytes - length p.bytes.items;
+    } };
+
+    ghost invariant = { λ p. AreEnds 0 (length p.bytes.items) p.ends.items };
+}
+
+#[tactic(auto, using(crate::proofs::Ends::strings_length))]
+impl Packed {
+    /// An empty list, which allocates nothing.
+    pub fn new(alloc: Global) -> Packed
+        ensures { result ≡ record { list = []; most = 0; spare_bytes = 0 } }
+    {
+        Packed {
+            bytes: Vec::new(alloc),
+            ends: Vec::new(alloc),
+        }
+    }
+
+    /// An empty list with room for this many strings of this many bytes together. Where a number is 0,
+    /// nothing is allocated for it.
+    ///
+    /// # Errors
+    ///
+    /// [`AllocError`] if an allocation fails.
+    pub fn with_capacity(alloc: Global, strings: usize, bytes: usize) -> Result<Packed, AllocError>
+        ensures made { IfOk result (λ p. p ≡ record { list = []; most = strings; spare_bytes = bytes }) }
+        ensures none_needed { strings ≡ 0 → bytes ≡ 0 → IsOk result }
+    {
+        let bytes = Vec::with_capacity(alloc, bytes)?;
+        let ends = Vec::with_capacity(alloc, strings)?;
+        Ok(Packed { bytes, ends })
+    }
+
+    /// The number of strings.
+    pub fn len(&self) -> usize
+        ensures { result ≡ length self.now.list }
+    {
+        self.ends.len()
+    }
+
+    /// How many strings there is room for in total.
+    pub fn capacity(&self) -> usize
+        ensures room { result ≡ self.now.most }
+        ensures within { length self.now.list ≤ result }
+    {
+        self.ends.capacity()
+    }
+
+    /// The number of bytes of all strings together.
+    pub fn byte_count(&self) -> usize
+        ensures { result ≡ sum_by length self.now.list }
+    {
+        self.bytes.len()
+    }
+
+    /// A string.
+    pub fn get(&self, i: usize) -> Option<&[u8]>
+        ensures { option_copied result ≡ slice_get self.now.list i }
+    {
+        if i < self.ends.len() {
+            Some(self.string(i))
+        } else {
+            None
+        }
+    }
+
+    /// A string that is there.
+    #[inline(always)]
+    pub fn string(&self, i: usize) -> &[u8]
+        requires { i < length self.now.list }
+        ensures { slice_get self.now.list i ≡ Some result.now }
+    {
+        let start = start_of(&self.ends, i);
+        let end = self.ends[i];
+        part(&self.bytes, start, end)
+    }
+
+    /// The strings, in order.
+    pub fn iter(&self) -> PackedIter<'_>
+        ensures { result ≡ self.now.list }
+    {
+        PackedIter::of(&self.bytes, &self.ends)
+    }
+
+    /// Makes room for this many more strings of this many bytes together.
+    ///
+    /// # Errors
+    ///
+    /// [`AllocError`] if an allocation fails. Then the strings are unchanged, and there is no less room.
+    pub fn reserve(&mut self, strings: usize, bytes: usize) -> Result<(), AllocError>
+        ensures kept { KeepsRoom self.old self.new }
+        ensures strings { OnOk result (length self.new.list + strings ≤ self.new.most) }
+        ensures bytes { OnOk result (bytes ≤ self.new.spare_bytes) }
+        ensures none_needed { length self.old.list + strings ≤ self.old.most → bytes ≤ self.old.spare_bytes →
+            IsOk result }
+    {
+        self.bytes.reserve(bytes)?;
+        self.ends.reserve(strings)?;
+        Ok(())
+    }
+
+    /// Makes room for this many more bytes.
+    ///
+    /// # Errors
+    ///
+    /// [`AllocError`] if the allocation fails. Then nothing has changed.
+    pub fn reserve_bytes(&mut self, bytes: usize) -> Result<(), AllocError>
+        ensures list { self.new.list ≡ self.old.list }
+        ensures most { self.new.most ≡ self.old.most }
+        ensures spare_bytes { self.old.spare_bytes ≤ self.new.spare_bytes }
+        ensures bytes { OnOk result (bytes ≤ self.new.spare_bytes) }
+        ensures err { OnErr result (self.new.spare_bytes ≡ self.old.spare_bytes) }
+        ensures none_needed { bytes ≤ self.old.spare_bytes → IsOk result }
+    {
+        self.bytes.reserve(bytes)
+    }
+
+    /// Makes room for this many more strings, not for their bytes.
+    ///
+    /// # Errors
+    ///
+    /// [`AllocError`] if the allocation fails. Then nothing has changed.
+    pub fn reserve_strings(&mut self, strings: usize) -> Result<(), AllocError>
+        ensures list { self.new.list ≡ self.old.list }
+        ensures most { self.old.most ≤ self.new.most }
+        ensures spare_bytes { self.new.spare_bytes ≡ self.old.spare_bytes }
+        ensures strings { OnOk result (length self.new.list + strings ≤ self.new.most) }
+        ensures err { OnErr result (self.new.most ≡ self.old.most) }
+        ensures none_needed { length self.old.list + strings ≤ self.old.most → IsOk result }
+    {
+        self.ends.reserve(strings)
+    }
+
+    /// Adds a string, for which there is room.
+    pub fn push_reserved(&mut self, string: &[u8])
+        requires { HasRoom (length string.now) self.old }
+        ensures list { self.new.list ≡ self.old.list ++ string.now ∷ [] }
+        ensures most { self.new.most ≡ self.old.most }
+        ensures spare_bytes { self.old.spare_bytes ≤ self.new.spare_bytes + length string.now }
+    {
+        self.bytes.extend_from_slice(string).unwrap();
+        self.ends.push_reserved(self.bytes.len());
+    }
+
+    /// Adds a copy of a string.
+    ///
+    /// # Errors
+    ///
+    /// [`AllocError`] if an allocation fails. Then the strings are unchanged, and there is no less room.
+    pub fn push(&mut self, string: &[u8]) -> Result<(), AllocError>
+        ensures list { OnOk result (self.new.list ≡ self.old.list ++ string.now ∷ []) }
+        ensures err { OnErr result (KeepsRoom self.old self.new) }
+        ensures none_needed { HasRoom (length string.now) self.old → IsOk result }
+    {
+        self.reserve(1, string.len())?;
+        self.push_reserved(string);
+        Ok(())
+    }
+
+    /// Drops all strings but the first `n`.
+    pub fn truncate(&mut self, n: usize)
+        ensures list { self.new.list ≡ take n self.old.list }
+        ensures most { self.new.most ≡ self.old.most }
+        ensures spare_bytes { self.old.spare_bytes ≤ self.new.spare_bytes }
+    {
+        if n < self.ends.len() {
+            let end = start_of(&self.ends, n);
+            self.bytes.truncate(end);
+            self.ends.truncate(n);
+        }
+    }
+
+    /// Shrinks the room to `min_capacity` strings, or to those that there are if they are more, and the room for
+    /// bytes to those that there are. If an allocation fails, there is more room left.
+    pub fn shrink_to(&mut self, min_capacity: usize)
+        ensures list { self.new.list ≡ self.old.list }
+        ensures most { min min_capacity self.old.most ≤ self.new.most }
+        ensures no_more { self.new.most ≤ self.old.most }
+        ensures frees { length self.old.list ≡ 0 → min_capacity ≡ 0 → self.new.most ≡ 0 }
+        ensures frees_bytes { length self.old.list ≡ 0 → self.new.spare_bytes ≡ 0 }
+    {
+        self.bytes.shrink_to_fit();
+        self.ends.shrink_to(min_capacity);
+    }
+
+    /// Drops all strings.
+    pub fn clear(&mut self)
+        ensures list { self.new.list ≡ [] }
+        ensures most { self.new.most ≡ self.old.most }
+        ensures spare_bytes { self.old.spare_bytes ≤ self.new.spare_bytes }
+    {
+        self.bytes.clear();
+        self.ends.clear();
+    }
+}
+
+// Where a string begins, or where the next one will.
+#[inline(always)]
+fn start_of(ends: &[usize], i: usize) -> usize
+    requires { i ≤ length ends.now }
+    ensures { result ≡ get_or (0 ∷ ends.now) i 0 }
+{
+    if i == 0 { 0 } else { ends[i - 1] }
+}
+
+// A part of the bytes.
+#[inline(always)]
+pub(crate) fn part(bytes: &[u8], start: usize, end: usize) -> &[u8]
+    requires order { start ≤ end }
+    requires within { end ≤ length bytes.now }
+    ensures { result.now ≡ slice_range bytes.now start end }
+{
+    &bytes[start..end]
+}

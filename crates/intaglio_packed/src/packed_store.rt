@@ -1,0 +1,119 @@
+//! A packed list of strings as the store of a table.
+ghost use Rattle.std.specs.Prelude.{◌≡◌, ◌↔◌, ◌∷◌, [], IsTrue, length, ⊤, refl, ◌≤◌};
+ghost use Rattle.intaglio_content.specs.Key.{hash_of};
+
+use crate::packed::Packed;
+use crate::spelling::Spelling;
+use intaglio_content::{CopiedTo, Lends, SoughtIn, Store, Work, feed_item};
+use std::alloc::{AllocError, Global};
+use std::hash::{BuildHasher, Hasher};
+
+impl Store for Packed {
+    type Content = Spelling;
+
+    type Prepared = ();
+
+    ghost contents = { λ p. p.list };
+
+    ghost most = { λ p. p.most };
+
+    ghost spare_bytes = { λ p. p.spare_bytes };
+
+    fn new(alloc: Global) -> Packed {
+        Packed::new(alloc)
+    }
+
+    fn with_capacity(alloc: Global, capacity: usize) -> Result<Packed, AllocError> {
+        Packed::with_capacity(alloc, capacity, 0)
+    }
+
+    #[inline(always)]
+    fn len(&self) -> usize {
+        Packed::len(self)
+    }
+
+    #[inline(always)]
+    fn capacity(&self) -> usize {
+        Packed::capacity(self)
+    }
+
+    #[inline(always)]
+    fn reserve(&mut self, additional: usize) -> Result<(), AllocError> {
+        self.reserve_strings(additional)
+    }
+
+    fn truncate(&mut self, n: usize) {
+        Packed::truncate(self, n);
+    }
+
+    fn clear(&mut self) {
+        Packed::clear(self);
+    }
+
+    fn shrink_to(&mut self, min_capacity: usize) {
+        Packed::shrink_to(self, min_capacity);
+    }
+}
+
+impl SoughtIn<Packed> for &[u8] {
+    // Inlined, so that the hasher's state stays in registers.
+    #[inline(always)]
+    fn hash_by<S: BuildHasher>(&self, builder: &S, work: &mut Work) -> u64 {
+        work.hashed(self);
+        let mut hasher = builder.build_hasher();
+        feed_item(*self, &mut hasher);
+        hasher.finish()
+    }
+
+    #[inline(always)]
+    fn same_at(&self, store: &Packed, i: usize, work: &mut Work) -> bool {
+        let stored = store.string(i);
+        work.compared(self, &stored);
+        same_bytes(*self, stored)
+    }
+
+    #[inline(always)]
+    fn touch_at(&self, store: &Packed, i: usize) -> u8 {
+        store.string(i).first().copied().unwrap_or(0)
+    }
+}
+
+impl CopiedTo<Packed> for &[u8] {
+    ghost form_spelling = { λ bytes. bytes.now };
+
+    ghost needs = { λ bytes. length bytes.now };
+
+    ghost fits = { λ bytes n. length bytes.now ≤ n };
+
+    ghost is_copy = { λ _ _. ⊤ };
+
+    fn prepare(&self, store: &mut Packed) -> Result<(), AllocError> {
+        store.reserve_bytes(self.len())
+    }
+
+    fn push_copy(&self, copy: (), store: &mut Packed) {
+        let _ = copy;
+        store.push_reserved(*self);
+    }
+
+    ghost key_of_form = { λ _. refl };
+}
+
+impl<'a> Lends<'a> for Packed {
+    type Form = &'a [u8];
+
+    ghost lent_spelling = { λ bytes. bytes.now };
+
+    #[inline(always)]
+    fn form_at(&'a self, i: usize) -> &'a [u8] {
+        self.string(i)
+    }
+}
+
+// Whether two strings are the same.
+#[inline(always)]
+fn same_bytes(a: &[u8], b: &[u8]) -> bool
+    ensures { IsTrue result ↔ (a.now ∷ [] ≡ b.now ∷ []) }
+{
+    *a == *b
+}
