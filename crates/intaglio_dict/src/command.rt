@@ -1,0 +1,70 @@
+//! The arguments.
+use clap::{Arg, ArgAction, Command};
+use std::alloc::{AllocError, Global};
+
+const DICT: &str = "a dictionary";
+
+const FILES: &str = "files of lines; without any, standard input";
+
+/// What the program takes.
+pub fn command<'a>(alloc: Global) -> Result<Command<'a>, AllocError> {
+    Command::new(alloc, "intaglio_dict")
+        .version("2.0.0")
+        .about(
+            "Numbers the distinct lines of files, and keeps them in a file in which both strings and numbers are found",
+        )
+        .subcommand_required(true)
+        .arg_required_else_help(true)
+        .subcommand(find(alloc)?)?
+        .subcommand(get(alloc)?)?
+        .subcommand(list(alloc)?)?
+        .subcommand(check(alloc)?)?
+        .subcommand(stat(alloc)?)
+}
+
+fn find<'a>(alloc: Global) -> Result<Command<'a>, AllocError> {
+    Command::new(alloc, "find")
+        .about("Writes the symbol of each line, or - if the line isn't in the dictionary")
+        .arg(one(alloc, "DICT", DICT))?
+        .arg(many(alloc, "FILE", FILES))
+}
+
+fn get<'a>(alloc: Global) -> Result<Command<'a>, AllocError> {
+    Command::new(alloc, "get")
+        .about("Writes the string of each symbol, a line each")
+        .arg(one(alloc, "DICT", DICT))?
+        .arg(
+            many(alloc, "NUMBER", "symbols")
+                .required(true)
+                .value_parser(clap::value_parser!(u32)),
+        )
+}
+
+fn list<'a>(alloc: Global) -> Result<Command<'a>, AllocError> {
+    Command::new(alloc, "list")
+        .about("Writes all strings in the order of their symbols, a line each")
+        .arg(one(alloc, "DICT", DICT))
+}
+
+fn check<'a>(alloc: Global) -> Result<Command<'a>, AllocError> {
+    Command::new(alloc, "check")
+        .about("Checks dictionaries, and says what is wrong with each file that isn't one")
+        .arg(many(alloc, "DICT", "dictionaries").required(true))
+}
+
+fn stat<'a>(alloc: Global) -> Result<Command<'a>, AllocError> {
+    Command::new(alloc, "stat")
+        .about("Writes how many strings there are, the bytes of the file, and the longest string's")
+        .arg(one(alloc, "DICT", DICT))
+}
+
+fn one<'a>(alloc: Global, name: &'a str, help: &'a str) -> Arg<'a> {
+    Arg::new(alloc, name).required(true).help(help)
+}
+
+fn many<'a>(alloc: Global, name: &'a str, help: &'a str) -> Arg<'a> {
+    Arg::new(alloc, name)
+        .num_args(1..)
+        .action(ArgAction::Append)
+        .help(help)
+}

@@ -1,0 +1,24 @@
+-- What is made of the items of a list, one after the other.
+use Rattle.std.proofs.Common.{◌≡◌, ◌∙◌, ℕ, ◌+◌, List, [], ◌∷◌, ◌++◌, take, Option, Some, refl, ap}
+use Rattle.std.specs.List.{slice_get, flat_map, fold}
+use Rattle.std.specs.Io.KnownBytes.{Appends}
+use Rattle.std.proofs.lemmas.List.{append-nil}
+use Rattle.std.proofs.lemmas.Grind.{flat_map-append, fold-append, take_at_read}
+use Rattle.std.proofs.lemmas.Option.{slice_get_within, get_or_from_slice_get}
+use Rattle.intaglio_lines.proofs.Appended.{Appends-append}
+
+module _ {X : Type 0} (xs : List X) (n : ℕ) (x : X) (at : slice_get xs n ≡ Some x) where
+  -- the items so far, and the next one
+  next : take (n + 1) xs ≡ take n xs ++ x ∷ []
+  next = (take_at_read xs n x (slice_get_within xs n x at)).1 ∙ ap (λ t. take n xs ++ t ∷ []) (get_or_from_slice_get xs n x x at)
+
+  pub fold-next : {B : Type 0} (f : B → X → B) (a : B) → fold f a (take (n + 1) xs) ≡ f (fold f a (take n xs)) x
+  fold-next f a = rw (next, fold-append f a (take n xs) (x ∷ [])) refl
+
+  flat_map-next : (f : X → List ℕ) → flat_map f (take (n + 1) xs) ≡ flat_map f (take n xs) ++ f x
+  flat_map-next f = rw (next, flat_map-append f (take n xs) (x ∷ [])) (ap (λ t. flat_map f (take n xs) ++ t) (append-nil (f x)))
+
+  -- the lines so far, and that of one item more
+  pub appends-next : (f : X → List ℕ) (old mid new : Option (List ℕ)) (line : List ℕ) → line ≡ f x
+      → Appends old mid (flat_map f (take n xs)) → Appends mid new line → Appends old new (flat_map f (take (n + 1) xs))
+  appends-next f old mid new line same before more = rw (flat_map-next f) (Appends-append old mid new _ _ before (rw same at more))

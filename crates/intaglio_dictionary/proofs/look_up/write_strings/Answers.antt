@@ -1,0 +1,21 @@
+use Rattle.std.proofs.Common.{◌≡◌, ◌∙◌, sym, subst, None, Option, ℕ, rules}
+use Rattle.std.proofs.lemmas.Result.{err_from_is_err_and}
+use Rattle.intaglio_dictionary.specs.Answers.{unknown}
+use Rattle.intaglio_dictionary.proofs.Below.{all-below}
+use Rattle.intaglio_dictionary.proofs.look_up.write_strings.Goals as goal
+
+pub write_output-requires : goal.write_output-requires
+write_output-requires g c =
+    let none : unknown c.args.symbols.now c.args.table.now ≡ None = search rules in
+    all-below _ _ none
+
+pub returns-in_ok-write_output-in-None-clause-known : goal.returns-in_ok-write_output-in-None-clause-known
+returns-in_ok-write_output-in-None-clause-known g c =
+    let none : unknown c.args.symbols.now c.args.table.now ≡ None = search rules in
+    all-below _ _ none
+
+pub returns-in_err-write_output-in-None-clause-unknown : goal.returns-in_err-write_output-in-None-clause-unknown
+returns-in_err-write_output-in-None-clause-unknown g c =
+    let none : unknown c.args.symbols.now c.args.table.now ≡ None = search rules in
+    let passed = err_from_is_err_and c.from_residual.result c.from_residual.ensures.1 in
+    rw (passed.1, passed.2) none

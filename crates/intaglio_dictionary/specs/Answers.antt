@@ -1,0 +1,42 @@
+-- What is written of a dictionary.
+use Rattle.std.specs.Prelude.{◌≡◌, ℕ, ◌+◌, ◌<◌, List, [], ◌∷◌, length, map, max, find, nat_le, All, Option, None, Some}
+use Rattle.std.specs.List.{flat_map, fold}
+use Rattle.intaglio_core.specs.State.{first}
+use Rattle.intaglio_lines.specs.Lines.{lines_of}
+use Rattle.intaglio_lines.specs.Encoded.{number_line}
+use Rattle.intaglio_dictionary.specs.declared.error.DictionaryError.{DictionaryError}
+use Rattle.intaglio_dictionary.specs.declared.error.DictionaryError.TheVariants.{NoString, Stream}
+
+-- the line of a symbol, or a dash
+abbrev pub answer_line : Option ℕ → List ℕ
+answer_line None = 45 ∷ 10 ∷ []
+answer_line (Some symbol) = number_line symbol
+
+-- the position of a line among strings
+abbrev pub position_in : List (List ℕ) → List ℕ → Option ℕ
+position_in strings line = first (λ w. w ∷ []) strings (line ∷ [])
+
+-- the symbols of the lines of an input
+abbrev pub answers : List (List ℕ) → List ℕ → List ℕ
+answers strings input = flat_map (λ line. answer_line (position_in strings line)) (lines_of input)
+
+-- each is the symbol of a string
+abbrev pub AreSymbols : List ℕ → List (List ℕ) → Type 0
+AreSymbols symbols strings = All (λ symbol. symbol < length strings) symbols
+
+-- the first that isn't
+abbrev pub unknown : List ℕ → List (List ℕ) → Option ℕ
+unknown symbols strings = find (λ symbol. nat_le (length strings) symbol) symbols
+
+-- the error reports this symbol, or that something failed
+abbrev pub Reports : DictionaryError → Option ℕ → Type 0
+Reports (NoString symbol) first = first ≡ Some symbol
+Reports (Stream failure) first = first ≡ None
+
+-- how many bytes the strings have together
+abbrev pub total : List (List ℕ) → ℕ
+total strings = fold (λ bytes string. bytes + length string) 0 strings
+
+-- the length of the longest string
+abbrev pub longest : List (List ℕ) → ℕ
+longest strings = fold (λ most string. max most (length string)) 0 strings

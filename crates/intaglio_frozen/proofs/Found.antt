@@ -1,0 +1,114 @@
+-- What look-ups find, where each text is found at its position.
+use Rattle.std.proofs.Common.{◌≡◌, ℕ, zero, suc, ◌+◌, ◌*◌, ◌%◌, ◌<◌, ◌≤◌, ◌==◌, Bool, true, false, cond, List, [], ◌∷◌, length, get_or, slice_get, Option, Some, None, map, refl, sym, ap, ◌∙◌, arith}
+use Rattle.std.proofs.Common.{eq-eqb}
+use Rattle.std.proofs.lemmas.Bool.{ne_eqb}
+use Rattle.std.proofs.lemmas.Option.{slice_get_past}
+use Rattle.std.specs.Str.{bytes_eq}
+use Rattle.std.specs.Cmp.Lexicographic.{bytes_decides}
+use Rattle.intaglio_content.specs.Key.{Key}
+use Rattle.intaglio_core.specs.State.{first, AreDistinct}
+use Rattle.intaglio_core.proofs.First.{first-none, first-some}
+use Rattle.intaglio_frozen.proofs.Places.{strings_length}
+use Rattle.intaglio_frozen.specs.Layout.{count, u32_at, tags_at, strings}
+use Rattle.intaglio_frozen.specs.LookUp.{hash, place, if_same, find_at, find, FindsAll}
+
+-- a text's key
+abbrev pub key : List ℕ → Key
+key w = w ∷ []
+
+key-at : (ts : List (List ℕ)) (j : ℕ) (d : Key) (w : List ℕ) → j < length (map key ts) → get_or (map key ts) j d ≡ key w → slice_get ts j ≡ Some w
+key-at [] j d w l e = absurd (omega arith)
+key-at (t ∷ ts) zero d w l e = cc
+key-at (t ∷ ts) (suc j) d w l e = key-at ts j d w (omega arith) e
+
+at-key : (ts : List (List ℕ)) (j : ℕ) (d : Key) (w : List ℕ) → slice_get ts j ≡ Some w → (j < length (map key ts)) × (get_or (map key ts) j d ≡ key w)
+at-key [] j d w e = cc
+at-key (t ∷ ts) zero d w e = (omega arith, cc)
+at-key (t ∷ ts) (suc j) d w e = let h = at-key ts j d w e in (omega (arith, h.0), h.1)
+
+-- each position below the length has a text
+some-at : (ts : List (List ℕ)) (j : ℕ) → j < length (map key ts) → (w : List ℕ) × (slice_get ts j ≡ Some w)
+some-at [] j l = absurd (omega arith)
+some-at (t ∷ ts) zero l = (t, refl)
+some-at (t ∷ ts) (suc j) l = some-at ts j (omega arith)
+
+by-result : (ts : List (List ℕ)) (w : List ℕ) (r : Option ℕ) → ((s : ℕ) → r ≡ Some s → slice_get ts s ≡ Some w) → ((i : ℕ) → slice_get ts i ≡ Some w → r ≡ Some i) → r ≡ first key ts (key w)
+by-result ts w None sound complete =
+    sym (first-none (map key ts) (key w) (λ j l e. let q : ◌≡◌ {A = Option ℕ} None (Some j) = complete j (key-at ts j [] w l e) in cc))
+by-result ts w (Some s) sound complete =
+    let h = at-key ts s [] w (sound s refl) in
+    sym (first-some (map key ts) (key w) s h.0 h.1 (λ j l e. let q : Some s ≡ Some j = complete j (key-at ts j [] w (omega (arith, l, h.0)) e) in let same : s ≡ j = cc in omega (arith, l, same)))
+
+tested : (b : Bool) (s i : ℕ) → cond b (Some s) None ≡ Some i → (b ≡ true) × (s ≡ i)
+tested true s i e = (refl, cc)
+tested false s i e = cc
+
+passed : (b : Bool) (o : Option ℕ) (i : ℕ) → cond b o None ≡ Some i → o ≡ Some i
+passed true o i e = e
+passed false o i e = cc
+
+same-sound : (o : Option (List ℕ)) (s i : ℕ) (w : List ℕ) → if_same o s w ≡ Some i → (o ≡ Some w) × (s ≡ i)
+same-sound None s i w e = cc
+same-sound (Some t) s i w e =
+    let h = tested (bytes_eq t w) s i e in
+    (ap Some ((bytes_decides t w).0 h.0), h.1)
+
+-- what is found is the sought text
+pub find-sound : (bs w : List ℕ) (i : ℕ) → find bs w ≡ Some i → slice_get (strings bs) i ≡ Some w
+unfolding find
+find-sound bs w i e =
+    let p = place bs (hash bs w) in
+    let s = u32_at bs (64 + 4 * p) in
+    let h = same-sound (slice_get (strings bs) s) s i w (passed (get_or bs (tags_at bs + p) 0 == hash bs w % 256) (if_same (slice_get (strings bs) s) s w) i e) in
+    ap (slice_get (strings bs)) (sym h.1) ∙ h.0
+
+pub find_is_first : (bs w : List ℕ) → FindsAll bs → find bs w ≡ first key (strings bs) (key w)
+find_is_first bs w all = by-result (strings bs) w (find bs w) (λ s e. find-sound bs w s e) (λ i e. all i w e)
+
+pub all_distinct : (bs : List ℕ) → FindsAll bs → AreDistinct (map key (strings bs))
+all_distinct bs all = λ i j d l k e.
+    let wi = some-at (strings bs) i (omega (arith, l, k)) in
+    let wj = some-at (strings bs) j k in
+    let ki = at-key (strings bs) i d wi.0 wi.1 in
+    let kj = at-key (strings bs) j d wj.0 wj.1 in
+    let fi = all i wi.0 wi.1 in
+    let fj = all j wj.0 wj.1 in
+    let same : key wi.0 ≡ key wj.0 = sym ki.1 ∙ e ∙ kj.1 in
+    let texts_same : wi.0 ≡ wj.0 = cc in
+    let found : Some i ≡ Some j = sym fi ∙ ap (find bs) texts_same ∙ fj in
+    let positions : i ≡ j = cc in
+    omega (arith, l, positions)
+
+-- what is found, step by step
+pub find-by : (bs w : List ℕ) (h p : ℕ) → h ≡ hash bs w → p ≡ place bs h → find bs w ≡ find_at bs p (h % 256) w
+unfolding find
+find-by bs w h p eh ep = rw (ep, eh) refl
+
+pub at-other : (bs w : List ℕ) (p tag t : ℕ) → t ≡ tags_at bs → (get_or bs (t + p) 0 ≡ tag → ⊥) → find_at bs p tag w ≡ None
+at-other bs w p tag t et n =
+    let m : get_or bs (tags_at bs + p) 0 ≡ tag → ⊥ = rw et at n in
+    rw (ne_eqb (get_or bs (tags_at bs + p) 0) tag m) refl
+
+pub at-past : (bs w : List ℕ) (p tag t s : ℕ) → t ≡ tags_at bs → get_or bs (t + p) 0 ≡ tag → s ≡ u32_at bs (64 + 4 * p) → count bs ≤ s → find_at bs p tag w ≡ None
+at-past bs w p tag t s et e es past =
+    let m : get_or bs (tags_at bs + p) 0 ≡ tag = rw et at e in
+    let none : slice_get (strings bs) s ≡ None = slice_get_past (strings bs) s (omega (arith, past, strings_length bs)) in
+    rw (eq-eqb (get_or bs (tags_at bs + p) 0) tag m, ← es, none) refl
+
+pub at-text : (bs w : List ℕ) (p tag t s : ℕ) (x : List ℕ) → t ≡ tags_at bs → get_or bs (t + p) 0 ≡ tag → s ≡ u32_at bs (64 + 4 * p) → slice_get (strings bs) s ≡ Some x →
+    find_at bs p tag w ≡ cond (bytes_eq x w) (Some s) None
+at-text bs w p tag t s x et e es some =
+    let m : get_or bs (tags_at bs + p) 0 ≡ tag = rw et at e in
+    rw (eq-eqb (get_or bs (tags_at bs + p) 0) tag m, ← es, some) refl
+
+-- two lists with the same text at each position
+pub same_by_get : (xs ys : List (List ℕ)) (n : ℕ) → n ≡ length xs → n ≡ length ys → ((k : ℕ) → k < n → slice_get xs k ≡ slice_get ys k) → xs ≡ ys
+same_by_get [] [] n e f g = refl
+same_by_get [] (y ∷ ys) n e f g = absurd (omega arith)
+same_by_get (x ∷ xs) [] n e f g = absurd (omega arith)
+same_by_get (x ∷ xs) (y ∷ ys) zero e f g = absurd (omega arith)
+same_by_get (x ∷ xs) (y ∷ ys) (suc n) e f g =
+    let first : Some x ≡ Some y = g 0 (omega arith) in
+    let head : x ≡ y = cc in
+    let tail : xs ≡ ys = same_by_get xs ys n (omega arith) (omega arith) (λ k l. g (suc k) (omega arith)) in
+    cc

@@ -1,0 +1,57 @@
+-- The strings of a block, and where they stand.
+use Rattle.std.proofs.Common.{◌≡◌, ℕ, zero, suc, ◌+◌, ◌-◌, ◌*◌, ◌/◌, ◌^◌, ◌<◌, ◌≤◌, List, ◌∷◌, length, drop, get_or, slice_get, slice_range, Some, refl, ap, ◌∙◌, arith, length-drop}
+use Rattle.std.proofs.lemmas.Nat.{div_below, row_fits}
+use Rattle.std.proofs.Math.Nat.{mul_comm}
+use Rattle.intaglio_frozen.proofs.Ends.{from_length, strings-at, ends-at}
+use Rattle.intaglio_frozen.specs.Layout.{u32_at, numbers_at, count, ends_at, text_at, ends, strings}
+use Rattle.intaglio_frozen.specs.LookUp.{scaled}
+use Rattle.intaglio_frozen.specs.IsFrozen.{IsBlock}
+
+pub numbers_length : (bs : List ℕ) (at n : ℕ) → length (numbers_at bs at n) ≡ n
+numbers_length bs at zero = refl
+numbers_length bs at (suc n) = ap suc (numbers_length bs (at + 4) n)
+
+pub numbers_get : (bs : List ℕ) (at n i : ℕ) → i < n → get_or (numbers_at bs at n) i 0 ≡ u32_at bs (at + 4 * i)
+numbers_get bs at zero i l = absurd (omega arith)
+numbers_get bs at (suc n) zero l = ap (u32_at bs) (omega arith)
+numbers_get bs at (suc n) (suc i) l = numbers_get bs (at + 4) n i (omega arith) ∙ ap (u32_at bs) (omega arith)
+
+pub strings_length : (bs : List ℕ) → length (strings bs) ≡ count bs
+unfolding strings
+strings_length bs = from_length 0 (drop (text_at bs) bs) (ends bs) ∙ numbers_length bs (ends_at bs) (count bs)
+
+-- where a text ends
+pub end_is : (bs : List ℕ) (i : ℕ) → i < count bs → get_or (ends bs) i 0 ≡ u32_at bs (ends_at bs + 4 * i)
+end_is bs i l = numbers_get bs (ends_at bs) (count bs) i l
+
+-- where it begins
+pub start_is : (bs : List ℕ) (i : ℕ) → 0 < i → i < count bs → get_or (0 ∷ ends bs) i 0 ≡ u32_at bs (ends_at bs + 4 * (i - 1))
+start_is bs zero p l = absurd (omega arith)
+start_is bs (suc i) p l = end_is bs i (omega arith) ∙ ap (λ k. u32_at bs (ends_at bs + 4 * k)) (omega arith)
+
+pub strings_get : (bs : List ℕ) (i : ℕ) → i < count bs →
+    slice_get (strings bs) i ≡ Some (slice_range (drop (text_at bs) bs) (get_or (0 ∷ ends bs) i 0) (get_or (ends bs) i 0))
+unfolding strings
+strings_get bs i l = strings-at 0 (drop (text_at bs) bs) (ends bs) i (omega (arith, numbers_length bs (ends_at bs) (count bs)))
+
+pub ends_order : (bs : List ℕ) (i : ℕ) → IsBlock bs → i < count bs →
+    (get_or (0 ∷ ends bs) i 0 ≤ get_or (ends bs) i 0) × (get_or (ends bs) i 0 ≤ length (drop (text_at bs) bs))
+ends_order bs i b l =
+    let at = ends-at 0 (length bs - text_at bs) (ends bs) i b.ends (omega (arith, numbers_length bs (ends_at bs) (count bs))) in
+    (at.0, omega (arith, at.1, length-drop (text_at bs) bs))
+
+product : (a n m : ℕ) → 0 < n → a < m → a * n < n * m
+product a n m p l = omega (arith, row_fits a n m n l (omega arith), mul_comm n m)
+
+pub scaled_below : (n h : ℕ) → 0 < n → h < 2 ^ 64 → scaled n h < n
+scaled_below n h p l =
+    let top : h / 2 ^ 32 < 2 ^ 32 = omega arith in
+    let below : h / 2 ^ 32 * n < n * 2 ^ 32 = product (h / 2 ^ 32) n (2 ^ 32) p top in
+    div_below (h / 2 ^ 32 * n) (2 ^ 32) n (omega arith) below
+
+pub numbers-step : (bs : List ℕ) (at n i : ℕ) → i < n →
+    numbers_at bs (at + 4 * i) (n - i) ≡ u32_at bs (at + 4 * i) ∷ numbers_at bs (at + 4 * (i + 1)) (n - (i + 1))
+numbers-step bs at n i l =
+    let more : n - i ≡ suc (n - (i + 1)) = omega arith in
+    let next : at + 4 * (i + 1) ≡ at + 4 * i + 4 = omega arith in
+    rw (more, next) refl

@@ -1,0 +1,19 @@
+-- What is wrong with bytes that are no frozen table.
+use Rattle.std.specs.Prelude.{◌≡◌, ◌≢◌, ℕ, ◌-◌, ◌^◌, ◌<◌, ◌⊎◌, List, length, slice_get, Some}
+use Rattle.intaglio_frozen.specs.Strings.{AreEnds}
+use Rattle.intaglio_frozen.specs.Layout.{u32_at, kind, count, text_at, ends, strings}
+use Rattle.intaglio_frozen.specs.LookUp.{find}
+use Rattle.intaglio_frozen.specs.IsFrozen.{HasMagic, HasHeader, IsReserved, text_kind}
+use Rattle.intaglio_frozen.specs.declared.error.FrozenError.{FrozenError}
+use Rattle.intaglio_frozen.specs.declared.error.FrozenError.TheVariants.{Magic, Version, Kind, Reserved, TooMany, Truncated, Ends, NotFound}
+
+-- the bytes have this fault
+abbrev pub IsFault : List ℕ → FrozenError → Type 0
+IsFault bs Magic = ¬ HasMagic bs
+IsFault bs Version = HasMagic bs × (u32_at bs 8 ≢ 1)
+IsFault bs Kind = text_kind < kind bs
+IsFault bs Reserved = ¬ IsReserved bs
+IsFault bs TooMany = 2 ^ 31 < count bs
+IsFault bs Truncated = length bs < 64 ⊎ (HasHeader bs × (length bs < text_at bs))
+IsFault bs Ends = ¬ AreEnds 0 (length bs - text_at bs) (ends bs)
+IsFault bs (NotFound i) = (w : List ℕ) × (slice_get (strings bs) i ≡ Some w) × (find bs w ≢ Some i)

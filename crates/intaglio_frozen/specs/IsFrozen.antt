@@ -1,0 +1,52 @@
+-- Which bytes are a frozen table.
+use Rattle.std.specs.Prelude.{◌≡◌, ℕ, ◌-◌, ◌^◌, ◌≤◌, List, length}
+use Rattle.intaglio_frozen.specs.Strings.{AreEnds}
+use Rattle.intaglio_frozen.specs.Layout.{u32_at, u64_at, kind, key0, key1, count, text_at, ends}
+use Rattle.intaglio_frozen.specs.LookUp.{FindsAll}
+use Rattle.intaglio_frozen.specs.declared.header.Header.{Header}
+use Rattle.intaglio_frozen.specs.declared.kind.Kind.{Kind}
+use Rattle.intaglio_frozen.specs.declared.kind.Kind.TheVariants.{Bytes, Text}
+
+-- the kinds: strings of any bytes are 0, texts are 1
+abbrev pub text_kind : ℕ
+text_kind = 1
+
+abbrev pub number_of : Kind → ℕ
+number_of Bytes = 0
+number_of Text = text_kind
+
+-- what a header says
+pub record Describes (bs : List ℕ) (h : Header) : Type 0 where
+  pub kind : number_of h.kind ≡ kind bs
+  pub key0 : h.key0 ≡ key0 bs
+  pub key1 : h.key1 ≡ key1 bs
+  pub count : h.count ≡ count bs
+
+-- the reserved bytes of the header
+pub record IsReserved (bs : List ℕ) : Type 0 where
+  pub first : u64_at bs 40 ≡ 0
+  pub second : u64_at bs 48 ≡ 0
+  pub third : u64_at bs 56 ≡ 0
+
+-- it begins with "INTAGLIO"
+abbrev pub HasMagic : List ℕ → Type 0
+HasMagic bs = (8 ≤ length bs) × (u64_at bs 0 ≡ 0x4f49_4c47_4154_4e49)
+
+-- a header of version 1
+pub record HasHeader (bs : List ℕ) : Type 0 where
+  pub long : 64 ≤ length bs
+  pub magic : HasMagic bs
+  pub version : u32_at bs 8 ≡ 1
+  pub kind : kind bs ≤ text_kind
+  pub reserved : IsReserved bs
+  pub few : count bs ≤ 2 ^ 31
+
+-- the sections are within the bytes, and the strings fill the text
+pub record IsBlock (bs : List ℕ) : Type 0 where
+  pub header : HasHeader bs
+  pub within : text_at bs ≤ length bs
+  pub ends : AreEnds 0 (length bs - text_at bs) (ends bs)
+
+pub record IsFrozen (bs : List ℕ) : Type 0 where
+  pub block : IsBlock bs
+  pub found : FindsAll bs

@@ -1,0 +1,97 @@
+//! Little-endian numbers, and the places of hashes.
+ghost use Rattle.std.specs.Prelude.{◌≡◌, ◌+◌, ◌<◌, ◌≤◌, ◌^◌, length};
+ghost use Rattle.std.specs.Hash.DefaultHasher.{write, finish};
+ghost use Rattle.intaglio_hash.specs.KeyedState.{initial_hasher};
+ghost use Rattle.intaglio_frozen.specs.Layout.{u16_at, u32_at, u64_at, places_for, groups_for};
+ghost use Rattle.intaglio_frozen.specs.LookUp.{scaled, mixed};
+
+use intaglio_hash::KeyedState;
+use std::hash::{BuildHasher, Hasher};
+
+#[inline(always)]
+#[tactic(auto, unfolding(crate::specs::Layout::u16_at))]
+pub(crate) fn read_u16(bytes: &[u8], at: usize) -> u16
+    requires { at + 2 ≤ length bytes.now }
+    ensures { result ≡ u16_at bytes.now at }
+{
+    u16::from_le_bytes([bytes[at], bytes[at + 1]])
+}
+
+#[inline(always)]
+#[tactic(auto, unfolding(crate::specs::Layout::u32_at))]
+pub(crate) fn read_u32(bytes: &[u8], at: usize) -> u32
+    requires { at + 4 ≤ length bytes.now }
+    ensures { result ≡ u32_at bytes.now at }
+{
+    u32::from_le_bytes([bytes[at], bytes[at + 1], bytes[at + 2], bytes[at + 3]])
+}
+
+#[inline(always)]
+#[tactic(auto, unfolding(crate::specs::Layout::u64_at))]
+pub(crate) fn read_u64(bytes: &[u8], at: usize) -> u64
+    requires { at + 8 ≤ length bytes.now }
+    ensures { result ≡ u64_at bytes.now at }
+{
+    u64::from_le_bytes([
+        bytes[at],
+        bytes[at + 1],
+        bytes[at + 2],
+        bytes[at + 3],
+        bytes[at + 4],
+        bytes[at + 5],
+        bytes[at + 6],
+        bytes[at + 7],
+    ])
+}
+
+// A number below `n`, from the upper half of a hash.
+#[inline(always)]
+pub(crate) fn scaled(n: u64, hash: u64) -> usize
+    requires some { 0 < n }
+    requires few { n ≤ 2 ^ 32 }
+    ensures value { result ≡ scaled n hash }
+    ensures below { result < n }
+{
+    ((hash >> 32) * n >> 32) as usize
+}
+
+// A hash, changed by a pilot.
+#[inline(always)]
+#[tactic(auto, unfolding(crate::specs::LookUp::mixed))]
+pub(crate) fn mixed(hash: u64, pilot: u16) -> u64
+    ensures { result ≡ mixed hash pilot }
+{
+    (hash ^ (pilot as u64).wrapping_mul(0x9e37_79b9_7f4a_7c15)).wrapping_mul(0xd6e8_feb8_6659_fd93)
+}
+
+// The hash of a string: SipHash-1-3 of its bytes.
+#[inline(always)]
+pub(crate) fn hash_by(state: &KeyedState, string: &[u8]) -> u64
+    ensures { result ≡ finish (write (initial_hasher state.now) string.now) }
+{
+    let mut hasher = state.build_hasher();
+    hasher.write(string);
+    hasher.finish()
+}
+
+// How many places there are for `count` strings: a twentieth more than strings.
+#[inline(always)]
+pub(crate) fn places_for(count: u64) -> u64
+    requires { count ≤ 2 ^ 31 }
+    ensures value { result ≡ places_for count }
+    ensures some { 0 < result }
+    ensures few { result ≤ 2 ^ 32 }
+{
+    count + count / 19 + 2
+}
+
+// How many groups of hashes there are for `count` strings.
+#[inline(always)]
+pub(crate) fn groups_for(count: u64) -> u64
+    requires { count ≤ 2 ^ 31 }
+    ensures value { result ≡ groups_for count }
+    ensures some { 0 < result }
+    ensures few { result ≤ 2 ^ 32 }
+{
+    count / 3 + 1
+}
