@@ -13,20 +13,28 @@
  * For example, intaglio_text_intern interns a string in an intaglio_text. If the kind is known only at run time, use
  * intaglio_table and the functions without a kind in their names, such as intaglio_intern.
  *
- * Link with libintaglio.a or libintaglio.so, which bindings/build makes. docs/FROM-C.md describes how, and what is proved.
+ * bindings/build makes libintaglio.a and libintaglio.so, and bindings/install installs them with this header. docs/FROM-C.md describes
+ * how, and what is proved. Both are for Linux on x86-64, on processors of the level x86-64-v2, which has SSE4.2: an older one may stop
+ * at an illegal instruction.
  *
- * Errors: a function that fails returns an error code, and leaves the strings and symbols of the table unchanged. The comments
- * below name the codes without INTAGLIO_.
+ * Errors: a function that fails returns an error code, and leaves the strings and symbols of the table unchanged, except for those
+ * that make a table, which free the one that the handle held. The comments below name the codes without INTAGLIO_.
  *
- * Pointers: each pointer must be valid for the given number of elements, aligned, and not null, even if that number is 0. Memory
- * that a function writes must not overlap other memory that is passed to it. None of this is checked.
+ * Pointers: each pointer must be valid for the given number of elements, and aligned. It may be null if that number is 0; a pointer
+ * without a number must not be null. Memory that a function writes must not overlap other memory that is passed to it. None of this
+ * is checked.
  *
  * Ownership: a table owns its strings. New strings are copied, except by intern_static. Each table must be freed. No pointer
  * is kept after a call, except by intern_static.
  *
- * Threads: a table must not be used by two threads at the same time, even by functions that only read. It may be passed to
+ * Threads: a handle must not be used by two threads at the same time, even by functions that only read. It may be passed to
  * another thread through a lock, or by starting or joining a thread. No function may be called in a signal handler, or in the
  * forked child of a process with threads.
+ *
+ * Const: a function that takes a const table leaves its strings, symbols and capacity as they are, but writes to the handle during
+ * the call. So the handle itself must not be defined const, and two threads must not read through one handle at the same time.
+ * Two threads may read one table through a copy of its handle each, made before they read, while no other function uses the table.
+ * No contract says so: bindings/tests/reads.c shows that these functions write nothing but the handle.
  */
 #ifndef INTAGLIO_H
 #define INTAGLIO_H
@@ -39,11 +47,26 @@
 extern "C" {
 #endif
 
-/* A handle, which holds a table of any kind or none. Initialize it with zeros: then it holds none. The fields are private. The
- * struct may be moved, but after a copy only one of the two may be used. */
-typedef struct { bool live; void *ptr; } intaglio_table;
+/* The version of this header. The first number changes if a program that was compiled before may break. */
+#define INTAGLIO_VERSION_MAJOR 2
+#define INTAGLIO_VERSION_MINOR 0
+#define INTAGLIO_VERSION_PATCH 0
+#define INTAGLIO_VERSION (INTAGLIO_VERSION_MAJOR * 10000 + INTAGLIO_VERSION_MINOR * 100 + INTAGLIO_VERSION_PATCH)
+#define INTAGLIO_VERSION_STRING "2.0.0"
 
-/* The bytes of a symbol. `at` is null if `len` is 0; then it must not be passed to a function, since none takes null. */
+/* Marks functions whose code must not be ignored. */
+#if defined(__GNUC__) || defined(__clang__)
+#define INTAGLIO_MUST_USE __attribute__((__warn_unused_result__))
+#else
+#define INTAGLIO_MUST_USE
+#endif
+
+/* A handle, which holds a table of any kind or none. Initialize it with INTAGLIO_TABLE_NONE, or with zeros: then it holds none. The
+ * fields are private. The struct may be moved, but after a copy only one of the two may be used. */
+typedef struct { bool live; void *ptr; } intaglio_table;
+#define INTAGLIO_TABLE_NONE {false, NULL}
+
+/* The bytes of a symbol. `at` isn't null, even if `len` is 0. */
 typedef struct { const uint8_t *at; size_t len; } intaglio_spelling;
 
 /* The kinds. */
@@ -56,7 +79,10 @@ enum {
     INTAGLIO_BSTR = 5
 };
 
-/* The codes that functions of type uint32_t return. */
+/* A code: 0 if the call succeeded, and otherwise why it failed. */
+typedef uint32_t intaglio_code;
+
+/* The codes. */
 enum {
     INTAGLIO_DONE = 0,
     INTAGLIO_NO_TABLE = 1,      /* the handle holds no table */
@@ -73,16 +99,39 @@ enum {
     INTAGLIO_NO_KIND = 12       /* the number is not that of a kind */
 };
 
+/* Returns the text of a code, without a full stop. */
+static inline const char *intaglio_message(intaglio_code code) {
+    switch (code) {
+        case INTAGLIO_DONE: return "success";
+        case INTAGLIO_NO_TABLE: return "the handle holds no table";
+        case INTAGLIO_FULL: return "the table is full";
+        case INTAGLIO_NO_MEMORY: return "out of memory";
+        case INTAGLIO_TOO_LARGE: return "the capacity or limit is out of range";
+        case INTAGLIO_STALE: return "the mark is beyond the table's length";
+        case INTAGLIO_NOT_UTF8: return "the string is not valid UTF-8";
+        case INTAGLIO_INNER_ZERO: return "the C string has a zero byte before its end";
+        case INTAGLIO_MISSING_ZERO: return "the C string has no zero byte";
+        case INTAGLIO_BAD_ENDS: return "the ends of the batch are invalid, or its arrays differ in length";
+        case INTAGLIO_NO_SYMBOL: return "the table has no such symbol";
+        case INTAGLIO_NO_SPACE: return "the buffer is too short";
+        case INTAGLIO_NO_KIND: return "no such kind of table";
+        default: return "unknown code";
+    }
+}
+
 /* The number that check_all writes for a string that isn't in the table. */
 #define INTAGLIO_ABSENT UINT64_MAX
+
+/* Returns INTAGLIO_VERSION of the library, as the header that it was built with has it. */
+uint32_t intaglio_version(void);
 
 /* Puts a new table into the handle, and frees the table that it held. `new` reserves capacity for 4096 strings, with_capacity for
  * exactly `capacity`; a table made by with_limit never holds more than `limit` strings. The keys are those of the hash function,
  * SipHash-1-3: random keys protect against strings that are chosen to collide.
  * Errors: NO_MEMORY, TOO_LARGE, NO_KIND. The handle then holds no table. */
-uint32_t intaglio_new(intaglio_table *table, uint32_t kind, uint64_t key0, uint64_t key1);
-uint32_t intaglio_with_capacity(intaglio_table *table, uint32_t kind, size_t capacity, uint64_t key0, uint64_t key1);
-uint32_t intaglio_with_limit(intaglio_table *table, uint32_t kind, size_t limit, uint64_t key0, uint64_t key1);
+INTAGLIO_MUST_USE intaglio_code intaglio_new(intaglio_table *table, uint32_t kind, uint64_t key0, uint64_t key1);
+INTAGLIO_MUST_USE intaglio_code intaglio_with_capacity(intaglio_table *table, uint32_t kind, size_t capacity, uint64_t key0, uint64_t key1);
+INTAGLIO_MUST_USE intaglio_code intaglio_with_limit(intaglio_table *table, uint32_t kind, size_t limit, uint64_t key0, uint64_t key1);
 
 /* Frees the table. The handle then holds none; freeing it again does nothing. */
 void intaglio_free(intaglio_table *table);
@@ -90,80 +139,81 @@ void intaglio_free(intaglio_table *table);
 /* Interns a string: stores its symbol in *symbol. A new string is copied.
  * Errors: NO_TABLE, FULL, NO_MEMORY, and NOT_UTF8, INNER_ZERO, MISSING_ZERO for kinds that don't take all bytes. *symbol is then
  * unchanged. */
-uint32_t intaglio_intern(intaglio_table *table, const uint8_t *bytes, size_t len, uint32_t *symbol);
+INTAGLIO_MUST_USE intaglio_code intaglio_intern(intaglio_table *table, const uint8_t *bytes, size_t len, uint32_t *symbol);
 
 /* The same without a copy. The bytes must not change until the program ends. */
-uint32_t intaglio_intern_static(intaglio_table *table, const uint8_t *bytes, size_t len, uint32_t *symbol);
+INTAGLIO_MUST_USE intaglio_code intaglio_intern_static(intaglio_table *table, const uint8_t *bytes, size_t len, uint32_t *symbol);
 
 /* Returns whether a string is in the table. If so, its symbol is stored in *symbol; otherwise *symbol is unchanged. */
-bool intaglio_check_interned(intaglio_table *table, const uint8_t *bytes, size_t len, uint32_t *symbol);
+bool intaglio_check_interned(const intaglio_table *table, const uint8_t *bytes, size_t len, uint32_t *symbol);
 
-/* Stores the address and the length of a symbol's bytes in *out. They stay valid until the table is cleared, rolled back to
+/* Stores the address and the length of a symbol's bytes in *out. The bytes stay valid until the table is cleared, rolled back to
  * before the symbol, freed or replaced; interning doesn't move them. Returns false if there is no such symbol; *out is then
  * unchanged. */
-bool intaglio_get(intaglio_table *table, uint32_t symbol, intaglio_spelling *out);
+bool intaglio_get(const intaglio_table *table, uint32_t symbol, intaglio_spelling *out);
 
 /* Stores the number of a symbol's bytes in *len, and copies them to the start of the buffer if it has space for all of them.
  * Returns false if there is no such symbol; then nothing is written. */
-bool intaglio_copy(intaglio_table *table, uint32_t symbol, uint8_t *buffer, size_t size, size_t *len);
+bool intaglio_copy(const intaglio_table *table, uint32_t symbol, uint8_t *buffer, size_t size, size_t *len);
 
 /* Returns the number of strings, or 0 if there is no table. The symbols are the numbers below it. */
-size_t intaglio_len(intaglio_table *table);
+size_t intaglio_len(const intaglio_table *table);
 
 /* Returns how many strings the table can hold before it has to grow, or 0 if there is no table. */
-size_t intaglio_capacity(intaglio_table *table);
+size_t intaglio_capacity(const intaglio_table *table);
 
 /* Reserves capacity for `additional` more strings. The table then doesn't grow for that many new strings, but each copy of a
  * string is still allocated. Errors: NO_TABLE, TOO_LARGE, NO_MEMORY. */
-uint32_t intaglio_reserve(intaglio_table *table, size_t additional);
+INTAGLIO_MUST_USE intaglio_code intaglio_reserve(intaglio_table *table, size_t additional);
 
 /* Shrinks the capacity to `min_capacity`, or to the number of strings if that is greater. Errors: NO_TABLE, NO_MEMORY. */
-uint32_t intaglio_shrink_to(intaglio_table *table, size_t min_capacity);
+INTAGLIO_MUST_USE intaglio_code intaglio_shrink_to(intaglio_table *table, size_t min_capacity);
 
 /* Removes all strings. The capacity and the keys stay, and the next symbol is 0. */
 void intaglio_clear(intaglio_table *table);
 
 /* Rolls the table back to the first `mark` strings, where `mark` is an earlier result of len. Errors: NO_TABLE, STALE. */
-uint32_t intaglio_take_back(intaglio_table *table, size_t mark);
+INTAGLIO_MUST_USE intaglio_code intaglio_take_back(intaglio_table *table, size_t mark);
 
 /* A batch of strings is passed as their concatenated bytes and an array with the end of each: string i is the bytes from
  * ends[i - 1], or 0 for the first string, up to ends[i]. */
 
-/* Interns a batch, all strings or none, and stores the symbol of each. `symbols_count` must equal `count`.
+/* Interns a batch, all strings or none, and stores the symbol of each. `symbols_count` must equal `count`. The error is that of the
+ * first string, in order, that can't be interned after those before it.
  * Errors: NO_TABLE, BAD_ENDS, FULL, NO_MEMORY, NOT_UTF8, INNER_ZERO, MISSING_ZERO. The contents of `symbols` are then unspecified. */
-uint32_t intaglio_intern_all(intaglio_table *table, const uint8_t *bytes, size_t len, const size_t *ends, size_t count, uint32_t *symbols, size_t symbols_count);
+INTAGLIO_MUST_USE intaglio_code intaglio_intern_all(intaglio_table *table, const uint8_t *bytes, size_t len, const size_t *ends, size_t count, uint32_t *symbols, size_t symbols_count);
 
 /* Looks up a batch, and stores the symbol of each string, or INTAGLIO_ABSENT if it isn't in the table or isn't valid for the
  * kind. `symbols_count` must equal `count`. Errors: NO_TABLE, BAD_ENDS. Nothing is then written. */
-uint32_t intaglio_check_all(intaglio_table *table, const uint8_t *bytes, size_t len, const size_t *ends, size_t count, uint64_t *symbols, size_t symbols_count);
+INTAGLIO_MUST_USE intaglio_code intaglio_check_all(const intaglio_table *table, const uint8_t *bytes, size_t len, const size_t *ends, size_t count, uint64_t *symbols, size_t symbols_count);
 
 /* Copies the bytes of many symbols to the buffer, one after the other, and stores the end of each, in the form in which a batch
  * is passed. `ends_count` must equal `count`. Errors: NO_TABLE, BAD_ENDS; nothing is then written. NO_SYMBOL, NO_SPACE; the
  * contents of `buffer` and `ends` are then unspecified. */
-uint32_t intaglio_copy_all(intaglio_table *table, const uint32_t *symbols, size_t count, uint8_t *buffer, size_t size, size_t *ends, size_t ends_count);
+INTAGLIO_MUST_USE intaglio_code intaglio_copy_all(const intaglio_table *table, const uint32_t *symbols, size_t count, uint8_t *buffer, size_t size, size_t *ends, size_t ends_count);
 
 /* The same functions for each kind, on a struct of that kind, such as intaglio_text. Initialize it with INTAGLIO_NONE. */
 #define INTAGLIO_NONE {{false, NULL}}
 #define INTAGLIO_KIND(NAME, KIND) \
     typedef struct { intaglio_table table; } intaglio_##NAME; \
-    static inline uint32_t intaglio_##NAME##_new(intaglio_##NAME *table, uint64_t key0, uint64_t key1) { return intaglio_new(&table->table, KIND, key0, key1); } \
-    static inline uint32_t intaglio_##NAME##_with_capacity(intaglio_##NAME *table, size_t capacity, uint64_t key0, uint64_t key1) { return intaglio_with_capacity(&table->table, KIND, capacity, key0, key1); } \
-    static inline uint32_t intaglio_##NAME##_with_limit(intaglio_##NAME *table, size_t limit, uint64_t key0, uint64_t key1) { return intaglio_with_limit(&table->table, KIND, limit, key0, key1); } \
+    INTAGLIO_MUST_USE static inline intaglio_code intaglio_##NAME##_new(intaglio_##NAME *table, uint64_t key0, uint64_t key1) { return intaglio_new(&table->table, KIND, key0, key1); } \
+    INTAGLIO_MUST_USE static inline intaglio_code intaglio_##NAME##_with_capacity(intaglio_##NAME *table, size_t capacity, uint64_t key0, uint64_t key1) { return intaglio_with_capacity(&table->table, KIND, capacity, key0, key1); } \
+    INTAGLIO_MUST_USE static inline intaglio_code intaglio_##NAME##_with_limit(intaglio_##NAME *table, size_t limit, uint64_t key0, uint64_t key1) { return intaglio_with_limit(&table->table, KIND, limit, key0, key1); } \
     static inline void intaglio_##NAME##_free(intaglio_##NAME *table) { intaglio_free(&table->table); } \
-    static inline uint32_t intaglio_##NAME##_intern(intaglio_##NAME *table, const uint8_t *bytes, size_t len, uint32_t *symbol) { return intaglio_intern(&table->table, bytes, len, symbol); } \
-    static inline uint32_t intaglio_##NAME##_intern_static(intaglio_##NAME *table, const uint8_t *bytes, size_t len, uint32_t *symbol) { return intaglio_intern_static(&table->table, bytes, len, symbol); } \
-    static inline bool intaglio_##NAME##_check_interned(intaglio_##NAME *table, const uint8_t *bytes, size_t len, uint32_t *symbol) { return intaglio_check_interned(&table->table, bytes, len, symbol); } \
-    static inline bool intaglio_##NAME##_get(intaglio_##NAME *table, uint32_t symbol, intaglio_spelling *out) { return intaglio_get(&table->table, symbol, out); } \
-    static inline bool intaglio_##NAME##_copy(intaglio_##NAME *table, uint32_t symbol, uint8_t *buffer, size_t size, size_t *len) { return intaglio_copy(&table->table, symbol, buffer, size, len); } \
-    static inline size_t intaglio_##NAME##_len(intaglio_##NAME *table) { return intaglio_len(&table->table); } \
-    static inline size_t intaglio_##NAME##_capacity(intaglio_##NAME *table) { return intaglio_capacity(&table->table); } \
-    static inline uint32_t intaglio_##NAME##_reserve(intaglio_##NAME *table, size_t additional) { return intaglio_reserve(&table->table, additional); } \
-    static inline uint32_t intaglio_##NAME##_shrink_to(intaglio_##NAME *table, size_t min_capacity) { return intaglio_shrink_to(&table->table, min_capacity); } \
+    INTAGLIO_MUST_USE static inline intaglio_code intaglio_##NAME##_intern(intaglio_##NAME *table, const uint8_t *bytes, size_t len, uint32_t *symbol) { return intaglio_intern(&table->table, bytes, len, symbol); } \
+    INTAGLIO_MUST_USE static inline intaglio_code intaglio_##NAME##_intern_static(intaglio_##NAME *table, const uint8_t *bytes, size_t len, uint32_t *symbol) { return intaglio_intern_static(&table->table, bytes, len, symbol); } \
+    static inline bool intaglio_##NAME##_check_interned(const intaglio_##NAME *table, const uint8_t *bytes, size_t len, uint32_t *symbol) { return intaglio_check_interned(&table->table, bytes, len, symbol); } \
+    static inline bool intaglio_##NAME##_get(const intaglio_##NAME *table, uint32_t symbol, intaglio_spelling *out) { return intaglio_get(&table->table, symbol, out); } \
+    static inline bool intaglio_##NAME##_copy(const intaglio_##NAME *table, uint32_t symbol, uint8_t *buffer, size_t size, size_t *len) { return intaglio_copy(&table->table, symbol, buffer, size, len); } \
+    static inline size_t intaglio_##NAME##_len(const intaglio_##NAME *table) { return intaglio_len(&table->table); } \
+    static inline size_t intaglio_##NAME##_capacity(const intaglio_##NAME *table) { return intaglio_capacity(&table->table); } \
+    INTAGLIO_MUST_USE static inline intaglio_code intaglio_##NAME##_reserve(intaglio_##NAME *table, size_t additional) { return intaglio_reserve(&table->table, additional); } \
+    INTAGLIO_MUST_USE static inline intaglio_code intaglio_##NAME##_shrink_to(intaglio_##NAME *table, size_t min_capacity) { return intaglio_shrink_to(&table->table, min_capacity); } \
     static inline void intaglio_##NAME##_clear(intaglio_##NAME *table) { intaglio_clear(&table->table); } \
-    static inline uint32_t intaglio_##NAME##_take_back(intaglio_##NAME *table, size_t mark) { return intaglio_take_back(&table->table, mark); } \
-    static inline uint32_t intaglio_##NAME##_intern_all(intaglio_##NAME *table, const uint8_t *bytes, size_t len, const size_t *ends, size_t count, uint32_t *symbols, size_t symbols_count) { return intaglio_intern_all(&table->table, bytes, len, ends, count, symbols, symbols_count); } \
-    static inline uint32_t intaglio_##NAME##_check_all(intaglio_##NAME *table, const uint8_t *bytes, size_t len, const size_t *ends, size_t count, uint64_t *symbols, size_t symbols_count) { return intaglio_check_all(&table->table, bytes, len, ends, count, symbols, symbols_count); } \
-    static inline uint32_t intaglio_##NAME##_copy_all(intaglio_##NAME *table, const uint32_t *symbols, size_t count, uint8_t *buffer, size_t size, size_t *ends, size_t ends_count) { return intaglio_copy_all(&table->table, symbols, count, buffer, size, ends, ends_count); }
+    INTAGLIO_MUST_USE static inline intaglio_code intaglio_##NAME##_take_back(intaglio_##NAME *table, size_t mark) { return intaglio_take_back(&table->table, mark); } \
+    INTAGLIO_MUST_USE static inline intaglio_code intaglio_##NAME##_intern_all(intaglio_##NAME *table, const uint8_t *bytes, size_t len, const size_t *ends, size_t count, uint32_t *symbols, size_t symbols_count) { return intaglio_intern_all(&table->table, bytes, len, ends, count, symbols, symbols_count); } \
+    INTAGLIO_MUST_USE static inline intaglio_code intaglio_##NAME##_check_all(const intaglio_##NAME *table, const uint8_t *bytes, size_t len, const size_t *ends, size_t count, uint64_t *symbols, size_t symbols_count) { return intaglio_check_all(&table->table, bytes, len, ends, count, symbols, symbols_count); } \
+    INTAGLIO_MUST_USE static inline intaglio_code intaglio_##NAME##_copy_all(const intaglio_##NAME *table, const uint32_t *symbols, size_t count, uint8_t *buffer, size_t size, size_t *ends, size_t ends_count) { return intaglio_copy_all(&table->table, symbols, count, buffer, size, ends, ends_count); }
 
 INTAGLIO_KIND(text, INTAGLIO_TEXT)
 INTAGLIO_KIND(bytes, INTAGLIO_BYTES)

@@ -2,8 +2,12 @@
 import copy
 import gc
 import pickle
+import re
 import unittest
-from pathlib import PurePath
+import weakref
+from array import array
+from collections.abc import Sequence
+from pathlib import PurePath, PurePosixPath
 
 import intaglio
 from intaglio import BytesTable, ByteStringTable, CStringTable, OsStringTable, PathTable, SymbolTable
@@ -105,11 +109,87 @@ class EachKind:
     def test_symbols_that_are_none(self):
         kind, of = self.kind, self.of
         table = kind([of("a")])
-        for symbol in (1, -1, 2**32, 2**64):
-            with self.assertRaises(LookupError):
+        for symbol in (1, -2, 2**32, 2**64, -(2**64)):
+            with self.assertRaises(IndexError):
                 table[symbol]
-        with self.assertRaises(intaglio.NoSymbol):
-            table.get_all([2**32])
+        for symbol in (1, -1, 2**32, 2**64):
+            self.assertEqual(table.get(symbol, "none"), "none")
+            with self.assertRaises(intaglio.NoSymbol):
+                table.get_all([symbol])
+        for call in (table.get, table.__getitem__):
+            with self.assertRaises(TypeError):
+                call("0")
+
+    def test_a_table_is_a_sequence(self):
+        kind, of = self.kind, self.of
+        table, strings = kind(map(of, "abcde")), list(map(of, "abcde"))
+        self.assertIsInstance(table, Sequence)
+        self.assertEqual((table[-1], table[-5], table[True]), (of("e"), of("a"), of("b")))
+        for part in (slice(1, 3), slice(None, None, -2), slice(-2, None), slice(3, 1), slice(0, 99)):
+            self.assertEqual(table[part], strings[part])
+        self.assertEqual((list(reversed(table)), table.index(of("c")), table.count(of("c")), table.count(of("x"))), (strings[::-1], 2, 1, 0))
+        for arguments in ((of("x"),), (of("c"), 3), (of("c"), 0, 2), (None,)):
+            with self.assertRaises(ValueError):
+                table.index(*arguments)
+        self.assertEqual(table.index(of("c"), -3, -1), 2)
+
+    def test_symbols_go_to_a_buffer(self):
+        kind, of = self.kind, self.of
+        table, symbols, found = kind(), array("I", [9] * 4), array("q", [9] * 3)
+        self.assertEqual(table.intern_into(map(of, "aba"), symbols), 3)
+        self.assertEqual(symbols.tolist(), [0, 1, 0, 9])
+        self.assertEqual((table.check_into(map(of, "xb"), found), found.tolist()), (2, [intaglio.ABSENT, 1, 9]))
+        unsigned = array("Q", [9])
+        self.assertEqual((table.check_into([of("x")], unsigned), unsigned[0]), (1, 2**64 - 1))
+        for call, out in ((table.intern_into, symbols), (table.check_into, found)):
+            with self.assertRaises(intaglio.NoSpace):
+                call(map(of, "vwxyz"), out)
+            for other in (array("H", [0] * 9), array("f", [0] * 9), bytearray(99)):
+                with self.assertRaises(TypeError):
+                    call([of("a")], other)
+            with self.assertRaises(BufferError):
+                call([of("a")], memoryview(out).toreadonly())
+        self.assertEqual((len(table), symbols.tolist(), found.tolist()), (2, [0, 1, 0, 9], [-1, 1, 9]))
+
+    def test_a_batch_fails_as_a_whole(self):
+        kind, of = self.kind, self.of
+        table = kind([of("a")])
+        for last in (None, 1, 1.5):
+            for call in (table.intern_all, table.check_all):
+                with self.assertRaises(TypeError):
+                    call([of("new"), of("newer"), last])
+        with self.assertRaises(ZeroDivisionError):
+            table.intern_all(of("new") if number < 3 else 1 // 0 for number in range(5))
+        self.assertEqual(list(table), [of("a")])
+
+    def test_long_strings(self):
+        kind, of = self.kind, self.of
+        strings = [of("é" * size) for size in (0, 1, 100, 127, 128, 129, 1_000, 100_000)]
+        table = kind(strings)
+        self.assertEqual((list(table), [table.get(number) for number in range(8)], table.get_all(range(8))), (strings, strings, strings))
+
+    def test_a_subclass_and_a_weak_reference(self):
+        kind, of = self.kind, self.of
+
+        class Named(kind):
+            def __init__(self, name):
+                super().__init__([of("a")])
+                self.name = name
+
+        table = Named("x")
+        reference = weakref.ref(table)
+        self.assertEqual((table.name, table[0], reference()), ("x", of("a"), table))
+        self.assertEqual(repr(table), "<Named of 1>")
+        del table
+        gc.collect()
+        self.assertIsNone(reference())
+
+    def test_a_table_may_be_made_again(self):
+        kind, of = self.kind, self.of
+        table = kind([of("a")])
+        table.__init__([of("b"), of("c")])
+        self.assertEqual(list(table), [of("b"), of("c")])
+        self.assertEqual(len(kind.__new__(kind)), 0)
 
 
 class TextTest(EachKind, unittest.TestCase):
@@ -167,6 +247,40 @@ class OneKind(unittest.TestCase):
     def test_the_keys_may_be_chosen(self):
         table = SymbolTable("ab", keys=(0, 2**64 - 1))
         self.assertEqual(table.intern("b"), 1)
+        for keys in ((2**64, 0), (0, -1), (1,), (1, 2, 3), ()):
+            with self.assertRaises(ValueError):
+                SymbolTable(keys=keys)
+        for keys in (1, (1, "2"), (1.0, 2)):
+            with self.assertRaises(TypeError):
+                SymbolTable(keys=keys)
+
+    def test_batches_take_what_single_calls_take(self):
+        self.assertEqual(PathTable(["a", PurePath("b")]).check_all([PurePath("b"), "a/."]), [1, 0])
+        self.assertEqual(list(BytesTable([b"a", bytearray(b"b"), memoryview(b"xcx")[1:2], memoryview(b"acbd")[::2]])), [b"a", b"b", b"c", b"ab"])
+        self.assertEqual(SymbolTable(["a"]).check_all(["a", LONE_SURROGATE, "b"]), [0, None, None])
+
+    def test_a_list_that_changes_while_its_contents_are_converted(self):
+        given = ["a"] * 3
+
+        class Shrinking(PurePosixPath):
+            def __fspath__(self):
+                given.clear()
+                return "b"
+
+        given.append(Shrinking("x"))
+        self.assertEqual(PathTable().intern_all(given), [0, 0, 0, 1])
+
+    def test_the_base_is_of_no_kind(self):
+        with self.assertRaises(TypeError):
+            intaglio.Table()
+        self.assertEqual(intaglio.Table[str, str].__origin__, intaglio.Table)
+
+    def test_errors_say_what_they_are(self):
+        with self.assertRaisesRegex(intaglio.NotUtf8, "lone surrogate"):
+            SymbolTable([LONE_SURROGATE])
+        with self.assertRaisesRegex(intaglio.NoSymbol, "no such symbol"):
+            SymbolTable()[0]
+        self.assertRegex(intaglio.__version__, re.compile(r"^\d+\.\d+\.\d+$"))
 
     def test_either_a_capacity_or_a_limit(self):
         with self.assertRaises(TypeError):

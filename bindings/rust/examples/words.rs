@@ -1,13 +1,15 @@
 //! Interns the lines of its input, and writes what the proved program writes: the symbol of each line, an empty line, and each
 //! string once, in the order of the symbols.
 //!
-//!     words text|bytes
+//!     words text|bytes|cstr|osstr|path
 use std::borrow::Cow;
 use std::env::args;
 use std::error::Error;
+use std::ffi::{CString, OsStr};
 use std::io::{BufWriter, Read, Write, stdin, stdout};
+use std::path::Path;
 
-use intaglio_proved::{Kind, SymbolTable, Table, bytes};
+use intaglio_proved::{Kind, SymbolTable, Table, bytes, cstr, osstr, path};
 
 fn encode<'a, K: Kind>(
     lines: impl Iterator<Item = &'a K::Content>,
@@ -36,9 +38,16 @@ fn main() -> Result<(), Box<dyn Error>> {
     let mut input = Vec::new();
     stdin().read_to_end(&mut input)?;
     let input = input.strip_suffix(b"\n").unwrap_or(&input);
+    let lines = || input.split(|byte| *byte == b'\n');
     match args().nth(1).as_deref() {
         Some("text") => encode(str::from_utf8(input)?.split('\n'), SymbolTable::new(), str::as_bytes),
-        Some("bytes") => encode(input.split(|byte| *byte == b'\n'), bytes::SymbolTable::new(), |bytes| bytes),
-        _ => Err("usage: words text|bytes".into()),
+        Some("bytes") => encode(lines(), bytes::SymbolTable::new(), |bytes| bytes),
+        Some("cstr") => {
+            let lines = lines().map(CString::new).collect::<Result<Vec<_>, _>>()?;
+            encode(lines.iter().map(CString::as_c_str), cstr::SymbolTable::new(), |line| line.to_bytes())
+        }
+        Some("osstr") => encode(str::from_utf8(input)?.split('\n').map(OsStr::new), osstr::SymbolTable::new(), OsStr::as_encoded_bytes),
+        Some("path") => encode(str::from_utf8(input)?.split('\n').map(Path::new), path::SymbolTable::new(), |path| path.as_os_str().as_encoded_bytes()),
+        _ => Err("usage: words text|bytes|cstr|osstr|path".into()),
     }
 }

@@ -1,17 +1,24 @@
 //! The library, behind safe calls. All of this crate's `unsafe` is here.
 //!
 //! What the library asks of its callers is in its header, `bindings/c/intaglio.h`: valid pointers that aren't null and
-//! don't overlap what is written, a handle that is zeros or was written by the library and isn't copied, and one call at a
-//! time on a handle. Slices and references of Rust are such pointers. A [`RawTable`] owns its handle, and isn't `Sync`.
-use core::cell::UnsafeCell;
-use core::ffi::c_void;
+//! don't overlap what is written, a handle that is zeros or was written by the library, and one call at a time on a handle.
+//! Slices and references of Rust are such pointers.
+//!
+//! A [`RawTable`] owns its handle. A call that changes the table takes `&mut self`, and the handle itself. A call that only
+//! reads takes a copy of the handle, which lasts as long as the call: it takes the table out of the copy and puts it back, and
+//! writes nothing else. So threads may read at once, without a lock. That a read writes nothing to the table's memory is what
+//! its source says and no contract; `bindings/tests/reads.c` makes all of them while that memory can't be written.
+use core::ffi::{CStr, c_void};
 use core::fmt::Debug;
 use core::marker::PhantomData;
 use core::ptr::null_mut;
+use std::borrow::Cow;
+use std::ffi::OsStr;
 
 use crate::refusal::Refusal;
 
 #[repr(C)]
+#[derive(Clone, Copy)]
 struct RawHandle {
     live: bool,
     ptr: *mut c_void,
@@ -45,7 +52,7 @@ mod sealed {
     pub trait Sealed {}
 }
 
-/// A kind of tables: [`Text`] or [`Bytes`].
+/// A kind of tables: [`Text`], [`Bytes`], [`Cstr`], [`Osstr`] or [`Path`].
 pub trait Kind: sealed::Sealed {
     /// The strings.
     type Content: ?Sized + ToOwned + Debug + 'static;
@@ -62,6 +69,11 @@ pub trait Kind: sealed::Sealed {
     /// The bytes come from a table of this kind.
     #[doc(hidden)]
     unsafe fn content(bytes: &[u8]) -> &Self::Content;
+
+    #[doc(hidden)]
+    fn lossy(content: &Self::Content) -> Cow<'_, str> {
+        String::from_utf8_lossy(Self::bytes(content))
+    }
 }
 
 /// UTF-8 texts.
@@ -105,6 +117,74 @@ impl Kind for Bytes {
     }
 }
 
+/// C strings.
+#[derive(Debug)]
+pub enum Cstr {}
+
+impl sealed::Sealed for Cstr {}
+
+impl Kind for Cstr {
+    type Content = CStr;
+
+    const NUMBER: u32 = 2;
+
+    fn bytes(content: &CStr) -> &[u8] {
+        content.to_bytes_with_nul()
+    }
+
+    unsafe fn content(bytes: &[u8]) -> &CStr {
+        // SAFETY: A table of C strings accepts only bytes whose one zero is the last, which is proved, and returns them with it.
+        unsafe { CStr::from_bytes_with_nul_unchecked(bytes) }
+    }
+
+    fn lossy(content: &CStr) -> Cow<'_, str> {
+        content.to_string_lossy()
+    }
+}
+
+/// Paths, which are equal if their components are. Only those that are UTF-8 can be interned.
+#[derive(Debug)]
+pub enum Path {}
+
+impl sealed::Sealed for Path {}
+
+impl Kind for Path {
+    type Content = std::path::Path;
+
+    const NUMBER: u32 = 3;
+
+    fn bytes(content: &std::path::Path) -> &[u8] {
+        content.as_os_str().as_encoded_bytes()
+    }
+
+    unsafe fn content(bytes: &[u8]) -> &std::path::Path {
+        // SAFETY: As in `Osstr`.
+        std::path::Path::new(unsafe { OsStr::from_encoded_bytes_unchecked(bytes) })
+    }
+}
+
+/// Platform strings. They are bytes to the library, so that those that aren't UTF-8 can be interned too.
+#[derive(Debug)]
+pub enum Osstr {}
+
+impl sealed::Sealed for Osstr {}
+
+impl Kind for Osstr {
+    type Content = OsStr;
+
+    const NUMBER: u32 = Bytes::NUMBER;
+
+    fn bytes(content: &OsStr) -> &[u8] {
+        content.as_encoded_bytes()
+    }
+
+    unsafe fn content(bytes: &[u8]) -> &OsStr {
+        // SAFETY: The bytes are those that `bytes` of this kind took from an `OsStr`: a kind is a type, so no other kind's get
+        // into the table.
+        unsafe { OsStr::from_encoded_bytes_unchecked(bytes) }
+    }
+}
+
 /// A batch of strings: their concatenated bytes, and the end of each.
 #[derive(Default)]
 pub struct Batch {
@@ -126,21 +206,22 @@ impl Batch {
 
 /// A table of the library.
 pub struct RawTable<K: Kind> {
-    // Even a call that only reads takes the table out of the handle and puts it back.
-    handle: UnsafeCell<RawHandle>,
+    handle: RawHandle,
     kind: PhantomData<K>,
 }
 
 // SAFETY: A table is a few blocks of memory that nothing else points to. The library's only other data are constants and a byte of
-// which only the address is used, and C's allocator accepts a block from any thread. Calls of two threads aren't made at once, since
-// the type isn't `Sync`.
+// which only the address is used, and C's allocator accepts a block from any thread.
 unsafe impl<K: Kind> Send for RawTable<K> {}
+
+// SAFETY: What takes `&self` calls the library with a handle of its own, and only reads the table.
+unsafe impl<K: Kind> Sync for RawTable<K> {}
 
 impl<K: Kind> RawTable<K> {
     // A table that the call makes.
     fn made(make: impl FnOnce(*mut RawHandle) -> u32) -> Result<RawTable<K>, Refusal> {
-        let table = RawTable { handle: UnsafeCell::new(RawHandle { live: false, ptr: null_mut() }), kind: PhantomData };
-        Refusal::check(make(table.at()))?;
+        let mut table = RawTable { handle: RawHandle { live: false, ptr: null_mut() }, kind: PhantomData };
+        Refusal::check(make(&mut table.handle))?;
         Ok(table)
     }
 
@@ -154,26 +235,28 @@ impl<K: Kind> RawTable<K> {
         RawTable::made(|handle| unsafe { intaglio_with_limit(handle, K::NUMBER, limit, keys.0, keys.1) })
     }
 
-    // The handle, for one call. No call makes another one, and the type isn't `Sync`, so there is never a second call meanwhile.
-    fn at(&self) -> *mut RawHandle {
-        self.handle.get()
+    // Makes a call that only reads, with a copy of the handle.
+    fn read<R>(&self, call: impl FnOnce(*mut RawHandle) -> R) -> R {
+        let mut copy = self.handle;
+        call(&mut copy)
     }
 
     pub fn len(&self) -> usize {
-        // SAFETY: The handle is one that the library wrote, and this is the one call on it.
-        unsafe { intaglio_len(self.at()) }
+        // SAFETY: The handle is a copy of one that the library wrote, for this one call, which only reads.
+        self.read(|handle| unsafe { intaglio_len(handle) })
     }
 
     pub fn capacity(&self) -> usize {
         // SAFETY: As in `len`.
-        unsafe { intaglio_capacity(self.at()) }
+        self.read(|handle| unsafe { intaglio_capacity(handle) })
     }
 
     pub fn intern(&mut self, content: &K::Content) -> Result<u32, Refusal> {
         let bytes = K::bytes(content);
         let mut symbol = 0;
-        // SAFETY: As in `len`. A slice's pointer isn't null even if the slice is empty, and `symbol` isn't in it.
-        Refusal::check(unsafe { intaglio_intern(self.at(), bytes.as_ptr(), bytes.len(), &mut symbol) })?;
+        // SAFETY: The handle is one that the library wrote, and this is the one call on it. A slice's pointer isn't null even if the
+        // slice is empty, and `symbol` isn't in it.
+        Refusal::check(unsafe { intaglio_intern(&mut self.handle, bytes.as_ptr(), bytes.len(), &mut symbol) })?;
         Ok(symbol)
     }
 
@@ -181,22 +264,22 @@ impl<K: Kind> RawTable<K> {
         let bytes = K::bytes(content);
         let mut symbol = 0;
         // SAFETY: As in `intern`. The bytes stay as they are for `'static`.
-        Refusal::check(unsafe { intaglio_intern_static(self.at(), bytes.as_ptr(), bytes.len(), &mut symbol) })?;
+        Refusal::check(unsafe { intaglio_intern_static(&mut self.handle, bytes.as_ptr(), bytes.len(), &mut symbol) })?;
         Ok(symbol)
     }
 
     pub fn check_interned(&self, content: &K::Content) -> Option<u32> {
         let bytes = K::bytes(content);
         let mut symbol = 0;
-        // SAFETY: As in `intern`.
-        let found = unsafe { intaglio_check_interned(self.at(), bytes.as_ptr(), bytes.len(), &mut symbol) };
+        // SAFETY: As in `len`, and for the slice as in `intern`.
+        let found = self.read(|handle| unsafe { intaglio_check_interned(handle, bytes.as_ptr(), bytes.len(), &mut symbol) });
         found.then_some(symbol)
     }
 
     pub fn get(&self, symbol: u32) -> Option<&K::Content> {
         let mut out = RawSpelling { at: core::ptr::null(), len: 0 };
         // SAFETY: As in `len`. `out` is the library's struct.
-        if !unsafe { intaglio_get(self.at(), symbol, &mut out) } {
+        if !self.read(|handle| unsafe { intaglio_get(handle, symbol, &mut out) }) {
             return None;
         }
         let bytes = match out.len {
@@ -210,31 +293,31 @@ impl<K: Kind> RawTable<K> {
     }
 
     pub fn reserve(&mut self, additional: usize) -> Result<(), Refusal> {
-        // SAFETY: As in `len`.
-        Refusal::check(unsafe { intaglio_reserve(self.at(), additional) })
+        // SAFETY: As in `intern`.
+        Refusal::check(unsafe { intaglio_reserve(&mut self.handle, additional) })
     }
 
     pub fn shrink_to(&mut self, min_capacity: usize) -> Result<(), Refusal> {
-        // SAFETY: As in `len`.
-        Refusal::check(unsafe { intaglio_shrink_to(self.at(), min_capacity) })
+        // SAFETY: As in `intern`.
+        Refusal::check(unsafe { intaglio_shrink_to(&mut self.handle, min_capacity) })
     }
 
     pub fn clear(&mut self) {
         // SAFETY: As in `len`. No slice is borrowed, since this takes `&mut self`.
-        unsafe { intaglio_clear(self.at()) }
+        unsafe { intaglio_clear(&mut self.handle) }
     }
 
     pub fn take_back(&mut self, mark: usize) -> Result<(), Refusal> {
         // SAFETY: As in `clear`.
-        Refusal::check(unsafe { intaglio_take_back(self.at(), mark) })
+        Refusal::check(unsafe { intaglio_take_back(&mut self.handle, mark) })
     }
 
     pub fn intern_all(&mut self, batch: &Batch) -> Result<Vec<u32>, Refusal> {
         let Batch { bytes, ends } = batch;
         let mut symbols = vec![0; ends.len()];
-        // SAFETY: As in `len`. The three are vectors of their own.
+        // SAFETY: As in `intern`. The three are vectors of their own.
         let code = unsafe {
-            intaglio_intern_all(self.at(), bytes.as_ptr(), bytes.len(), ends.as_ptr(), ends.len(), symbols.as_mut_ptr(), symbols.len())
+            intaglio_intern_all(&mut self.handle, bytes.as_ptr(), bytes.len(), ends.as_ptr(), ends.len(), symbols.as_mut_ptr(), symbols.len())
         };
         Refusal::check(code)?;
         Ok(symbols)
@@ -243,10 +326,10 @@ impl<K: Kind> RawTable<K> {
     pub fn check_all(&self, batch: &Batch) -> Vec<Option<u32>> {
         let Batch { bytes, ends } = batch;
         let mut symbols = vec![0; ends.len()];
-        // SAFETY: As in `intern_all`.
-        let code = unsafe {
-            intaglio_check_all(self.at(), bytes.as_ptr(), bytes.len(), ends.as_ptr(), ends.len(), symbols.as_mut_ptr(), symbols.len())
-        };
+        // SAFETY: As in `len`. The three are vectors of their own.
+        let code = self.read(|handle| unsafe {
+            intaglio_check_all(handle, bytes.as_ptr(), bytes.len(), ends.as_ptr(), ends.len(), symbols.as_mut_ptr(), symbols.len())
+        });
         assert!(code == 0, "the ends ascend, and there is a place for each symbol");
         symbols.into_iter().map(|symbol| u32::try_from(symbol).ok()).collect()
     }
@@ -255,6 +338,6 @@ impl<K: Kind> RawTable<K> {
 impl<K: Kind> Drop for RawTable<K> {
     fn drop(&mut self) {
         // SAFETY: As in `clear`. Nothing uses the handle afterwards.
-        unsafe { intaglio_free(self.at()) }
+        unsafe { intaglio_free(&mut self.handle) }
     }
 }

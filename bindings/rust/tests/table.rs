@@ -1,7 +1,13 @@
 //! The calls that the crate adds, and what the library requires of its handle. Expected values are worked out by hand.
+use std::collections::BTreeMap;
+use std::ffi::{CStr, CString, OsStr, OsString};
+use std::mem::ManuallyDrop;
+use std::os::unix::ffi::OsStrExt;
+use std::panic::RefUnwindSafe;
+use std::path::{Path, PathBuf};
 use std::thread;
 
-use intaglio_proved::{Refusal, Symbol, SymbolTable, bytes};
+use intaglio_proved::{Refusal, Symbol, SymbolTable, bytes, cstr, osstr, path};
 
 fn symbols(ids: &[u32]) -> Vec<Symbol> {
     ids.iter().copied().map(Symbol::new).collect()
@@ -19,7 +25,6 @@ fn symbols_count_up_from_0_and_give_their_text_back() {
     assert_eq!(&table[Symbol::new(1)], "a");
     assert_eq!(table.get(Symbol::new(3)), None);
     assert_eq!(table.get_interned("a"), Some((Symbol::new(1), "a")));
-    assert_eq!(format!("{table:?}"), r#"{0: "b", 1: "a", 2: ""}"#);
 }
 
 #[test]
@@ -85,6 +90,82 @@ fn a_table_goes_to_another_thread() {
     .join()
     .unwrap();
     assert_eq!(table.intern("b"), Ok(Symbol::new(1)));
+}
+
+#[test]
+fn c_strings_keep_their_zero() {
+    let mut table = cstr::SymbolTable::new();
+    assert_eq!(table.intern(c"b"), Ok(Symbol::new(0)));
+    assert_eq!(table.intern(CString::new("").unwrap()), Ok(Symbol::new(1)));
+    assert_eq!(table.intern_copy(c"b"), Ok(Symbol::new(0)));
+    assert_eq!(table.c_strings().collect::<Vec<&CStr>>(), [c"b", c""]);
+}
+
+#[test]
+fn platform_strings_need_not_be_utf8() {
+    let mut table = osstr::SymbolTable::new();
+    let odd = OsStr::from_bytes(b"a\xff");
+    assert_eq!(table.intern(OsString::from(odd)), Ok(Symbol::new(0)));
+    assert_eq!(table.intern(OsStr::new("a")), Ok(Symbol::new(1)));
+    assert_eq!(table.check_interned(odd), Some(Symbol::new(0)));
+    assert_eq!(table.os_strings().collect::<Vec<_>>(), [odd, OsStr::new("a")]);
+}
+
+#[test]
+fn paths_are_equal_by_their_components() {
+    let mut table = path::SymbolTable::new();
+    assert_eq!(table.intern(Path::new("a//b")), Ok(Symbol::new(0)));
+    assert_eq!(table.intern(PathBuf::from("a/./b/")), Ok(Symbol::new(0)));
+    assert_eq!(table.paths().map(Path::as_os_str).collect::<Vec<_>>(), ["a//b"]);
+}
+
+#[test]
+fn a_path_that_is_not_utf8_is_an_error() {
+    let mut table = path::SymbolTable::new();
+    let odd = Path::new(OsStr::from_bytes(b"a\xff"));
+    assert_eq!(table.try_intern(odd), Err(Refusal::NotUtf8));
+    assert_eq!(table.intern_all([Path::new("a"), odd]), Err(Refusal::NotUtf8));
+    assert_eq!((table.check_interned(odd), table.check_all([odd]), table.len()), (None, vec![None], 0));
+}
+
+#[test]
+fn tables_may_be_shared_and_survive_panics() {
+    fn holds<T: Send + Sync + RefUnwindSafe + Unpin>(_: T) {}
+    holds((SymbolTable::default(), bytes::SymbolTable::default(), cstr::SymbolTable::default()));
+    holds((osstr::SymbolTable::default(), path::SymbolTable::default()));
+}
+
+#[test]
+fn threads_read_at_once() {
+    let words: Vec<String> = (0..1_000).map(|number| format!("word {number}")).collect();
+    let mut table = SymbolTable::new();
+    table.intern_all(&words).unwrap();
+    thread::scope(|scope| {
+        for seed in 0..4 {
+            let (table, words) = (&table, &words);
+            scope.spawn(move || {
+                for step in 0..50_000 {
+                    let number = (step * 7919 + seed * 131) % words.len();
+                    let symbol = Symbol::new(number as u32);
+                    assert_eq!(table.check_interned(&words[number]), Some(symbol));
+                    assert_eq!((table.get(symbol), table.len()), (Some(&words[number][..]), words.len()));
+                    assert_eq!(table.check_interned("absent"), None);
+                }
+            });
+        }
+    });
+}
+
+// How std prints a `ManuallyDrop` depends on its version.
+#[test]
+fn debug_prints_a_map_and_a_list() {
+    let mut table = bytes::SymbolTable::default();
+    table.intern_all([&b"a\xff"[..], b"b"]).unwrap();
+    let map = BTreeMap::from([(&b"a\xff"[..], Symbol::new(0)), (b"b", Symbol::new(1))]);
+    let (map, list) = (ManuallyDrop::new(map), ManuallyDrop::new([&b"a\xff"[..], b"b"]));
+    assert_eq!(format!("{table:?}"), format!("SymbolTable {{ map: {map:?}, vec: {list:?} }}"));
+    let long = format!("{table:#?}");
+    assert!(long.contains("\"a\u{fffd}\",\n") && long.contains("255"), "{long}");
 }
 
 #[test]

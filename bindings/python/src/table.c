@@ -1,0 +1,679 @@
+/* intaglio._table: the tables, over libintaglio.
+ *
+ * Threads. A call of the library holds the interpreter's lock, so there is one at a time, and its results go to variables of the
+ * caller's own. A batch of internings or of look-ups runs no code of Python's between its first call of the library and its last:
+ * contents become str or bytes objects before, results become objects after. So no other thread sees a part of it. Slices and
+ * get_all copy string by string. An interpreter without that lock is refused.
+ */
+#define PY_SSIZE_T_CLEAN
+#include <Python.h>
+#include <stddef.h>
+#include <structmember.h>
+#include <unistd.h>
+#include "intaglio.h"
+
+enum {
+    DEFAULT_CAPACITY = 4096,
+    /* Strings of up to this many bytes are copied through the stack. */
+    NEAR = 256,
+    /* How many contents ahead a batch fetches an object. */
+    AHEAD = 8,
+    LINE = 64
+};
+
+typedef struct {
+    PyObject_HEAD
+    intaglio_table handle;
+    uint32_t kind;
+    PyObject *weak;
+} Table;
+
+/* Raises the exception of an error code. */
+static PyObject *refused(uint32_t code) {
+    PyObject *errors = PyImport_ImportModule("intaglio.errors");
+    PyObject *error = errors ? PyObject_CallMethod(errors, "refusal", "I", (unsigned int)code) : NULL;
+    if (error) PyErr_SetObject((PyObject *)Py_TYPE(error), error);
+    Py_XDECREF(error);
+    Py_XDECREF(errors);
+    return NULL;
+}
+
+static PyObject *done_or_refused(uint32_t code) {
+    if (code) return refused(code);
+    Py_RETURN_NONE;
+}
+
+/* Contents */
+
+static bool has_texts(const Table *self) {
+    return self->kind == INTAGLIO_TEXT || self->kind == INTAGLIO_PATH || self->kind == INTAGLIO_OSSTR;
+}
+
+/* Whether `spell` takes the object as it is. */
+static bool is_native(const Table *self, PyObject *content) {
+    return has_texts(self) ? PyUnicode_Check(content) : PyBytes_Check(content);
+}
+
+/* The content as an object that `spell` takes, or null and TypeError. May run code of Python's. */
+static PyObject *native(const Table *self, PyObject *content) {
+    if (is_native(self, content)) return Py_NewRef(content);
+    if (self->kind == INTAGLIO_PATH) {
+        PyObject *path = PyOS_FSPath(content);
+        if (!path || PyUnicode_Check(path)) return path;
+        Py_DECREF(path);
+    }
+    if (!has_texts(self) && (PyByteArray_Check(content) || PyMemoryView_Check(content))) return PyBytes_FromObject(content);
+    return PyErr_Format(PyExc_TypeError, "%s, not %.200s", has_texts(self) ? "a string" : "bytes", Py_TYPE(content)->tp_name);
+}
+
+/* The bytes of a native content, which stay with it, or null and an exception: UnicodeEncodeError, MemoryError. */
+static const uint8_t *spell(const Table *self, PyObject *content, size_t *len) {
+    Py_ssize_t size;
+    if (!has_texts(self)) {
+        /* A bytes object has a zero behind its bytes, which a C string includes. */
+        *len = (size_t)PyBytes_GET_SIZE(content) + (self->kind == INTAGLIO_CSTR);
+        return (const uint8_t *)PyBytes_AS_STRING(content);
+    }
+    if (PyUnicode_IS_COMPACT_ASCII(content)) {
+        *len = (size_t)PyUnicode_GET_LENGTH(content);
+        return PyUnicode_1BYTE_DATA(content);
+    }
+    const char *text = PyUnicode_AsUTF8AndSize(content, &size);
+    *len = (size_t)size;
+    return (const uint8_t *)text;
+}
+
+/* A text that isn't UTF-8 has a lone surrogate: raises NotUtf8 in place of UnicodeEncodeError. */
+static PyObject *not_spelled(void) {
+    if (!PyErr_ExceptionMatches(PyExc_UnicodeEncodeError)) return NULL;
+    PyErr_Clear();
+    return refused(INTAGLIO_NOT_UTF8);
+}
+
+/* Returns -1 and NoTable if the table was closed, which an empty batch tells. */
+static int check_open(Table *self) {
+    const uint8_t none = 0;
+    size_t end = 0;
+    uint64_t found = 0;
+    uint32_t code = intaglio_check_all(&self->handle, &none, 0, &end, 0, &found, 0);
+    if (code) refused(code);
+    return code ? -1 : 0;
+}
+
+/* Looks a content up. Returns 1 and its symbol, 0 if it isn't in the table, or -1 and an exception. */
+static int find(Table *self, PyObject *content, uint32_t *symbol) {
+    PyObject *own = native(self, content);
+    if (!own) return -1;
+    size_t len;
+    const uint8_t *at = spell(self, own, &len);
+    int found = at ? intaglio_check_interned(&self->handle, at, len, symbol) : -1;
+    if (!at && PyErr_ExceptionMatches(PyExc_UnicodeEncodeError)) {
+        PyErr_Clear();
+        found = 0;
+    }
+    Py_DECREF(own);
+    return found;
+}
+
+/* Stores the string of a symbol as an object. Returns 1, 0 if there is no such symbol, or -1 and an exception. */
+static int lookup(Table *self, uint32_t symbol, PyObject **content) {
+    uint8_t near[NEAR], *at = near;
+    size_t len;
+    if (!intaglio_copy(&self->handle, symbol, near, NEAR, &len)) return 0;
+    if (len > NEAR) {
+        at = PyMem_Malloc(len);
+        if (!at) {
+            PyErr_NoMemory();
+            return -1;
+        }
+        intaglio_copy(&self->handle, symbol, at, len, &len);
+    }
+    *content = has_texts(self) ? PyUnicode_DecodeUTF8((const char *)at, (Py_ssize_t)len, NULL)
+                               : PyBytes_FromStringAndSize((const char *)at, (Py_ssize_t)(len - (self->kind == INTAGLIO_CSTR)));
+    if (at != near) PyMem_Free(at);
+    return *content ? 1 : -1;
+}
+
+static PyObject *lookup_or_raise(Table *self, Py_ssize_t symbol) {
+    PyObject *content;
+    int found = 0 <= symbol && symbol <= (Py_ssize_t)UINT32_MAX ? lookup(self, (uint32_t)symbol, &content) : 0;
+    if (found == 0) refused(INTAGLIO_NO_SYMBOL);
+    return found == 1 ? content : NULL;
+}
+
+/* Numbers */
+
+/* Reads a number of strings. Returns -1 and TypeError or TooLarge. */
+static int read_size(PyObject *number, size_t *size) {
+    PyObject *whole = PyNumber_Index(number);
+    if (!whole) return -1;
+    *size = PyLong_AsSize_t(whole);
+    Py_DECREF(whole);
+    if (*size != (size_t)-1 || !PyErr_Occurred()) return 0;
+    if (PyErr_ExceptionMatches(PyExc_OverflowError)) {
+        PyErr_Clear();
+        refused(INTAGLIO_TOO_LARGE);
+    }
+    return -1;
+}
+
+/* Reads a symbol. A number that none has is -1, and so is an error, with TypeError. */
+static Py_ssize_t read_symbol(PyObject *number) {
+    Py_ssize_t symbol = PyNumber_AsSsize_t(number, NULL);
+    return symbol < 0 ? -1 : symbol;
+}
+
+static int read_key(PyObject *number, uint64_t *key) {
+    *key = PyLong_AsUnsignedLongLong(number);
+    if (*key != UINT64_MAX || !PyErr_Occurred()) return 0;
+    PyErr_SetString(PyErr_ExceptionMatches(PyExc_OverflowError) ? PyExc_ValueError : PyExc_TypeError, "the keys are two integers from 0 to 2**64 - 1");
+    return -1;
+}
+
+/* The keys that were passed, or random ones. */
+static int read_keys(PyObject *passed, uint64_t keys[2]) {
+    if (passed == Py_None) {
+        if (getentropy(keys, 2 * sizeof *keys) == 0) return 0;
+        PyErr_SetFromErrno(PyExc_OSError);
+        return -1;
+    }
+    PyObject *pair = PySequence_Tuple(passed);
+    int status = -1;
+    if (pair && PyTuple_GET_SIZE(pair) != 2) PyErr_SetString(PyExc_ValueError, "the keys are two integers from 0 to 2**64 - 1");
+    else if (pair && read_key(PyTuple_GET_ITEM(pair, 0), &keys[0]) == 0) status = read_key(PyTuple_GET_ITEM(pair, 1), &keys[1]);
+    Py_XDECREF(pair);
+    return status;
+}
+
+/* Batches */
+
+/* A list or tuple of contents, and a number for each: symbols of 4 bytes, or of 8 where a content may be absent. */
+typedef struct {
+    PyObject *items;
+    Py_ssize_t count;
+    void *numbers;
+} Batch;
+
+/* What is done with each content. */
+typedef enum { DONE, FAILED, NOT_NATIVE } Outcome;
+typedef Outcome (*Each)(Table *, Batch *);
+
+static void close_batch(Batch *batch) {
+    Py_CLEAR(batch->items);
+    PyMem_Free(batch->numbers);
+    batch->numbers = NULL;
+}
+
+static int open_batch(Batch *batch, PyObject *contents) {
+    batch->numbers = NULL;
+    batch->items = PySequence_Fast(contents, "an iterable of strings");
+    if (!batch->items) return -1;
+    batch->count = PySequence_Fast_GET_SIZE(batch->items);
+    batch->numbers = PyMem_Malloc(((size_t)batch->count + 1) * sizeof(uint64_t));
+    if (batch->numbers) return 0;
+    close_batch(batch);
+    PyErr_NoMemory();
+    return -1;
+}
+
+/* Gives the batch a list of its own, in which each content is native. */
+static int convert_batch(Table *self, Batch *batch) {
+    PyObject *own = PySequence_List(batch->items);
+    close_batch(batch);
+    for (Py_ssize_t i = 0; own && i < PyList_GET_SIZE(own); i++) {
+        PyObject *item = native(self, PyList_GET_ITEM(own, i));
+        if (!item || PyList_SetItem(own, i, item) < 0) Py_CLEAR(own);
+    }
+    int status = own ? open_batch(batch, own) : -1;
+    Py_XDECREF(own);
+    return status;
+}
+
+/* Opens the batch and does something with each content. If some aren't native, it begins again with a list in which all are:
+ * that is rarer than one more pass over the objects would be dear. */
+static int run_batch(Table *self, Batch *batch, PyObject *contents, Each each) {
+    if (open_batch(batch, contents) < 0) return -1;
+    Outcome outcome = each(self, batch);
+    if (outcome == NOT_NATIVE) outcome = convert_batch(self, batch) == 0 ? each(self, batch) : FAILED;
+    if (outcome == DONE) return 0;
+    close_batch(batch);
+    return -1;
+}
+
+/* Fetches the object of a content that comes soon, and with it the bytes behind its head. */
+static inline void fetch(PyObject **items, Py_ssize_t i, Py_ssize_t count) {
+    if (i + AHEAD >= count) return;
+    __builtin_prefetch(items[i + AHEAD]);
+    __builtin_prefetch((const char *)items[i + AHEAD] + LINE);
+}
+
+/* Interns all contents or none. The collector is off, since it may run code of Python's, and with it other threads. */
+static Outcome intern_each(Table *self, Batch *batch) {
+    PyObject **items = PySequence_Fast_ITEMS(batch->items);
+    uint32_t *symbols = batch->numbers, code = INTAGLIO_DONE;
+    bool is_odd = false;
+    Py_ssize_t i = 0;
+    int collects = PyGC_Disable();
+    size_t mark = intaglio_len(&self->handle);
+    for (; i < batch->count; i++) {
+        size_t len;
+        fetch(items, i, batch->count);
+        is_odd = !is_native(self, items[i]);
+        const uint8_t *at = is_odd ? NULL : spell(self, items[i], &len);
+        if (!at) break;
+        code = intaglio_intern(&self->handle, at, len, &symbols[i]);
+        if (code) break;
+    }
+    if (i < batch->count) (void)!intaglio_take_back(&self->handle, mark);
+    if (collects) PyGC_Enable();
+    if (i == batch->count) return DONE;
+    if (is_odd) return NOT_NATIVE;
+    if (code) refused(code);
+    else not_spelled();
+    return FAILED;
+}
+
+/* Looks each content up. */
+static Outcome find_each(Table *self, Batch *batch) {
+    PyObject **items = PySequence_Fast_ITEMS(batch->items);
+    uint64_t *found = batch->numbers;
+    Outcome outcome = DONE;
+    if (check_open(self) < 0) return FAILED;
+    int collects = PyGC_Disable();
+    for (Py_ssize_t i = 0; outcome == DONE && i < batch->count; i++) {
+        uint32_t symbol;
+        int status = -1;
+        fetch(items, i, batch->count);
+        if (is_native(self, items[i])) status = find(self, items[i], &symbol);
+        else outcome = NOT_NATIVE;
+        if (status == -1 && outcome == DONE) outcome = FAILED;
+        found[i] = status == 1 ? symbol : INTAGLIO_ABSENT;
+    }
+    if (collects) PyGC_Enable();
+    return outcome;
+}
+
+/* A list of the batch's symbols. */
+static PyObject *list_symbols(const Batch *batch) {
+    const uint32_t *symbols = batch->numbers;
+    PyObject *list = PyList_New(batch->count);
+    for (Py_ssize_t i = 0; list && i < batch->count; i++) {
+        PyObject *number = PyLong_FromUnsignedLong(symbols[i]);
+        if (number) PyList_SET_ITEM(list, i, number);
+        else Py_CLEAR(list);
+    }
+    return list;
+}
+
+/* A list of the batch's symbols, with None for those that are absent. */
+static PyObject *list_found(const Batch *batch) {
+    const uint64_t *found = batch->numbers;
+    PyObject *list = PyList_New(batch->count);
+    for (Py_ssize_t i = 0; list && i < batch->count; i++) {
+        PyObject *number = found[i] == INTAGLIO_ABSENT ? Py_NewRef(Py_None) : PyLong_FromUnsignedLongLong(found[i]);
+        if (number) PyList_SET_ITEM(list, i, number);
+        else Py_CLEAR(list);
+    }
+    return list;
+}
+
+static PyObject *list_batch(Table *self, PyObject *contents, Each each, PyObject *(*listed)(const Batch *)) {
+    Batch batch;
+    if (run_batch(self, &batch, contents, each) < 0) return NULL;
+    PyObject *list = listed(&batch);
+    close_batch(&batch);
+    return list;
+}
+
+/* Borrows a writable buffer whose items are integers of one of these formats and of this size. */
+static int borrow(PyObject *out, Py_buffer *view, const char *formats, Py_ssize_t size) {
+    if (PyObject_GetBuffer(out, view, PyBUF_WRITABLE | PyBUF_FORMAT | PyBUF_C_CONTIGUOUS) < 0) return -1;
+    const char *format = view->format ? view->format : "B";
+    if (format[0] == '@' || format[0] == '=' || format[0] == '<') format++;
+    if (view->itemsize == size && format[0] && !format[1] && strchr(formats, format[0])) return 0;
+    PyErr_Format(PyExc_TypeError, "a buffer of integers of %zd bytes, not of format '%s'", size, view->format ? view->format : "B");
+    PyBuffer_Release(view);
+    return -1;
+}
+
+/* Writes the numbers of a batch to a buffer, and returns how many there are. The buffer is borrowed before the first content is
+ * interned, so that nothing is interned if it is too short. */
+static PyObject *write_batch(Table *self, PyObject *const *args, Py_ssize_t count, Each each, const char *formats, size_t size) {
+    if (count != 2) return PyErr_Format(PyExc_TypeError, "takes the contents and a buffer (%zd given)", count);
+    Py_buffer view;
+    Batch batch;
+    PyObject *written = NULL, *items = PySequence_Fast(args[0], "an iterable of strings");
+    if (!items) return NULL;
+    if (borrow(args[1], &view, formats, (Py_ssize_t)size) == 0) {
+        PyObject *own = PyTuple_Check(items) ? Py_NewRef(items) : PySequence_Tuple(items);
+        if (own && PyTuple_GET_SIZE(own) > view.len / (Py_ssize_t)size) refused(INTAGLIO_NO_SPACE);
+        else if (own && run_batch(self, &batch, own, each) == 0) {
+            memcpy(view.buf, batch.numbers, (size_t)batch.count * size);
+            written = PyLong_FromSsize_t(batch.count);
+            close_batch(&batch);
+        }
+        Py_XDECREF(own);
+        PyBuffer_Release(&view);
+    }
+    Py_DECREF(items);
+    return written;
+}
+
+/* Methods */
+
+PyDoc_STRVAR(intern_doc, "intern($self, content, /)\n--\n\n"
+"The symbol of the string, which is stored if it is new. Raises Full, NoMemory, NotUtf8, InnerZero, NoTable.");
+static PyObject *table_intern(Table *self, PyObject *content) {
+    PyObject *own = native(self, content);
+    if (!own) return NULL;
+    size_t len;
+    uint32_t symbol, code = INTAGLIO_DONE;
+    const uint8_t *at = spell(self, own, &len);
+    if (at) code = intaglio_intern(&self->handle, at, len, &symbol);
+    Py_DECREF(own);
+    if (!at) return not_spelled();
+    return code ? refused(code) : PyLong_FromUnsignedLong(symbol);
+}
+
+PyDoc_STRVAR(check_interned_doc, "check_interned($self, content, /)\n--\n\n"
+"The symbol of the string, or None if it isn't in the table.");
+static PyObject *table_check_interned(Table *self, PyObject *content) {
+    uint32_t symbol;
+    switch (find(self, content, &symbol)) {
+        case 1: return PyLong_FromUnsignedLong(symbol);
+        case 0: Py_RETURN_NONE;
+        default: return NULL;
+    }
+}
+
+PyDoc_STRVAR(intern_all_doc, "intern_all($self, contents, /)\n--\n\n"
+"Interns all strings or none, and returns their symbols. Raises what intern raises.");
+static PyObject *table_intern_all(Table *self, PyObject *contents) { return list_batch(self, contents, intern_each, list_symbols); }
+
+PyDoc_STRVAR(check_all_doc, "check_all($self, contents, /)\n--\n\n"
+"The symbols of the strings, with None for those that aren't in the table. Raises NoTable.");
+static PyObject *table_check_all(Table *self, PyObject *contents) { return list_batch(self, contents, find_each, list_found); }
+
+PyDoc_STRVAR(intern_into_doc, "intern_into($self, contents, out, /)\n--\n\n"
+"Interns all strings or none, writes their symbols to the start of a buffer of unsigned integers of 4 bytes, such as array('I')\n"
+"or a numpy array of uint32, and returns how many there are. Raises what intern raises, and NoSpace if the buffer is too short.\n"
+"The buffer is unchanged if it raises.");
+static PyObject *table_intern_into(Table *self, PyObject *const *args, Py_ssize_t count) { return write_batch(self, args, count, intern_each, "IL", sizeof(uint32_t)); }
+
+PyDoc_STRVAR(check_into_doc, "check_into($self, contents, out, /)\n--\n\n"
+"Writes the symbols of the strings to the start of a buffer of integers of 8 bytes, such as array('q') or a numpy array of int64,\n"
+"with ABSENT for those that aren't in the table (-1; 2**64 - 1 in an unsigned buffer), and returns how many there are. Raises\n"
+"NoSpace if the buffer is too short, NoTable. The buffer is unchanged if it raises.");
+static PyObject *table_check_into(Table *self, PyObject *const *args, Py_ssize_t count) { return write_batch(self, args, count, find_each, "qQlL", sizeof(uint64_t)); }
+
+PyDoc_STRVAR(get_doc, "get($self, symbol, default=None, /)\n--\n\n"
+"The string of a symbol, or the default if there is none.");
+static PyObject *table_get(Table *self, PyObject *const *args, Py_ssize_t count) {
+    if (count != 1 && count != 2) return PyErr_Format(PyExc_TypeError, "get takes a symbol and a default (%zd given)", count);
+    PyObject *content;
+    Py_ssize_t symbol = read_symbol(args[0]);
+    if (symbol < 0 && PyErr_Occurred()) return NULL;
+    int found = 0 <= symbol && symbol <= (Py_ssize_t)UINT32_MAX ? lookup(self, (uint32_t)symbol, &content) : 0;
+    if (found == 0) return Py_NewRef(count == 2 ? args[1] : Py_None);
+    return found == 1 ? content : NULL;
+}
+
+PyDoc_STRVAR(get_all_doc, "get_all($self, symbols, /)\n--\n\n"
+"The strings of symbols. Raises NoSymbol, NoTable.");
+static PyObject *table_get_all(Table *self, PyObject *symbols) {
+    PyObject *own = PySequence_Tuple(symbols);
+    PyObject *list = own && check_open(self) == 0 ? PyList_New(PyTuple_GET_SIZE(own)) : NULL;
+    for (Py_ssize_t i = 0; list && i < PyTuple_GET_SIZE(own); i++) {
+        Py_ssize_t symbol = read_symbol(PyTuple_GET_ITEM(own, i));
+        PyObject *content = symbol < 0 && PyErr_Occurred() ? NULL : lookup_or_raise(self, symbol);
+        if (content) PyList_SET_ITEM(list, i, content);
+        else Py_CLEAR(list);
+    }
+    Py_XDECREF(own);
+    return list;
+}
+
+static Py_ssize_t table_len(Table *self) { return (Py_ssize_t)intaglio_len(&self->handle); }
+
+static PyObject *table_slice(Table *self, PyObject *slice) {
+    Py_ssize_t start, stop, step;
+    if (PySlice_Unpack(slice, &start, &stop, &step) < 0) return NULL;
+    Py_ssize_t count = PySlice_AdjustIndices(table_len(self), &start, &stop, step);
+    PyObject *list = PyList_New(count);
+    for (Py_ssize_t i = 0; list && i < count; i++) {
+        PyObject *content = lookup_or_raise(self, start + i * step);
+        if (content) PyList_SET_ITEM(list, i, content);
+        else Py_CLEAR(list);
+    }
+    return list;
+}
+
+static PyObject *table_subscript(Table *self, PyObject *index) {
+    if (PySlice_Check(index)) return table_slice(self, index);
+    Py_ssize_t symbol = PyNumber_AsSsize_t(index, NULL);
+    if (symbol == -1 && PyErr_Occurred()) return NULL;
+    return lookup_or_raise(self, symbol < 0 ? symbol + table_len(self) : symbol);
+}
+
+/* The same as `find` for any object: one of another type is in no table. */
+static int find_any(Table *self, PyObject *object, uint32_t *symbol) {
+    int found = find(self, object, symbol);
+    if (found >= 0 || !PyErr_ExceptionMatches(PyExc_TypeError)) return found;
+    PyErr_Clear();
+    return 0;
+}
+
+static int table_contains(Table *self, PyObject *object) {
+    uint32_t symbol;
+    return find_any(self, object, &symbol);
+}
+
+PyDoc_STRVAR(index_doc, "index($self, content, start=0, stop=sys.maxsize, /)\n--\n\n"
+"The symbol of the string. Raises ValueError if it isn't in the table, or not from start to stop.");
+static PyObject *table_index(Table *self, PyObject *args) {
+    PyObject *content;
+    Py_ssize_t start = 0, stop = PY_SSIZE_T_MAX;
+    uint32_t symbol;
+    if (!PyArg_ParseTuple(args, "O|nn:index", &content, &start, &stop)) return NULL;
+    int found = find_any(self, content, &symbol);
+    if (found < 0) return NULL;
+    PySlice_AdjustIndices(table_len(self), &start, &stop, 1);
+    if (found && start <= (Py_ssize_t)symbol && (Py_ssize_t)symbol < stop) return PyLong_FromUnsignedLong(symbol);
+    return PyErr_Format(PyExc_ValueError, "%R is not in the table", content);
+}
+
+PyDoc_STRVAR(count_doc, "count($self, content, /)\n--\n\n"
+"1 if the string is in the table, and else 0.");
+static PyObject *table_count(Table *self, PyObject *content) {
+    int found = table_contains(self, content);
+    return found < 0 ? NULL : PyLong_FromLong(found);
+}
+
+PyDoc_STRVAR(items_doc, "items($self, /)\n--\n\n"
+"The symbols with their strings, in order.");
+static PyObject *table_items(PyObject *self, PyObject *Py_UNUSED(none)) { return PyObject_CallOneArg((PyObject *)&PyEnum_Type, self); }
+
+PyDoc_STRVAR(clear_doc, "clear($self, /)\n--\n\n"
+"Drops all strings. The capacity stays, and the next symbol is 0.");
+static PyObject *table_clear(Table *self, PyObject *Py_UNUSED(none)) {
+    intaglio_clear(&self->handle);
+    Py_RETURN_NONE;
+}
+
+PyDoc_STRVAR(take_back_doc, "take_back($self, length, /)\n--\n\n"
+"Rolls the table back to its first strings, `length` of them. Raises Stale, TooLarge, NoTable.");
+static PyObject *table_take_back(Table *self, PyObject *length) {
+    size_t mark;
+    return read_size(length, &mark) < 0 ? NULL : done_or_refused(intaglio_take_back(&self->handle, mark));
+}
+
+PyDoc_STRVAR(reserve_doc, "reserve($self, additional, /)\n--\n\n"
+"Reserves capacity for this many more strings. Raises TooLarge, NoMemory, NoTable.");
+static PyObject *table_reserve(Table *self, PyObject *additional) {
+    size_t size;
+    return read_size(additional, &size) < 0 ? NULL : done_or_refused(intaglio_reserve(&self->handle, size));
+}
+
+PyDoc_STRVAR(shrink_to_doc, "shrink_to($self, min_capacity=0, /)\n--\n\n"
+"Shrinks the capacity to this, or to the number of strings if that is greater. Raises TooLarge, NoMemory, NoTable.");
+static PyObject *table_shrink_to(Table *self, PyObject *const *args, Py_ssize_t count) {
+    size_t size = 0;
+    if (count > 1) return PyErr_Format(PyExc_TypeError, "shrink_to takes a capacity (%zd arguments given)", count);
+    return count && read_size(args[0], &size) < 0 ? NULL : done_or_refused(intaglio_shrink_to(&self->handle, size));
+}
+
+PyDoc_STRVAR(close_doc, "close($self, /)\n--\n\n"
+"Frees the table. It then has no strings, and calls that would change it raise NoTable.");
+static PyObject *table_close(Table *self, PyObject *Py_UNUSED(none)) {
+    intaglio_free(&self->handle);
+    Py_RETURN_NONE;
+}
+
+static PyObject *table_enter(PyObject *self, PyObject *Py_UNUSED(none)) { return Py_NewRef(self); }
+static PyObject *table_exit(Table *self, PyObject *Py_UNUSED(args)) { return table_close(self, NULL); }
+
+static PyObject *table_reduce(PyObject *self, PyObject *Py_UNUSED(none)) {
+    return PyErr_Format(PyExc_TypeError, "a %.200s can't be copied", Py_TYPE(self)->tp_name);
+}
+
+static PyObject *table_repr(Table *self) { return PyUnicode_FromFormat("<%s of %zd>", _PyType_Name(Py_TYPE(self)), table_len(self)); }
+
+static PyObject *table_capacity(Table *self, void *Py_UNUSED(closure)) { return PyLong_FromSize_t(intaglio_capacity(&self->handle)); }
+
+/* Making and freeing */
+
+/* A table that is still without a handle's table: __init__ makes that. */
+static PyObject *new_table(PyTypeObject *type, uint32_t kind) {
+    Table *self = (Table *)type->tp_alloc(type, 0);
+    if (self) self->kind = kind;
+    return (PyObject *)self;
+}
+
+static PyObject *new_base(PyTypeObject *type, PyObject *Py_UNUSED(args), PyObject *Py_UNUSED(named)) {
+    return PyErr_Format(PyExc_TypeError, "%.200s is of no kind: use SymbolTable or another of the six", type->tp_name);
+}
+
+static int table_init(Table *self, PyObject *args, PyObject *named) {
+    static char *names[] = {"contents", "capacity", "limit", "keys", NULL};
+    PyObject *contents = NULL, *capacity = Py_None, *limit = Py_None, *passed = Py_None;
+    uint64_t keys[2];
+    size_t size = DEFAULT_CAPACITY;
+    if (!PyArg_ParseTupleAndKeywords(args, named, "|O$OOO", names, &contents, &capacity, &limit, &passed)) return -1;
+    if (capacity != Py_None && limit != Py_None) {
+        PyErr_SetString(PyExc_TypeError, "either a capacity or a limit");
+        return -1;
+    }
+    if (read_keys(passed, keys) < 0) return -1;
+    PyObject *number = limit != Py_None ? limit : capacity;
+    if (number != Py_None && read_size(number, &size) < 0) return -1;
+    uint32_t code = limit != Py_None ? intaglio_with_limit(&self->handle, self->kind, size, keys[0], keys[1])
+                                     : intaglio_with_capacity(&self->handle, self->kind, size, keys[0], keys[1]);
+    Batch batch;
+    if (code) refused(code);
+    if (code || (contents && run_batch(self, &batch, contents, intern_each) < 0)) return -1;
+    if (contents) close_batch(&batch);
+    return 0;
+}
+
+static void table_dealloc(Table *self) {
+    PyTypeObject *type = Py_TYPE(self);
+    if (self->weak) PyObject_ClearWeakRefs((PyObject *)self);
+    intaglio_free(&self->handle);
+    type->tp_free((PyObject *)self);
+    Py_DECREF(type);
+}
+
+/* Types */
+
+#define FAST(FUNCTION) (PyCFunction)(void (*)(void))FUNCTION
+static PyMethodDef methods[] = {
+    {"intern", (PyCFunction)table_intern, METH_O, intern_doc},
+    {"intern_all", (PyCFunction)table_intern_all, METH_O, intern_all_doc},
+    {"intern_into", FAST(table_intern_into), METH_FASTCALL, intern_into_doc},
+    {"check_interned", (PyCFunction)table_check_interned, METH_O, check_interned_doc},
+    {"check_all", (PyCFunction)table_check_all, METH_O, check_all_doc},
+    {"check_into", FAST(table_check_into), METH_FASTCALL, check_into_doc},
+    {"get", FAST(table_get), METH_FASTCALL, get_doc},
+    {"get_all", (PyCFunction)table_get_all, METH_O, get_all_doc},
+    {"index", (PyCFunction)table_index, METH_VARARGS, index_doc},
+    {"count", (PyCFunction)table_count, METH_O, count_doc},
+    {"items", table_items, METH_NOARGS, items_doc},
+    {"clear", (PyCFunction)table_clear, METH_NOARGS, clear_doc},
+    {"take_back", (PyCFunction)table_take_back, METH_O, take_back_doc},
+    {"reserve", (PyCFunction)table_reserve, METH_O, reserve_doc},
+    {"shrink_to", FAST(table_shrink_to), METH_FASTCALL, shrink_to_doc},
+    {"close", (PyCFunction)table_close, METH_NOARGS, close_doc},
+    {"__enter__", table_enter, METH_NOARGS, NULL},
+    {"__exit__", (PyCFunction)table_exit, METH_VARARGS, NULL},
+    {"__reduce__", table_reduce, METH_NOARGS, NULL},
+    {"__class_getitem__", Py_GenericAlias, METH_O | METH_CLASS, NULL},
+    {NULL, NULL, 0, NULL},
+};
+
+static PyGetSetDef properties[] = {
+    {"capacity", (getter)table_capacity, NULL, "How many strings fit before the table has to grow.", NULL},
+    {NULL, NULL, NULL, NULL, NULL},
+};
+
+static PyMemberDef members[] = {
+    {"__weaklistoffset__", T_PYSSIZET, offsetof(Table, weak), READONLY, NULL},
+    {NULL, 0, 0, 0, NULL},
+};
+
+PyDoc_STRVAR(table_doc, "What the kinds of tables share: a sequence of distinct strings, each at its symbol.\n\n"
+"Table(contents=(), *, capacity=None, limit=None, keys=None)\n\n"
+"contents: the strings to begin with. capacity: how many strings fit before the table has to grow. limit: the maximum number of\n"
+"strings; the capacity is then 0 at first. keys: those of the hash function, SipHash-1-3, two integers from 0 to 2**64 - 1. By\n"
+"default they are random, which protects against strings that are chosen to collide.\n\n"
+"Raises TooLarge, NoMemory, and what intern raises.");
+
+static PyType_Slot base_slots[] = {
+    {Py_tp_doc, (void *)table_doc}, {Py_tp_new, new_base}, {Py_tp_init, table_init}, {Py_tp_dealloc, table_dealloc}, {Py_tp_repr, table_repr}, {Py_tp_iter, PySeqIter_New},
+    {Py_tp_methods, methods}, {Py_tp_members, members}, {Py_tp_getset, properties}, {Py_mp_length, table_len}, {Py_mp_subscript, table_subscript},
+    {Py_sq_length, table_len}, {Py_sq_item, lookup_or_raise}, {Py_sq_contains, table_contains}, {0, NULL},
+};
+static PyType_Spec base = {"intaglio.Table", sizeof(Table), 0, Py_TPFLAGS_DEFAULT | Py_TPFLAGS_BASETYPE | Py_TPFLAGS_SEQUENCE, base_slots};
+
+#define KIND(NAME, NUMBER, CLASS, DOC) \
+    static PyObject *new_##NAME(PyTypeObject *type, PyObject *Py_UNUSED(args), PyObject *Py_UNUSED(named)) { return new_table(type, NUMBER); } \
+    static PyType_Slot slots_of_##NAME[] = {{Py_tp_doc, (void *)DOC}, {Py_tp_new, new_##NAME}, {0, NULL}}; \
+    static PyType_Spec spec_of_##NAME = {"intaglio." CLASS, sizeof(Table), 0, Py_TPFLAGS_DEFAULT | Py_TPFLAGS_BASETYPE | Py_TPFLAGS_SEQUENCE, slots_of_##NAME};
+KIND(text, INTAGLIO_TEXT, "SymbolTable", "A table of texts.")
+KIND(bytes, INTAGLIO_BYTES, "BytesTable", "A table of bytes.")
+KIND(cstr, INTAGLIO_CSTR, "CStringTable", "A table of bytes without a zero, which the library holds as C strings. Raises InnerZero.")
+KIND(path, INTAGLIO_PATH, "PathTable", "A table of paths, which are equal if their components are, as \"a//b\" and \"a/./b\".")
+KIND(osstr, INTAGLIO_OSSTR, "OsStringTable", "A table of platform strings that are texts.")
+KIND(bstr, INTAGLIO_BSTR, "ByteStringTable", "A table of bytes that are text by convention.")
+
+static int add_types(PyObject *module) {
+    static PyType_Spec *const kinds[] = {&spec_of_text, &spec_of_bytes, &spec_of_cstr, &spec_of_path, &spec_of_osstr, &spec_of_bstr};
+    PyObject *table = PyType_FromModuleAndSpec(module, &base, NULL);
+    int status = table ? PyModule_AddType(module, (PyTypeObject *)table) : -1;
+    for (size_t i = 0; status == 0 && i < sizeof kinds / sizeof *kinds; i++) {
+        PyObject *kind = PyType_FromModuleAndSpec(module, kinds[i], table);
+        status = kind ? PyModule_AddType(module, (PyTypeObject *)kind) : -1;
+        Py_XDECREF(kind);
+    }
+    Py_XDECREF(table);
+    return status;
+}
+
+static int execute(PyObject *module) {
+#ifdef Py_GIL_DISABLED
+    PyErr_SetString(PyExc_ImportError, "intaglio needs an interpreter with a global lock: its tables have none of their own");
+    return -1;
+#endif
+    if (PyModule_AddStringConstant(module, "__version__", VERSION) < 0) return -1;
+    return add_types(module);
+}
+
+static PyModuleDef_Slot module_slots[] = {
+    {Py_mod_exec, execute},
+#ifdef Py_MOD_PER_INTERPRETER_GIL_SUPPORTED
+    {Py_mod_multiple_interpreters, Py_MOD_PER_INTERPRETER_GIL_SUPPORTED},
+#endif
+    {0, NULL},
+};
+static struct PyModuleDef definition = {PyModuleDef_HEAD_INIT, "intaglio._table", "The tables, over libintaglio.", 0, NULL, module_slots, NULL, NULL, NULL};
+
+PyMODINIT_FUNC PyInit__table(void) { return PyModuleDef_Init(&definition); }
