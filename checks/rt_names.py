@@ -31,7 +31,7 @@ PROOF_ERROR = re.compile(r"^(?:\./)?proofs/(\S+)/(?:Answers|Invariants|Proof)\.a
 # The goal's name in a line of these, and what it is a goal of: of a clause, `clause-NAME`, or else by a word of its name.
 GOAL = re.compile(r"(?:error: `|\(`)([^`]+)`[:)]")
 OF_CLAUSE = re.compile(r"clause-([a-z]\w*)")
-OF_OTHERS = {"invariant_of": "invariant", "requires": "requires", "loop": "loop", "returns": "ensures"}
+OF_OTHERS = {"invariant_of": "invariant", "requires": "requires", "loop": "loop", "returns": "ensures", "bounds": "bounds"}
 # An answer that names what an edit took away. That shows nothing of the contract, and `rt must-fail` says so too.
 BROKEN_NAME = re.compile(r"has no field|is not in scope|has no `|was not admitted")
 

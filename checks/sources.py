@@ -169,6 +169,18 @@ class Sources:
     def tests(self):
         return [it for it in self.functions if it.is_test]
 
+    def is_public(self, function):
+        """Whether callers of its crate can call a function: it stands in a public module of a library, or it or its type is re-exported."""
+        root = TOP / "crates" / function.crate / "src/lib.rt"
+        is_method = function.owner and function.owner == function.trait
+        if not root.is_file() or not (is_method or function.text.lstrip().startswith("pub ")):
+            return False
+        text = root.read_text(encoding="utf-8")
+        modules = re.findall(r"(?m)^pub mod (\w+);", text)
+        exported = {word for it in re.findall(r"(?ms)^pub use ([^;]+);", text) for word in re.findall(r"\w+", it)}
+        is_in_module = any(re.match(rf"crates/\w+/src/{it}[./]", function.file) for it in modules)
+        return is_in_module or (function.owner or function.name) in exported
+
     def clauses_of(self, function):
         """The clauses of a function: its own, or its trait's; and the members of its impl."""
         own = dict(function.clauses)
