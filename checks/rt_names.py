@@ -85,6 +85,11 @@ def processors():
     return load().processors()
 
 
+def free():
+    """The free memory in bytes."""
+    return load().free()
+
+
 def checked(crate, texts, functions, kept):
     """What a check of these functions prints, of a copy of the crate with these texts in place of its own, over what `kept` holds."""
     only = [word for function in functions for word in ("--only", function)]
