@@ -19,6 +19,9 @@ sys.dont_write_bytecode = True
 TOP = Path(__file__).resolve().parent.parent
 VERSION = "rattle-kit-13b logic dac8208d650f15bf"
 
+# What `rt ci` says of a crate that it has proved, and at its end where all went well.
+PROVED_CRATE = re.compile(r"^rt: (\w+) proved$", re.M)
+ALL_PASSED = re.compile(r"^\d+ passed, 0 failed$", re.M)
 # What the prover says of a function, `fn CRATE::PATH: WORDS`, after the notes on its open goals.
 FUNCTION = re.compile(r"^fn (\S+): (.*)$")
 PROVED = re.compile(r"^proved\b")
