@@ -2,18 +2,18 @@
 
     upstream.py UPSTREAM FOLDER CRATE
 
-UPSTREAM is the folder of the Rust crate's sources, FOLDER is written, CRATE is the folder of `intaglio_proved`. Left out are tests of
-private items, tests and examples with a hasher, since the library has its own, and those of the module `bstr`, since
-`intaglio_proved` has no dependencies. Properties are tried on fixed values, as quickcheck isn't there.
+UPSTREAM is the folder of the Rust crate's sources, FOLDER is written, CRATE is the folder of `intaglio_proved`. The examples are those of
+the documentation and of the README. Left out are the tests of private items, which `intaglio_proved` hasn't, and tests and
+examples with a hasher, since the library has its own: a line says how many. Byte strings are those of `intaglio_proved::bstr` in place of the
+crate `bstr`'s. Properties are tried on fixed values, as quickcheck isn't there.
 """
 import re
 import sys
 from pathlib import Path
 
-MODULES = ["str", "bytes", "cstr", "osstr", "path"]
+MODULES = ["str", "bstr", "bytes", "cstr", "osstr", "path"]
 PRIVATE = ["src/rollback.rs", "src/internal.rs"]
 HASHERS = ["tests/unwind_safety.rs"]
-BSTR = ["src/bstr.rs", "tests/leak_drop/bstr.rs"]
 
 MANIFEST = """[package]
 name = "upstream"
@@ -21,9 +21,9 @@ version = "0.0.0"
 edition = "2024"
 
 [features]
-default = ["bytes", "cstr", "osstr", "path"]
-bytes = []
+default = ["bstr", "bytes", "cstr", "osstr", "path"]
 bstr = []
+bytes = []
 cstr = []
 osstr = []
 path = []
@@ -118,6 +118,7 @@ pub mod vectors {
 
 def renamed(text):
     """A text of the crate `intaglio`, as one of `intaglio_proved`."""
+    text = re.sub(r"\buse (?:::)?bstr::", "use intaglio_proved::bstr::", text)
     return re.sub(r"\bintaglio::", "intaglio_proved::", text)
 
 
@@ -127,12 +128,17 @@ def module_of(file):
     return f"intaglio_proved::{stem}" if stem in MODULES[1:] else "intaglio_proved"
 
 
+def parts(upstream):
+    """Each file of tests, with its text."""
+    text = "".join(file.read_text() for file in sorted(upstream.glob("src--tests--tests--part*.rs.txt")))
+    pieces = re.split(r"^// ===== (\S+).* =====$", text, flags=re.M)
+    return list(zip(pieces[1::2], pieces[2::2]))
+
+
 def unit_tests(upstream):
     """Each part of the tests with the file that it comes from."""
-    text = "".join(file.read_text() for file in sorted(upstream.glob("src--tests--tests--part*.rs.txt")))
-    parts = re.split(r"^// ===== (\S+).* =====$", text, flags=re.M)
-    for file, part in zip(parts[1::2], parts[2::2]):
-        if file not in PRIVATE + HASHERS + BSTR:
+    for file, part in parts(upstream):
+        if file not in PRIVATE + HASHERS:
             part = part.replace("quickcheck::quickcheck", "upstream::quickcheck").replace("crate::vectors", "upstream::vectors")
             part = re.sub(r"\bcrate::", "intaglio_proved::", part).replace("super::", f"{module_of(file)}::")
             yield file, renamed(part)
@@ -144,12 +150,26 @@ def documentation(text):
 
 
 def examples(upstream):
-    """The examples of the documentation, each with a name."""
-    for name in ["lib", *MODULES]:
-        text = documentation((upstream / f"src--src--{name}.rs.txt").read_text())
+    """The examples of the documentation and of the README, each with a name."""
+    pages = {name: documentation((upstream / f"src--src--{name}.rs.txt").read_text()) for name in ["lib", *MODULES]}
+    pages["readme"] = (upstream / "src--README.md").read_text()
+    for name, text in pages.items():
         for number, example in enumerate(re.findall(r"^```(?:rust)?\n([^\f]*?)^```$", text, re.M)):
-            if not re.search("hasher|RandomState|bstr", example, re.I):
-                yield f"{name}_{number}", renamed(example)
+            yield f"{name}_{number}", renamed(example)
+
+
+def has_hasher(example):
+    return re.search("hasher|RandomState", example, re.I)
+
+
+def left_out(upstream):
+    """What isn't tried, and why."""
+
+    def tests(files):
+        return sum(part.count("#[test]") for file, part in parts(upstream) if file in files)
+
+    with_hasher = sum(1 for _, example in examples(upstream) if has_hasher(example))
+    return f"left out: {tests(PRIVATE)} tests of private items, {tests(HASHERS)} tests and {with_hasher} examples with a hasher"
 
 
 def main():
@@ -159,8 +179,13 @@ def main():
     (folder / "Cargo.toml").write_text(MANIFEST.format(crate.resolve()))
     for file, part in unit_tests(upstream):
         (folder / "tests" / file.removesuffix(".rs").replace("/", "_")).with_suffix(".rs").write_text(f"#![allow(unused)]\n{part}")
-    docs = ["\n".join(f"/// {line}".rstrip() for line in ["```", *example.splitlines(), "```"]) + f"\npub mod {name} {{}}\n" for name, example in examples(upstream)]
+    docs = [
+        "\n".join(f"/// {line}".rstrip() for line in ["```", *example.splitlines(), "```"]) + f"\npub mod {name} {{}}\n"
+        for name, example in examples(upstream)
+        if not has_hasher(example)
+    ]
     (folder / "src/lib.rs").write_text("\n".join([STAND_INS, *docs]))
+    print(left_out(upstream))
 
 
 main()

@@ -1,7 +1,7 @@
 //! Interns the lines of its input, and writes what the proved program writes: the symbol of each line, an empty line, and each
 //! string once, in the order of the symbols.
 //!
-//!     words text|bytes|cstr|osstr|path
+//!     words text|bytes|bstr|cstr|osstr|path
 use std::borrow::Cow;
 use std::env::args;
 use std::error::Error;
@@ -9,6 +9,7 @@ use std::ffi::{CString, OsStr};
 use std::io::{BufWriter, Read, Write, stdin, stdout};
 use std::path::Path;
 
+use intaglio_proved::bstr::{self, BStr};
 use intaglio_proved::{Kind, SymbolTable, Table, bytes, cstr, osstr, path};
 
 fn encode<'a, K: Kind>(
@@ -42,12 +43,13 @@ fn main() -> Result<(), Box<dyn Error>> {
     match args().nth(1).as_deref() {
         Some("text") => encode(str::from_utf8(input)?.split('\n'), SymbolTable::new(), str::as_bytes),
         Some("bytes") => encode(lines(), bytes::SymbolTable::new(), |bytes| bytes),
+        Some("bstr") => encode(lines().map(BStr::new), bstr::SymbolTable::new(), |bytes| bytes),
         Some("cstr") => {
             let lines = lines().map(CString::new).collect::<Result<Vec<_>, _>>()?;
             encode(lines.iter().map(CString::as_c_str), cstr::SymbolTable::new(), |line| line.to_bytes())
         }
         Some("osstr") => encode(str::from_utf8(input)?.split('\n').map(OsStr::new), osstr::SymbolTable::new(), OsStr::as_encoded_bytes),
         Some("path") => encode(str::from_utf8(input)?.split('\n').map(Path::new), path::SymbolTable::new(), |path| path.as_os_str().as_encoded_bytes()),
-        _ => Err("usage: words text|bytes|cstr|osstr|path".into()),
+        _ => Err("usage: words text|bytes|bstr|cstr|osstr|path".into()),
     }
 }

@@ -9,10 +9,9 @@
 //! writes nothing else. So threads may read at once, without a lock. That a read writes nothing to the table's memory is what
 //! its source says and no contract; `bindings/tests/reads.c` makes all of them while that memory can't be written.
 use core::ffi::{CStr, c_void};
-use core::fmt::Debug;
+use core::fmt::{self, Debug};
 use core::marker::PhantomData;
 use core::ptr::null_mut;
-use std::borrow::Cow;
 use std::ffi::OsStr;
 
 use crate::refusal::Refusal;
@@ -52,7 +51,7 @@ mod sealed {
     pub trait Sealed {}
 }
 
-/// A kind of tables: [`Text`], [`Bytes`], [`Cstr`], [`Osstr`] or [`Path`].
+/// A kind of tables: [`Text`], [`Bytes`], [`Bstr`], [`Cstr`], [`Osstr`] or [`Path`].
 pub trait Kind: sealed::Sealed {
     /// The strings.
     type Content: ?Sized + ToOwned + Debug + 'static;
@@ -70,9 +69,10 @@ pub trait Kind: sealed::Sealed {
     #[doc(hidden)]
     unsafe fn content(bytes: &[u8]) -> &Self::Content;
 
+    /// Prints a string as `intaglio` prints it in `{:#?}` of a table: most kinds as text, with U+FFFD for what isn't UTF-8.
     #[doc(hidden)]
-    fn lossy(content: &Self::Content) -> Cow<'_, str> {
-        String::from_utf8_lossy(Self::bytes(content))
+    fn print_long(content: &Self::Content, f: &mut fmt::Formatter<'_>) -> fmt::Result {
+        write!(f, "{:?}", String::from_utf8_lossy(Self::bytes(content)))
     }
 }
 
@@ -117,6 +117,45 @@ impl Kind for Bytes {
     }
 }
 
+/// A borrowed byte string: bytes that are text by convention, though they needn't be UTF-8. It dereferences to its bytes, and is
+/// printed as text.
+#[derive(PartialEq, Eq, PartialOrd, Ord, Hash)]
+#[repr(transparent)]
+pub struct BStr {
+    pub(crate) bytes: [u8],
+}
+
+impl BStr {
+    pub(crate) fn from_bytes(bytes: &[u8]) -> &BStr {
+        // SAFETY: A `BStr` has the layout of its one field, a slice of bytes, and each slice of bytes is one.
+        unsafe { &*(core::ptr::from_ref(bytes) as *const BStr) }
+    }
+}
+
+/// Byte strings.
+#[derive(Debug)]
+pub enum Bstr {}
+
+impl sealed::Sealed for Bstr {}
+
+impl Kind for Bstr {
+    type Content = BStr;
+
+    const NUMBER: u32 = 5;
+
+    fn bytes(content: &BStr) -> &[u8] {
+        content
+    }
+
+    unsafe fn content(bytes: &[u8]) -> &BStr {
+        BStr::from_bytes(bytes)
+    }
+
+    fn print_long(content: &BStr, f: &mut fmt::Formatter<'_>) -> fmt::Result {
+        content.fmt(f)
+    }
+}
+
 /// C strings.
 #[derive(Debug)]
 pub enum Cstr {}
@@ -137,8 +176,8 @@ impl Kind for Cstr {
         unsafe { CStr::from_bytes_with_nul_unchecked(bytes) }
     }
 
-    fn lossy(content: &CStr) -> Cow<'_, str> {
-        content.to_string_lossy()
+    fn print_long(content: &CStr, f: &mut fmt::Formatter<'_>) -> fmt::Result {
+        write!(f, "{:?}", content.to_string_lossy())
     }
 }
 

@@ -1,5 +1,6 @@
 //! The calls that the crate adds, and what the library requires of its handle. Expected values are worked out by hand.
-use std::collections::BTreeMap;
+use std::borrow::Cow;
+use std::collections::{BTreeMap, HashSet};
 use std::ffi::{CStr, CString, OsStr, OsString};
 use std::mem::ManuallyDrop;
 use std::os::unix::ffi::OsStrExt;
@@ -7,6 +8,7 @@ use std::panic::RefUnwindSafe;
 use std::path::{Path, PathBuf};
 use std::thread;
 
+use intaglio_proved::bstr::{self, BStr, BString};
 use intaglio_proved::{Refusal, Symbol, SymbolTable, bytes, cstr, osstr, path};
 
 fn symbols(ids: &[u32]) -> Vec<Symbol> {
@@ -33,6 +35,39 @@ fn bytes_need_not_be_utf8() {
     assert_eq!(table.intern(&b"\xff\x00"[..]), Ok(Symbol::new(0)));
     assert_eq!(table.intern(vec![0xff, 0]), Ok(Symbol::new(0)));
     assert_eq!(table.bytestrings().collect::<Vec<_>>(), [b"\xff\x00"]);
+}
+
+#[test]
+fn byte_strings_need_not_be_utf8() {
+    let mut table = bstr::SymbolTable::new();
+    assert_eq!(table.intern(BStr::new(b"a\xff")), Ok(Symbol::new(0)));
+    assert_eq!(table.intern(BString::from(vec![b'a', 0xff])), Ok(Symbol::new(0)));
+    assert_eq!(table.intern(Cow::from(BStr::new(""))), Ok(Symbol::new(1)));
+    assert_eq!(table.intern_all([BString::from("b"), BString::from("")]), Ok(symbols(&[2, 1])));
+    assert_eq!(table.check_interned(BStr::new("b")), Some(Symbol::new(2)));
+    assert_eq!(table.bstrings().collect::<Vec<_>>(), [BStr::new(b"a\xff"), BStr::new(""), BStr::new("b")]);
+    assert_eq!(table[Symbol::new(0)], b"a\xff"[..]);
+}
+
+#[test]
+fn byte_strings_are_compared_hashed_and_converted_as_their_bytes() {
+    let (string, bytes) = (BString::from("a"), BStr::new(b"a"));
+    assert!(string == bytes && bytes == string && string == "a" && "a" == string && *bytes == b"a"[..] && string == vec![b'a']);
+    assert!(bytes < BStr::new("b") && string != "b" && BString::default().is_empty());
+    assert_eq!((bytes.to_owned(), Vec::from(string.clone())), (BString::new(vec![b'a']), vec![b'a']));
+    assert!(HashSet::from([string]).contains(bytes));
+}
+
+// Bytes that aren't part of UTF-8 are printed one by one; E2 82 begins a letter of three bytes.
+#[test]
+fn byte_strings_are_printed_as_text() {
+    let bytes = BStr::new(b"\xe2\x82a\0\n\x1b\"\xc3\xa9");
+    assert_eq!(format!("{bytes:?}"), r#""\xE2\x82a\0\n\x1b\"é""#);
+    assert_eq!(format!("{:?}", BString::from(bytes)), format!("{bytes:?}"));
+    assert_eq!(format!("{:>4}|{}", BStr::new(b"a\xff"), BString::from("b")), "  a\u{fffd}|b");
+    let mut table = bstr::SymbolTable::default();
+    table.intern(BStr::new(b"a\xff")).unwrap();
+    assert!(format!("{table:#?}").contains(&format!("{:?},\n", BStr::new(b"a\xff"))));
 }
 
 #[test]
@@ -132,7 +167,7 @@ fn a_path_that_is_not_utf8_is_an_error() {
 fn tables_may_be_shared_and_survive_panics() {
     fn holds<T: Send + Sync + RefUnwindSafe + Unpin>(_: T) {}
     holds((SymbolTable::default(), bytes::SymbolTable::default(), cstr::SymbolTable::default()));
-    holds((osstr::SymbolTable::default(), path::SymbolTable::default()));
+    holds((osstr::SymbolTable::default(), path::SymbolTable::default(), bstr::SymbolTable::default()));
 }
 
 #[test]
