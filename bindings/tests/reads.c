@@ -1,6 +1,6 @@
 /* Makes every call that only reads while the memory of the table can't be written, on a copy of the handle: a write would end the
- * program. So several threads may read a table at once, each with a copy of its handle. Linked with
- * -Wl,--wrap=malloc,--wrap=realloc,--wrap=free. */
+ * program, and so would a request for memory or a free. After each call the copy is what it was. So several threads
+ * may read a table at once, each with a copy of its handle. Linked with -Wl,--wrap=malloc,--wrap=realloc,--wrap=free. */
 #define _GNU_SOURCE
 #include "intaglio.h"
 #include <stdio.h>
@@ -10,10 +10,10 @@
 
 enum { SIZE = 1 << 22, STRINGS = 500 };
 
-/* While the table is made, memory comes from one block, without reuse. Later it comes from malloc. */
+/* While the table is made, memory comes from one block, without reuse. While it is read there is none. */
 static uint8_t *block;
 static size_t used;
-static bool is_made;
+static bool is_making, is_reading;
 
 void *__real_malloc(size_t size);
 void *__real_realloc(void *old, size_t size);
@@ -21,8 +21,13 @@ void __real_free(void *old);
 
 static bool is_ours(const void *at) { return block && (const uint8_t *)at >= block && (const uint8_t *)at < block + SIZE; }
 
+static void no_memory_while_reading(void) {
+    if (is_reading) abort();
+}
+
 void *__wrap_malloc(size_t size) {
-    if (!block || is_made) return __real_malloc(size);
+    no_memory_while_reading();
+    if (!is_making) return __real_malloc(size);
     size_t start = (used + 15) & ~(size_t)15;
     if (size > SIZE - start) return NULL;
     used = start + size;
@@ -30,7 +35,9 @@ void *__wrap_malloc(size_t size) {
 }
 
 void *__wrap_realloc(void *old, size_t size) {
-    if (!old || !is_ours(old)) return old || !block || is_made ? __real_realloc(old, size) : __wrap_malloc(size);
+    no_memory_while_reading();
+    if (!old) return __wrap_malloc(size);
+    if (!is_ours(old)) return __real_realloc(old, size);
     void *made = __wrap_malloc(size);
     /* (what lies behind the old bytes is copied too, and stays in the block) */
     size_t left = (size_t)(block + SIZE - (uint8_t *)old);
@@ -39,6 +46,7 @@ void *__wrap_realloc(void *old, size_t size) {
 }
 
 void __wrap_free(void *old) {
+    no_memory_while_reading();
     if (!is_ours(old)) __real_free(old);
 }
 
@@ -50,29 +58,38 @@ static size_t spell(uint32_t kind, uint32_t i, uint8_t *into) {
     return (size_t)len + (kind == INTAGLIO_CSTR);
 }
 
+/* A call that only reads, on `table`, and what it must return. */
+#define READS(CONDITION) do { \
+    is_reading = true; \
+    bool holds = (CONDITION); \
+    is_reading = false; \
+    if (!holds || table->live != before.live || table->ptr != before.ptr) { fprintf(stderr, "line %d, kind %u: %s\n", __LINE__, kind, #CONDITION); exit(1); } \
+} while (0)
+
 static void read_all(intaglio_table *table, uint32_t kind) {
     uint8_t bytes[128], copy[128], all[256];
+    const intaglio_table before = *table;
     size_t ends[2], copied[2], len;
     uint64_t found[2];
     uint32_t symbol;
     intaglio_spelling out;
-    WANT(intaglio_len(table) == STRINGS && intaglio_capacity(table) >= STRINGS);
+    READS(intaglio_len(table) == STRINGS && intaglio_capacity(table) >= STRINGS);
     for (uint32_t i = 0; i < STRINGS + 100; i++) {
         size_t size = spell(kind, i, bytes);
         bool there = i < STRINGS;
-        WANT(intaglio_check_interned(table, bytes, size, &symbol) == there && (!there || symbol == i));
-        WANT(intaglio_get(table, i, &out) == there && (!there || (out.len == size && memcmp(out.at, bytes, size) == 0)));
-        WANT(intaglio_copy(table, i, copy, sizeof copy, &len) == there && (!there || (len == size && memcmp(copy, bytes, size) == 0)));
+        READS(intaglio_check_interned(table, bytes, size, &symbol) == there && (!there || symbol == i));
+        READS(intaglio_get(table, i, &out) == there && (!there || (out.len == size && memcmp(out.at, bytes, size) == 0)));
+        READS(intaglio_copy(table, i, copy, sizeof copy, &len) == there && (!there || (len == size && memcmp(copy, bytes, size) == 0)));
         memcpy(all, bytes, size);
         memcpy(all + size, bytes, size);
         ends[0] = size;
         ends[1] = 2 * size;
-        WANT(intaglio_check_all(table, all, 2 * size, ends, 2, found, 2) == INTAGLIO_DONE);
+        READS(intaglio_check_all(table, all, 2 * size, ends, 2, found, 2) == INTAGLIO_DONE);
         WANT(found[0] == (there ? i : INTAGLIO_ABSENT) && found[1] == found[0]);
         uint32_t symbols[2] = {i, i};
-        WANT(intaglio_copy_all(table, symbols, 2, all, sizeof all, copied, 2) == (there ? INTAGLIO_DONE : INTAGLIO_NO_SYMBOL));
+        READS(intaglio_copy_all(table, symbols, 2, all, sizeof all, copied, 2) == (there ? INTAGLIO_DONE : INTAGLIO_NO_SYMBOL));
     }
-    WANT(!intaglio_check_interned(table, (const uint8_t *)"\xff", 1, &symbol));
+    READS(!intaglio_check_interned(table, (const uint8_t *)"\xff", 1, &symbol));
 }
 
 static void run(uint32_t kind) {
@@ -80,15 +97,14 @@ static void run(uint32_t kind) {
     uint32_t symbol;
     intaglio_table table = {false, NULL};
     used = 0;
-    is_made = false;
     WANT(mprotect(block, SIZE, PROT_READ | PROT_WRITE) == 0);
+    is_making = true;
     WANT(intaglio_with_capacity(&table, kind, 7, 1, 2) == INTAGLIO_DONE);
     for (uint32_t i = 0; i < STRINGS; i++) WANT(intaglio_intern(&table, bytes, spell(kind, i, bytes), &symbol) == INTAGLIO_DONE && symbol == i);
-    is_made = true;
+    is_making = false;
     WANT(is_ours(table.ptr) && mprotect(block, SIZE, PROT_READ) == 0);
     intaglio_table copy = table;
     read_all(&copy, kind);
-    WANT(copy.live == table.live && copy.ptr == table.ptr);
     WANT(mprotect(block, SIZE, PROT_READ | PROT_WRITE) == 0);
     intaglio_free(&table);
 }

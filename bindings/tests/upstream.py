@@ -154,7 +154,8 @@ def examples(upstream):
     pages = {name: documentation((upstream / f"src--src--{name}.rs.txt").read_text()) for name in ["lib", *MODULES]}
     pages["readme"] = (upstream / "src--README.md").read_text()
     for name, text in pages.items():
-        for number, example in enumerate(re.findall(r"^```(?:rust)?\n([^\f]*?)^```$", text, re.M)):
+        blocks = re.findall(r"^```(\w*)\n([^\f]*?)^```$", text, re.M)
+        for number, example in enumerate(example for language, example in blocks if language in ("", "rust")):
             yield f"{name}_{number}", renamed(example)
 
 
