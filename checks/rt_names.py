@@ -209,6 +209,23 @@ def built_static(name):
         return crate.out.read() if status else ""
 
 
+def copied_proofs(repository, names):
+    """Copies what `rt lib` made of these crates to a repository that has them too, lowest first, where it is of the same sources, of the crates
+    below it too, and of this version of `rt`. Returns the names of those that are proved there now."""
+    here, there = ({it.name: it for it in crates(top)} for top in (TOP, repository))
+    # No other rt works in them until this process ends.
+    copied_proofs.held = load().rtlib.lock([*(here[it] for it in names), *(there[it] for it in names)])
+    for name in names:
+        mine, theirs = here[name], there[name]
+        if mine.is_built() and not theirs.is_built() and mine.stamp() == theirs.stamp():
+            to, whole = Path(theirs.folder, "out/rlib"), Path(theirs.folder, "out/copied")
+            shutil.rmtree(whole, ignore_errors=True)
+            shutil.copytree(Path(mine.folder, "out/rlib"), whole)
+            shutil.rmtree(to, ignore_errors=True)
+            whole.rename(to)
+    return [it for it in names if there[it].is_built()]
+
+
 def without_good_news(said):
     """What a check printed, without the lines on what is proved and what was loaded."""
     return re.sub(r"(?m)^(fn \S+: proved|statements |logic /|rt: chose ).*\n", "", said)
