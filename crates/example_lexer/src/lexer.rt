@@ -6,6 +6,7 @@ ghost use Rattle.example_lexer.specs.Spelled.{spelled, text_of};
 
 use crate::token::{Kind, Token};
 use intaglio::bytes::{BytesContent, SymbolTable};
+use intaglio::laws::valid_law;
 use intaglio::{InternError, Symbol, TableError};
 use std::alloc::Global;
 
@@ -57,8 +58,8 @@ pub fn have_same_text(texts: &SymbolTable, one: Symbol, other: Symbol) -> bool
     ensures { let held = texts.now.state.contents in
         IsTrue result ↔ (text_of held one ≡ text_of held other) }
 {
-    // Not used when run: a call of the table shows the prover that its texts are distinct.
-    let _count = texts.len();
+    // The texts of a table are distinct.
+    valid_law(texts);
     one == other
 }
 

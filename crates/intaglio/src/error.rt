@@ -1,25 +1,28 @@
 //! One error type for functions that make tables and call them.
-ghost use Rattle.std.specs.Prelude.{◌≡◌, Some};
+ghost use Rattle.std.specs.Prelude.{◌≡◌, Some, alloc_error};
 ghost use Rattle.intaglio.specs.TableError.{table_error_text};
-ghost use Rattle.intaglio.specs.declared.error.TableError.TheVariants.{Intern, Room, Stale};
+ghost use Rattle.intaglio.specs.declared.error.TableError.TheVariants.{Intern, Memory, Room, Stale};
 
 use intaglio_core::{InternError, RoomError, StaleMark};
+use std::alloc::{AllocError, AllocFailed};
 use std::error::Error;
 use std::fmt;
 
-/// Why a call of a table failed, for any call: `?` converts each error of a table
-/// into this one, which keeps it.
+/// Why a call of a table failed, for any call: `?` converts each error of a table into this one, which
+/// keeps it. It also converts the errors of std's collections, so a table and a `Vec` can be used in one
+/// function.
 ///
 /// ```
-/// use intaglio::{StrContent, SymbolTable, TableError};
+/// use intaglio::{StrContent, Symbol, SymbolTable, TableError};
 /// use std::alloc::Global;
 ///
-/// fn keywords(alloc: Global) -> Result<SymbolTable, TableError> {
+/// fn symbols_of(alloc: Global, words: &'static str) -> Result<Vec<Symbol>, TableError> {
 ///     let mut table = SymbolTable::new(alloc)?;
-///     for word in "fn let while".split_whitespace() {
-///         let _symbol = table.intern(StrContent::from(word))?;
+///     let mut symbols = Vec::new(alloc);
+///     for word in words.split_whitespace() {
+///         symbols.push(table.intern(StrContent::from(word))?)?;
 ///     }
-///     Ok(table)
+///     Ok(symbols)
 /// }
 /// ```
 #[derive(Debug, Clone, Copy, PartialEq, Eq)]
@@ -30,6 +33,8 @@ pub enum TableError {
     Intern(InternError),
     /// A mark counts more contents than the table holds.
     Stale(StaleMark),
+    /// An allocation failed that no table made, such as that of a `Vec`.
+    Memory(AllocError),
 }
 
 impl fmt::Display for TableError {
@@ -40,6 +45,7 @@ impl fmt::Display for TableError {
             TableError::Room(room) => write!(f, "{room}"),
             TableError::Intern(intern) => write!(f, "{intern}"),
             TableError::Stale(stale) => write!(f, "{stale}"),
+            TableError::Memory(_) => write!(f, "out of memory"),
         }
     }
 }
@@ -67,5 +73,22 @@ impl From<StaleMark> for TableError {
 
     fn from(stale: StaleMark) -> TableError {
         TableError::Stale(stale)
+    }
+}
+
+impl From<AllocError> for TableError {
+    ghost from_gives = { λ refused error. error ≡ Memory refused };
+
+    fn from(refused: AllocError) -> TableError {
+        TableError::Memory(refused)
+    }
+}
+
+// So that `v.push(x)?` converts. The value that wasn't stored is dropped.
+impl<T: Drop> From<AllocFailed<T>> for TableError {
+    ghost from_gives = { λ _ error. error ≡ Memory alloc_error };
+
+    fn from(_refused: AllocFailed<T>) -> TableError {
+        TableError::Memory(AllocError)
     }
 }

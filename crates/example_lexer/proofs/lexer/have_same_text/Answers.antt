@@ -4,5 +4,5 @@ use Rattle.example_lexer.proofs.lexer.have_same_text.Goals as goal
 
 pub returns : goal.returns
 returns c =
-    let same = same_text c.args.texts.now.state c.args.one c.args.other c.len-count.ensures.valid c.requires.one c.requires.other in
+    let same = same_text c.args.texts.now.state c.args.one c.args.other c.valid_law.ensures c.requires.one c.requires.other in
     (λ t. same.1 (grind (arith, t, c.eq.ensures)), λ e. let s = same.0 e in grind (arith, s, c.eq.ensures))

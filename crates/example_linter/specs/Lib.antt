@@ -1,0 +1,2 @@
+-- What the contract of the linter cites.
+pub mod Repeat
