@@ -100,18 +100,23 @@ static int check_open(Table *self) {
     return code ? -1 : 0;
 }
 
-/* Looks a content up. Returns 1 and its symbol, 0 if it isn't in the table, or -1 and an exception. */
-static int find(Table *self, PyObject *content, uint32_t *symbol) {
-    PyObject *own = native(self, content);
-    if (!own) return -1;
+/* Looks a native content up. Returns 1 and its symbol, 0 if it isn't in the table, or -1 and an exception. */
+static inline int find_native(Table *self, PyObject *content, uint32_t *symbol) {
     size_t len;
-    const uint8_t *at = spell(self, own, &len);
-    int found = at ? intaglio_check_interned(&self->handle, at, len, symbol) : -1;
-    if (!at && PyErr_ExceptionMatches(PyExc_UnicodeEncodeError)) {
-        PyErr_Clear();
-        found = 0;
-    }
-    Py_DECREF(own);
+    const uint8_t *at = spell(self, content, &len);
+    if (at) return intaglio_check_interned(&self->handle, at, len, symbol);
+    if (!PyErr_ExceptionMatches(PyExc_UnicodeEncodeError)) return -1;
+    PyErr_Clear();
+    return 0;
+}
+
+/* The same for any content. A native one needs no reference beside the caller's, since no code of Python's runs meanwhile; to count
+ * one would write to the object. */
+static int find(Table *self, PyObject *content, uint32_t *symbol) {
+    if (is_native(self, content)) return find_native(self, content, symbol);
+    PyObject *own = native(self, content);
+    int found = own ? find_native(self, own, symbol) : -1;
+    Py_XDECREF(own);
     return found;
 }
 
@@ -284,7 +289,7 @@ static Outcome find_each(Table *self, Batch *batch) {
         uint32_t symbol;
         int status = -1;
         fetch(items, i, batch->count);
-        if (is_native(self, items[i])) status = find(self, items[i], &symbol);
+        if (is_native(self, items[i])) status = find_native(self, items[i], &symbol);
         else outcome = NOT_NATIVE;
         if (status == -1 && outcome == DONE) outcome = FAILED;
         found[i] = status == 1 ? symbol : INTAGLIO_ABSENT;
@@ -361,18 +366,24 @@ static PyObject *write_batch(Table *self, PyObject *const *args, Py_ssize_t coun
 
 /* Methods */
 
+/* Interns a native content. */
+static inline PyObject *intern_native(Table *self, PyObject *content) {
+    size_t len;
+    uint32_t symbol;
+    const uint8_t *at = spell(self, content, &len);
+    if (!at) return not_spelled();
+    uint32_t code = intaglio_intern(&self->handle, at, len, &symbol);
+    return code ? refused(code) : PyLong_FromUnsignedLong(symbol);
+}
+
 PyDoc_STRVAR(intern_doc, "intern($self, content, /)\n--\n\n"
 "The symbol of the string, which is stored if it is new. Raises Full, NoMemory, NotUtf8, InnerZero, NoTable.");
 static PyObject *table_intern(Table *self, PyObject *content) {
+    if (is_native(self, content)) return intern_native(self, content);
     PyObject *own = native(self, content);
-    if (!own) return NULL;
-    size_t len;
-    uint32_t symbol, code = INTAGLIO_DONE;
-    const uint8_t *at = spell(self, own, &len);
-    if (at) code = intaglio_intern(&self->handle, at, len, &symbol);
-    Py_DECREF(own);
-    if (!at) return not_spelled();
-    return code ? refused(code) : PyLong_FromUnsignedLong(symbol);
+    PyObject *symbol = own ? intern_native(self, own) : NULL;
+    Py_XDECREF(own);
+    return symbol;
 }
 
 PyDoc_STRVAR(check_interned_doc, "check_interned($self, content, /)\n--\n\n"
