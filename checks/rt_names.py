@@ -67,11 +67,14 @@ def crates(top=TOP):
 
 
 def is_built(library):
-    """Whether the library is built from the sources as they are."""
+    """Whether the library is built from the sources as they are, and over those below it as they are."""
     stamp, made = Path(library.folder, "out/rlib/stamp"), Path(library.rlib, "format")
     newest = max(os.path.getmtime(file) for file in load().rtlib.files_of(library.folder))
-    # (what `rt ci` builds has no stamp)
-    return made.is_file() and (library.is_built() if stamp.is_file() else newest <= made.stat().st_mtime)
+    if stamp.is_file():
+        return made.is_file() and library.is_built()
+    # (what `rt ci` builds has no stamp, and can be used over its own libraries alone)
+    is_of_ci = not any(Path(it.folder, "out/rlib/stamp").is_file() for it in library.below())
+    return made.is_file() and newest <= made.stat().st_mtime and is_of_ci
 
 
 def build_missing(libraries):
@@ -152,20 +155,22 @@ def lines_of(crate):
     return sum(it.read_bytes().count(b"\n") for it in files if not {"tests", "tests.rt"} & {*it.parts})
 
 
+# Beside rt's own `stamp` of a library, what it was proved as, from nothing.
+FROM_NOTHING = "from_nothing"
+
+
 def of_program(name):
-    """The crates that a program stands on, and it, lowest first, each with what it writes in a place of its own."""
+    """The crates that a program stands on, and it, lowest first."""
     crate = next((it for it in crates() if it.name == name), None) or sys.exit(f"crates.txt lists no {name}")
     found = [*crate.below(), crate]
-    for it in found:
-        it.rlib = f"{it.folder}/out/statements/{it.name}.rlib"
     # No other rt works in them until this process ends.
     of_program.held = load().rtlib.lock(found)
     return found
 
 
 def is_proved(crate):
-    """Whether the crate was proved as it is now, with what stands below it."""
-    stamp = Path(crate.folder, "out/statements/stamp")
+    """Whether the crate was proved as it is now, with what stands below it, from nothing: `rt lib` proves over what earlier checks kept."""
+    stamp = Path(crate.folder, "out/rlib", FROM_NOTHING)
     return stamp.is_file() and stamp.read_text(encoding="utf-8") == crate.stamp() and os.path.exists(made_of(crate))
 
 
@@ -174,13 +179,13 @@ def made_of(crate):
 
 
 def proved(crate, jobs):
-    """The status of proving the crate, and of building a program, from nothing, and what was printed."""
+    """The status of proving the crate, and of building a library as `rt lib` leaves it, or a program, from nothing, and what was printed."""
     rt, stamp = load(), crate.stamp()
-    kept, made = os.path.dirname(crate.rlib), f"out/{crate.name}"
+    kept, made = f"{crate.folder}/out/rlib", f"out/{crate.name}"
     shutil.rmtree(kept, ignore_errors=True)
     os.makedirs(kept)
     words = crate.words(["--jobs", str(jobs)], keeps=False)
-    more = ["--toolchain", f"{rt.KIT}/toolchain", "--backend", "llvm", "-o", f"{made}.o"] if crate.is_program else ["--statements", "-o", crate.rlib]
+    more = ["--toolchain", f"{rt.KIT}/toolchain", "--backend", "llvm", "-o", f"{made}.o"] if crate.is_program else ["-o", crate.rlib]
     with tempfile.TemporaryFile("w+", errors="replace") as crate.out:
         try:
             status = crate.prove(["build", *words, *more])
@@ -189,7 +194,8 @@ def proved(crate, jobs):
         except SystemExit as stopped:
             status = stopped.code or 2
         if not status and stamp == crate.stamp():
-            Path(kept, "stamp").write_text(stamp, encoding="utf-8")
+            for name in ("stamp", FROM_NOTHING):
+                Path(kept, name).write_text(stamp, encoding="utf-8")
         crate.out.seek(0)
         return status, crate.out.read()
 
