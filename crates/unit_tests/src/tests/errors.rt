@@ -1,7 +1,7 @@
 //! What errors print, and that all values of `SymbolOverflowError` are equal.
 use super::assertions::{copy_of, holds, same};
 use intaglio::{InternError, RoomError, StaleMark, SymbolOverflowError, TableError};
-use std::alloc::AllocError;
+use std::alloc::{AllocError, AllocFailed};
 use std::cmp::Ordering;
 use std::fmt::Display;
 use std::process::Abort;
@@ -40,7 +40,23 @@ fn a_table_error_prints_what_it_holds(rt: HostRuntime) {
     );
     prints(&rt, TableError::from(full), "Symbol overflow");
     prints(&rt, TableError::from(StaleMark::new()), "stale mark");
+    prints(&rt, TableError::from(AllocError), "out of memory");
     same(&rt, TableError::from(full), TableError::Intern(full));
+}
+
+#[test]
+fn a_table_error_takes_the_errors_of_other_collections(rt: HostRuntime) {
+    let unstored = AllocFailed { value: 1u8 };
+    same(
+        &rt,
+        TableError::from(unstored),
+        TableError::Memory(AllocError),
+    );
+    same(
+        &rt,
+        TableError::from(AllocError),
+        TableError::Memory(AllocError),
+    );
 }
 
 #[test]
