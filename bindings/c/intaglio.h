@@ -15,7 +15,8 @@
  *
  * bindings/build makes libintaglio.a and libintaglio.so, and bindings/install installs them with this header. docs/FROM-C.md describes
  * how, and what is proved. Both are for Linux on x86-64, on processors of the level x86-64-v2, which has SSE4.2: an older one may stop
- * at an illegal instruction.
+ * at an illegal instruction, which nothing tests for. CPU=x86-64 bindings/build compiles for each x86-64 processor. There is no library
+ * for other platforms.
  *
  * Errors: a function that fails returns an error code, and leaves the strings and symbols of the table unchanged, except for those
  * that make a table, which free the one that the handle held. The comments below name the codes without INTAGLIO_.
