@@ -1,5 +1,5 @@
 -- What a change of a table is to the bytes of its contents.
-use Rattle.std.proofs.Common.{◌≡◌, ℕ, ◌+◌, ◌-◌, ◌<◌, ◌≤◌, ◌⊎◌, inl, inr, le_refl, List, [], ◌∷◌, ◌++◌, length, map, take, refl, sym, ap, subst, ◌∙◌, arith}
+use Rattle.std.proofs.Common.{◌≡◌, ℕ, ◌+◌, ◌-◌, ◌<◌, ◌≤◌, ◌⊎◌, inl, inr, List, [], ◌∷◌, ◌++◌, length, map, take, refl, sym, ap, subst, ◌∙◌, arith}
 use Rattle.std.specs.Prelude.{max, ◌↔◌, option_map, slice_get, Option, Some, None, MatchOption, Result, Ok, Err}
 use Rattle.std.specs.List.{take-map}
 use Rattle.std.proofs.Math.Seq.{take-append_seam}
@@ -20,7 +20,7 @@ use Rattle.intaglio_symbol.specs.declared.error.StaleMark.{StaleMark}
 use Rattle.intaglio_handle.specs.Kinds.{fault, key}
 use Rattle.intaglio_handle.specs.Answers.{symbol_answer}
 use Rattle.intaglio_handle.specs.Seen.{Seen, as_bytes, seen_as, c_str_bytes, position, look_up, unless, IsChangedBy}
-use Rattle.intaglio_handle.specs.Steps.{Interns, InternsBy, InternsStatic, IsUncopied, Takes}
+use Rattle.intaglio_handle.specs.Steps.{Interns, InternsBy, InternsStatic, IsUncopiedOrRefused, Takes}
 use Rattle.intaglio_hash.specs.declared.state.KeyedState.{KeyedState}
 use Rattle.intaglio_handle.specs.declared.kind.Kind.{Kind}
 use Rattle.intaglio_handle.specs.declared.refusal.Refusal.{Refusal}
@@ -89,7 +89,7 @@ module _ {C : Type 0} (kind : Kind) (bytes : C → List ℕ) where
       (subst (λ (x : Seen). InternsBy Refused b x.state (look_up x b) result s) (sym is) step)
 
   pub refused_form : (old : Seen) (t : Table C KeyedState) (b : List ℕ) (r : Refusal) (result : Result ℕ Refusal) → old ≡ seen_as kind bytes t → fault kind b ≡ Some r → result ≡ Err r → IsChangedBy old (seen_as kind bytes t) (λ _ s'. Interns b old result s')
-  refused_form = refused IsUncopied
+  refused_form = refused IsUncopiedOrRefused
 
   pub refused_content : (old : Seen) (t : Table C KeyedState) (b : List ℕ) (r : Refusal) (result : Result ℕ Refusal) → old ≡ seen_as kind bytes t → fault kind b ≡ Some r → result ≡ Err r → IsChangedBy old (seen_as kind bytes t) (λ _ s'. InternsStatic b old result s')
   refused_content = refused IsRefused
@@ -146,24 +146,19 @@ module _ {C : Type 0} (kind : Kind) (bytes : C → List ℕ) (content_key : C �
   }
 
   -- a copy of a form
-  uncopied : (old new : State C) → core_change.IsUncopied old new ⊎ IsRefused old new → IsUncopied (as_bytes bytes old) (as_bytes bytes new)
-  uncopied old new (inl before) = record {
-    below_limit = subst (λ (m : ℕ). m < old.limit) (sym (length-map old.contents bytes)) before.below_limit;
-    contents = ap (λ (s : State C). map bytes s.contents) before.same;
-    spare = subst (λ (s : State C). old.spare ≤ s.spare) (sym before.same) (le_refl _);
-    buckets = ap (λ (s : State C). s.buckets) before.same;
-    limit = ap (λ (s : State C). s.limit) before.same;
-  }
-  uncopied old new (inr refused) = record {
+  uncopied : (old new : State C) → core_change.IsUncopied old new ⊎ IsRefused old new → IsUncopiedOrRefused (as_bytes bytes old) (as_bytes bytes new)
+  uncopied old new (inl before) = inl (record { below_limit = subst (λ (m : ℕ). m < old.limit) (sym (length-map old.contents bytes)) before.below_limit; same = ap (as_bytes bytes) before.same })
+  uncopied old new (inr refused) = inr (record {
     below_limit = subst (λ (m : ℕ). m < old.limit) (sym (length-map old.contents bytes)) refused.below_limit;
+    no_room = refused.no_room;
     contents = ap (map bytes) refused.contents;
     spare = refused.spare;
     buckets = refused.buckets;
     limit = refused.limit;
-  }
+  })
 
   copies : (spelling : C → List ℕ) (old new : State C) (k : Key) (w b : List ℕ) (result : Result ℕ InternError) → ((c : C) → spelling c ≡ w → bytes c ≡ b) → TakesCopy content_key spelling old k w result new
-      → Takes IsUncopied b (as_bytes bytes old) (symbol_answer result) (as_bytes bytes new)
+      → Takes IsUncopiedOrRefused b (as_bytes bytes old) (symbol_answer result) (as_bytes bytes new)
   copies spelling old new k w b (Ok symbol) spelled copied = takes old new copied.copy b (Ok symbol) (spelled copied.copy copied.same_spelling) copied.taken
   copies spelling old new k w b (Err (Overflow full)) spelled refused = (length-map old.contents bytes ∙ refused.0, ap (as_bytes bytes) refused.1)
   copies spelling old new k w b (Err (Memory e)) spelled refused = uncopied old new refused
@@ -192,8 +187,8 @@ module _ {C : Type 0} (kind : Kind) (bytes : C → List ℕ) (content_key : C �
       → IsChangedBy old (seen_as kind bytes t') (λ _ s'. Interns b old answer s')
   interned_form spelling old t t' b w k result answer is hasher allowed same_key spelled step answered =
       subst (λ (a : Result ℕ Refusal). IsChangedBy old (seen_as kind bytes t') (λ _ s'. Interns b old a s')) (sym answered)
-      (interned IsUncopied old t t' b k result is hasher allowed same_key
-      (by_look_up IsUncopied (TakesCopy content_key spelling t.state k w result t'.state) (first content_key t.state.contents k) t.state t'.state b result (copies spelling t.state t'.state k w b result spelled) step))
+      (interned IsUncopiedOrRefused old t t' b k result is hasher allowed same_key
+      (by_look_up IsUncopiedOrRefused (TakesCopy content_key spelling t.state k w result t'.state) (first content_key t.state.contents k) t.state t'.state b result (copies spelling t.state t'.state k w b result spelled) step))
 
   -- by a content, which is moved in
   pub interned_content : (old : Seen) (t t' : Table C KeyedState) (c : C) (b : List ℕ) (result : Result ℕ InternError) (answer : Result ℕ Refusal) → old ≡ seen_as kind bytes t → t'.hasher ≡ t.hasher

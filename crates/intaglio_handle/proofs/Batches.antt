@@ -1,5 +1,5 @@
 -- Batches, one string at a time.
-use Rattle.std.proofs.Common.{◌≡◌, ℕ, zero, suc, ◌+◌, ◌-◌, ◌<◌, ◌≤◌, Bool, true, false, cond, List, [], ◌∷◌, ◌++◌, length, take, drop, refl, sym, ap, subst, ◌∙◌, le_refl, arith, length-append, append_assoc, append-nil}
+use Rattle.std.proofs.Common.{◌≡◌, ℕ, zero, suc, ◌+◌, ◌-◌, ◌<◌, ◌≤◌, Bool, true, false, cond, inl, inr, List, [], ◌∷◌, ◌++◌, length, take, drop, refl, sym, ap, subst, ◌∙◌, le_refl, arith, length-append, append_assoc, append-nil}
 use Rattle.std.specs.Prelude.{if◌then◌else◌, Option, Some, None, IfSome, Result, Ok, Err, is_some, unwrap_or, slice_get, option_map, option_and_then}
 use Rattle.std.specs.List.{concat}
 use Rattle.std.proofs.Math.ListN.{get_or, set}
@@ -16,7 +16,7 @@ use Rattle.intaglio_symbol.specs.declared.error.StaleMark.{StaleMark}
 use Rattle.intaglio_handle.specs.Batches.{all_stored, earlier, ends_from, first_fault, are_ends, pieces, AreInterned, IsBegun, IsRolledBack, InternsOr, StopsAt}
 use Rattle.intaglio_handle.specs.Kinds.{fault, key}
 use Rattle.intaglio_handle.specs.Seen.{Seen, position, unless, IsChangedBy}
-use Rattle.intaglio_handle.specs.Steps.{Interns, InternsBy, IsUncopied}
+use Rattle.intaglio_handle.specs.Steps.{Interns, InternsBy, IsUncopiedOrRefused}
 use Rattle.intaglio_handle.specs.declared.kind.Kind.{Kind}
 use Rattle.intaglio_handle.specs.declared.refusal.Refusal.{Refusal}
 use Rattle.intaglio_handle.specs.declared.refusal.Refusal.TheVariants as refusal
@@ -64,16 +64,17 @@ taken-capacity s s' string symbol taken = by_room s.spare refl
     by_room (suc n) e = omega (arith, count, (taken.spare (omega (arith, e))).0)
 
 -- one interning of a batch
-accepted-by : (fault : Option Refusal) (o : Option ℕ) (s s' : State (List ℕ)) (string : List ℕ) (symbol : ℕ) → InternsBy IsUncopied string s (unless fault o) (Ok symbol) s'
+accepted-by : (fault : Option Refusal) (o : Option ℕ) (s s' : State (List ℕ)) (string : List ℕ) (symbol : ℕ) → InternsBy IsUncopiedOrRefused string s (unless fault o) (Ok symbol) s'
     → (fault ≡ None) × (symbol ≡ unwrap_or o (length s.contents)) × (s'.contents ≡ cond (is_some o) s.contents (s.contents ++ string ∷ [])) × IsBegun s s'
 accepted-by None None s s' string symbol taken = (refl, taken.position, taken.contents, begun-grown s s' string taken.contents (taken-capacity s s' string symbol taken) taken.limit)
 accepted-by None (Some i) s s' string symbol known = (refl, IfOk-at_ok (λ n. symbol ≡ n) known.0 refl, ap (λ (x : State (List ℕ)). x.contents) known.1, begun-same s s' known.1)
 accepted-by (Some r) o s s' string symbol refused = absurd (IfErr-at_err (λ _. ⊥) refused.0 tt)
 
 -- an interning that fails keeps what stands before it
-kept-by : (f : Option Refusal) (o : Option ℕ) (s s' : State (List ℕ)) (string : List ℕ) (r : Refusal) → InternsBy IsUncopied string s (unless f o) (Err r) s' → IsBegun s s'
+kept-by : (f : Option Refusal) (o : Option ℕ) (s s' : State (List ℕ)) (string : List ℕ) (r : Refusal) → InternsBy IsUncopiedOrRefused string s (unless f o) (Err r) s' → IsBegun s s'
 kept-by None None s s' string refusal.Full full = begun-same s s' full.1
-kept-by None None s s' string refusal.NoMemory kept = record {
+kept-by None None s s' string refusal.NoMemory (inl kept) = begun-same s s' kept.same
+kept-by None None s s' string refusal.NoMemory (inr kept) = record {
   within = omega (arith, ap length kept.contents);
   contents = ap (take (length s.contents)) kept.contents ∙ take-length s.contents;
   capacity = omega (arith, ap length kept.contents, kept.spare);

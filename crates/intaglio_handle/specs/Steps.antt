@@ -1,18 +1,14 @@
 -- What each call does to the state of a table.
-use Rattle.std.specs.Prelude.{◌≡◌, ℕ, ◌+◌, ◌<◌, ◌≤◌, List, length, Option, Some, None, Result, Ok, Err}
-use Rattle.intaglio_core.specs.Change.{IsCut, IsRefused, IsReserved, IsShrunk, IsTaken, IsUnreserved}
+use Rattle.std.specs.Prelude.{◌≡◌, ℕ, ◌+◌, ◌<◌, ◌⊎◌, List, length, Option, Some, None, Result, Ok, Err}
+use Rattle.intaglio_core.specs.Change.{IsCut, IsRefused, IsReserved, IsShrunk, IsTaken, IsUncopied, IsUnreserved}
 use Rattle.intaglio_core.specs.State.{State}
 use Rattle.intaglio_handle.specs.Seen.{Seen, look_up}
 use Rattle.intaglio_handle.specs.declared.refusal.Refusal.{Refusal}
 use Rattle.intaglio_handle.specs.declared.refusal.Refusal.TheVariants.{Full, NoMemory, TooLarge, Stale}
 
--- the allocation of a copy or of a growth failed, and the table isn't full
-pub record IsUncopied (old new : State (List ℕ)) : Type 0 where
-  pub below_limit : length old.contents < old.limit
-  pub contents : new.contents ≡ old.contents
-  pub spare : old.spare ≤ new.spare
-  pub buckets : new.buckets ≡ old.buckets
-  pub limit : new.limit ≡ old.limit
+-- the allocation of a copy failed, or that of a growth
+abbrev pub IsUncopiedOrRefused : State (List ℕ) → State (List ℕ) → Type 0
+IsUncopiedOrRefused old new = IsUncopied old new ⊎ IsRefused old new
 
 -- bytes that aren't stored are interned; Refused holds if an allocation fails
 abbrev pub Takes : (State (List ℕ) → State (List ℕ) → Type 0) → List ℕ → State (List ℕ) → Result ℕ Refusal → State (List ℕ) → Type 0
@@ -29,7 +25,7 @@ InternsBy Refused bytes s (Ok None) result s' = Takes Refused bytes s result s'
 
 -- bytes are interned, and copied if they are new
 abbrev pub Interns : List ℕ → Seen → Result ℕ Refusal → State (List ℕ) → Type 0
-Interns bytes t result s' = InternsBy IsUncopied bytes t.state (look_up t bytes) result s'
+Interns bytes t result s' = InternsBy IsUncopiedOrRefused bytes t.state (look_up t bytes) result s'
 
 -- bytes are interned without a copy
 abbrev pub InternsStatic : List ℕ → Seen → Result ℕ Refusal → State (List ℕ) → Type 0
