@@ -148,7 +148,22 @@ def faults_of(data):
     ends = (0, *table.ends, len(table.text))
     if any(end < before for before, end in pairwise(ends)) or ends[-2] != ends[-1]:
         return [*faults, "ends"]
-    return [*faults, *(f"not found: {symbol}" for symbol in range(len(table)) if table.find(table[symbol]) != symbol)]
+    if table.symbols.count(NO_SYMBOL) != len(table.symbols) - len(table) or any(
+        tag for symbol, tag in zip(table.symbols, table.tags) if symbol == NO_SYMBOL
+    ):
+        faults.append("unused")
+    faults += [f"not found: {symbol}" for symbol in range(len(table)) if table.find(table[symbol]) != symbol]
+    if table.kind == TEXT:
+        faults += [f"not UTF-8: {symbol}" for symbol in range(len(table)) if not is_text(table[symbol])]
+    return faults
+
+
+def is_text(string):
+    try:
+        string.decode()
+    except UnicodeDecodeError:
+        return False
+    return True
 
 
 def pilot_of(hashes, taken, places):

@@ -4,6 +4,8 @@ use std::alloc::{AllocError, Global};
 
 const DICT: &str = "a dictionary";
 
+const KINDS: &[&str] = &["bytes", "text"];
+
 const FILES: &str = "files of lines; without any, standard input";
 
 /// What the program takes.
@@ -15,11 +17,34 @@ pub fn command<'a>(alloc: Global) -> Result<Command<'a>, AllocError> {
         )
         .subcommand_required(true)
         .arg_required_else_help(true)
+        .subcommand(freeze(alloc)?)?
         .subcommand(find(alloc)?)?
         .subcommand(get(alloc)?)?
         .subcommand(list(alloc)?)?
         .subcommand(check(alloc)?)?
         .subcommand(stat(alloc)?)
+}
+
+fn freeze<'a>(alloc: Global) -> Result<Command<'a>, AllocError> {
+    Command::new(alloc, "freeze")
+        .about(
+            "Writes a dictionary of the distinct lines, numbered from 0 in the order of their first occurrences",
+        )
+        .arg(
+            Arg::new(alloc, "KIND")
+                .long("kind")
+                .value_parser(KINDS)
+                .default_value("bytes")
+                .help("what lines are: any bytes, or UTF-8"),
+        )?
+        .arg(
+            Arg::new(alloc, "DICT")
+                .short('o')
+                .long("output")
+                .required(true)
+                .help("the dictionary, which is replaced when the new one is whole"),
+        )?
+        .arg(many(alloc, "FILE", FILES))
 }
 
 fn find<'a>(alloc: Global) -> Result<Command<'a>, AllocError> {

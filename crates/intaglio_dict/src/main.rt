@@ -1,15 +1,18 @@
-//! Looks up the lines of files in dictionaries, which are frozen tables in files.
+//! Makes dictionaries, which are frozen tables in files, and looks up the lines of files in them.
 //!
 //! What is asked is read from the arguments, and answered by `intaglio_dictionary`.
 #![tactic(auto)]
 
 mod command;
+mod freezing;
+mod input;
 mod noticing;
 mod report;
 mod run;
 
 use std::io::ErrorKind;
 use std::process::ExitCode;
+use std::random::RandomSource;
 use std::rt::{Env, Files};
 use std::{env, io};
 
@@ -18,14 +21,17 @@ fn main(rt: HostRuntime) -> ExitCode {
 }
 
 // Runs the program on its arguments, and returns the exit status.
-fn serve<R: Files + Env + Input + Print + Eprint + AllocGlobal>(rt: &R) -> u8 {
+fn serve<R: Files + Env + RandomSource + Input + Print + Eprint + AllocGlobal>(rt: &R) -> u8 {
     match words(rt) {
         Ok(words) => serve_words(rt, &words),
         Err(e) => report::arguments(rt, e.kind() == ErrorKind::OutOfMemory),
     }
 }
 
-fn serve_words<R: Files + Input + Print + Eprint + AllocGlobal>(rt: &R, words: &[String]) -> u8 {
+fn serve_words<R: Files + RandomSource + Input + Print + Eprint + AllocGlobal>(
+    rt: &R,
+    words: &[String],
+) -> u8 {
     let command = match command::command(rt.alloc()) {
         Ok(command) => command,
         Err(_) => return report::out_of_memory(rt),

@@ -18,6 +18,11 @@ impl<W: Write> Noticing<W> {
         }
     }
 
+    /// The writer, and the last error.
+    pub fn into_parts(self) -> (W, Option<io::Error>) {
+        (self.writer, self.error)
+    }
+
     /// The last error.
     pub fn error(&self) -> Option<io::Error> {
         self.error

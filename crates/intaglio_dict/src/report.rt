@@ -25,6 +25,12 @@ pub fn failed<R: Eprint, D: Display + Drop>(rt: &R, name: &str, what: D) -> u8 {
     1
 }
 
+/// Of what is wrong with the input as a whole.
+pub fn of_input<R: Eprint, D: Display + Drop>(rt: &R, what: D) -> u8 {
+    let _ = eprintln!(rt; "intaglio_dict: {what}");
+    1
+}
+
 /// Of memory.
 pub fn out_of_memory<R: Eprint>(rt: &R) -> u8 {
     let _ = eprintln!(rt; "intaglio_dict: out of memory");

@@ -1,28 +1,30 @@
 //! What each subcommand does.
+use crate::input::file;
 use crate::noticing::Noticing;
-use crate::report;
+use crate::{freezing, report};
 use clap::ArgMatches;
 use intaglio_dictionary::error::DictionaryError;
 use intaglio_dictionary::look_up::{find_lines, list, write_strings};
 use intaglio_dictionary::size::size_of_strings;
 use intaglio_frozen::Frozen;
 use intaglio_lines::error::StreamError;
-use intaglio_lines::read::read_all;
 use intaglio_symbol::Symbol;
 use std::io::Write;
+use std::random::RandomSource;
 use std::rt::Files;
 use std::{fs, io};
 
-const INPUT: &str = "standard input";
+pub const INPUT: &str = "standard input";
 
 const OUTPUT: &str = "standard output";
 
 /// Runs the subcommand, and returns the exit status.
-pub fn run<R: Files + Input + Print + Eprint + AllocGlobal>(
+pub fn run<R: Files + RandomSource + Input + Print + Eprint + AllocGlobal>(
     rt: &R,
     matches: &ArgMatches<'_>,
 ) -> u8 {
     match matches.subcommand() {
+        Some(("freeze", found)) => freezing::freeze(rt, found),
         Some(("check", found)) => check(rt, found),
         Some((command, found)) => on_dictionary(rt, command, found),
         None => 2,
@@ -152,22 +154,9 @@ fn stat<R: Print + Eprint + AllocGlobal>(rt: &R, table: &Frozen<'_>, bytes: u64)
     ended(rt, INPUT, answer, &output)
 }
 
-// The bytes of a file, or the exit status after a message.
-fn file<R: Files + Eprint + AllocGlobal>(rt: &R, name: &str) -> Result<Vec<u8>, u8> {
-    let mut input = match fs::open(rt, name) {
-        Ok(input) => input,
-        Err(e) => return Err(report::of_file(rt, name, e)),
-    };
-    match read_all(rt.alloc(), &mut input) {
-        Ok(bytes) => Ok(bytes),
-        Err(StreamError::Memory) => Err(report::out_of_memory(rt)),
-        Err(stopped) => Err(report::failed(rt, name, stopped)),
-    }
-}
-
 // The exit status after an output, and a message if it isn't whole: the name is the input's. Nothing is said if
 // nobody reads the output.
-fn ended<R: Eprint + AllocGlobal, W: Write>(
+pub fn ended<R: Eprint + AllocGlobal, W: Write>(
     rt: &R,
     name: &str,
     answer: Result<(), StreamError>,

@@ -1,11 +1,15 @@
 -- What is wrong with bytes that are no frozen table.
-use Rattle.std.specs.Prelude.{◌≡◌, ◌≢◌, ℕ, ◌-◌, ◌^◌, ◌<◌, ◌⊎◌, List, length, slice_get, Some}
+use Rattle.std.specs.Prelude.{◌≡◌, ◌≢◌, ℕ, ◌-◌, ◌^◌, ◌<◌, ◌⊎◌, List, length, slice_get, Some, IsUtf8}
 use Rattle.intaglio_frozen.specs.Strings.{AreEnds}
 use Rattle.intaglio_frozen.specs.Layout.{u32_at, kind, count, text_at, ends, strings}
 use Rattle.intaglio_frozen.specs.LookUp.{find}
-use Rattle.intaglio_frozen.specs.IsFrozen.{HasMagic, HasHeader, IsReserved, text_kind}
+use Rattle.intaglio_frozen.specs.IsFrozen.{HasMagic, HasHeader, HasUnused, IsReserved, text_kind}
 use Rattle.intaglio_frozen.specs.declared.error.FrozenError.{FrozenError}
-use Rattle.intaglio_frozen.specs.declared.error.FrozenError.TheVariants.{Magic, Version, Kind, Reserved, TooMany, Truncated, Ends, NotFound}
+use Rattle.intaglio_frozen.specs.declared.error.FrozenError.TheVariants.{Magic, Version, Kind, Reserved, TooMany, Truncated, Ends, Unused, NotFound, NotUtf8}
+
+-- the string at i isn't UTF-8
+abbrev pub IsNoText : List (List ℕ) → ℕ → Type 0
+IsNoText ws i = (w : List ℕ) × (slice_get ws i ≡ Some w) × ¬ IsUtf8 w
 
 -- the bytes have this fault
 abbrev pub IsFault : List ℕ → FrozenError → Type 0
@@ -16,4 +20,6 @@ IsFault bs Reserved = ¬ IsReserved bs
 IsFault bs TooMany = 2 ^ 31 < count bs
 IsFault bs Truncated = length bs < 64 ⊎ (HasHeader bs × (length bs < text_at bs))
 IsFault bs Ends = ¬ AreEnds 0 (length bs - text_at bs) (ends bs)
+IsFault bs Unused = ¬ HasUnused bs
 IsFault bs (NotFound i) = (w : List ℕ) × (slice_get (strings bs) i ≡ Some w) × (find bs w ≢ Some i)
+IsFault bs (NotUtf8 i) = (kind bs ≡ text_kind) × IsNoText (strings bs) i

@@ -1,7 +1,7 @@
 -- Which bytes are a frozen table.
-use Rattle.std.specs.Prelude.{◌≡◌, ℕ, ◌-◌, ◌^◌, ◌≤◌, List, length}
+use Rattle.std.specs.Prelude.{◌≡◌, ℕ, zero, suc, ◌+◌, ◌-◌, ◌^◌, ◌<◌, ◌≤◌, ◌==◌, cond, List, length, slice_get, Some, IsUtf8}
 use Rattle.intaglio_frozen.specs.Strings.{AreEnds}
-use Rattle.intaglio_frozen.specs.Layout.{u32_at, u64_at, kind, key0, key1, count, text_at, ends}
+use Rattle.intaglio_frozen.specs.Layout.{u32_at, u64_at, kind, key0, key1, count, places, text_at, ends, strings, symbol_of, tag_of}
 use Rattle.intaglio_frozen.specs.LookUp.{FindsAll}
 use Rattle.intaglio_frozen.specs.declared.header.Header.{Header}
 use Rattle.intaglio_frozen.specs.declared.kind.Kind.{Kind}
@@ -47,6 +47,26 @@ pub record IsBlock (bs : List ℕ) : Type 0 where
   pub within : text_at bs ≤ length bs
   pub ends : AreEnds 0 (length bs - text_at bs) (ends bs)
 
+-- the symbol of a place that no string has
+abbrev pub no_symbol : ℕ
+no_symbol = 0xffff_ffff
+
+-- how many of the first places have a string
+abbrev pub used_below : List ℕ → ℕ → ℕ
+used_below bs zero = 0
+used_below bs (suc p) = used_below bs p + cond (symbol_of bs p == no_symbol) 0 1
+
+-- as many places as strings have a symbol, and the others have the tag 0
+pub record HasUnused (bs : List ℕ) : Type 0 where
+  pub tags : (p : ℕ) → p < places bs → symbol_of bs p ≡ no_symbol → tag_of bs p ≡ 0
+  pub used : used_below bs (places bs) ≡ count bs
+
+-- each of these strings is UTF-8
+abbrev pub AreTexts : List (List ℕ) → Type 0
+AreTexts ws = (i : ℕ) (w : List ℕ) → slice_get ws i ≡ Some w → IsUtf8 w
+
 pub record IsFrozen (bs : List ℕ) : Type 0 where
   pub block : IsBlock bs
+  pub unused : HasUnused bs
   pub found : FindsAll bs
+  pub texts : kind bs ≡ text_kind → AreTexts (strings bs)

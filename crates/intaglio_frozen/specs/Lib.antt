@@ -5,3 +5,4 @@ pub mod LookUp
 pub mod IsFrozen
 pub mod Fault
 pub mod Block
+pub mod Freezing

@@ -3,13 +3,16 @@ ghost use Rattle.std.specs.Prelude.{◌≡◌, ◌↔◌, ◌+◌, ◌*◌, ◌^
 ghost use Rattle.intaglio_frozen.specs.Strings.{AreEnds};
 ghost use Rattle.intaglio_frozen.specs.Layout.{kind, numbers_at, ends, strings, places};
 ghost use Rattle.intaglio_frozen.specs.LookUp.{hash, place, find};
-ghost use Rattle.intaglio_frozen.specs.IsFrozen.{number_of, IsBlock};
+ghost use Rattle.intaglio_frozen.specs.IsFrozen.{number_of, HasUnused, IsBlock};
 ghost use Rattle.intaglio_frozen.specs.Fault.{IsFault};
 
 use crate::error::FrozenError;
 use crate::header::{HEADER, Header};
 use crate::kind::Kind;
-use crate::numbers::{groups_for, hash_by, mixed, places_for, read_u16, read_u32, scaled};
+use crate::list::StringList;
+use crate::numbers::{
+    NO_SYMBOL, groups_for, hash_by, mixed, places_for, read_u16, read_u32, scaled,
+};
 use intaglio_hash::KeyedState;
 use std::marker::Model;
 
@@ -104,6 +107,21 @@ impl<'a> Block<'a> {
         part(self.text, start, end)
     }
 
+    // Whether the places that no string has are empty.
+    pub(crate) fn has_unused(&self) -> bool
+        ensures { IsTrue result ↔ HasUnused self.now }
+    {
+        let mut used = 0usize;
+        for place in 0..self.places as usize {
+            if read_u32(self.bytes, HEADER + 4 * place) != NO_SYMBOL {
+                used += 1;
+            } else if self.bytes[self.tags_at + place] != 0 {
+                return false;
+            }
+        }
+        used == self.count
+    }
+
     // What a look-up finds.
     #[inline(always)]
     pub(crate) fn find(&self, string: &[u8]) -> Option<u32>
@@ -155,6 +173,20 @@ impl<'a> Block<'a> {
         } else {
             read_u32(self.bytes, self.ends_at + 4 * (i - 1)) as usize
         }
+    }
+}
+
+impl<'a> StringList for Block<'a> {
+    ghost strings = { λ block. strings block };
+
+    #[inline(always)]
+    fn len(&self) -> usize {
+        Block::len(self)
+    }
+
+    #[inline(always)]
+    fn string(&self, i: usize) -> &[u8] {
+        Block::string(self, i)
     }
 }
 

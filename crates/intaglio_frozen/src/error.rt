@@ -1,4 +1,8 @@
-//! Why bytes are no frozen table.
+//! Why bytes are no frozen table, and why a list of strings wasn't frozen.
+ghost use Rattle.std.specs.Prelude.{◌≡◌};
+ghost use Rattle.intaglio_frozen.specs.declared.error.FreezeError.TheVariants.{Memory};
+
+use std::alloc::AllocError;
 use thiserror::Error;
 
 /// Why bytes are no frozen table.
@@ -25,7 +29,44 @@ pub enum FrozenError {
     /// The strings don't fill the text: an end lies before the one before it, or the last isn't the text's.
     #[error("the strings don't fill the text")]
     Ends,
+    /// A place that no string has isn't empty, or has the symbol of a string that has another.
+    #[error("a place without a string isn't empty")]
+    Unused,
     /// The string of this symbol isn't found at it.
     #[error("string {0} isn't found at its symbol")]
     NotFound(u32),
+    /// The string of this symbol isn't UTF-8, and the kind is text.
+    #[error("string {0} isn't UTF-8")]
+    NotUtf8(u32),
+}
+
+/// Why a list of strings wasn't frozen.
+#[derive(Debug, Clone, Copy, PartialEq, Eq, Error)]
+pub enum FreezeError {
+    /// There are more than 2^31 strings.
+    #[error("too many strings")]
+    TooMany,
+    /// The strings have 2^32 bytes or more together.
+    #[error("the strings are too long")]
+    TooLong,
+    /// The strings at these two positions are equal.
+    #[error("strings {0} and {1} are equal")]
+    Equal(u32, u32),
+    /// The string at this position isn't UTF-8, and the kind is text.
+    #[error("string {0} isn't UTF-8")]
+    NotUtf8(u32),
+    /// No places were found for the strings under any of the keys that were tried.
+    #[error("no places were found for the strings")]
+    NoPlaces,
+    /// An allocation failed.
+    #[error("out of memory")]
+    Memory,
+}
+
+impl From<AllocError> for FreezeError {
+    ghost from_gives = { λ _ error. error ≡ Memory };
+
+    fn from(_error: AllocError) -> FreezeError {
+        FreezeError::Memory
+    }
 }

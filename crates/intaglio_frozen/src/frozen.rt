@@ -1,13 +1,17 @@
 //! A frozen table.
-ghost use Rattle.std.specs.Prelude.{◌≡◌, ℕ, List, length, slice_get, map, [], ◌∷◌, IfOk, IfErr, IsOk, Some, ◌^◌, ◌<◌, ◌≤◌, option_copied};
+ghost use Rattle.std.specs.Prelude.{◌≡◌, ℕ, List, length, slice_get, map, [], ◌∷◌, IfOk, IfErr, IsOk, Some, ◌^◌, ◌<◌, ◌≤◌, MatchOption, is_some, option_copied};
 ghost use Rattle.intaglio_core.specs.State.{first, AreDistinct};
 ghost use Rattle.intaglio_frozen.specs.Layout.{strings};
 ghost use Rattle.intaglio_frozen.specs.IsFrozen.{IsFrozen};
+ghost use Rattle.intaglio_frozen.specs.LookUp.{FindsAll};
 ghost use Rattle.intaglio_frozen.specs.Fault.{IsFault};
+ghost use Rattle.intaglio_frozen.specs.declared.error.FrozenError.TheVariants.{NotFound};
 
 use crate::block::Block;
 use crate::error::FrozenError;
+use crate::list::first_fault;
 use intaglio_symbol::Symbol;
+use std::alloc::{AllocError, Global};
 use std::marker::Model;
 
 /// A read-only symbol table over bytes.
@@ -31,8 +35,8 @@ impl<'a> Model for Frozen<'a> {
 }
 
 impl<'a> Frozen<'a> {
-    /// The table of these bytes, after a check that each string is found at its symbol. Whether they are UTF-8
-    /// isn't checked.
+    /// The table of these bytes, after a check of all of them: that each string is found at its symbol, that the
+    /// places without a string are empty, and, if the kind is text, that each string is UTF-8.
     ///
     /// # Errors
     ///
@@ -44,11 +48,16 @@ impl<'a> Frozen<'a> {
         ensures err { IfErr result (IsFault bytes.now) }
     {
         let block = Block::read(bytes)?;
-        for i in 0..block.len() {
-            let string = block.string(i);
-            if block.find(string) != Some(i as u32) {
-                return Err(FrozenError::NotFound(i as u32));
-            }
+        if !block.has_unused() {
+            return Err(FrozenError::Unused);
+        }
+        if let Some(i) = first_not_found(&block) {
+            return Err(FrozenError::NotFound(i));
+        }
+        // The number of strings is at most 2^32.
+        let _count = block.len();
+        if let Some(i) = first_fault(block.kind(), &block) {
+            return Err(FrozenError::NotUtf8(i));
         }
         Ok(Frozen { block })
     }
@@ -73,6 +82,15 @@ impl<'a> Frozen<'a> {
         Some(self.block.string(symbol.id() as usize))
     }
 
+    // A string that is there.
+    #[inline(always)]
+    pub(crate) fn string(&self, i: usize) -> &'a [u8]
+        requires { i < length self.now }
+        ensures { slice_get self.now i ≡ Some result.now }
+    {
+        self.block.string(i)
+    }
+
     /// The symbol of a string, if it is in the table.
     #[inline]
     pub fn check_interned(&self, string: &[u8]) -> Option<Symbol>
@@ -84,4 +102,44 @@ impl<'a> Frozen<'a> {
             None => None,
         }
     }
+
+    /// Whether a string is in the table.
+    #[inline]
+    pub fn is_interned(&self, string: &[u8]) -> bool
+        ensures { result ≡ is_some (first (λ w. w ∷ []) self.now (string.now ∷ [])) }
+    {
+        self.check_interned(string).is_some()
+    }
+
+    /// The symbol of each string of a batch, where it is in the table.
+    ///
+    /// # Errors
+    ///
+    /// [`AllocError`] if the allocation of the list fails.
+    pub fn check_all(
+        &self,
+        alloc: Global,
+        strings: &[&[u8]],
+    ) -> Result<Vec<Option<Symbol>>, AllocError>
+        ensures { IfOk result (λ found. found.items
+            ≡ map (λ w. first (λ w. w ∷ []) self.now (w.now ∷ [])) strings.now) }
+    {
+        let mut found = Vec::with_capacity(alloc, strings.len())?;
+        for i in 0..strings.len() {
+            found.push_reserved(self.check_interned(strings[i]));
+        }
+        Ok(found)
+    }
+}
+
+// The first string that isn't found at its symbol.
+fn first_not_found(block: &Block<'_>) -> Option<u32>
+    ensures { MatchOption result (FindsAll block.now) (λ i. IsFault block.now (NotFound i)) }
+{
+    for i in 0..block.len() {
+        if block.find(block.string(i)) != Some(i as u32) {
+            return Some(i as u32);
+        }
+    }
+    None
 }

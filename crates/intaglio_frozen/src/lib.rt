@@ -3,12 +3,17 @@
 
 mod block;
 mod error;
+mod freezing;
 mod frozen;
 mod header;
 mod kind;
+mod list;
 mod numbers;
+mod placing;
 
-pub use error::FrozenError;
+pub use error::{FreezeError, FrozenError};
+pub use freezing::freeze;
 pub use frozen::Frozen;
 pub use header::Header;
 pub use kind::Kind;
+pub use list::StringList;

@@ -8,6 +8,9 @@ ghost use Rattle.intaglio_frozen.specs.LookUp.{scaled, mixed};
 use intaglio_hash::KeyedState;
 use std::hash::{BuildHasher, Hasher};
 
+// The symbol of a place that no string has.
+pub(crate) const NO_SYMBOL: u32 = u32::MAX;
+
 #[inline(always)]
 #[tactic(auto, unfolding(crate::specs::Layout::u16_at))]
 pub(crate) fn read_u16(bytes: &[u8], at: usize) -> u16

@@ -1,0 +1,39 @@
+-- What is written of the lines of an input, frozen.
+use Rattle.std.specs.Prelude.{◌≡◌, ℕ, ⊤, List, [], ◌∷◌, Option}
+use Rattle.std.specs.Str.{IsUtf8}
+use Rattle.intaglio_core.specs.Issue.{interned_all}
+use Rattle.intaglio_lines.specs.Lines.{lines_of}
+use Rattle.intaglio_lines.specs.Puts.{Writes}
+use Rattle.intaglio_lines.specs.StreamError.{IsWritingError}
+use Rattle.intaglio_frozen.specs.Layout.{kind as kind_of, strings}
+use Rattle.intaglio_frozen.specs.IsFrozen.{IsFrozen, number_of}
+use Rattle.intaglio_frozen.specs.Freezing.{IsRefusal as IsTableRefusal}
+use Rattle.intaglio_frozen.specs.declared.kind.Kind.{Kind}
+use Rattle.intaglio_frozen.specs.declared.kind.Kind.TheVariants.{Bytes, Text}
+use Rattle.intaglio_dictionary.specs.declared.error.FreezingError.{FreezingError}
+use Rattle.intaglio_dictionary.specs.declared.error.FreezingError.TheVariants.{NotUtf8, Table, Stream}
+
+-- the distinct lines, in the order of their first occurrences
+abbrev pub distinct_lines : List ℕ → List (List ℕ)
+distinct_lines input = interned_all (λ w. w ∷ []) [] (lines_of input)
+
+-- the input can be split into lines of this kind
+abbrev pub Allows : Kind → List ℕ → Type 0
+Allows Bytes input = ⊤
+Allows Text input = IsUtf8 input
+
+-- these bytes are a frozen table of this kind, of these strings
+pub record IsTableOf (wanted : Kind) (lines : List (List ℕ)) (bytes : List ℕ) : Type 0 where
+  pub frozen : IsFrozen bytes
+  pub strings : strings bytes ≡ lines
+  pub kind : kind_of bytes ≡ number_of wanted
+
+-- such bytes are written
+abbrev pub WritesTable : {W : Type 0} → Kind → List (List ℕ) → (W → Option (List ℕ)) → W → W → Type 0
+WritesTable kind lines contents old new = (bytes : List ℕ) × IsTableOf kind lines bytes × Writes contents old new bytes
+
+-- when each error is returned
+abbrev pub IsRefusal : Kind → List ℕ → FreezingError → Type 0
+IsRefusal kind input NotUtf8 = ¬ (Allows kind input)
+IsRefusal kind input (Table error) = IsTableRefusal kind (distinct_lines input) error
+IsRefusal kind input (Stream failure) = IsWritingError failure

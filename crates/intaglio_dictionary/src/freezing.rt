@@ -1,0 +1,108 @@
+//! Freezes the lines of an input, from bytes read to bytes written.
+ghost use Rattle.std.specs.Prelude.{◌≡◌, ◌≢◌, ◌↔◌, OnOk, IfErr, IfOk, IsTrue, map};
+ghost use Rattle.intaglio_bytes.specs.BytesContent.{bytes_content_bytes};
+ghost use Rattle.intaglio_frozen.specs.declared.kind.Kind.{Kind};
+ghost use Rattle.intaglio_lines.specs.Puts.{Writes};
+ghost use Rattle.intaglio_lines.specs.declared.error.StreamError.TheVariants.{Write as WriteFailed};
+ghost use Rattle.intaglio_dictionary.specs.Frozen.{Allows, IsRefusal, IsTableOf, WritesTable, distinct_lines};
+ghost use Rattle.intaglio_dictionary.specs.declared.error.FreezingError.TheVariants.{NotUtf8, Stream};
+
+use crate::error::FreezingError;
+use intaglio_bytes::bytes::BytesContent;
+use intaglio_encode::error::ToolError;
+use intaglio_encode::take::take_lines;
+use intaglio_frozen::{FreezeError, Kind, freeze};
+use intaglio_lines::error::StreamError;
+use intaglio_table::Table;
+use std::alloc::Global;
+use std::hash::BuildHasher;
+use std::io::Write;
+use std::{io, str};
+
+/// Writes a frozen table of the distinct lines of an input: the symbol of a line is the number of distinct lines
+/// before its first occurrence.
+///
+/// The builder is that of the table in which the lines are interned, the keys are those of the frozen table
+/// ([`freeze`]). All is made before anything is written.
+///
+/// # Errors
+///
+/// `NotUtf8` if the kind is text and the input isn't; `Table` if the lines have no frozen table; `Memory` or
+/// `Write`. After each but `Write` nothing was written.
+pub fn freeze_lines<S: BuildHasher + Drop, W: Write>(
+    alloc: Global,
+    kind: Kind,
+    keys: (u64, u64),
+    builder: S,
+    input: &[u8],
+    writer: &mut W,
+) -> Result<(), FreezingError>
+    ensures written { OnOk result (WritesTable kind (distinct_lines input.now) W.contents writer.old writer.new) }
+    ensures refuses { ¬ (Allows kind input.now) → result ≡ Err NotUtf8 }
+    ensures err { IfErr result (IsRefusal kind input.now) }
+    ensures nothing_written { IfErr result (λ e. e ≢ Stream WriteFailed → writer.new ≡ writer.old) }
+{
+    if !is_allowed(kind, input) {
+        return Err(FreezingError::NotUtf8);
+    }
+    let bytes = frozen_lines(alloc, kind, keys, builder, input)?;
+    match write_whole(&bytes, writer) {
+        Ok(()) => Ok(()),
+        Err(_) => Err(FreezingError::Stream(StreamError::Write)),
+    }
+}
+
+// Whether an input can be split into lines of a kind.
+fn is_allowed(kind: Kind, input: &[u8]) -> bool
+    ensures { IsTrue result ↔ Allows kind input.now }
+{
+    match kind {
+        Kind::Bytes => true,
+        Kind::Text => str::from_utf8(input).is_ok(),
+    }
+}
+
+// The bytes of a frozen table of the distinct lines.
+fn frozen_lines<S: BuildHasher + Drop>(
+    alloc: Global,
+    kind: Kind,
+    keys: (u64, u64),
+    builder: S,
+    input: &[u8],
+) -> Result<Vec<u8>, FreezingError>
+    ensures table { IfOk result (λ bytes. IsTableOf kind (distinct_lines input.now) bytes.items) }
+    ensures err { IfErr result (IsRefusal kind input.now) }
+{
+    match interned_lines(alloc, builder, input) {
+        Ok(table) => Ok(freeze(alloc, &table, kind, keys.0, keys.1)?),
+        Err(refused) => Err(refused),
+    }
+}
+
+// A table of the distinct lines.
+fn interned_lines<S: BuildHasher + Drop>(
+    alloc: Global,
+    builder: S,
+    input: &[u8],
+) -> Result<Table<BytesContent, S>, FreezingError>
+    ensures lines { IfOk result (λ table. map bytes_content_bytes table.state.contents ≡ distinct_lines input.now) }
+    ensures err { IfErr result (λ e. (kind : Kind) → IsRefusal kind input.now e) }
+{
+    let Ok(mut table) = Table::<BytesContent, S>::with_hasher(alloc, builder) else {
+        return Err(FreezingError::Stream(StreamError::Memory));
+    };
+    match take_lines(alloc, &mut table, input) {
+        Ok(_) => Ok(table),
+        Err(ToolError::Overflow) => Err(FreezingError::Table(FreezeError::TooMany)),
+        // Each line of bytes fits, and nothing is read or written.
+        Err(_) => Err(FreezingError::Stream(StreamError::Memory)),
+    }
+}
+
+// Writes all bytes, and flushes.
+fn write_whole<W: Write>(bytes: &[u8], writer: &mut W) -> io::Result<()>
+    ensures { OnOk result (Writes W.contents writer.old writer.new bytes.now) }
+{
+    writer.write_all(bytes)?;
+    writer.flush()
+}

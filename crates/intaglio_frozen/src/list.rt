@@ -1,0 +1,96 @@
+//! Lists of strings that can be frozen.
+ghost use Rattle.std.specs.Prelude.{◌≡◌, ◌<◌, ◌≤◌, ◌^◌, ℕ, List, length, map, slice_get, MatchOption, None, Some, IfSome};
+ghost use Rattle.intaglio_frozen.specs.IsFrozen.{AreTexts};
+ghost use Rattle.intaglio_frozen.specs.Fault.{IsNoText};
+ghost use Rattle.intaglio_frozen.specs.declared.kind.Kind.TheVariants.{Text};
+
+use crate::kind::Kind;
+use intaglio_content::{Spelled, Store};
+use intaglio_packed::{Packed, Texts};
+use intaglio_symbol::Symbol;
+use intaglio_table::Table;
+use std::hash::BuildHasher;
+use std::str;
+
+/// A list of strings that can be frozen, such as a table's contents.
+pub trait StringList {
+    ghost strings: { Self → List (List ℕ) };
+
+    /// The number of strings.
+    fn len(&self) -> usize
+        ensures { result ≡ length (strings self.now) };
+
+    /// The bytes of the string at a position.
+    fn string(&self, i: usize) -> &[u8]
+        requires { i < length (strings self.now) }
+        ensures { slice_get (strings self.now) i ≡ Some result.now };
+}
+
+impl StringList for Packed {
+    ghost strings = { λ list. list.list };
+
+    #[inline(always)]
+    fn len(&self) -> usize {
+        Packed::len(self)
+    }
+
+    #[inline(always)]
+    fn string(&self, i: usize) -> &[u8] {
+        Packed::string(self, i)
+    }
+}
+
+impl StringList for Texts {
+    ghost strings = { λ list. list.list };
+
+    #[inline(always)]
+    fn len(&self) -> usize {
+        Store::len(self)
+    }
+
+    #[inline(always)]
+    fn string(&self, i: usize) -> &[u8] {
+        self.text(i).as_bytes()
+    }
+}
+
+impl<C: Spelled, S: BuildHasher> StringList for Table<C, S> {
+    ghost strings = { λ table. map C.spelling table.state.contents };
+
+    #[inline(always)]
+    fn len(&self) -> usize {
+        Table::len(self)
+    }
+
+    #[inline(always)]
+    fn string(&self, i: usize) -> &[u8] {
+        // The number of contents is at most 2^32.
+        let _count = Table::len(self);
+        self[Symbol::new(i as u32)].spelling()
+    }
+}
+
+// The first string that can't be one of a table of this kind.
+pub(crate) fn first_fault<L: StringList>(kind: Kind, list: &L) -> Option<u32>
+    requires { length (L.strings list.now) ≤ 2 ^ 32 }
+    ensures texts { kind ≡ Text → result ≡ None → AreTexts (L.strings list.now) }
+    ensures fault { IfSome result (λ i. (kind ≡ Text) × IsNoText (L.strings list.now) i) }
+{
+    match kind {
+        Kind::Bytes => None,
+        Kind::Text => first_not_utf8(list),
+    }
+}
+
+// The first string that isn't UTF-8.
+fn first_not_utf8<L: StringList>(list: &L) -> Option<u32>
+    requires { length (L.strings list.now) ≤ 2 ^ 32 }
+    ensures { MatchOption result (AreTexts (L.strings list.now)) (IsNoText (L.strings list.now)) }
+{
+    for i in 0..list.len() {
+        if let Err(_) = str::from_utf8(list.string(i)) {
+            return Some(i as u32);
+        }
+    }
+    None
+}
