@@ -14,14 +14,14 @@ pub mod table_core;
 pub use batch::{check_all, get_or_intern_all, intern_all};
 pub use begun::Begun;
 pub use intaglio_content::{
-    Bytewise, Content, Formed, Forms, Keyed, LookedUp, Pairs, Sought, Spelled, ToContent, Work,
-    feed_item,
+    Bytewise, Content, CopiedTo, Formed, Forms, Keyed, Lends, LookedUp, Pairs, Sought, SoughtIn,
+    Spelled, Store, ToContent, Work, feed_item,
 };
 pub use intaglio_index::Index;
 pub use intaglio_symbol::{
     AllSymbols, DEFAULT_SYMBOL_TABLE_CAPACITY, InternError, Mark, RoomError, StaleMark, Symbol,
     SymbolOverflowError,
 };
-pub use interner::Interner;
+pub use interner::{FormInterner, Interner};
 pub use run::{Call, Reply};
-pub use table_core::Core;
+pub use table_core::{Core, IndexedStore};
