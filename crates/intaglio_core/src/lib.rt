@@ -1,8 +1,9 @@
 //! The engine of symbol tables: a list of contents with an index over it.
 //!
-//! [`Core`] gives each distinct content the next number, and returns the content for its number. The tables
-//! of the crates above are thin types over it. [`Interner`] says what every table does, and [`run`](run::run)
-//! makes a list of calls on any of them.
+//! [`IndexedStore`] gives each distinct content the next number, and returns the content for its number. The
+//! contents may be in any [`Store`]; [`Core`] keeps owned ones, in a `Vec`, and the tables of the crates above are
+//! thin types over it. [`FormInterner`] says what every table does by borrowed forms, [`Interner`] what it does
+//! with owned contents, and [`run`](run::run) makes a list of calls on any of those.
 #![tactic(auto)]
 
 mod batch;
