@@ -6,3 +6,4 @@ pub mod IsFrozen
 pub mod Fault
 pub mod Block
 pub mod Freezing
+pub mod Left

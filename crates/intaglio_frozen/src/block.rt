@@ -8,6 +8,7 @@ ghost use Rattle.intaglio_frozen.specs.Fault.{IsFault};
 
 use crate::error::FrozenError;
 use crate::header::{HEADER, Header};
+use crate::iter::FrozenStrings;
 use crate::kind::Kind;
 use crate::list::StringList;
 use crate::numbers::{
@@ -105,6 +106,14 @@ impl<'a> Block<'a> {
         let start = self.start_of(i);
         let end = read_u32(self.bytes, self.ends_at + 4 * i) as usize;
         part(self.text, start, end)
+    }
+
+    // All strings, in order.
+    #[tactic(auto, unfolding(crate::specs::Layout::strings))]
+    pub(crate) fn strings(&self) -> FrozenStrings<'a>
+        ensures { result ≡ strings self.now }
+    {
+        FrozenStrings::of(self.bytes, self.text, self.ends_at, self.count)
     }
 
     // Whether the places that no string has are empty.
@@ -208,7 +217,7 @@ fn are_ends(bytes: &[u8], at: usize, count: usize, all: usize) -> bool
 
 // A part of the bytes.
 #[inline(always)]
-fn part(bytes: &[u8], start: usize, end: usize) -> &[u8]
+pub(crate) fn part(bytes: &[u8], start: usize, end: usize) -> &[u8]
     requires order { start ≤ end }
     requires within { end ≤ length bytes.now }
     ensures { result.now ≡ slice_range bytes.now start end }
