@@ -25,14 +25,19 @@ pub end_is : (bs : List ℕ) (i : ℕ) → i < count bs → get_or (ends bs) i 0
 end_is bs i l = numbers_get bs (ends_at bs) (count bs) i l
 
 -- where it begins
-pub start_is : (bs : List ℕ) (i : ℕ) → 0 < i → i < count bs → get_or (0 ∷ ends bs) i 0 ≡ u32_at bs (ends_at bs + 4 * (i - 1))
-start_is bs zero p l = absurd (omega arith)
-start_is bs (suc i) p l = end_is bs i (omega arith) ∙ ap (λ k. u32_at bs (ends_at bs + 4 * k)) (omega arith)
+pub start_is_end : (bs : List ℕ) (i : ℕ) → 0 < i → get_or (0 ∷ ends bs) i 0 ≡ get_or (ends bs) (i - 1) 0
+start_is_end bs zero p = absurd (omega arith)
+start_is_end bs (suc i) p = ap (λ k. get_or (ends bs) k 0) (omega arith)
 
 pub strings_get : (bs : List ℕ) (i : ℕ) → i < count bs →
     slice_get (strings bs) i ≡ Some (slice_range (drop (text_at bs) bs) (get_or (0 ∷ ends bs) i 0) (get_or (ends bs) i 0))
 unfolding strings
 strings_get bs i l = strings-at 0 (drop (text_at bs) bs) (ends bs) i (omega (arith, numbers_length bs (ends_at bs) (count bs)))
+
+-- a string, by where it begins and ends
+pub string_in : (bs t : List ℕ) (i start end : ℕ) → i < count bs → start ≡ get_or (0 ∷ ends bs) i 0 → end ≡ get_or (ends bs) i 0 →
+    t ≡ slice_range (drop (text_at bs) bs) start end → slice_get (strings bs) i ≡ Some t
+string_in bs t i start end l es ee et = rw (et, es, ee) (strings_get bs i l)
 
 pub ends_order : (bs : List ℕ) (i : ℕ) → IsBlock bs → i < count bs →
     (get_or (0 ∷ ends bs) i 0 ≤ get_or (ends bs) i 0) × (get_or (ends bs) i 0 ≤ length (drop (text_at bs) bs))

@@ -6,7 +6,7 @@ ghost use Rattle.intaglio_symbol.specs.AllSymbols.{numbers_from};
 ghost use Rattle.intaglio_frozen.specs.Strings.{strings_from, AreEnds};
 ghost use Rattle.intaglio_frozen.specs.Layout.{numbers_at};
 
-use crate::block::part;
+use crate::layout::part;
 use crate::numbers::read_u32;
 use intaglio_symbol::{AllSymbols, Symbol};
 use std::alloc::AllocError;

@@ -8,9 +8,11 @@ mod frozen;
 mod header;
 mod iter;
 mod kind;
+mod layout;
 mod list;
 mod numbers;
 mod placing;
+mod trusted;
 
 pub use error::{FreezeError, FrozenError};
 pub use freezing::freeze;
@@ -19,3 +21,4 @@ pub use header::Header;
 pub use iter::{FrozenPairs, FrozenStrings};
 pub use kind::Kind;
 pub use list::StringList;
+pub use trusted::TrustedFrozen;

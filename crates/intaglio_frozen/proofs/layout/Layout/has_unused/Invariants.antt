@@ -1,7 +1,7 @@
 use Rattle.std.proofs.Common.{◌≡◌, ℕ, ◌<◌, ◌≤◌}
 use Rattle.intaglio_frozen.specs.Layout.{symbol_of, tag_of}
 use Rattle.intaglio_frozen.specs.IsFrozen.{no_symbol, used_below}
-use Rattle.intaglio_frozen.proofs.block.Block.has_unused.Given as goal
+use Rattle.intaglio_frozen.proofs.layout.Layout.has_unused.Given as goal
 
 abbrev pub invariant-loop-place : goal.invariant-loop-place
 invariant-loop-place l = record {

@@ -1,6 +1,6 @@
 use Rattle.std.proofs.Common.{arith}
 use Rattle.intaglio_frozen.proofs.Places.{numbers-step}
-use Rattle.intaglio_frozen.proofs.block.are_ends.Goals as goal
+use Rattle.intaglio_frozen.proofs.layout.are_ends.Goals as goal
 
 pub returns-then-end-before : goal.returns-then-end-before
 returns-then-end-before c = (
