@@ -1,7 +1,8 @@
 -- The strings of a block, and where they stand.
-use Rattle.std.proofs.Common.{◌≡◌, ℕ, zero, suc, ◌+◌, ◌-◌, ◌*◌, ◌/◌, ◌^◌, ◌<◌, ◌≤◌, List, ◌∷◌, length, drop, get_or, slice_get, slice_range, Some, refl, ap, ◌∙◌, arith, length-drop}
+use Rattle.std.proofs.Common.{◌≡◌, ℕ, zero, suc, ◌+◌, ◌-◌, ◌*◌, ◌/◌, ◌^◌, ◌<◌, ◌≤◌, List, ◌∷◌, length, drop, get_or, slice_get, slice_range, option_copied, Option, None, Some, IfSome, IsSome, Bor, refl, sym, ap, ◌∙◌, arith, length-drop}
 use Rattle.std.proofs.lemmas.Nat.{div_below, row_fits}
 use Rattle.std.proofs.Math.Nat.{mul_comm}
+use Rattle.std.specs.Slice.{IsGetRangeResult}
 use Rattle.intaglio_frozen.proofs.Ends.{from_length, strings-at, ends-at}
 use Rattle.intaglio_frozen.specs.Layout.{u32_at, numbers_at, count, ends_at, text_at, ends, strings}
 use Rattle.intaglio_frozen.specs.LookUp.{scaled}
@@ -44,6 +45,20 @@ pub ends_order : (bs : List ℕ) (i : ℕ) → IsBlock bs → i < count bs →
 ends_order bs i b l =
     let at = ends-at 0 (length bs - text_at bs) (ends bs) i b.ends (omega (arith, numbers_length bs (ends_at bs) (count bs))) in
     (at.0, omega (arith, at.1, length-drop (text_at bs) bs))
+
+-- what lies between the ends of a string
+pub part_found : (bs : List ℕ) (i start end : ℕ) (r : Option (Bor (List ℕ))) → i < count bs → start ≡ get_or (0 ∷ ends bs) i 0 → end ≡ get_or (ends bs) i 0 →
+    IsGetRangeResult (drop (text_at bs) bs) start end r → IfSome r (λ s. slice_get (strings bs) i ≡ Some s.now)
+part_found bs i start end None l es ee p = tt
+part_found bs i start end (Some s) l es ee p = string_in bs s.now i start end l es ee p.0.2
+
+pub part_whole : (bs : List ℕ) (i start end : ℕ) (r : Option (Bor (List ℕ))) → IsBlock bs → i < count bs → start ≡ get_or (0 ∷ ends bs) i 0 → end ≡ get_or (ends bs) i 0 →
+    IsGetRangeResult (drop (text_at bs) bs) start end r → option_copied r ≡ slice_get (strings bs) i
+part_whole bs i start end None block l es ee p =
+    let order = ends_order bs i block l in
+    let some : IsSome {T = Bor (List ℕ)} None = p.1 (rw (es, ee) order.0, rw ee order.1) in
+    cc
+part_whole bs i start end (Some s) block l es ee p = sym (string_in bs s.now i start end l es ee p.0.2)
 
 product : (a n m : ℕ) → 0 < n → a < m → a * n < n * m
 product a n m p l = omega (arith, row_fits a n m n l (omega arith), mul_comm n m)

@@ -94,6 +94,18 @@ impl<'a> Frozen<'a> {
     }
 
     /// All symbols with their strings, in order.
+    ///
+    /// ```
+    /// # use intaglio::{StrContent, SymbolTable};
+    /// # use intaglio_frozen::{Frozen, Kind, freeze};
+    /// # let mut words = SymbolTable::new(rt.alloc())?;
+    /// # let _symbol = words.intern(StrContent::from("abc"))?;
+    /// # let bytes = freeze(rt.alloc(), &words, Kind::Text, 1, 2)?;
+    /// let table = Frozen::open(&bytes)?;
+    /// for (symbol, string) in table.iter() {
+    ///     assert!(rt; table.get(symbol) == Some(string));
+    /// }
+    /// ```
     pub fn iter(&self) -> FrozenPairs<'a>
         ensures all { result ≡ zip (numbers_from 0 (length self.now)) self.now }
         ensures bound { length result ≤ 2 ^ 32 }

@@ -134,15 +134,7 @@ impl<'a> Layout<'a> {
         if i >= self.count {
             return None;
         }
-        let start = self.start_of(i);
-        let end = self.end_of(i);
-        if end < start {
-            return None;
-        }
-        if end > self.text.len() {
-            return None;
-        }
-        Some(part(self.text, start, end))
+        self.text.get(self.start_of(i)..self.end_of(i))
     }
 
     // All strings, in order, where they fill the text.

@@ -12,9 +12,20 @@ use std::marker::Model;
 
 /// A frozen table whose bytes are trusted: only its header is checked, so it opens in constant time.
 ///
-/// Any bytes with a header and sections that are long enough can be opened. No call panics or reads outside them, and what a
-/// look-up finds is equal to what was sought. Only if the bytes are a frozen table, each string is found at its symbol.
-/// A contract sees the bytes.
+/// Any bytes that have a header and are as long as it requires can be opened. No call panics or reads outside
+/// them, and what a look-up finds is equal to what was sought. Each string is found at its symbol only if the
+/// bytes are a frozen table. A contract sees the bytes.
+///
+/// ```
+/// # use intaglio::{StrContent, SymbolTable};
+/// # use intaglio_frozen::{Kind, TrustedFrozen, freeze};
+/// # let mut words = SymbolTable::new(rt.alloc())?;
+/// # let symbol = words.intern(StrContent::from("abc"))?;
+/// let bytes = freeze(rt.alloc(), &words, Kind::Text, 1, 2)?;
+/// let table = TrustedFrozen::open(&bytes)?;
+/// assert!(rt; table.check_interned(b"abc") == Some(symbol));
+/// assert!(rt; table.get(symbol) == Some(b"abc".as_slice()));
+/// ```
 #[derive(Drop)]
 pub struct TrustedFrozen<'a> {
     layout: Layout<'a>,
@@ -29,7 +40,8 @@ impl<'a> Model for TrustedFrozen<'a> {
 }
 
 impl<'a> TrustedFrozen<'a> {
-    /// The table of these bytes, after a check of the header and of the length that it requires. Nothing else is read.
+    /// The table of these bytes, after a check of the header and of the length that it requires. Nothing behind
+    /// the header is read.
     ///
     /// # Errors
     ///
@@ -54,7 +66,7 @@ impl<'a> TrustedFrozen<'a> {
         self.layout.len()
     }
 
-    /// The string of a symbol. If the bytes aren't a frozen table, there may be none, also for a symbol below `len`.
+    /// The string of a symbol. If the bytes aren't a frozen table, a symbol below `len` may have none.
     #[inline]
     pub fn get(&self, symbol: Symbol) -> Option<&'a [u8]>
         ensures found { IfSome result (λ s. slice_get (strings self.now) symbol ≡ Some s.now) }
@@ -63,7 +75,8 @@ impl<'a> TrustedFrozen<'a> {
         self.layout.checked_string(symbol.id() as usize)
     }
 
-    /// The symbol of a string, if it is found. If the bytes aren't a frozen table, a string that is there may not be found.
+    /// The symbol of a string, if it is found. If the bytes aren't a frozen table, a string of a symbol may not
+    /// be found.
     #[inline]
     pub fn check_interned(&self, string: &[u8]) -> Option<Symbol>
         ensures found { IfSome result (λ s. slice_get (strings self.now) s ≡ Some string.now) }
