@@ -18,10 +18,10 @@ mod text;
 pub use error::TableError;
 pub use intaglio_core::run::run;
 pub use intaglio_core::{
-    AllSymbols, Bytewise, Call, Content, Core, DEFAULT_SYMBOL_TABLE_CAPACITY, Formed, Forms, Index,
-    InternError, Interner, Keyed, LookedUp, Mark, Pairs, Reply, RoomError, Sought, Spelled,
-    StaleMark, Symbol, SymbolOverflowError, ToContent, Work, check_all, get_or_intern_all,
-    intern_all,
+    AllSymbols, Bytewise, Call, Content, CopiedTo, Core, DEFAULT_SYMBOL_TABLE_CAPACITY,
+    FormInterner, Formed, Forms, Index, IndexedStore, InternError, Interner, Keyed, Lends,
+    LookedUp, Mark, Pairs, Reply, RoomError, Sought, SoughtIn, Spelled, StaleMark, Store, Symbol,
+    SymbolOverflowError, ToContent, Work, check_all, get_or_intern_all, intern_all,
 };
 pub use intaglio_table::Table;
 pub use intaglio_text::StrContent;

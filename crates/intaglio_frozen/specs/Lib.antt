@@ -4,5 +4,6 @@ pub mod Layout
 pub mod LookUp
 pub mod IsFrozen
 pub mod Fault
-pub mod Block
+pub mod Read
 pub mod Freezing
+pub mod Left

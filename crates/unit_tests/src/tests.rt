@@ -11,6 +11,7 @@ mod encoding;
 mod errors;
 mod feeds;
 mod forms;
+mod frozen_tables;
 mod hashes;
 mod searches;
 mod symbols_to_come;

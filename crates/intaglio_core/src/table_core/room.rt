@@ -5,29 +5,31 @@ ghost use Rattle.intaglio_core.specs.Lookup.{FindsNothing, Keeps, KeepsBelow};
 ghost use Rattle.intaglio_core.specs.Change.{Empties, Reserves, Shrinks, TakesBack};
 ghost use Rattle.intaglio_core.specs.Cost.{Costs, IsRoomCost};
 
-use super::Core;
-use intaglio_content::{Keyed, Work};
+use super::IndexedStore;
+use intaglio_content::{Store, Work};
 use intaglio_symbol::{Mark, RoomError, StaleMark};
 use std::hash::BuildHasher;
 
-impl<C: Keyed, S: BuildHasher> Core<C, S> {
+impl<L: Store, S: BuildHasher> IndexedStore<L, S> {
     /// Drops all contents, so that no look-up finds anything. The capacity stays, and the next symbol is 0.
     pub fn clear(&mut self)
     where
-        C: Drop,
+        L::Content: Drop,
         ensures step { Empties self.old.state self.new.state }
-        ensures found { FindsNothing C.key self.new.state }
+        ensures found { FindsNothing L.Content.key self.new.state }
         ensures hasher { self.new.hasher ≡ self.old.hasher }
-        ensures valid { IsValid C.key self.new.state }
+        ensures valid { IsValid L.Content.key self.new.state }
     {
+        // For the contract alone: the contents are within the capacity.
+        let _ = self.list.capacity();
         self.list.clear();
         self.index.clear();
     }
 
-    /// A mark of the current contents, to which [`take_back`](Core::take_back) rolls back.
+    /// A mark of the current contents, to which [`take_back`](IndexedStore::take_back) rolls back.
     pub fn mark(&self) -> Mark
         ensures mark { result ≡ length self.now.state.contents }
-        ensures valid { IsValid C.key self.now.state }
+        ensures valid { IsValid L.Content.key self.now.state }
     {
         Mark::new(self.list.len())
     }
@@ -40,15 +42,17 @@ impl<C: Keyed, S: BuildHasher> Core<C, S> {
     /// [`StaleMark`] if there are fewer contents than the mark counts, and then nothing has changed.
     pub fn take_back(&mut self, mark: Mark) -> Result<(), StaleMark>
     where
-        C: Drop,
+        L::Content: Drop,
         ensures step { TakesBack self.old.state mark result self.new.state }
-        ensures kept { OnOk result (KeepsBelow C.key self.old.state mark self.new.state) }
+        ensures kept { OnOk result (KeepsBelow L.Content.key self.old.state mark self.new.state) }
         ensures stale { OnErr result (self.new.state ≡ self.old.state) }
         ensures hasher { self.new.hasher ≡ self.old.hasher }
-        ensures valid { IsValid C.key self.new.state }
+        ensures valid { IsValid L.Content.key self.new.state }
     {
         let count = mark.count();
         let length = self.list.len();
+        // For the contract alone: the contents are within the capacity.
+        let _ = self.list.capacity();
         if count > length {
             return Err(StaleMark::new());
         }
@@ -69,26 +73,26 @@ impl<C: Keyed, S: BuildHasher> Core<C, S> {
     pub fn reserve(&mut self, additional: usize) -> Result<(), RoomError>
         ensures step { Reserves self.old.state additional result self.new.state }
         ensures hasher { self.new.hasher ≡ self.old.hasher }
-        ensures valid { IsValid C.key self.new.state }
+        ensures valid { IsValid L.Content.key self.new.state }
     {
         self.reserve_with(additional, &mut Work::new())
     }
 
-    /// As [`reserve`](Core::reserve).
+    /// As [`reserve`](IndexedStore::reserve).
     pub fn try_reserve(&mut self, additional: usize) -> Result<(), RoomError>
         ensures step { Reserves self.old.state additional result self.new.state }
         ensures hasher { self.new.hasher ≡ self.old.hasher }
-        ensures valid { IsValid C.key self.new.state }
+        ensures valid { IsValid L.Content.key self.new.state }
     {
         self.reserve(additional)
     }
 
-    /// As [`reserve`](Core::reserve), and records in `work` what it did.
+    /// As [`reserve`](IndexedStore::reserve), and records in `work` what it did.
     pub fn reserve_with(&mut self, additional: usize, work: &mut Work) -> Result<(), RoomError>
         ensures step { Reserves self.old.state additional result self.new.state }
         ensures hasher { self.new.hasher ≡ self.old.hasher }
         ensures cost { Costs work.old work.new (IsRoomCost self.old.state) }
-        ensures valid { IsValid C.key self.new.state }
+        ensures valid { IsValid L.Content.key self.new.state }
     {
         let count = self.list.len();
         if additional > self.limit - count {
@@ -102,7 +106,7 @@ impl<C: Keyed, S: BuildHasher> Core<C, S> {
         Ok(())
     }
 
-    /// Shrinks the capacity to `min_capacity`, or to [`len`](Core::len) if that is greater. Does nothing if
+    /// Shrinks the capacity to `min_capacity`, or to [`len`](IndexedStore::len) if that is greater. Does nothing if
     /// the capacity isn't above `min_capacity`.
     ///
     /// # Errors
@@ -111,30 +115,30 @@ impl<C: Keyed, S: BuildHasher> Core<C, S> {
     pub fn shrink_to(&mut self, min_capacity: usize) -> Result<(), RoomError>
         ensures step { Shrinks self.old.state min_capacity result self.new.state }
         ensures hasher { self.new.hasher ≡ self.old.hasher }
-        ensures valid { IsValid C.key self.new.state }
+        ensures valid { IsValid L.Content.key self.new.state }
     {
         self.shrink_with(min_capacity, &mut Work::new())
     }
 
-    /// Shrinks the capacity to [`len`](Core::len).
+    /// Shrinks the capacity to [`len`](IndexedStore::len).
     ///
     /// # Errors
     ///
-    /// As [`shrink_to`](Core::shrink_to).
+    /// As [`shrink_to`](IndexedStore::shrink_to).
     pub fn shrink_to_fit(&mut self) -> Result<(), RoomError>
         ensures step { Shrinks self.old.state 0 result self.new.state }
         ensures hasher { self.new.hasher ≡ self.old.hasher }
-        ensures valid { IsValid C.key self.new.state }
+        ensures valid { IsValid L.Content.key self.new.state }
     {
         self.shrink_to(0)
     }
 
-    /// As [`shrink_to`](Core::shrink_to), and records in `work` what it did.
+    /// As [`shrink_to`](IndexedStore::shrink_to), and records in `work` what it did.
     pub fn shrink_with(&mut self, min_capacity: usize, work: &mut Work) -> Result<(), RoomError>
         ensures step { Shrinks self.old.state min_capacity result self.new.state }
         ensures hasher { self.new.hasher ≡ self.old.hasher }
         ensures cost { Costs work.old work.new (IsRoomCost self.old.state) }
-        ensures valid { IsValid C.key self.new.state }
+        ensures valid { IsValid L.Content.key self.new.state }
     {
         let count = self.list.len();
         if self.list.capacity().min(self.index.room()) <= min_capacity {

@@ -1,0 +1,230 @@
+//! Bytes whose header and sections can be read.
+ghost use Rattle.std.specs.Prelude.{◌≡◌, ◌↔◌, ◌+◌, ◌-◌, ◌*◌, ◌^◌, ◌<◌, ◌≤◌, ◌∷◌, IsTrue, length, drop, get_or, slice_get, slice_range, option_copied, None, Some, IfOk, IfErr, IfSome, IsOk, MatchOption};
+ghost use Rattle.intaglio_frozen.specs.Strings.{AreEnds};
+ghost use Rattle.intaglio_frozen.specs.Layout.{kind, numbers_at, text_at, ends, strings, places};
+ghost use Rattle.intaglio_frozen.specs.LookUp.{hash, place, if_same, find};
+ghost use Rattle.intaglio_frozen.specs.IsFrozen.{number_of, HasSections, HasUnused, IsBlock};
+ghost use Rattle.intaglio_frozen.specs.Fault.{IsFault};
+
+use crate::error::FrozenError;
+use crate::header::{HEADER, Header};
+use crate::iter::FrozenStrings;
+use crate::kind::Kind;
+use crate::numbers::{
+    NO_SYMBOL, groups_for, hash_by, mixed, places_for, read_u16, read_u32, scaled,
+};
+use intaglio_hash::KeyedState;
+use std::marker::Model;
+
+/// Bytes whose header and sections can be read. A contract sees the bytes.
+#[derive(Drop)]
+pub(crate) struct Layout<'a> {
+    bytes: &'a [u8],
+    text: &'a [u8],
+    state: KeyedState,
+    kind: Kind,
+    count: usize,
+    places: u64,
+    groups: u64,
+    ends_at: usize,
+    pilots_at: usize,
+    tags_at: usize,
+}
+
+impl<'a> Model for Layout<'a> {
+    ghost use Rattle.std.specs.Prelude.{ℕ, List};
+
+    ghost Value = { List ℕ };
+
+    ghost use Rattle.intaglio_frozen.specs.Read.{IsRead};
+
+    ghost view = { λ b. b.bytes.now };
+
+    ghost invariant = { IsRead };
+}
+
+#[tactic(auto, using(crate::proofs::Places::strings_length))]
+impl<'a> Layout<'a> {
+    // Reads the header, and checks that the sections are within the bytes.
+    pub(crate) fn read(bytes: &'a [u8]) -> Result<Layout<'a>, FrozenError>
+        ensures read { IfOk result (λ b. b ≡ bytes.now) }
+        ensures sections { IfOk result (λ b. HasSections bytes.now) }
+        ensures only { HasSections bytes.now → IsOk result }
+        ensures err { IfErr result (IsFault bytes.now) }
+    {
+        let header = Header::read(bytes)?;
+        let count = header.count as usize;
+        let places = places_for(header.count);
+        let groups = groups_for(header.count);
+        let ends_at = HEADER + 4 * places as usize;
+        let pilots_at = ends_at + 4 * count;
+        let tags_at = pilots_at + 2 * groups as usize;
+        let text_at = tags_at + places as usize;
+        if text_at > bytes.len() {
+            return Err(FrozenError::Truncated);
+        }
+        Ok(Layout {
+            bytes,
+            text: &bytes[text_at..],
+            state: KeyedState::with_keys(header.key0, header.key1),
+            kind: header.kind,
+            count,
+            places,
+            groups,
+            ends_at,
+            pilots_at,
+            tags_at,
+        })
+    }
+
+    // What the strings are.
+    pub(crate) fn kind(&self) -> Kind
+        ensures { number_of result ≡ kind self.now }
+    {
+        self.kind
+    }
+
+    // The number of strings.
+    #[inline(always)]
+    pub(crate) fn len(&self) -> usize
+        ensures count { result ≡ length (strings self.now) }
+        ensures few { result ≤ 2 ^ 32 }
+    {
+        self.count
+    }
+
+    // Whether the strings fill the text.
+    pub(crate) fn has_ends(&self) -> bool
+        ensures { IsTrue result ↔ AreEnds 0 (length self.now - text_at self.now) (ends self.now) }
+    {
+        are_ends(self.bytes, self.ends_at, self.count, self.text.len())
+    }
+
+    // Whether the places that no string has are empty.
+    pub(crate) fn has_unused(&self) -> bool
+        ensures { IsTrue result ↔ HasUnused self.now }
+    {
+        let mut used = 0usize;
+        for place in 0..self.places as usize {
+            if read_u32(self.bytes, HEADER + 4 * place) != NO_SYMBOL {
+                used += 1;
+            } else if self.bytes[self.tags_at + place] != 0 {
+                return false;
+            }
+        }
+        used == self.count
+    }
+
+    // A string that is there, where the strings fill the text.
+    #[inline(always)]
+    pub(crate) fn string(&self, i: usize) -> &'a [u8]
+        requires block { IsBlock self.now }
+        requires within { i < length (strings self.now) }
+        ensures { slice_get (strings self.now) i ≡ Some result.now }
+    {
+        part(self.text, self.start_of(i), self.end_of(i))
+    }
+
+    // A string, if it is there and lies within the text.
+    #[inline(always)]
+    pub(crate) fn checked_string(&self, i: usize) -> Option<&'a [u8]>
+        ensures found { IfSome result (λ s. slice_get (strings self.now) i ≡ Some s.now) }
+        ensures block { IsBlock self.now → option_copied result ≡ slice_get (strings self.now) i }
+    {
+        if i >= self.count {
+            return None;
+        }
+        self.text.get(self.start_of(i)..self.end_of(i))
+    }
+
+    // All strings, in order, where they fill the text.
+    #[tactic(auto, unfolding(crate::specs::Layout::strings))]
+    pub(crate) fn strings(&self) -> FrozenStrings<'a>
+        requires { IsBlock self.now }
+        ensures { result ≡ strings self.now }
+    {
+        FrozenStrings::of(self.bytes, self.text, self.ends_at, self.count)
+    }
+
+    // The only symbol that a string can have: that of its place, if the place has its tag.
+    #[inline(always)]
+    pub(crate) fn candidate(&self, string: &[u8]) -> Option<u32>
+        ensures found { MatchOption result (find self.now string.now ≡ None)
+            (λ s. find self.now string.now ≡ if_same (slice_get (strings self.now) s) s string.now) }
+        ensures below { IfSome result (λ s. s < length (strings self.now)) }
+    {
+        let hash = self.hash(string);
+        let place = self.place(hash);
+        if self.bytes[self.tags_at + place] != (hash % 256) as u8 {
+            return None;
+        }
+        let symbol = read_u32(self.bytes, HEADER + 4 * place);
+        if symbol as usize >= self.count {
+            return None;
+        }
+        Some(symbol)
+    }
+
+    #[inline(always)]
+    #[tactic(auto, unfolding(crate::specs::LookUp::hash))]
+    fn hash(&self, string: &[u8]) -> u64
+        ensures { result ≡ hash self.now string.now }
+    {
+        hash_by(&self.state, string)
+    }
+
+    #[inline(always)]
+    #[tactic(auto, unfolding(crate::specs::LookUp::place))]
+    fn place(&self, hash: u64) -> usize
+        ensures value { result ≡ place self.now hash }
+        ensures below { result < places self.now }
+    {
+        let group = scaled(self.groups, hash);
+        let pilot = read_u16(self.bytes, self.pilots_at + 2 * group);
+        scaled(self.places, mixed(hash, pilot))
+    }
+
+    // Where a string begins.
+    #[inline(always)]
+    fn start_of(&self, i: usize) -> usize
+        requires { i < length (strings self.now) }
+        ensures { result ≡ get_or (0 ∷ ends self.now) i 0 }
+    {
+        if i == 0 { 0 } else { self.end_of(i - 1) }
+    }
+
+    // Where a string ends.
+    #[inline(always)]
+    fn end_of(&self, i: usize) -> usize
+        requires { i < length (strings self.now) }
+        ensures { result ≡ get_or (ends self.now) i 0 }
+    {
+        read_u32(self.bytes, self.ends_at + 4 * i) as usize
+    }
+}
+
+// Whether no end lies before the one before it, and the last is `all`.
+fn are_ends(bytes: &[u8], at: usize, count: usize, all: usize) -> bool
+    requires { at + 4 * count ≤ length bytes.now }
+    ensures { IsTrue result ↔ AreEnds 0 all (numbers_at bytes.now at count) }
+{
+    let mut before = 0;
+    for i in 0..count {
+        let end = read_u32(bytes, at + 4 * i) as usize;
+        if end < before {
+            return false;
+        }
+        before = end;
+    }
+    before == all
+}
+
+// A part of the bytes.
+#[inline(always)]
+pub(crate) fn part(bytes: &[u8], start: usize, end: usize) -> &[u8]
+    requires order { start ≤ end }
+    requires within { end ≤ length bytes.now }
+    ensures { result.now ≡ slice_range bytes.now start end }
+{
+    &bytes[start..end]
+}

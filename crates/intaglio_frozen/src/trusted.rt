@@ -1,0 +1,93 @@
+//! A frozen table whose bytes are trusted.
+ghost use Rattle.std.specs.Prelude.{◌≡◌, ◌^◌, ◌≤◌, length, slice_get, [], ◌∷◌, IfOk, IfErr, IfSome, IsOk, Some, option_copied};
+ghost use Rattle.intaglio_core.specs.State.{first};
+ghost use Rattle.intaglio_frozen.specs.Layout.{strings};
+ghost use Rattle.intaglio_frozen.specs.IsFrozen.{HasSections, IsFrozen};
+ghost use Rattle.intaglio_frozen.specs.Fault.{IsFault};
+
+use crate::error::FrozenError;
+use crate::layout::Layout;
+use intaglio_symbol::Symbol;
+use std::marker::Model;
+
+/// A frozen table whose bytes are trusted: only its header is checked, so it opens in constant time.
+///
+/// Any bytes that have a header and are as long as it requires can be opened. No call panics or reads outside
+/// them, and what a look-up finds is equal to what was sought. Each string is found at its symbol only if the
+/// bytes are a frozen table. A contract sees the bytes.
+///
+/// ```
+/// # use intaglio::{StrContent, SymbolTable};
+/// # use intaglio_frozen::{Kind, TrustedFrozen, freeze};
+/// # let mut words = SymbolTable::new(rt.alloc())?;
+/// # let symbol = words.intern(StrContent::from("abc"))?;
+/// let bytes = freeze(rt.alloc(), &words, Kind::Text, 1, 2)?;
+/// let table = TrustedFrozen::open(&bytes)?;
+/// assert!(rt; table.check_interned(b"abc") == Some(symbol));
+/// assert!(rt; table.get(symbol) == Some(b"abc".as_slice()));
+/// ```
+#[derive(Drop)]
+pub struct TrustedFrozen<'a> {
+    layout: Layout<'a>,
+}
+
+impl<'a> Model for TrustedFrozen<'a> {
+    ghost use Rattle.std.specs.Prelude.{ℕ, List};
+
+    ghost Value = { List ℕ };
+
+    ghost view = { λ f. f.layout };
+}
+
+impl<'a> TrustedFrozen<'a> {
+    /// The table of these bytes, after a check of the header and of the length that it requires. Nothing behind
+    /// the header is read.
+    ///
+    /// # Errors
+    ///
+    /// What is wrong with the header, or `Truncated` if the bytes end within a section.
+    pub fn open(bytes: &'a [u8]) -> Result<TrustedFrozen<'a>, FrozenError>
+        ensures bytes { IfOk result (λ f. f ≡ bytes.now) }
+        ensures sections { IfOk result (λ _. HasSections bytes.now) }
+        ensures only { HasSections bytes.now → IsOk result }
+        ensures frozen { IsFrozen bytes.now → IsOk result }
+        ensures err { IfErr result (IsFault bytes.now) }
+    {
+        let layout = Layout::read(bytes)?;
+        Ok(TrustedFrozen { layout })
+    }
+
+    /// The number of strings.
+    #[inline]
+    pub fn len(&self) -> usize
+        ensures count { result ≡ length (strings self.now) }
+        ensures few { result ≤ 2 ^ 32 }
+    {
+        self.layout.len()
+    }
+
+    /// The string of a symbol. If the bytes aren't a frozen table, a symbol below `len` may have none.
+    #[inline]
+    pub fn get(&self, symbol: Symbol) -> Option<&'a [u8]>
+        ensures found { IfSome result (λ s. slice_get (strings self.now) symbol ≡ Some s.now) }
+        ensures frozen { IsFrozen self.now → option_copied result ≡ slice_get (strings self.now) symbol }
+    {
+        self.layout.checked_string(symbol.id() as usize)
+    }
+
+    /// The symbol of a string, if it is found. If the bytes aren't a frozen table, a string of a symbol may not
+    /// be found.
+    #[inline]
+    pub fn check_interned(&self, string: &[u8]) -> Option<Symbol>
+        ensures found { IfSome result (λ s. slice_get (strings self.now) s ≡ Some string.now) }
+        ensures frozen { IsFrozen self.now → result ≡ first (λ w. w ∷ []) (strings self.now) (string.now ∷ []) }
+    {
+        let symbol = self.layout.candidate(string)?;
+        let stored = self.layout.checked_string(symbol as usize)?;
+        if *stored == *string {
+            Some(Symbol::new(symbol))
+        } else {
+            None
+        }
+    }
+}

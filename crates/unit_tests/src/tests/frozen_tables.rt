@@ -1,0 +1,101 @@
+//! Frozen tables: what their iterators yield, and what is found in trusted bytes, also in damaged ones.
+use super::assertions::{copy_of, same};
+use intaglio::Symbol;
+use intaglio_frozen::{Frozen, FrozenError, TrustedFrozen};
+use std::process::Abort;
+
+// The table of `abc`, the empty string and `xy` under the keys 1 and 2, as `checks/frozen_tables.py` writes it.
+const TABLE: [u8; 110] = [
+    73, 78, 84, 65, 71, 76, 73, 79, 1, 0, 0, 0, 0, 0, 0, 0, 1, 0, 0, 0, 0, 0, 0, 0, 2, 0, 0, 0, 0,
+    0, 0, 0, 3, 0, 0, 0, 0, 0, 0, 0, 0, 0, 0, 0, 0, 0, 0, 0, 0, 0, 0, 0, 0, 0, 0, 0, 0, 0, 0, 0, 0,
+    0, 0, 0, 0, 0, 0, 0, 2, 0, 0, 0, 1, 0, 0, 0, 255, 255, 255, 255, 255, 255, 255, 255, 3, 0, 0,
+    0, 3, 0, 0, 0, 5, 0, 0, 0, 1, 0, 0, 0, 26, 25, 160, 0, 0, 97, 98, 99, 120, 121,
+];
+// Where the end of the first string is.
+const FIRST_END: usize = 84;
+// Where the text begins.
+const TEXT: usize = 105;
+
+fn trusted<'a>(rt: &impl Abort, bytes: &'a [u8]) -> TrustedFrozen<'a> {
+    TrustedFrozen::open(bytes).expect(rt, "no table")
+}
+
+#[test]
+fn a_frozen_table_yields_its_strings(rt: HostRuntime) {
+    let table = Frozen::open(&TABLE).expect(&rt, "no table");
+    let mut strings = table.strings();
+    same(&rt, strings.size_hint(), (3, Some(3)));
+    same(&rt, strings.next(), Some(b"abc".as_slice()));
+    let mut copy = copy_of(&rt, &strings);
+    same(&rt, strings.next(), Some(b"".as_slice()));
+    same(&rt, strings.next(), Some(b"xy".as_slice()));
+    same(&rt, strings.size_hint(), (0, Some(0)));
+    same(&rt, strings.next(), None);
+    same(&rt, copy.next(), Some(b"".as_slice()));
+}
+
+#[test]
+fn a_frozen_table_yields_its_symbols_with_their_strings(rt: HostRuntime) {
+    let table = Frozen::open(&TABLE).expect(&rt, "no table");
+    let mut pairs = table.iter();
+    same(&rt, pairs.size_hint(), (3, Some(3)));
+    assert_eq!(&rt; pairs.next(), Some((Symbol::new(0), b"abc".as_slice())));
+    let mut copy = copy_of(&rt, &pairs);
+    assert_eq!(&rt; copy.next(), Some((Symbol::new(1), b"".as_slice())));
+    same(&rt, pairs.size_hint(), (2, Some(2)));
+    for (symbol, string) in &table {
+        same(&rt, table.get(symbol), Some(string));
+        same(&rt, table.check_interned(string), Some(symbol));
+    }
+}
+
+#[test]
+fn trusted_bytes_are_looked_up(rt: HostRuntime) {
+    let table = trusted(&rt, &TABLE);
+    same(&rt, table.len(), 3);
+    same(&rt, table.get(Symbol::new(0)), Some(b"abc".as_slice()));
+    same(&rt, table.get(Symbol::new(1)), Some(b"".as_slice()));
+    same(&rt, table.get(Symbol::new(2)), Some(b"xy".as_slice()));
+    same(&rt, table.get(Symbol::new(3)), None);
+    same(&rt, table.check_interned(b"abc"), Some(Symbol::new(0)));
+    same(&rt, table.check_interned(b""), Some(Symbol::new(1)));
+    same(&rt, table.check_interned(b"xy"), Some(Symbol::new(2)));
+    same(&rt, table.check_interned(b"x"), None);
+}
+
+#[test]
+fn trusted_bytes_with_wrong_ends_are_read_within_the_text(rt: HostRuntime) {
+    let mut bytes = TABLE;
+    bytes[FIRST_END] = 9;
+    same(&rt, Frozen::open(&bytes).err(), Some(FrozenError::Ends));
+    let table = trusted(&rt, &bytes);
+    same(&rt, table.get(Symbol::new(0)), None);
+    same(&rt, table.get(Symbol::new(1)), None);
+    same(&rt, table.get(Symbol::new(2)), Some(b"xy".as_slice()));
+    same(&rt, table.check_interned(b"abc"), None);
+    same(&rt, table.check_interned(b""), None);
+    same(&rt, table.check_interned(b"xy"), Some(Symbol::new(2)));
+}
+
+#[test]
+fn trusted_bytes_have_a_header_and_their_sections(rt: HostRuntime) {
+    same(
+        &rt,
+        TrustedFrozen::open(b"").err(),
+        Some(FrozenError::Magic),
+    );
+    same(
+        &rt,
+        TrustedFrozen::open(&TABLE[..63]).err(),
+        Some(FrozenError::Truncated),
+    );
+    same(
+        &rt,
+        TrustedFrozen::open(&TABLE[..TEXT - 1]).err(),
+        Some(FrozenError::Truncated),
+    );
+    let table = trusted(&rt, &TABLE[..TEXT]);
+    same(&rt, table.len(), 3);
+    same(&rt, table.get(Symbol::new(0)), None);
+    same(&rt, table.check_interned(b"abc"), None);
+}
