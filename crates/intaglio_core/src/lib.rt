@@ -15,8 +15,8 @@ pub mod table_core;
 pub use batch::{check_all, get_or_intern_all, intern_all};
 pub use begun::Begun;
 pub use intaglio_content::{
-    Bytewise, Content, CopiedTo, Formed, Forms, Keyed, Lends, LookedUp, Pairs, Sought, SoughtIn,
-    Spelled, Store, ToContent, Work, feed_item,
+    ByteStore, Bytewise, Content, CopiedTo, Formed, Forms, Keyed, Lends, LookedUp, LookedUpIn,
+    Pairs, Sought, SoughtIn, Spelled, Store, StoreForms, StorePairs, ToContent, Work, feed_item,
 };
 pub use intaglio_index::Index;
 pub use intaglio_symbol::{

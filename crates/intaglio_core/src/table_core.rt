@@ -1,5 +1,5 @@
 //! A store of contents with an index over it.
-ghost use Rattle.std.specs.Prelude.{◌≡◌, ◌+◌, ◌<◌, ◌≤◌, ◌↔◌, ◌++◌, List, [], length};
+ghost use Rattle.std.specs.Prelude.{◌≡◌, ◌+◌, ◌^◌, ◌<◌, ◌≤◌, ◌↔◌, ◌++◌, List, [], length};
 ghost use Rattle.std.specs.Prelude.{IfSome, IsTrue, OnOk, OnErr};
 ghost use Rattle.intaglio_content.specs.Key.{hash_of};
 ghost use Rattle.intaglio_content.specs.Work.{Event};
@@ -20,7 +20,7 @@ use crate::begun::Begun;
 use intaglio_content::{SoughtIn, Store, Work};
 use intaglio_index::Index;
 use intaglio_symbol::{AllSymbols, Symbol};
-use std::alloc::AllocError;
+use std::alloc::{AllocError, Global};
 use std::hash::BuildHasher;
 use std::marker::{Model, PhantomData};
 
@@ -54,6 +54,7 @@ impl<L: Store, S: BuildHasher> Model for IndexedStore<L, S> {
         limit = t.limit;
       };
       hasher = t.hasher;
+      spare_bytes = L.spare_bytes t.list;
     } };
 
     ghost invariant = { λ t.
@@ -62,6 +63,19 @@ impl<L: Store, S: BuildHasher> Model for IndexedStore<L, S> {
 }
 
 impl<L: Store, S: BuildHasher> IndexedStore<L, S> {
+    /// The allocator of the contents.
+    pub fn allocator(&self) -> Global {
+        self.list.alloc()
+    }
+
+    /// Where the contents are.
+    pub fn store(&self) -> &L
+        ensures contents { L.contents result.now ≡ self.now.state.contents }
+        ensures bound { length (L.contents result.now) ≤ 2 ^ 32 }
+    {
+        &self.list
+    }
+
     /// The table's hash builder.
     pub fn hasher(&self) -> &S
         ensures { result.now ≡ self.now.hasher }

@@ -13,5 +13,6 @@ mod feeds;
 mod forms;
 mod frozen_tables;
 mod hashes;
+mod packed_tables;
 mod searches;
 mod symbols_to_come;

@@ -1,8 +1,8 @@
 //! Interning by a borrowed form, which is copied only if it is new.
-ghost use Rattle.std.specs.Prelude.{◌≡◌, None, IfOk, OnErr};
+ghost use Rattle.std.specs.Prelude.{◌≡◌, ◌+◌, ◌<◌, ◌≤◌, None, IfOk, OnErr};
 ghost use Rattle.intaglio_content.specs.Key.{hash_of};
 ghost use Rattle.intaglio_core.specs.State.{first, IsValid};
-ghost use Rattle.intaglio_core.specs.Change.{InternsForm, TakesCopy};
+ghost use Rattle.intaglio_core.specs.Change.{InternsForm, IsNotMemory, TakesCopy};
 ghost use Rattle.intaglio_core.specs.Lookup.{IsFound, IsStored, Keeps, FindsInterned, FindsOthers};
 ghost use Rattle.intaglio_core.specs.Cost.{Costs, InternCost, KnownInternCost};
 ghost use Rattle.intaglio_core.specs.Indexed.{AddCost};
@@ -41,6 +41,9 @@ where
         ensures cost { let hash = hash_of S.BuildHasher S.Hasher.Hasher self.old.hasher in
             let cost = InternCost L.Content.key hash self.old.state in
             Costs work.old work.new (cost (Q.key form.now) result self.new.state) }
+        ensures bytes { self.old.spare_bytes ≤ self.new.spare_bytes + Q.needs form.now }
+        ensures none_needed { 0 < self.old.state.spare → Q.fits form.now self.old.spare_bytes →
+            IsNotMemory result }
         ensures hasher { self.new.hasher ≡ self.old.hasher }
         ensures valid { IsValid L.Content.key self.new.state }
     {
@@ -63,6 +66,9 @@ where
         ensures cost { let hash = hash_of S.BuildHasher S.Hasher.Hasher self.old.hasher in
             let cost = KnownInternCost L.Content.key hash self.old.state in
             Costs work.old work.new (cost (Q.key form.now) result self.new.state) }
+        ensures bytes { self.old.spare_bytes ≤ self.new.spare_bytes + Q.needs form.now }
+        ensures none_needed { 0 < self.old.state.spare → Q.fits form.now self.old.spare_bytes →
+            IsNotMemory result }
         ensures hasher { self.new.hasher ≡ self.old.hasher }
         ensures valid { IsValid L.Content.key self.new.state }
     {
@@ -84,6 +90,9 @@ where
         ensures step { let takes = TakesCopy L.Content.key L.Content.spelling self.old.state in
             takes (Q.key form.now) (Q.form_spelling form.now) result self.new.state }
         ensures cost { Costs work.old work.new (AddCost self.old.state result self.new.state) }
+        ensures bytes { self.old.spare_bytes ≤ self.new.spare_bytes + Q.needs form.now }
+        ensures none_needed { 0 < self.old.state.spare → Q.fits form.now self.old.spare_bytes →
+            IsNotMemory result }
         ensures hasher { self.new.hasher ≡ self.old.hasher }
         ensures valid { IsValid L.Content.key self.new.state }
     {

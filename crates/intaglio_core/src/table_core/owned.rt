@@ -11,15 +11,9 @@ ghost use Rattle.intaglio_core.specs.Indexed.{AddCost};
 use super::{Core, find_room};
 use intaglio_content::{Keyed, Sought, Work};
 use intaglio_symbol::{InternError, Symbol, SymbolOverflowError};
-use std::alloc::Global;
 use std::hash::BuildHasher;
 
 impl<C: Keyed, S: BuildHasher> Core<C, S> {
-    /// The allocator of the contents.
-    pub fn allocator(&self) -> Global {
-        *self.list.allocator()
-    }
-
     /// The content of a symbol.
     pub fn get(&self, symbol: Symbol) -> Option<&C>
         ensures content { option_copied result ≡ slice_get self.now.state.contents symbol }

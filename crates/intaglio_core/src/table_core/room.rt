@@ -1,13 +1,14 @@
 //! Capacity, rollbacks and clearing.
-ghost use Rattle.std.specs.Prelude.{◌≡◌, ◌+◌, ◌<◌, ◌≤◌, [], length, IsOk, OnOk, OnErr};
+ghost use Rattle.std.specs.Prelude.{◌≡◌, ◌+◌, ◌<◌, ◌≤◌, [], length, map, sum_by, IsOk, OnOk, OnErr};
 ghost use Rattle.intaglio_core.specs.State.{IsValid};
 ghost use Rattle.intaglio_core.specs.Lookup.{FindsNothing, Keeps, KeepsBelow};
 ghost use Rattle.intaglio_core.specs.Change.{Empties, Reserves, Shrinks, TakesBack};
 ghost use Rattle.intaglio_core.specs.Cost.{Costs, IsRoomCost};
 
 use super::IndexedStore;
-use intaglio_content::{Store, Work};
+use intaglio_content::{ByteStore, Content, Store, Work};
 use intaglio_symbol::{Mark, RoomError, StaleMark};
+use std::alloc::AllocError;
 use std::hash::BuildHasher;
 
 impl<L: Store, S: BuildHasher> IndexedStore<L, S> {
@@ -17,6 +18,7 @@ impl<L: Store, S: BuildHasher> IndexedStore<L, S> {
         L::Content: Drop,
         ensures step { Empties self.old.state self.new.state }
         ensures found { FindsNothing L.Content.key self.new.state }
+        ensures bytes { self.old.spare_bytes ≤ self.new.spare_bytes }
         ensures hasher { self.new.hasher ≡ self.old.hasher }
         ensures valid { IsValid L.Content.key self.new.state }
     {
@@ -46,6 +48,7 @@ impl<L: Store, S: BuildHasher> IndexedStore<L, S> {
         ensures step { TakesBack self.old.state mark result self.new.state }
         ensures kept { OnOk result (KeepsBelow L.Content.key self.old.state mark self.new.state) }
         ensures stale { OnErr result (self.new.state ≡ self.old.state) }
+        ensures bytes { self.old.spare_bytes ≤ self.new.spare_bytes }
         ensures hasher { self.new.hasher ≡ self.old.hasher }
         ensures valid { IsValid L.Content.key self.new.state }
     {
@@ -72,6 +75,7 @@ impl<L: Store, S: BuildHasher> IndexedStore<L, S> {
     /// unchanged and the capacity isn't lower.
     pub fn reserve(&mut self, additional: usize) -> Result<(), RoomError>
         ensures step { Reserves self.old.state additional result self.new.state }
+        ensures bytes { self.new.spare_bytes ≡ self.old.spare_bytes }
         ensures hasher { self.new.hasher ≡ self.old.hasher }
         ensures valid { IsValid L.Content.key self.new.state }
     {
@@ -81,6 +85,7 @@ impl<L: Store, S: BuildHasher> IndexedStore<L, S> {
     /// As [`reserve`](IndexedStore::reserve).
     pub fn try_reserve(&mut self, additional: usize) -> Result<(), RoomError>
         ensures step { Reserves self.old.state additional result self.new.state }
+        ensures bytes { self.new.spare_bytes ≡ self.old.spare_bytes }
         ensures hasher { self.new.hasher ≡ self.old.hasher }
         ensures valid { IsValid L.Content.key self.new.state }
     {
@@ -90,6 +95,7 @@ impl<L: Store, S: BuildHasher> IndexedStore<L, S> {
     /// As [`reserve`](IndexedStore::reserve), and records in `work` what it did.
     pub fn reserve_with(&mut self, additional: usize, work: &mut Work) -> Result<(), RoomError>
         ensures step { Reserves self.old.state additional result self.new.state }
+        ensures bytes { self.new.spare_bytes ≡ self.old.spare_bytes }
         ensures hasher { self.new.hasher ≡ self.old.hasher }
         ensures cost { Costs work.old work.new (IsRoomCost self.old.state) }
         ensures valid { IsValid L.Content.key self.new.state }
@@ -148,5 +154,34 @@ impl<L: Store, S: BuildHasher> IndexedStore<L, S> {
         self.index.rebuild(buckets, work)?;
         self.list.shrink_to(buckets);
         Ok(())
+    }
+}
+
+impl<L: ByteStore, S: BuildHasher> IndexedStore<L, S>
+where
+    L::Content: Content,
+{
+    /// The number of bytes of all contents together.
+    pub fn byte_count(&self) -> usize
+        ensures { result ≡ sum_by length (map L.Content.spelling self.now.state.contents) }
+    {
+        self.list.byte_count()
+    }
+
+    /// Makes room for this many more bytes of contents.
+    ///
+    /// # Errors
+    ///
+    /// [`AllocError`] if the allocation fails. Then nothing has changed.
+    pub fn reserve_bytes(&mut self, additional: usize) -> Result<(), AllocError>
+        ensures state { self.new.state ≡ self.old.state }
+        ensures bytes { OnOk result (additional ≤ self.new.spare_bytes) }
+        ensures no_less { self.old.spare_bytes ≤ self.new.spare_bytes }
+        ensures err { OnErr result (self.new ≡ self.old) }
+        ensures none_needed { additional ≤ self.old.spare_bytes → IsOk result }
+        ensures hasher { self.new.hasher ≡ self.old.hasher }
+        ensures valid { IsValid L.Content.key self.new.state }
+    {
+        self.list.reserve_bytes(additional)
     }
 }

@@ -1,0 +1,29 @@
+//! Tables whose contents are in one buffer: of texts here, of bytes in [`bytes`].
+//!
+//! They have the calls of the other tables that take or give a borrowed string, with the same contracts, and
+//! they take about half the memory, since a string has no allocation of its own. Each new string is copied.
+use crate::{StoreForms, StorePairs, TableOver};
+pub use intaglio_packed::{Packed, Spelling, Texts};
+use std::hash::{BuildHasherDefault, FoldHasher};
+
+pub mod bytes;
+
+/// The texts of a table, in the order of their symbols.
+pub type Strings<'a> = StoreForms<'a, Texts>;
+
+/// The symbols and texts of a table, in order.
+pub type Iter<'a> = StorePairs<'a, Texts>;
+
+/// A table of distinct texts in one buffer, each with a [`Symbol`](crate::Symbol).
+/// Its calls are those of [`TableOver`].
+///
+/// Adding a text can move all others: what [`get`](TableOver::get) lends is borrowed from the table.
+///
+/// ```
+/// # use intaglio::packed::SymbolTable;
+/// let mut table = SymbolTable::new(rt.alloc())?;
+/// let symbol = table.get_or_intern("abc")?;
+/// assert!(rt; table.get(symbol) == Some("abc"));
+/// assert!(rt; table.check_interned("abc") == Some(symbol));
+/// ```
+pub type SymbolTable<S = BuildHasherDefault<FoldHasher>> = TableOver<Texts, S>;

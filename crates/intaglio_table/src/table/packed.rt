@@ -1,0 +1,117 @@
+//! What tables in one buffer have besides.
+ghost use Rattle.std.specs.Prelude.{◌≡◌, ◌≤◌, ◌^◌, length, map, sum_by, IsOk, OnErr, OnOk};
+ghost use Rattle.intaglio_core.specs.State.{pairs_of, IsValid};
+
+use super::TableOver;
+use intaglio_core::{ByteStore, Content, StoreForms, StorePairs, Symbol};
+use intaglio_packed::{Packed, Texts};
+use std::alloc::AllocError;
+use std::hash::BuildHasher;
+
+impl<L: ByteStore, S: BuildHasher> TableOver<L, S>
+where
+    L::Content: Content,
+{
+    /// The number of bytes of all contents together.
+    pub fn byte_count(&self) -> usize
+        ensures { result ≡ sum_by length (map L.Content.spelling self.now.state.contents) }
+    {
+        self.core.byte_count()
+    }
+
+    /// Makes room for this many more bytes of contents. With room for as many contents, too, which
+    /// [`reserve`](TableOver::reserve) makes, an interning never fails for memory.
+    ///
+    /// # Errors
+    ///
+    /// [`AllocError`] if the allocation fails. Then nothing has changed.
+    ///
+    /// ```
+    /// # use intaglio::packed::SymbolTable;
+    /// let mut table = SymbolTable::new(rt.alloc())?;
+    /// table.reserve(2)?;
+    /// table.reserve_bytes(7)?;
+    /// let symbol = table.get_or_intern("abc")?;
+    /// assert!(rt; table.byte_count() == 3);
+    /// ```
+    pub fn reserve_bytes(&mut self, additional: usize) -> Result<(), AllocError>
+        ensures state { self.new.state ≡ self.old.state }
+        ensures bytes { OnOk result (additional ≤ self.new.spare_bytes) }
+        ensures no_less { self.old.spare_bytes ≤ self.new.spare_bytes }
+        ensures err { OnErr result (self.new ≡ self.old) }
+        ensures none_needed { additional ≤ self.old.spare_bytes → IsOk result }
+        ensures hasher { self.new.hasher ≡ self.old.hasher }
+        ensures valid { IsValid L.Content.key self.new.state }
+    {
+        self.core.reserve_bytes(additional)
+    }
+}
+
+impl<'a, S: BuildHasher> TableOver<Texts, S> {
+    /// All symbols with their texts, in order.
+    ///
+    /// ```
+    /// # use intaglio::packed::SymbolTable;
+    /// # let mut table = SymbolTable::new(rt.alloc())?;
+    /// # let _symbol = table.get_or_intern("abc")?;
+    /// for (symbol, text) in table.iter() {
+    ///     assert!(rt; table.get(symbol) == Some(text));
+    /// }
+    /// ```
+    pub fn iter(&'a self) -> StorePairs<'a, Texts>
+        ensures all { result ≡ pairs_of (λ w. w) self.now.state }
+        ensures bound { length result ≤ 2 ^ 32 }
+    {
+        StorePairs::of(self.core.store())
+    }
+
+    /// All texts, in the order of their symbols.
+    pub fn strings(&'a self) -> StoreForms<'a, Texts>
+        ensures all { result ≡ map (λ w. w) self.now.state.contents }
+        ensures bound { length result ≤ 2 ^ 32 }
+    {
+        StoreForms::of(self.core.store())
+    }
+}
+
+impl<'a, S: BuildHasher> TableOver<Packed, S> {
+    /// All symbols with their bytes, in order.
+    pub fn iter(&'a self) -> StorePairs<'a, Packed>
+        ensures all { result ≡ pairs_of (λ w. w) self.now.state }
+        ensures bound { length result ≤ 2 ^ 32 }
+    {
+        StorePairs::of(self.core.store())
+    }
+
+    /// All bytes, in the order of their symbols.
+    pub fn bytestrings(&'a self) -> StoreForms<'a, Packed>
+        ensures all { result ≡ map (λ w. w) self.now.state.contents }
+        ensures bound { length result ≤ 2 ^ 32 }
+    {
+        StoreForms::of(self.core.store())
+    }
+}
+
+impl<'a, S: BuildHasher> IntoIterator for &'a TableOver<Texts, S> {
+    type Item = (Symbol, &'a str);
+
+    type IntoIter = StorePairs<'a, Texts>;
+
+    ghost into_iter_gives = { λ table pairs. pairs ≡ pairs_of (λ w. w) table.now.state };
+
+    fn into_iter(self) -> StorePairs<'a, Texts> {
+        self.iter()
+    }
+}
+
+impl<'a, S: BuildHasher> IntoIterator for &'a TableOver<Packed, S> {
+    type Item = (Symbol, &'a [u8]);
+
+    type IntoIter = StorePairs<'a, Packed>;
+
+    ghost into_iter_gives = { λ table pairs. pairs ≡ pairs_of (λ w. w) table.now.state };
+
+    fn into_iter(self) -> StorePairs<'a, Packed> {
+        self.iter()
+    }
+}
