@@ -12,7 +12,6 @@ mod layout;
 mod list;
 mod numbers;
 mod placing;
-mod thawing;
 mod trusted;
 
 pub use error::{FreezeError, FrozenError};
@@ -22,5 +21,4 @@ pub use header::Header;
 pub use iter::{FrozenPairs, FrozenStrings};
 pub use kind::Kind;
 pub use list::StringList;
-pub use thawing::thaw;
 pub use trusted::TrustedFrozen;
