@@ -8,8 +8,12 @@ prints them from the file results.csv that bench/run writes.
 
 import csv
 import sys
+from pathlib import Path
 
 sys.dont_write_bytecode = True
+sys.path.append(str(Path(__file__).resolve().parent.parent / "checks"))
+
+import arguments  # noqa: E402
 from comparisons import CAPACITIES, COMPARISONS, HASHINGS, Run  # noqa: E402
 
 OPERATIONS = {
@@ -145,6 +149,6 @@ def ratio(one, other):
 
 
 if __name__ == "__main__":
-    if len(sys.argv) != 2:
-        sys.exit("usage: bench/tables.py RESULTS")
-    print(page(read_results(sys.argv[1])))
+    parser = arguments.parser(__doc__)
+    parser.add_argument("results", metavar="RESULTS")
+    print(page(read_results(parser.parse_args().results)))

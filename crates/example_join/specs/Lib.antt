@@ -1,0 +1,2 @@
+-- What the contracts of the join cite.
+pub mod Texts

@@ -1,0 +1,2 @@
+-- What the contracts of the counts cite.
+pub mod Counts
