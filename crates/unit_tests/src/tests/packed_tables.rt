@@ -1,7 +1,8 @@
 //! Packed tables: each call, beside what the table of owned texts returns for the same calls.
 use super::assertions::{copy_of, holds, same};
+use intaglio::bytes::BytesContent;
 use intaglio::packed::{SymbolTable, bytes};
-use intaglio::{InternError, StaleMark, Symbol, SymbolOverflowError};
+use intaglio::{InternError, StaleMark, StrContent, Symbol, SymbolOverflowError};
 use std::alloc::Global;
 use std::hash::BuildHasherDefault;
 use std::process::Abort;
@@ -179,4 +180,25 @@ fn two_thousand_packed_texts_of_one_hash_are_told_apart(rt: HostRuntime) {
             Some(Symbol::new(number)),
         );
     }
+}
+
+#[test]
+fn packed_tables_intern_owned_strings(rt: HostRuntime) {
+    let mut texts = SymbolTable::new(rt.alloc()).expect(&rt, "memory");
+    let owned = "abc".to_string(rt.alloc()).expect(&rt, "memory");
+    same(
+        &rt,
+        texts.intern(StrContent::from(owned)),
+        Ok(Symbol::new(0)),
+    );
+    same(
+        &rt,
+        texts.intern(StrContent::from("abc")),
+        Ok(Symbol::new(0)),
+    );
+    same(&rt, texts.get(Symbol::new(0)), Some("abc"));
+    let mut slices = bytes::SymbolTable::new(rt.alloc()).expect(&rt, "memory");
+    let content = BytesContent::from(b"abc".as_slice());
+    same(&rt, slices.intern(content), Ok(Symbol::new(0)));
+    same(&rt, slices.check_interned(b"abc"), Some(Symbol::new(0)));
 }
