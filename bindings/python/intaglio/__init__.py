@@ -24,12 +24,15 @@ from collections.abc import Sequence
 
 from intaglio._table import BytesTable, ByteStringTable, CStringTable, OsStringTable, PathTable, SymbolTable, Table, __version__
 from intaglio.errors import (
-    REFUSALS, BadEnds, Full, InnerZero, MissingZero, NoKind, NoMemory, NoSpace, NoSymbol, NotUtf8, NoTable, Refused, Stale, TooLarge,
+    REFUSALS, BadEnds, Equal, Full, InnerZero, MissingZero, NoKind, NoMemory, NoPlaces, NoSpace, NoSymbol, NotFound, NotFrozen, NotUtf8, NoTable, OtherVersion,
+    Refused, Reserved, Stale, TextEnds, TooLarge, TooLong, TooMany, Truncated, Unused,
 )
+from intaglio.frozen import Frozen
 
 __all__ = [
-    "SymbolTable", "BytesTable", "CStringTable", "PathTable", "OsStringTable", "ByteStringTable", "Table", "ABSENT",
+    "SymbolTable", "BytesTable", "CStringTable", "PathTable", "OsStringTable", "ByteStringTable", "Table", "ABSENT", "Frozen",
     "Refused", "NoTable", "Full", "NoMemory", "TooLarge", "Stale", "NotUtf8", "InnerZero", "MissingZero", "BadEnds", "NoSymbol", "NoSpace", "NoKind",
+    "NotFrozen", "OtherVersion", "Reserved", "TooMany", "Truncated", "TextEnds", "Unused", "NotFound", "TooLong", "Equal", "NoPlaces",
     "REFUSALS", "__version__",
 ]
 
