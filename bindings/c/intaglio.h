@@ -243,11 +243,20 @@ size_t intaglio_frozen_len(const uint8_t *bytes, size_t len);
 
 /* Freezes a table: stores the number of bytes in *len, and copies them to the start of the buffer if it has space for all of them. The
  * strings are those of the table, with their symbols; a C string keeps its zero. They are texts if the kind is text, path or osstr. The
- * keys are those of the hash function in the frozen table: the same strings under the same keys give the same bytes. To learn the size,
- * pass a buffer of size 0; that freezes the table too, which takes as long as interning its strings.
+ * keys are those of the hash function in the frozen table: the same strings under the same keys give the same bytes.
  * Errors: NO_TABLE; NO_SPACE, with *len; TOO_MANY, TOO_LONG, NO_PLACES, NO_MEMORY, NOT_UTF8, EQUAL. But for NO_SPACE nothing is then
  * written. */
 INTAGLIO_MUST_USE intaglio_code intaglio_freeze(const intaglio_table *table, uint64_t key0, uint64_t key1, uint8_t *buffer, size_t size, size_t *len);
+
+/* Returns how many bytes a frozen table of the strings has, or of an empty one if there is no table. It reads the length of each string. No contract
+ * covers this function, but freeze returns NO_SPACE if the number is too small. */
+static inline size_t intaglio_frozen_size(const intaglio_table *table) {
+    intaglio_spelling out;
+    size_t count = intaglio_len(table), places = count + count / 19 + 2, size = 64 + 5 * places + 4 * count + 2 * (count / 3 + 1);
+    for (size_t i = 0; i < count; i++)
+        if (intaglio_get(table, (uint32_t)i, &out)) size += out.len;
+    return size;
+}
 
 /* Returns whether the strings are texts, which frozen_check has found to be UTF-8. */
 bool intaglio_frozen_is_text(const uint8_t *bytes, size_t len);

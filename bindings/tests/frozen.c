@@ -65,6 +65,7 @@ static void freeze(const uint8_t *bytes, size_t len, uint32_t kind) {
     WANT(intaglio_new(&table, kind, 1, 2) == INTAGLIO_DONE);
     for (size_t i = 0; i < count; i++) WANT(intaglio_intern(&table, text + start_of(i), ends[i] - start_of(i), &symbol) == INTAGLIO_DONE && symbol == i);
     memset(made, 7, len + 1);
+    WANT(intaglio_frozen_size(&table) == len);
     WANT(intaglio_freeze(&table, 3, 4, NULL, 0, &size) == INTAGLIO_NO_SPACE && size == len);
     WANT(intaglio_freeze(&table, 3, 4, made, len - 1, &size) == INTAGLIO_NO_SPACE && size == len && made[0] == 7);
     WANT(intaglio_freeze(&table, 3, 4, made, len + 1, &size) == INTAGLIO_DONE && size == len && memcmp(made, bytes, len) == 0 && made[len] == 7);
@@ -72,6 +73,17 @@ static void freeze(const uint8_t *bytes, size_t len, uint32_t kind) {
     WANT(intaglio_frozen_check(made, len) == INTAGLIO_DONE && intaglio_len(&table) == count);
     intaglio_free(&table);
     free(made);
+}
+
+/* A pointer with a count of 0 may be null. */
+static void pass_null(const uint8_t *bytes, size_t len) {
+    uint32_t symbol = 7;
+    intaglio_spelling out = {NULL, 7};
+    WANT(intaglio_frozen_check(NULL, 0) == INTAGLIO_NOT_FROZEN && intaglio_frozen_len(NULL, 0) == 0 && !intaglio_frozen_is_text(NULL, 0));
+    WANT(!intaglio_frozen_get(NULL, 0, 0, &out) && !intaglio_frozen_find(NULL, 0, NULL, 0, &symbol) && out.len == 7 && symbol == 7);
+    WANT(intaglio_frozen_find_all(NULL, 0, NULL, 0, NULL, 0, NULL, 0) == INTAGLIO_NOT_FROZEN);
+    WANT(intaglio_frozen_find_all(bytes, len, NULL, 0, NULL, 0, NULL, 0) == INTAGLIO_DONE);
+    (void)intaglio_frozen_find(bytes, len, NULL, 0, &symbol);
 }
 
 /* Reads bytes that may be no table, and writes the code of them. What is found is what was sought. */
@@ -102,6 +114,7 @@ int main(int argc, char **argv) {
     WANT(bytes != MAP_FAILED && close(file) == 0);
     compare(bytes, len);
     WANT(intaglio_frozen_is_text(bytes, len) == (strcmp(argv[2], "text") == 0));
+    pass_null(bytes, len);
     freeze(bytes, len, strcmp(argv[2], "text") == 0 ? INTAGLIO_TEXT : INTAGLIO_BYTES);
     for (size_t cut = 0; cut < len; cut++) {
         /* (an allocation of its own, so that a read behind it is seen) */

@@ -540,15 +540,6 @@ static PyObject *table_close(Table *self, PyObject *Py_UNUSED(none)) {
     Py_RETURN_NONE;
 }
 
-/* How many bytes a frozen table of the strings has, by docs/FROZEN.md. */
-static size_t frozen_size(Table *self) {
-    size_t count = intaglio_len(&self->handle), places = count + count / 19 + 2, size = 64 + 5 * places + 4 * count + 2 * (count / 3 + 1);
-    intaglio_spelling out;
-    for (size_t i = 0; i < count; i++)
-        if (intaglio_get(&self->handle, (uint32_t)i, &out)) size += out.len;
-    return size;
-}
-
 PyDoc_STRVAR(freeze_doc, "freeze($self, path, /, *, keys=(0, 0))\n--\n\n"
 "Writes the strings, each at its symbol, to a file with a frozen table, which Frozen reads. The keys are those of its hash function:\n"
 "the same strings under the same keys give the same bytes. The file is replaced when all is written and synced; path.new is\n"
@@ -559,7 +550,7 @@ static PyObject *table_freeze(Table *self, PyObject *args, PyObject *named) {
     uint64_t keys[2] = {0, 0};
     size_t len = 0;
     if (!PyArg_ParseTupleAndKeywords(args, named, "O|$O:freeze", names, &path, &passed) || (passed && read_keys(passed, keys) < 0)) return NULL;
-    size_t size = frozen_size(self);
+    size_t size = intaglio_frozen_size(&self->handle);
     PyObject *bytes = PyBytes_FromStringAndSize(NULL, (Py_ssize_t)size);
     if (!bytes) return NULL;
     uint32_t code = intaglio_freeze(&self->handle, keys[0], keys[1], (uint8_t *)PyBytes_AS_STRING(bytes), size, &len);
