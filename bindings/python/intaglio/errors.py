@@ -82,6 +82,72 @@ class NoKind(Refused, ValueError):
     code = 12
 
 
+class NotFrozen(Refused, ValueError):
+    """The bytes don't begin as a frozen table does."""
+
+    code = 13
+
+
+class OtherVersion(Refused, ValueError):
+    """A frozen table of another version."""
+
+    code = 14
+
+
+class Reserved(Refused, ValueError):
+    """A reserved byte of a frozen table isn't zero."""
+
+    code = 15
+
+
+class TooMany(Refused, ValueError):
+    """More strings than a frozen table can have."""
+
+    code = 16
+
+
+class Truncated(Refused, ValueError):
+    """The bytes of a frozen table end within its header or a section."""
+
+    code = 17
+
+
+class TextEnds(Refused, ValueError):
+    """The strings of a frozen table don't fill its text."""
+
+    code = 18
+
+
+class Unused(Refused, ValueError):
+    """A place of a frozen table that no string has isn't empty."""
+
+    code = 19
+
+
+class NotFound(Refused, ValueError):
+    """A string of a frozen table isn't found at its symbol."""
+
+    code = 20
+
+
+class TooLong(Refused, ValueError):
+    """The strings have 2**32 bytes or more together."""
+
+    code = 21
+
+
+class Equal(Refused, ValueError):
+    """Two strings are equal."""
+
+    code = 22
+
+
+class NoPlaces(Refused, ValueError):
+    """No places were found for the strings under these keys."""
+
+    code = 23
+
+
 REFUSALS: dict[int, type[Refused]] = {refusal.code: refusal for refusal in Refused.__subclasses__()}
 
 

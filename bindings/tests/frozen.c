@@ -1,0 +1,136 @@
+/* Reads a frozen table in a file, whose strings come on standard input, each on a line: string i is at symbol i. A table of these strings
+ * must be frozen to the same bytes, under the keys 3 and 4. Then cuts the file at each length and changes each byte, and writes the code
+ * of each: no call may read outside the bytes. */
+#define _POSIX_C_SOURCE 200809L
+#include "intaglio.h"
+#include <fcntl.h>
+#include <stdio.h>
+#include <stdlib.h>
+#include <string.h>
+#include <sys/mman.h>
+#include <sys/stat.h>
+#include <unistd.h>
+
+enum { LINES = 1 << 16, BYTES = 1 << 22 };
+
+#define WANT(CONDITION) do { if (!(CONDITION)) { fprintf(stderr, "line %d: %s\n", __LINE__, #CONDITION); exit(1); } } while (0)
+
+static uint8_t text[BYTES];
+static size_t ends[LINES];
+static uint64_t symbols[LINES];
+static size_t count;
+
+/* The lines of standard input, without their ends. */
+static void read_lines(void) {
+    size_t at = 0;
+    for (int c; (c = getchar()) != EOF;) {
+        if (c != '\n') text[at++] = (uint8_t)c;
+        else ends[count++] = at;
+        WANT(at < BYTES && count < LINES);
+    }
+}
+
+static size_t start_of(size_t i) { return i == 0 ? 0 : ends[i - 1]; }
+
+/* Each string is at its symbol, and is found there. */
+static void compare(const uint8_t *bytes, size_t len) {
+    uint32_t symbol = 7;
+    intaglio_spelling out = {NULL, 7};
+    WANT(intaglio_frozen_check(bytes, len) == INTAGLIO_DONE);
+    WANT(intaglio_frozen_len(bytes, len) == count);
+    for (size_t i = 0; i < count; i++) {
+        const uint8_t *string = text + start_of(i);
+        size_t size = ends[i] - start_of(i);
+        WANT(intaglio_frozen_get(bytes, len, (uint32_t)i, &out) && out.len == size && memcmp(out.at, string, size) == 0);
+        WANT(size == 0 || (out.at >= bytes && out.at + size <= bytes + len));
+        WANT(intaglio_frozen_find(bytes, len, string, size, &symbol) && symbol == i);
+    }
+    out.len = symbol = 7;
+    WANT(!intaglio_frozen_get(bytes, len, (uint32_t)count, &out) && out.len == 7);
+    WANT(!intaglio_frozen_find(bytes, len, (const uint8_t *)"absent\n", 7, &symbol) && symbol == 7);
+    WANT(intaglio_frozen_find_all(bytes, len, text, ends[count - 1], ends, count, symbols, count) == INTAGLIO_DONE);
+    for (size_t i = 0; i < count; i++) WANT(symbols[i] == i);
+    WANT(intaglio_frozen_find_all(bytes, len, text, 0, ends, count, symbols, count - 1) == INTAGLIO_BAD_ENDS);
+    const size_t end = 7;
+    WANT(intaglio_frozen_find_all(bytes, len, (const uint8_t *)"absent\n", 7, &end, 1, symbols, 1) == INTAGLIO_DONE && symbols[0] == INTAGLIO_ABSENT);
+}
+
+/* A table of the strings is frozen to these bytes, and stays as it is. */
+static void freeze(const uint8_t *bytes, size_t len, uint32_t kind) {
+    intaglio_table table = INTAGLIO_TABLE_NONE;
+    uint32_t symbol;
+    size_t size = 7;
+    uint8_t *made = (uint8_t *)malloc(len + 1);
+    WANT(made && intaglio_freeze(&table, 3, 4, made, len, &size) == INTAGLIO_NO_TABLE && size == 7);
+    WANT(intaglio_new(&table, kind, 1, 2) == INTAGLIO_DONE);
+    for (size_t i = 0; i < count; i++) WANT(intaglio_intern(&table, text + start_of(i), ends[i] - start_of(i), &symbol) == INTAGLIO_DONE && symbol == i);
+    memset(made, 7, len + 1);
+    WANT(intaglio_frozen_size(&table) == len);
+    WANT(intaglio_freeze(&table, 3, 4, NULL, 0, &size) == INTAGLIO_NO_SPACE && size == len);
+    WANT(intaglio_freeze(&table, 3, 4, made, len - 1, &size) == INTAGLIO_NO_SPACE && size == len && made[0] == 7);
+    WANT(intaglio_freeze(&table, 3, 4, made, len + 1, &size) == INTAGLIO_DONE && size == len && memcmp(made, bytes, len) == 0 && made[len] == 7);
+    WANT(intaglio_freeze(&table, 3, 5, made, len, &size) == INTAGLIO_DONE && size == len && memcmp(made, bytes, len) != 0);
+    WANT(intaglio_frozen_check(made, len) == INTAGLIO_DONE && intaglio_len(&table) == count);
+    intaglio_free(&table);
+    free(made);
+}
+
+/* A pointer with a count of 0 may be null. */
+static void pass_null(const uint8_t *bytes, size_t len) {
+    uint32_t symbol = 7;
+    intaglio_spelling out = {NULL, 7};
+    WANT(intaglio_frozen_check(NULL, 0) == INTAGLIO_NOT_FROZEN && intaglio_frozen_len(NULL, 0) == 0 && !intaglio_frozen_is_text(NULL, 0));
+    WANT(!intaglio_frozen_get(NULL, 0, 0, &out) && !intaglio_frozen_find(NULL, 0, NULL, 0, &symbol) && out.len == 7 && symbol == 7);
+    WANT(intaglio_frozen_find_all(NULL, 0, NULL, 0, NULL, 0, NULL, 0) == INTAGLIO_NOT_FROZEN);
+    WANT(intaglio_frozen_find_all(bytes, len, NULL, 0, NULL, 0, NULL, 0) == INTAGLIO_DONE);
+    (void)intaglio_frozen_find(bytes, len, NULL, 0, &symbol);
+}
+
+/* Reads bytes that may be no table, and writes the code of them. What is found is what was sought. */
+static void read_any(const uint8_t *bytes, size_t len) {
+    uint32_t symbol;
+    intaglio_spelling out;
+    printf("%u\n", intaglio_frozen_check(bytes, len));
+    size_t some = intaglio_frozen_len(bytes, len) < count ? intaglio_frozen_len(bytes, len) : count;
+    for (size_t i = 0; i < some; i++) (void)intaglio_frozen_get(bytes, len, (uint32_t)i, &out);
+    (void)intaglio_frozen_is_text(bytes, len);
+    (void)!intaglio_frozen_find_all(bytes, len, text, ends[count - 1], ends, count, symbols, count);
+    for (size_t i = 0; i < count; i++) {
+        const uint8_t *string = text + start_of(i);
+        size_t size = ends[i] - start_of(i);
+        if (!intaglio_frozen_find(bytes, len, string, size, &symbol)) continue;
+        WANT(intaglio_frozen_get(bytes, len, symbol, &out) && out.len == size && memcmp(out.at, string, size) == 0);
+    }
+}
+
+int main(int argc, char **argv) {
+    struct stat status;
+    WANT(argc == 3);
+    read_lines();
+    int file = open(argv[1], O_RDONLY);
+    WANT(file >= 0 && fstat(file, &status) == 0);
+    size_t len = (size_t)status.st_size;
+    const uint8_t *bytes = (const uint8_t *)mmap(NULL, len, PROT_READ, MAP_PRIVATE, file, 0);
+    WANT(bytes != MAP_FAILED && close(file) == 0);
+    compare(bytes, len);
+    WANT(intaglio_frozen_is_text(bytes, len) == (strcmp(argv[2], "text") == 0));
+    pass_null(bytes, len);
+    freeze(bytes, len, strcmp(argv[2], "text") == 0 ? INTAGLIO_TEXT : INTAGLIO_BYTES);
+    for (size_t cut = 0; cut < len; cut++) {
+        /* (an allocation of its own, so that a read behind it is seen) */
+        uint8_t *front = (uint8_t *)malloc(cut ? cut : 1);
+        WANT(front);
+        memcpy(front, bytes, cut);
+        read_any(front, cut);
+        free(front);
+    }
+    for (size_t i = 0; i < len; i++) {
+        uint8_t *changed = (uint8_t *)malloc(len);
+        WANT(changed);
+        memcpy(changed, bytes, len);
+        changed[i]++;
+        read_any(changed, len);
+        free(changed);
+    }
+    return 0;
+}

@@ -1,0 +1,96 @@
+-- What C sees of a frozen table, which is its bytes.
+use Rattle.std.specs.Prelude.{◌≡◌, ℕ, ◌<◌, ◌≤◌, List, [], ◌∷◌, length, map, Option, Some, MatchOption, MatchResult, Result, Ok, Err}
+use Rattle.intaglio_core.specs.State.{first}
+use Rattle.intaglio_frozen.specs.Fault.{IsFault}
+use Rattle.intaglio_frozen.specs.Freezing.{IsRefusal}
+use Rattle.intaglio_frozen.specs.IsFrozen.{IsFrozen, number_of}
+use Rattle.intaglio_frozen.specs.Layout.{kind as kind_of, strings}
+use Rattle.intaglio_frozen.specs.declared.error.FreezeError.{FreezeError}
+use Rattle.intaglio_frozen.specs.declared.error.FreezeError.TheVariants as error
+use Rattle.intaglio_frozen.specs.declared.error.FrozenError.{FrozenError}
+use Rattle.intaglio_frozen.specs.declared.error.FrozenError.TheVariants as fault
+use Rattle.intaglio_frozen.specs.declared.kind.Kind.{Kind as FrozenKind}
+use Rattle.intaglio_frozen.specs.declared.kind.Kind.TheVariants as frozen
+use Rattle.intaglio_handle.specs.Batches.{Either, is_batch, or_absent, pieces}
+use Rattle.intaglio_handle.specs.Handles.{filled, table_of}
+use Rattle.intaglio_handle.specs.Seen.{Seen}
+use Rattle.intaglio_handle.specs.declared.handle.Handle.{Handle}
+use Rattle.intaglio_handle.specs.declared.kind.Kind.{Kind}
+use Rattle.intaglio_handle.specs.declared.kind.Kind.TheVariants as kind
+use Rattle.intaglio_handle.specs.declared.refusal.Refusal.{Refusal}
+use Rattle.intaglio_handle.specs.declared.refusal.Refusal.TheVariants.{NoTable, NoMemory, NotUtf8, BadEnds, NoSpace, NoKind, NotFrozen, OtherVersion, Reserved, TooMany, Truncated, TextEnds, Unused, NotFound, TooLong, Equal, NoPlaces}
+
+-- the error for C of what is wrong with bytes
+abbrev pub frozen_refusal : FrozenError → Refusal
+frozen_refusal fault.Magic = NotFrozen
+frozen_refusal fault.Version = OtherVersion
+frozen_refusal fault.Kind = NoKind
+frozen_refusal fault.Reserved = Reserved
+frozen_refusal fault.TooMany = TooMany
+frozen_refusal fault.Truncated = Truncated
+frozen_refusal fault.Ends = TextEnds
+frozen_refusal fault.Unused = Unused
+frozen_refusal (fault.NotFound _) = NotFound
+frozen_refusal (fault.NotUtf8 _) = NotUtf8
+
+-- the bytes have a fault, of which this is the error
+abbrev pub IsRefused : List ℕ → Refusal → Type 0
+IsRefused bs refusal = (fault : FrozenError) × (refusal ≡ frozen_refusal fault) × IsFault bs fault
+
+-- bytes are checked: they are a frozen table, or what is wrong with them is returned
+abbrev pub Checks : List ℕ → Result (Unit {0}) Refusal → Type 0
+Checks bs result = MatchResult result (λ _. IsFrozen bs) (IsRefused bs)
+
+-- the first position of a string
+abbrev pub position_in : List (List ℕ) → List ℕ → Option ℕ
+position_in list w = first (λ s. s ∷ []) list (w ∷ [])
+
+-- what is written for the strings of a batch
+abbrev pub positions : List (List ℕ) → List (List ℕ) → List ℕ
+positions list ws = map (λ w. or_absent (position_in list w)) ws
+
+-- a batch is looked up in a list of strings
+abbrev pub FindsEach : List (List ℕ) → List ℕ → List ℕ → List ℕ → List ℕ → Result (Unit {0}) Refusal → Type 0
+FindsEach list batch ends places symbols result =
+    Either (is_batch batch ends (length places)) ((result ≡ Ok tt) × (symbols ≡ positions list (pieces batch 0 ends))) ((result ≡ Err BadEnds) × (symbols ≡ places))
+
+-- the error for C of an error of freezing
+abbrev pub freeze_refusal : FreezeError → Refusal
+freeze_refusal error.TooMany = TooMany
+freeze_refusal error.TooLong = TooLong
+freeze_refusal (error.Equal _ _) = Equal
+freeze_refusal (error.NotUtf8 _) = NotUtf8
+freeze_refusal error.NoPlaces = NoPlaces
+freeze_refusal error.Memory = NoMemory
+
+-- what the strings of a table are in a frozen table
+abbrev pub frozen_kind : Kind → FrozenKind
+frozen_kind kind.Text = frozen.Text
+frozen_kind kind.Bytes = frozen.Bytes
+frozen_kind kind.CStr = frozen.Bytes
+frozen_kind kind.Path = frozen.Text
+frozen_kind kind.OsStr = frozen.Text
+frozen_kind kind.BStr = frozen.Bytes
+
+-- bytes are a frozen table of the strings of a table, as C sees them, each at its symbol
+pub record IsFrozenOf (t : Seen) (bs : List ℕ) : Type 0 where
+  pub frozen : IsFrozen bs
+  pub strings : strings bs ≡ t.state.contents
+  pub kind : kind_of bs ≡ number_of (frozen_kind t.kind)
+
+-- the number of the bytes is written, and they are copied to the start of a buffer if it has space for them
+pub record IsWrittenTo (t : Seen) (old new : List ℕ) (size : ℕ) (bs : List ℕ) : Type 0 where
+  pub bytes : IsFrozenOf t bs
+  pub len : size ≡ length bs
+  pub buffer : new ≡ filled old (Some bs)
+
+-- a table is frozen, by the result
+abbrev pub Freezes : List ℕ → List ℕ → ℕ → ℕ → Seen → Result (Unit {0}) Refusal → Type 0
+Freezes buffer buffer' len len' t (Ok _) = (bs : List ℕ) × IsWrittenTo t buffer buffer' len' bs × (length bs ≤ length buffer)
+Freezes buffer buffer' len len' t (Err NoSpace) = (bs : List ℕ) × IsWrittenTo t buffer buffer' len' bs × (length buffer < length bs)
+Freezes buffer buffer' len len' t (Err refusal) = (error : FreezeError) × (refusal ≡ freeze_refusal error) × IsRefusal (frozen_kind t.kind) t.state.contents error × (buffer' ≡ buffer) × (len' ≡ len)
+
+-- the same of the table that a handle holds
+abbrev pub FreezesHeld : Handle → List ℕ → List ℕ → ℕ → ℕ → Result (Unit {0}) Refusal → Type 0
+FreezesHeld handle buffer buffer' len len' result =
+    MatchOption (table_of handle) ((result ≡ Err NoTable) × (buffer' ≡ buffer) × (len' ≡ len)) (λ t. Freezes buffer buffer' len len' t result)
