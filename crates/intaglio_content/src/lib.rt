@@ -1,11 +1,10 @@
 //! What tables store and compare.
 //!
-//! - [`Keyed`], [`Content`], [`Spelled`], [`Formed`], [`LookedUp`], [`Sought`], [`ToContent`]: what a content is,
-//!   what it is looked up by, what can be copied into one.
+//! - [`Keyed`], [`Content`], [`Spelled`], [`Formed`], [`LookedUp`], [`Sought`], [`ToContent`]: contents and forms.
 //! - [`Store`], [`ByteStore`], [`SoughtIn`], [`CopiedTo`], [`Lends`], [`LookedUpIn`]: where contents are kept.
+//! - [`Forms`], [`Pairs`], [`StoreForms`], [`StorePairs`]: iterators; [`Texts`] and the like mark the six kinds.
 //! - [`Work`] records, for contracts alone, what a call did.
-//! - [`Bytewise`] is for kinds compared by their bytes; [`feed_item`] feeds an item of a key into a hasher.
-//! - [`Forms`] and [`Pairs`] iterate over contents; [`Texts`] and the like mark the six kinds.
+//! - [`Bytewise`], [`feed_item`]: for kinds that are compared by their bytes.
 #![tactic(auto)]
 
 mod bytewise;
