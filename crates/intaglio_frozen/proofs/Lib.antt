@@ -3,3 +3,4 @@ pub mod Ends
 pub mod Places
 pub mod Found
 pub mod Left
+pub mod Thawed

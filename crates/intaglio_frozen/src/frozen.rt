@@ -122,6 +122,14 @@ impl<'a> Frozen<'a> {
         self.block.strings()
     }
 
+    // As `strings`, with what holds of them.
+    pub(crate) fn distinct_strings(&self) -> FrozenStrings<'a>
+        ensures all { result ≡ self.now }
+        ensures distinct { AreDistinct (map (λ w. w ∷ []) self.now) }
+    {
+        self.block.strings()
+    }
+
     /// The symbol of a string, if it is in the table.
     #[inline]
     pub fn check_interned(&self, string: &[u8]) -> Option<Symbol>

@@ -12,6 +12,7 @@ mod layout;
 mod list;
 mod numbers;
 mod placing;
+mod thawing;
 mod trusted;
 
 pub use error::{FreezeError, FrozenError};

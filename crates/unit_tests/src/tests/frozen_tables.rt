@@ -1,7 +1,9 @@
 //! Frozen tables: what their iterators yield, and what is found in trusted bytes, also in damaged ones.
 use super::assertions::{copy_of, same};
 use intaglio::Symbol;
+use intaglio::packed::bytes::SymbolTable;
 use intaglio_frozen::{Frozen, FrozenError, TrustedFrozen};
+use std::hash::BuildHasherDefault;
 use std::process::Abort;
 
 // The table of `abc`, the empty string and `xy` under the keys 1 and 2, as `checks/frozen_tables.py` writes it.
@@ -47,6 +49,20 @@ fn a_frozen_table_yields_its_symbols_with_their_strings(rt: HostRuntime) {
         same(&rt, table.get(symbol), Some(string));
         same(&rt, table.check_interned(string), Some(symbol));
     }
+}
+
+#[test]
+fn a_frozen_table_is_thawed(rt: HostRuntime) {
+    let frozen = Frozen::open(&TABLE).expect(&rt, "no table");
+    let mut thawed: SymbolTable = frozen
+        .thaw(rt.alloc(), BuildHasherDefault::new())
+        .expect(&rt, "memory");
+    same(&rt, thawed.len(), 3);
+    for (symbol, string) in &frozen {
+        same(&rt, thawed.get(symbol), Some(string));
+    }
+    same(&rt, thawed.get_or_intern(b"xy"), Ok(Symbol::new(2)));
+    same(&rt, thawed.get_or_intern(b"new"), Ok(Symbol::new(3)));
 }
 
 #[test]

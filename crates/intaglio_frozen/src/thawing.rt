@@ -1,0 +1,60 @@
+//! How a frozen table becomes one that grows.
+ghost use Rattle.std.specs.Prelude.{◌≡◌, ◌^◌, map, IfOk};
+ghost use Rattle.intaglio_content.specs.Key.{hash_of};
+
+use crate::frozen::Frozen;
+use crate::iter::FrozenStrings;
+use intaglio_packed::Packed;
+use intaglio_symbol::InternError;
+use intaglio_table::TableOver;
+use std::alloc::{AllocError, Global};
+use std::hash::BuildHasher;
+
+// How many symbols there are.
+const SYMBOLS: usize = 1 << 32;
+
+impl<'a> Frozen<'a> {
+    /// A packed table of the same strings, with the same symbols. Each string is copied.
+    ///
+    /// # Errors
+    ///
+    /// `Memory` if an allocation fails.
+    ///
+    /// ```
+    /// # use intaglio::packed::bytes::SymbolTable;
+    /// # use intaglio_frozen::{Frozen, Kind, freeze};
+    /// # use std::hash::BuildHasherDefault;
+    /// # let mut words = SymbolTable::new(rt.alloc())?;
+    /// # let symbol = words.get_or_intern(b"abc")?;
+    /// let bytes = freeze(rt.alloc(), &words, Kind::Bytes, 1, 2)?;
+    /// let frozen = Frozen::open(&bytes)?;
+    /// let thawed: SymbolTable = frozen.thaw(rt.alloc(), BuildHasherDefault::new())?;
+    /// assert!(rt; thawed.get(symbol) == Some(b"abc".as_slice()));
+    /// ```
+    pub fn thaw<S: BuildHasher + Drop>(
+        &self,
+        alloc: Global,
+        hasher: S,
+    ) -> Result<TableOver<Packed, S>, InternError>
+        ensures strings { IfOk result (λ thawed. thawed.state.contents ≡ self.now) }
+        ensures limit { IfOk result (λ thawed. thawed.state.limit ≡ 2 ^ 32) }
+        ensures hash { let hash = hash_of S.BuildHasher S.Hasher.Hasher in
+            IfOk result (λ thawed. hash thawed.hasher ≡ hash hasher) }
+    {
+        let strings = all_strings(alloc, self.distinct_strings())?;
+        let mut thawed = TableOver::with_limit(alloc, SYMBOLS, hasher).unwrap();
+        let _symbols = thawed.get_or_intern_all(&strings)?;
+        Ok(thawed)
+    }
+}
+
+// Strings in a list.
+fn all_strings<'a>(alloc: Global, strings: FrozenStrings<'a>) -> Result<Vec<&'a [u8]>, AllocError>
+    ensures { IfOk result (λ all. map (λ s. s.now) all.items ≡ strings.entry) }
+{
+    let mut all = Vec::new(alloc);
+    for string in strings {
+        all.push(string)?;
+    }
+    Ok(all)
+}
