@@ -18,6 +18,7 @@ from comparisons import CAPACITIES, COMPARISONS, HASHINGS, Run  # noqa: E402
 
 OPERATIONS = {
     "new": "intern new owned words",
+    "copied": "intern new borrowed words",
     "hit": "look-up hits, random order",
     "again": "intern owned words again, random order",
     "miss": "look-up misses",
@@ -32,7 +33,7 @@ COLUMNS = ["turn", "table", "hashing", "capacity", "size", "operation", "value"]
 LEGEND = """Each cell is the least time of all turns over that of the Rust crate `intaglio` under the hashers that the heading names. Below 1
 it takes less than the Rust crate. In brackets stand the Rust crate's nanoseconds for each word.
 
-- ours: the proved table
+- ours: the proved table of owned texts; packed: the proved table in one buffer
 - boxes: hashbrown's table of numbers beside a list of boxed strings
 - buffer: hashbrown's table of numbers beside one buffer of text, as the crates `string-interner` and `lasso` have it
 - grown: the table begins with no capacity; reserved: it begins with that of all words
@@ -90,19 +91,25 @@ def single_table(times, comparison, capacity, sizes):
 
 def batch_table(times, comparison, capacity, sizes):
     """Ratios of calls that take a batch."""
-    said = "ours over the Rust crate's single calls / over our own"
+    said = "ours and packed, each over the Rust crate's single calls / over its own"
     lines = [f"### {comparison.title}; {capacity}", "", said, "", *head(sizes)]
     for operation, name in OPERATIONS.items():
-        cells = []
-        for size in sizes:
-            sides = [comparison.batches(), comparison.base, comparison.sides[0]]
-            batch, *single = [times.get((comparison.run(side, capacity, size), operation)) for side in sides]
-            if batch is not None:
-                rust, ours = [ratio(batch, other) for other in single]
-                cells.append(f"**{rust}** / {ours}")
+        rows = [[batch_cell(times, comparison, (side, capacity, size), operation) for size in sizes] for side in (0, 1)]
+        cells = [f"{ours}; {packed}" for ours, packed in zip(*rows) if ours and packed]
         if cells:
             lines.append(row(name, cells))
     return lines + [""]
+
+
+def batch_cell(times, comparison, place, operation):
+    """The two ratios of a batch of one of our tables, or nothing where the operation has no batch."""
+    side, capacity, size = place
+    sides = [comparison.batches()[side], comparison.base, comparison.sides[side]]
+    batch, *single = [times.get((comparison.run(it, capacity, size), operation)) for it in sides]
+    if batch is None or None in single:
+        return ""
+    rust, own = [ratio(batch, other) for other in single]
+    return f"**{rust}** / {own}"
 
 
 def hash_table(times):
