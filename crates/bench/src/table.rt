@@ -1,4 +1,5 @@
 //! A table of texts, as the operations call it.
+ghost use Rattle.std.specs.Iterator.{IsFinite};
 ghost use Rattle.std.specs.Prelude.{◌≡◌, ℕ, length};
 
 use intaglio::{InternError, StrContent, Symbol, SymbolTable, packed};
@@ -194,7 +195,9 @@ impl<S: BuildHasher> WordTable for packed::SymbolTable<S> {
 
 // The numbers of symbols and the lengths of their texts, added up.
 #[inline(always)]
-fn sum_of<'a>(pairs: impl Iterator<Item = (Symbol, &'a str)> + Drop) -> u64 {
+fn sum_of<'a, Pairs: Iterator<Item = (Symbol, &'a str)> + Drop>(pairs: Pairs) -> u64
+    requires { Pairs.Iterator.can_next pairs × IsFinite (Pairs.Iterator.remaining pairs) }
+{
     let mut sum = 0u64;
     for (symbol, text) in pairs {
         sum = sum.wrapping_add(symbol.id() as u64);

@@ -4,3 +4,4 @@ pub mod Places
 pub mod Found
 pub mod Left
 pub mod Thawed
+pub mod Spelled

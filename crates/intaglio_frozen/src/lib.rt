@@ -8,6 +8,7 @@ mod frozen;
 mod header;
 mod iter;
 mod kind;
+pub mod laws;
 mod layout;
 mod list;
 mod numbers;
