@@ -17,10 +17,10 @@ from pathlib import Path
 
 sys.dont_write_bytecode = True
 TOP = Path(__file__).resolve().parent.parent
-VERSION = "rattle-kit-13b logic dac8208d650f15bf"
+VERSION = "rattle-kit-13f logic dac8208d650f15bf"
 
-# What `rt ci` says of a crate that it has proved, and at its end where all went well.
-PROVED_CRATE = re.compile(r"^rt: (\w+) proved$", re.M)
+# What `rt ci` says of a crate that it has proved, now or in an earlier run, and at its end where all went well.
+PROVED_CRATE = re.compile(r"^rt: (\w+) (?:proved$|is kept: )", re.M)
 ALL_PASSED = re.compile(r"^\d+ passed, 0 failed$", re.M)
 # What the prover says of a function, `fn CRATE::PATH: WORDS`, after the notes on its open goals.
 FUNCTION = re.compile(r"^fn (\S+): (.*)$")
