@@ -4,7 +4,9 @@ ghost use Rattle.intaglio_content.specs.Key.{hash_of};
 
 use crate::packed::Packed;
 use crate::spelling::Spelling;
-use intaglio_content::{ByteStore, CopiedTo, Lends, LookedUpIn, SoughtIn, SpelledStore, Store, Work, feed_item};
+use intaglio_content::{
+    ByteStore, CopiedTo, Lends, LookedUpIn, SoughtIn, SpelledStore, Store, Work, feed_item,
+};
 use std::alloc::{AllocError, Global};
 use std::hash::{BuildHasher, Hasher};
 

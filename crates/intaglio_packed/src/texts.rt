@@ -5,7 +5,9 @@ ghost use Rattle.intaglio_content.specs.Key.{hash_of};
 
 use crate::packed::Packed;
 use crate::spelling::Spelling;
-use intaglio_content::{ByteStore, CopiedTo, Lends, LookedUpIn, SoughtIn, SpelledStore, Store, Work};
+use intaglio_content::{
+    ByteStore, CopiedTo, Lends, LookedUpIn, SoughtIn, SpelledStore, Store, Work,
+};
 use std::alloc::{AllocError, Global};
 use std::hash::BuildHasher;
 use std::marker::Model;
