@@ -332,6 +332,8 @@ where
     L::Prepared: Drop,
 {
     fn spelling(&self, symbol: Symbol) -> Option<&[u8]> {
+        // What `valid` says is known from here on.
+        let _count = self.len();
         self.store().spelling_at(symbol.id() as usize)
     }
 }
