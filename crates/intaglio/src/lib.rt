@@ -17,11 +17,11 @@ pub mod path;
 mod text;
 
 pub use error::TableError;
-pub use intaglio_core::run::run;
+pub use intaglio_core::run::{run, run_forms};
 pub use intaglio_core::{
     AllSymbols, ByteStore, Bytewise, Call, Content, CopiedTo, Core, DEFAULT_SYMBOL_TABLE_CAPACITY,
     FormInterner, Formed, Forms, Index, IndexedStore, InternError, Interner, Keyed, Lends,
-    LookedUp, LookedUpIn, Mark, Pairs, Reply, RoomError, Sought, SoughtIn, Spelled, StaleMark,
+    LookedUp, LookedUpIn, Mark, Pairs, Reply, RoomError, Sought, SoughtIn, Spelled, SpelledInterner, SpelledStore, StaleMark,
     Store, StoreForms, StorePairs, Symbol, SymbolOverflowError, ToContent, Work, check_all,
     get_or_intern_all, intern_all,
 };

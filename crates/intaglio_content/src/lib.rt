@@ -1,7 +1,8 @@
 //! What tables store and compare.
 //!
 //! - [`Keyed`], [`Content`], [`Spelled`], [`Formed`], [`LookedUp`], [`Sought`], [`ToContent`]: contents and forms.
-//! - [`Store`], [`ByteStore`], [`SoughtIn`], [`CopiedTo`], [`Lends`], [`LookedUpIn`]: where contents are kept.
+//! - [`Store`], [`ByteStore`], [`SoughtIn`], [`CopiedTo`], [`Lends`], [`LookedUpIn`], [`SpelledStore`]:
+//!   where contents are kept.
 //! - [`Forms`], [`Pairs`], [`StoreForms`], [`StorePairs`]: iterators; [`Texts`] and the like mark the six kinds.
 //! - [`Work`] records, for contracts alone, what a call did.
 //! - [`Bytewise`], [`feed_item`]: for kinds that are compared by their bytes.
@@ -24,6 +25,6 @@ pub use feed::feed_item;
 pub use forms::Forms;
 pub use kinds::{BStrings, Bytestrings, CStrings, OsStrings, Paths, Texts};
 pub use pairs::Pairs;
-pub use store::{ByteStore, CopiedTo, Lends, LookedUpIn, SoughtIn, Store};
+pub use store::{ByteStore, CopiedTo, Lends, LookedUpIn, SoughtIn, SpelledStore, Store};
 pub use store_forms::{StoreForms, StorePairs};
 pub use work::Work;

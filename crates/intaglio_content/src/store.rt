@@ -1,5 +1,5 @@
 //! Where a table keeps its contents.
-ghost use Rattle.std.specs.Prelude.{◌≡◌, ◌+◌, ◌<◌, ◌≤◌, ℕ, List, [], ◌∷◌, ◌++◌, length, map, min, slice_get, sum_by, take, Some};
+ghost use Rattle.std.specs.Prelude.{◌≡◌, ◌+◌, ◌<◌, ◌≤◌, ℕ, List, [], ◌∷◌, ◌++◌, length, map, min, option_copied, slice_get, sum_by, take, Some};
 ghost use Rattle.std.specs.Prelude.{IfOk, IsOk, OnErr, OnOk};
 ghost use Rattle.std.specs.Option.{option_map};
 ghost use Rattle.intaglio_content.specs.Key.{hash_of};
@@ -197,6 +197,17 @@ where
     fn form_at(&'a self, i: usize) -> Self::Form
         requires { i < length (Self.contents self.now) }
         ensures { Some (lent_spelling result)
+            ≡ option_map Self.Content.spelling (slice_get (Self.contents self.now) i) };
+}
+
+/// A store whose spellings can be read.
+pub trait SpelledStore: Store
+where
+    Self::Content: Content,
+{
+    /// The bytes of the content at a position.
+    fn spelling_at(&self, i: usize) -> Option<&[u8]>
+        ensures { option_copied result
             ≡ option_map Self.Content.spelling (slice_get (Self.contents self.now) i) };
 }
 

@@ -1,8 +1,8 @@
 //! A `Vec` of owned contents as the store of a table.
 ghost use Rattle.std.specs.Prelude.{◌≡◌, vec_capacity};
 
-use crate::content::{Content, Formed, Keyed, LookedUp, Sought, ToContent};
-use crate::store::{CopiedTo, Lends, LookedUpIn, SoughtIn, Store};
+use crate::content::{Content, Formed, Keyed, LookedUp, Sought, Spelled, ToContent};
+use crate::store::{CopiedTo, Lends, LookedUpIn, SoughtIn, SpelledStore, Store};
 use crate::work::Work;
 use std::alloc::{AllocError, Global};
 use std::hash::BuildHasher;
@@ -112,6 +112,15 @@ impl<'a, C: Formed<'a>> Lends<'a> for Vec<C> {
     fn form_at(&'a self, i: usize) -> C::Form {
         let content = &self[i];
         content.borrow()
+    }
+}
+
+impl<C: Spelled> SpelledStore for Vec<C> {
+    fn spelling_at(&self, i: usize) -> Option<&[u8]> {
+        match self.get(i) {
+            None => None,
+            Some(content) => Some(content.spelling()),
+        }
     }
 }
 

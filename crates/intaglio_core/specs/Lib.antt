@@ -6,6 +6,7 @@ pub mod Capacity
 pub mod Cost
 pub mod Step
 pub mod Run
+pub mod FormRun
 pub mod Alike
 pub mod Issue
 pub mod Pattern

@@ -1,6 +1,7 @@
 //! What every symbol table does, for code that is generic over tables.
 ghost use Rattle.std.specs.Prelude.{◌≡◌, ℕ, ◌++◌, ◌∷◌, List, [], length, slice_get, option_copied};
 ghost use Rattle.std.specs.Prelude.{IfOk, IfSome, OnOk, OnErr};
+ghost use Rattle.std.specs.Option.{option_map};
 ghost use Rattle.intaglio_content.specs.Key.{Key, hash_of};
 ghost use Rattle.intaglio_content.specs.Work.{Event, hashed};
 ghost use Rattle.intaglio_core.specs.State.{State, first, IsValid};
@@ -12,7 +13,7 @@ ghost use Rattle.intaglio_core.specs.Cost.{KnownInternCost, KnownSearchCost, IsR
 
 use crate::begun::Begun;
 use crate::table_core::{Core, IndexedStore};
-use intaglio_content::{Content, CopiedTo, Sought, SoughtIn, Store, Work};
+use intaglio_content::{Content, CopiedTo, Sought, SoughtIn, SpelledStore, Store, Work};
 use intaglio_symbol::{InternError, Mark, RoomError, StaleMark, Symbol};
 use std::hash::BuildHasher;
 
@@ -177,6 +178,15 @@ pub trait FormInterner {
         ensures valid { IsValid Self.Content.key (state self.new) };
 }
 
+/// A symbol table whose spellings can be read.
+pub trait SpelledInterner: FormInterner {
+    /// The bytes of a symbol's content.
+    fn spelling(&self, symbol: Symbol) -> Option<&[u8]>
+        ensures spelling { option_copied result
+            ≡ option_map Self.Content.spelling (slice_get (Self.state self.now).contents symbol) }
+        ensures valid { IsValid Self.Content.key (Self.state self.now) };
+}
+
 /// A symbol table that keeps owned contents, in a `Vec`.
 pub trait Interner: FormInterner<Store = Vec<Self::Content>, Prepared = Self::Content> {
     /// Interns the content: returns the symbol of an equal one, or else stores it.
@@ -313,6 +323,18 @@ where
 
     fn take_back(&mut self, mark: Mark) -> Result<(), StaleMark> {
         IndexedStore::take_back(self, mark)
+    }
+}
+
+impl<L: SpelledStore, S: BuildHasher> SpelledInterner for IndexedStore<L, S>
+where
+    L::Content: Content + SoughtIn<L> + Drop,
+    L::Prepared: Drop,
+{
+    fn spelling(&self, symbol: Symbol) -> Option<&[u8]> {
+        // What `valid` says is known from here on.
+        let _count = self.len();
+        self.store().spelling_at(symbol.id() as usize)
     }
 }
 

@@ -16,13 +16,14 @@ pub use batch::{check_all, get_or_intern_all, intern_all};
 pub use begun::Begun;
 pub use intaglio_content::{
     ByteStore, Bytewise, Content, CopiedTo, Formed, Forms, Keyed, Lends, LookedUp, LookedUpIn,
-    Pairs, Sought, SoughtIn, Spelled, Store, StoreForms, StorePairs, ToContent, Work, feed_item,
+    Pairs, Sought, SoughtIn, Spelled, SpelledStore, Store, StoreForms, StorePairs, ToContent, Work,
+    feed_item,
 };
 pub use intaglio_index::Index;
 pub use intaglio_symbol::{
     AllSymbols, DEFAULT_SYMBOL_TABLE_CAPACITY, InternError, Mark, RoomError, StaleMark, Symbol,
     SymbolOverflowError,
 };
-pub use interner::{FormInterner, Interner};
+pub use interner::{FormInterner, Interner, SpelledInterner};
 pub use run::{Call, Reply};
 pub use table_core::{Core, IndexedStore};

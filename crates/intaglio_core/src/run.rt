@@ -1,17 +1,20 @@
 //! A list of calls, made in order on any table.
 ghost use Rattle.std.specs.Prelude.{◌≡◌, ◌≢◌, [], IfOk, IsOk, OnOk, OnErr};
 ghost use Rattle.intaglio_core.specs.State.{IsValid};
-ghost use Rattle.intaglio_core.specs.Cost.{Costs, SearchCost};
+ghost use Rattle.intaglio_core.specs.Cost.{Costs, IsRoomCost, SearchCost};
 ghost use Rattle.intaglio_core.specs.Step.{Step, StepCost};
 ghost use Rattle.intaglio_core.specs.Run.{Runs, HashesOnce, PlacesFew, HoldsRoom, HonoursRoom};
 ghost use Rattle.intaglio_core.specs.Run.{IssuesInOrder};
 
-use crate::interner::Interner;
+mod forms;
+
+use crate::interner::{FormInterner, Interner};
+pub use forms::run_forms;
 use intaglio_content::{Spelled, Work};
 use intaglio_symbol::{InternError, Mark, RoomError, Symbol};
 use std::alloc::{AllocError, Global};
 
-/// A call on a table of contents of type `C`.
+/// A call on a table, with contents of type `C`, for [`run`], or with borrowed forms, for [`run_forms`].
 #[derive(Drop)]
 pub enum Call<C> {
     /// Interns the content.
@@ -139,23 +142,52 @@ where
             table.empty();
             Reply::Done
         }
-        Call::Reserve(additional) => match table.reserve_counted(additional, work) {
-            Ok(()) => Reply::Done,
-            Err(RoomError::CapacityOverflow) => Reply::CapacityOverflow,
-            Err(RoomError::Memory(_)) => Reply::NoMemory,
-        },
-        Call::ShrinkTo(min_capacity) => match table.shrink_counted(min_capacity, work) {
-            Ok(()) => Reply::Done,
-            Err(_) => Reply::NoMemory,
-        },
-        Call::ShrinkToFit => match table.shrink_counted(0, work) {
-            Ok(()) => Reply::Done,
-            Err(_) => Reply::NoMemory,
-        },
-        Call::TakeBack(mark) => match table.take_back(mark) {
-            Ok(()) => Reply::Done,
-            Err(_) => Reply::Stale,
-        },
+        Call::Reserve(additional) => reserve(table, additional, work),
+        Call::ShrinkTo(min_capacity) => shrink(table, min_capacity, work),
+        Call::ShrinkToFit => shrink(table, 0, work),
+        Call::TakeBack(mark) => take_back(table, mark),
+    }
+}
+
+// Reserves capacity for more contents.
+fn reserve<T: FormInterner>(table: &mut T, additional: usize, work: &mut Work) -> Reply
+    ensures step { Step T.Content.key T.Content.spelling (T.state table.old)
+        (Call.Reserve additional) result (T.state table.new) }
+    ensures cost { Costs work.old work.new (IsRoomCost (T.state table.old)) }
+    ensures same_hash { T.hash table.new ≡ T.hash table.old }
+    ensures valid { IsValid T.Content.key (T.state table.new) }
+{
+    match table.reserve_counted(additional, work) {
+        Ok(()) => Reply::Done,
+        Err(RoomError::CapacityOverflow) => Reply::CapacityOverflow,
+        Err(RoomError::Memory(_)) => Reply::NoMemory,
+    }
+}
+
+// Shrinks the capacity.
+fn shrink<T: FormInterner>(table: &mut T, min_capacity: usize, work: &mut Work) -> Reply
+    ensures step { Step T.Content.key T.Content.spelling (T.state table.old)
+        (Call.ShrinkTo min_capacity) result (T.state table.new) }
+    ensures cost { Costs work.old work.new (IsRoomCost (T.state table.old)) }
+    ensures same_hash { T.hash table.new ≡ T.hash table.old }
+    ensures valid { IsValid T.Content.key (T.state table.new) }
+{
+    match table.shrink_counted(min_capacity, work) {
+        Ok(()) => Reply::Done,
+        Err(_) => Reply::NoMemory,
+    }
+}
+
+// Drops the contents added after a mark.
+fn take_back<T: FormInterner>(table: &mut T, mark: Mark) -> Reply
+    ensures step { Step T.Content.key T.Content.spelling (T.state table.old)
+        (Call.TakeBack mark) result (T.state table.new) }
+    ensures same_hash { T.hash table.new ≡ T.hash table.old }
+    ensures valid { IsValid T.Content.key (T.state table.new) }
+{
+    match table.take_back(mark) {
+        Ok(()) => Reply::Done,
+        Err(_) => Reply::Stale,
     }
 }
 

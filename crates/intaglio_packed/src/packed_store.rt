@@ -4,7 +4,9 @@ ghost use Rattle.intaglio_content.specs.Key.{hash_of};
 
 use crate::packed::Packed;
 use crate::spelling::Spelling;
-use intaglio_content::{ByteStore, CopiedTo, Lends, LookedUpIn, SoughtIn, Store, Work, feed_item};
+use intaglio_content::{
+    ByteStore, CopiedTo, Lends, LookedUpIn, SoughtIn, SpelledStore, Store, Work, feed_item,
+};
 use std::alloc::{AllocError, Global};
 use std::hash::{BuildHasher, Hasher};
 
@@ -121,6 +123,12 @@ impl<'a> Lends<'a> for Packed {
     #[inline(always)]
     fn form_at(&'a self, i: usize) -> &'a [u8] {
         self.string(i)
+    }
+}
+
+impl SpelledStore for Packed {
+    fn spelling_at(&self, i: usize) -> Option<&[u8]> {
+        self.get(i)
     }
 }
 

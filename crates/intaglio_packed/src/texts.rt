@@ -5,7 +5,9 @@ ghost use Rattle.intaglio_content.specs.Key.{hash_of};
 
 use crate::packed::Packed;
 use crate::spelling::Spelling;
-use intaglio_content::{ByteStore, CopiedTo, Lends, LookedUpIn, SoughtIn, Store, Work};
+use intaglio_content::{
+    ByteStore, CopiedTo, Lends, LookedUpIn, SoughtIn, SpelledStore, Store, Work,
+};
 use std::alloc::{AllocError, Global};
 use std::hash::BuildHasher;
 use std::marker::Model;
@@ -223,6 +225,12 @@ impl<'a> Lends<'a> for Texts {
     #[inline(always)]
     fn form_at(&'a self, i: usize) -> &'a str {
         self.text(i)
+    }
+}
+
+impl SpelledStore for Texts {
+    fn spelling_at(&self, i: usize) -> Option<&[u8]> {
+        self.strings.get(i)
     }
 }
 

@@ -1,6 +1,9 @@
 //! Each public call of `Core`, made once on a table with random keys.
 use super::assertions::same;
-use intaglio::{Call, Core, FormInterner, Mark, RoomError, StrContent, Symbol, Work, run};
+use intaglio::{
+    Call, CopiedTo, Core, FormInterner, Mark, RoomError, SpelledInterner, StrContent, Symbol,
+    SymbolTable, Work, packed, run, run_forms,
+};
 use std::alloc::Global;
 use std::hash::RandomState;
 use std::process::Abort;
@@ -36,20 +39,20 @@ fn replies(
     format!(in alloc; "{replies:?}").expect(rt, "memory")
 }
 
-fn twelve_calls(rt: &impl Abort, alloc: Global) -> Vec<Call<StrContent>> {
+fn twelve_calls<C: From<&'static str> + Drop>(rt: &impl Abort, alloc: Global) -> Vec<Call<C>> {
     vec![in alloc;
-        Call::Intern(StrContent::from("abc")),
-        Call::Intern(StrContent::from("abc")),
-        Call::Check(StrContent::from("xyz")),
-        Call::GetInterned(StrContent::from("abc")),
-        Call::IsInterned(StrContent::from("xyz")),
+        Call::Intern(C::from("abc")),
+        Call::Intern(C::from("abc")),
+        Call::Check(C::from("xyz")),
+        Call::GetInterned(C::from("abc")),
+        Call::IsInterned(C::from("xyz")),
         Call::Contains(Symbol::new(1)),
         Call::Get(Symbol::new(0)),
         Call::Len,
         Call::IsEmpty,
         Call::Clear,
         Call::IsEmpty,
-        Call::Intern(StrContent::from("xyz")),
+        Call::Intern(C::from("xyz")),
     ]
     .expect(rt, "memory")
 }
@@ -58,7 +61,7 @@ const TWELVE_REPLIES: &str = "[Symbol(Some(Symbol(0))), Symbol(Some(Symbol(0))),
     Pair(Some((Symbol(0), [97, 98, 99]))), Bool(false), Bool(false), Spelling(Some([97, 98, 99])), \
     Count(1), Bool(false), Done, Bool(true), Symbol(Some(Symbol(0)))]";
 
-fn four_calls(rt: &impl Abort, alloc: Global) -> Vec<Call<StrContent>> {
+fn four_calls<C: Drop>(rt: &impl Abort, alloc: Global) -> Vec<Call<C>> {
     vec![in alloc;
         Call::ShrinkTo(2),
         Call::ShrinkToFit,
@@ -76,6 +79,38 @@ fn twelve_calls_have_twelve_replies(rt: HostRuntime) {
     same(&rt, twelve.as_str(), TWELVE_REPLIES);
     let four = replies(&rt, rt.alloc(), &mut table, four_calls(&rt, rt.alloc()));
     same(&rt, four.as_str(), "[Done, Done, Done, Done]");
+}
+
+// Makes the calls by forms, and prints their replies.
+fn replies_by_forms<T: SpelledInterner>(
+    rt: &impl Abort,
+    alloc: Global,
+    table: &mut T,
+    calls: Vec<Call<&'static str>>,
+) -> String
+where
+    &'static str: CopiedTo<T::Store>,
+{
+    let replies = run_forms(alloc, table, calls, &mut Work::new()).expect(rt, "memory");
+    format!(in alloc; "{replies:?}").expect(rt, "memory")
+}
+
+fn runs_by_forms<T: SpelledInterner>(rt: &impl Abort, alloc: Global, table: &mut T)
+where
+    &'static str: CopiedTo<T::Store>,
+{
+    let twelve = replies_by_forms(rt, alloc, table, twelve_calls(rt, alloc));
+    same(rt, twelve.as_str(), TWELVE_REPLIES);
+    let four = replies_by_forms(rt, alloc, table, four_calls(rt, alloc));
+    same(rt, four.as_str(), "[Done, Done, Done, Done]");
+}
+
+#[test]
+fn calls_by_forms_have_the_same_replies(rt: HostRuntime) {
+    let mut packed = packed::SymbolTable::new(rt.alloc()).expect(&rt, "a table");
+    runs_by_forms(&rt, rt.alloc(), &mut packed);
+    let mut owned = SymbolTable::new(rt.alloc()).expect(&rt, "a table");
+    runs_by_forms(&rt, rt.alloc(), &mut owned);
 }
 
 fn fills(rt: &impl Abort, table: &mut Table, texts: &'static str) {

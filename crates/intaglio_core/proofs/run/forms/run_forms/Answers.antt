@@ -1,0 +1,32 @@
+use Rattle.std.proofs.Common.{◌≡◌, ◌∙◌, [], arith, append_assoc, append-nil, refl, sym, rules}
+use Rattle.std.specs.Vec.Iter.{into_iter_items}
+use Rattle.std.proofs.lemmas.Grind.{common_steps}
+use Rattle.intaglio_core.proofs.InOrder.{Adds-push}
+use Rattle.intaglio_core.proofs.run.forms.run_forms.Goals as goal
+
+pub loop-call-init : goal.loop-call-init
+loop-call-init g c =
+    let all : into_iter_items c.into_iter-call-iterator.result ≡ c.args.calls.items = search rules in
+    record {
+      can = tt;
+      finite = tt;
+      ran = ([], sym (append-nil _), rw c.in_ok-replies.ensures.items (refl, refl));
+      same_hash = refl;
+      whole = all;
+      room = search rules;
+    }
+
+pub loop-call-preserved : goal.loop-call-preserved
+loop-call-preserved g c = record {
+  can = tt;
+  finite = tt;
+  ran = rw c.push_reserved.ensures.items (Adds-push _ _ _ _ _ _ _ _ _ _ _ c.loop-call.invariant.ran (let spent = rw c.loop-call.invariant.same_hash at c.form_step.ensures.cost in (spent.0, spent.1, (c.form_step.ensures.step, spent.2, c.form_step.ensures.valid))));
+  same_hash = c.form_step.ensures.same_hash ∙ c.loop-call.invariant.same_hash;
+  whole = rw (append_assoc, ← c.in-Some.ensures.steps.0) c.loop-call.invariant.whole;
+  room = omega (arith, c.in-Some.ensures.steps);
+}
+
+pub returns-clause-ok : goal.returns-clause-ok
+returns-clause-ok g c =
+    let all : c.loop-call.yielded ≡ c.args.calls.items = grind (arith, common_steps, c.in-None.ensures.steps, c.loop-call.invariant.whole) in
+    rw all at c.loop-call.invariant.ran
