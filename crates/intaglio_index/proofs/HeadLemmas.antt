@@ -173,7 +173,7 @@ module _ (size : ℕ) (some : 0 < size) (h : ℕ) (head : Head) where
       (f, fs, refl, below, block, is.1.1)
 
 -- the head of a list that is read off the hashes and links
-module _ (hashes : List ℕ) (links : List ℕ) (s : ℕ) where
+module _ (hashes links : List ℕ) (s : ℕ) where
   pub thread_within : (path : List (ℕ × ℕ)) → IsThread hashes links (Some s) path → s < length hashes
   thread_within [] t = (let never = t.path in cc)
   thread_within (e ∷ es) t = (let same : s ≡ e.0 = (let q = t.path.0 in cc) in omega (arith, same, t.read.0.0))
