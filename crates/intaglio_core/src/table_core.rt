@@ -246,8 +246,8 @@ impl<L: Store, S: BuildHasher> IndexedStore<L, S> {
     }
 }
 
-// Makes room for one more content: in the list, in the links and in the buckets. The index grows last, so
-// that a failed growth records no event.
+// Makes room for one more content: in the list, in the hashes and links, and in the buckets. The index
+// grows last, so that a failed growth records no event.
 #[inline(always)]
 fn find_room<L: Store>(
     list: &mut L,

@@ -6,8 +6,7 @@ use Rattle.std.proofs.lemmas.Bool.{eqb-false, cases_lt, true≢false, false≢tr
 use Rattle.std.proofs.lemmas.Bool.Decides.{eqb_tells}
 use Rattle.std.proofs.lemmas.List.{get_or-set_same, get_or-set_other, length-set, set-get_or, map-append, get_or_read}
 use Rattle.intaglio_index.specs.declared.index.head.Head.{Head}
-use Rattle.intaglio_index.specs.declared.index.Node.{Node}
-use Rattle.intaglio_index.specs.Links.{IsThread, entry_of, next_of, node_at}
+use Rattle.intaglio_index.specs.Links.{IsThread, entry_of, next_of}
 use Rattle.intaglio_index.specs.Placed.{Placed, chain, IsEntry, chain_from, leader_of, symbols_of, put, BeginsAtOrAbove, IsPredecessor}
 use Rattle.intaglio_index.specs.Heads.{IsWord, IsHead, IsHeaded}
 use Rattle.intaglio_index.proofs.ChainLemmas.{put_some, put-between, chain_grows, chain_stays, Each-right, Each-weaker, InOrder, chain-in_order, chain-entries}
@@ -173,52 +172,52 @@ module _ (size : ℕ) (some : 0 < size) (h : ℕ) (head : Head) where
       ] in
       (f, fs, refl, below, block, is.1.1)
 
--- the head of a list that is read off the nodes
-module _ (nodes : List Node) (s : ℕ) where
-  pub thread_within : (path : List (ℕ × ℕ)) → IsThread nodes (Some s) path → s < length nodes
+-- the head of a list that is read off the hashes and links
+module _ (hashes links : List ℕ) (s : ℕ) where
+  pub thread_within : (path : List (ℕ × ℕ)) → IsThread hashes links (Some s) path → s < length hashes
   thread_within [] t = (let never = t.path in cc)
   thread_within (e ∷ es) t = (let same : s ≡ e.0 = (let q = t.path.0 in cc) in omega (arith, same, t.read.0.0))
 
-  pub thread_next : (path : List (ℕ × ℕ)) (next : ℕ) → IsThread nodes (Some s) path → next_of nodes s ≡ Some next → next < length nodes
+  pub thread_next : (path : List (ℕ × ℕ)) (next : ℕ) → IsThread hashes links (Some s) path → next_of links s ≡ Some next → next < length hashes
   thread_next [] next t e = (let never = t.path in cc)
   thread_next (x ∷ []) next t e =
       let same : s ≡ x.0 = (let q = t.path.0 in cc) in
-      let none : next_of nodes s ≡ None = ap (next_of nodes) same ∙ t.path.1 in
+      let none : next_of links s ≡ None = ap (next_of links) same ∙ t.path.1 in
       cc
   thread_next (x ∷ f ∷ fs) next t e =
       let same : s ≡ x.0 = (let q = t.path.0 in cc) in
-      let some : next_of nodes s ≡ Some f.0 = ap (next_of nodes) same ∙ t.path.1.0 in
+      let some : next_of links s ≡ Some f.0 = ap (next_of links) same ∙ t.path.1.0 in
       let number : next ≡ f.0 = cc in
       omega (arith, number, t.read.1.0.0)
 
-  hash_same : (x : ℕ × ℕ) → s ≡ x.0 → (node_at nodes x.0).hash ≡ x.1 → (entry_of nodes s).1 ≡ x.1
-  hash_same x same read = ap (λ n. (node_at nodes n).hash) same ∙ read
+  hash_same : (x : ℕ × ℕ) → s ≡ x.0 → get_or hashes x.0 0 ≡ x.1 → (entry_of hashes s).1 ≡ x.1
+  hash_same x same read = ap (λ n. get_or hashes n 0) same ∙ read
 
-  pub head_of_one : (size : ℕ) (some : 0 < size) (first : ℕ) (path : List (ℕ × ℕ)) → IsThread nodes (Some s) path → next_of nodes s ≡ None → IsWord size (entry_of nodes s) first →
+  pub head_of_one : (size : ℕ) (some : 0 < size) (first : ℕ) (path : List (ℕ × ℕ)) → IsThread hashes links (Some s) path → next_of links s ≡ None → IsWord size (entry_of hashes s) first →
       IsHead size (record { first = first; second = first }) path
   head_of_one size some first [] t e w = tt
   head_of_one size some first (x ∷ []) t e w =
       let same : s ≡ x.0 = (let q = t.path.0 in cc) in
-      let word : IsWord size x first = word_moved size some (entry_of nodes s) x first same (hash_same x same t.read.0.1) w in
+      let word : IsWord size x first = word_moved size some (entry_of hashes s) x first same (hash_same x same t.read.0.1) w in
       (word, word)
   head_of_one size some first (x ∷ f ∷ fs) t e w =
       let same : s ≡ x.0 = (let q = t.path.0 in cc) in
-      let next : next_of nodes s ≡ Some f.0 = ap (next_of nodes) same ∙ t.path.1.0 in
+      let next : next_of links s ≡ Some f.0 = ap (next_of links) same ∙ t.path.1.0 in
       cc
 
-  pub head_of_two : (size : ℕ) (some : 0 < size) (first second next : ℕ) (path : List (ℕ × ℕ)) → IsThread nodes (Some s) path → next_of nodes s ≡ Some next →
-      IsWord size (entry_of nodes s) first → IsWord size (entry_of nodes next) second → IsHead size (record { first = first; second = second }) path
+  pub head_of_two : (size : ℕ) (some : 0 < size) (first second next : ℕ) (path : List (ℕ × ℕ)) → IsThread hashes links (Some s) path → next_of links s ≡ Some next →
+      IsWord size (entry_of hashes s) first → IsWord size (entry_of hashes next) second → IsHead size (record { first = first; second = second }) path
   head_of_two size some first second next [] t e w v = tt
   head_of_two size some first second next (x ∷ []) t e w v =
       let same : s ≡ x.0 = (let q = t.path.0 in cc) in
-      let none : next_of nodes s ≡ None = ap (next_of nodes) same ∙ t.path.1 in
+      let none : next_of links s ≡ None = ap (next_of links) same ∙ t.path.1 in
       cc
   head_of_two size some first second next (x ∷ f ∷ fs) t e w v =
       let same : s ≡ x.0 = (let q = t.path.0 in cc) in
-      let is : next_of nodes s ≡ Some f.0 = ap (next_of nodes) same ∙ t.path.1.0 in
+      let is : next_of links s ≡ Some f.0 = ap (next_of links) same ∙ t.path.1.0 in
       let number : next ≡ f.0 = cc in (
-        word_moved size some (entry_of nodes s) x first same (hash_same x same t.read.0.1) w,
-        word_moved size some (entry_of nodes next) f second number (ap (λ n. (node_at nodes n).hash) number ∙ t.read.1.0.1) v,
+        word_moved size some (entry_of hashes s) x first same (hash_same x same t.read.0.1) w,
+        word_moved size some (entry_of hashes next) f second number (ap (λ n. get_or hashes n 0) number ∙ t.read.1.0.1) v,
       )
 
 -- a bucket with a symbol, and its head

@@ -4,12 +4,10 @@ use Rattle.std.specs.Option.{MatchOption, IfSome}
 use Rattle.std.specs.List.{AllByRecursion}
 use Rattle.std.proofs.lemmas.Bool.Decides.{eqb_tells}
 use Rattle.std.proofs.lemmas.Grind.{replicate_next}
-use Rattle.std.proofs.lemmas.List.{get_or_default, get_or-map, length-map}
+use Rattle.std.proofs.lemmas.List.{get_or_default}
 use Rattle.std.proofs.lemmas.List.Elements.{recursion_from_All}
 use Rattle.intaglio_content.specs.Work.{Event, step}
 use Rattle.intaglio_index.specs.declared.index.head.Head.{Head}
-use Rattle.intaglio_index.specs.declared.index.Node.{Node}
-use Rattle.intaglio_index.specs.Links.{hashes_of}
 use Rattle.intaglio_index.specs.Placed.{Placed, chain, chain_from, head_of, leader_with, IsEntry, BeginsAtOrAbove, IsPredecessor}
 use Rattle.intaglio_index.specs.Found.{IsFound, IsPassed, IsReached, IsAt}
 use Rattle.intaglio_index.specs.Heads.{IsHead}
@@ -191,12 +189,11 @@ nearest_within v k size h word head o first second =
       | inr other ↦ rw (second other.1) (second_within v k size head o)
     ]
 
--- the hash of a node that was read
-pub hash_read : (v : Placed) (nodes : List Node) (s i : ℕ) (node : Node) → v.hashes ≡ hashes_of nodes → s < length v.hashes → node ≡ get_or nodes i node → i ≡ s → get_or v.hashes s 0 ≡ node.hash
-hash_read v nodes s i node placed within read same =
-    let l : s < length nodes = omega (arith, ap length placed, length-map nodes (λ (n : Node). n.hash)) in
-    let is : node ≡ get_or nodes s node = rw same at read in
-    rw placed (get_or-map (λ (n : Node). n.hash) nodes s node 0 l ∙ ap (λ (n : Node). n.hash) (sym is))
+-- a hash that was read
+pub hash_read : (hashes : List ℕ) (s i hash : ℕ) → s < length hashes → hash ≡ get_or hashes i hash → i ≡ s → get_or hashes s 0 ≡ hash
+hash_read hashes s i hash within read same =
+    let is : hash ≡ get_or hashes s hash = rw same at read in
+    get_or_default hashes s 0 hash within ∙ sym is
 
 -- where the number of buckets is a power of two, the words of a bucket are in the order of its hashes
 module _ (v : Placed) (h size : ℕ) (head : Head) (some : 0 < size) (exact : v.count ≡ size) (o : IsOccupied v (h % v.count) size head) where

@@ -4,6 +4,7 @@ ghost use Rattle.std.specs.Prelude.{◌≡◌, ◌≤◌, length};
 mod capacity;
 mod filter;
 mod head;
+mod link;
 mod lookup;
 mod modulus;
 mod placement;
@@ -14,18 +15,10 @@ use modulus::Modulus;
 use std::alloc::Global;
 use std::marker::Model;
 
-// A placed symbol's hash, and the next symbol of its bucket. Its position in
-// `nodes` is the symbol's number.
-#[derive(Clone, Copy)]
-pub(crate) struct Node {
-    hash: u64,
-    next: Option<Symbol>,
-}
-
 /// A hash index: symbols in buckets, found by the hashes of their contents.
 ///
-/// A bucket takes 17 bytes and a placed symbol 16. No symbol is reserved as "none", so all 2^32 can be
-/// placed.
+/// A bucket takes 17 bytes and a placed symbol 12: its hash and a link. No symbol is reserved as "none", so
+/// all 2^32 can be placed.
 ///
 /// ```
 /// # use intaglio::{Index, Symbol, Work};
@@ -44,7 +37,10 @@ pub(crate) struct Node {
 #[derive(Drop)]
 pub struct Index {
     heads: Vec<Head>,
-    nodes: Vec<Node>,
+    // By their numbers, the hashes of the symbols.
+    hashes: Vec<u64>,
+    // By their numbers, the next symbols in their buckets. The last of a bucket has itself.
+    links: Vec<Symbol>,
     filters: Vec<u8>,
     modulus: Modulus,
     alloc: Global,
@@ -58,24 +54,23 @@ impl Model for Index {
 
     ghost coded = { placed_code };
 
-    ghost use Rattle.intaglio_index.specs.Links.{IsLinked, hashes_of};
+    ghost use Rattle.intaglio_index.specs.Links.{IsLinked};
     ghost use Rattle.intaglio_index.specs.Filter.{IsFiltered};
     ghost use Rattle.intaglio_index.specs.Heads.{IsHeaded};
     ghost use Rattle.intaglio_index.specs.Modulus.{IsModulus};
 
     ghost view = { λ index. record {
       count = length index.heads.items;
-      hashes = hashes_of index.nodes.items;
-      room = min (vec_len index.heads) (vec_capacity index.nodes);
+      hashes = index.hashes.items;
+      room = min (vec_len index.heads) (min (vec_capacity index.hashes) (vec_capacity index.links));
     } };
 
     ghost invariant = { λ index. record {
       modulus : IsModulus index.modulus;
       counted : index.modulus.count ≡ length index.heads.items;
-      linked : IsLinked (length index.heads.items) index.nodes.items;
-      headed : let hashes = hashes_of index.nodes.items in
-          IsHeaded (index.modulus.mask + 1) index.heads.items index.filters.items hashes;
-      filtered : IsFiltered index.filters.items (length index.heads.items) (hashes_of index.nodes.items);
+      linked : IsLinked (length index.heads.items) index.hashes.items index.links.items;
+      headed : IsHeaded (index.modulus.mask + 1) index.heads.items index.filters.items index.hashes.items;
+      filtered : IsFiltered index.filters.items (length index.heads.items) index.hashes.items;
     } };
 }
 
@@ -87,19 +82,20 @@ impl Index {
         self.heads.len()
     }
 
-    /// How many symbols can be placed in total: the smaller of the number of buckets and the capacity of the
-    /// list of nodes.
+    /// How many symbols can be placed in total: the smallest of the number of buckets and the capacities of
+    /// the lists of hashes and links.
     pub fn room(&self) -> usize
         ensures room { result ≡ self.now.room }
         ensures placed { length self.now.hashes ≤ result }
         ensures fits { result ≤ self.now.count }
     {
-        self.nodes.capacity().min(self.heads.len())
+        let capacity = self.hashes.capacity().min(self.links.capacity());
+        capacity.min(self.heads.len())
     }
 
     fn placed(&self) -> usize
         ensures { result ≡ length self.now.hashes }
     {
-        self.nodes.len()
+        self.hashes.len()
     }
 }

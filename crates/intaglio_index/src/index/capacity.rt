@@ -15,7 +15,7 @@ impl Index {
     ///
     /// # Errors
     ///
-    /// [`AllocError`] if one of its three allocations fails. Then nothing stays allocated.
+    /// [`AllocError`] if one of its four allocations fails. Then nothing stays allocated.
     pub fn with_buckets(alloc: Global, count: usize) -> Result<Index, AllocError>
         ensures made { IfOk result (λ index. index ≡ record { count = count; hashes = []; room = count }) }
         ensures none_needed { count ≡ 0 → IsOk result }
@@ -29,10 +29,12 @@ impl Index {
             count,
         )?;
         let filters = repeated(alloc, 0, count)?;
-        let nodes = Vec::with_capacity(alloc, count)?;
+        let hashes = Vec::with_capacity(alloc, count)?;
+        let links = Vec::with_capacity(alloc, count)?;
         Ok(Index {
             heads,
-            nodes,
+            hashes,
+            links,
             filters,
             modulus: Modulus::new(count),
             alloc,
@@ -60,8 +62,11 @@ impl Index {
         if count > self.heads.len() {
             return self.rebuild(count, work);
         }
-        if count > self.nodes.capacity() {
-            self.nodes.reserve(count - self.nodes.len())?;
+        if count > self.hashes.capacity() {
+            self.hashes.reserve(count - self.hashes.len())?;
+        }
+        if count > self.links.capacity() {
+            self.links.reserve(count - self.links.len())?;
         }
         Ok(())
     }
@@ -94,8 +99,8 @@ impl Index {
         ensures places { OnOk result (PlacesEach self.now work.old work.new) }
     {
         let mut index = Index::with_buckets(self.alloc, count)?;
-        for (i, node) in self.nodes.iter().enumerate() {
-            index.place(node.hash, Symbol::new(i as u32), work);
+        for (i, hash) in self.hashes.iter().enumerate() {
+            index.place(*hash, Symbol::new(i as u32), work);
         }
         Ok(index)
     }

@@ -6,7 +6,7 @@ ghost use Rattle.intaglio_index.specs.Modulus.{IsModulus};
 ghost use Rattle.intaglio_index.specs.Placed.{leader_of, symbols_of, put, BeginsAtOrAbove, IsPredecessor};
 ghost use Rattle.std.specs.List.{IsDistinct};
 
-use super::Node;
+use super::link::next;
 use super::modulus::Modulus;
 use intaglio_symbol::Symbol;
 
@@ -65,18 +65,17 @@ impl Head {
     }
 
     // The head of the bucket whose first symbol is `leader`.
-    pub fn read(modulus: Modulus, nodes: &[Node], leader: Symbol) -> Head
+    pub fn read(modulus: Modulus, hashes: &[u64], links: &[Symbol], leader: Symbol) -> Head
         requires made { IsModulus modulus }
-        requires few { length nodes.now ≤ modulus.mask + 1 }
-        requires linked { (path : List (ℕ × ℕ)) × IsThread nodes.now (Some leader) path }
-        ensures { (path : List (ℕ × ℕ)) → IsThread nodes.now (Some leader) path →
+        requires few { length hashes.now ≤ modulus.mask + 1 }
+        requires linked { (path : List (ℕ × ℕ)) × IsThread hashes.now links.now (Some leader) path }
+        ensures { (path : List (ℕ × ℕ)) → IsThread hashes.now links.now (Some leader) path →
             IsHead (modulus.mask + 1) result path }
     {
-        let node = nodes[leader.id() as usize];
-        let first = modulus.word(node.hash, leader);
-        let second = match node.next {
+        let first = modulus.word(hashes[leader.id() as usize], leader);
+        let second = match next(links, leader) {
             None => first,
-            Some(symbol) => modulus.word(nodes[symbol.id() as usize].hash, symbol),
+            Some(symbol) => modulus.word(hashes[symbol.id() as usize], symbol),
         };
         Head { first, second }
     }

@@ -9,8 +9,9 @@ ghost use Rattle.intaglio_index.specs.Placed.{IsBucket, IsAbsent, BeginsAtOrAbov
 ghost use Rattle.intaglio_index.specs.Links.{entry_of};
 ghost use Rattle.intaglio_symbol.specs.declared.symbol.Symbol.{Symbol};
 
+use super::Index;
 use super::filter::is_marked;
-use super::{Index, Node};
+use super::link::next;
 use intaglio_content::Work;
 use intaglio_symbol::Symbol;
 
@@ -84,7 +85,7 @@ impl Index {
             return self.find_along(self.behind(second), hash, work);
         }
         let symbol = self.modulus.symbol(word);
-        if !self.modulus.is_power_of_two() && self.nodes[symbol.id() as usize].hash != hash {
+        if !self.modulus.is_power_of_two() && self.hashes[symbol.id() as usize] != hash {
             return self.find_along(self.front(bucket), hash, work);
         }
         if word == head.first {
@@ -134,7 +135,7 @@ impl Index {
         ensures events { work.new.events ≡ work.old.events ++ step ∷ [] }
     {
         work.step(); // also at the bucket's end
-        let hash = self.nodes[symbol.id() as usize].hash;
+        let hash = self.hashes[symbol.id() as usize];
         match self.behind(symbol) {
             None => None,
             Some(found) => { if found.1 == hash { Some(found.0) } else { None } }
@@ -169,7 +170,7 @@ impl Index {
         requires { bucket < self.now.count }
         ensures { result ≡ head_of (chain self.now bucket) }
     {
-        entry(&self.nodes, self.leader(bucket))
+        entry(&self.hashes, self.leader(bucket))
     }
 
     fn behind(&self, symbol: Symbol) -> Option<(Symbol, u64)>
@@ -177,7 +178,7 @@ impl Index {
         ensures next { (b hash : ℕ) (before behind : List (ℕ × ℕ)) →
             chain self.now b ≡ before ++ (symbol, hash) ∷ behind → result ≡ head_of behind }
     {
-        entry(&self.nodes, self.nodes[symbol.id() as usize].next)
+        entry(&self.hashes, next(&self.links, symbol))
     }
 
     // The last symbol of the hash's bucket with a smaller hash.
@@ -229,12 +230,12 @@ impl Index {
 }
 
 // The symbol that a link leads to, with its hash.
-fn entry(nodes: &[Node], link: Option<Symbol>) -> Option<(Symbol, u64)>
-    requires { (s : Symbol) → link ≡ Some s → s < length nodes.now }
-    ensures { result ≡ option_map (entry_of nodes.now) link }
+fn entry(hashes: &[u64], link: Option<Symbol>) -> Option<(Symbol, u64)>
+    requires { (s : Symbol) → link ≡ Some s → s < length hashes.now }
+    ensures { result ≡ option_map (entry_of hashes.now) link }
 {
     match link {
         None => None,
-        Some(symbol) => Some((symbol, nodes[symbol.id() as usize].hash)),
+        Some(symbol) => Some((symbol, hashes[symbol.id() as usize])),
     }
 }

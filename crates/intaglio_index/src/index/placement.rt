@@ -2,9 +2,10 @@
 ghost use Rattle.std.specs.Prelude.{◌≡◌, ◌-◌, ◌%◌, ◌<◌, ◌≤◌, ◌++◌, ◌∷◌, [], length, replicate, take, None};
 ghost use Rattle.intaglio_content.specs.Work.{placed};
 
+use super::Index;
 use super::filter::marked;
 use super::head::Head;
-use super::{Index, Node};
+use super::link::next;
 use intaglio_content::Work;
 use intaglio_symbol::Symbol;
 
@@ -44,7 +45,8 @@ impl Index {
             first: word,
             second: word,
         };
-        self.nodes.push_reserved(Node { hash, next: None });
+        self.hashes.push_reserved(hash);
+        self.links.push_reserved(symbol);
     }
 
     // As `insert`, for a bucket that isn't empty.
@@ -63,18 +65,17 @@ impl Index {
         let word = self.modulus.word(hash, symbol);
         let head = self.heads[bucket];
         self.filters[bucket] = marked(self.filters[bucket], hash);
+        self.hashes.push_reserved(hash);
         match place {
             None => {
                 self.heads[bucket] = head.led(leader.is_none(), word);
-                self.nodes.push_reserved(Node { hash, next: leader });
+                self.links.push_reserved(leader.unwrap_or(symbol));
             }
             Some(last) => {
                 self.heads[bucket] = head.followed(leader, last, word);
-                let at = last.id() as usize;
-                let next = self.nodes[at].next;
-                self.nodes.push_reserved(Node { hash, next });
-                let node = &mut self.nodes[at];
-                node.next = Some(symbol);
+                let link = next(&self.links, last).unwrap_or(symbol);
+                self.links.push_reserved(link);
+                self.links[last.id() as usize] = symbol;
             }
         }
     }
@@ -86,7 +87,8 @@ impl Index {
         ensures room { self.new.room ≡ self.old.room }
     {
         self.filters.fill(0);
-        self.nodes.clear();
+        self.hashes.clear();
+        self.links.clear();
     }
 
     /// Removes the symbols from `count` on. The others stay where they are, and
@@ -112,24 +114,23 @@ impl Index {
         ensures room { self.new.room ≡ self.old.room }
     {
         let last = self.placed() - 1;
-        let Node { hash, next } = self.nodes[last];
+        let hash = self.hashes[last];
+        let behind = next(&self.links, Symbol::new(last as u32));
         let bucket = self.modulus.bucket(hash);
-        match self.predecessor(bucket, hash) {
-            None => {
-                self.nodes.truncate(last);
-                match next {
-                    None => self.filters[bucket] = 0,
-                    Some(first) => {
-                        self.heads[bucket] = Head::read(self.modulus, &self.nodes, first);
-                    }
+        let before = self.predecessor(bucket, hash);
+        self.hashes.truncate(last);
+        self.links.truncate(last);
+        match before {
+            None => match behind {
+                None => self.filters[bucket] = 0,
+                Some(first) => {
+                    self.heads[bucket] = Head::read(self.modulus, &self.hashes, &self.links, first);
                 }
-            }
+            },
             Some(before) => {
                 let first = self.modulus.symbol(self.heads[bucket].first);
-                self.nodes.truncate(last);
-                let node = &mut self.nodes[before.id() as usize];
-                node.next = next;
-                self.heads[bucket] = Head::read(self.modulus, &self.nodes, first);
+                self.links[before.id() as usize] = behind.unwrap_or(before);
+                self.heads[bucket] = Head::read(self.modulus, &self.hashes, &self.links, first);
             }
         }
     }

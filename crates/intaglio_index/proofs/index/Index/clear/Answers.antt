@@ -1,8 +1,7 @@
-use Rattle.std.proofs.Common.{◌≡◌, length, ap, arith, ◌∙◌}
+use Rattle.std.proofs.Common.{◌≡◌, length, arith, ◌∙◌}
 use Rattle.intaglio_index.proofs.FilterLemmas.{filtered-none, zero_filters}
 use Rattle.intaglio_index.proofs.HeadLemmas.{headed_none}
 use Rattle.intaglio_index.proofs.LinkLemmas.{empty_links}
-use Rattle.intaglio_index.specs.Links.{hashes_of}
 use Rattle.intaglio_index.proofs.index.Index.clear.Goals as goal
 
 pub invariant_of-self : goal.invariant_of-self
@@ -11,7 +10,7 @@ invariant_of-self c =
     record {
       modulus = c.self.invariant.modulus;
       counted = c.self.invariant.counted;
-      linked = empty_links _ _ c.clear.ensures.items;
-      headed = headed_none _ _ _ _ (zero_filters _ _ (c.fill.ensures.items (λ y e. e))) (ap hashes_of c.clear.ensures.items);
-      filtered = filtered-none _ _ _ (filters ∙ c.self.invariant.filtered.size) (ap hashes_of c.clear.ensures.items);
+      linked = empty_links _ _ _ c.clear.ensures.items c.clear-2.ensures.items;
+      headed = headed_none _ _ _ _ (zero_filters _ _ (c.fill.ensures.items (λ y e. e))) c.clear.ensures.items;
+      filtered = filtered-none _ _ _ (filters ∙ c.self.invariant.filtered.size) c.clear.ensures.items;
     }

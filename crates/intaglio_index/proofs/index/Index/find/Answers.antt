@@ -1,7 +1,5 @@
 use Rattle.std.proofs.Common.{◌≡◌, ◌≢◌, ◌⊎◌, ℕ, List, ◌∷◌, ◌++◌, Option, false, ◌<◌, ◌+◌, ◌/◌, ◌%◌, length, get_or, sym, ap, ◌∙◌, arith, inl, inr}
 use Rattle.std.proofs.lemmas.Bool.{eqb-false, true≢false}
-use Rattle.std.proofs.lemmas.List.{length-map}
-use Rattle.intaglio_index.specs.declared.index.Node.{Node}
 use Rattle.intaglio_content.specs.Work.{Event}
 use Rattle.intaglio_index.specs.Placed.{Placed, chain, head_of}
 use Rattle.intaglio_index.specs.Found.{IsReached, IsFound}
@@ -14,8 +12,8 @@ use Rattle.intaglio_index.proofs.index.Index.find.Goals.{After-agrees, After-sym
 count_is : (c : After-agrees) → c.args.self.now.count ≡ length c.self.inside.heads.items
 count_is c = ap (λ (v : Placed). v.count) (sym c.self.view_is)
 
-placed_is : (c : After-agrees) → length c.args.self.now.hashes ≡ length c.self.inside.nodes.items
-placed_is c = rw (← c.self.view_is) (length-map c.self.inside.nodes.items (λ (n : Node). n.hash))
+placed_is : (c : After-agrees) → length c.args.self.now.hashes ≡ length c.self.inside.hashes.items
+placed_is c = ap (λ (v : Placed). length v.hashes) (sym c.self.view_is)
 
 occupied : (c : After-agrees) → IsOccupied c.args.self.now (c.args.hash % c.args.self.now.count) (c.self.inside.modulus.mask + 1) c.index-head.result.now
 occupied c =
@@ -85,7 +83,7 @@ symbol-symbol-requires-clause-number c =
 pub index-requires-then-not-is_power_of_two : goal.index-requires-then-not-is_power_of_two
 index-requires-then-not-is_power_of_two c =
     let all = (goal.at.index-requires-then-not-is_power_of_two c).After-agrees in
-    omega (arith, nearest_within _ _ _ c.args.hash c.nearest-word.result _ (occupied all) c.nearest-word.ensures.first c.nearest-word.ensures.second, placed_is all, c.id.ensures, c.symbol-symbol.ensures, c.self.inside.nodes.ok.0)
+    omega (arith, nearest_within _ _ _ c.args.hash c.nearest-word.result _ (occupied all) c.nearest-word.ensures.first c.nearest-word.ensures.second, placed_is all, c.id.ensures, c.symbol-symbol.ensures, c.self.inside.hashes.ok.0)
 
 pub returns-then-word-head-clause-found : goal.returns-then-word-head-clause-found
 returns-then-word-head-clause-found c =
@@ -94,7 +92,7 @@ returns-then-word-head-clause-found c =
     let sure : (get_or c.args.self.now.hashes (c.nearest-word.result % (c.self.inside.modulus.mask + 1)) 0 ≡ c.args.hash) ⊎ (c.args.self.now.count ≡ c.self.inside.modulus.mask + 1) =
     elim c.else-not-is_power_of_two.branch [
       | else-not-is_power_of_two-via-then-not-is_power_of_two+else-index-hash w ↦
-          inl (hash_read c.args.self.now c.self.inside.nodes.items (c.nearest-word.result % (c.self.inside.modulus.mask + 1)) _ _ (ap (λ (v : Placed). v.hashes) (sym c.self.view_is)) within w.index-then-not-is_power_of_two.ensures (w.id.ensures ∙ c.symbol-symbol.ensures) ∙ w.if-index-hash.false)
+          inl (hash_read c.args.self.now.hashes (c.nearest-word.result % (c.self.inside.modulus.mask + 1)) _ _ within (rw (← c.self.view_is) w.index-then-not-is_power_of_two.ensures) (w.id.ensures ∙ c.symbol-symbol.ensures) ∙ w.if-index-hash.false)
       | else-not-is_power_of_two-via-else-not-is_power_of_two w ↦ inr (count_is all ∙ sym c.self.invariant.counted ∙ c.is_power_of_two.ensures.0 w.if-not-is_power_of_two.false)
     ] in
     let high = c.agrees.ensures.0 c.if-not-agrees.false in
@@ -108,7 +106,7 @@ returns-clause-found c =
     let sure : (get_or c.args.self.now.hashes (c.nearest-word.result % (c.self.inside.modulus.mask + 1)) 0 ≡ c.args.hash) ⊎ (c.args.self.now.count ≡ c.self.inside.modulus.mask + 1) =
     elim c.else-not-is_power_of_two.branch [
       | else-not-is_power_of_two-via-then-not-is_power_of_two+else-index-hash w ↦
-          inl (hash_read c.args.self.now c.self.inside.nodes.items (c.nearest-word.result % (c.self.inside.modulus.mask + 1)) _ _ (ap (λ (v : Placed). v.hashes) (sym c.self.view_is)) within w.index-then-not-is_power_of_two.ensures (w.id.ensures ∙ c.symbol-symbol.ensures) ∙ w.if-index-hash.false)
+          inl (hash_read c.args.self.now.hashes (c.nearest-word.result % (c.self.inside.modulus.mask + 1)) _ _ within (rw (← c.self.view_is) w.index-then-not-is_power_of_two.ensures) (w.id.ensures ∙ c.symbol-symbol.ensures) ∙ w.if-index-hash.false)
       | else-not-is_power_of_two-via-else-not-is_power_of_two w ↦ inr (count_is all ∙ sym c.self.invariant.counted ∙ c.is_power_of_two.ensures.0 w.if-not-is_power_of_two.false)
     ] in
     let high = c.agrees.ensures.0 c.if-not-agrees.false in

@@ -1,12 +1,12 @@
-use Rattle.std.proofs.Common.{◌≡◌, ℕ, List, ◌∷◌, ◌++◌, sym, ap, ◌∙◌}
-use Rattle.intaglio_index.specs.Placed.{Placed, chain}
+use Rattle.std.proofs.Common.{◌≡◌, ℕ, List, ◌∷◌, ◌++◌, sym, ◌∙◌}
+use Rattle.intaglio_index.specs.Placed.{chain}
 use Rattle.intaglio_index.proofs.SearchLemmas.{next_with, next_without, next_none, hash_placed, hash_read}
 use Rattle.intaglio_index.proofs.index.Index.find_next.Goals as goal
 use Rattle.intaglio_index.proofs.index.Index.find_next.Goals.{After-behind}
 
-own_hash : (c : After-behind) (b hash : ℕ) (before behind : List (ℕ × ℕ)) → chain c.args.self.now b ≡ before ++ (c.args.symbol, hash) ∷ behind → c.index.result.now.hash ≡ hash
+own_hash : (c : After-behind) (b hash : ℕ) (before behind : List (ℕ × ℕ)) → chain c.args.self.now b ≡ before ++ (c.args.symbol, hash) ∷ behind → c.index-hash.result.now ≡ hash
 own_hash c b hash before behind split =
-    sym (hash_read c.args.self.now c.self.inside.nodes.items c.args.symbol _ _ (ap (λ (v : Placed). v.hashes) (sym c.self.view_is)) c.requires c.index.ensures c.id.ensures) ∙ hash_placed _ b c.args.symbol hash before behind split
+    sym (hash_read c.args.self.now.hashes c.args.symbol _ _ c.requires (rw (← c.self.view_is) c.index-hash.ensures) c.id.ensures) ∙ hash_placed _ b c.args.symbol hash before behind split
 
 pub returns-in-None-clause-next : goal.returns-in-None-clause-next
 returns-in-None-clause-next c = λ b hash before behind split. next_none _ behind hash (c.behind.ensures.next b hash before behind split) c.in-None.is

@@ -1,6 +1,4 @@
 use Rattle.std.proofs.Common.{◌≡◌, ℕ, ◌<◌, ◌+◌, ◌%◌, [], ◌∷◌, ◌++◌, length, sym, ap, ◌∙◌, arith, inl, inr}
-use Rattle.std.proofs.lemmas.List.{length-map}
-use Rattle.intaglio_index.specs.declared.index.Node.{Node}
 use Rattle.intaglio_index.specs.Placed.{Placed, chain}
 use Rattle.intaglio_index.proofs.HeadLemmas.{IsOccupied, is_vacant, is_occupied, first_within, second_within}
 use Rattle.intaglio_index.proofs.SearchLemmas.{begins_above, first_precedes, behind_second}
@@ -10,8 +8,8 @@ use Rattle.intaglio_index.proofs.index.Index.predecessor.Goals.{After-index}
 count_is : (c : After-index) → c.args.self.now.count ≡ length c.self.inside.heads.items
 count_is c = ap (λ (v : Placed). v.count) (sym c.self.view_is)
 
-placed_is : (c : After-index) → length c.args.self.now.hashes ≡ length c.self.inside.nodes.items
-placed_is c = rw (← c.self.view_is) (length-map c.self.inside.nodes.items (λ (n : Node). n.hash))
+placed_is : (c : After-index) → length c.args.self.now.hashes ≡ length c.self.inside.hashes.items
+placed_is c = ap (λ (v : Placed). length v.hashes) (sym c.self.view_is)
 
 exact : (c : After-index) → c.args.self.now.count ≡ c.self.inside.modulus.mask + 1
 exact c = count_is c ∙ sym c.self.invariant.counted ∙ c.is_power_of_two.ensures.0 c.if-not-is_power_of_two.false
