@@ -259,7 +259,7 @@ def copied_proofs(repository, names):
 
 def without_good_news(said):
     """What a check printed, without the lines on what is proved and what was loaded."""
-    return re.sub(r"(?m)^(fn \S+: proved|statements |logic /|rt: chose ).*\n", "", said)
+    return re.sub(r"(?m)^(\w+ \S+: proved$|fn \S+: proved|statements |logic /|rt: chose ).*\n", "", said)
 
 
 def functions_of(crate):
