@@ -5,6 +5,7 @@ sentence still stands, and change the line.
 """
 
 import functools
+import hashlib
 import importlib.machinery
 import importlib.util
 import os
@@ -68,13 +69,15 @@ def crates(top=TOP):
 
 def is_built(library):
     """Whether the library is built from the sources as they are, and over those below it as they are."""
-    stamp, made = Path(library.folder, "out/rlib/stamp"), Path(library.rlib, "format")
-    newest = max(os.path.getmtime(file) for file in load().rtlib.files_of(library.folder))
+    stamp, made = Path(library.folder, "out/rlib/stamp"), Path(library.rlib)
+    if not (made / "format").is_file():
+        return False
     if stamp.is_file():
-        return made.is_file() and library.is_built()
-    # (what `rt ci` builds has no stamp, and can be used over its own libraries alone)
+        return library.is_built()
+    newest = max(os.path.getmtime(file) for file in load().rtlib.files_of(library.folder))
+    # (what `rt ci` builds has no stamp, and can be used over its own libraries alone; a file that it kept from an earlier run is older than its folder here)
     is_of_ci = not any(Path(it.folder, "out/rlib/stamp").is_file() for it in library.below())
-    return made.is_file() and newest <= made.stat().st_mtime and is_of_ci
+    return newest <= made.stat().st_mtime and is_of_ci
 
 
 def build_missing(libraries):
@@ -111,6 +114,33 @@ def unreadable(said, texts):
     """The first line by which the prover can't read an edited text, or a library's kept work can't be used."""
     rt = load()
     return next((line for line in said.splitlines() if rt.unread(line, texts) or rt.rtlib.STALE.search(line)), None)
+
+
+class Verdicts:
+    """What the prover said of edits, in this run and in earlier ones of any checkout on this machine. It is kept where `rt` keeps what it said of its own
+    edits, and as `rt` does under a sum of all that it stands on: the kit, the files of the crate and of those below it, the edit and the scripts. So it is
+    never out of date. What was said over the libraries of an `rt ci` is said of all, and no other counts for a run beside an `rt ci`."""
+
+    def __init__(self, scripts, is_anew, is_beside_ci):
+        every = crates()
+        # (the files are looked at here, and again as something is kept)
+        self.kept, self.stamps = load().Kept(every, is_anew), {}
+        for crate in every:
+            load().stamp_of(crate, self.stamps)
+        self.scripts, self.is_beside_ci = [load().rtlib.sum_of(it) for it in scripts], is_beside_ci
+
+    def name(self, crate, edit, is_of_ci):
+        return hashlib.sha256(repr((self.stamps[crate.name], self.scripts, edit, is_of_ci)).encode()).hexdigest()
+
+    def known(self, crate, edit):
+        """What was said of an edit, as it was read, in an earlier run, or nothing."""
+        return (self.kept.tried(self.name(crate, edit, self.is_beside_ci)) or (None, None))[1]
+
+    def keep(self, crate, edit, said):
+        """Keeps what was said of it, unless a file of the crate or of those below it was touched since this run began."""
+        if all(map(self.kept.is_untouched, [crate, *crate.below()])):
+            for is_of_ci in {False, self.is_beside_ci}:
+                self.kept.keep_tried(self.name(crate, edit, is_of_ci), load().REFUSED, said)
 
 
 def crate_above(room, name):
@@ -155,10 +185,6 @@ def lines_of(crate):
     return sum(it.read_bytes().count(b"\n") for it in files if not {"tests", "tests.rt"} & {*it.parts})
 
 
-# Beside rt's own `stamp` of a library, what it was proved as, from nothing.
-FROM_NOTHING = "from_nothing"
-
-
 def of_program(name):
     """The crates that a program stands on, and it, lowest first."""
     crate = next((it for it in crates() if it.name == name), None) or sys.exit(f"crates.txt lists no {name}")
@@ -169,13 +195,10 @@ def of_program(name):
 
 
 def is_proved(crate):
-    """Whether the crate was proved as it is now, with what stands below it, from nothing: `rt lib` proves over what earlier checks kept."""
-    stamp = Path(crate.folder, "out/rlib", FROM_NOTHING)
-    return stamp.is_file() and stamp.read_text(encoding="utf-8") == crate.stamp() and os.path.exists(made_of(crate))
-
-
-def made_of(crate):
-    return f"{crate.folder}/out/{crate.name}" if crate.is_program else crate.rlib
+    """Whether the crate was proved as it is now, with what stands below it: here, or in another checkout on this machine, whose library is then taken."""
+    if not crate.is_program:
+        return crate.is_built() or load().take_rlib(crate)
+    return os.path.exists(f"{crate.folder}/out/{crate.name}") and load().rtlib.text_of(f"{crate.folder}/out/rlib/stamp") == crate.stamp()
 
 
 def proved(crate, jobs):
@@ -194,8 +217,10 @@ def proved(crate, jobs):
         except SystemExit as stopped:
             status = stopped.code or 2
         if not status and stamp == crate.stamp():
-            for name in ("stamp", FROM_NOTHING):
-                Path(kept, name).write_text(stamp, encoding="utf-8")
+            Path(kept, "stamp").write_text(stamp, encoding="utf-8")
+            if not crate.is_program:
+                # (as `rt lib` does, so that other checkouts on this machine take it)
+                rt.offer(crate, stamp)
         crate.out.seek(0)
         return status, crate.out.read()
 
@@ -234,7 +259,7 @@ def copied_proofs(repository, names):
 
 def without_good_news(said):
     """What a check printed, without the lines on what is proved and what was loaded."""
-    return re.sub(r"(?m)^(fn \S+: proved|statements |logic /|rt: chose ).*\n", "", said)
+    return re.sub(r"(?m)^(\w+ \S+: proved$|fn \S+: proved|statements |logic /|rt: chose ).*\n", "", said)
 
 
 def functions_of(crate):

@@ -16,13 +16,12 @@ use crate::take::take_lines;
 use crate::write::Encoding;
 use intaglio_bytes::b_str::BStrContent;
 use intaglio_bytes::bytes::BytesContent;
-use intaglio_core::{Sought, Spelled};
+use intaglio_core::{Core, Sought, Spelled};
 use intaglio_cstr::CStrContent;
 use intaglio_lines::kind::Kind;
 use intaglio_lines::read::read_all;
 use intaglio_lines::write::write_output;
 use intaglio_path::PathContent;
-use intaglio_table::Table;
 use intaglio_text::StrContent;
 use intaglio_text::osstr::OsStrContent;
 use std::alloc::Global;
@@ -119,7 +118,7 @@ fn encode_by<
     ensures nothing_written { IfErr result (λ e. e ≢ WriteFailed → writer.new ≡ writer.old) }
     ensures err { IfErr result IsInterningOrWritingError }
 {
-    let mut table = Table::<C, S>::with_hasher(alloc, builder)?;
+    let mut table = Core::<C, S>::with_hasher(alloc, builder)?;
     let symbols = take_lines(alloc, &mut table, input)?;
     let encoding = Encoding {
         symbols: &symbols,

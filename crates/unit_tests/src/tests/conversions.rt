@@ -104,11 +104,9 @@ fn has_id(rt: &impl Abort, number: u32) {
 
 #[test]
 fn symbol_into_u32_is_its_id(rt: HostRuntime) {
-    has_id(&rt, 0);
-    has_id(&rt, 1);
-    has_id(&rt, 17);
-    has_id(&rt, 192);
-    has_id(&rt, 4294967295);
+    for number in [0, 1, 17, 192, 4294967295] {
+        has_id(&rt, number);
+    }
 }
 
 #[test]

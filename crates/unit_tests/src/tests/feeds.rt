@@ -76,15 +76,22 @@ fn c_strings_feed_their_bytes_and_an_end(rt: HostRuntime) {
     feeds_else::<CStrContent, CStr>(&rt, &empty, &[b"\xff"]);
 }
 
+// Paths, and the writes that they make.
+static FED: [(&str, &[&[u8]]); 5] = [
+    ("a//b", &[b"a", b"\xff", b"b", b"\xff"]),
+    ("./a", &[b".", b"\xff", b"a", b"\xff"]),
+    ("/", &[b"/", b"\xff"]),
+    ("/..", &[b"/", b"\xff", b"..", b"\xff"]),
+    ("", &[]),
+];
+
 #[test]
 fn components_are_fed_with_their_ends(rt: HostRuntime) {
     let path = PathContent::from("a/b");
     feeds::<PathContent, PathContent>(&rt, &path, &[b"a", b"\xff", b"b", b"\xff"]);
-    feeds::<PathContent, Path>(&rt, &Path::new("a//b"), &[b"a", b"\xff", b"b", b"\xff"]);
-    feeds::<PathContent, Path>(&rt, &Path::new("./a"), &[b".", b"\xff", b"a", b"\xff"]);
-    feeds::<PathContent, Path>(&rt, &Path::new("/"), &[b"/", b"\xff"]);
-    feeds::<PathContent, Path>(&rt, &Path::new("/.."), &[b"/", b"\xff", b"..", b"\xff"]);
-    feeds::<PathContent, Path>(&rt, &Path::new(""), &[]);
+    for (path, writes) in FED {
+        feeds::<PathContent, Path>(&rt, &Path::new(path), writes);
+    }
     feeds_else::<PathContent, Path>(&rt, &Path::new("a/b"), &[b"a/b", b"\xff"]);
     feeds_else::<PathContent, Path>(&rt, &Path::new("/"), &[b"/"]);
 }
