@@ -6,7 +6,6 @@
 #![tactic(auto)]
 
 pub mod error;
-pub mod fakes;
 pub mod kind;
 pub mod laws;
 pub mod lines;

@@ -9,6 +9,7 @@ mod core_calls;
 mod decoding;
 mod encoding;
 mod errors;
+mod fakes;
 mod feeds;
 mod forms;
 mod frozen_tables;

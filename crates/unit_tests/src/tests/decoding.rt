@@ -1,10 +1,10 @@
 //! What decoding writes for whole inputs, and its errors, with readers and writers that fail.
 use super::assertions::holds;
+use super::fakes::{SlowReader, SmallWriter, StuckWriter, UnflushedWriter};
 use intaglio_decode::error::RestoreError;
 use intaglio_decode::restore::restore;
 use intaglio_decode::serve::serve;
 use intaglio_lines::error::{StreamError, report};
-use intaglio_lines::fakes::{SlowReader, SmallWriter, StuckWriter, UnflushedWriter};
 use std::io::{ErrorKind, Read, Write};
 use std::process::Abort;
 

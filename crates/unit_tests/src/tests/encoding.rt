@@ -1,10 +1,10 @@
 //! What encoding writes for whole inputs, and its errors, with readers and writers that fail.
 use super::assertions::holds;
+use super::fakes::{SlowReader, SmallWriter, StuckWriter, UnflushedWriter};
 use intaglio_encode::encode::encode;
 use intaglio_encode::error::ToolError;
 use intaglio_encode::serve::serve;
 use intaglio_lines::error::report;
-use intaglio_lines::fakes::{SlowReader, SmallWriter, StuckWriter, UnflushedWriter};
 use intaglio_lines::kind::Kind;
 use std::alloc::Global;
 use std::hash::{BuildHasherDefault, FoldHasher};
