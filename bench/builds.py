@@ -52,6 +52,12 @@ def build_restore(top):
     return top / "crates/intaglio_restore/out/intaglio_restore"
 
 
+def build_dict(top):
+    """Proves and builds the program in crates/intaglio_dict."""
+    run(["rt", "run", "--", "--version"], top / "crates/intaglio_dict")
+    return top / "crates/intaglio_dict/out/intaglio_dict"
+
+
 def build_twin(top, scratch, upstream, name="twin"):
     """Lays the Rust crate out in the scratch folder, and builds the twin's program of that name over it."""
     crate = scratch / "intaglio"

@@ -204,7 +204,22 @@ def freeze(strings, kind=BYTES, key0=0, key1=0):
         raise ValueError("two strings are equal")
     while not (found := places_of([sip_hash(key0, key1, it) for it in strings])):
         key0 = key0 + 1 & WORD
-    symbols, tags, pilots = found
+    return assembled(strings, kind, key0, key1, *found)
+
+
+def rebuilt(table):
+    """The bytes of a table, from its kind, keys, strings and pilots alone."""
+    at, strings = table.sections, [*table]
+    symbols, tags = [NO_SYMBOL] * at.places, bytearray(at.places)
+    for symbol, string in enumerate(strings):
+        number = sip_hash(table.key0, table.key1, string)
+        place = scaled(at.places, mixed(number, table.pilots[scaled(at.groups, number)]))
+        symbols[place], tags[place] = symbol, number % 256
+    return assembled(strings, table.kind, table.key0, table.key1, symbols, tags, table.pilots)
+
+
+def assembled(strings, kind, key0, key1, symbols, tags, pilots):
+    """The bytes of all sections."""
     ends, end = [], 0
     for string in strings:
         end += len(string)

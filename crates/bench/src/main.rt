@@ -2,6 +2,7 @@
 //! the same words.
 #![tactic(auto)]
 
+mod frozen;
 mod operations;
 mod plan;
 mod table;
@@ -9,17 +10,19 @@ mod turn;
 mod words;
 
 use anyhow::Result;
+use frozen::{frozen, print_words};
 use intaglio::{SymbolTable, packed};
 use intaglio_hash::KeyedState;
 use plan::{Hashing, Place, Plan, Task};
 use std::env;
 use std::hash::{BuildHasher, RandomState};
+use std::random::RandomSource;
 use std::rt::{Clock, Env};
 use table::WordTable;
 use turn::{copy, hash_alone, hold, turn};
 
 const USAGE: &str =
-    "check|time|hold|hash|copy single|batch|both|packed|packed_batch|packed_both fold|keyed|std CAPACITY SIZE TURNS";
+    "check|time|hold|hash|copy|frozen|words single|batch|both|packed|packed_batch|packed_both fold|keyed|std CAPACITY SIZE TURNS";
 
 fn main(rt: HostRuntime) -> Result<()> {
     let mut arguments = Vec::new(rt.alloc());
@@ -31,16 +34,28 @@ fn main(rt: HostRuntime) -> Result<()> {
         return Ok(());
     };
     for _ in 0..plan.turns {
-        match plan.hashing {
-            Hashing::Fold => fold(&rt, plan)?,
-            Hashing::Keyed => {
-                let builder = KeyedState::from_random(&RandomState::new(&rt)?);
-                run_with(&rt, plan, builder)?;
-            }
-            Hashing::Std => run_with(&rt, plan, RandomState::new(&rt)?)?,
+        match plan.task {
+            Task::Frozen => frozen(&rt, plan)?,
+            Task::Words => print_words(&rt, plan)?,
+            _ => on_a_table(&rt, plan)?,
         }
     }
     Ok(())
+}
+
+// A turn with the hasher that the plan names.
+fn on_a_table<R: Print + Input + Clock + RandomSource + AllocGlobal>(
+    rt: &R,
+    plan: Plan,
+) -> Result<()> {
+    match plan.hashing {
+        Hashing::Fold => fold(rt, plan),
+        Hashing::Keyed => {
+            let builder = KeyedState::from_random(&RandomState::new(rt)?);
+            run_with(rt, plan, builder)
+        }
+        Hashing::Std => run_with(rt, plan, RandomState::new(rt)?),
+    }
 }
 
 // A turn with the hasher of fixed seed, whose tables round their capacity up.
@@ -86,5 +101,7 @@ fn run<R: Print + Input + Clock + AllocGlobal, T: WordTable + Drop>(
         Task::Hold => hold(rt, &mut table, plan),
         Task::Hash => hash_alone(rt, &mut table, plan),
         Task::Copy => copy(rt, &mut table, plan),
+        // These make their own tables.
+        Task::Frozen | Task::Words => Ok(()),
     }
 }

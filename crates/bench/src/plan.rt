@@ -13,6 +13,10 @@ pub enum Task {
     Hash,
     /// New words are interned by their borrowed forms, and the time is printed.
     Copy,
+    /// A packed table is frozen, and both are searched, with printed times.
+    Frozen,
+    /// The words are printed.
+    Words,
 }
 
 /// How many words a call takes.
@@ -86,6 +90,8 @@ fn task_of(word: &str) -> Option<Task> {
         "hold" => Some(Task::Hold),
         "hash" => Some(Task::Hash),
         "copy" => Some(Task::Copy),
+        "frozen" => Some(Task::Frozen),
+        "words" => Some(Task::Words),
         _ => None,
     }
 }

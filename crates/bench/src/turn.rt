@@ -109,14 +109,15 @@ fn batches<R: Print + Clock + AllocGlobal, T: WordTable>(
     measure(rt, table, plan, "refill", Operation::InternBatches(absent))
 }
 
-fn shuffled_numbers(alloc: Global, plan: Plan) -> Result<Vec<u32>, AllocError> {
+/// The numbers of all words, in an order that looks random.
+pub fn shuffled_numbers(alloc: Global, plan: Plan) -> Result<Vec<u32>, AllocError> {
     let mut shuffled = numbers(alloc, 0, plan.size)?;
     shuffle(&mut shuffled);
     Ok(shuffled)
 }
 
-// As many words, none of them among the first ones.
-fn other_words(alloc: Global, plan: Plan) -> Result<Vec<String>, AllocError> {
+/// As many words, none of them among the first ones.
+pub fn other_words(alloc: Global, plan: Plan) -> Result<Vec<String>, AllocError> {
     words(alloc, &numbers(alloc, plan.size, plan.size)?)
 }
 
@@ -132,7 +133,8 @@ fn measure<R: Print + Clock + AllocGlobal, T: WordTable>(
     report(rt, plan, name, start, sum)
 }
 
-fn report<R: Print + Clock>(
+/// Prints the line of an operation that has just ended.
+pub fn report<R: Print + Clock>(
     rt: &R,
     plan: Plan,
     name: &str,

@@ -44,6 +44,12 @@ fn freeze<'a>(alloc: Global) -> Result<Command<'a>, AllocError> {
                 .required(true)
                 .help("the dictionary, which is replaced when the new one is whole"),
         )?
+        .arg(
+            Arg::new(alloc, "PROGRESS")
+                .long("progress")
+                .action(ArgAction::SetTrue)
+                .help("shows on standard error how far it is"),
+        )?
         .arg(many(alloc, "FILE", FILES))
 }
 

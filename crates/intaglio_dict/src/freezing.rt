@@ -1,6 +1,7 @@
 //! The subcommand that writes a dictionary.
 use crate::input::{files, standard};
 use crate::noticing::Noticing;
+use crate::progress::Shown;
 use crate::report;
 use clap::ArgMatches;
 use intaglio_dictionary::error::FreezingError;
@@ -28,8 +29,12 @@ pub fn freeze<R: Files + RandomSource + Input + Eprint + AllocGlobal>(
         Some(names) => files(rt, names),
         None => standard(rt),
     };
+    let mut shown = Shown::new(rt, found.get_flag("PROGRESS"));
     match input {
-        Ok(input) => freeze_to(rt, name, kind, &input),
+        Ok(input) => {
+            shown.stage(input.len(), "bytes read");
+            freeze_to(rt, name, kind, &input, &mut shown)
+        }
         Err(status) => status,
     }
 }
@@ -42,18 +47,24 @@ fn kind_of(found: &ArgMatches<'_>) -> Option<Kind> {
     }
 }
 
-// Writes the dictionary beside its place, and renames it when it is whole.
+// Writes the dictionary beside its place, and renames it when it is whole. A device or a pipe isn't replaced.
 fn freeze_to<R: Files + RandomSource + Eprint + AllocGlobal>(
     rt: &R,
     name: &str,
     kind: Kind,
     input: &[u8],
+    shown: &mut Shown<'_, R>,
 ) -> u8 {
+    if let Ok(found) = fs::metadata(rt, name) {
+        if !found.is_file() {
+            return report::failed(rt, name, "not a regular file");
+        }
+    }
     let beside = match format!(in rt.alloc(); "{name}.new") {
         Ok(beside) => beside,
         Err(_) => return report::out_of_memory(rt),
     };
-    let status = match write_beside(rt, name, beside.as_str(), kind, input) {
+    let status = match write_beside(rt, name, beside.as_str(), kind, input, shown) {
         0 => match fs::rename(rt, beside.as_str(), name) {
             Ok(()) => return 0,
             Err(e) => report::of_file(rt, name, e),
@@ -71,6 +82,7 @@ fn write_beside<R: Files + RandomSource + Eprint + AllocGlobal>(
     beside: &str,
     kind: Kind,
     input: &[u8],
+    shown: &mut Shown<'_, R>,
 ) -> u8 {
     let Ok(builder) = RandomState::new(rt) else {
         return report::failed(rt, name, "no random seed");
@@ -80,7 +92,7 @@ fn write_beside<R: Files + RandomSource + Eprint + AllocGlobal>(
         Err(e) => return report::of_file(rt, name, e),
     };
     let mut output = Noticing::new(file);
-    let written = freeze_lines(rt.alloc(), kind, KEYS, builder, input, &mut output);
+    let written = freeze_lines(rt.alloc(), kind, KEYS, builder, input, &mut output, shown);
     let (file, error) = output.into_parts();
     match written {
         Ok(()) => match file.sync_all() {

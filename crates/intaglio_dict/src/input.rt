@@ -1,4 +1,5 @@
 //! Whole inputs.
+use crate::noticing::Noticing;
 use crate::report;
 use crate::run::INPUT;
 use intaglio_lines::error::StreamError;
@@ -10,27 +11,27 @@ use std::rt::Files;
 
 /// The bytes of a file, or the exit status after a message.
 pub fn file<R: Files + Eprint + AllocGlobal>(rt: &R, name: &str) -> Result<Vec<u8>, u8> {
-    let mut input = match fs::open(rt, name) {
-        Ok(input) => input,
-        Err(e) => return Err(report::of_file(rt, name, e)),
-    };
-    whole(rt, name, &mut input)
+    match fs::open(rt, name) {
+        Ok(input) => whole(rt, name, input),
+        Err(e) => Err(report::of_file(rt, name, e)),
+    }
 }
 
 /// The bytes of standard input, or the exit status after a message.
 pub fn standard<R: Input + Eprint + AllocGlobal>(rt: &R) -> Result<Vec<u8>, u8> {
-    whole(rt, INPUT, &mut rt.reader())
+    whole(rt, INPUT, rt.reader())
 }
 
-fn whole<R: Eprint + AllocGlobal, I: Read>(
+fn whole<R: Eprint + AllocGlobal, I: Read + Drop>(
     rt: &R,
     name: &str,
-    input: &mut I,
+    input: I,
 ) -> Result<Vec<u8>, u8> {
-    match read_all(rt.alloc(), input) {
+    let mut input = Noticing::new(input);
+    match read_all(rt.alloc(), &mut input) {
         Ok(bytes) => Ok(bytes),
         Err(StreamError::Memory) => Err(report::out_of_memory(rt)),
-        Err(stopped) => Err(report::failed(rt, name, stopped)),
+        Err(_) => Err(report::unread(rt, name, input.error())),
     }
 }
 

@@ -7,6 +7,7 @@ mod command;
 mod freezing;
 mod input;
 mod noticing;
+mod progress;
 mod report;
 mod run;
 

@@ -1,26 +1,26 @@
-//! A writer that notices how a write failed.
+//! A stream that notices how a read or a write failed.
 use std::io;
-use std::io::Write;
+use std::io::{Read, Write};
 
-/// Writes through another writer, and keeps the last error.
+/// Reads or writes through another stream, and keeps the last error.
 #[derive(Drop)]
-pub struct Noticing<W> {
-    writer: W,
+pub struct Noticing<S> {
+    stream: S,
     error: Option<io::Error>,
 }
 
-impl<W: Write> Noticing<W> {
-    /// No write has failed yet.
-    pub fn new(writer: W) -> Noticing<W> {
+impl<S> Noticing<S> {
+    /// Nothing has failed yet.
+    pub fn new(stream: S) -> Noticing<S> {
         Noticing {
-            writer,
+            stream,
             error: None,
         }
     }
 
-    /// The writer, and the last error.
-    pub fn into_parts(self) -> (W, Option<io::Error>) {
-        (self.writer, self.error)
+    /// The stream, and the last error.
+    pub fn into_parts(self) -> (S, Option<io::Error>) {
+        (self.stream, self.error)
     }
 
     /// The last error.
@@ -29,11 +29,25 @@ impl<W: Write> Noticing<W> {
     }
 }
 
+impl<R: Read> Read for Noticing<R> {
+    ghost remaining = { λ r. R.remaining r.stream };
+
+    fn read(&mut self, buf: &mut [u8]) -> io::Result<usize> {
+        match self.stream.read(buf) {
+            Ok(taken) => Ok(taken),
+            Err(error) => {
+                self.error = Some(error);
+                Err(error)
+            }
+        }
+    }
+}
+
 impl<W: Write> Write for Noticing<W> {
-    ghost contents = { λ w. W.contents w.writer };
+    ghost contents = { λ w. W.contents w.stream };
 
     fn write(&mut self, buf: &[u8]) -> io::Result<usize> {
-        match self.writer.write(buf) {
+        match self.stream.write(buf) {
             Ok(taken) => Ok(taken),
             Err(error) => {
                 self.error = Some(error);
@@ -43,7 +57,7 @@ impl<W: Write> Write for Noticing<W> {
     }
 
     fn flush(&mut self) -> io::Result<()> {
-        match self.writer.flush() {
+        match self.stream.flush() {
             Ok(()) => Ok(()),
             Err(error) => {
                 self.error = Some(error);

@@ -1,5 +1,6 @@
 //! Messages on standard error, each with the exit status. A message that can't be written is lost.
 use clap::error::ErrorKind;
+use intaglio_lines::error::StreamError;
 use std::fmt::Display;
 use std::io;
 
@@ -16,6 +17,14 @@ fn without_number(text: &str) -> &str {
     match text.split_once(" (os error") {
         Some((words, _)) => words,
         None => text,
+    }
+}
+
+/// Of an input that couldn't be read to its end, by the last error.
+pub fn unread<R: Eprint + AllocGlobal>(rt: &R, name: &str, error: Option<io::Error>) -> u8 {
+    match error {
+        Some(error) => of_file(rt, name, error),
+        None => failed(rt, name, StreamError::Read),
     }
 }
 

@@ -86,16 +86,17 @@ fn find<R: Files + Input + Print + Eprint + AllocGlobal>(
 ) -> u8 {
     let mut output = Noticing::new(io::writer(rt));
     let Some(names) = found.get_strs("FILE") else {
-        let answer = find_lines(rt.alloc(), table, &mut rt.reader(), &mut output);
-        return ended(rt, INPUT, answer, &output);
+        let mut input = Noticing::new(rt.reader());
+        let answer = find_lines(rt.alloc(), table, &mut input, &mut output);
+        return ended(rt, INPUT, answer, input.error(), &output);
     };
     for name in names {
         let mut input = match fs::open(rt, *name) {
-            Ok(input) => input,
+            Ok(input) => Noticing::new(input),
             Err(e) => return report::of_file(rt, name, e),
         };
         let answer = find_lines(rt.alloc(), table, &mut input, &mut output);
-        let status = ended(rt, name, answer, &output);
+        let status = ended(rt, name, answer, input.error(), &output);
         if status != 0 {
             return status;
         }
@@ -123,7 +124,7 @@ fn get<R: Print + Eprint + AllocGlobal>(
     let mut output = Noticing::new(io::writer(rt));
     match write_strings(rt.alloc(), table, &symbols, &mut output) {
         Ok(()) => 0,
-        Err(DictionaryError::Stream(stopped)) => ended(rt, INPUT, Err(stopped), &output),
+        Err(DictionaryError::Stream(stopped)) => ended(rt, INPUT, Err(stopped), None, &output),
         Err(unknown) => report::failed(rt, name, unknown),
     }
 }
@@ -131,7 +132,7 @@ fn get<R: Print + Eprint + AllocGlobal>(
 fn list_all<R: Print + Eprint + AllocGlobal>(rt: &R, table: &Frozen<'_>) -> u8 {
     let mut output = Noticing::new(io::writer(rt));
     let answer = list(rt.alloc(), table, &mut output);
-    ended(rt, INPUT, answer, &output)
+    ended(rt, INPUT, answer, None, &output)
 }
 
 fn stat<R: Print + Eprint + AllocGlobal>(rt: &R, table: &Frozen<'_>, bytes: u64) -> u8 {
@@ -151,21 +152,22 @@ fn stat<R: Print + Eprint + AllocGlobal>(rt: &R, table: &Frozen<'_>, bytes: u64)
         Ok(()) => Ok(()),
         Err(_) => Err(StreamError::Write),
     };
-    ended(rt, INPUT, answer, &output)
+    ended(rt, INPUT, answer, None, &output)
 }
 
-// The exit status after an output, and a message if it isn't whole: the name is the input's. Nothing is said if
-// nobody reads the output.
+// The exit status after an output, and a message if it isn't whole: the name and the error are the input's. Nothing
+// is said if nobody reads the output.
 pub fn ended<R: Eprint + AllocGlobal, W: Write>(
     rt: &R,
     name: &str,
     answer: Result<(), StreamError>,
+    error: Option<io::Error>,
     output: &Noticing<W>,
 ) -> u8 {
     match answer {
         Ok(()) => 0,
         Err(StreamError::Memory) => report::out_of_memory(rt),
-        Err(StreamError::Read) => report::failed(rt, name, StreamError::Read),
+        Err(StreamError::Read) => report::unread(rt, name, error),
         Err(StreamError::Write) => match output.error() {
             Some(e) if e.kind() == io::ErrorKind::BrokenPipe => 1,
             Some(e) => report::of_file(rt, OUTPUT, e),

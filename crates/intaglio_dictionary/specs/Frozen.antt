@@ -7,7 +7,7 @@ use Rattle.intaglio_lines.specs.Puts.{Writes}
 use Rattle.intaglio_lines.specs.StreamError.{IsWritingError}
 use Rattle.intaglio_frozen.specs.Layout.{kind as kind_of, strings}
 use Rattle.intaglio_frozen.specs.IsFrozen.{IsFrozen, number_of}
-use Rattle.intaglio_frozen.specs.Freezing.{IsRefusal as IsTableRefusal}
+use Rattle.intaglio_frozen.specs.Freezing.{HasKeys, IsRefusal as IsTableRefusal}
 use Rattle.intaglio_frozen.specs.declared.kind.Kind.{Kind}
 use Rattle.intaglio_frozen.specs.declared.kind.Kind.TheVariants.{Bytes, Text}
 use Rattle.intaglio_dictionary.specs.declared.error.FreezingError.{FreezingError}
@@ -22,15 +22,16 @@ abbrev pub Allows : Kind → List ℕ → Type 0
 Allows Bytes input = ⊤
 Allows Text input = IsUtf8 input
 
--- these bytes are a frozen table of this kind, of these strings
-pub record IsTableOf (wanted : Kind) (lines : List (List ℕ)) (bytes : List ℕ) : Type 0 where
+-- these bytes are a frozen table of this kind, of these strings, under these keys or the next ones
+pub record IsTableOf (wanted : Kind) (keys : ℕ × ℕ) (lines : List (List ℕ)) (bytes : List ℕ) : Type 0 where
   pub frozen : IsFrozen bytes
   pub strings : strings bytes ≡ lines
   pub kind : kind_of bytes ≡ number_of wanted
+  pub keyed : HasKeys keys.0 keys.1 bytes
 
 -- such bytes are written
-abbrev pub WritesTable : {W : Type 0} → Kind → List (List ℕ) → (W → Option (List ℕ)) → W → W → Type 0
-WritesTable kind lines contents old new = (bytes : List ℕ) × IsTableOf kind lines bytes × Writes contents old new bytes
+abbrev pub WritesTable : {W : Type 0} → Kind → ℕ × ℕ → List (List ℕ) → (W → Option (List ℕ)) → W → W → Type 0
+WritesTable kind keys lines contents old new = (bytes : List ℕ) × IsTableOf kind keys lines bytes × Writes contents old new bytes
 
 -- when each error is returned
 abbrev pub IsRefusal : Kind → List ℕ → FreezingError → Type 0

@@ -8,6 +8,7 @@ ghost use Rattle.intaglio_dictionary.specs.Frozen.{Allows, IsRefusal, IsTableOf,
 ghost use Rattle.intaglio_dictionary.specs.declared.error.FreezingError.TheVariants.{NotUtf8, Stream};
 
 use crate::error::FreezingError;
+use crate::progress::Progress;
 use intaglio_bytes::bytes::BytesContent;
 use intaglio_encode::error::ToolError;
 use intaglio_encode::take::take_lines;
@@ -23,21 +24,24 @@ use std::{io, str};
 /// before its first occurrence.
 ///
 /// The builder is that of the table in which the lines are interned, the keys are those of the frozen table
-/// ([`freeze`]). All is made before anything is written.
+/// ([`freeze`]). All is made before anything is written. How far it is, is told to `progress`, on which nothing
+/// else depends.
 ///
 /// # Errors
 ///
 /// `NotUtf8` if the kind is text and the input isn't; `Table` if the lines have no frozen table; `Memory` or
 /// `Write`. After each but `Write` nothing was written.
-pub fn freeze_lines<S: BuildHasher + Drop, W: Write>(
+pub fn freeze_lines<S: BuildHasher + Drop, W: Write, P: Progress>(
     alloc: Global,
     kind: Kind,
     keys: (u64, u64),
     builder: S,
     input: &[u8],
     writer: &mut W,
+    progress: &mut P,
 ) -> Result<(), FreezingError>
-    ensures written { OnOk result (WritesTable kind (distinct_lines input.now) W.contents writer.old writer.new) }
+    ensures written { let lines = distinct_lines input.now in
+        OnOk result (WritesTable kind keys lines W.contents writer.old writer.new) }
     ensures refuses { ¬ (Allows kind input.now) → result ≡ Err NotUtf8 }
     ensures err { IfErr result (IsRefusal kind input.now) }
     ensures nothing_written { IfErr result (λ e. e ≢ Stream WriteFailed → writer.new ≡ writer.old) }
@@ -45,7 +49,8 @@ pub fn freeze_lines<S: BuildHasher + Drop, W: Write>(
     if !is_allowed(kind, input) {
         return Err(FreezingError::NotUtf8);
     }
-    let bytes = frozen_lines(alloc, kind, keys, builder, input)?;
+    let bytes = frozen_lines(alloc, kind, keys, builder, input, progress)?;
+    progress.frozen(bytes.len());
     match write_whole(&bytes, writer) {
         Ok(()) => Ok(()),
         Err(_) => Err(FreezingError::Stream(StreamError::Write)),
@@ -63,18 +68,22 @@ fn is_allowed(kind: Kind, input: &[u8]) -> bool
 }
 
 // The bytes of a frozen table of the distinct lines.
-fn frozen_lines<S: BuildHasher + Drop>(
+fn frozen_lines<S: BuildHasher + Drop, P: Progress>(
     alloc: Global,
     kind: Kind,
     keys: (u64, u64),
     builder: S,
     input: &[u8],
+    progress: &mut P,
 ) -> Result<Vec<u8>, FreezingError>
-    ensures table { IfOk result (λ bytes. IsTableOf kind (distinct_lines input.now) bytes.items) }
+    ensures table { IfOk result (λ bytes. IsTableOf kind keys (distinct_lines input.now) bytes.items) }
     ensures err { IfErr result (IsRefusal kind input.now) }
 {
     match interned_lines(alloc, builder, input) {
-        Ok(table) => Ok(freeze(alloc, &table, kind, keys.0, keys.1)?),
+        Ok(table) => {
+            progress.interned(table.len());
+            Ok(freeze(alloc, &table, kind, keys.0, keys.1)?)
+        }
         Err(refused) => Err(refused),
     }
 }

@@ -6,5 +6,6 @@ pub mod answer;
 pub mod error;
 pub mod freezing;
 pub mod look_up;
+pub mod progress;
 pub mod size;
 pub mod strings;

@@ -5,3 +5,7 @@ pub mod Found
 pub mod Left
 pub mod Thawed
 pub mod Spelled
+pub mod SameBytes
+pub mod Used
+pub mod HashBelow
+pub mod SameTable

@@ -7,3 +7,4 @@ pub mod Fault
 pub mod Read
 pub mod Freezing
 pub mod Left
+pub mod SameTable

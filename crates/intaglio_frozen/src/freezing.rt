@@ -1,8 +1,8 @@
 //! How a list of strings is frozen.
 ghost use Rattle.std.specs.Prelude.{◌≡◌, ◌-◌, ◌↔◌, ◌<◌, ◌≤◌, ◌^◌, IfErr, IfOk, IfSome, IsTrue, length, min, sum_by};
-ghost use Rattle.intaglio_frozen.specs.Layout.{kind as kind_of, strings};
+ghost use Rattle.intaglio_frozen.specs.Layout.{key0 as key0_of, key1 as key1_of, kind as kind_of, strings};
 ghost use Rattle.intaglio_frozen.specs.IsFrozen.{IsFrozen, number_of};
-ghost use Rattle.intaglio_frozen.specs.Freezing.{IsRefusal, AreEqual};
+ghost use Rattle.intaglio_frozen.specs.Freezing.{HasKeys, IsRefusal, AreEqual};
 ghost use Rattle.intaglio_frozen.specs.declared.error.FreezeError.TheVariants.{TooMany};
 
 use crate::error::FreezeError;
@@ -37,6 +37,7 @@ pub fn freeze<L: StringList>(
     ensures frozen { IfOk result (λ bytes. IsFrozen bytes.items) }
     ensures strings { IfOk result (λ bytes. strings bytes.items ≡ L.strings list.now) }
     ensures kind { IfOk result (λ bytes. kind_of bytes.items ≡ number_of kind) }
+    ensures keys { IfOk result (λ bytes. HasKeys key0 key1 bytes.items) }
     ensures err { IfErr result (IsRefusal kind (L.strings list.now)) }
 {
     if list.len() > MAX_COUNT as usize {
@@ -68,6 +69,8 @@ fn freeze_under<L: StringList>(
     ensures frozen { IfOk result (λ found. IfSome found (λ bytes. IsFrozen bytes.items)) }
     ensures strings { IfOk result (λ found. IfSome found (λ bytes. strings bytes.items ≡ L.strings list.now)) }
     ensures kind { IfOk result (λ found. IfSome found (λ bytes. kind_of bytes.items ≡ number_of kind)) }
+    ensures first_key { IfOk result (λ found. IfSome found (λ bytes. key0_of bytes.items ≡ key0)) }
+    ensures second_key { IfOk result (λ found. IfSome found (λ bytes. key1_of bytes.items ≡ key1)) }
     ensures err { IfErr result (IsRefusal kind (L.strings list.now)) }
 {
     let hashes = hashes(alloc, list, &KeyedState::with_keys(key0, key1))?;
@@ -84,7 +87,7 @@ fn freeze_under<L: StringList>(
         [key0, key1, list.len() as u64],
         &sections,
     )?;
-    if holds(&bytes, list, kind) {
+    if holds(&bytes, list, kind, key0, key1) {
         Ok(Some(bytes))
     } else {
         Ok(None)
@@ -127,20 +130,24 @@ fn are_equal<L: StringList>(list: &L, first: u32, second: u32) -> bool
     }
 }
 
-// Whether the bytes are a frozen table of these strings.
-fn holds<L: StringList>(bytes: &[u8], list: &L, kind: Kind) -> bool
+// Whether the bytes are a frozen table of these strings under these keys.
+fn holds<L: StringList>(bytes: &[u8], list: &L, kind: Kind, key0: u64, key1: u64) -> bool
     ensures frozen { IsTrue result → IsFrozen bytes.now }
     ensures strings { IsTrue result → strings bytes.now ≡ L.strings list.now }
     ensures kind { IsTrue result → kind_of bytes.now ≡ number_of kind }
+    ensures first_key { IsTrue result → key0_of bytes.now ≡ key0 }
+    ensures second_key { IsTrue result → key1_of bytes.now ≡ key1 }
 {
-    has_kind(bytes, kind) && has_strings(bytes, list)
+    has_header(bytes, kind, key0, key1) && has_strings(bytes, list)
 }
 
-fn has_kind(bytes: &[u8], kind: Kind) -> bool
-    ensures { IsTrue result → kind_of bytes.now ≡ number_of kind }
+fn has_header(bytes: &[u8], kind: Kind, key0: u64, key1: u64) -> bool
+    ensures kind { IsTrue result → kind_of bytes.now ≡ number_of kind }
+    ensures first_key { IsTrue result → key0_of bytes.now ≡ key0 }
+    ensures second_key { IsTrue result → key1_of bytes.now ≡ key1 }
 {
     match Header::read(bytes) {
-        Ok(header) => header.kind == kind,
+        Ok(header) => header.kind == kind && header.key0 == key0 && header.key1 == key1,
         Err(_) => false,
     }
 }

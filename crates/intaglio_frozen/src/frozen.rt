@@ -11,7 +11,7 @@ ghost use Rattle.intaglio_frozen.specs.declared.error.FrozenError.TheVariants.{N
 use crate::block::Block;
 use crate::error::FrozenError;
 use crate::iter::{FrozenPairs, FrozenStrings};
-use crate::list::first_fault;
+use crate::list::{StringList, first_fault};
 use intaglio_symbol::Symbol;
 use std::alloc::{AllocError, Global};
 use std::marker::Model;
@@ -180,6 +180,20 @@ impl<'b, 'a> IntoIterator for &'b Frozen<'a> {
 
     fn into_iter(self) -> FrozenPairs<'a> {
         self.iter()
+    }
+}
+
+impl StringList for Frozen<'_> {
+    ghost strings = { λ table. table };
+
+    #[inline(always)]
+    fn len(&self) -> usize {
+        Frozen::len(self)
+    }
+
+    #[inline(always)]
+    fn string(&self, i: usize) -> &[u8] {
+        self.block.string(i)
     }
 }
 

@@ -1,6 +1,8 @@
-//! A law for proofs of callers.
+//! Laws for proofs of callers.
 ghost use Rattle.std.specs.Prelude.{◌≡◌, [], ◌∷◌, map};
 ghost use Rattle.intaglio_core.specs.State.{first};
+ghost use Rattle.intaglio_frozen.specs.IsFrozen.{IsFrozen};
+ghost use Rattle.intaglio_frozen.specs.SameTable.{AreSameTable};
 
 use intaglio_content::Content;
 use intaglio_table::Table;
@@ -31,4 +33,18 @@ pub fn spelling_law<C: Content, S: BuildHasher>(table: &Table<C, S>, string: &[u
         ≡ first (λ w. w ∷ []) (map C.spelling contents) (string.now ∷ []) }
 {
     // The contract is the law.
+}
+
+/// Frozen tables are the same bytes if they have the same kind, keys, strings and pilots.
+///
+/// So the pilots are all that those leave open: a group may have any pilot under which its strings are found, and a
+/// group without strings any at all. The function does nothing: its contract is the law.
+pub fn one_file_law(first: &[u8], second: &[u8])
+    requires first { IsFrozen first.now }
+    requires second { IsFrozen second.now }
+    requires same { AreSameTable first.now second.now }
+    ensures { first.now ≡ second.now }
+{
+    // The contract is the law.
+    let _lengths = (first.len(), second.len());
 }

@@ -1,0 +1,33 @@
+//! How far `freeze` is, on standard error.
+use intaglio_dictionary::progress::Progress;
+
+/// Shows each stage that is reached, if that is asked for. A line that can't be written is lost.
+#[derive(Drop)]
+pub struct Shown<'a, R> {
+    rt: &'a R,
+    is_asked_for: bool,
+}
+
+impl<'a, R: Eprint> Shown<'a, R> {
+    /// Nothing was shown yet.
+    pub fn new(rt: &'a R, is_asked_for: bool) -> Shown<'a, R> {
+        Shown { rt, is_asked_for }
+    }
+
+    /// Shows a stage by a count.
+    pub fn stage(&mut self, count: usize, what: &str) {
+        if self.is_asked_for {
+            let _ = eprintln!(self.rt; "intaglio_dict: {count} {what}");
+        }
+    }
+}
+
+impl<R: Eprint> Progress for Shown<'_, R> {
+    fn interned(&mut self, count: usize) {
+        self.stage(count, "distinct lines");
+    }
+
+    fn frozen(&mut self, size: usize) {
+        self.stage(size, "bytes frozen");
+    }
+}
