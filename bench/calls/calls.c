@@ -5,41 +5,9 @@
  * SHUFFLED has the lines of NEW in another order, and ABSENT others. Each string is a block of its own. */
 #define _POSIX_C_SOURCE 199309L
 #include "intaglio.h"
-#include <stdio.h>
-#include <stdlib.h>
-#include <string.h>
-#include <time.h>
+#include "lines.h"
 
-typedef struct { uint8_t *at; size_t len; } string;
-typedef struct { string *items; size_t count; } strings;
-
-static strings read_lines(const char *path) {
-    strings lines = {NULL, 0};
-    char line[256];
-    FILE *file = fopen(path, "r");
-    if (!file) exit(2);
-    while (fgets(line, sizeof line, file)) {
-        size_t len = strcspn(line, "\n");
-        if (lines.count % 1024 == 0) lines.items = realloc(lines.items, (lines.count + 1024) * sizeof *lines.items);
-        uint8_t *at = malloc(len ? len : 1);
-        if (!lines.items || !at) exit(2);
-        memcpy(at, line, len);
-        lines.items[lines.count++] = (string){at, len};
-    }
-    fclose(file);
-    return lines;
-}
-
-static double now(void) {
-    struct timespec time;
-    clock_gettime(CLOCK_MONOTONIC, &time);
-    return (double)time.tv_sec * 1e9 + (double)time.tv_nsec;
-}
-
-/* One function of the library on each string, or on each symbol below their number. The sum is of what it found. */
-typedef uint64_t (*calls)(intaglio_table *table, strings of);
-
-static uint64_t intern_each(intaglio_table *table, strings of) {
+static uint64_t intern_each(void *table, strings of) {
     uint64_t sum = 0;
     for (size_t i = 0; i < of.count; i++) {
         uint32_t symbol;
@@ -49,7 +17,7 @@ static uint64_t intern_each(intaglio_table *table, strings of) {
     return sum;
 }
 
-static uint64_t find_each(intaglio_table *table, strings of) {
+static uint64_t find_each(void *table, strings of) {
     uint64_t sum = 0;
     for (size_t i = 0; i < of.count; i++) {
         uint32_t symbol;
@@ -58,20 +26,13 @@ static uint64_t find_each(intaglio_table *table, strings of) {
     return sum;
 }
 
-static uint64_t get_each(intaglio_table *table, strings of) {
+static uint64_t get_each(void *table, strings of) {
     uint64_t sum = 0;
     for (size_t i = 0; i < of.count; i++) {
         intaglio_spelling out;
         if (intaglio_get(table, (uint32_t)i, &out)) sum += out.len;
     }
     return sum;
-}
-
-static void measure(const char *row, const char *column, calls each, intaglio_table *table, strings of) {
-    double start = now();
-    volatile uint64_t sum = each(table, of);
-    (void)sum;
-    printf("%s;%s;%.1f\n", row, column, (now() - start) / (double)of.count);
 }
 
 static void turn(const char *row, uint32_t kind, strings fresh, strings shuffled, strings absent) {
@@ -95,6 +56,8 @@ int main(int count, char **words) {
     for (int i = 0; i < atoi(words[4]); i++) {
         turn("C, texts", INTAGLIO_TEXT, fresh, shuffled, absent);
         turn("C, bytes", INTAGLIO_BYTES, fresh, shuffled, absent);
+        turn("C, packed texts", INTAGLIO_PACKED_TEXT, fresh, shuffled, absent);
+        turn("C, packed bytes", INTAGLIO_PACKED_BYTES, fresh, shuffled, absent);
     }
     return 0;
 }

@@ -32,14 +32,13 @@
  * Ownership: a table owns its strings. New strings are copied, except by intern_static into a table that isn't packed.
  * Each table must be freed. No pointer is kept after a call, except by intern_static.
  *
- * Threads: a handle must not be used by two threads at the same time, even by functions that only read. It may be passed to
+ * Threads: a table must not be used by two threads at the same time, except for reading (see Const). It may be passed to
  * another thread through a lock, or by starting or joining a thread. No function may be called in a signal handler, or in the
  * forked child of a process with threads.
  *
- * Const: a function that takes a const table leaves its strings, symbols and capacity as they are, but writes to the handle during
- * the call. So the handle itself must not be defined const, and two threads must not read through one handle at the same time.
- * Two threads may read one table through a copy of its handle each, made before they read, while no other function uses the table.
- * No contract says so: bindings/tests/reads.c shows that these functions write nothing but the handle.
+ * Const: a function that takes a const table leaves its strings, symbols and capacity as they are, by its contract, and writes neither
+ * to them nor to the handle. So a handle may be const, and any number of threads may make such calls at the same time, through
+ * one handle, while no other function uses the table. That nothing is written is tested (bindings/tests/reads.c), and no contract.
  */
 #ifndef INTAGLIO_H
 #define INTAGLIO_H

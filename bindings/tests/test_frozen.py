@@ -9,6 +9,7 @@ sys.path.insert(0, str(Path(__file__).resolve().parent.parent.parent / "checks")
 import frozen_tables
 import intaglio
 from intaglio import Frozen
+from intaglio._table import thaw
 
 TEXTS = ["a", "bc", "", "é"]
 BYTES = [b"a", b"\xff", b""]
@@ -80,6 +81,19 @@ class OfFrozen(unittest.TestCase):
         with self.assertRaises(intaglio.NoTable):
             table.freeze(self.path)
         self.assertEqual(self.path.read_bytes(), whole)
+
+    def test_what_is_no_pickle_of_a_table_is_refused(self):
+        texts, data, paths = (self.write(strings).read_bytes() for strings in (TEXTS, BYTES, ["a/b", "a//b"]))
+        self.assertEqual((list(thaw(intaglio.SymbolTable, texts, 0)), list(thaw(intaglio.BytesTable, data, 3))), (TEXTS, BYTES))
+        for kind, frozen, limit, error in (
+            (intaglio.SymbolTable, texts[:40], 0, intaglio.Truncated), (intaglio.SymbolTable, b"", 0, intaglio.NotFrozen),
+            (intaglio.SymbolTable, data, 0, intaglio.NoKind), (intaglio.BytesTable, texts, 0, intaglio.NoKind),
+            (intaglio.SymbolTable, texts, 3, intaglio.Full), (intaglio.SymbolTable, texts, -1, intaglio.TooLarge),
+            (intaglio.PathTable, paths, 0, intaglio.Equal), (intaglio.CStringTable, data, 0, intaglio.MissingZero),
+            (intaglio.Table, texts, 0, TypeError), (int, texts, 0, TypeError), (type("Other", (intaglio.SymbolTable,), {"__new__": lambda cls: 7}), texts, 0, TypeError),
+        ):
+            with self.assertRaises(error):
+                thaw(kind, frozen, limit)
 
     def test_kinds(self):
         self.assertTrue(Frozen(self.write(TEXTS)).is_text)

@@ -97,14 +97,46 @@ class EachKind:
         with self.assertRaises(intaglio.NoTable):
             table.intern(of("a"))
 
-    def test_a_table_is_freed_once_and_not_copied(self):
+    def test_a_copy_has_the_strings_at_their_symbols_and_is_another_table(self):
         kind, of = self.kind, self.of
-        table = kind([of("a")])
-        for copied in (copy.copy, copy.deepcopy, pickle.dumps):
-            with self.assertRaises(TypeError):
-                copied(table)
-        del table
-        gc.collect()
+        strings = [of(text) for text in ("b", "a", "é", "", "longer than the rest")]
+        for copied in (copy.copy, copy.deepcopy, *(lambda table, protocol=protocol: pickle.loads(pickle.dumps(table, protocol)) for protocol in range(6))):
+            table = kind(strings)
+            other = copied(table)
+            self.assertIs(type(other), kind)
+            self.assertEqual((list(other), other.check_all(strings)), (strings, [0, 1, 2, 3, 4]))
+            self.assertEqual((other.intern(of("new")), table.check_interned(of("new"))), (5, None))
+            table.clear()
+            self.assertEqual(len(other), 6)
+            del table
+            gc.collect()
+            self.assertEqual(other[0], of("b"))
+        self.assertEqual(list(pickle.loads(pickle.dumps(kind()))), [])
+
+    def test_a_copy_keeps_the_limit_and_what_a_subclass_has(self):
+        kind, of = self.kind, self.of
+        other = copy.copy(kind([of("a")], limit=2))
+        self.assertEqual(other.intern(of("b")), 1)
+        with self.assertRaises(intaglio.Full):
+            other.intern(of("c"))
+
+        class Named(kind):
+            pass
+
+        table = Named([of("a")])
+        table.name = "x"
+        other = copy.copy(table)
+        self.assertEqual((type(other), list(other), other.name), (Named, [of("a")], "x"))
+
+    def test_equal_tables_have_equal_pickles(self):
+        kind, of = self.kind, self.of
+        self.assertEqual(pickle.dumps(kind([of("a"), of("b")])), pickle.dumps(kind([of("a"), of("b"), of("a")], keys=(1, 2))))
+
+    def test_a_closed_table_is_not_copied(self):
+        table = self.kind()
+        table.close()
+        with self.assertRaises(intaglio.NoTable):
+            pickle.dumps(table)
 
     def test_symbols_that_are_none(self):
         kind, of = self.kind, self.of

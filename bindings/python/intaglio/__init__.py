@@ -15,7 +15,7 @@ its strings, each at its symbol: table[-1] is the last, and table[1:3] a list. `
 
 intern_all, check_all and get_all make one call for many strings; intern_into and check_into write the symbols to a buffer.
 
-table.freeze(path) writes the strings to a file, and Frozen(path) maps it: a read-only sequence of them, each at its symbol.
+A table can be copied and pickled. table.freeze(path) writes the strings to a file, and Frozen(path) maps it: a read-only sequence of them, each at its symbol.
 
 A call that fails raises a subclass of Refused, named after the reason, and leaves the strings unchanged.
 

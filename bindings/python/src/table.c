@@ -18,13 +18,17 @@ enum {
     NEAR = 256,
     /* How many contents ahead a batch fetches an object. */
     AHEAD = 8,
-    LINE = 64
+    LINE = 64,
+    /* How many keys are tried to freeze a table in memory. */
+    FREEZINGS = 8
 };
 
 typedef struct {
     PyObject_HEAD
     intaglio_table handle;
     uint32_t kind;
+    /* The limit that was passed, or 0 if there was none. */
+    size_t limit;
     PyObject *weak;
 } Table;
 
@@ -540,6 +544,17 @@ static PyObject *table_close(Table *self, PyObject *Py_UNUSED(none)) {
     Py_RETURN_NONE;
 }
 
+/* The strings as a frozen table, whose hash function has these keys. */
+static PyObject *freeze(Table *self, const uint64_t keys[2], uint32_t *code) {
+    size_t len = 0, size = intaglio_frozen_size(&self->handle);
+    PyObject *bytes = PyBytes_FromStringAndSize(NULL, (Py_ssize_t)size);
+    if (!bytes) return NULL;
+    *code = intaglio_freeze(&self->handle, keys[0], keys[1], (uint8_t *)PyBytes_AS_STRING(bytes), size, &len);
+    if (*code) Py_CLEAR(bytes);
+    else if (len != size) _PyBytes_Resize(&bytes, (Py_ssize_t)len);
+    return bytes;
+}
+
 PyDoc_STRVAR(freeze_doc, "freeze($self, path, /, *, keys=(0, 0))\n--\n\n"
 "Writes the strings, each at its symbol, to a file with a frozen table, which Frozen reads. The keys are those of its hash function:\n"
 "the same strings under the same keys give the same bytes. The file is replaced when all is written and synced; path.new is\n"
@@ -548,24 +563,42 @@ static PyObject *table_freeze(Table *self, PyObject *args, PyObject *named) {
     static char *names[] = {"", "keys", NULL};
     PyObject *path, *passed = NULL, *written = NULL;
     uint64_t keys[2] = {0, 0};
-    size_t len = 0;
+    uint32_t code = INTAGLIO_DONE;
     if (!PyArg_ParseTupleAndKeywords(args, named, "O|$O:freeze", names, &path, &passed) || (passed && read_keys(passed, keys) < 0)) return NULL;
-    size_t size = intaglio_frozen_size(&self->handle);
-    PyObject *bytes = PyBytes_FromStringAndSize(NULL, (Py_ssize_t)size);
-    if (!bytes) return NULL;
-    uint32_t code = intaglio_freeze(&self->handle, keys[0], keys[1], (uint8_t *)PyBytes_AS_STRING(bytes), size, &len);
-    PyObject *module = code ? refused(code) : PyImport_ImportModule("intaglio.frozen");
-    if (module && (len == size || _PyBytes_Resize(&bytes, (Py_ssize_t)len) == 0)) written = PyObject_CallMethod(module, "replace", "OO", path, bytes);
+    PyObject *bytes = freeze(self, keys, &code);
+    if (!bytes) return code ? refused(code) : NULL;
+    PyObject *module = PyImport_ImportModule("intaglio.frozen");
+    if (module) written = PyObject_CallMethod(module, "replace", "OO", path, bytes);
     Py_XDECREF(module);
-    Py_XDECREF(bytes);
+    Py_DECREF(bytes);
     return written;
 }
 
 static PyObject *table_enter(PyObject *self, PyObject *Py_UNUSED(none)) { return Py_NewRef(self); }
 static PyObject *table_exit(Table *self, PyObject *Py_UNUSED(args)) { return table_close(self, NULL); }
 
-static PyObject *table_reduce(PyObject *self, PyObject *Py_UNUSED(none)) {
-    return PyErr_Format(PyExc_TypeError, "a %.200s can't be copied", Py_TYPE(self)->tp_name);
+PyDoc_STRVAR(reduce_doc, "__reduce__($self, /)\n--\n\n"
+"For pickle and copy: the class, the strings as a frozen table, the limit, and the attributes of a subclass. The keys aren't kept: the\n"
+"copy has random ones. Raises TooMany, TooLong, NoMemory, NoTable.");
+static PyObject *table_reduce(Table *self, PyObject *Py_UNUSED(none)) {
+    uint64_t keys[2] = {0, 0};
+    uint32_t code = INTAGLIO_DONE;
+    PyObject *bytes = freeze(self, keys, &code), *reduced = NULL;
+    /* Strings that were chosen to collide under these keys. */
+    for (int i = 1; code == INTAGLIO_NO_PLACES && i < FREEZINGS; i++) {
+        if (read_keys(Py_None, keys) < 0) return NULL;
+        bytes = freeze(self, keys, &code);
+    }
+    if (!bytes) return code ? refused(code) : NULL;
+    PyObject *module = PyImport_ImportModule("intaglio._table");
+    PyObject *thaw = module ? PyObject_GetAttrString(module, "thaw") : NULL;
+    PyObject *state = thaw ? PyObject_CallMethod((PyObject *)self, "__getstate__", NULL) : NULL;
+    if (state) reduced = Py_BuildValue("O(OOn)O", thaw, Py_TYPE(self), bytes, (Py_ssize_t)self->limit, state);
+    Py_XDECREF(state);
+    Py_XDECREF(thaw);
+    Py_XDECREF(module);
+    Py_DECREF(bytes);
+    return reduced;
 }
 
 static PyObject *table_repr(Table *self) { return PyUnicode_FromFormat("<%s of %zd>", _PyType_Name(Py_TYPE(self)), table_len(self)); }
@@ -585,6 +618,13 @@ static PyObject *new_base(PyTypeObject *type, PyObject *Py_UNUSED(args), PyObjec
     return PyErr_Format(PyExc_TypeError, "%.200s is of no kind: use SymbolTable or another of the six", type->tp_name);
 }
 
+/* Makes the handle's table, with this limit or else this capacity. */
+static uint32_t make(Table *self, bool has_limit, size_t size, const uint64_t keys[2]) {
+    self->limit = has_limit ? size : 0;
+    return has_limit ? intaglio_with_limit(&self->handle, self->kind, size, keys[0], keys[1])
+                     : intaglio_with_capacity(&self->handle, self->kind, size, keys[0], keys[1]);
+}
+
 static int table_init(Table *self, PyObject *args, PyObject *named) {
     static char *names[] = {"contents", "capacity", "limit", "keys", NULL};
     PyObject *contents = NULL, *capacity = Py_None, *limit = Py_None, *passed = Py_None;
@@ -598,13 +638,65 @@ static int table_init(Table *self, PyObject *args, PyObject *named) {
     if (read_keys(passed, keys) < 0) return -1;
     PyObject *number = limit != Py_None ? limit : capacity;
     if (number != Py_None && read_size(number, &size) < 0) return -1;
-    uint32_t code = limit != Py_None ? intaglio_with_limit(&self->handle, self->kind, size, keys[0], keys[1])
-                                     : intaglio_with_capacity(&self->handle, self->kind, size, keys[0], keys[1]);
+    uint32_t code = make(self, limit != Py_None, size, keys);
     Batch batch;
     if (code) refused(code);
     if (code || (contents && run_batch(self, &batch, contents, intern_each) < 0)) return -1;
     if (contents) close_batch(&batch);
     return 0;
+}
+
+/* Interns the strings of a frozen table, each at its symbol, into a table without strings. Returns a code. */
+static uint32_t thaw_each(Table *self, const uint8_t *bytes, size_t size) {
+    size_t count = intaglio_frozen_len(bytes, size);
+    for (size_t i = 0; i < count; i++) {
+        intaglio_spelling string;
+        uint32_t symbol;
+        if (!intaglio_frozen_get(bytes, size, (uint32_t)i, &string)) return INTAGLIO_NO_SYMBOL;
+        uint32_t code = intaglio_intern(&self->handle, string.at, string.len, &symbol);
+        if (code) return code;
+        if (symbol != i) return INTAGLIO_EQUAL;
+    }
+    return INTAGLIO_DONE;
+}
+
+/* Puts the strings of a frozen table into a table without strings. The bytes may come from anywhere, so they are checked. */
+static uint32_t thaw_into(Table *self, const uint8_t *bytes, size_t size, size_t limit, const uint64_t keys[2]) {
+    uint32_t code = intaglio_frozen_check(bytes, size);
+    if (!code && intaglio_frozen_is_text(bytes, size) != has_texts(self)) code = INTAGLIO_NO_KIND;
+    if (!code) code = make(self, limit != 0, limit ? limit : intaglio_frozen_len(bytes, size), keys);
+    return code ? code : thaw_each(self, bytes, size);
+}
+
+/* A new object of a class of tables, or null and TypeError. */
+static PyObject *new_of(PyObject *module, PyTypeObject *type) {
+    PyObject *base = PyObject_GetAttrString(module, "Table"), *none = PyTuple_New(0), *made = NULL;
+    if (base && none && PyType_IsSubtype(type, (PyTypeObject *)base)) made = type->tp_new(type, none, NULL);
+    if (base && none && !PyErr_Occurred() && !(made && PyObject_TypeCheck(made, (PyTypeObject *)base))) {
+        Py_CLEAR(made);
+        PyErr_Format(PyExc_TypeError, "%.200s is no class of tables", type->tp_name);
+    }
+    Py_XDECREF(none);
+    Py_XDECREF(base);
+    return made;
+}
+
+/* Pickles name this function, so it keeps its name and its parameters. */
+PyDoc_STRVAR(thaw_doc, "thaw(kind, data, limit, /)\n--\n\n"
+"A table of a class, with the strings of a frozen table, each at its symbol. A limit of 0 is none. Raises what Frozen raises, Equal, and\n"
+"what intern raises.");
+static PyObject *thaw(PyObject *module, PyObject *args) {
+    PyTypeObject *type;
+    Py_buffer view;
+    Py_ssize_t limit;
+    uint64_t keys[2];
+    if (!PyArg_ParseTuple(args, "O!y*n:thaw", &PyType_Type, &type, &view, &limit)) return NULL;
+    PyObject *table = read_keys(Py_None, keys) == 0 ? new_of(module, type) : NULL;
+    uint32_t code = table ? thaw_into((Table *)table, view.buf, (size_t)view.len, (size_t)limit, keys) : INTAGLIO_DONE;
+    PyBuffer_Release(&view);
+    if (!code) return table;
+    Py_DECREF(table);
+    return refused(code);
 }
 
 static void table_dealloc(Table *self) {
@@ -638,7 +730,7 @@ static PyMethodDef methods[] = {
     {"close", (PyCFunction)table_close, METH_NOARGS, close_doc},
     {"__enter__", table_enter, METH_NOARGS, NULL},
     {"__exit__", (PyCFunction)table_exit, METH_VARARGS, NULL},
-    {"__reduce__", table_reduce, METH_NOARGS, NULL},
+    {"__reduce__", (PyCFunction)table_reduce, METH_NOARGS, reduce_doc},
     {"__class_getitem__", Py_GenericAlias, METH_O | METH_CLASS, NULL},
     {NULL, NULL, 0, NULL},
 };
@@ -791,6 +883,7 @@ static PyMethodDef functions[] = {
     {"frozen_find", FAST(frozen_find), METH_FASTCALL, frozen_find_doc},
     {"frozen_find_all", FAST(frozen_find_all), METH_FASTCALL, frozen_find_all_doc},
     {"frozen_get", FAST(frozen_get), METH_FASTCALL, frozen_get_doc},
+    {"thaw", thaw, METH_VARARGS, thaw_doc},
     {NULL, NULL, 0, NULL},
 };
 

@@ -91,21 +91,15 @@ pub extern "C" fn intaglio_free(alloc: Global, handle: &mut Handle)
 
 /// Interns these bytes, which are copied if they are new, and writes their symbol.
 #[unsafe(no_mangle)]
-pub extern "C" fn intaglio_intern(
-    alloc: Global,
-    handle: &mut Handle,
-    bytes: &[u8],
-    symbol: &mut u32,
-) -> u32
+pub extern "C" fn intaglio_intern(handle: &mut Handle, bytes: &[u8], symbol: &mut u32) -> u32
     ensures step { ChangesWithSymbol handle.old handle.new result symbol.old symbol.new (Interns bytes.now) }
 {
-    symbol_code(handle.intern(alloc, bytes), symbol)
+    symbol_code(handle.intern(bytes), symbol)
 }
 
 /// Interns these bytes, which must never change, and writes their symbol. They aren't copied, unless the table is packed.
 #[unsafe(no_mangle)]
 pub extern "C" fn intaglio_intern_static(
-    alloc: Global,
     handle: &mut Handle,
     bytes: &'static [u8],
     symbol: &mut u32,
@@ -113,13 +107,12 @@ pub extern "C" fn intaglio_intern_static(
     ensures step { ChangesWithSymbol handle.old handle.new result symbol.old symbol.new
         (InternsStatic bytes.now) }
 {
-    symbol_code(handle.intern_static(alloc, bytes), symbol)
+    symbol_code(handle.intern_static(bytes), symbol)
 }
 
 /// Returns whether these bytes are in the table, and writes their symbol if they are.
 #[unsafe(no_mangle)]
 pub extern "C" fn intaglio_check_interned(
-    alloc: Global,
     handle: &mut Handle,
     bytes: &[u8],
     symbol: &mut u32,
@@ -128,7 +121,7 @@ pub extern "C" fn intaglio_check_interned(
     ensures unwritten { result ≡ false → symbol.new ≡ symbol.old }
     ensures kept { Keeps handle.old handle.new }
 {
-    match handle.find(alloc, bytes) {
+    match handle.find(bytes) {
         Some(known) => {
             *symbol = known.id();
             true
@@ -140,23 +133,17 @@ pub extern "C" fn intaglio_check_interned(
 /// Writes where the bytes of a symbol are, if it has any, and returns whether it has. Those of a packed table may be
 /// elsewhere after the next call that interns or shrinks.
 #[unsafe(no_mangle)]
-pub extern "C" fn intaglio_get(
-    alloc: Global,
-    handle: &mut Handle,
-    symbol: u32,
-    out: &mut Spelling,
-) -> bool
+pub extern "C" fn intaglio_get(handle: &mut Handle, symbol: u32, out: &mut Spelling) -> bool
     ensures found { given result out.new.len ≡ option_map length (stored handle.old symbol) }
     ensures unwritten { result ≡ false → out.new ≡ out.old }
     ensures kept { Keeps handle.old handle.new }
 {
-    handle.get(alloc, symbol, out)
+    handle.get(symbol, out)
 }
 
 /// Writes how many bytes a symbol has, and copies them to the start of a buffer that has space for them.
 #[unsafe(no_mangle)]
 pub extern "C" fn intaglio_copy(
-    alloc: Global,
     handle: &mut Handle,
     symbol: u32,
     buffer: &mut [u8],
@@ -167,63 +154,62 @@ pub extern "C" fn intaglio_copy(
     ensures unwritten { result ≡ false → len.new ≡ len.old }
     ensures kept { Keeps handle.old handle.new }
 {
-    handle.copy(alloc, symbol, buffer, len)
+    handle.copy(symbol, buffer, len)
 }
 
 /// The number of contents.
 #[unsafe(no_mangle)]
-pub extern "C" fn intaglio_len(alloc: Global, handle: &mut Handle) -> usize
+pub extern "C" fn intaglio_len(handle: &mut Handle) -> usize
     ensures count { result ≡ count (table_of handle.old) }
     ensures kept { Keeps handle.old handle.new }
 {
-    handle.len(alloc)
+    handle.len()
 }
 
 /// How many contents the table can hold before it has to grow.
 #[unsafe(no_mangle)]
-pub extern "C" fn intaglio_capacity(alloc: Global, handle: &mut Handle) -> usize
+pub extern "C" fn intaglio_capacity(handle: &mut Handle) -> usize
     ensures capacity { result ≡ capacity (table_of handle.old) }
     ensures kept { Keeps handle.old handle.new }
 {
-    handle.capacity(alloc)
+    handle.capacity()
 }
 
 /// Reserves capacity for `additional` more contents.
 #[unsafe(no_mangle)]
-pub extern "C" fn intaglio_reserve(alloc: Global, handle: &mut Handle, additional: usize) -> u32
+pub extern "C" fn intaglio_reserve(handle: &mut Handle, additional: usize) -> u32
     ensures step { ChangesWithCode handle.old handle.new result (Reserves additional) }
 {
-    code(handle.reserve(alloc, additional))
+    code(handle.reserve(additional))
 }
 
 /// Shrinks the capacity to `min_capacity`, or to the number of contents if that is greater.
 #[unsafe(no_mangle)]
-pub extern "C" fn intaglio_shrink_to(alloc: Global, handle: &mut Handle, min_capacity: usize) -> u32
+pub extern "C" fn intaglio_shrink_to(handle: &mut Handle, min_capacity: usize) -> u32
     ensures step { ChangesWithCode handle.old handle.new result (Shrinks min_capacity) }
 {
-    code(handle.shrink_to(alloc, min_capacity))
+    code(handle.shrink_to(min_capacity))
 }
 
 /// Drops all contents.
 #[unsafe(no_mangle)]
-pub extern "C" fn intaglio_clear(alloc: Global, handle: &mut Handle)
+pub extern "C" fn intaglio_clear(handle: &mut Handle)
     ensures step { Clears handle.old handle.new }
 {
-    handle.clear(alloc);
+    handle.clear();
 }
 
 /// Drops all contents but the first ones, as many as the mark says.
 #[unsafe(no_mangle)]
-pub extern "C" fn intaglio_take_back(alloc: Global, handle: &mut Handle, mark: usize) -> u32
+pub extern "C" fn intaglio_take_back(handle: &mut Handle, mark: usize) -> u32
     ensures step { ChangesWithCode handle.old handle.new result (TakesBack mark) }
 {
-    code(handle.take_back(alloc, mark))
+    code(handle.take_back(mark))
 }
 
 /// Interns a batch of strings, all or none, and writes their symbols.
 #[unsafe(no_mangle)]
 pub extern "C" fn intaglio_intern_all(
-    alloc: Global,
     handle: &mut Handle,
     bytes: &[u8],
     ends: &[usize],
@@ -232,13 +218,12 @@ pub extern "C" fn intaglio_intern_all(
     ensures step { ChangesWithCode handle.old handle.new result
         (InternsAll bytes.now ends.now symbols.old symbols.new) }
 {
-    code(handle.intern_all(alloc, bytes, ends, symbols))
+    code(handle.intern_all(bytes, ends, symbols))
 }
 
 /// Looks up a batch of strings, and writes the symbol of each, or 2^64 - 1 if it has none.
 #[unsafe(no_mangle)]
 pub extern "C" fn intaglio_check_all(
-    alloc: Global,
     handle: &mut Handle,
     bytes: &[u8],
     ends: &[usize],
@@ -247,13 +232,12 @@ pub extern "C" fn intaglio_check_all(
     ensures found { IsCodeOf result (FindsAll bytes.now ends.now symbols.old symbols.new handle.old) }
     ensures kept { Keeps handle.old handle.new }
 {
-    code(handle.check_all(alloc, bytes, ends, symbols))
+    code(handle.check_all(bytes, ends, symbols))
 }
 
 /// Copies the bytes of many symbols to the start of a buffer, and writes the end of each.
 #[unsafe(no_mangle)]
 pub extern "C" fn intaglio_copy_all(
-    alloc: Global,
     handle: &mut Handle,
     symbols: &[u32],
     buffer: &mut [u8],
@@ -263,7 +247,7 @@ pub extern "C" fn intaglio_copy_all(
         (CopiesAll symbols.now buffer.old ends.old buffer.new ends.new handle.old) }
     ensures kept { Keeps handle.old handle.new }
 {
-    code(handle.copy_all(alloc, symbols, buffer, ends))
+    code(handle.copy_all(symbols, buffer, ends))
 }
 
 /// Writes how many bytes a frozen table of the contents has, and copies them to the start of a buffer that has space

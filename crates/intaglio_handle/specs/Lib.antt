@@ -4,6 +4,7 @@ pub mod Batches
 pub mod Frozen
 pub mod Handles
 pub mod Kinds
+pub mod Lent
 pub mod Owned
 pub mod Seen
 pub mod Steps

@@ -55,18 +55,6 @@ impl Handle {
         }
     }
 
-    // Takes the table out. Each call does so, and puts it back before it returns.
-    pub(crate) fn take(&mut self, alloc: Global) -> Option<Box<AnyTable>>
-        ensures taken { option_map (λ boxed. boxed.value) result ≡ self.old.ptr.table }
-        ensures left { self.new.ptr.table ≡ None }
-    {
-        // (`into_table` tests it too, but with this test first the compiler needs no second pointer)
-        if !self.live {
-            return None;
-        }
-        replace(self, Handle::none(alloc)).into_table()
-    }
-
     // Puts a table into an empty handle. An empty handle owns nothing, so there is nothing to drop.
     pub(crate) fn put_back(&mut self, table: Box<AnyTable>)
         requires empty { self.old.ptr.table ≡ None }

@@ -1,7 +1,7 @@
 //! The tables of texts, bytes, C strings, paths, platform strings and byte strings for C, and packed ones.
 //!
-//! C holds a [`Handle`], which owns an [`AnyTable`]. Each call takes the table out
-//! of the handle, and puts it back. Its contract is about the table as C sees it, with its contents as their
+//! C holds a [`Handle`], which owns an [`AnyTable`]. Each call borrows the table from
+//! the handle. Its contract is about the table as C sees it, with its contents as their
 //! bytes, before and after the call.
 //!
 //! The crate `intaglio_c` exports these calls.

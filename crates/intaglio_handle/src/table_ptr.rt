@@ -57,3 +57,19 @@ impl TablePtr {
         }
     }
 }
+
+impl TablePtr {
+    ghost use Rattle.std.specs.Prelude.{◌≡◌, IsSomeAnd, ⊤};
+    ghost use Rattle.std.specs.Borrow.{sem};
+    ghost use Rattle.std.specs.declared.option.Option.TheVariants.{Some};
+    ghost use Rattle.intaglio_handle.specs.Lent.{table_follows};
+
+    // The table, lent.
+    pub(crate) fn table_mut(&mut self) -> &mut AnyTable
+        requires table { IsSomeAnd self.old.table (λ _. ⊤) }
+        ensures* writes_back { sem 𝓛 (table_follows self.entry result) }
+        ensures value { self.old.table ≡ Some result.now }
+    {
+        unsafe { &mut *(self.ptr as *mut AnyTable) }
+    }
+}

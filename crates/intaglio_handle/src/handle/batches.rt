@@ -6,7 +6,6 @@ ghost use Rattle.intaglio_handle.specs.Handles.{Changes, Keeps};
 use super::Handle;
 use crate::any_table::batches::is_batch;
 use crate::refusal::Refusal;
-use std::alloc::Global;
 
 impl Handle {
     /// Interns a batch of strings, all or none, and writes their symbols.
@@ -16,7 +15,6 @@ impl Handle {
     /// `BadEnds`, and those of [`intern`](Handle::intern). Then the contents are unchanged.
     pub fn intern_all(
         &mut self,
-        alloc: Global,
         bytes: &[u8],
         ends: &[usize],
         symbols: &mut [u32],
@@ -24,12 +22,10 @@ impl Handle {
         ensures step { Changes self.old self.new result
             (InternsAll bytes.now ends.now symbols.old symbols.new) }
     {
-        let Some(mut table) = self.take(alloc) else {
+        if !self.live {
             return Err(Refusal::NoTable);
-        };
-        let answer = table.intern_all(bytes, ends, symbols);
-        self.put_back(table);
-        answer
+        }
+        self.ptr.table_mut().intern_all(bytes, ends, symbols)
     }
 
     /// Looks up a batch of strings, and writes the symbol of each, or 2^64 - 1 if it has none.
@@ -39,7 +35,6 @@ impl Handle {
     /// `NoTable`, `BadEnds`. Then nothing is written.
     pub fn check_all(
         &mut self,
-        alloc: Global,
         bytes: &[u8],
         ends: &[usize],
         symbols: &mut [u64],
@@ -47,19 +42,14 @@ impl Handle {
         ensures found { FindsAll bytes.now ends.now symbols.old symbols.new self.old result }
         ensures kept { Keeps self.old self.new }
     {
-        let Some(table) = self.take(alloc) else {
+        if !self.live {
             return Err(Refusal::NoTable);
-        };
-        let is_good = is_batch(bytes, ends, symbols.len());
-        if is_good {
-            table.find_each(bytes, ends, symbols);
         }
-        self.put_back(table);
-        if is_good {
-            Ok(())
-        } else {
-            Err(Refusal::BadEnds)
+        if !is_batch(bytes, ends, symbols.len()) {
+            return Err(Refusal::BadEnds);
         }
+        self.ptr.table_mut().find_each(bytes, ends, symbols);
+        Ok(())
     }
 
     /// Copies the bytes of many symbols to the start of a buffer, and writes the end of each.
@@ -69,7 +59,6 @@ impl Handle {
     /// `NoTable`, `BadEnds`; then nothing is written. `NoSymbol`, `NoSpace`.
     pub fn copy_all(
         &mut self,
-        alloc: Global,
         symbols: &[u32],
         buffer: &mut [u8],
         ends: &mut [usize],
@@ -77,15 +66,12 @@ impl Handle {
         ensures copied { CopiesAll symbols.now buffer.old ends.old buffer.new ends.new self.old result }
         ensures kept { Keeps self.old self.new }
     {
-        let Some(table) = self.take(alloc) else {
+        if !self.live {
             return Err(Refusal::NoTable);
-        };
-        let answer = if ends.len() == symbols.len() {
-            table.copy_each(symbols, buffer, ends)
-        } else {
-            Err(Refusal::BadEnds)
-        };
-        self.put_back(table);
-        answer
+        }
+        if ends.len() != symbols.len() {
+            return Err(Refusal::BadEnds);
+        }
+        self.ptr.table_mut().copy_each(symbols, buffer, ends)
     }
 }

@@ -77,12 +77,10 @@ impl Handle {
         ensures frozen { FreezesHeld self.old buffer.old buffer.new len.old len.new result }
         ensures kept { Keeps self.old self.new }
     {
-        let Some(table) = self.take(alloc) else {
+        if !self.live {
             return Err(Refusal::NoTable);
-        };
-        let frozen = freeze_table(alloc, &table, key0, key1);
-        self.put_back(table);
-        match frozen {
+        }
+        match freeze_table(alloc, self.ptr.table_mut(), key0, key1) {
             Ok(bytes) => {
                 *len = bytes.len();
                 fill(buffer, &bytes);

@@ -6,7 +6,6 @@ ghost use Rattle.intaglio_handle.specs.Steps.{Interns, InternsStatic};
 use super::Handle;
 use crate::refusal::Refusal;
 use intaglio_core::Symbol;
-use std::alloc::Global;
 
 impl Handle {
     /// Interns these bytes, which are copied if they are new, and returns their symbol.
@@ -15,15 +14,13 @@ impl Handle {
     ///
     /// `NoTable`, `Full`, `NoMemory`, and the kind's errors for bytes that it doesn't take. Then the contents
     /// are unchanged.
-    pub fn intern(&mut self, alloc: Global, bytes: &[u8]) -> Result<Symbol, Refusal>
+    pub fn intern(&mut self, bytes: &[u8]) -> Result<Symbol, Refusal>
         ensures step { Changes self.old self.new result (Interns bytes.now) }
     {
-        let Some(mut table) = self.take(alloc) else {
+        if !self.live {
             return Err(Refusal::NoTable);
-        };
-        let answer = table.intern(bytes);
-        self.put_back(table);
-        answer
+        }
+        self.ptr.table_mut().intern(bytes)
     }
 
     /// The same for bytes that never change, without a copy unless the table is packed.
@@ -31,26 +28,24 @@ impl Handle {
     /// # Errors
     ///
     /// Those of [`intern`](Handle::intern).
-    pub fn intern_static(&mut self, alloc: Global, bytes: &'static [u8]) -> Result<Symbol, Refusal>
+    pub fn intern_static(&mut self, bytes: &'static [u8]) -> Result<Symbol, Refusal>
         ensures step { Changes self.old self.new result (InternsStatic bytes.now) }
     {
-        let Some(mut table) = self.take(alloc) else {
+        if !self.live {
             return Err(Refusal::NoTable);
-        };
-        let answer = table.intern_static(bytes);
-        self.put_back(table);
-        answer
+        }
+        self.ptr.table_mut().intern_static(bytes)
     }
 
     /// The symbol of these bytes, if they are in the table.
-    pub fn find(&mut self, alloc: Global, bytes: &[u8]) -> Option<Symbol>
+    pub fn find(&mut self, bytes: &[u8]) -> Option<Symbol>
         ensures found { result ≡ known self.old bytes.now }
         ensures kept { Keeps self.old self.new }
     {
-        let table = self.take(alloc)?;
-        let found = table.find(bytes);
-        self.put_back(table);
-        match found {
+        if !self.live {
+            return None;
+        }
+        match self.ptr.table_mut().find(bytes) {
             Ok(symbol) => symbol,
             Err(_) => None,
         }

@@ -7,33 +7,28 @@ use super::Handle;
 use crate::codes::room_answer;
 use crate::refusal::Refusal;
 use intaglio_core::Mark;
-use std::alloc::Global;
 
 impl Handle {
     /// The number of contents, or 0 without a table.
-    pub fn len(&mut self, alloc: Global) -> usize
+    pub fn len(&mut self) -> usize
         ensures count { result ≡ count (table_of self.old) }
         ensures kept { Keeps self.old self.new }
     {
-        let Some(table) = self.take(alloc) else {
+        if !self.live {
             return 0;
-        };
-        let count = table.len();
-        self.put_back(table);
-        count
+        }
+        self.ptr.table_mut().len()
     }
 
     /// How many contents the table can hold before it has to grow, or 0 without a table.
-    pub fn capacity(&mut self, alloc: Global) -> usize
+    pub fn capacity(&mut self) -> usize
         ensures capacity { result ≡ capacity (table_of self.old) }
         ensures kept { Keeps self.old self.new }
     {
-        let Some(table) = self.take(alloc) else {
+        if !self.live {
             return 0;
-        };
-        let capacity = table.capacity();
-        self.put_back(table);
-        capacity
+        }
+        self.ptr.table_mut().capacity()
     }
 
     /// Reserves capacity for `additional` more contents.
@@ -41,15 +36,13 @@ impl Handle {
     /// # Errors
     ///
     /// `NoTable`, `TooLarge`, `NoMemory`. Then the contents are unchanged.
-    pub fn reserve(&mut self, alloc: Global, additional: usize) -> Result<(), Refusal>
+    pub fn reserve(&mut self, additional: usize) -> Result<(), Refusal>
         ensures step { Changes self.old self.new result (Reserves additional) }
     {
-        let Some(mut table) = self.take(alloc) else {
+        if !self.live {
             return Err(Refusal::NoTable);
-        };
-        let answer = table.reserve(additional);
-        self.put_back(table);
-        room_answer(answer)
+        }
+        room_answer(self.ptr.table_mut().reserve(additional))
     }
 
     /// Shrinks the capacity to `min_capacity`, or to the number of contents if that is greater.
@@ -57,26 +50,22 @@ impl Handle {
     /// # Errors
     ///
     /// `NoTable`, `NoMemory`. Then nothing has changed.
-    pub fn shrink_to(&mut self, alloc: Global, min_capacity: usize) -> Result<(), Refusal>
+    pub fn shrink_to(&mut self, min_capacity: usize) -> Result<(), Refusal>
         ensures step { Changes self.old self.new result (Shrinks min_capacity) }
     {
-        let Some(mut table) = self.take(alloc) else {
+        if !self.live {
             return Err(Refusal::NoTable);
-        };
-        let answer = table.shrink_to(min_capacity);
-        self.put_back(table);
-        room_answer(answer)
+        }
+        room_answer(self.ptr.table_mut().shrink_to(min_capacity))
     }
 
     /// Drops all contents.
-    pub fn clear(&mut self, alloc: Global)
+    pub fn clear(&mut self)
         ensures step { Clears self.old self.new }
     {
-        let Some(mut table) = self.take(alloc) else {
-            return;
-        };
-        table.clear();
-        self.put_back(table);
+        if self.live {
+            self.ptr.table_mut().clear();
+        }
     }
 
     /// Drops all contents but the first ones, as many as the mark says.
@@ -84,15 +73,13 @@ impl Handle {
     /// # Errors
     ///
     /// `NoTable`; `Stale` if there are fewer. Then nothing has changed.
-    pub fn take_back(&mut self, alloc: Global, mark: usize) -> Result<(), Refusal>
+    pub fn take_back(&mut self, mark: usize) -> Result<(), Refusal>
         ensures step { Changes self.old self.new result (TakesBack mark) }
     {
-        let Some(mut table) = self.take(alloc) else {
+        if !self.live {
             return Err(Refusal::NoTable);
-        };
-        let answer = table.take_back(Mark::new(mark));
-        self.put_back(table);
-        match answer {
+        }
+        match self.ptr.table_mut().take_back(Mark::new(mark)) {
             Ok(()) => Ok(()),
             Err(_) => Err(Refusal::Stale),
         }
