@@ -1,6 +1,6 @@
 -- What an interning says of the counts at symbols.
 use Rattle.std.proofs.Common.{◌≡◌, ◌≢◌, ◌∙◌, refl, arith, ℕ, ◌+◌, ◌<◌, ◌≤◌, List, [], ◌∷◌, length, length-append, Option, Some, None, MatchOption, Result, Ok, slice_index_or}
-use Rattle.intaglio.specs.Change.{IsCopyTaken}
+use Rattle.intaglio.specs.Change.{IsCopyAppended}
 use Rattle.intaglio.specs.Keys.{str_key}
 use Rattle.intaglio.specs.Lookup.{IsFound, FindsOthers}
 use Rattle.intaglio.specs.State.{State, first}
@@ -10,7 +10,7 @@ use Rattle.intaglio.proofs.CallerLaws.{found-below, same_symbol}
 use Rattle.example_words.specs.Counts.{KeepsOthers, count_at, count_in}
 
 -- a word with a symbol past those before wasn't there, and has the next one
-pub new-word : (old new : State StrContent) (w : List ℕ) (i : ℕ) (o : Option ℕ) → first str_key old.contents (w ∷ []) ≡ o → MatchOption o (IsCopyTaken str_key str_content_bytes old (w ∷ []) w i new) (λ j. (◌≡◌ {A = Result ℕ InternError} (Ok i) (Ok j)) × (new ≡ old))
+pub new-word : (old new : State StrContent) (w : List ℕ) (i : ℕ) (o : Option ℕ) → first str_key old.contents (w ∷ []) ≡ o → MatchOption o (IsCopyAppended str_key str_content_bytes old (w ∷ []) w i new) (λ j. (◌≡◌ {A = Result ℕ InternError} (Ok i) (Ok j)) × (new ≡ old))
     → length old.contents ≤ i → (o ≡ None) × (i ≡ length old.contents) × (length new.contents ≡ length old.contents + 1)
 new-word old new w i None e h le = (refl, h.taken.position, rw h.taken.contents (length-append old.contents (h.copy ∷ [])))
 new-word old new w i (Some j) e h le = absurd (let lt = found-below str_key old (w ∷ []) j e in let same : i ≡ j = cc in omega arith)

@@ -6,7 +6,7 @@ use Rattle.std.proofs.lemmas.List.{length-map, map-append}
 use Rattle.intaglio_content.specs.Key.{Key}
 use Rattle.intaglio_symbol.specs.declared.error.InternError.{InternError}
 use Rattle.intaglio_core.specs.State.{State, key_eq, first_of, first, IsValid}
-use Rattle.intaglio_core.specs.Change.{Empties, IsTaken, Interns, IsCopyTaken, InternsForm}
+use Rattle.intaglio_core.specs.Change.{Empties, IsAppended, Interns, IsCopyAppended, InternsForm}
 use Rattle.intaglio_core.specs.Lookup.{IsFound, FindsNothing, IsStored, Keeps}
 use Rattle.intaglio_core.specs.Issue.{issue_from, interned_all}
 use Rattle.intaglio_core.proofs.First.{key_eq-decides}
@@ -89,13 +89,13 @@ module _ {C : Type 0} (key : C → Key) where
 
   -- a content that wasn't found is interned at the end of the list
   pub absent-grows : (old new : State C) (c : C) (i : ℕ) → first key old.contents (key c) ≡ None → Interns key old c (Ok i) new → Grows old c i new
-  absent-grows old new c i none step = let taken : IsTaken old c i new = rw none at step in (taken.position, taken.contents)
+  absent-grows old new c i none step = let taken : IsAppended old c i new = rw none at step in (taken.position, taken.contents)
 
   -- a content that was found is there already, and nothing changes
   pub found-same : (old new : State C) (c : C) (i j : ℕ) → IsFound key old (key c) j → Interns key old c (Ok i) new → (i ≡ j) × (new ≡ old)
   found-same old new c i j found step = let same : (◌≡◌ {A = Result ℕ InternError} (Ok i) (Ok j)) × (new ≡ old) = rw found at step in (cc, same.1)
 
-  by-count : (o : Option ℕ) (old new : State C) (c : C) (i : ℕ) → MatchOption o (IsTaken old c i new) (λ j. (◌≡◌ {A = Result ℕ InternError} (Ok i) (Ok j)) × (new ≡ old))
+  by-count : (o : Option ℕ) (old new : State C) (c : C) (i : ℕ) → MatchOption o (IsAppended old c i new) (λ j. (◌≡◌ {A = Result ℕ InternError} (Ok i) (Ok j)) × (new ≡ old))
       → (length new.contents ≡ length old.contents → (o ≡ Some i) × (new ≡ old)) × (length new.contents ≢ length old.contents → (o ≡ None) × Grows old c i new)
   by-count None old new c i h = (
     λ e. absurd (let more : length new.contents ≡ length old.contents + 1 = rw h.contents (length-append old.contents (c ∷ [])) in omega arith),
@@ -109,7 +109,7 @@ module _ {C : Type 0} (key : C → Key) where
   counted old new c i step = by-count (first key old.contents (key c)) old new c i step
 
   module _ (spelling : C → List ℕ) where
-    form-grows : (old new : State C) (k : Key) (w : List ℕ) (i : ℕ) → IsCopyTaken key spelling old k w i new → GrowsByForm key spelling old k w i new
+    form-grows : (old new : State C) (k : Key) (w : List ℕ) (i : ℕ) → IsCopyAppended key spelling old k w i new → GrowsByForm key spelling old k w i new
     form-grows old new k w i h = record {
       position = h.taken.position;
       keys = rw (h.taken.contents, map-append key old.contents (h.copy ∷ []), h.same_key) refl;
@@ -118,12 +118,12 @@ module _ {C : Type 0} (key : C → Key) where
 
     -- the same for a form, of which a copy is interned
     pub absent-form-grows : (old new : State C) (k : Key) (w : List ℕ) (i : ℕ) → first key old.contents k ≡ None → InternsForm key spelling old k w (Ok i) new → GrowsByForm key spelling old k w i new
-    absent-form-grows old new k w i none step = let taken : IsCopyTaken key spelling old k w i new = rw none at step in form-grows old new k w i taken
+    absent-form-grows old new k w i none step = let taken : IsCopyAppended key spelling old k w i new = rw none at step in form-grows old new k w i taken
 
     pub found-form-same : (old new : State C) (k : Key) (w : List ℕ) (i j : ℕ) → IsFound key old k j → InternsForm key spelling old k w (Ok i) new → (i ≡ j) × (new ≡ old)
     found-form-same old new k w i j found step = let same : (◌≡◌ {A = Result ℕ InternError} (Ok i) (Ok j)) × (new ≡ old) = rw found at step in (cc, same.1)
 
-    form-by-count : (o : Option ℕ) (old new : State C) (k : Key) (w : List ℕ) (i : ℕ) → MatchOption o (IsCopyTaken key spelling old k w i new) (λ j. (◌≡◌ {A = Result ℕ InternError} (Ok i) (Ok j)) × (new ≡ old))
+    form-by-count : (o : Option ℕ) (old new : State C) (k : Key) (w : List ℕ) (i : ℕ) → MatchOption o (IsCopyAppended key spelling old k w i new) (λ j. (◌≡◌ {A = Result ℕ InternError} (Ok i) (Ok j)) × (new ≡ old))
         → (length new.contents ≡ length old.contents → (o ≡ Some i) × (new ≡ old)) × (length new.contents ≢ length old.contents → (o ≡ None) × GrowsByForm key spelling old k w i new)
     form-by-count None old new k w i h = (
       λ e. absurd (let more : length new.contents ≡ length old.contents + 1 = rw h.taken.contents (length-append old.contents (h.copy ∷ [])) in omega arith),

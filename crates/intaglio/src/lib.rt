@@ -21,9 +21,9 @@ pub use intaglio_core::run::{run, run_forms};
 pub use intaglio_core::{
     AllSymbols, ByteStore, Bytewise, Call, Content, CopiedTo, Core, DEFAULT_SYMBOL_TABLE_CAPACITY,
     FormInterner, Formed, Forms, Index, IndexedStore, InternError, Interner, Keyed, Lends,
-    LookedUp, LookedUpIn, Mark, Pairs, Reply, RoomError, Sought, SoughtIn, Spelled, SpelledInterner, SpelledStore, StaleMark,
-    Store, StoreForms, StorePairs, Symbol, SymbolOverflowError, ToContent, Work, check_all,
-    get_or_intern_all, intern_all,
+    LookedUp, LookedUpIn, Mark, Pairs, Reply, RoomError, Sought, SoughtIn, Spelled,
+    SpelledInterner, SpelledStore, StaleMark, Store, StoreForms, StorePairs, Symbol,
+    SymbolOverflowError, ToContent, Work, check_all, get_or_intern_all, intern_all,
 };
 pub use intaglio_table::{Table, TableOver};
 pub use intaglio_text::StrContent;

@@ -5,7 +5,7 @@ use Rattle.std.proofs.lemmas.Bool.{lt-ltb, le-ltb}
 use Rattle.intaglio_content.specs.Key.{Key}
 use Rattle.intaglio_content.specs.Work.{Event}
 use Rattle.intaglio_core.specs.State.{State, first}
-use Rattle.intaglio_core.specs.Change.{IsTaken}
+use Rattle.intaglio_core.specs.Change.{IsAppended}
 use Rattle.intaglio_core.specs.Step.{Step, found}
 use Rattle.intaglio_core.specs.Run.{Runs}
 use Rattle.intaglio_core.specs.Alike.{Seen, symbol, pair, bool, spelling, count, done, overflow, capacity_overflow, stale, seen, HasMemory, AreAlike}
@@ -60,7 +60,7 @@ module _ {C : Type 0} (key : C → Key) (spells : C → List ℕ) where
   same-limit : (old new : State C) → new ≡ old → new.limit ≡ old.limit
   same-limit old new e = ap (λ (s : State C). s.limit) e
 
-  taken-plain : (o : Option ℕ) (old new : State C) (c : C) (i : ℕ) → MatchOption o (IsTaken old c i new) (λ j. (◌≡◌ {A = Result ℕ InternError} (Ok i) (Ok j)) × (new ≡ old))
+  taken-plain : (o : Option ℕ) (old new : State C) (c : C) (i : ℕ) → MatchOption o (IsAppended old c i new) (λ j. (◌≡◌ {A = Result ℕ InternError} (Ok i) (Ok j)) × (new ≡ old))
       → (symbol (Some i) ≡ interning_says o (length old.contents) old.limit) × (new.contents ≡ interning_leaves o old.contents old.limit c) × (new.limit ≡ old.limit)
   taken-plain None old new c i h =
       let below = lt-ltb (length old.contents) old.limit h.below_limit in

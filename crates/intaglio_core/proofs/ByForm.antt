@@ -6,11 +6,11 @@ use Rattle.std.proofs.lemmas.Option.{slice_get-map}
 use Rattle.intaglio_content.specs.Key.{Key}
 use Rattle.intaglio_content.specs.Work.{Event}
 use Rattle.intaglio_core.specs.State.{State, first, IsValid}
-use Rattle.intaglio_core.specs.Change.{IsCopyTaken, TakesCopy, InternsForm, TakesBack}
+use Rattle.intaglio_core.specs.Change.{IsCopyAppended, InternsNewForm, InternsForm, TakesBack}
 use Rattle.intaglio_core.specs.Lookup.{Keeps, FindsEachKey, StoresEachKey}
 use Rattle.intaglio_core.specs.Cost.{Adds, KnownSearchCost, KnownInternCost}
 use Rattle.intaglio_core.specs.Issue.{issued, interned, issue_from, interned_all}
-use Rattle.intaglio_core.specs.Batch.{IfOverflow, KeepsTable, hashings, SearchesForms, IsFormInterning, InternsEachForm, InternsForms, InternsSomeForms, FailsEachForm, RefusedFormsCost}
+use Rattle.intaglio_core.specs.Batch.{IfOverflow, StaysValid, hashings, SearchesForms, IsFormInterning, InternsEachForm, InternsForms, InternsSomeForms, FailsEachForm, RefusedFormsCost}
 use Rattle.intaglio_core.proofs.Spent.{Adds-then, Adds-parts}
 use Rattle.intaglio_core.proofs.InOrder.{Adds-push}
 use Rattle.intaglio_core.proofs.Each.{no-overflow}
@@ -62,7 +62,7 @@ module _ {C Q : Type 0} (key : C → Key) (form_key : Q → Key) (hash : Key →
 
 module _ {C : Type 0} (key : C → Key) (spelling : C → List ℕ) where
   form-limit : (o : Option ℕ) (old new : State C) (k : Key) (w : List ℕ) (result : Result ℕ InternError)
-      → MatchOption o (TakesCopy key spelling old k w result new) (λ i. (result ≡ Ok i) × (new ≡ old)) → new.limit ≡ old.limit
+      → MatchOption o (InternsNewForm key spelling old k w result new) (λ i. (result ≡ Ok i) × (new ≡ old)) → new.limit ≡ old.limit
   form-limit None old new k w (Ok i) h = h.taken.limit
   form-limit None old new k w (Err (intern_error.Overflow e)) h = ap (λ (s : State C). s.limit) h.1
   form-limit None old new k w (Err (intern_error.Memory e)) (inl h) = ap (λ (s : State C). s.limit) h.same
@@ -74,7 +74,7 @@ module _ {C : Type 0} (key : C → Key) (spelling : C → List ℕ) where
 
   -- one interning more keeps the table
   pub keeps-interned : (h now later : Key → ℕ) (old mid new : State C) (k : Key) (w : List ℕ) (result : Result ℕ InternError)
-      → KeepsTable key h old now mid → InternsForm key spelling mid k w result new → later ≡ now → IsValid key new → KeepsTable key h old later new
+      → StaysValid key h old now mid → InternsForm key spelling mid k w result new → later ≡ now → IsValid key new → StaysValid key h old later new
   keeps-interned h now later old mid new k w result kept step same valid = record {
     capacity = omega (arith, kept.capacity, InternsForm-roomier key spelling mid new k w result step);
     limit = InternsForm-limit mid new k w result step ∙ kept.limit;
@@ -83,7 +83,7 @@ module _ {C : Type 0} (key : C → Key) (spelling : C → List ℕ) where
   }
 
   form-keeps : (o : Option ℕ) (old new : State C) (k : Key) (w : List ℕ) (result : Result ℕ InternError) → first key old.contents k ≡ o
-      → MatchOption o (TakesCopy key spelling old k w result new) (λ i. (result ≡ Ok i) × (new ≡ old)) → Keeps key old new
+      → MatchOption o (InternsNewForm key spelling old k w result new) (λ i. (result ≡ Ok i) × (new ≡ old)) → Keeps key old new
   form-keeps None old new k w result none h = (copied key spelling old new k w result none h).kept
   form-keeps (Some i) old new k w result some h = same_contents-keeps key old new (ap (λ (s : State C). s.contents) h.1)
 
@@ -96,7 +96,7 @@ module _ {C : Type 0} (key : C → Key) (spelling : C → List ℕ) where
   still-found old mid k (Some i) kept is = kept.found k i (sym is)
 
   copied-ok : (o : Option ℕ) (old new : State C) (k : Key) (w : List ℕ) (i : ℕ)
-      → MatchOption o (IsCopyTaken key spelling old k w i new) (λ j. (◌≡◌ {A = Result ℕ InternError} (Ok i) (Ok j)) × (new ≡ old))
+      → MatchOption o (IsCopyAppended key spelling old k w i new) (λ j. (◌≡◌ {A = Result ℕ InternError} (Ok i) (Ok j)) × (new ≡ old))
       → (i ≡ unwrap_or o (length (map spelling old.contents))) × (map spelling new.contents ≡ cond (is_some o) (map spelling old.contents) (map spelling old.contents ++ w ∷ []))
   copied-ok None old new k w i h = (
     h.taken.position ∙ sym (length-map old.contents spelling),
@@ -105,7 +105,7 @@ module _ {C : Type 0} (key : C → Key) (spelling : C → List ℕ) where
   copied-ok (Some j) old new k w i h = ((cc), ap (λ (s : State C). map spelling s.contents) h.1)
 
   over-form : (o : Option ℕ) (old new : State C) (k : Key) (w : List ℕ) (e : SymbolOverflowError)
-      → MatchOption o (TakesCopy key spelling old k w (Err (intern_error.Overflow e)) new) (λ i. (◌≡◌ {A = Result ℕ InternError} (Err (intern_error.Overflow e)) (Ok i)) × (new ≡ old))
+      → MatchOption o (InternsNewForm key spelling old k w (Err (intern_error.Overflow e)) new) (λ i. (◌≡◌ {A = Result ℕ InternError} (Err (intern_error.Overflow e)) (Ok i)) × (new ≡ old))
       → old.limit < length (cond (is_some o) (map spelling old.contents) (map spelling old.contents ++ w ∷ []))
   over-form None old new k w e h = omega (arith, length-append (map spelling old.contents) (w ∷ []), length-map old.contents spelling, h.0)
   over-form (Some i) old new k w e h = absurd (let never = h.0 in cc)

@@ -4,10 +4,10 @@ use Rattle.std.proofs.lemmas.List.{get_or_at, get_or-map, length-map}
 use Rattle.intaglio_content.specs.Key.{Key}
 use Rattle.intaglio_content.specs.Work.{Event, hashed}
 use Rattle.intaglio_core.specs.State.{State, first, IsValid}
-use Rattle.intaglio_core.specs.Change.{Interns, Takes, TakesBack}
+use Rattle.intaglio_core.specs.Change.{Interns, InternsNew, TakesBack}
 use Rattle.intaglio_core.specs.Cost.{Adds, IsSearchCost, KnownSearchCost, KnownInternCost}
 use Rattle.intaglio_core.specs.Issue.{interned, issue_from, interned_all}
-use Rattle.intaglio_core.specs.Batch.{IfOverflow, KeepsTable, hashings, SearchesForms, IsInterning, InternsEach, InternsAll, InternsSome, FailsEach, RefusedCost}
+use Rattle.intaglio_core.specs.Batch.{IfOverflow, StaysValid, hashings, SearchesForms, IsInterning, InternsEach, InternsAll, InternsSome, FailsEach, RefusedCost}
 use Rattle.intaglio_core.proofs.Issue.{Interns-ok}
 use Rattle.intaglio_core.proofs.Spent.{Adds-then, Adds-parts}
 use Rattle.intaglio_core.proofs.InOrder.{Adds-push}
@@ -24,7 +24,7 @@ no-overflow (intern_error.Overflow e) P h = absurd h
 no-overflow (intern_error.Memory e) P h = tt
 
 module _ {C : Type 0} (key : C → Key) where
-  taken-limit : (o : Option ℕ) (old new : State C) (c : C) (result : Result ℕ InternError) → MatchOption o (Takes old c result new) (λ i. (result ≡ Ok i) × (new ≡ old)) → new.limit ≡ old.limit
+  taken-limit : (o : Option ℕ) (old new : State C) (c : C) (result : Result ℕ InternError) → MatchOption o (InternsNew old c result new) (λ i. (result ≡ Ok i) × (new ≡ old)) → new.limit ≡ old.limit
   taken-limit None old new c (Ok i) h = h.limit
   taken-limit None old new c (Err (intern_error.Overflow e)) h = ap (λ (s : State C). s.limit) h.1
   taken-limit None old new c (Err (intern_error.Memory e)) h = h.limit
@@ -35,7 +35,7 @@ module _ {C : Type 0} (key : C → Key) where
 
   -- one interning more keeps the table
   pub keeps-interned : (h now later : Key → ℕ) (old mid new : State C) (c : C) (result : Result ℕ InternError)
-      → KeepsTable key h old now mid → Interns key mid c result new → later ≡ now → IsValid key new → KeepsTable key h old later new
+      → StaysValid key h old now mid → Interns key mid c result new → later ≡ now → IsValid key new → StaysValid key h old later new
   keeps-interned h now later old mid new c result kept step same valid = record {
     capacity = omega (arith, kept.capacity, Interns-roomier key mid new c result step);
     limit = Interns-limit mid new c result step ∙ kept.limit;
@@ -45,7 +45,7 @@ module _ {C : Type 0} (key : C → Key) where
 
   -- and so does a rollback
   pub keeps-cut : (h now later : Key → ℕ) (old mid new : State C) (n : ℕ) (result : Result (Unit {0}) StaleMark)
-      → KeepsTable key h old now mid → TakesBack mid n result new → later ≡ now → IsValid key new → KeepsTable key h old later new
+      → StaysValid key h old now mid → TakesBack mid n result new → later ≡ now → IsValid key new → StaysValid key h old later new
   keeps-cut h now later old mid new n (Ok u) kept step same valid = record {
     capacity = omega (arith, kept.capacity, step.spare);
     limit = step.limit ∙ kept.limit;
@@ -59,7 +59,7 @@ module _ {C : Type 0} (key : C → Key) where
     valid = valid;
   }
 
-  refused-by : (o : Option ℕ) (old new : State C) (c : C) (e : InternError) → MatchOption o (Takes old c (Err e) new) (λ i. (◌≡◌ {A = Result ℕ InternError} (Err e) (Ok i)) × (new ≡ old)) → new.contents ≡ old.contents
+  refused-by : (o : Option ℕ) (old new : State C) (c : C) (e : InternError) → MatchOption o (InternsNew old c (Err e) new) (λ i. (◌≡◌ {A = Result ℕ InternError} (Err e) (Ok i)) × (new ≡ old)) → new.contents ≡ old.contents
   refused-by None old new c (intern_error.Overflow e) h = ap (λ (s : State C). s.contents) h.1
   refused-by None old new c (intern_error.Memory e) h = h.contents
   refused-by (Some i) old new c e h = ap (λ (s : State C). s.contents) h.1
@@ -69,7 +69,7 @@ module _ {C : Type 0} (key : C → Key) where
   Interns-refused old new c e h = refused-by (first key old.contents (key c)) old new c e h
 
   over-by : (o : Option ℕ) (old new : State C) (c : C) (e : SymbolOverflowError)
-      → MatchOption o (Takes old c (Err (intern_error.Overflow e)) new) (λ i. (◌≡◌ {A = Result ℕ InternError} (Err (intern_error.Overflow e)) (Ok i)) × (new ≡ old))
+      → MatchOption o (InternsNew old c (Err (intern_error.Overflow e)) new) (λ i. (◌≡◌ {A = Result ℕ InternError} (Err (intern_error.Overflow e)) (Ok i)) × (new ≡ old))
       → old.limit < length (cond (is_some o) old.contents (old.contents ++ c ∷ []))
   over-by None old new c e h = omega (arith, length-append old.contents (c ∷ []), h.0)
   over-by (Some i) old new c e h = absurd (let never = h.0 in cc)

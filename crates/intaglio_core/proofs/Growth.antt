@@ -5,7 +5,7 @@ use Rattle.std.proofs.lemmas.List.Elements.{All-cons}
 use Rattle.intaglio_content.specs.Key.{Key}
 use Rattle.intaglio_content.specs.Work.{Event, hashed, compared, step, placed}
 use Rattle.intaglio_core.specs.State.{State, first}
-use Rattle.intaglio_core.specs.Change.{IsTaken, IsRefused}
+use Rattle.intaglio_core.specs.Change.{IsAppended, IsRefused}
 use Rattle.intaglio_core.specs.Cost.{hashed_keys, placed_count, SearchCost, IsAddingCost}
 use Rattle.intaglio_core.specs.Step.{Step, StepCost}
 use Rattle.intaglio_core.specs.Run.{Runs, KeepsContents, searched_keys}
@@ -59,7 +59,7 @@ module _ {C : Type 0} (key : C → Key) (hash : Key → ℕ) where
   unchanged old next p g same none h =
       kept old next p g (ap (λ (s : State C). length s.contents) same) (ap (λ (s : State C). s.buckets) same) (ap (λ (s : State C). s.limit) same) none h
 
-  grown : (old next : State C) (c : C) (i p g : ℕ) → IsTaken old c i next → next.buckets ≢ old.buckets → p ≡ length old.contents + 1 → Holds old g → Goes old next p g
+  grown : (old next : State C) (c : C) (i p g : ℕ) → IsAppended old c i next → next.buckets ≢ old.buckets → p ≡ length old.contents + 1 → Holds old g → Goes old next p g
   grown old next c i p g taken more placements h =
       let size : length next.contents ≡ length old.contents + 1 = rw taken.contents (simp length-append (omega arith)) in
       let full : length old.contents ≡ old.buckets = (taken.growth more).0 in
@@ -68,7 +68,7 @@ module _ {C : Type 0} (key : C → Key) (hash : Key → ℕ) where
       let same : next.limit ≡ old.limit = taken.limit in
       record { later = g + length old.contents; holds = record { below = λ lt. omega arith; twice = omega arith }; spent = omega arith }
 
-  added : (old next : State C) (c : C) (i g : ℕ) (k : Key) (now : List Event) → IsTaken old c i next → IsAddingCost key hash old k next now → Holds old g → Goes old next (placed_count now) g
+  added : (old next : State C) (c : C) (i g : ℕ) (k : Key) (now : List Event) → IsAppended old c i next → IsAddingCost key hash old k next now → Holds old g → Goes old next (placed_count now) g
   added old next c i g k now taken cost h =
       let parts : placed_count now ≡ placed_count cost.search + placed_count cost.growth + 1 =
       rw (cost.parts, placed_count-append (cost.search ++ cost.growth) (placed ∷ []), placed_count-append cost.search cost.growth) (omega arith) in
@@ -89,7 +89,7 @@ module _ {C : Type 0} (key : C → Key) (hash : Key → ℕ) where
       ]
 
   answered : (o : Option ℕ) (old next : State C) (c : C) (i g : ℕ) (k : Key) (now : List Event)
-      → MatchOption o (IsTaken old c i next) (λ j. (◌≡◌ {A = Result ℕ InternError} (Ok i) (Ok j)) × (next ≡ old))
+      → MatchOption o (IsAppended old c i next) (λ j. (◌≡◌ {A = Result ℕ InternError} (Ok i) (Ok j)) × (next ≡ old))
       → MatchOption o (IsAddingCost key hash old k next now) (λ _. SearchCost key hash old k now) → Holds old g → Goes old next (placed_count now) g
   answered None old next c i g k now taken cost h = added old next c i g k now taken cost h
   answered (Some j) old next c i g k now found cost h = unchanged old next (placed_count now) g found.1 cost.placements h
@@ -141,7 +141,7 @@ module _ {C : Type 0} (key : C → Key) (hash : Key → ℕ) where
     had-room None old next B h lt = let none : old.spare ≡ 0 = h.no_room in omega arith
     had-room (Some j) old next B h lt = let no = h.0 in cc
 
-    room-left : (o : Option ℕ) (old next : State C) (c : C) (i n : ℕ) → MatchOption o (IsTaken old c i next) (λ j. (◌≡◌ {A = Result ℕ InternError} (Ok i) (Ok j)) × (next ≡ old)) → suc n ≤ old.spare → n ≤ next.spare
+    room-left : (o : Option ℕ) (old next : State C) (c : C) (i n : ℕ) → MatchOption o (IsAppended old c i next) (λ j. (◌≡◌ {A = Result ℕ InternError} (Ok i) (Ok j)) × (next ≡ old)) → suc n ≤ old.spare → n ≤ next.spare
     room-left None old next c i n h lt = let left = (h.spare (omega arith)).0 in omega (arith, left)
     room-left (Some j) old next c i n h lt = let same : next.spare ≡ old.spare = ap (λ (s : State C). s.spare) h.1 in omega arith
 

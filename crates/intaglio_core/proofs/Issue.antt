@@ -3,7 +3,7 @@ use Rattle.std.proofs.Common.{◌≡◌, ℕ, suc, arith, List, [], ◌∷◌, �
 use Rattle.intaglio_content.specs.Key.{Key}
 use Rattle.intaglio_content.specs.Work.{Event}
 use Rattle.intaglio_core.specs.State.{State, first}
-use Rattle.intaglio_core.specs.Change.{IsTaken, Interns}
+use Rattle.intaglio_core.specs.Change.{IsAppended, Interns}
 use Rattle.intaglio_core.specs.Issue.{issued, interned, issue_from}
 use Rattle.intaglio_core.specs.Step.{Step}
 use Rattle.intaglio_core.specs.Run.{Runs, IsRefusal}
@@ -13,7 +13,7 @@ use Rattle.intaglio_core.specs.declared.run.Reply.{Reply}
 use Rattle.intaglio_core.specs.declared.run.Reply.TheVariants as reply
 
 module _ {C : Type 0} (key : C → Key) where
-  taken-ok : (o : Option ℕ) (old new : State C) (c : C) (i : ℕ) → MatchOption o (IsTaken old c i new) (λ j. (◌≡◌ {A = Result ℕ InternError} (Ok i) (Ok j)) × (new ≡ old))
+  taken-ok : (o : Option ℕ) (old new : State C) (c : C) (i : ℕ) → MatchOption o (IsAppended old c i new) (λ j. (◌≡◌ {A = Result ℕ InternError} (Ok i) (Ok j)) × (new ≡ old))
       → (i ≡ unwrap_or o (length old.contents)) × (new.contents ≡ cond (is_some o) old.contents (old.contents ++ c ∷ []))
   taken-ok None old new c i h = (h.position, h.contents)
   taken-ok (Some j) old new c i h = ((cc), ap (λ (s : State C). s.contents) h.1)

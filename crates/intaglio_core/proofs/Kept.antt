@@ -7,7 +7,7 @@ use Rattle.std.proofs.lemmas.List.{map-append, length-map, take-map, length-take
 use Rattle.intaglio_index.specs.Placed.{Placed}
 use Rattle.intaglio_content.specs.Key.{Key}
 use Rattle.intaglio_core.specs.State.{key_eq, first_of, AreDistinct, IsValid}
-use Rattle.intaglio_core.specs.Change.{IsTaken}
+use Rattle.intaglio_core.specs.Change.{IsAppended}
 use Rattle.intaglio_core.specs.Indexed.{IsIndexed, FindsPlace}
 use Rattle.intaglio_content.specs.declared.work.Work.{Work}
 use Rattle.intaglio_core.proofs.First.{key_eq-decides}
@@ -49,7 +49,7 @@ distinct-take keys n le apart = λ i j d lt below.
 -- a content is taken where a place was found for it
 pub list-taken : {C : Type 0} (cs : List C) (c : C) (n capacity more limit : ℕ) (old mid new : Placed) (before after : Work) → n ≡ length cs → length cs < limit → length cs ≤ old.room → old.room ≤ old.count
     → capacity ≤ more → old.room ≤ mid.room → FindsPlace (length cs) limit old mid before after → new.count ≡ mid.count → new.room ≡ mid.room
-    → IsTaken (record { contents = cs; spare = min capacity old.room - length cs; buckets = old.count; limit = limit }) c n (record { contents = cs ++ c ∷ []; spare = min more new.room - length (cs ++ c ∷ []); buckets = new.count; limit = limit })
+    → IsAppended (record { contents = cs; spare = min capacity old.room - length cs; buckets = old.count; limit = limit }) c n (record { contents = cs ++ c ∷ []; spare = min more new.room - length (cs ++ c ∷ []); buckets = new.count; limit = limit })
 list-taken cs c n capacity more limit old mid new before after at below within fits list index place count room =
     let size : length (cs ++ c ∷ []) ≡ length cs + 1 = simp length-append in
     record {

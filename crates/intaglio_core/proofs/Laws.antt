@@ -6,7 +6,7 @@ use Rattle.std.proofs.lemmas.Option.{same_Some, slice_get_within, get_or_from_sl
 use Rattle.std.proofs.lemmas.List.{length-map, get_or-map, length-take-le, take-append-drop}
 use Rattle.intaglio_content.specs.Key.{Key}
 use Rattle.intaglio_core.specs.State.{State, key_eq, first, IsValid}
-use Rattle.intaglio_core.specs.Change.{Interns, Takes, TakesCopy, IsCut, Empties}
+use Rattle.intaglio_core.specs.Change.{Interns, InternsNew, InternsNewForm, IsTruncated, Empties}
 use Rattle.intaglio_core.specs.Lookup.{IsFound, FindsNothing, FindsOthers, FindsInterned, IsStored, Keeps, KeepsBelow, FindsEach, StoresEach}
 use Rattle.intaglio_core.specs.Issue.{issued, interned, issue_from, interned_all}
 use Rattle.intaglio_core.proofs.First.{key_eq-decides, key_eq-unequal, first-append, first-some, some-below, or_at}
@@ -192,7 +192,7 @@ module _ {C : Type 0} (key : C → Key) where
   }
 
   -- also where the content isn't there yet
-  pub taken : (old new : State C) (c : C) (r : Result ℕ InternError) → first key old.contents (key c) ≡ None → Takes old c r new → FindsInterned key old (key c) r new
+  pub taken : (old new : State C) (c : C) (r : Result ℕ InternError) → first key old.contents (key c) ≡ None → InternsNew old c r new → FindsInterned key old (key c) r new
   taken old new c r none step = interned_clauses old new c r (rw none step)
 
   -- an interning that is refused leaves what its callers see
@@ -206,7 +206,7 @@ module _ {C : Type 0} (key : C → Key) where
   }
 
   -- and where a copy of a form is taken
-  pub copied : (spelling : C → List ℕ) (old new : State C) (k : Key) (w : List ℕ) (r : Result ℕ InternError) → first key old.contents k ≡ None → TakesCopy key spelling old k w r new → FindsInterned key old k r new
+  pub copied : (spelling : C → List ℕ) (old new : State C) (k : Key) (w : List ℕ) (r : Result ℕ InternError) → first key old.contents k ≡ None → InternsNewForm key spelling old k w r new → FindsInterned key old k r new
   copied spelling old new k w (Ok i) none step =
       let absent : first key old.contents (key step.copy) ≡ None = rw step.same_key none in
       rw step.same_key at (taken old new step.copy (Ok i) absent step.taken)
@@ -231,7 +231,7 @@ module _ {C : Type 0} (key : C → Key) where
       }
 
   -- a rollback keeps the symbols below the mark, and nothing else is found
-  pub rolled_back-keeps : (old : State C) (n : ℕ) (new : State C) → IsCut old n new → KeepsBelow key old n new
+  pub rolled_back-keeps : (old : State C) (n : ℕ) (new : State C) → IsTruncated old n new → KeepsBelow key old n new
   rolled_back-keeps old n new cut = cut-keeps old n new cut.within cut.contents
 
   -- after contents came in order, each is found at the symbol that it was given
@@ -268,5 +268,5 @@ module _ {C : Type 0} (key : C → Key) where
   keeps-front old new kept = take-front old.contents new.contents kept.stored
 
   -- a rollback to a mark restores the contents that stood when the mark was made, if they were kept since
-  pub restored : (old next new : State C) → Keeps key old next → IsCut next (length old.contents) new → new.contents ≡ old.contents
+  pub restored : (old next new : State C) → Keeps key old next → IsTruncated next (length old.contents) new → new.contents ≡ old.contents
   restored old next new kept cut = cut.contents ∙ keeps-front old next kept

@@ -4,7 +4,7 @@ use Rattle.std.proofs.lemmas.Bool.{cases_lt}
 use Rattle.intaglio_content.specs.Key.{Key}
 use Rattle.intaglio_content.specs.Work.{Event}
 use Rattle.intaglio_core.specs.State.{State, first}
-use Rattle.intaglio_core.specs.Change.{HasNoLessRoom, Interns, InternsForm, IsTaken, IsCopyTaken, IsRefused, IsUncopied}
+use Rattle.intaglio_core.specs.Change.{HasNoLessRoom, Interns, InternsForm, IsAppended, IsCopyAppended, IsRefused, IsUncopied}
 use Rattle.intaglio_core.specs.Step.{Step}
 use Rattle.intaglio_core.specs.Run.{Runs, KeepsRoom}
 use Rattle.intaglio_symbol.specs.declared.error.InternError.{InternError}
@@ -25,7 +25,7 @@ module _ {C : Type 0} (key : C → Key) where
   kept-roomier : (old next : State C) → next.contents ≡ old.contents → old.spare ≤ next.spare → HasNoLessRoom old next
   kept-roomier old next same more = let size : length next.contents ≡ length old.contents = ap (λ (cs : List C). length cs) same in omega arith
 
-  answered-roomier : (o : Option ℕ) (old next : State C) (c : C) (i : ℕ) → MatchOption o (IsTaken old c i next) (λ j. (◌≡◌ {A = Result ℕ InternError} (Ok i) (Ok j)) × (next ≡ old)) → HasNoLessRoom old next
+  answered-roomier : (o : Option ℕ) (old next : State C) (c : C) (i : ℕ) → MatchOption o (IsAppended old c i next) (λ j. (◌≡◌ {A = Result ℕ InternError} (Ok i) (Ok j)) × (next ≡ old)) → HasNoLessRoom old next
   answered-roomier None old next c i taken =
       let size : length next.contents ≡ length old.contents + 1 = rw taken.contents (simp length-append (omega arith)) in
       elim (cases_lt 0 old.spare) [
@@ -47,7 +47,7 @@ module _ {C : Type 0} (key : C → Key) where
   Interns-roomier old next c (Err (intern_error.Overflow e)) made = overflow-roomier (first key old.contents (key c)) old next _ _ made
   Interns-roomier old next c (Err (intern_error.Memory e)) made = refused-roomier (first key old.contents (key c)) old next _ made
 
-  copied-roomier : (spelling : C → List ℕ) (o : Option ℕ) (old next : State C) (k : Key) (w : List ℕ) (i : ℕ) → MatchOption o (IsCopyTaken key spelling old k w i next) (λ j. (◌≡◌ {A = Result ℕ InternError} (Ok i) (Ok j)) × (next ≡ old)) → HasNoLessRoom old next
+  copied-roomier : (spelling : C → List ℕ) (o : Option ℕ) (old next : State C) (k : Key) (w : List ℕ) (i : ℕ) → MatchOption o (IsCopyAppended key spelling old k w i next) (λ j. (◌≡◌ {A = Result ℕ InternError} (Ok i) (Ok j)) × (next ≡ old)) → HasNoLessRoom old next
   copied-roomier spelling None old next k w i h = answered-roomier None old next h.copy i h.taken
   copied-roomier spelling (Some j) old next k w i h = same-roomier old next h.1
 

@@ -6,8 +6,8 @@ use Rattle.intaglio_content.specs.Work.{Event, step}
 use Rattle.intaglio_index.specs.Placed.{Placed, chain}
 use Rattle.intaglio_index.specs.Found.{IsFound, IsPassed}
 use Rattle.intaglio_core.specs.State.{State}
-use Rattle.intaglio_core.specs.Begun.{placed_of, HasBegun, HasBegunSince, IsBegun, AreBegun}
-use Rattle.intaglio_core.specs.declared.begun.Begun.{Begun}
+use Rattle.intaglio_core.specs.PendingSearch.{placed_of, IsPending, IsPendingSince, IsPendingSearch, ArePendingSearches}
+use Rattle.intaglio_core.specs.declared.pending_search.PendingSearch.{PendingSearch}
 
 -- a chain depends on the hashes and the number of buckets alone
 pub chain-same : (v w : Placed) (b : ℕ) → v.hashes ≡ w.hashes → v.count ≡ w.count → chain v b ≡ chain w b
@@ -17,38 +17,38 @@ chain-same v w b hashes count = rw (hashes, count) refl
 unwraps : {j i : ℕ} → ◌≡◌ {A = Option ℕ} (Some j) (Some i) → j ≡ i
 unwraps e = cc
 
-pub begun : {C : Type 0} (key : C → Key) (hash : Key → ℕ) (s : State C) (index : Placed) (h : ℕ) (before after : List Event) (candidate : Option ℕ)
+pub pending : {C : Type 0} (key : C → Key) (hash : Key → ℕ) (s : State C) (index : Placed) (h : ℕ) (before after : List Event) (candidate : Option ℕ)
     → index.hashes ≡ map (λ c. hash (key c)) s.contents → index.count ≡ s.buckets → before ≡ []
     → IfSome candidate (λ i. IsFound h (chain index (h % index.count)) before after i)
     → (candidate ≡ None → AllByRecursion (λ placed. placed ≢ h) index.hashes)
     → (candidate ≡ None → IsPassed (chain index (h % index.count)) before after)
-    → HasBegun key hash s h after candidate
-begun key hash s index h before after None hashes count start found none passed =
+    → IsPending key hash s h after candidate
+pending key hash s index h before after None hashes count start found none passed =
     let same = chain-same index (placed_of key hash s) (h % index.count) hashes count in
     (rw hashes at (none refl), rw (same, count, start) at (passed refl))
-begun key hash s index h before after (Some i) hashes count start found none passed =
+pending key hash s index h before after (Some i) hashes count start found none passed =
     let same = chain-same index (placed_of key hash s) (h % index.count) hashes count in
     rw (same, count, start) at found
 
 -- a search that goes on where it was begun
-pub begun-since : {C : Type 0} (key : C → Key) (hash : Key → ℕ) (s : State C) (index : Placed) (k : Key) (start now : List Event) (candidate : Option ℕ)
+pub pending-since : {C : Type 0} (key : C → Key) (hash : Key → ℕ) (s : State C) (index : Placed) (k : Key) (start now : List Event) (candidate : Option ℕ)
     → index.hashes ≡ map (λ c. hash (key c)) s.contents → index.count ≡ s.buckets
     → IfSome candidate (λ i. IsFound (hash k) (chain index (hash k % index.count)) start now i)
     → (candidate ≡ None → AllByRecursion (λ placed. placed ≢ hash k) index.hashes)
     → (candidate ≡ None → IsPassed (chain index (hash k % index.count)) start now)
-    → HasBegunSince key hash s k start now candidate
-begun-since key hash s index k start now None hashes count found none passed =
+    → IsPendingSince key hash s k start now candidate
+pending-since key hash s index k start now None hashes count found none passed =
     let same = chain-same index (placed_of key hash s) (hash k % index.count) hashes count in
     let p = rw (same, count) at (passed refl) in
     (replicate (p.more + 1) step, p.events, (rw hashes at (none refl), record { more = p.more; few = p.few; events = refl }))
-begun-since key hash s index k start now (Some i) hashes count found none passed =
+pending-since key hash s index k start now (Some i) hashes count found none passed =
     let same = chain-same index (placed_of key hash s) (hash k % index.count) hashes count in
     let f = rw (same, count) at found in
     (replicate (length f.front + 1) step, f.events, record { front = f.front; behind = f.behind; split = f.split; smaller = f.smaller; events = refl })
 
 -- a search that was begun and found nothing, with its events after those of others
 pub nothing : {C : Type 0} (key : C → Key) (hash : Key → ℕ) (s : State C) (index : Placed) (h : ℕ) (cost before after : List Event) (candidate : Option ℕ)
-    → HasBegun key hash s h cost candidate → candidate ≡ None → index.hashes ≡ map (λ c. hash (key c)) s.contents → index.count ≡ s.buckets → after ≡ before ++ cost
+    → IsPending key hash s h cost candidate → candidate ≡ None → index.hashes ≡ map (λ c. hash (key c)) s.contents → index.count ≡ s.buckets → after ≡ before ++ cost
     → AllByRecursion (λ placed. placed ≢ h) index.hashes × IsPassed (chain index (h % index.count)) before after
 nothing key hash s index h cost before after None b none hashes count adds =
     let same = chain-same index (placed_of key hash s) (h % index.count) hashes count in
@@ -57,7 +57,7 @@ nothing key hash s index h cost before after (Some i) b none hashes count adds =
 
 -- the same where it found a symbol
 pub something : {C : Type 0} (key : C → Key) (hash : Key → ℕ) (s : State C) (index : Placed) (h : ℕ) (cost before after : List Event) (candidate : Option ℕ) (i : ℕ)
-    → HasBegun key hash s h cost candidate → candidate ≡ Some i → index.hashes ≡ map (λ c. hash (key c)) s.contents → index.count ≡ s.buckets → after ≡ before ++ cost
+    → IsPending key hash s h cost candidate → candidate ≡ Some i → index.hashes ≡ map (λ c. hash (key c)) s.contents → index.count ≡ s.buckets → after ≡ before ++ cost
     → IsFound h (chain index (h % index.count)) before after i
 something key hash s index h cost before after None i b is hashes count adds = absurd (let never = is in cc)
 something key hash s index h cost before after (Some j) i b is hashes count adds =
@@ -67,23 +67,23 @@ something key hash s index h cost before after (Some j) i b is hashes count adds
 
 module _ {C : Type 0} (key : C → Key) (hash : Key → ℕ) (s : State C) where
   -- one search more
-  pub AreBegun-push : (hs : List ℕ) (bs : List Begun) (h : ℕ) (b : Begun) → AreBegun key hash s hs bs → IsBegun key hash s h b
-      → AreBegun key hash s (hs ++ h ∷ []) (bs ++ b ∷ [])
-  AreBegun-push [] [] h b all last = (last, tt)
-  AreBegun-push [] (x ∷ bs) h b all last = absurd all
-  AreBegun-push (y ∷ hs) [] h b all last = absurd all
-  AreBegun-push (y ∷ hs) (x ∷ bs) h b all last = (all.0, AreBegun-push hs bs h b all.1 last)
+  pub ArePendingSearches-push : (hs : List ℕ) (bs : List PendingSearch) (h : ℕ) (b : PendingSearch) → ArePendingSearches key hash s hs bs → IsPendingSearch key hash s h b
+      → ArePendingSearches key hash s (hs ++ h ∷ []) (bs ++ b ∷ [])
+  ArePendingSearches-push [] [] h b all last = (last, tt)
+  ArePendingSearches-push [] (x ∷ bs) h b all last = absurd all
+  ArePendingSearches-push (y ∷ hs) [] h b all last = absurd all
+  ArePendingSearches-push (y ∷ hs) (x ∷ bs) h b all last = (all.0, ArePendingSearches-push hs bs h b all.1 last)
 
-  pub AreBegun-length : {Q : Type 0} (f : Q → ℕ) (qs : List Q) (bs : List Begun) → AreBegun key hash s (map f qs) bs → length bs ≡ length qs
-  AreBegun-length f [] [] all = refl
-  AreBegun-length f [] (x ∷ bs) all = absurd all
-  AreBegun-length f (q ∷ qs) [] all = absurd all
-  AreBegun-length f (q ∷ qs) (x ∷ bs) all = ap suc (AreBegun-length f qs bs all.1)
+  pub ArePendingSearches-length : {Q : Type 0} (f : Q → ℕ) (qs : List Q) (bs : List PendingSearch) → ArePendingSearches key hash s (map f qs) bs → length bs ≡ length qs
+  ArePendingSearches-length f [] [] all = refl
+  ArePendingSearches-length f [] (x ∷ bs) all = absurd all
+  ArePendingSearches-length f (q ∷ qs) [] all = absurd all
+  ArePendingSearches-length f (q ∷ qs) (x ∷ bs) all = ap suc (ArePendingSearches-length f qs bs all.1)
 
   -- the search at a position
-  pub begun-at : {Q : Type 0} (f : Q → ℕ) (qs : List Q) (bs : List Begun) (i : ℕ) (q : Q) (b : Begun) → AreBegun key hash s (map f qs) bs → i < length qs
-      → q ≡ get_or qs i q → b ≡ get_or bs i b → IsBegun key hash s (f q) b
-  begun-at f [] bs i q b all lt is same = absurd (omega (arith, lt))
-  begun-at f (y ∷ qs) [] i q b all lt is same = absurd all
-  begun-at f (y ∷ qs) (x ∷ bs) zero q b all lt is same = rw (is, same) all.0
-  begun-at f (y ∷ qs) (x ∷ bs) (suc i) q b all lt is same = begun-at f qs bs i q b all.1 (omega (arith, lt)) is same
+  pub pending-at : {Q : Type 0} (f : Q → ℕ) (qs : List Q) (bs : List PendingSearch) (i : ℕ) (q : Q) (b : PendingSearch) → ArePendingSearches key hash s (map f qs) bs → i < length qs
+      → q ≡ get_or qs i q → b ≡ get_or bs i b → IsPendingSearch key hash s (f q) b
+  pending-at f [] bs i q b all lt is same = absurd (omega (arith, lt))
+  pending-at f (y ∷ qs) [] i q b all lt is same = absurd all
+  pending-at f (y ∷ qs) (x ∷ bs) zero q b all lt is same = rw (is, same) all.0
+  pending-at f (y ∷ qs) (x ∷ bs) (suc i) q b all lt is same = pending-at f qs bs i q b all.1 (omega (arith, lt)) is same

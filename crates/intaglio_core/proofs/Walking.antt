@@ -10,7 +10,7 @@ use Rattle.intaglio_index.proofs.ChainLemmas.{eqb-equal, eqb-unequal}
 use Rattle.intaglio_index.proofs.WalkLemmas.{rest_of}
 use Rattle.intaglio_core.proofs.First.{first-none}
 use Rattle.intaglio_index.specs.Found.{IsFound, IsPassed}
-use Rattle.intaglio_index.specs.Placed.{Placed, head_of, leader_with, chain}
+use Rattle.intaglio_index.specs.Placed.{Placed, head_of, first_symbol_with, chain}
 use Rattle.std.specs.List.{AllByRecursion}
 use Rattle.intaglio_content.specs.Key.{Key}
 use Rattle.intaglio_content.specs.Work.{Event, hashed, compared, step}
@@ -35,7 +35,7 @@ pub record IsWalking {C : Type 0} (key : C → Key) (hash : Key → ℕ) (index 
 
 -- a symbol is followed by this one of the same hash, or by none
 abbrev pub Precedes : Placed → ℕ → Option ℕ → Type 0
-Precedes index s next = (b hash : ℕ) (before behind : List (ℕ × ℕ)) → chain index b ≡ before ++ (s, hash) ∷ behind → next ≡ leader_with hash behind
+Precedes index s next = (b hash : ℕ) (before behind : List (ℕ × ℕ)) → chain index b ≡ before ++ (s, hash) ∷ behind → next ≡ first_symbol_with hash behind
 
 -- what is left of a bucket at a symbol
 abbrev pub rest_at : Placed → ℕ → Option ℕ → List (ℕ × ℕ)
@@ -54,7 +54,7 @@ absent key hash index contents k hashes none =
     sym (first-none (map key contents) k differs)
 
 -- behind a symbol comes one of its hash, or a greater hash
-led : (h : ℕ) (behind : List (ℕ × ℕ)) (next : Option ℕ) → next ≡ leader_with h behind → AllByRecursion (λ (f : ℕ × ℕ). h ≤ f.1) behind → Leads h (head_of behind) next
+led : (h : ℕ) (behind : List (ℕ × ℕ)) (next : Option ℕ) → next ≡ first_symbol_with h behind → AllByRecursion (λ (f : ℕ × ℕ). h ≤ f.1) behind → Leads h (head_of behind) next
 led h [] next e above = rw e tt
 led h (x ∷ xs) next e above =
     elim (eqb_tells x.1 h) [

@@ -15,7 +15,7 @@ IfOverflow (Overflow _) P = P
 IfOverflow _ P = Unit {0}
 
 -- what a batch leaves, also a failed one: a valid table with the same hash and limit, and no lower capacity
-pub record KeepsTable {C : Type 0} (key : C → Key) (old_hash : Key → ℕ) (old : State C) (new_hash : Key → ℕ) (new : State C) : Type 0 where
+pub record StaysValid {C : Type 0} (key : C → Key) (old_hash : Key → ℕ) (old : State C) (new_hash : Key → ℕ) (new : State C) : Type 0 where
   pub capacity : HasNoLessRoom old new
   pub limit : new.limit ≡ old.limit
   pub same_hash : new_hash ≡ old_hash

@@ -14,7 +14,7 @@ HasNoLessRoom old new = length old.contents + old.spare ≤ length new.contents 
 
 -- a new content gets the next position. It uses spare capacity if there is some, and a growth of the buckets
 -- at least doubles them, up to the limit
-pub record IsTaken {C : Type 0} (old : State C) (content : C) (symbol : ℕ) (new : State C) : Type 0 where
+pub record IsAppended {C : Type 0} (old : State C) (content : C) (symbol : ℕ) (new : State C) : Type 0 where
   pub below_limit : length old.contents < old.limit
   pub position : symbol ≡ length old.contents
   pub contents : new.contents ≡ old.contents ++ content ∷ []
@@ -32,22 +32,22 @@ pub record IsRefused {C : Type 0} (old new : State C) : Type 0 where
   pub limit : new.limit ≡ old.limit
 
 -- one interning of a content that isn't stored, by its result
-abbrev pub Takes : {C : Type 0} → State C → C → Result ℕ InternError → State C → Type 0
-Takes old content (Ok symbol) new = IsTaken old content symbol new
-Takes old content (Err (Overflow _)) new = (length old.contents ≡ old.limit) × (new ≡ old)
-Takes old content (Err (Memory _)) new = IsRefused old new
+abbrev pub InternsNew : {C : Type 0} → State C → C → Result ℕ InternError → State C → Type 0
+InternsNew old content (Ok symbol) new = IsAppended old content symbol new
+InternsNew old content (Err (Overflow _)) new = (length old.contents ≡ old.limit) × (new ≡ old)
+InternsNew old content (Err (Memory _)) new = IsRefused old new
 
 -- one interning: for a content that is stored, it returns the first position and changes nothing
 abbrev pub Interns : {C : Type 0} → (C → Key) → State C → C → Result ℕ InternError → State C → Type 0
 Interns key old content result new =
-    MatchOption (first key old.contents (key content)) (Takes old content result new) (λ i. (result ≡ Ok i) × (new ≡ old))
+    MatchOption (first key old.contents (key content)) (InternsNew old content result new) (λ i. (result ≡ Ok i) × (new ≡ old))
 
 -- a content with this key and this spelling, the copy of a form, gets the next position
-pub record IsCopyTaken {C : Type 0} (key : C → Key) (spelling : C → List ℕ) (old : State C) (k : Key) (w : List ℕ) (symbol : ℕ) (new : State C) : Type 0 where
+pub record IsCopyAppended {C : Type 0} (key : C → Key) (spelling : C → List ℕ) (old : State C) (k : Key) (w : List ℕ) (symbol : ℕ) (new : State C) : Type 0 where
   pub copy : C
   pub same_key : key copy ≡ k
   pub same_spelling : spelling copy ≡ w
-  pub taken : IsTaken old copy symbol new
+  pub taken : IsAppended old copy symbol new
 
 -- the allocation of a copy failed
 pub record IsUncopied {C : Type 0} (old new : State C) : Type 0 where
@@ -55,10 +55,10 @@ pub record IsUncopied {C : Type 0} (old new : State C) : Type 0 where
   pub same : new ≡ old
 
 -- one interning by a form that isn't stored, and is copied, by its result
-abbrev pub TakesCopy : {C : Type 0} → (C → Key) → (C → List ℕ) → State C → Key → List ℕ → Result ℕ InternError → State C → Type 0
-TakesCopy key spelling old k w (Ok symbol) new = IsCopyTaken key spelling old k w symbol new
-TakesCopy key spelling old k w (Err (Overflow _)) new = (length old.contents ≡ old.limit) × (new ≡ old)
-TakesCopy key spelling old k w (Err (Memory _)) new = IsUncopied old new ⊎ IsRefused old new
+abbrev pub InternsNewForm : {C : Type 0} → (C → Key) → (C → List ℕ) → State C → Key → List ℕ → Result ℕ InternError → State C → Type 0
+InternsNewForm key spelling old k w (Ok symbol) new = IsCopyAppended key spelling old k w symbol new
+InternsNewForm key spelling old k w (Err (Overflow _)) new = (length old.contents ≡ old.limit) × (new ≡ old)
+InternsNewForm key spelling old k w (Err (Memory _)) new = IsUncopied old new ⊎ IsRefused old new
 
 -- an interning didn't fail for memory
 abbrev pub IsNotMemory : Result ℕ InternError → Type 0
@@ -68,7 +68,7 @@ IsNotMemory _ = ⊤
 -- one interning by a form, which is copied only if its key isn't stored
 abbrev pub InternsForm : {C : Type 0} → (C → Key) → (C → List ℕ) → State C → Key → List ℕ → Result ℕ InternError → State C → Type 0
 InternsForm key spelling old k w result new =
-    MatchOption (first key old.contents k) (TakesCopy key spelling old k w result new) (λ i. (result ≡ Ok i) × (new ≡ old))
+    MatchOption (first key old.contents k) (InternsNewForm key spelling old k w result new) (λ i. (result ≡ Ok i) × (new ≡ old))
 
 -- there is spare capacity for n more. If there was before, nothing changed
 pub record IsReserved {C : Type 0} (old : State C) (n : ℕ) (new : State C) : Type 0 where
@@ -109,7 +109,7 @@ Shrinks old n (Err room_error.CapacityOverflow) new = ⊥
 Shrinks old n (Err (room_error.Memory _)) new = (n < length old.contents + old.spare) × (new ≡ old)
 
 -- only the first n contents are left, and the capacity stays. If those are all contents, nothing changed
-pub record IsCut {C : Type 0} (old : State C) (n : ℕ) (new : State C) : Type 0 where
+pub record IsTruncated {C : Type 0} (old : State C) (n : ℕ) (new : State C) : Type 0 where
   pub within : n ≤ length old.contents
   pub all : n ≡ length old.contents → new ≡ old
   pub contents : new.contents ≡ take n old.contents
@@ -119,7 +119,7 @@ pub record IsCut {C : Type 0} (old : State C) (n : ℕ) (new : State C) : Type 0
 
 -- a rollback to a mark of n, by its result
 abbrev pub TakesBack : {C : Type 0} → State C → ℕ → Result (Unit {0}) StaleMark → State C → Type 0
-TakesBack old n (Ok _) new = IsCut old n new
+TakesBack old n (Ok _) new = IsTruncated old n new
 TakesBack old n (Err _) new = (length old.contents < n) × (new ≡ old)
 
 -- no content is left, and the capacity stays

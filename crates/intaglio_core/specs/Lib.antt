@@ -12,4 +12,4 @@ pub mod Issue
 pub mod Pattern
 pub mod Indexed
 pub mod Batch
-pub mod Begun
+pub mod PendingSearch

@@ -6,7 +6,7 @@ ghost use Rattle.intaglio_core.specs.Change.{Interns};
 ghost use Rattle.intaglio_core.specs.Lookup.{IsFound, Keeps, FindsEach, StoresEach};
 ghost use Rattle.intaglio_core.specs.Cost.{Costs, KnownInternCost};
 ghost use Rattle.intaglio_core.specs.Issue.{issue_from, interned_all};
-ghost use Rattle.intaglio_core.specs.Batch.{IfOverflow, KeepsTable, InternsAll, RefusedCost};
+ghost use Rattle.intaglio_core.specs.Batch.{IfOverflow, StaysValid, InternsAll, RefusedCost};
 ghost use Rattle.intaglio_core.specs.Batch.{InternsEach, FailsEach};
 
 mod forms;
@@ -66,7 +66,7 @@ pub fn intern_all<T: Interner>(
     ensures refused_cost { OnErr result (Costs work.old work.new
         (RefusedCost T.Content.key (T.hash table.old) (T.state table.old) contents.items)) }
 
-    ensures table { KeepsTable T.Content.key (T.hash table.old) (T.state table.old)
+    ensures table { StaysValid T.Content.key (T.hash table.old) (T.state table.old)
         (T.hash table.new) (T.state table.new) }
 {
     let mark = table.mark();
@@ -100,7 +100,7 @@ fn intern_each<T: Interner>(
         contents.items e cost (T.state table.new))) }
     ensures begins { let held = (T.state table.old).contents in
         OnErr result (take (length held) (T.state table.new).contents ≡ held) }
-    ensures table { KeepsTable T.Content.key (T.hash table.old) (T.state table.old)
+    ensures table { StaysValid T.Content.key (T.hash table.old) (T.state table.old)
         (T.hash table.new) (T.state table.new) }
 {
     let mut symbols = Vec::with_capacity(alloc, contents.len())?;

@@ -5,14 +5,14 @@ ghost use Rattle.std.specs.Option.{option_map};
 ghost use Rattle.intaglio_content.specs.Key.{Key, hash_of};
 ghost use Rattle.intaglio_content.specs.Work.{Event, hashed};
 ghost use Rattle.intaglio_core.specs.State.{State, first, IsValid};
-ghost use Rattle.intaglio_core.specs.Begun.{IsBegun};
+ghost use Rattle.intaglio_core.specs.PendingSearch.{IsPendingSearch};
 ghost use Rattle.intaglio_core.specs.Lookup.{IsFound, IsStored, Keeps, KeepsBelow, FindsOthers, FindsNothing};
 ghost use Rattle.intaglio_core.specs.Change.{Interns, InternsForm, Reserves, Shrinks, TakesBack, Empties};
 ghost use Rattle.intaglio_core.specs.Cost.{Costs, InternCost, SearchCost, IsRoomCost};
 ghost use Rattle.intaglio_core.specs.Cost.{KnownInternCost, KnownSearchCost, IsRecorded};
 
-use crate::begun::Begun;
-use crate::table_core::{Core, IndexedStore};
+use crate::indexed_store::{Core, IndexedStore};
+use crate::pending_search::PendingSearch;
 use intaglio_content::{Content, CopiedTo, Sought, SoughtIn, SpelledStore, Store, Work};
 use intaglio_symbol::{InternError, Mark, RoomError, StaleMark, Symbol};
 use std::hash::BuildHasher;
@@ -87,26 +87,26 @@ pub trait FormInterner {
     /// [`end_search`](FormInterner::end_search) compares it.
     ///
     /// If several searches are begun before the first of them is ended, their cache misses overlap.
-    fn begin_search(&self, known_hash: u64) -> Begun
-        ensures { IsBegun Self.Content.key (hash self.now) (state self.now) known_hash result };
+    fn begin_search(&self, known_hash: u64) -> PendingSearch
+        ensures { IsPendingSearch Self.Content.key (hash self.now) (state self.now) known_hash result };
 
     /// Reads a byte of the content that the search will compare first, so that it is in the cache then. The
     /// byte itself means nothing.
-    fn touch<Q: SoughtIn<Self::Store>>(&self, begun: &Begun, sought: &Q) -> u8;
+    fn touch<Q: SoughtIn<Self::Store>>(&self, pending: &PendingSearch, sought: &Q) -> u8;
 
     /// Ends a search that was begun with the hash of this content or form. Records in `work` what was done
     /// for it before, and then the rest.
     fn end_search<Q: SoughtIn<Self::Store>>(
         &self,
-        begun: &Begun,
+        pending: &PendingSearch,
         sought: &Q,
         work: &mut Work,
     ) -> Option<Symbol>
-        requires begun { let h = hash self.now (Q.key sought.now) in
-            IsBegun Self.Content.key (hash self.now) (state self.now) h begun.now }
+        requires pending { let h = hash self.now (Q.key sought.now) in
+            IsPendingSearch Self.Content.key (hash self.now) (state self.now) h pending.now }
         ensures found { result ≡ first Self.Content.key (state self.now).contents (Q.key sought.now) }
         ensures events { (more : List Event) ×
-            (work.new.events ≡ work.old.events ++ begun.now.work.events ++ more) }
+            (work.new.events ≡ work.old.events ++ pending.now.work.events ++ more) }
         ensures cost { let k = Q.key sought.now in
             Costs work.old work.new (KnownSearchCost Self.Content.key (hash self.now) (state self.now) k) }
         ensures recorded { Costs work.old work.new (IsRecorded (Q.key sought.now) result) }
@@ -280,21 +280,21 @@ where
         IndexedStore::search_hashed(self, known_hash, sought, work)
     }
 
-    fn begin_search(&self, known_hash: u64) -> Begun {
+    fn begin_search(&self, known_hash: u64) -> PendingSearch {
         IndexedStore::begin_search(self, known_hash)
     }
 
-    fn touch<Q: SoughtIn<L>>(&self, begun: &Begun, sought: &Q) -> u8 {
-        IndexedStore::touch(self, begun, sought)
+    fn touch<Q: SoughtIn<L>>(&self, pending: &PendingSearch, sought: &Q) -> u8 {
+        IndexedStore::touch(self, pending, sought)
     }
 
     fn end_search<Q: SoughtIn<L>>(
         &self,
-        begun: &Begun,
+        pending: &PendingSearch,
         sought: &Q,
         work: &mut Work,
     ) -> Option<Symbol> {
-        IndexedStore::end_search(self, begun, sought, work)
+        IndexedStore::end_search(self, pending, sought, work)
     }
 
     fn search_counted<Q: SoughtIn<L>>(&self, sought: &Q, work: &mut Work) -> Option<Symbol> {

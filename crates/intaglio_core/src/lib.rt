@@ -7,13 +7,13 @@
 #![tactic(auto)]
 
 mod batch;
-pub mod begun;
+pub mod indexed_store;
 pub mod interner;
+pub mod pending_search;
 pub mod run;
-pub mod table_core;
 
 pub use batch::{check_all, get_or_intern_all, intern_all};
-pub use begun::Begun;
+pub use indexed_store::{Core, IndexedStore};
 pub use intaglio_content::{
     ByteStore, Bytewise, Content, CopiedTo, Formed, Forms, Keyed, Lends, LookedUp, LookedUpIn,
     Pairs, Sought, SoughtIn, Spelled, SpelledStore, Store, StoreForms, StorePairs, ToContent, Work,
@@ -25,5 +25,5 @@ pub use intaglio_symbol::{
     SymbolOverflowError,
 };
 pub use interner::{FormInterner, Interner, SpelledInterner};
+pub use pending_search::PendingSearch;
 pub use run::{Call, Reply};
-pub use table_core::{Core, IndexedStore};

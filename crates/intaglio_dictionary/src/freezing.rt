@@ -11,7 +11,7 @@ use crate::error::FreezingError;
 use crate::progress::Progress;
 use intaglio_bytes::bytes::BytesContent;
 use intaglio_encode::error::ToolError;
-use intaglio_encode::take::take_lines;
+use intaglio_encode::intern_lines::intern_lines;
 use intaglio_frozen::{FreezeError, Kind, freeze};
 use intaglio_lines::error::StreamError;
 use intaglio_table::Table;
@@ -100,7 +100,7 @@ fn interned_lines<S: BuildHasher + Drop>(
     let Ok(mut table) = Table::<BytesContent, S>::with_hasher(alloc, builder) else {
         return Err(FreezingError::Stream(StreamError::Memory));
     };
-    match take_lines(alloc, &mut table, input) {
+    match intern_lines(alloc, &mut table, input) {
         Ok(_) => Ok(table),
         Err(ToolError::Overflow) => Err(FreezingError::Table(FreezeError::TooMany)),
         // Each line of bytes fits, and nothing is read or written.

@@ -1,7 +1,7 @@
 -- What a run promises of the input that it reads.
 use Rattle.std.specs.Prelude.{◌≡◌, ℕ, ◌^◌, ◌<◌, List, Option, Result, String, map, string_bytes, IfSome, OnOk}
 use Rattle.std.specs.Io.KnownBytes.{IsAtEnd}
-use Rattle.intaglio_encode.specs.Taken.{AllFit, distinct_count}
+use Rattle.intaglio_encode.specs.LineForms.{AllLinesFit, distinct_count}
 use Rattle.intaglio_lines.specs.Encoded.{encoded}
 use Rattle.intaglio_lines.specs.Kind.{Allows, is_fit, key_of, kind_of_words}
 use Rattle.intaglio_lines.specs.Puts.{Writes}
@@ -26,7 +26,7 @@ ReadsForbidden kind old new = IfSome old (Forbids kind) × IsAtEnd new
 
 -- the input can be split into lines of this kind, and each line fits
 abbrev pub Accepts : Kind → List ℕ → Type 0
-Accepts kind input = Allows kind input × AllFit (is_fit kind) input
+Accepts kind input = Allows kind input × AllLinesFit (is_fit kind) input
 
 -- the call succeeds only if P holds, and nothing is written if it doesn't
 abbrev pub WritesOnlyIf : {T E W : Type 0} → Type 0 → Result T E → W → W → Type 0

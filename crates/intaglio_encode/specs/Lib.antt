@@ -1,5 +1,5 @@
 -- What the contracts of the program cite.
 pub mod Cuts
 pub mod Encodes
-pub mod Taken
+pub mod LineForms
 pub mod ToolError

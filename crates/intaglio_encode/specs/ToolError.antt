@@ -4,7 +4,7 @@ use Rattle.intaglio_symbol.specs.declared.error.InternError.{InternError}
 use Rattle.intaglio_symbol.specs.declared.error.InternError.TheVariants as intern_error
 use Rattle.intaglio_lines.specs.declared.error.StreamError.{StreamError}
 use Rattle.intaglio_lines.specs.declared.error.StreamError.TheVariants as stream_error
-use Rattle.intaglio_encode.specs.Taken.{IsFirstUnfit}
+use Rattle.intaglio_encode.specs.LineForms.{IsFirstUnfit}
 use Rattle.intaglio_encode.specs.declared.error.RunError.{RunError}
 use Rattle.intaglio_encode.specs.declared.error.RunError.TheVariants.{NoSeed, Encode}
 use Rattle.intaglio_encode.specs.declared.error.ToolError.{ToolError}

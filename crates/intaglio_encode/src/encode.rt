@@ -5,14 +5,14 @@ ghost use Rattle.intaglio_lines.specs.Encoded.{encoded, encoded_by};
 ghost use Rattle.intaglio_lines.specs.Kind.{is_fit};
 ghost use Rattle.intaglio_lines.specs.Puts.{Writes};
 ghost use Rattle.intaglio_encode.specs.Encodes.{Accepts, Encodes, Forbids, IsTooMany, ReadsForbidden, WritesOnlyIf};
-ghost use Rattle.intaglio_encode.specs.Taken.{AllFit, distinct_count};
+ghost use Rattle.intaglio_encode.specs.LineForms.{AllLinesFit, distinct_count};
 ghost use Rattle.intaglio_encode.specs.ToolError.{IsEncodingError, IsInputError, IsInterningOrWritingError};
 ghost use Rattle.intaglio_encode.specs.ToolError.{ReportsFirstUnfit};
 ghost use Rattle.intaglio_encode.specs.declared.error.ToolError.TheVariants.{NotUtf8, Overflow, Write as WriteFailed};
 
 use crate::error::ToolError;
 use crate::from_line::FromLine;
-use crate::take::take_lines;
+use crate::intern_lines::intern_lines;
 use crate::write::Encoding;
 use intaglio_bytes::b_str::BStrContent;
 use intaglio_bytes::bytes::BytesContent;
@@ -113,13 +113,13 @@ fn encode_by<
     requires allowed { C.allows input.now }
     ensures written { OnOk result (Writes W.contents writer.old writer.new (encoded_by C.key_of input.now)) }
     ensures zero { IfErr result (ReportsFirstUnfit C.fits input.now) }
-    ensures fit { WritesOnlyIf (AllFit C.fits input.now) result writer.old writer.new }
+    ensures fit { WritesOnlyIf (AllLinesFit C.fits input.now) result writer.old writer.new }
     ensures overflow { result ≡ Err Overflow → 2 ^ 32 < distinct_count C.key_of input.now }
     ensures nothing_written { IfErr result (λ e. e ≢ WriteFailed → writer.new ≡ writer.old) }
     ensures err { IfErr result IsInterningOrWritingError }
 {
     let mut table = Core::<C, S>::with_hasher(alloc, builder)?;
-    let symbols = take_lines(alloc, &mut table, input)?;
+    let symbols = intern_lines(alloc, &mut table, input)?;
     let encoding = Encoding {
         symbols: &symbols,
         table: &table,

@@ -7,6 +7,6 @@
 pub mod encode;
 pub mod error;
 pub mod from_line;
+pub mod intern_lines;
 pub mod serve;
-pub mod take;
 pub mod write;

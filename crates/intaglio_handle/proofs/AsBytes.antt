@@ -8,7 +8,7 @@ use Rattle.std.proofs.lemmas.Option.{slice_get-map}
 use Rattle.intaglio_content.specs.Key.{Key}
 use Rattle.intaglio_core.specs.State.{State, Table, first, first_of}
 use Rattle.intaglio_core.specs.Change as core_change
-use Rattle.intaglio_core.specs.Change.{InternsForm, TakesCopy, TakesBack, IsRefused}
+use Rattle.intaglio_core.specs.Change.{InternsForm, InternsNewForm, TakesBack, IsRefused}
 use Rattle.intaglio_cstr.specs.CStrContent.{c_str_content_bytes}
 use Rattle.intaglio_cstr.specs.Zeros.{without_last}
 use Rattle.intaglio_cstr.specs.declared.content.CStrContent.{CStrContent}
@@ -20,7 +20,7 @@ use Rattle.intaglio_symbol.specs.declared.error.StaleMark.{StaleMark}
 use Rattle.intaglio_handle.specs.Kinds.{fault, key}
 use Rattle.intaglio_handle.specs.Answers.{symbol_answer}
 use Rattle.intaglio_handle.specs.Seen.{Seen, as_bytes, seen_as, seen_of, c_str_bytes, position, look_up, unless, IsChangedBy}
-use Rattle.intaglio_handle.specs.Steps.{Interns, InternsBy, InternsStatic, IsStaticRefused, IsUncopiedOrRefused, Takes}
+use Rattle.intaglio_handle.specs.Steps.{Interns, InternsBy, InternsStatic, IsStaticRefused, IsUncopiedOrRefused, InternsNew}
 use Rattle.intaglio_hash.specs.declared.state.KeyedState.{KeyedState}
 use Rattle.intaglio_handle.specs.declared.kind.Kind.{Kind}
 use Rattle.intaglio_handle.specs.declared.refusal.Refusal.{Refusal}
@@ -126,8 +126,8 @@ module _ {C : Type 0} (kind : Kind) (bytes : C → List ℕ) (content_key : C �
       subst (λ (x : Seen). Ok result ≡ look_up x b) (sym is) (rw allowed (ap Ok position))
 
   -- a content that isn't there is stored
-  takes : (Refused : State (List ℕ) → State (List ℕ) → Type 0) → ((s s' : State (List ℕ)) → IsRefused s s' → Refused s s') → (old new : State C) (c : C) (b : List ℕ) (result : Result ℕ InternError) → bytes c ≡ b → core_change.Takes old c result new
-      → Takes Refused b (as_bytes bytes old) (symbol_answer result) (as_bytes bytes new)
+  takes : (Refused : State (List ℕ) → State (List ℕ) → Type 0) → ((s s' : State (List ℕ)) → IsRefused s s' → Refused s s') → (old new : State C) (c : C) (b : List ℕ) (result : Result ℕ InternError) → bytes c ≡ b → core_change.InternsNew old c result new
+      → InternsNew Refused b (as_bytes bytes old) (symbol_answer result) (as_bytes bytes new)
   takes Refused own old new c b (Ok symbol) spelled taken =
       let count = length-map old.contents bytes in record {
         below_limit = subst (λ (m : ℕ). m < old.limit) (sym count) taken.below_limit;
@@ -160,14 +160,14 @@ module _ {C : Type 0} (kind : Kind) (bytes : C → List ℕ) (content_key : C �
   })
 
   copies : (Refused : State (List ℕ) → State (List ℕ) → Type 0) → ((s s' : State (List ℕ)) → IsUncopiedOrRefused s s' → Refused s s') → (spelling : C → List ℕ) (old new : State C) (k : Key) (w b : List ℕ) (result : Result ℕ InternError) → ((c : C) → spelling c ≡ w → bytes c ≡ b)
-      → TakesCopy content_key spelling old k w result new → Takes Refused b (as_bytes bytes old) (symbol_answer result) (as_bytes bytes new)
+      → InternsNewForm content_key spelling old k w result new → InternsNew Refused b (as_bytes bytes old) (symbol_answer result) (as_bytes bytes new)
   copies Refused own spelling old new k w b (Ok symbol) spelled copied = takes IsRefused (λ _ _ refused. refused) old new copied.copy b (Ok symbol) (spelled copied.copy copied.same_spelling) copied.taken
   copies Refused own spelling old new k w b (Err (Overflow full)) spelled refused = (length-map old.contents bytes ∙ refused.0, ap (as_bytes bytes) refused.1)
   copies Refused own spelling old new k w b (Err (Memory e)) spelled refused = own _ _ (uncopied old new refused)
 
   -- an interning, by the result of the look-up
   by_look_up : (Refused : State (List ℕ) → State (List ℕ) → Type 0) (Taken : Type 0) (o : Option ℕ) (old new : State C) (b : List ℕ) (result : Result ℕ InternError)
-      → (Taken → Takes Refused b (as_bytes bytes old) (symbol_answer result) (as_bytes bytes new)) → MatchOption o Taken (λ i. (result ≡ Ok i) × (new ≡ old))
+      → (Taken → InternsNew Refused b (as_bytes bytes old) (symbol_answer result) (as_bytes bytes new)) → MatchOption o Taken (λ i. (result ≡ Ok i) × (new ≡ old))
       → InternsBy Refused b (as_bytes bytes old) (Ok o) (symbol_answer result) (as_bytes bytes new)
   by_look_up Refused Taken None old new b result takes step = takes step
   by_look_up Refused Taken (Some i) old new b result takes step = (ap symbol_answer step.0, ap (as_bytes bytes) step.1)
@@ -190,7 +190,7 @@ module _ {C : Type 0} (kind : Kind) (bytes : C → List ℕ) (content_key : C �
   interned_by_form Refused own spelling old held h t' b w k result answer is hasher allowed same_key spelled step answered =
       subst (λ (a : Result ℕ Refusal). IsChangedBy old (seen_as kind bytes t') (λ _ s'. InternsBy (Refused old.kind) b old.state (look_up old b) a s')) (sym answered)
       (interned Refused old held h t' b k result is hasher allowed same_key
-      (by_look_up (Refused kind) (TakesCopy content_key spelling held k w result t'.state) (first content_key held.contents k) held t'.state b result (copies (Refused kind) own spelling held t'.state k w b result spelled) step))
+      (by_look_up (Refused kind) (InternsNewForm content_key spelling held k w result t'.state) (first content_key held.contents k) held t'.state b result (copies (Refused kind) own spelling held t'.state k w b result spelled) step))
 
   pub interned_form : (spelling : C → List ℕ) (old : Seen) (held : State C) (h : KeyedState) (t' : Table C KeyedState) (b w : List ℕ) (k : Key) (result : Result ℕ InternError) (answer : Result ℕ Refusal) → old ≡ seen_of kind bytes held h → t'.hasher ≡ h
       → fault kind b ≡ None → k ≡ key kind b → ((c : C) → spelling c ≡ w → bytes c ≡ b) → InternsForm content_key spelling held k w result t'.state → answer ≡ symbol_answer result
@@ -210,7 +210,7 @@ module _ {C : Type 0} (kind : Kind) (bytes : C → List ℕ) (content_key : C �
   interned_content own old held h t' c b result answer is hasher allowed spelled step answered =
       subst (λ (a : Result ℕ Refusal). IsChangedBy old (seen_as kind bytes t') (λ _ s'. InternsStatic b old a s')) (sym answered)
       (interned IsStaticRefused old held h t' b (content_key c) result is hasher allowed (same c ∙ ap (key kind) spelled)
-      (by_look_up (IsStaticRefused kind) (core_change.Takes held c result t'.state) (first content_key held.contents (content_key c)) held t'.state b result (takes (IsStaticRefused kind) own held t'.state c b result spelled) step))
+      (by_look_up (IsStaticRefused kind) (core_change.InternsNew held c result t'.state) (first content_key held.contents (content_key c)) held t'.state b result (takes (IsStaticRefused kind) own held t'.state c b result spelled) step))
 
 -- the key of a C string is that of its bytes without their last
 without_zero : (bytes : List ℕ) → bytes ∷ [] ≡ without_last (bytes ++ 0 ∷ []) ∷ []

@@ -9,7 +9,7 @@ use Rattle.std.proofs.lemmas.List.Folds.{concat-append}
 use borrow.Rule.Slice.PartMut.{put_mid}
 use Rattle.std.proofs.lemmas.Result.{IfOk-at_ok, IfErr-at_err}
 use Rattle.intaglio_core.proofs.Held.{interned_all-append, issue_from-append}
-use Rattle.intaglio_core.specs.Change.{IsTaken, TakesBack}
+use Rattle.intaglio_core.specs.Change.{IsAppended, TakesBack}
 use Rattle.intaglio_core.specs.Issue.{issued, interned, interned_all, issue_from}
 use Rattle.intaglio_core.specs.State.{State}
 use Rattle.intaglio_symbol.specs.declared.error.StaleMark.{StaleMark}
@@ -53,7 +53,7 @@ begun-then a b c first second = record {
   limit = second.limit ∙ first.limit;
 }
 
-taken-capacity : (s s' : State (List ℕ)) (string : List ℕ) (symbol : ℕ) → IsTaken s string symbol s' → length s.contents + s.spare ≤ length s'.contents + s'.spare
+taken-capacity : (s s' : State (List ℕ)) (string : List ℕ) (symbol : ℕ) → IsAppended s string symbol s' → length s.contents + s.spare ≤ length s'.contents + s'.spare
 taken-capacity s s' string symbol taken = by_room s.spare refl
   where
     count : length s'.contents ≡ length s.contents + 1

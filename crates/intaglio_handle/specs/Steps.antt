@@ -1,6 +1,6 @@
 -- What each call does to the state of a table.
 use Rattle.std.specs.Prelude.{◌≡◌, ℕ, ◌+◌, ◌<◌, ◌⊎◌, List, length, Option, Some, None, Result, Ok, Err}
-use Rattle.intaglio_core.specs.Change.{IsCut, IsRefused, IsReserved, IsShrunk, IsTaken, IsUncopied, IsUnreserved}
+use Rattle.intaglio_core.specs.Change.{IsTruncated, IsRefused, IsReserved, IsShrunk, IsAppended, IsUncopied, IsUnreserved}
 use Rattle.intaglio_core.specs.State.{State}
 use Rattle.intaglio_handle.specs.Seen.{Seen, look_up}
 use Rattle.intaglio_handle.specs.declared.kind.Kind.{Kind}
@@ -19,17 +19,17 @@ IsStaticRefused PackedBytes old new = IsUncopiedOrRefused old new
 IsStaticRefused _ old new = IsRefused old new
 
 -- bytes that aren't stored are interned; Refused holds if an allocation fails
-abbrev pub Takes : (State (List ℕ) → State (List ℕ) → Type 0) → List ℕ → State (List ℕ) → Result ℕ Refusal → State (List ℕ) → Type 0
-Takes Refused bytes s (Ok symbol) s' = IsTaken s bytes symbol s'
-Takes Refused bytes s (Err Full) s' = (length s.contents ≡ s.limit) × (s' ≡ s)
-Takes Refused bytes s (Err NoMemory) s' = Refused s s'
-Takes Refused bytes s (Err _) s' = ⊥
+abbrev pub InternsNew : (State (List ℕ) → State (List ℕ) → Type 0) → List ℕ → State (List ℕ) → Result ℕ Refusal → State (List ℕ) → Type 0
+InternsNew Refused bytes s (Ok symbol) s' = IsAppended s bytes symbol s'
+InternsNew Refused bytes s (Err Full) s' = (length s.contents ≡ s.limit) × (s' ≡ s)
+InternsNew Refused bytes s (Err NoMemory) s' = Refused s s'
+InternsNew Refused bytes s (Err _) s' = ⊥
 
 -- bytes are interned, given the result of looking them up
 abbrev pub InternsBy : (State (List ℕ) → State (List ℕ) → Type 0) → List ℕ → State (List ℕ) → Result (Option ℕ) Refusal → Result ℕ Refusal → State (List ℕ) → Type 0
 InternsBy Refused bytes s (Err refusal) result s' = (result ≡ Err refusal) × (s' ≡ s)
 InternsBy Refused bytes s (Ok (Some symbol)) result s' = (result ≡ Ok symbol) × (s' ≡ s)
-InternsBy Refused bytes s (Ok None) result s' = Takes Refused bytes s result s'
+InternsBy Refused bytes s (Ok None) result s' = InternsNew Refused bytes s result s'
 
 -- bytes are interned, and copied if they are new
 abbrev pub Interns : List ℕ → Seen → Result ℕ Refusal → State (List ℕ) → Type 0
@@ -54,6 +54,6 @@ Shrinks n t (Err _) s' = ⊥
 
 -- a rollback to a mark of n, by its result
 abbrev pub TakesBack : ℕ → Seen → Result (Unit {0}) Refusal → State (List ℕ) → Type 0
-TakesBack n t (Ok _) s' = IsCut t.state n s'
+TakesBack n t (Ok _) s' = IsTruncated t.state n s'
 TakesBack n t (Err Stale) s' = (length t.state.contents < n) × (s' ≡ t.state)
 TakesBack n t (Err _) s' = ⊥

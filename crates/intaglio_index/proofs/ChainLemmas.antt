@@ -9,7 +9,7 @@ use Rattle.std.proofs.lemmas.List.Elements.{All-from_recursion}
 use Rattle.std.proofs.lemmas.List.Kept.{AllPairs-cons}
 use Rattle.std.proofs.lemmas.List.Sorted.{IsPermutation-refl, IsPermutation-trans, IsPermutation-middle, IsPermutation-sym, IsPermutation-cons, IsPermutation-append_right, Contains-permutation}
 use Rattle.std.proofs.lemmas.Map.Keys.{IsDistinct-IsPermutation}
-use Rattle.intaglio_index.specs.Placed.{Placed, chain, chain_from, places_from, members, put, symbols_of, AreSorted, BeginsAtOrAbove, IsEntry, IsBucket}
+use Rattle.intaglio_index.specs.Placed.{Placed, chain, chain_from, places_from, members, insert_sorted, symbols_of, AreSorted, BeginsAtOrAbove, IsEntry, IsBucket}
 
 pub eqb-unequal : (a b : ℕ) → a ≢ b → eqb a b ≡ false
 eqb-unequal a b n = elim (eqb_tells a b) [ inl h ↦ absurd (n h.1) | inr h ↦ h.0 ]
@@ -38,49 +38,49 @@ Each-append P [] ys h k = k
 Each-append P (x ∷ xs) ys h k = (h.0, Each-append P xs ys h.1 k)
 
 -- what put keeps of each entry
-put-each : (P : ℕ × ℕ → Type 0) (s h : ℕ) (es : List (ℕ × ℕ)) → P (s, h) → AllByRecursion P es → AllByRecursion P (put s h es)
-put-each P s h [] p a = (p, tt)
-put-each P s h (e ∷ es) p a =
-    elim (ltb e.1 h) as (λ t. AllByRecursion P (cond t (e ∷ put s h es) ((s, h) ∷ e ∷ es))) [ true ↦ (a.0, put-each P s h es p a.1) | false ↦ (p, a) ]
+insert_sorted-each : (P : ℕ × ℕ → Type 0) (s h : ℕ) (es : List (ℕ × ℕ)) → P (s, h) → AllByRecursion P es → AllByRecursion P (insert_sorted s h es)
+insert_sorted-each P s h [] p a = (p, tt)
+insert_sorted-each P s h (e ∷ es) p a =
+    elim (ltb e.1 h) as (λ t. AllByRecursion P (cond t (e ∷ insert_sorted s h es) ((s, h) ∷ e ∷ es))) [ true ↦ (a.0, insert_sorted-each P s h es p a.1) | false ↦ (p, a) ]
 
 -- where the front part is smaller and the rest is not, put goes between
-pub put-between : (s h : ℕ) (before behind : List (ℕ × ℕ)) → AllByRecursion (λ (e : ℕ × ℕ). e.1 < h) before → BeginsAtOrAbove h behind → put s h (before ++ behind) ≡ before ++ (s, h) ∷ behind
-put-between s h [] [] a l = refl
-put-between s h [] (e ∷ es) a l = rw (le-ltb e.1 h l) refl
-put-between s h (e ∷ es) behind a l = rw (lt-ltb e.1 h a.0, put-between s h es behind a.1 l) refl
+pub insert_sorted-between : (s h : ℕ) (before behind : List (ℕ × ℕ)) → AllByRecursion (λ (e : ℕ × ℕ). e.1 < h) before → BeginsAtOrAbove h behind → insert_sorted s h (before ++ behind) ≡ before ++ (s, h) ∷ behind
+insert_sorted-between s h [] [] a l = refl
+insert_sorted-between s h [] (e ∷ es) a l = rw (le-ltb e.1 h l) refl
+insert_sorted-between s h (e ∷ es) behind a l = rw (lt-ltb e.1 h a.0, insert_sorted-between s h es behind a.1 l) refl
 
-pub put_some : (s h : ℕ) (es : List (ℕ × ℕ)) → put s h es ≡ [] → ⊥
+pub put_some : (s h : ℕ) (es : List (ℕ × ℕ)) → insert_sorted s h es ≡ [] → ⊥
 put_some s h [] e = cc
 put_some s h (x ∷ xs) e =
-    (elim (ltb x.1 h) as (λ t. cond t (x ∷ put s h xs) ((s, h) ∷ x ∷ xs) ≡ [] → ⊥) [ true ↦ λ q. cc | false ↦ λ q. cc ]) e
+    (elim (ltb x.1 h) as (λ t. cond t (x ∷ insert_sorted s h xs) ((s, h) ∷ x ∷ xs) ≡ [] → ⊥) [ true ↦ λ q. cc | false ↦ λ q. cc ]) e
 
 -- one more hash at the end
-pub chain_from-push : (count b at : ℕ) (met : List (ℕ × ℕ)) (hs : List ℕ) (h : ℕ) → chain_from count b at met (hs ++ h ∷ []) ≡ cond (eqb (h % count) b) (put (at + length hs) h (chain_from count b at met hs)) (chain_from count b at met hs)
+pub chain_from-push : (count b at : ℕ) (met : List (ℕ × ℕ)) (hs : List ℕ) (h : ℕ) → chain_from count b at met (hs ++ h ∷ []) ≡ cond (eqb (h % count) b) (insert_sorted (at + length hs) h (chain_from count b at met hs)) (chain_from count b at met hs)
 chain_from-push count b at met [] h = let e : at + 0 ≡ at = omega arith in rw e refl
 chain_from-push count b at met (y ∷ ys) h =
     let e : (at + 1) + length ys ≡ at + suc (length ys) = omega arith in
-    rw (← e) (chain_from-push count b (at + 1) (cond (eqb (y % count) b) (put at y met) met) ys h)
+    rw (← e) (chain_from-push count b (at + 1) (cond (eqb (y % count) b) (insert_sorted at y met) met) ys h)
 
 -- the hash's own bucket has one symbol more, and the others stay
-pub chain_grows : (count : ℕ) (hs : List ℕ) (h : ℕ) → chain_from count (h % count) 0 [] (hs ++ h ∷ []) ≡ put (length hs) h (chain_from count (h % count) 0 [] hs)
+pub chain_grows : (count : ℕ) (hs : List ℕ) (h : ℕ) → chain_from count (h % count) 0 [] (hs ++ h ∷ []) ≡ insert_sorted (length hs) h (chain_from count (h % count) 0 [] hs)
 chain_grows count hs h =
     let n_is : 0 + length hs ≡ length hs = omega arith in
     chain_from-push count (h % count) 0 [] hs h
-    ∙ ap (λ t. cond t (put (0 + length hs) h (chain_from count (h % count) 0 [] hs)) (chain_from count (h % count) 0 [] hs)) (eqb-equal (h % count) (h % count) refl)
-    ∙ ap (λ n. put n h (chain_from count (h % count) 0 [] hs)) n_is
+    ∙ ap (λ t. cond t (insert_sorted (0 + length hs) h (chain_from count (h % count) 0 [] hs)) (chain_from count (h % count) 0 [] hs)) (eqb-equal (h % count) (h % count) refl)
+    ∙ ap (λ n. insert_sorted n h (chain_from count (h % count) 0 [] hs)) n_is
 
 pub chain_stays : (count b : ℕ) (hs : List ℕ) (h : ℕ) → b ≢ h % count → chain_from count b 0 [] (hs ++ h ∷ []) ≡ chain_from count b 0 [] hs
 chain_stays count b hs h other =
     chain_from-push count b 0 [] hs h
-    ∙ ap (λ t. cond t (put (0 + length hs) h (chain_from count b 0 [] hs)) (chain_from count b 0 [] hs)) (eqb-unequal (h % count) b (λ e. other (sym e)))
+    ∙ ap (λ t. cond t (insert_sorted (0 + length hs) h (chain_from count b 0 [] hs)) (chain_from count b 0 [] hs)) (eqb-unequal (h % count) b (λ e. other (sym e)))
 
 chain_from-each : (count b : ℕ) (all before hs : List ℕ) (met : List (ℕ × ℕ)) → all ≡ before ++ hs → AllByRecursion (IsEntry count b all) met → AllByRecursion (IsEntry count b all) (chain_from count b (length before) met hs)
 chain_from-each count b all before [] met e a = a
 chain_from-each count b all before (h ∷ hs) met e a =
     let more : length (before ++ h ∷ []) ≡ length before + 1 = length-append before (h ∷ []) in
     let split : all ≡ (before ++ h ∷ []) ++ hs = e ∙ sym (append_assoc before (h ∷ []) hs) in
-    let cases : (t : Bool) → eqb (h % count) b ≡ t → AllByRecursion (IsEntry count b all) (cond t (put (length before) h met) met) = elim [
-      | true ↦ λ is. put-each (IsEntry count b all) (length before) h met
+    let cases : (t : Bool) → eqb (h % count) b ≡ t → AllByRecursion (IsEntry count b all) (cond t (insert_sorted (length before) h met) met) = elim [
+      | true ↦ λ is. insert_sorted-each (IsEntry count b all) (length before) h met
           (rw e (omega (arith, length-append before (h ∷ hs))), λ d. rw e (get_or_at before h hs d (length before) refl), eqb-true _ _ is) a
       | false ↦ λ is. a
     ] in
@@ -90,21 +90,21 @@ pub chain-each : (count b : ℕ) (hs : List ℕ) → AllByRecursion (IsEntry cou
 chain-each count b hs = chain_from-each count b hs [] hs [] refl tt
 
 -- a chain has the places of its bucket
-put-permutation : (s h : ℕ) (es : List (ℕ × ℕ)) → IsPermutation (s ∷ symbols_of es) (symbols_of (put s h es))
-put-permutation s h [] = IsPermutation-refl (s ∷ [])
-put-permutation s h (e ∷ es) =
-    elim (ltb e.1 h) as (λ t. IsPermutation (s ∷ e.0 ∷ symbols_of es) (symbols_of (cond t (e ∷ put s h es) ((s, h) ∷ e ∷ es)))) [
-      | true ↦ IsPermutation-trans _ _ _ (IsPermutation-sym _ _ (IsPermutation-middle (e.0 ∷ []) s (symbols_of es))) (IsPermutation-cons e.0 _ _ (put-permutation s h es))
+insert_sorted-permutation : (s h : ℕ) (es : List (ℕ × ℕ)) → IsPermutation (s ∷ symbols_of es) (symbols_of (insert_sorted s h es))
+insert_sorted-permutation s h [] = IsPermutation-refl (s ∷ [])
+insert_sorted-permutation s h (e ∷ es) =
+    elim (ltb e.1 h) as (λ t. IsPermutation (s ∷ e.0 ∷ symbols_of es) (symbols_of (cond t (e ∷ insert_sorted s h es) ((s, h) ∷ e ∷ es)))) [
+      | true ↦ IsPermutation-trans _ _ _ (IsPermutation-sym _ _ (IsPermutation-middle (e.0 ∷ []) s (symbols_of es))) (IsPermutation-cons e.0 _ _ (insert_sorted-permutation s h es))
       | false ↦ IsPermutation-refl _
     ]
 
 chain_from-permutation : (count b at : ℕ) (met : List (ℕ × ℕ)) (hs : List ℕ) → IsPermutation (places_from count b at hs ++ symbols_of met) (symbols_of (chain_from count b at met hs))
 chain_from-permutation count b at met [] = IsPermutation-refl (symbols_of met)
 chain_from-permutation count b at met (h ∷ hs) =
-    elim (eqb (h % count) b) as (λ t. IsPermutation (cond t (at ∷ places_from count b (at + 1) hs) (places_from count b (at + 1) hs) ++ symbols_of met) (symbols_of (chain_from count b (at + 1) (cond t (put at h met) met) hs))) [
+    elim (eqb (h % count) b) as (λ t. IsPermutation (cond t (at ∷ places_from count b (at + 1) hs) (places_from count b (at + 1) hs) ++ symbols_of met) (symbols_of (chain_from count b (at + 1) (cond t (insert_sorted at h met) met) hs))) [
       | true ↦ IsPermutation-trans _ _ _
-          (IsPermutation-trans _ _ _ (IsPermutation-sym _ _ (IsPermutation-middle (places_from count b (at + 1) hs) at (symbols_of met))) (IsPermutation-append_right (places_from count b (at + 1) hs) _ _ (put-permutation at h met)))
-          (chain_from-permutation count b (at + 1) (put at h met) hs)
+          (IsPermutation-trans _ _ _ (IsPermutation-sym _ _ (IsPermutation-middle (places_from count b (at + 1) hs) at (symbols_of met))) (IsPermutation-append_right (places_from count b (at + 1) hs) _ _ (insert_sorted-permutation at h met)))
+          (chain_from-permutation count b (at + 1) (insert_sorted at h met) hs)
       | false ↦ chain_from-permutation count b (at + 1) met hs
     ]
 
@@ -138,11 +138,11 @@ abbrev pub InOrder : List (ℕ × ℕ) → Type 0
 InOrder [] = Unit {0}
 InOrder (e ∷ es) = AllByRecursion (λ (f : ℕ × ℕ). e.1 ≤ f.1) es × InOrder es
 
-put-in_order : (s h : ℕ) (es : List (ℕ × ℕ)) → InOrder es → InOrder (put s h es)
-put-in_order s h [] o = (tt, tt)
-put-in_order s h (e ∷ es) o =
-    let cases : (t : Bool) → ltb e.1 h ≡ t → InOrder (cond t (e ∷ put s h es) ((s, h) ∷ e ∷ es)) = elim [
-      | true ↦ λ is. (put-each (λ f. e.1 ≤ f.1) s h es (omega (arith, ltb-true e.1 h is)) o.0, put-in_order s h es o.1)
+insert_sorted-in_order : (s h : ℕ) (es : List (ℕ × ℕ)) → InOrder es → InOrder (insert_sorted s h es)
+insert_sorted-in_order s h [] o = (tt, tt)
+insert_sorted-in_order s h (e ∷ es) o =
+    let cases : (t : Bool) → ltb e.1 h ≡ t → InOrder (cond t (e ∷ insert_sorted s h es) ((s, h) ∷ e ∷ es)) = elim [
+      | true ↦ λ is. (insert_sorted-each (λ f. e.1 ≤ f.1) s h es (omega (arith, ltb-true e.1 h is)) o.0, insert_sorted-in_order s h es o.1)
       | false ↦ λ is. (let le : h ≤ e.1 = ltb-false e.1 h is in ((le, Each-weaker (λ (f : ℕ × ℕ). e.1 ≤ f.1) (λ (f : ℕ × ℕ). h ≤ f.1) (λ f l. omega arith) es o.0), o))
     ] in
     cases (ltb e.1 h) refl
@@ -150,7 +150,7 @@ put-in_order s h (e ∷ es) o =
 chain_from-in_order : (count b at : ℕ) (met : List (ℕ × ℕ)) (hs : List ℕ) → InOrder met → InOrder (chain_from count b at met hs)
 chain_from-in_order count b at met [] o = o
 chain_from-in_order count b at met (h ∷ hs) o =
-    chain_from-in_order count b (at + 1) _ hs (elim (eqb (h % count) b) as (λ t. InOrder (cond t (put at h met) met)) [ true ↦ put-in_order at h met o | false ↦ o ])
+    chain_from-in_order count b (at + 1) _ hs (elim (eqb (h % count) b) as (λ t. InOrder (cond t (insert_sorted at h met) met)) [ true ↦ insert_sorted-in_order at h met o | false ↦ o ])
 
 sorted_from_order : (es : List (ℕ × ℕ)) → InOrder es → AreSorted es
 sorted_from_order [] o = λ i j d l lj. absurd (omega arith)
@@ -204,21 +204,21 @@ entry_split (x ∷ xs) s h =
     cases h.0 h.1 h.2
 
 -- what put put in stands behind the smaller hashes, and the rest is what was there
-pub unput : (s h : ℕ) (es front behind : List (ℕ × ℕ)) → put s h es ≡ front ++ behind → AllByRecursion (λ (e : ℕ × ℕ). e.1 < h) front → BeginsAtOrAbove h behind →
+pub unput : (s h : ℕ) (es front behind : List (ℕ × ℕ)) → insert_sorted s h es ≡ front ++ behind → AllByRecursion (λ (e : ℕ × ℕ). e.1 < h) front → BeginsAtOrAbove h behind →
     (rest : List (ℕ × ℕ)) × (behind ≡ (s, h) ∷ rest) × (es ≡ front ++ rest)
 unput s h [] [] behind e a l = ([], sym e, refl)
 unput s h [] (f ∷ fs) behind e a l = (let q : f ≡ (s, h) = cc in let r : f.1 ≡ h = ap (λ (x : ℕ × ℕ). x.1) q in absurd (omega (arith, r, a.0)))
 unput s h (x ∷ xs) [] behind e a l =
-    let cases : (t : Bool) → ltb x.1 h ≡ t → cond t (x ∷ put s h xs) ((s, h) ∷ x ∷ xs) ≡ behind → (rest : List (ℕ × ℕ)) × (behind ≡ (s, h) ∷ rest) × (x ∷ xs ≡ rest) = elim [
+    let cases : (t : Bool) → ltb x.1 h ≡ t → cond t (x ∷ insert_sorted s h xs) ((s, h) ∷ x ∷ xs) ≡ behind → (rest : List (ℕ × ℕ)) × (behind ≡ (s, h) ∷ rest) × (x ∷ xs ≡ rest) = elim [
       | true ↦ λ q e'. (let above : h ≤ x.1 = rw (← e') at l in absurd (omega (arith, above, ltb-true x.1 h q)))
       | false ↦ λ q e'. (x ∷ xs, sym e', refl)
     ] in
     cases (ltb x.1 h) refl e
 unput s h (x ∷ xs) (f ∷ fs) behind e a l =
-    let cases : (t : Bool) → cond t (x ∷ put s h xs) ((s, h) ∷ x ∷ xs) ≡ f ∷ fs ++ behind → (rest : List (ℕ × ℕ)) × (behind ≡ (s, h) ∷ rest) × (x ∷ xs ≡ f ∷ fs ++ rest) = elim [
+    let cases : (t : Bool) → cond t (x ∷ insert_sorted s h xs) ((s, h) ∷ x ∷ xs) ≡ f ∷ fs ++ behind → (rest : List (ℕ × ℕ)) × (behind ≡ (s, h) ∷ rest) × (x ∷ xs ≡ f ∷ fs ++ rest) = elim [
       | true ↦ λ e'.
           (let same : x ≡ f = cc in
-          let tail : put s h xs ≡ fs ++ behind = cc in
+          let tail : insert_sorted s h xs ≡ fs ++ behind = cc in
           let r = unput s h xs fs behind tail a.1 l in
           let q : xs ≡ fs ++ r.0 = r.2 in
           (r.0, r.1, rw (same, q) refl))

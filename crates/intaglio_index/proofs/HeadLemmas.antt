@@ -7,9 +7,9 @@ use Rattle.std.proofs.lemmas.Bool.Decides.{eqb_tells}
 use Rattle.std.proofs.lemmas.List.{get_or-set_same, get_or-set_other, length-set, set-get_or, map-append, get_or_read}
 use Rattle.intaglio_index.specs.declared.index.head.Head.{Head}
 use Rattle.intaglio_index.specs.Links.{IsThread, entry_of, next_of}
-use Rattle.intaglio_index.specs.Placed.{Placed, chain, IsEntry, chain_from, leader_of, symbols_of, put, BeginsAtOrAbove, IsPredecessor}
+use Rattle.intaglio_index.specs.Placed.{Placed, chain, IsEntry, chain_from, first_symbol_of, symbols_of, insert_sorted, BeginsAtOrAbove, IsPredecessor}
 use Rattle.intaglio_index.specs.Heads.{IsWord, IsHead, IsHeaded}
-use Rattle.intaglio_index.proofs.ChainLemmas.{put_some, put-between, chain_grows, chain_stays, Each-right, Each-weaker, InOrder, chain-in_order, chain-entries}
+use Rattle.intaglio_index.proofs.ChainLemmas.{put_some, insert_sorted-between, chain_grows, chain_stays, Each-right, Each-weaker, InOrder, chain-in_order, chain-entries}
 use Rattle.intaglio_index.proofs.WalkLemmas.{distinct}
 use Rattle.intaglio_index.proofs.Words.{block_below, below_block, word_same, word_moved}
 
@@ -19,15 +19,15 @@ no_head = record { first = 0; second = 0 }
 pub neither : {A B : Type 0} → (A → ⊥) → (B → ⊥) → A ↔ B
 neither f g = (λ a. absurd (f a), λ b. absurd (g b))
 
-pub nil_leader : (es : List (ℕ × ℕ)) → None ≡ leader_of es → es ≡ []
+pub nil_leader : (es : List (ℕ × ℕ)) → None ≡ first_symbol_of es → es ≡ []
 nil_leader [] e = refl
 nil_leader (x ∷ xs) e = cc
 
-pub some_leader : (es : List (ℕ × ℕ)) (s : ℕ) → Some s ≡ leader_of es → (e : ℕ × ℕ) × (rest : List (ℕ × ℕ)) × (es ≡ e ∷ rest) × (s ≡ e.0)
+pub some_leader : (es : List (ℕ × ℕ)) (s : ℕ) → Some s ≡ first_symbol_of es → (e : ℕ × ℕ) × (rest : List (ℕ × ℕ)) × (es ≡ e ∷ rest) × (s ≡ e.0)
 some_leader [] s e = cc
 some_leader (x ∷ xs) s e = (x, xs, refl, cc)
 
-pub led_some : (es : List (ℕ × ℕ)) (s : ℕ) → Some s ≡ leader_of es → es ≡ [] → ⊥
+pub led_some : (es : List (ℕ × ℕ)) (s : ℕ) → Some s ≡ first_symbol_of es → es ≡ [] → ⊥
 led_some [] s e none = (let never = e in cc)
 led_some (x ∷ xs) s e none = cc
 
@@ -42,21 +42,21 @@ head_kept size head x (y ∷ front) e xs ys is = is
 
 -- a symbol is put into a bucket
 module _ (size s h word : ℕ) (is_word : IsWord size (s, h) word) where
-  pub head_alone : (path : List (ℕ × ℕ)) → path ≡ [] → IsHead size (record { first = word; second = word }) (put s h path)
+  pub head_alone : (path : List (ℕ × ℕ)) → path ≡ [] → IsHead size (record { first = word; second = word }) (insert_sorted s h path)
   head_alone path none = rw none (is_word, is_word)
 
-  pub head_led : (head : Head) (path : List (ℕ × ℕ)) → IsHead size head path → (path ≡ [] → ⊥) → BeginsAtOrAbove h path → IsHead size (record { first = word; second = head.first }) (put s h path)
+  pub head_led : (head : Head) (path : List (ℕ × ℕ)) → IsHead size head path → (path ≡ [] → ⊥) → BeginsAtOrAbove h path → IsHead size (record { first = word; second = head.first }) (insert_sorted s h path)
   head_led head [] is others begins = absurd (others refl)
-  head_led head (e ∷ es) is others begins = rw (put-between s h [] (e ∷ es) tt begins) (is_word, is.0)
+  head_led head (e ∷ es) is others begins = rw (insert_sorted-between s h [] (e ∷ es) tt begins) (is_word, is.0)
 
-  put_behind : (path : List (ℕ × ℕ)) (last : ℕ) (pred : IsPredecessor h path last) → put s h path ≡ pred.front ++ (last, pred.hash) ∷ (s, h) ∷ pred.behind
+  put_behind : (path : List (ℕ × ℕ)) (last : ℕ) (pred : IsPredecessor h path last) → insert_sorted s h path ≡ pred.front ++ (last, pred.hash) ∷ (s, h) ∷ pred.behind
   put_behind path last pred =
       let joined : path ≡ (pred.front ++ (last, pred.hash) ∷ []) ++ pred.behind = pred.split ∙ sym (append_assoc pred.front ((last, pred.hash) ∷ []) pred.behind) in
-      ap (put s h) joined ∙ put-between s h (pred.front ++ (last, pred.hash) ∷ []) pred.behind pred.smaller pred.others ∙ append_assoc pred.front ((last, pred.hash) ∷ []) ((s, h) ∷ pred.behind)
+      ap (insert_sorted s h) joined ∙ insert_sorted-between s h (pred.front ++ (last, pred.hash) ∷ []) pred.behind pred.smaller pred.others ∙ append_assoc pred.front ((last, pred.hash) ∷ []) ((s, h) ∷ pred.behind)
 
   -- behind the first one
   second_at : (head : Head) (front : List (ℕ × ℕ)) (last hash : ℕ) (behind : List (ℕ × ℕ)) → IsDistinct eqb (symbols_of (front ++ (last, hash) ∷ behind)) → IsHead size head (front ++ (last, hash) ∷ behind) →
-      Some last ≡ leader_of (front ++ (last, hash) ∷ behind) → IsHead size (record { first = head.first; second = word }) (front ++ (last, hash) ∷ (s, h) ∷ behind)
+      Some last ≡ first_symbol_of (front ++ (last, hash) ∷ behind) → IsHead size (record { first = head.first; second = word }) (front ++ (last, hash) ∷ (s, h) ∷ behind)
   unfolding IsDistinct
   second_at head [] last hash behind apart is leads = (is.0, is_word)
   second_at head (x ∷ front) last hash behind apart is leads =
@@ -65,23 +65,23 @@ module _ (size s h word : ℕ) (is_word : IsWord size (s, h) word) where
       let differ : x.0 ≢ last = eqb-false x.0 last (Each-right (λ y. eqb x.0 y ≡ false) (symbols_of front) (last ∷ symbols_of behind) parts).0 in
       absurd (differ (sym same))
 
-  pub head_second : (head : Head) (path : List (ℕ × ℕ)) (last : ℕ) → IsDistinct eqb (symbols_of path) → IsHead size head path → Some last ≡ leader_of path → IsPredecessor h path last →
-      IsHead size (record { first = head.first; second = word }) (put s h path)
+  pub head_second : (head : Head) (path : List (ℕ × ℕ)) (last : ℕ) → IsDistinct eqb (symbols_of path) → IsHead size head path → Some last ≡ first_symbol_of path → IsPredecessor h path last →
+      IsHead size (record { first = head.first; second = word }) (insert_sorted s h path)
   head_second head path last apart is leads pred =
       rw (put_behind path last pred) (second_at head pred.front last pred.hash pred.behind (rw pred.split at apart) (rw pred.split at is) (rw pred.split at leads))
 
   -- further behind
   later_at : (head : Head) (front : List (ℕ × ℕ)) (first last hash : ℕ) (behind : List (ℕ × ℕ)) → IsHead size head (front ++ (last, hash) ∷ behind) →
-      Some first ≡ leader_of (front ++ (last, hash) ∷ behind) → first ≢ last → IsHead size head (front ++ (last, hash) ∷ (s, h) ∷ behind)
+      Some first ≡ first_symbol_of (front ++ (last, hash) ∷ behind) → first ≢ last → IsHead size head (front ++ (last, hash) ∷ (s, h) ∷ behind)
   later_at head [] first last hash behind is leads other = (let same : first ≡ last = cc in absurd (other same))
   later_at head (x ∷ front) first last hash behind is leads other = head_kept size head x front (last, hash) behind ((s, h) ∷ behind) is
 
-  pub head_stays : (head : Head) (path : List (ℕ × ℕ)) (first last : ℕ) → IsHead size head path → Some first ≡ leader_of path → first ≢ last → IsPredecessor h path last → IsHead size head (put s h path)
+  pub head_stays : (head : Head) (path : List (ℕ × ℕ)) (first last : ℕ) → IsHead size head path → Some first ≡ first_symbol_of path → first ≢ last → IsPredecessor h path last → IsHead size head (insert_sorted s h path)
   head_stays head path first last is leads other pred =
       rw (put_behind path last pred) (later_at head pred.front first last pred.hash pred.behind (rw pred.split at is) (rw pred.split at leads) other)
 
 -- in an empty bucket nothing stands in front
-pub never_behind : (h : ℕ) (path : List (ℕ × ℕ)) (last : ℕ) → None ≡ leader_of path → IsPredecessor h path last → ⊥
+pub never_behind : (h : ℕ) (path : List (ℕ × ℕ)) (last : ℕ) → None ≡ first_symbol_of path → IsPredecessor h path last → ⊥
 never_behind h path last none pred =
     (let empty : path ≡ [] = nil_leader path none in
     let parts : [] ≡ pred.front ++ (last, pred.hash) ∷ pred.behind = sym empty ∙ pred.split in
@@ -92,30 +92,30 @@ module _ (size : ℕ) (heads : List Head) (filters hashes later : List ℕ) (k :
     (others : (b : ℕ) → b ≢ k → chain_from (length heads) b 0 [] later ≡ chain_from (length heads) b 0 [] hashes) (headed : IsHeaded size heads filters hashes) where
   pub headed_changed : (head : Head) (filter : ℕ) → (filter ≡ 0) ↔ (chain_from (length heads) k 0 [] later ≡ []) → IsHead size head (chain_from (length heads) k 0 [] later) →
       IsHeaded size (set heads k head) (set filters k filter) later
-  headed_changed head filter vacant is =
+  headed_changed head filter empty_bucket is =
       let count : length (set heads k head) ≡ length heads = length-set heads k head in
       let lf : k < length filters = omega arith in
-      let vacant_at : (b : ℕ) → b < length heads → (get_or (set filters k filter) b 0 ≡ 0) ↔ (chain_from (length heads) b 0 [] later ≡ []) = λ b l.
+      let empty_bucket_at : (b : ℕ) → b < length heads → (get_or (set filters k filter) b 0 ≡ 0) ↔ (chain_from (length heads) b 0 [] later ≡ []) = λ b l.
       elim (eqb_tells b k) [
-        | inl h ↦ rw (h.1, get_or-set_same filters k filter 0 lf) vacant
-        | inr h ↦ rw (get_or-set_other filters k b filter 0 h.1, others b h.1) (headed.vacant b l)
+        | inl h ↦ rw (h.1, get_or-set_same filters k filter 0 lf) empty_bucket
+        | inr h ↦ rw (get_or-set_other filters k b filter 0 h.1, others b h.1) (headed.empty_bucket b l)
       ] in
       let words_at : (b : ℕ) → b < length heads → IsHead size (get_or (set heads k head) b no_head) (chain_from (length heads) b 0 [] later) = λ b l.
       elim (eqb_tells b k) [
         | inl h ↦ rw (h.1, get_or-set_same heads k head no_head within) is
         | inr h ↦ rw (get_or-set_other heads k b head no_head h.1, others b h.1) (headed.words b l)
       ] in
-      record { vacant = λ b l. rw count (vacant_at b (omega (arith, l, count))); words = λ b l. rw count (words_at b (omega (arith, l, count))) }
+      record { empty_bucket = λ b l. rw count (empty_bucket_at b (omega (arith, l, count))); words = λ b l. rw count (words_at b (omega (arith, l, count))) }
 
   pub headed_head : (head : Head) → (get_or filters k 0 ≡ 0) ↔ (chain_from (length heads) k 0 [] later ≡ []) → IsHead size head (chain_from (length heads) k 0 [] later) → IsHeaded size (set heads k head) filters later
-  headed_head head vacant is = rw (set-get_or filters k 0) at (headed_changed head (get_or filters k 0) vacant is)
+  headed_head head empty_bucket is = rw (set-get_or filters k 0) at (headed_changed head (get_or filters k 0) empty_bucket is)
 
   pub headed_filter : (filter : ℕ) → (filter ≡ 0) ↔ (chain_from (length heads) k 0 [] later ≡ []) → IsHead size (get_or heads k no_head) (chain_from (length heads) k 0 [] later) → IsHeaded size heads (set filters k filter) later
-  headed_filter filter vacant is = rw (set-get_or heads k no_head) at (headed_changed (get_or heads k no_head) filter vacant is)
+  headed_filter filter empty_bucket is = rw (set-get_or heads k no_head) at (headed_changed (get_or heads k no_head) filter empty_bucket is)
 
 -- no symbol in any bucket
 pub headed_none : (size : ℕ) (heads : List Head) (filters hashes : List ℕ) → ((b : ℕ) → get_or filters b 0 ≡ 0) → hashes ≡ [] → IsHeaded size heads filters hashes
-headed_none size heads filters hashes zeros none = record { vacant = λ b l. rw none (λ e. refl, λ e. zeros b); words = λ b l. rw none tt }
+headed_none size heads filters hashes zeros none = record { empty_bucket = λ b l. rw none (λ e. refl, λ e. zeros b); words = λ b l. rw none tt }
 
 -- a hash beside the first two
 module _ (size : ℕ) (some : 0 < size) (h : ℕ) (head : Head) where
@@ -229,9 +229,9 @@ pub record IsOccupied (v : Placed) (k size : ℕ) (head : Head) : Type 0 where
 
 module _ (v : Placed) (heads : List Head) (filters : List ℕ) (size k : ℕ) (count : v.count ≡ length heads) (sizes : length filters ≡ length heads) (headed : IsHeaded size heads filters v.hashes)
     (within : k < length heads) where
-  pub vacant_at : (get_or filters k 0 ≡ 0) ↔ (chain v k ≡ [])
+  pub empty_bucket_at : (get_or filters k 0 ≡ 0) ↔ (chain v k ≡ [])
   unfolding chain
-  vacant_at = rw count (headed.vacant k within)
+  empty_bucket_at = rw count (headed.empty_bucket k within)
 
   words_at : IsHead size (get_or heads k no_head) (chain v k)
   unfolding chain
@@ -240,12 +240,12 @@ module _ (v : Placed) (heads : List Head) (filters : List ℕ) (size k : ℕ) (c
   pub is_vacant : (filter : ℕ) → filter ≡ get_or filters k filter → filter ≡ 0 → chain v k ≡ []
   is_vacant filter read none =
       let lf : k < length filters = omega arith in
-      vacant_at.0 (sym (get_or_read filters k filter lf read 0) ∙ none)
+      empty_bucket_at.0 (sym (get_or_read filters k filter lf read 0) ∙ none)
 
   pub is_occupied : (head : Head) (filter : ℕ) → head ≡ get_or heads k head → filter ≡ get_or filters k filter → (filter ≡ 0 → ⊥) → IsOccupied v k size head
   is_occupied head filter read_head read some =
       let lf : k < length filters = omega arith in
-      let parts = some_entries (chain v k) (λ none. some (get_or_read filters k filter lf read 0 ∙ vacant_at.1 none)) in
+      let parts = some_entries (chain v k) (λ none. some (get_or_read filters k filter lf read 0 ∙ empty_bucket_at.1 none)) in
       let same : head ≡ get_or heads k no_head = get_or_read heads k head within read_head no_head in
       record { e = parts.0; es = parts.1; split = parts.2; is = rw (← same, parts.2) at words_at }
 
@@ -266,8 +266,8 @@ module _ (v : Placed) (k size : ℕ) (head : Head) (o : IsOccupied v k size head
   pub entries : AllByRecursion (IsEntry v.count k v.hashes) (o.e ∷ o.es)
   entries = rw o.split at (chain-entries v k)
 
-  pub leads : leader_of (chain v k) ≡ Some (head.first % size)
-  leads = ap leader_of o.split ∙ ap (λ s. Some s) (sym o.is.0.1)
+  pub leads : first_symbol_of (chain v k) ≡ Some (head.first % size)
+  leads = ap first_symbol_of o.split ∙ ap (λ s. Some s) (sym o.is.0.1)
 
   pub first_within : head.first % size < length v.hashes
   first_within = omega (arith, o.is.0.1, entries.0.0)
@@ -285,15 +285,15 @@ head_read size heads filters hashes k head headed within read = rw (← get_or_r
 
 -- one hash more
 pub headed_pushed : (size : ℕ) (heads : List Head) (filters hashes : List ℕ) (hash : ℕ) (head : Head) (filter : ℕ) → hash % length heads < length heads → length filters ≡ length heads → IsHeaded size heads filters hashes → (filter ≡ 0 → ⊥) →
-    IsHead size head (put (length hashes) hash (chain_from (length heads) (hash % length heads) 0 [] hashes)) → IsHeaded size (set heads (hash % length heads) head) (set filters (hash % length heads) filter) (hashes ++ hash ∷ [])
+    IsHead size head (insert_sorted (length hashes) hash (chain_from (length heads) (hash % length heads) 0 [] hashes)) → IsHeaded size (set heads (hash % length heads) head) (set filters (hash % length heads) filter) (hashes ++ hash ∷ [])
 headed_pushed size heads filters hashes hash head filter within sizes headed some is =
     let grows = chain_grows (length heads) hashes hash in
     headed_changed size heads filters hashes (hashes ++ hash ∷ []) (hash % length heads) within sizes (λ b other. chain_stays (length heads) b hashes hash other) headed head filter
     (neither some (λ e. put_some (length hashes) hash (chain_from (length heads) (hash % length heads) 0 [] hashes) (sym grows ∙ e))) (rw grows is)
 
 -- whether a bucket has no symbol
-pub alone_is : (path : List (ℕ × ℕ)) (leader : Option ℕ) (alone : Bool) → leader ≡ leader_of path → is_some leader ≡ not alone → (alone ≡ true) ↔ (path ≡ [])
-alone_is [] leader true leads tells = (λ e. refl, λ e. refl)
-alone_is [] leader false leads tells = absurd (true≢false (sym tells ∙ ap is_some leads))
-alone_is (x ∷ xs) leader true leads tells = absurd (true≢false (sym (ap is_some leads) ∙ tells))
-alone_is (x ∷ xs) leader false leads tells = neither (λ e. false≢true e) (λ e. cc)
+pub alone_is : (path : List (ℕ × ℕ)) (first_symbol : Option ℕ) (alone : Bool) → first_symbol ≡ first_symbol_of path → is_some first_symbol ≡ not alone → (alone ≡ true) ↔ (path ≡ [])
+alone_is [] first_symbol true leads tells = (λ e. refl, λ e. refl)
+alone_is [] first_symbol false leads tells = absurd (true≢false (sym tells ∙ ap is_some leads))
+alone_is (x ∷ xs) first_symbol true leads tells = absurd (true≢false (sym (ap is_some leads) ∙ tells))
+alone_is (x ∷ xs) first_symbol false leads tells = neither (λ e. false≢true e) (λ e. cc)

@@ -6,9 +6,9 @@ use Rattle.std.proofs.lemmas.Bool.{eqb-true, eqb-false}
 use Rattle.std.proofs.lemmas.Bool.Decides.{eqb_tells}
 use Rattle.std.proofs.lemmas.List.{get_or-set_same, get_or-set_other, map-append, get_or_append_left, get_or_push, get_or_default, length-set, take_more, take_all, length-take-le}
 use Rattle.intaglio_symbol.specs.declared.symbol.Symbol.{Symbol}
-use Rattle.intaglio_index.specs.Placed.{chain_from, head_of, leader_of, symbols_of, put, BeginsAtOrAbove, IsPredecessor, IsEntry}
+use Rattle.intaglio_index.specs.Placed.{chain_from, head_of, first_symbol_of, symbols_of, insert_sorted, BeginsAtOrAbove, IsPredecessor, IsEntry}
 use Rattle.intaglio_index.specs.Links.{IsPath, IsThread, IsLinked, entry_of, target_of, next_of}
-use Rattle.intaglio_index.proofs.ChainLemmas.{eqb-equal, eqb-unequal, put_some, chain_grows, chain_stays, chain-each, chain-distinct, chain-complete, entry_split, unput, chain_from-push, put-between, Each-weaker, Each-left, Each-right}
+use Rattle.intaglio_index.proofs.ChainLemmas.{eqb-equal, eqb-unequal, put_some, chain_grows, chain_stays, chain-each, chain-distinct, chain-complete, entry_split, unput, chain_from-push, insert_sorted-between, Each-weaker, Each-left, Each-right}
 
 -- what is kept of a link: the symbol itself where there is no next one
 target_kept : (s : ℕ) (next : Option Symbol) → (next ≡ Some s → ⊥) → target_of s (unwrap_or next s) ≡ next
@@ -59,12 +59,12 @@ both P Q [] a b = tt
 both P Q (x ∷ xs) a b = ((a.0, b.0), both P Q xs a.1 b.1)
 
 -- a path begins where its list does
-pub path_leader : (next : ℕ → Option Symbol) (start : Option Symbol) (es : List (ℕ × ℕ)) → IsPath next start (symbols_of es) → start ≡ leader_of es
+pub path_leader : (next : ℕ → Option Symbol) (start : Option Symbol) (es : List (ℕ × ℕ)) → IsPath next start (symbols_of es) → start ≡ first_symbol_of es
 path_leader next start [] h = h
 path_leader next start (e ∷ es) h = h.0
 
 -- what stands behind an entry changes nothing of where its list begins
-pub leader_same : (front : List (ℕ × ℕ)) (e : ℕ × ℕ) (xs ys : List (ℕ × ℕ)) → leader_of (front ++ e ∷ xs) ≡ leader_of (front ++ e ∷ ys)
+pub leader_same : (front : List (ℕ × ℕ)) (e : ℕ × ℕ) (xs ys : List (ℕ × ℕ)) → first_symbol_of (front ++ e ∷ xs) ≡ first_symbol_of (front ++ e ∷ ys)
 leader_same [] e xs ys = refl
 leader_same (x ∷ front) e xs ys = refl
 
@@ -93,10 +93,10 @@ module _ (count : ℕ) (hashes : List ℕ) (links : List Symbol) (linked : IsLin
   read_path start b (e ∷ es) a h = ap (option_map (entry_of hashes)) h.0 ∙ ap (λ k. Some (e.0, k)) (a.0.1 0)
 
   -- the first entry of a bucket
-  pub first_reads : (b : ℕ) → option_map (entry_of hashes) (leader_of (bucket b)) ≡ head_of (bucket b)
-  first_reads b = read_path (leader_of (bucket b)) b (bucket b) (bucket-each b) (linked.paths b)
+  pub first_reads : (b : ℕ) → option_map (entry_of hashes) (first_symbol_of (bucket b)) ≡ head_of (bucket b)
+  first_reads b = read_path (first_symbol_of (bucket b)) b (bucket b) (bucket-each b) (linked.paths b)
 
-  pub thread_of : (b : ℕ) → IsThread hashes links (leader_of (bucket b)) (bucket b)
+  pub thread_of : (b : ℕ) → IsThread hashes links (first_symbol_of (bucket b)) (bucket b)
   thread_of b = record {
     path = linked.paths b;
     read = Each-weaker (IsEntry count b hashes) (λ (e : ℕ × ℕ). (e.0 < length hashes) × (get_or hashes e.0 0 ≡ e.1)) (λ e h. (h.0, h.1 0)) _ (bucket-each b);
@@ -126,9 +126,9 @@ module _ (count : ℕ) (hashes : List ℕ) (links : List Symbol) (linked : IsLin
       cases here.2 rest behind
 
   -- a bucket's first symbol is among the placed ones
-  pub leader_within : (b : ℕ) (s : Symbol) → leader_of (bucket b) ≡ Some s → s < length hashes
+  pub leader_within : (b : ℕ) (s : Symbol) → first_symbol_of (bucket b) ≡ Some s → s < length hashes
   leader_within b s e =
-      let cases : (es : List (ℕ × ℕ)) → AllByRecursion (IsEntry count b hashes) es → leader_of es ≡ Some s → s < length hashes = elim [
+      let cases : (es : List (ℕ × ℕ)) → AllByRecursion (IsEntry count b hashes) es → first_symbol_of es ≡ Some s → s < length hashes = elim [
         | [] ↦ λ a h. cc
         | e' ∷ es ↦ λ a h. (let q : s ≡ e'.0 = cc in omega (arith, q, a.0.0))
       ] in
@@ -139,16 +139,16 @@ module _ (count : ℕ) (hashes : List ℕ) (links : List Symbol) (linked : IsLin
 
   module _ (hash : ℕ) (symbol : Symbol) (numbered : symbol ≡ length hashes) (small : symbol < 2 ^ 32) (free : symbol < count) where
     -- one more hash
-    bucket-push : (b : ℕ) → chain_from count b 0 [] (hashes ++ hash ∷ []) ≡ cond (eqb (hash % count) b) (put symbol hash (bucket b)) (bucket b)
+    bucket-push : (b : ℕ) → chain_from count b 0 [] (hashes ++ hash ∷ []) ≡ cond (eqb (hash % count) b) (insert_sorted symbol hash (bucket b)) (bucket b)
     bucket-push b =
         let n_is : 0 + length hashes ≡ symbol = omega (arith, numbered) in
-        chain_from-push count b 0 [] hashes hash ∙ ap (λ n. cond (eqb (hash % count) b) (put n hash (bucket b)) (bucket b)) n_is
+        chain_from-push count b 0 [] hashes hash ∙ ap (λ n. cond (eqb (hash % count) b) (insert_sorted n hash (bucket b)) (bucket b)) n_is
 
     number_is : length links ≡ symbol
     number_is = linked.paired ∙ sym numbered
 
     -- where nothing in front is smaller, the symbol becomes the bucket's first
-    pub place_first : (next : Option Symbol) → next ≡ leader_of (bucket (hash % count)) → BeginsAtOrAbove hash (bucket (hash % count)) →
+    pub place_first : (next : Option Symbol) → next ≡ first_symbol_of (bucket (hash % count)) → BeginsAtOrAbove hash (bucket (hash % count)) →
         IsLinked count (hashes ++ hash ∷ []) (links ++ unwrap_or next symbol ∷ [])
     place_first next is begins =
         let link : Symbol = unwrap_or next symbol in
@@ -156,14 +156,14 @@ module _ (count : ℕ) (hashes : List ℕ) (links : List Symbol) (linked : IsLin
         let k : ℕ = hash % count in
         let same : (s : ℕ) → s < length hashes → next_of more s ≡ next_of links s = λ s ls. ap (target_of s) (get_or_append_left links (link ∷ []) 0 s (omega (arith, ls, linked.paired))) in
         let other : next ≡ Some symbol → ⊥ = λ e. (let l = leader_within k symbol (sym is ∙ e) in absurd (omega (arith, l, numbered))) in
-        let at_n : next_of more symbol ≡ leader_of (bucket k) = ap (target_of symbol) (get_or_push links link 0 symbol number_is) ∙ target_kept symbol next other ∙ is in
-        let kept : (b : ℕ) → IsPath (next_of more) (leader_of (bucket b)) (symbols_of (bucket b)) =
+        let at_n : next_of more symbol ≡ first_symbol_of (bucket k) = ap (target_of symbol) (get_or_push links link 0 symbol number_is) ∙ target_kept symbol next other ∙ is in
+        let kept : (b : ℕ) → IsPath (next_of more) (first_symbol_of (bucket b)) (symbols_of (bucket b)) =
         λ b. path_kept (next_of links) (next_of more) _ _ (Each-weaker (λ s. s < length hashes) (λ s. next_of more s ≡ next_of links s) same _ (below_of_entry b)) (linked.paths b) in
         let cases : (b : ℕ) (t : Bool) → eqb k b ≡ t →
-        IsPath (next_of more) (leader_of (cond t (put symbol hash (bucket b)) (bucket b))) (symbols_of (cond t (put symbol hash (bucket b)) (bucket b))) = λ b. elim [
+        IsPath (next_of more) (first_symbol_of (cond t (insert_sorted symbol hash (bucket b)) (bucket b))) (symbols_of (cond t (insert_sorted symbol hash (bucket b)) (bucket b))) = λ b. elim [
           | true ↦ λ e.
               (let q : k ≡ b = eqb-true k b e in
-              let put_is : put symbol hash (bucket b) ≡ (symbol, hash) ∷ bucket b = put-between symbol hash [] (bucket b) tt (rw q at begins) in
+              let put_is : insert_sorted symbol hash (bucket b) ≡ (symbol, hash) ∷ bucket b = insert_sorted-between symbol hash [] (bucket b) tt (rw q at begins) in
               rw put_is (refl, rw (at_n, q) (kept b)))
           | false ↦ λ e. kept b
         ] in
@@ -192,13 +192,13 @@ module _ (count : ℕ) (hashes : List ℕ) (links : List Symbol) (linked : IsLin
         let same : (s : ℕ) → (s < length hashes) × (s ≢ p) → next_of all s ≡ next_of links s = λ s h.
         ap (target_of s) (get_or-set_other more p s symbol 0 h.1 ∙ get_or_append_left links (link ∷ []) 0 s (omega (arith, h.0, linked.paired))) in
         let cases : (b : ℕ) (t : Bool) → eqb k b ≡ t →
-        IsPath (next_of all) (leader_of (cond t (put symbol hash (bucket b)) (bucket b))) (symbols_of (cond t (put symbol hash (bucket b)) (bucket b))) = λ b. elim [
+        IsPath (next_of all) (first_symbol_of (cond t (insert_sorted symbol hash (bucket b)) (bucket b))) (symbols_of (cond t (insert_sorted symbol hash (bucket b)) (bucket b))) = λ b. elim [
           | true ↦ λ e.
               (let q : k ≡ b = eqb-true k b e in
               let split : bucket b ≡ pred.front ++ (p, pred.hash) ∷ pred.behind = rw (← q) pred.split in
               let joined : bucket b ≡ (pred.front ++ (p, pred.hash) ∷ []) ++ pred.behind = split ∙ sym (append_assoc pred.front ((p, pred.hash) ∷ []) pred.behind) in
-              let put_is : put symbol hash (bucket b) ≡ pred.front ++ (p, pred.hash) ∷ (symbol, hash) ∷ pred.behind =
-              rw joined (put-between symbol hash (pred.front ++ (p, pred.hash) ∷ []) pred.behind pred.smaller pred.others ∙ append_assoc pred.front ((p, pred.hash) ∷ []) ((symbol, hash) ∷ pred.behind)) in
+              let put_is : insert_sorted symbol hash (bucket b) ≡ pred.front ++ (p, pred.hash) ∷ (symbol, hash) ∷ pred.behind =
+              rw joined (insert_sorted-between symbol hash (pred.front ++ (p, pred.hash) ∷ []) pred.behind pred.smaller pred.others ∙ append_assoc pred.front ((p, pred.hash) ∷ []) ((symbol, hash) ∷ pred.behind)) in
               let symbols = symbols_split pred.front (p, pred.hash) pred.behind in
               let path = rw (split, symbols) at (linked.paths b) in
               let below = rw (split, symbols) at (below_of_entry b) in
@@ -206,7 +206,7 @@ module _ (count : ℕ) (hashes : List ℕ) (links : List Symbol) (linked : IsLin
               let front = Each-weaker _ (λ s. next_of all s ≡ next_of links s) same _ (both (λ s. s < length hashes) (λ s. s ≢ p) _ (Each-left (λ s. s < length hashes) (symbols_of pred.front) (p ∷ symbols_of pred.behind) below) beside.0) in
               let behind = Each-weaker _ (λ s. next_of all s ≡ next_of links s) same _ (both (λ s. s < length hashes) (λ s. s ≢ p) _ (Each-right (λ s. s < length hashes) (symbols_of pred.front) (p ∷ symbols_of pred.behind) below).1 beside.1) in
               rw (put_is, symbols_split pred.front (p, pred.hash) ((symbol, hash) ∷ pred.behind), leader_same pred.front (p, pred.hash) ((symbol, hash) ∷ pred.behind) pred.behind)
-              (path_put (next_of links) (next_of all) symbol (leader_of (pred.front ++ (p, pred.hash) ∷ pred.behind)) (symbols_of pred.front) p (symbols_of pred.behind) front behind at_p at_n path))
+              (path_put (next_of links) (next_of all) symbol (first_symbol_of (pred.front ++ (p, pred.hash) ∷ pred.behind)) (symbols_of pred.front) p (symbols_of pred.behind) front behind at_p at_n path))
           | false ↦ λ e.
               (let entry = (Each-right (IsEntry count k hashes) pred.front ((p, pred.hash) ∷ pred.behind) (rw pred.split at (bucket-each k))).0 in
               let differ : AllByRecursion (λ s. s ≢ p) (symbols_of (bucket b)) =
@@ -243,10 +243,10 @@ module _ (count : ℕ) (hashes : List ℕ) (hash : ℕ) (links : List Symbol) (l
   abbrev all_of : ℕ → List (ℕ × ℕ)
   all_of b = chain_from count b 0 [] (hashes ++ hash ∷ [])
 
-  all_is : (b : ℕ) → all_of b ≡ cond (eqb (hash % count) b) (put (length hashes) hash (bucket_of b)) (bucket_of b)
+  all_is : (b : ℕ) → all_of b ≡ cond (eqb (hash % count) b) (insert_sorted (length hashes) hash (bucket_of b)) (bucket_of b)
   all_is b =
       let n_is : 0 + length hashes ≡ length hashes = omega arith in
-      chain_from-push count b 0 [] hashes hash ∙ ap (λ n. cond (eqb (hash % count) b) (put n hash (bucket_of b)) (bucket_of b)) n_is
+      chain_from-push count b 0 [] hashes hash ∙ ap (λ n. cond (eqb (hash % count) b) (insert_sorted n hash (bucket_of b)) (bucket_of b)) n_is
 
   left_paired : length links ≡ length hashes
   left_paired = omega (arith, linked.paired, length-append hashes (hash ∷ []), length-append links (link ∷ []))
@@ -274,20 +274,20 @@ module _ (count : ℕ) (hashes : List ℕ) (hash : ℕ) (links : List Symbol) (l
         (all_of (hash % count) ≡ (length hashes, hash) ∷ bucket_of (hash % count)) × IsPath (next_of links) next (symbols_of (bucket_of (hash % count)))
     first_parts begins =
         let k : ℕ = hash % count in
-        let is : all_of k ≡ put (length hashes) hash (bucket_of k) = all_is k ∙ ap (λ t. cond t (put (length hashes) hash (bucket_of k)) (bucket_of k)) (eqb-equal k k refl) in
+        let is : all_of k ≡ insert_sorted (length hashes) hash (bucket_of k) = all_is k ∙ ap (λ t. cond t (insert_sorted (length hashes) hash (bucket_of k)) (bucket_of k)) (eqb-equal k k refl) in
         let r = unput (length hashes) hash (bucket_of k) [] (all_of k) (sym is) tt begins in
         let split : all_of k ≡ (length hashes, hash) ∷ bucket_of k = r.1 ∙ ap (λ es. (length hashes, hash) ∷ es) (sym r.2) in
         let path = rw split at (linked.paths k) in
         (split, left-kept k next (rw is_next path.1))
 
-    pub unplace_first : BeginsAtOrAbove hash (all_of (hash % count)) → IsLinked count hashes links × (next ≡ leader_of (bucket_of (hash % count)))
+    pub unplace_first : BeginsAtOrAbove hash (all_of (hash % count)) → IsLinked count hashes links × (next ≡ first_symbol_of (bucket_of (hash % count)))
     unplace_first begins =
         let k : ℕ = hash % count in
         let parts = first_parts begins in
-        let leads : next ≡ leader_of (bucket_of k) = path_leader (next_of links) next (bucket_of k) parts.1 in
-        let cases : (b : ℕ) (t : Bool) → eqb k b ≡ t → all_of b ≡ cond t (put (length hashes) hash (bucket_of b)) (bucket_of b) → IsPath (next_of links) (leader_of (bucket_of b)) (symbols_of (bucket_of b)) = λ b. elim [
+        let leads : next ≡ first_symbol_of (bucket_of k) = path_leader (next_of links) next (bucket_of k) parts.1 in
+        let cases : (b : ℕ) (t : Bool) → eqb k b ≡ t → all_of b ≡ cond t (insert_sorted (length hashes) hash (bucket_of b)) (bucket_of b) → IsPath (next_of links) (first_symbol_of (bucket_of b)) (symbols_of (bucket_of b)) = λ b. elim [
           | true ↦ λ e is. (let q : k ≡ b = eqb-true k b e in rw (← q) (rw leads at parts.1))
-          | false ↦ λ e is. left-kept b (leader_of (bucket_of b)) (rw is at (linked.paths b))
+          | false ↦ λ e is. left-kept b (first_symbol_of (bucket_of b)) (rw is at (linked.paths b))
         ] in
         (record { paths = λ b. cases b (eqb k b) refl (all_is b); paired = left_paired; few = few_left; numbered = numbered_left }, leads)
 
@@ -297,7 +297,7 @@ module _ (count : ℕ) (hashes : List ℕ) (hash : ℕ) (links : List Symbol) (l
         let left : List Symbol = set links p (unwrap_or next p) in
         let same : (s : ℕ) → (s < length hashes) × (s ≢ p) → next_of left s ≡ next_of whole s = λ s h.
         ap (target_of s) (get_or-set_other links p s (unwrap_or next p) 0 h.1) ∙ same_below s h.0 in
-        let cases : (b : ℕ) (t : Bool) → eqb k b ≡ t → all_of b ≡ cond t (put (length hashes) hash (bucket_of b)) (bucket_of b) → IsPath (next_of left) (leader_of (bucket_of b)) (symbols_of (bucket_of b)) = λ b. elim [
+        let cases : (b : ℕ) (t : Bool) → eqb k b ≡ t → all_of b ≡ cond t (insert_sorted (length hashes) hash (bucket_of b)) (bucket_of b) → IsPath (next_of left) (first_symbol_of (bucket_of b)) (symbols_of (bucket_of b)) = λ b. elim [
           | true ↦ λ e is.
               (let q : k ≡ b = eqb-true k b e in
               let split : all_of b ≡ pred.front ++ (p, pred.hash) ∷ pred.behind = rw (← q) pred.split in
@@ -311,12 +311,12 @@ module _ (count : ℕ) (hashes : List ℕ) (hash : ℕ) (links : List Symbol) (l
               let beside = distinct_beside (symbols_of pred.front) p (symbols_of r.0) (rw some at (chain-distinct count b hashes)) in
               let front = Each-weaker _ (λ s. next_of left s ≡ next_of whole s) same _ (both (λ s. s < length hashes) (λ s. s ≢ p) _ (Each-left (λ s. s < length hashes) (symbols_of pred.front) (p ∷ symbols_of r.0) below) beside.0) in
               let behind = Each-weaker _ (λ s. next_of left s ≡ next_of whole s) same _ (both (λ s. s < length hashes) (λ s. s ≢ p) _ (Each-right (λ s. s < length hashes) (symbols_of pred.front) (p ∷ symbols_of r.0) below).1 beside.1) in
-              let leads : leader_of (bucket_of b) ≡ leader_of (all_of b) = ap leader_of kept ∙ leader_same pred.front (p, pred.hash) r.0 pred.behind ∙ ap leader_of (sym split) in
+              let leads : first_symbol_of (bucket_of b) ≡ first_symbol_of (all_of b) = ap first_symbol_of kept ∙ leader_same pred.front (p, pred.hash) r.0 pred.behind ∙ ap first_symbol_of (sym split) in
               let path = rw full at (linked.paths b) in
               let behind_last = rw (← is_next) at (path_behind (next_of whole) _ (symbols_of pred.front) p (length hashes ∷ symbols_of r.0) path).1 in
               let other : next ≡ Some p → ⊥ = begins_elsewhere (next_of whole) next (symbols_of r.0) p beside.1 behind_last in
               let at_p : next_of left p ≡ next_of whole (length hashes) = ap (target_of p) (get_or-set_same links p (unwrap_or next p) 0 (omega (arith, l, left_paired))) ∙ target_kept p next other ∙ is_next in
-              rw (some, leads) (path_cut (next_of whole) (next_of left) (leader_of (all_of b)) (symbols_of pred.front) p (length hashes) (symbols_of r.0) front behind at_p path))
+              rw (some, leads) (path_cut (next_of whole) (next_of left) (first_symbol_of (all_of b)) (symbols_of pred.front) p (length hashes) (symbols_of r.0) front behind at_p path))
           | false ↦ λ e is.
               (let entry = (Each-right (IsEntry count k (hashes ++ hash ∷ [])) pred.front ((p, pred.hash) ∷ pred.behind) (rw pred.split at (chain-each count k (hashes ++ hash ∷ [])))).0 in
               let differ : AllByRecursion (λ s. s ≢ p) (symbols_of (bucket_of b)) =
@@ -333,14 +333,14 @@ module _ (count : ℕ) (hashes : List ℕ) (hash : ℕ) (links : List Symbol) (l
         }
 
   -- the first symbol of the last one's bucket stays where another stands in front of it
-  pub leader_stays : (p : ℕ) → IsPredecessor hash (all_of (hash % count)) p → leader_of (bucket_of (hash % count)) ≡ leader_of (all_of (hash % count))
+  pub leader_stays : (p : ℕ) → IsPredecessor hash (all_of (hash % count)) p → first_symbol_of (bucket_of (hash % count)) ≡ first_symbol_of (all_of (hash % count))
   leader_stays p pred =
       let k : ℕ = hash % count in
-      let is : all_of k ≡ put (length hashes) hash (bucket_of k) = all_is k ∙ ap (λ t. cond t (put (length hashes) hash (bucket_of k)) (bucket_of k)) (eqb-equal k k refl) in
+      let is : all_of k ≡ insert_sorted (length hashes) hash (bucket_of k) = all_is k ∙ ap (λ t. cond t (insert_sorted (length hashes) hash (bucket_of k)) (bucket_of k)) (eqb-equal k k refl) in
       let joined : all_of k ≡ (pred.front ++ (p, pred.hash) ∷ []) ++ pred.behind = pred.split ∙ sym (append_assoc pred.front ((p, pred.hash) ∷ []) pred.behind) in
       let r = unput (length hashes) hash (bucket_of k) (pred.front ++ (p, pred.hash) ∷ []) pred.behind (sym is ∙ joined) pred.smaller pred.others in
       let kept : bucket_of k ≡ pred.front ++ (p, pred.hash) ∷ r.0 = r.2 ∙ append_assoc pred.front ((p, pred.hash) ∷ []) r.0 in
-      ap leader_of kept ∙ leader_same pred.front (p, pred.hash) r.0 pred.behind ∙ ap leader_of (sym pred.split)
+      ap first_symbol_of kept ∙ leader_same pred.front (p, pred.hash) r.0 pred.behind ∙ ap first_symbol_of (sym pred.split)
 
 last_split : {X : Type 0} (xs : List X) (x : X) (i : ℕ) → i + 1 ≡ length xs → x ≡ get_or xs i x → xs ≡ take i xs ++ x ∷ []
 last_split xs x i e read =
@@ -393,17 +393,17 @@ module _ (count : ℕ) (hashes : List ℕ) (links : List Symbol) (linked : IsLin
     next_is : next ≡ next_of (take i links ++ link ∷ []) (length (take i hashes))
     next_is = is_next ∙ ap (λ ls. next_of ls i) split_links ∙ ap (next_of (take i links ++ link ∷ [])) (sym left_size)
 
-    pub cut_first : BeginsAtOrAbove hash (last_bucket hashes) → IsLinked count (take i hashes) (take i links) × (next ≡ leader_of (last_bucket (take i hashes)))
+    pub cut_first : BeginsAtOrAbove hash (last_bucket hashes) → IsLinked count (take i hashes) (take i links) × (next ≡ first_symbol_of (last_bucket (take i hashes)))
     cut_first begins =
         let P : List ℕ → Type 0 = λ hs. BeginsAtOrAbove hash (last_bucket hs) in
         unplace_first count (take i hashes) hash (take i links) link split_linked next next_is (subst P split_hashes begins)
 
     pub cut_behind : (p : ℕ) → IsPredecessor hash (last_bucket hashes) p →
-        IsLinked count (take i hashes) (set (take i links) p (unwrap_or next p)) × (leader_of (last_bucket (take i hashes)) ≡ leader_of (last_bucket hashes))
+        IsLinked count (take i hashes) (set (take i links) p (unwrap_or next p)) × (first_symbol_of (last_bucket (take i hashes)) ≡ first_symbol_of (last_bucket hashes))
     cut_behind p pred =
         let P : List ℕ → Type 0 = λ hs. IsPredecessor hash (last_bucket hs) p in
         let l : p < length (take i hashes) = omega (arith, predecessor_below p pred, left_size) in
         let parted : IsPredecessor hash (last_bucket (take i hashes ++ hash ∷ [])) p = subst P split_hashes pred in (
           unplace_behind count (take i hashes) hash (take i links) link split_linked next next_is p l parted,
-          leader_stays count (take i hashes) hash (take i links) link split_linked p parted ∙ ap (λ hs. leader_of (last_bucket hs)) (sym split_hashes),
+          leader_stays count (take i hashes) hash (take i links) link split_linked p parted ∙ ap (λ hs. first_symbol_of (last_bucket hs)) (sym split_hashes),
         )

@@ -8,7 +8,7 @@ use Rattle.std.proofs.lemmas.List.{get_or_default}
 use Rattle.std.proofs.lemmas.List.Elements.{recursion_from_All}
 use Rattle.intaglio_content.specs.Work.{Event, step}
 use Rattle.intaglio_index.specs.declared.index.head.Head.{Head}
-use Rattle.intaglio_index.specs.Placed.{Placed, chain, chain_from, head_of, leader_with, IsEntry, BeginsAtOrAbove, IsPredecessor}
+use Rattle.intaglio_index.specs.Placed.{Placed, chain, chain_from, head_of, first_symbol_with, IsEntry, BeginsAtOrAbove, IsPredecessor}
 use Rattle.intaglio_index.specs.Found.{IsFound, IsPassed, IsReached, IsAt}
 use Rattle.intaglio_index.specs.Heads.{IsHead}
 use Rattle.intaglio_index.proofs.ChainLemmas.{Each-weaker, Each-right, Each-append, eqb-equal, eqb-unequal, chain-complete, chain-each, chain-entries, entry_split, InOrder}
@@ -156,15 +156,15 @@ module _ (v : Placed) (h size : ℕ) (head : Head) (some : 0 < size) (o : IsOccu
       record { front = o.e ∷ []; behind = r.1; split = split ∙ ap (λ f. o.e ∷ f ∷ r.1) f_is; smaller = (r.3, tt); events = events }
 
 -- the symbol behind one, if it has the same hash
-pub next_with : (candidate : Option (ℕ × ℕ)) (behind : List (ℕ × ℕ)) (s k h : ℕ) → candidate ≡ head_of behind → candidate ≡ Some (s, k) → k ≡ h → Some s ≡ leader_with h behind
+pub next_with : (candidate : Option (ℕ × ℕ)) (behind : List (ℕ × ℕ)) (s k h : ℕ) → candidate ≡ head_of behind → candidate ≡ Some (s, k) → k ≡ h → Some s ≡ first_symbol_with h behind
 next_with candidate [] s k h e f same = (let never = sym e ∙ f in cc)
 next_with candidate (x ∷ xs) s k h e f same = (let is : x ≡ (s, k) = cc in rw (is, eqb-equal k h same) refl)
 
-pub next_without : (candidate : Option (ℕ × ℕ)) (behind : List (ℕ × ℕ)) (s k h : ℕ) → candidate ≡ head_of behind → candidate ≡ Some (s, k) → k ≢ h → None ≡ leader_with h behind
+pub next_without : (candidate : Option (ℕ × ℕ)) (behind : List (ℕ × ℕ)) (s k h : ℕ) → candidate ≡ head_of behind → candidate ≡ Some (s, k) → k ≢ h → None ≡ first_symbol_with h behind
 next_without candidate [] s k h e f other = refl
 next_without candidate (x ∷ xs) s k h e f other = (let is : x ≡ (s, k) = cc in rw (is, eqb-unequal k h other) refl)
 
-pub next_none : (candidate : Option (ℕ × ℕ)) (behind : List (ℕ × ℕ)) (h : ℕ) → candidate ≡ head_of behind → candidate ≡ None → None ≡ leader_with h behind
+pub next_none : (candidate : Option (ℕ × ℕ)) (behind : List (ℕ × ℕ)) (h : ℕ) → candidate ≡ head_of behind → candidate ≡ None → None ≡ first_symbol_with h behind
 next_none candidate [] h e f = refl
 next_none candidate (x ∷ xs) h e f = cc
 

@@ -2,7 +2,7 @@
 use Rattle.std.specs.Prelude.{◌≡◌, ℕ, ◌<◌, ◌≤◌, ◌^◌, ◌==◌, cond, List, [], ◌∷◌, length, Option, Some, None, slice_index_or}
 use Rattle.std.specs.List.{AllByRecursion}
 use Rattle.intaglio_symbol.specs.declared.symbol.Symbol.{Symbol}
-use Rattle.intaglio_index.specs.Placed.{chain_from, symbols_of, leader_of}
+use Rattle.intaglio_index.specs.Placed.{chain_from, symbols_of, first_symbol_of}
 
 -- following `next` from `start` visits exactly these symbols, and then ends
 abbrev pub IsPath : (ℕ → Option Symbol) → Option Symbol → List ℕ → Type 0
@@ -29,7 +29,7 @@ pub record IsThread (hashes : List ℕ) (links : List Symbol) (start : Option Sy
 
 pub record IsLinked (count : ℕ) (hashes : List ℕ) (links : List Symbol) : Type 0 where
   -- the links of each bucket form its chain
-  pub paths : (b : ℕ) → IsPath (next_of links) (leader_of (chain_from count b 0 [] hashes)) (symbols_of (chain_from count b 0 [] hashes))
+  pub paths : (b : ℕ) → IsPath (next_of links) (first_symbol_of (chain_from count b 0 [] hashes)) (symbols_of (chain_from count b 0 [] hashes))
   -- each hash has a link
   pub paired : length links ≡ length hashes
   -- there are at least as many buckets as hashes

@@ -14,7 +14,7 @@ pub type FixedTable<C> = Table<C, BuildHasherDefault<FoldHasher>>;
 
 /// The constructors.
 #[derive(Clone, Copy)]
-pub enum Making {
+pub enum Constructor {
     New,
     WithCapacity(usize),
     WithHasher,
@@ -23,16 +23,19 @@ pub enum Making {
 }
 
 /// Makes an empty table.
-pub fn make_table<C: Stored>(alloc: Global, making: Making) -> Result<FixedTable<C>, RoomError> {
+pub fn make_table<C: Stored>(
+    alloc: Global,
+    constructor: Constructor,
+) -> Result<FixedTable<C>, RoomError> {
     let hasher = BuildHasherDefault::new();
-    match making {
-        Making::New => Table::new(alloc),
-        Making::WithCapacity(capacity) => Table::with_capacity(alloc, capacity),
-        Making::WithHasher => Table::with_hasher(alloc, hasher),
-        Making::WithCapacityAndHasher(capacity) => Table::with_capacity_and_hasher(
+    match constructor {
+        Constructor::New => Table::new(alloc),
+        Constructor::WithCapacity(capacity) => Table::with_capacity(alloc, capacity),
+        Constructor::WithHasher => Table::with_hasher(alloc, hasher),
+        Constructor::WithCapacityAndHasher(capacity) => Table::with_capacity_and_hasher(
             alloc, capacity, hasher,
         ),
-        Making::WithLimit(limit) => Table::with_limit(alloc, limit, hasher),
+        Constructor::WithLimit(limit) => Table::with_limit(alloc, limit, hasher),
     }
 }
 

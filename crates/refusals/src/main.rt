@@ -8,14 +8,16 @@
 #![tactic(auto)]
 
 mod change;
+mod checked_table;
+mod constructors;
 mod contents;
 mod fault;
 mod kinds;
-mod making;
 mod rows;
 mod runs;
-mod watched;
 
+use checked_table::CallStyle;
+use constructors::make_all;
 use fault::Fault;
 use intaglio::StrContent;
 use intaglio::bstr::BStrContent;
@@ -24,13 +26,11 @@ use intaglio::cstr::CStrContent;
 use intaglio::osstr::OsStrContent;
 use intaglio::path::PathContent;
 use kinds::Stored;
-use making::make_all;
 use rows::{intern_first, without_memory};
 use runs::{Calls, watch};
 use std::env;
 use std::process::ExitCode;
 use std::rt::Env;
-use watched::Way;
 
 const TABLES: [&str; 6] = ["text", "osstr", "path", "bytes", "bstr", "cstr"];
 
@@ -104,12 +104,12 @@ fn row(rt: &(impl Eprint + AllocGlobal), run: &str) -> Result<(), Fault> {
 
 fn on<C: Stored>(rt: &(impl Eprint + AllocGlobal), run: &str) -> Result<(), Fault> {
     match run {
-        "calls" => watch::<C>(rt, Way::Own, Calls::Plain),
-        "cut" => watch::<C>(rt, Way::Own, Calls::Cut),
-        "replies" => watch::<C>(rt, Way::Replies, Calls::Plain),
-        "cut_replies" => watch::<C>(rt, Way::Replies, Calls::Cut),
+        "calls" => watch::<C>(rt, CallStyle::Own, Calls::Plain),
+        "cut" => watch::<C>(rt, CallStyle::Own, Calls::Cut),
+        "replies" => watch::<C>(rt, CallStyle::Replies, Calls::Plain),
+        "cut_replies" => watch::<C>(rt, CallStyle::Replies, Calls::Cut),
         "making" => make_all::<C>(rt),
-        "no_memory" => watch::<C>(rt, Way::Own, Calls::NoMemory),
+        "no_memory" => watch::<C>(rt, CallStyle::Own, Calls::NoMemory),
         _ => Err(Fault::Words),
     }
 }

@@ -1,6 +1,6 @@
 //! Runs of a few calls on tables of texts, with the texts and the results of docs/ROWS.md.
+use crate::checked_table::tell;
 use crate::fault::Fault;
-use crate::watched::tell;
 use intaglio::{InternError, Mark, StrContent, Symbol, SymbolTable};
 use std::alloc::Global;
 use std::hash::{BuildHasher, Hasher};

@@ -1,9 +1,9 @@
 //! The runs.
 use crate::change::Change;
+use crate::checked_table::{CallStyle, CheckedTable, tell};
+use crate::constructors::make_without_memory;
 use crate::fault::Fault;
 use crate::kinds::Stored;
-use crate::making::make_without_memory;
-use crate::watched::{Watched, Way, tell};
 
 /// Which calls are made.
 #[derive(Clone, Copy)]
@@ -19,48 +19,52 @@ pub enum Calls {
 /// Makes the calls on a new table.
 pub fn watch<C: Stored>(
     rt: &(impl Eprint + AllocGlobal),
-    way: Way,
+    style: CallStyle,
     calls: Calls,
 ) -> Result<(), Fault> {
-    let mut watched = Watched::<C>::start(rt, way)?;
+    let mut checked = CheckedTable::<C>::start(rt, style)?;
     let is_right = match calls {
-        Calls::Plain => fill(rt, &mut watched, way) && make_calls(rt, &mut watched),
+        Calls::Plain => fill(rt, &mut checked, style) && make_calls(rt, &mut checked),
         Calls::Cut => {
-            fill(rt, &mut watched, way)
-                && watched.change(rt, Change::TakeBack(10))
-                && make_calls(rt, &mut watched)
+            fill(rt, &mut checked, style)
+                && checked.change(rt, Change::TakeBack(10))
+                && make_calls(rt, &mut checked)
         }
-        Calls::NoMemory => no_memory(rt, &mut watched),
+        Calls::NoMemory => no_memory(rt, &mut checked),
     };
-    watched.answer(is_right)
+    checked.answer(is_right)
 }
 
 // Twenty contents into an empty table; a run looks them up again.
-fn fill<C: Stored>(rt: &(impl Eprint + AllocGlobal), watched: &mut Watched<C>, way: Way) -> bool {
-    watched.intern_more(rt, 20) && (matches!(way, Way::Own) || watched.look_up(rt, 20))
+fn fill<C: Stored>(
+    rt: &(impl Eprint + AllocGlobal),
+    checked: &mut CheckedTable<C>,
+    style: CallStyle,
+) -> bool {
+    checked.intern_more(rt, 20) && (matches!(style, CallStyle::Own) || checked.look_up(rt, 20))
 }
 
 // A reservation for forty more, twenty more contents, two shrinks, and five contents after a clear.
-fn make_calls<C: Stored>(rt: &(impl Eprint + AllocGlobal), watched: &mut Watched<C>) -> bool {
-    watched.change(rt, Change::Reserve(40))
-        && watched.intern_more(rt, 20)
-        && watched.change(rt, Change::ShrinkTo(41))
-        && watched.change(rt, Change::ShrinkToFit)
-        && watched.change(rt, Change::Clear)
-        && watched.intern_more(rt, 5)
+fn make_calls<C: Stored>(rt: &(impl Eprint + AllocGlobal), checked: &mut CheckedTable<C>) -> bool {
+    checked.change(rt, Change::Reserve(40))
+        && checked.intern_more(rt, 20)
+        && checked.change(rt, Change::ShrinkTo(41))
+        && checked.change(rt, Change::ShrinkToFit)
+        && checked.change(rt, Change::Clear)
+        && checked.intern_more(rt, 5)
 }
 
 // From the line `none` on nothing is allocated: contents into spare capacity, look-ups, a rollback, a clear,
 // a reservation of what is there already, empty tables, and calls that fail because of a size.
-fn no_memory<C: Stored>(rt: &(impl Eprint + AllocGlobal), watched: &mut Watched<C>) -> bool {
-    let is_granted = watched.intern_more(rt, 5) && watched.change(rt, Change::Reserve(10));
+fn no_memory<C: Stored>(rt: &(impl Eprint + AllocGlobal), checked: &mut CheckedTable<C>) -> bool {
+    let is_granted = checked.intern_more(rt, 5) && checked.change(rt, Change::Reserve(10));
     tell(rt, "none", 0);
     is_granted
-        && watched.intern_more(rt, 10)
-        && watched.change(rt, Change::TakeBack(4))
-        && watched.intern_more(rt, 3)
-        && watched.change(rt, Change::Clear)
-        && watched.change(rt, Change::Reserve(15))
-        && watched.intern_more(rt, 15)
+        && checked.intern_more(rt, 10)
+        && checked.change(rt, Change::TakeBack(4))
+        && checked.intern_more(rt, 3)
+        && checked.change(rt, Change::Clear)
+        && checked.change(rt, Change::Reserve(15))
+        && checked.intern_more(rt, 15)
         && make_without_memory::<C>(rt.alloc())
 }

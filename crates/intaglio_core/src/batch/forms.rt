@@ -2,17 +2,17 @@
 ghost use Rattle.std.specs.Prelude.{◌≡◌, ◌<◌, ◌++◌, ◌⊎◌, [], length, map, take};
 ghost use Rattle.std.specs.Prelude.{IfOk, IfErr, IfSome, OnOk, OnErr};
 ghost use Rattle.intaglio_core.specs.State.{first, IsValid};
-ghost use Rattle.intaglio_core.specs.Begun.{AreBegun};
+ghost use Rattle.intaglio_core.specs.PendingSearch.{ArePendingSearches};
 ghost use Rattle.intaglio_core.specs.Change.{InternsForm};
 ghost use Rattle.intaglio_core.specs.Lookup.{IsFound, Keeps, FindsEachKey, StoresEachKey};
 ghost use Rattle.intaglio_core.specs.Cost.{Costs, KnownInternCost};
 ghost use Rattle.intaglio_core.specs.Issue.{issue_from, interned_all};
-ghost use Rattle.intaglio_core.specs.Batch.{IfOverflow, KeepsTable, InternsForms, RefusedFormsCost};
+ghost use Rattle.intaglio_core.specs.Batch.{IfOverflow, StaysValid, InternsForms, RefusedFormsCost};
 ghost use Rattle.intaglio_core.specs.Batch.{hashings, SearchesForms, ChecksForms};
 ghost use Rattle.intaglio_core.specs.Batch.{InternsEachForm, FailsEachForm};
 
-use crate::begun::Begun;
 use crate::interner::FormInterner;
+use crate::pending_search::PendingSearch;
 use intaglio_content::{CopiedTo, SoughtIn, Work};
 use intaglio_symbol::{InternError, Symbol};
 use std::alloc::{AllocError, Global};
@@ -86,7 +86,7 @@ pub fn get_or_intern_all<T: FormInterner, Q: CopiedTo<T::Store>>(
         (RefusedFormsCost T.Content.key T.Content.spelling Q.key Q.form_spelling
         (T.hash table.old) (T.state table.old) forms.now)) }
 
-    ensures table { KeepsTable T.Content.key (T.hash table.old) (T.state table.old)
+    ensures table { StaysValid T.Content.key (T.hash table.old) (T.state table.old)
         (T.hash table.new) (T.state table.new) }
 {
     let mark = table.mark();
@@ -133,9 +133,9 @@ pub(super) fn search_forms<T: FormInterner, Q: SoughtIn<T::Store>>(
         (SearchesForms T.Content.key Q.key (T.hash table.now) (T.state table.now) forms.now)) }
     ensures no_cost { OnErr result (work.new.events ≡ work.old.events) }
 {
-    let begun = begin_searches(alloc, table, hashes)?;
-    let _ = touch_candidates(alloc, table, forms, &begun)?;
-    end_searches(alloc, table, forms, &begun, work)
+    let pending = begin_searches(alloc, table, hashes)?;
+    let _ = touch_candidates(alloc, table, forms, &pending)?;
+    end_searches(alloc, table, forms, &pending, work)
 }
 
 // Begins a search for each hash.
@@ -143,15 +143,16 @@ fn begin_searches<T: FormInterner>(
     alloc: Global,
     table: &T,
     hashes: &[u64],
-) -> Result<Vec<Begun>, AllocError>
+) -> Result<Vec<PendingSearch>, AllocError>
     ensures { let held = T.state table.now in
-        IfOk result (λ begun. AreBegun T.Content.key (T.hash table.now) held hashes.now begun.items) }
+        IfOk result (λ pending.
+        ArePendingSearches T.Content.key (T.hash table.now) held hashes.now pending.items) }
 {
-    let mut begun = Vec::with_capacity(alloc, hashes.len())?;
+    let mut pending = Vec::with_capacity(alloc, hashes.len())?;
     for place in 0..hashes.len() {
-        begun.push_reserved(table.begin_search(hashes[place]));
+        pending.push_reserved(table.begin_search(hashes[place]));
     }
-    Ok(begun)
+    Ok(pending)
 }
 
 // Reads a byte of each content that will be compared. They are returned as a list, and the call isn't
@@ -161,10 +162,10 @@ fn touch_candidates<T: FormInterner, Q: SoughtIn<T::Store>>(
     alloc: Global,
     table: &T,
     forms: &[Q],
-    begun: &[Begun],
+    pending: &[PendingSearch],
 ) -> Result<Vec<u8>, AllocError> {
     let mut touched = Vec::with_capacity(alloc, forms.len())?;
-    for (form, search) in forms.iter().zip(begun) {
+    for (form, search) in forms.iter().zip(pending) {
         touched.push(table.touch(search, form))?;
     }
     Ok(touched)
@@ -175,11 +176,11 @@ fn end_searches<T: FormInterner, Q: SoughtIn<T::Store>>(
     alloc: Global,
     table: &T,
     forms: &[Q],
-    begun: &[Begun],
+    pending: &[PendingSearch],
     work: &mut Work,
 ) -> Result<Vec<Option<Symbol>>, AllocError>
-    requires begun { let hashes = map (λ q. T.hash table.now (Q.key q)) forms.now in
-        AreBegun T.Content.key (T.hash table.now) (T.state table.now) hashes begun.now }
+    requires pending { let hashes = map (λ q. T.hash table.now (Q.key q)) forms.now in
+        ArePendingSearches T.Content.key (T.hash table.now) (T.state table.now) hashes pending.now }
     ensures symbols { let held = (T.state table.now).contents in
         IfOk result (λ found. found.items ≡ map (λ q. first T.Content.key held (Q.key q)) forms.now) }
     ensures cost { OnOk result (Costs work.old work.new
@@ -188,7 +189,7 @@ fn end_searches<T: FormInterner, Q: SoughtIn<T::Store>>(
 {
     let mut found = Vec::with_capacity(alloc, forms.len())?;
     for place in 0..forms.len() {
-        found.push_reserved(table.end_search(&begun[place], &forms[place], work));
+        found.push_reserved(table.end_search(&pending[place], &forms[place], work));
     }
     Ok(found)
 }
@@ -214,7 +215,7 @@ fn intern_each_form<T: FormInterner, Q: CopiedTo<T::Store>>(
         (T.state table.old) forms.now e cost (T.state table.new))) }
     ensures begins { let held = (T.state table.old).contents in
         OnErr result (take (length held) (T.state table.new).contents ≡ held) }
-    ensures table { KeepsTable T.Content.key (T.hash table.old) (T.state table.old)
+    ensures table { StaysValid T.Content.key (T.hash table.old) (T.state table.old)
         (T.hash table.new) (T.state table.new) }
 {
     let mut symbols = Vec::with_capacity(alloc, forms.len())?;

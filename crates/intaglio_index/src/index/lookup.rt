@@ -4,7 +4,7 @@ ghost use Rattle.std.specs.Prelude.{None, Some, MatchOption, IfSome};
 ghost use Rattle.std.specs.Option.{option_map};
 ghost use Rattle.intaglio_content.specs.Work.{Event, step};
 ghost use Rattle.intaglio_index.specs.Found.{IsFound, IsPassed, IsReached, IsAt};
-ghost use Rattle.intaglio_index.specs.Placed.{chain, bucket_of, head_of, leader_of, leader_with};
+ghost use Rattle.intaglio_index.specs.Placed.{chain, bucket_of, head_of, first_symbol_of, first_symbol_with};
 ghost use Rattle.intaglio_index.specs.Placed.{IsBucket, IsAbsent, BeginsAtOrAbove, IsPredecessor};
 ghost use Rattle.intaglio_index.specs.Links.{entry_of};
 ghost use Rattle.intaglio_symbol.specs.declared.symbol.Symbol.{Symbol};
@@ -29,14 +29,14 @@ impl Index {
         if self.heads.is_empty() {
             return None;
         }
-        self.front(self.modulus.bucket(hash))
+        self.first_entry(self.modulus.bucket(hash))
     }
 
     /// As [`first`](Index::first), but also `None` if the bucket's filter shows that no placed symbol has
     /// this hash. One step.
     ///
     /// A bucket's filter is one byte. A look-up that finds nothing mostly reads nothing else.
-    pub fn seek(&self, hash: u64, work: &mut Work) -> Option<(Symbol, u64)>
+    pub fn first_with_filter(&self, hash: u64, work: &mut Work) -> Option<(Symbol, u64)>
         ensures bucket { IsBucket self.now hash }
         ensures first { IfSome result (λ found. Some found ≡ head_of (bucket_of self.now hash)) }
         ensures none { result ≡ None → IsAbsent self.now hash }
@@ -50,7 +50,7 @@ impl Index {
         if !is_marked(self.filters[bucket], hash) {
             return None;
         }
-        self.front(bucket)
+        self.first_entry(bucket)
     }
 
     /// The first symbol with this hash, if one was placed.
@@ -74,7 +74,7 @@ impl Index {
             return None;
         }
         let head = self.heads[bucket];
-        let word = head.nearest(self.modulus, hash);
+        let word = head.matching_word(self.modulus, hash);
         if !self.modulus.agrees(word, hash) {
             if hash < head.second || head.first == head.second {
                 return None;
@@ -82,11 +82,11 @@ impl Index {
             work.step(); // past the first symbol
             work.step(); // and the second
             let second = self.modulus.symbol(head.second);
-            return self.find_along(self.behind(second), hash, work);
+            return self.find_along(self.next_entry(second), hash, work);
         }
         let symbol = self.modulus.symbol(word);
         if !self.modulus.is_power_of_two() && self.hashes[symbol.id() as usize] != hash {
-            return self.find_along(self.front(bucket), hash, work);
+            return self.find_along(self.first_entry(bucket), hash, work);
         }
         if word == head.first {
             return Some(symbol);
@@ -122,7 +122,7 @@ impl Index {
                 return Some(found.0);
             }
             work.step(); // past this symbol
-            candidate = self.behind(found.0);
+            candidate = self.next_entry(found.0);
         }
         None
     }
@@ -131,12 +131,12 @@ impl Index {
     pub fn find_next(&self, symbol: Symbol, work: &mut Work) -> Option<Symbol>
         requires { symbol < length self.now.hashes }
         ensures next { (b hash : ℕ) (before behind : List (ℕ × ℕ)) →
-            chain self.now b ≡ before ++ (symbol, hash) ∷ behind → result ≡ leader_with hash behind }
+            chain self.now b ≡ before ++ (symbol, hash) ∷ behind → result ≡ first_symbol_with hash behind }
         ensures events { work.new.events ≡ work.old.events ++ step ∷ [] }
     {
         work.step(); // also at the bucket's end
         let hash = self.hashes[symbol.id() as usize];
-        match self.behind(symbol) {
+        match self.next_entry(symbol) {
             None => None,
             Some(found) => { if found.1 == hash { Some(found.0) } else { None } }
         }
@@ -150,14 +150,14 @@ impl Index {
         ensures events { work.new.events ≡ work.old.events ++ step ∷ [] }
     {
         work.step(); // at the bucket's end too
-        self.behind(symbol)
+        self.next_entry(symbol)
     }
 
     // The first symbol of a bucket.
     #[inline(always)]
-    pub(super) fn leader(&self, bucket: usize) -> Option<Symbol>
+    pub(super) fn first_symbol(&self, bucket: usize) -> Option<Symbol>
         requires { bucket < self.now.count }
-        ensures { result ≡ leader_of (chain self.now bucket) }
+        ensures { result ≡ first_symbol_of (chain self.now bucket) }
     {
         if self.filters[bucket] == 0 {
             return None;
@@ -166,14 +166,14 @@ impl Index {
     }
 
     // The first symbol of a bucket, with its hash.
-    fn front(&self, bucket: usize) -> Option<(Symbol, u64)>
+    fn first_entry(&self, bucket: usize) -> Option<(Symbol, u64)>
         requires { bucket < self.now.count }
         ensures { result ≡ head_of (chain self.now bucket) }
     {
-        entry(&self.hashes, self.leader(bucket))
+        entry(&self.hashes, self.first_symbol(bucket))
     }
 
-    fn behind(&self, symbol: Symbol) -> Option<(Symbol, u64)>
+    fn next_entry(&self, symbol: Symbol) -> Option<(Symbol, u64)>
         requires { symbol < length self.now.hashes }
         ensures next { (b hash : ℕ) (before behind : List (ℕ × ℕ)) →
             chain self.now b ≡ before ++ (symbol, hash) ∷ behind → result ≡ head_of behind }
@@ -190,7 +190,7 @@ impl Index {
             (λ last. IsPredecessor hash (bucket_of self.now hash) last) }
     {
         if !self.modulus.is_power_of_two() {
-            return self.last_below(None, self.front(bucket), hash);
+            return self.last_below(None, self.first_entry(bucket), hash);
         }
         let head = self.heads[bucket];
         let high = self.modulus.high(hash);
@@ -201,7 +201,7 @@ impl Index {
             return Some(self.modulus.symbol(head.first));
         }
         let second = self.modulus.symbol(head.second);
-        self.last_below(Some(second), self.behind(second), hash)
+        self.last_below(Some(second), self.next_entry(second), hash)
     }
 
     // As `predecessor`, from a candidate on, where `last` is the symbol before it.
@@ -223,7 +223,7 @@ impl Index {
                 break;
             }
             last = Some(found.0);
-            candidate = self.behind(found.0);
+            candidate = self.next_entry(found.0);
         }
         last
     }

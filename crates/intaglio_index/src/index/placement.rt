@@ -60,7 +60,7 @@ impl Index {
         ensures room { self.new.room ≡ self.old.room }
         ensures fits { self.new.room ≤ self.new.count }
     {
-        let leader = self.leader(bucket);
+        let first_symbol = self.first_symbol(bucket);
         let place = self.predecessor(bucket, hash);
         let word = self.modulus.word(hash, symbol);
         let head = self.heads[bucket];
@@ -68,11 +68,11 @@ impl Index {
         self.hashes.push_reserved(hash);
         match place {
             None => {
-                self.heads[bucket] = head.led(leader.is_none(), word);
-                self.links.push_reserved(leader.unwrap_or(symbol));
+                self.heads[bucket] = head.with_first(first_symbol.is_none(), word);
+                self.links.push_reserved(first_symbol.unwrap_or(symbol));
             }
             Some(last) => {
-                self.heads[bucket] = head.followed(leader, last, word);
+                self.heads[bucket] = head.with_after(first_symbol, last, word);
                 let link = next(&self.links, last).unwrap_or(symbol);
                 self.links.push_reserved(link);
                 self.links[last.id() as usize] = symbol;
@@ -95,19 +95,19 @@ impl Index {
     /// the buckets and the capacity stay.
     ///
     /// Costs a walk along a bucket for each removed symbol.
-    pub fn cut(&mut self, count: usize)
+    pub fn truncate(&mut self, count: usize)
         requires { count ≤ length self.old.hashes }
         ensures hashes { self.new.hashes ≡ take count self.old.hashes }
         ensures count { self.new.count ≡ self.old.count }
         ensures room { self.new.room ≡ self.old.room }
     {
         while self.placed() > count {
-            self.unplace();
+            self.remove_last();
         }
     }
 
     // Removes the last symbol from its bucket.
-    fn unplace(&mut self)
+    fn remove_last(&mut self)
         requires { 0 < length self.old.hashes }
         ensures hashes { self.new.hashes ≡ take (length self.old.hashes - 1) self.old.hashes }
         ensures count { self.new.count ≡ self.old.count }

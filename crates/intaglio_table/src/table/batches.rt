@@ -4,7 +4,7 @@ ghost use Rattle.intaglio_content.specs.Key.{hash_of};
 ghost use Rattle.intaglio_core.specs.State.{first};
 ghost use Rattle.intaglio_core.specs.Lookup.{FindsEach, FindsEachKey, Keeps, StoresEach, StoresEachKey};
 ghost use Rattle.intaglio_core.specs.Issue.{interned_all, issue_from};
-ghost use Rattle.intaglio_core.specs.Batch.{IfOverflow, KeepsTable};
+ghost use Rattle.intaglio_core.specs.Batch.{IfOverflow, StaysValid};
 
 use super::{Table, TableOver};
 use intaglio_core::{
@@ -47,7 +47,7 @@ impl<C: Content + Sought<C> + Drop, S: BuildHasher> Table<C, S> {
         ensures overflow { let all = interned_all C.key self.old.state.contents contents.items in
             IfErr result (λ e. IfOverflow e (self.old.state.limit < length all)) }
         ensures table { let hash = hash_of S.BuildHasher S.Hasher.Hasher in
-            KeepsTable C.key (hash self.old.hasher) self.old.state (hash self.new.hasher) self.new.state }
+            StaysValid C.key (hash self.old.hasher) self.old.state (hash self.new.hasher) self.new.state }
     {
         let alloc = self.core.allocator();
         intern_all(alloc, &mut self.core, contents, &mut Work::new())
@@ -118,7 +118,7 @@ where
             let all = interned_all L.Content.key_of held (map L.By.form_spelling forms.now) in
             IfErr result (λ e. IfOverflow e (self.old.state.limit < length all)) }
         ensures table { let hash = hash_of S.BuildHasher S.Hasher.Hasher in
-            KeepsTable L.Content.key (hash self.old.hasher) self.old.state (hash self.new.hasher) self.new.state }
+            StaysValid L.Content.key (hash self.old.hasher) self.old.state (hash self.new.hasher) self.new.state }
     {
         let alloc = self.core.allocator();
         get_or_intern_all(alloc, &mut self.core, forms, &mut Work::new())

@@ -1,6 +1,6 @@
 //! Calls of a table by borrowed forms, whose results are text.
 use super::contents::Shown;
-use super::printed::{listed, said, spelled};
+use super::printed::{reply_text, spelled, symbols_text};
 use crate::replies::interned;
 use intaglio::{Formed, LookedUp, Reply, Sought, Symbol, Table};
 use std::alloc::{AllocError, Global};
@@ -53,7 +53,7 @@ where
     C::Form: Shown,
 {
     let reply = match ask {
-        Ask::GetOrInternAll => return listed(rt, alloc, table.get_or_intern_all(&forms)),
+        Ask::GetOrInternAll => return symbols_text(rt, alloc, table.get_or_intern_all(&forms)),
         Ask::CheckAll => return found(rt, alloc, table.check_all(&forms)),
         Ask::GetOrIntern => interned(table.get_or_intern(only(rt, forms))),
         Ask::CheckInterned => Reply::Symbol(table.check_interned(only(rt, forms))),
@@ -62,7 +62,7 @@ where
         Ask::Get(symbol) => stored(alloc, table, symbol),
         Ask::Index(symbol) => index(alloc, table, symbol),
     };
-    said(rt, alloc, &reply)
+    reply_text(rt, alloc, &reply)
 }
 
 // What a batch of look-ups returns.

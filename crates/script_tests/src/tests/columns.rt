@@ -1,5 +1,5 @@
 //! Scripts whose calls one call of `run` makes, on tables of each kind.
-use super::contents::Made;
+use super::contents::TestContent;
 use super::each::{Trial, on_each, on_paths};
 use super::runs::runs;
 use super::table::{Make, make_table};
@@ -14,7 +14,7 @@ struct Run {
 }
 
 impl Trial for Run {
-    fn try_on<C: Made, R: Abort>(&self, rt: &R, alloc: Global) {
+    fn try_on<C: TestContent, R: Abort>(&self, rt: &R, alloc: Global) {
         let table = make_table::<C>(alloc, Make::Limited(self.limit)).expect(rt, "no table");
         runs(rt, alloc, table, self.script);
     }

@@ -14,7 +14,7 @@ use std::str;
 use test_hashers::builders::HasherCount;
 
 /// A content that can be made from any spelling of its kind, and what differs between tables of the kinds.
-pub trait Made: Spelled + Sought<Self> + Drop {
+pub trait TestContent: Spelled + Sought<Self> + Drop {
     /// An owned content.
     fn owned(alloc: Global, spelling: &[u8]) -> Option<Self>;
 
@@ -46,7 +46,7 @@ fn text_of(alloc: Global, spelling: &[u8]) -> Option<String> {
     str::from_utf8(spelling).ok()?.to_string(alloc).ok()
 }
 
-impl Made for StrContent {
+impl TestContent for StrContent {
     fn owned(alloc: Global, spelling: &[u8]) -> Option<StrContent> {
         Some(StrContent::from(text_of(alloc, spelling)?))
     }
@@ -83,7 +83,7 @@ impl Made for StrContent {
     }
 }
 
-impl Made for OsStrContent {
+impl TestContent for OsStrContent {
     fn owned(alloc: Global, spelling: &[u8]) -> Option<OsStrContent> {
         Some(OsStrContent::from(text_of(alloc, spelling)?))
     }
@@ -120,7 +120,7 @@ impl Made for OsStrContent {
     }
 }
 
-impl Made for BytesContent {
+impl TestContent for BytesContent {
     fn owned(alloc: Global, spelling: &[u8]) -> Option<BytesContent> {
         Some(BytesContent::from(spelling.to_vec(alloc).ok()?))
     }
@@ -157,7 +157,7 @@ impl Made for BytesContent {
     }
 }
 
-impl Made for BStrContent {
+impl TestContent for BStrContent {
     fn owned(alloc: Global, spelling: &[u8]) -> Option<BStrContent> {
         Some(BStrContent::Owned(spelling.to_vec(alloc).ok()?.into()))
     }
@@ -194,7 +194,7 @@ impl Made for BStrContent {
     }
 }
 
-impl Made for CStrContent {
+impl TestContent for CStrContent {
     fn owned(alloc: Global, spelling: &[u8]) -> Option<CStrContent> {
         let bytes = spelling.to_vec(alloc).ok()?;
         Some(CStrContent::from(CString::new(alloc, bytes).ok()?))
@@ -232,7 +232,7 @@ impl Made for CStrContent {
     }
 }
 
-impl Made for PathContent {
+impl TestContent for PathContent {
     fn owned(alloc: Global, spelling: &[u8]) -> Option<PathContent> {
         Some(PathContent::from(text_of(alloc, spelling)?))
     }
@@ -270,19 +270,19 @@ impl Made for PathContent {
 }
 
 /// An owned content of this spelling.
-pub fn content<C: Made>(rt: &impl Abort, alloc: Global, spelling: &[u8]) -> C {
+pub fn content<C: TestContent>(rt: &impl Abort, alloc: Global, spelling: &[u8]) -> C {
     C::owned(alloc, spelling).expect(rt, "no such content")
 }
 
 /// A content alone.
-pub fn alone<C: Drop>(rt: &impl Abort, alloc: Global, content: C) -> Vec<C> {
+pub fn vec_of_one<C: Drop>(rt: &impl Abort, alloc: Global, content: C) -> Vec<C> {
     let mut contents = Vec::new(alloc);
     contents.push(content).expect(rt, "memory");
     contents
 }
 
 /// A borrowed content of this spelling, which a zero follows.
-pub fn lent<C: Made>(rt: &impl Abort, ended: &'static str) -> C {
+pub fn borrowed_content<C: TestContent>(rt: &impl Abort, ended: &'static str) -> C {
     C::borrowed(ended).expect(rt, "no such content")
 }
 

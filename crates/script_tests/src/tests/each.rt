@@ -1,9 +1,9 @@
 //! What is run on tables of each of the six kinds: scripts, steps on iterators, and more.
 use super::assertions::same;
 use super::calls::Ask;
-use super::contents::Made;
+use super::contents::TestContent;
 use super::loops::{gives, interns, keeps};
-use super::printed::said;
+use super::printed::reply_text;
 use super::script::{Line, plays, same_text, way};
 use super::steps::{Steps, walks};
 use super::table::{Make, Table, make_table};
@@ -21,7 +21,7 @@ use test_hashers::builders::{Counted, hash_of};
 /// What can be tried on tables of any kind.
 pub trait Trial {
     /// Tries it on tables of this kind of content, which it makes.
-    fn try_on<C: Made, R: Abort>(&self, rt: &R, alloc: Global);
+    fn try_on<C: TestContent, R: Abort>(&self, rt: &R, alloc: Global);
 }
 
 /// Runs the trial on tables of each kind.
@@ -44,14 +44,14 @@ pub fn on_paths<Q: Trial>(rt: &impl Abort, alloc: Global, trial: &Q) {
 pub struct Script(pub &'static str);
 
 impl Trial for Script {
-    fn try_on<C: Made, R: Abort>(&self, rt: &R, alloc: Global) {
+    fn try_on<C: TestContent, R: Abort>(&self, rt: &R, alloc: Global) {
         for part in self.0.split("\n\n") {
             plays_part::<C>(rt, alloc, part);
         }
     }
 }
 
-fn plays_part<C: Made>(rt: &impl Abort, alloc: Global, part: &'static str) {
+fn plays_part<C: TestContent>(rt: &impl Abort, alloc: Global, part: &'static str) {
     let (first, rest) = part.split_once('\n').unwrap_or((part, ""));
     let line = Line::of(first).expect(rt, first);
     match make_table::<C>(alloc, way(rt, line).expect(rt, first)) {
@@ -60,7 +60,7 @@ fn plays_part<C: Made>(rt: &impl Abort, alloc: Global, part: &'static str) {
             plays(rt, alloc, &mut table, rest);
         }
         Err(refused) => {
-            let answer = said(rt, alloc, &roomy(Err(refused)));
+            let answer = reply_text(rt, alloc, &roomy(Err(refused)));
             same_text(rt, answer.as_str(), line.wanted, first);
         }
     }
@@ -74,7 +74,7 @@ pub struct Walked {
 }
 
 impl Trial for Walked {
-    fn try_on<C: Made, R: Abort>(&self, rt: &R, alloc: Global) {
+    fn try_on<C: TestContent, R: Abort>(&self, rt: &R, alloc: Global) {
         let mut table = make_table::<C>(alloc, Make::New).expect(rt, "no table");
         plays(rt, alloc, &mut table, self.words);
         walks(rt, alloc, table.symbols(), self.steps.symbols);
@@ -87,7 +87,7 @@ impl Trial for Walked {
 pub struct RunOut;
 
 impl Trial for RunOut {
-    fn try_on<C: Made, R: Abort>(&self, rt: &R, alloc: Global) {
+    fn try_on<C: TestContent, R: Abort>(&self, rt: &R, alloc: Global) {
         let empty = make_table::<C>(alloc, Make::New).expect(rt, "no table");
         let mut one = make_table::<C>(alloc, Make::New).expect(rt, "no table");
         interns(rt, alloc, &mut one, b"a", 0);
@@ -106,7 +106,7 @@ fn run_out(rt: &impl Abort, mut one: AllSymbols<'_>, empty: AllSymbols<'_>) {
 pub struct Kept<'a>(pub &'a [u8]);
 
 impl<'a> Trial for Kept<'a> {
-    fn try_on<C: Made, R: Abort>(&self, rt: &R, alloc: Global) {
+    fn try_on<C: TestContent, R: Abort>(&self, rt: &R, alloc: Global) {
         let mut table = make_table::<C>(alloc, Make::New).expect(rt, "no table");
         gives(rt, alloc, &mut table, self.0, Ask::IsInterned, "false");
         keeps(rt, alloc, &mut table, self.0, 0);
@@ -124,7 +124,7 @@ pub struct Hashed {
 }
 
 impl Trial for Hashed {
-    fn try_on<C: Made, R: Abort>(&self, rt: &R, alloc: Global) {
+    fn try_on<C: TestContent, R: Abort>(&self, rt: &R, alloc: Global) {
         let hasher = Counted::new(self.fixed);
         let made = intaglio::Table::<C, Counted>::with_capacity_and_hasher(
             alloc,

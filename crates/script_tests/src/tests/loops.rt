@@ -1,6 +1,6 @@
 //! Calls on many contents, whose expected results are computed.
 use super::calls::Ask;
-use super::contents::{alone, content};
+use super::contents::{content, vec_of_one};
 use super::printed::{number, text};
 use super::table::Table;
 use intaglio::{Reply, Symbol};
@@ -33,7 +33,7 @@ pub fn gives<T: Table>(
     ask: Ask,
     wanted: &str,
 ) {
-    let contents = alone(rt, alloc, content(rt, alloc, spelling));
+    let contents = vec_of_one(rt, alloc, content(rt, alloc, spelling));
     let answer = table.ask(rt, alloc, &contents, ask);
     assert_eq!(rt; answer.as_str(), wanted);
 }

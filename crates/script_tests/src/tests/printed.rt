@@ -23,7 +23,7 @@ pub fn paired<F: Shown>(alloc: Global, symbol: Symbol, form: F) -> Reply {
 }
 
 /// A reply as text.
-pub fn said(rt: &impl Abort, alloc: Global, reply: &Reply) -> String {
+pub fn reply_text(rt: &impl Abort, alloc: Global, reply: &Reply) -> String {
     match reply {
         Reply::Symbol(Some(symbol)) => number(rt, alloc, symbol.id() as usize),
         Reply::Pair(Some(pair)) => numbered(rt, alloc, pair.0, pair.1.as_slice()),
@@ -35,10 +35,14 @@ pub fn said(rt: &impl Abort, alloc: Global, reply: &Reply) -> String {
 }
 
 /// The symbols of a batch as text, or the error.
-pub fn listed(rt: &impl Abort, alloc: Global, symbols: Result<Vec<Symbol>, InternError>) -> String {
+pub fn symbols_text(
+    rt: &impl Abort,
+    alloc: Global,
+    symbols: Result<Vec<Symbol>, InternError>,
+) -> String {
     match symbols {
         Ok(symbols) => format!(in alloc; "{symbols:?}").expect(rt, "memory"),
-        Err(refused) => said(rt, alloc, &interned(Err(refused))),
+        Err(refused) => reply_text(rt, alloc, &interned(Err(refused))),
     }
 }
 

@@ -1,6 +1,6 @@
 //! Makes the calls of a script by one call of `run`.
-use super::contents::{Made, content, lent};
-use super::printed::said;
+use super::contents::{TestContent, borrowed_content, content};
+use super::printed::reply_text;
 use super::script::{Line, same_text, size, symbol};
 use intaglio::{Call, Interner, Mark, Reply, Work, run};
 use std::alloc::Global;
@@ -9,7 +9,7 @@ use std::process::Abort;
 /// Makes the calls of a script in one run.
 pub fn runs<T: Interner + Drop>(rt: &impl Abort, alloc: Global, mut table: T, script: &'static str)
 where
-    T::Content: Made,
+    T::Content: TestContent,
 {
     let calls = calls_of(rt, alloc, script);
     let replies = run(alloc, &mut table, calls, &mut Work::new()).expect(rt, "memory");
@@ -21,11 +21,11 @@ fn agree(rt: &impl Abort, alloc: Global, script: &'static str, replies: &[Reply]
     assert_eq!(rt; replies.len(), script.lines().count());
     for (text, reply) in script.lines().zip(replies.iter()) {
         let line = Line::of(text).expect(rt, text);
-        same_text(rt, said(rt, alloc, reply).as_str(), line.wanted, text);
+        same_text(rt, reply_text(rt, alloc, reply).as_str(), line.wanted, text);
     }
 }
 
-fn calls_of<C: Made>(rt: &impl Abort, alloc: Global, script: &'static str) -> Vec<Call<C>> {
+fn calls_of<C: TestContent>(rt: &impl Abort, alloc: Global, script: &'static str) -> Vec<Call<C>> {
     let mut calls = Vec::new(alloc);
     for text in script.lines() {
         let line = Line::of(text).expect(rt, text);
@@ -35,10 +35,10 @@ fn calls_of<C: Made>(rt: &impl Abort, alloc: Global, script: &'static str) -> Ve
     calls
 }
 
-fn call_of<C: Made>(rt: &impl Abort, alloc: Global, line: Line) -> Option<Call<C>> {
+fn call_of<C: TestContent>(rt: &impl Abort, alloc: Global, line: Line) -> Option<Call<C>> {
     match line.name {
         "intern" => Some(Call::Intern(content(rt, alloc, line.word.as_bytes()))),
-        "lend" => Some(Call::Intern(lent(rt, line.word))),
+        "lend" => Some(Call::Intern(borrowed_content(rt, line.word))),
         "check" => Some(Call::Check(content(rt, alloc, line.word.as_bytes()))),
         "get_interned" => Some(Call::GetInterned(content(rt, alloc, line.word.as_bytes()))),
         "is_interned" => Some(Call::IsInterned(content(rt, alloc, line.word.as_bytes()))),

@@ -1,8 +1,8 @@
 //! Scripts: each line has a call and its expected result.
 use super::calls::Ask;
-use super::contents::{Made, alone, content, lent};
+use super::contents::{TestContent, borrowed_content, content, vec_of_one};
 use super::loops::{checks_numbers, finds_numbers, interns_numbers, keeps_numbers};
-use super::printed::{listed, said};
+use super::printed::{reply_text, symbols_text};
 use super::table::{Counts, Make, Table, Update};
 use crate::replies::counted;
 use intaglio::{Mark, Reply, Symbol};
@@ -65,10 +65,10 @@ pub fn plays<T: Table>(rt: &impl Abort, alloc: Global, table: &mut T, script: &'
 // What the table returns for one call.
 fn answers<T: Table>(rt: &impl Abort, alloc: Global, table: &mut T, line: Line) -> Option<String> {
     if let Some(reply) = replies(rt, alloc, table, line) {
-        return Some(said(rt, alloc, &reply));
+        return Some(reply_text(rt, alloc, &reply));
     }
     if let Some(ask) = ask(rt, line) {
-        let contents = alone(rt, alloc, content(rt, alloc, line.word.as_bytes()));
+        let contents = vec_of_one(rt, alloc, content(rt, alloc, line.word.as_bytes()));
         return Some(table.ask(rt, alloc, &contents, ask));
     }
     batches(rt, alloc, table, line)
@@ -77,7 +77,7 @@ fn answers<T: Table>(rt: &impl Abort, alloc: Global, table: &mut T, line: Line) 
 fn replies<T: Table>(rt: &impl Abort, alloc: Global, table: &mut T, line: Line) -> Option<Reply> {
     match line.name {
         "intern" => Some(table.put(content(rt, alloc, line.word.as_bytes()))),
-        "lend" => Some(table.put(lent(rt, line.word))),
+        "lend" => Some(table.put(borrowed_content(rt, line.word))),
         "get_interned" => Some(table.pair(alloc, &content(rt, alloc, line.word.as_bytes()))),
         "intern_numbers" => Some(interns_numbers(rt, alloc, table, size(rt, line.word))),
         "keep_numbers" => Some(keeps_numbers(rt, alloc, table, size(rt, line.word))),
@@ -131,15 +131,15 @@ fn ask(rt: &impl Abort, line: Line) -> Option<Ask> {
 fn batches<T: Table>(rt: &impl Abort, alloc: Global, table: &mut T, line: Line) -> Option<String> {
     let words = contents(rt, alloc, line.word);
     match line.name {
-        "intern_all" => Some(listed(rt, alloc, table.put_all(words))),
-        "intaglio::intern_all" => Some(listed(rt, alloc, table.put_counted(alloc, words))),
+        "intern_all" => Some(symbols_text(rt, alloc, table.put_all(words))),
+        "intaglio::intern_all" => Some(symbols_text(rt, alloc, table.put_counted(alloc, words))),
         "get_or_intern_all" => Some(table.ask(rt, alloc, &words, Ask::GetOrInternAll)),
         "check_all" => Some(table.ask(rt, alloc, &words, Ask::CheckAll)),
         _ => None,
     }
 }
 
-fn contents<C: Made>(rt: &impl Abort, alloc: Global, words: &'static str) -> Vec<C> {
+fn contents<C: TestContent>(rt: &impl Abort, alloc: Global, words: &'static str) -> Vec<C> {
     let mut contents = Vec::new(alloc);
     for word in words.split_whitespace() {
         contents

@@ -1,6 +1,6 @@
 //! A trait with the calls of a table and no contract, so that its callers are proved without that of each call.
 use super::calls::Ask;
-use super::contents::Made;
+use super::contents::TestContent;
 use super::steps::Steps;
 use crate::replies::{interned, roomy, taken};
 use intaglio::{AllSymbols, InternError, Mark, Reply, RoomError, Symbol, Work, intern_all};
@@ -55,7 +55,7 @@ pub struct Counts {
 /// A table, by its own calls.
 pub trait Table: Drop {
     /// What it stores.
-    type Kind: Made;
+    type Kind: TestContent;
 
     /// As `intern`.
     fn put(&mut self, content: Self::Kind) -> Reply;
@@ -89,7 +89,7 @@ pub trait Table: Drop {
     fn go<R: Abort>(&self, rt: &R, alloc: Global, steps: Steps);
 }
 
-impl<C: Made, S: HasherCount> Table for intaglio::Table<C, S> {
+impl<C: TestContent, S: HasherCount> Table for intaglio::Table<C, S> {
     type Kind = C;
 
     fn put(&mut self, content: C) -> Reply {
@@ -147,7 +147,7 @@ impl<C: Made, S: HasherCount> Table for intaglio::Table<C, S> {
 }
 
 /// Makes a table with std's builder of fixed seed.
-pub fn make_table<C: Made>(
+pub fn make_table<C: TestContent>(
     alloc: Global,
     how: Make,
 ) -> Result<intaglio::Table<C, Fold>, RoomError> {

@@ -79,11 +79,11 @@ fn a_search_finds_the_symbols_of_its_hash(rt: HostRuntime) {
 #[test]
 fn a_cut_leaves_the_first_symbols(rt: HostRuntime) {
     let mut index = filled(&rt, &[13, 3, 23, 8, 13]);
-    index.cut(5);
+    index.truncate(5);
     meets(&rt, &index, 5, 3, &[1, 3, 4, 0, 2]);
-    index.cut(3);
+    index.truncate(3);
     meets(&rt, &index, 3, 3, &[1, 0, 2]);
-    index.cut(0);
+    index.truncate(0);
     meets(&rt, &index, 0, 3, &[]);
     same(&rt, (index.bucket_count(), index.room()), (5, 5));
 }
@@ -104,7 +104,7 @@ fn a_cleared_index_takes_symbols_again(rt: HostRuntime) {
 fn a_shrink_keeps_symbols(rt: HostRuntime) {
     let mut work = Work::new();
     let mut index = filled(&rt, &[13, 3, 23, 8, 14]);
-    index.cut(3);
+    index.truncate(3);
     index.rebuild(3, &mut work).expect(&rt, "no memory");
     same(&rt, (index.bucket_count(), index.room()), (3, 3));
     meets(&rt, &index, 3, 0, &[1]);

@@ -1,6 +1,6 @@
 use Rattle.std.proofs.Common.{◌≡◌, ◌<◌, length, take, rules}
 use Rattle.std.proofs.lemmas.List.{take_all, take_more}
-use Rattle.intaglio_core.proofs.Starts.{AreBegun-push}
+use Rattle.intaglio_core.proofs.Starts.{ArePendingSearches-push}
 use Rattle.intaglio_core.proofs.batch.forms.begin_searches.Goals as goal
 
 pub loop-place-preserved : goal.loop-place-preserved
@@ -8,7 +8,7 @@ loop-place-preserved g c =
     let lt : c.loop-place.place < length c.args.hashes.now = search rules in
     let more = take_more c.args.hashes.now c.loop-place.place 0 lt in
     record {
-      begun = rw (c.push_reserved.ensures.items, more) (AreBegun-push g.T.Content.Keyed.key (g.T.FormInterner.hash c.args.table.now) (g.T.FormInterner.state c.args.table.now) _ _ _ c.begin_search.result c.loop-place.invariant.begun c.begin_search.ensures);
+      pending = rw (c.push_reserved.ensures.items, more) (ArePendingSearches-push g.T.Content.Keyed.key (g.T.FormInterner.hash c.args.table.now) (g.T.FormInterner.state c.args.table.now) _ _ _ c.begin_search.result c.loop-place.invariant.pending c.begin_search.ensures);
       count = search rules;
       room = search rules;
     }
@@ -16,4 +16,4 @@ loop-place-preserved g c =
 pub returns : goal.returns
 returns g c =
     let all : take c.loop-place.place c.args.hashes.now ≡ c.args.hashes.now = take_all c.loop-place.place c.args.hashes.now (search rules) in
-    rw all at c.loop-place.invariant.begun
+    rw all at c.loop-place.invariant.pending

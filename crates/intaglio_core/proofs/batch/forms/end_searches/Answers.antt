@@ -1,20 +1,20 @@
 use Rattle.std.proofs.Common.{◌≡◌, ◌<◌, length, take, refl, rules}
 use Rattle.std.proofs.lemmas.List.{map-append, take_all}
-use Rattle.intaglio_core.proofs.Starts.{AreBegun-length, begun-at}
+use Rattle.intaglio_core.proofs.Starts.{ArePendingSearches-length, pending-at}
 use Rattle.intaglio_core.proofs.ByForm.{next-part, Adds-search_form}
 use Rattle.intaglio_core.proofs.batch.forms.end_searches.Goals as goal
 
-pub bounds-begun-place : goal.bounds-begun-place
-bounds-begun-place g c =
+pub bounds-pending-place : goal.bounds-pending-place
+bounds-pending-place g c =
     let lt : c.loop-place.place < length c.args.forms.now = search rules in
-    let same = AreBegun-length g.T.Content.Keyed.key (g.T.FormInterner.hash c.args.table.now) (g.T.FormInterner.state c.args.table.now) (λ q. g.T.FormInterner.hash c.args.table.now (g.Q.Keyed.key q)) c.args.forms.now c.args.begun.now c.requires.begun in
+    let same = ArePendingSearches-length g.T.Content.Keyed.key (g.T.FormInterner.hash c.args.table.now) (g.T.FormInterner.state c.args.table.now) (λ q. g.T.FormInterner.hash c.args.table.now (g.Q.Keyed.key q)) c.args.forms.now c.args.pending.now c.requires.pending in
     rw same lt
 
 pub end_search-requires : goal.end_search-requires
 end_search-requires g c =
     let lt : c.loop-place.place < length c.args.forms.now = search rules in
     record {
-      begun = begun-at g.T.Content.Keyed.key (g.T.FormInterner.hash c.args.table.now) (g.T.FormInterner.state c.args.table.now) (λ q. g.T.FormInterner.hash c.args.table.now (g.Q.Keyed.key q)) c.args.forms.now c.args.begun.now c.loop-place.place c.index-forms-place.result c.index-begun-place.result c.requires.begun lt c.index-forms-place.is c.index-begun-place.is;
+      pending = pending-at g.T.Content.Keyed.key (g.T.FormInterner.hash c.args.table.now) (g.T.FormInterner.state c.args.table.now) (λ q. g.T.FormInterner.hash c.args.table.now (g.Q.Keyed.key q)) c.args.forms.now c.args.pending.now c.loop-place.place c.index-forms-place.result c.index-pending-place.result c.requires.pending lt c.index-forms-place.is c.index-pending-place.is;
     }
 
 pub loop-place-preserved : goal.loop-place-preserved

@@ -25,14 +25,14 @@ occupied c =
 
 -- neither word agrees
 module _ (c : After-agrees) (unmet : c.agrees.result ≡ false) where
-  differs : c.nearest-word.result / (c.self.inside.modulus.mask + 1) ≢ c.args.hash / (c.self.inside.modulus.mask + 1)
+  differs : c.matching_word-word.result / (c.self.inside.modulus.mask + 1) ≢ c.args.hash / (c.self.inside.modulus.mask + 1)
   differs q = true≢false (sym (c.agrees.ensures.1 q) ∙ unmet)
 
   first_differs : c.index-head.result.now.first / (c.self.inside.modulus.mask + 1) ≢ c.args.hash / (c.self.inside.modulus.mask + 1)
-  first_differs q = differs (ap (λ w. w / (c.self.inside.modulus.mask + 1)) (c.nearest-word.ensures.first q) ∙ q)
+  first_differs q = differs (ap (λ w. w / (c.self.inside.modulus.mask + 1)) (c.matching_word-word.ensures.first q) ∙ q)
 
   second_differs : c.index-head.result.now.second / (c.self.inside.modulus.mask + 1) ≢ c.args.hash / (c.self.inside.modulus.mask + 1)
-  second_differs q = differs (ap (λ w. w / (c.self.inside.modulus.mask + 1)) (c.nearest-word.ensures.second first_differs) ∙ q)
+  second_differs q = differs (ap (λ w. w / (c.self.inside.modulus.mask + 1)) (c.matching_word-word.ensures.second first_differs) ∙ q)
 
 pub returns-then-hash-head-clause-none : goal.returns-then-hash-head-clause-none
 returns-then-hash-head-clause-none c =
@@ -48,8 +48,8 @@ symbol-second-requires-clause-number c =
     let all = (goal.at.symbol-second-requires-clause-number c).After-agrees in
     omega (arith, second_within _ _ _ _ (occupied all), placed_is all, c.self.invariant.linked.numbered)
 
-pub behind-requires : goal.behind-requires
-behind-requires c = rw c.symbol-second.ensures (second_within _ _ _ _ (occupied (goal.at.behind-requires c).After-agrees))
+pub next_entry-requires : goal.next_entry-requires
+next_entry-requires c = rw c.symbol-second.ensures (second_within _ _ _ _ (occupied (goal.at.next_entry-requires c).After-agrees))
 
 reached : (c : After-symbol-second) (candidate : Option (ℕ × ℕ)) →
     ((b hash : ℕ) (before behind : List (ℕ × ℕ)) → chain c.args.self.now b ≡ before ++ (c.symbol-second.result, hash) ∷ behind → candidate ≡ head_of behind) →
@@ -62,37 +62,37 @@ reached c candidate after =
     (λ b hash before behind split. after b hash before behind (split ∙ ap (λ s. before ++ (s, hash) ∷ behind) (sym c.symbol-second.ensures)))
 
 pub find_along-requires : goal.find_along-requires
-find_along-requires c = (c.args.work.now.events, reached (goal.at.find_along-requires c).After-symbol-second c.behind.result c.behind.ensures.next)
+find_along-requires c = (c.args.work.now.events, reached (goal.at.find_along-requires c).After-symbol-second c.next_entry.result c.next_entry.ensures.next)
 
 pub returns-then-not-agrees-clause-found : goal.returns-then-not-agrees-clause-found
 returns-then-not-agrees-clause-found c =
-    let at = reached (goal.at.returns-then-not-agrees-clause-found c).After-symbol-second c.behind.result c.behind.ensures.next in
+    let at = reached (goal.at.returns-then-not-agrees-clause-found c).After-symbol-second c.next_entry.result c.next_entry.ensures.next in
     let path : List (ℕ × ℕ) = chain c.args.self.now (c.args.hash % c.args.self.now.count) in
-    each_some (λ s. (start : List Event) → IsReached c.args.hash path start c.step-then-not-agrees-2.new.self.events c.behind.result → IsFound c.args.hash path start c.find_along.new.work.events s)
+    each_some (λ s. (start : List Event) → IsReached c.args.hash path start c.step-then-not-agrees-2.new.self.events c.next_entry.result → IsFound c.args.hash path start c.find_along.new.work.events s)
     (λ s. IsFound c.args.hash path c.args.work.now.events c.find_along.new.work.events s) c.find_along.result (λ s f. f c.args.work.now.events at) c.find_along.ensures.found
 
 pub returns-then-not-agrees-clause-passed : goal.returns-then-not-agrees-clause-passed
 returns-then-not-agrees-clause-passed c =
-    λ e. c.find_along.ensures.passed e c.args.work.now.events (reached (goal.at.returns-then-not-agrees-clause-passed c).After-symbol-second c.behind.result c.behind.ensures.next)
+    λ e. c.find_along.ensures.passed e c.args.work.now.events (reached (goal.at.returns-then-not-agrees-clause-passed c).After-symbol-second c.next_entry.result c.next_entry.ensures.next)
 
 pub symbol-symbol-requires-clause-number : goal.symbol-symbol-requires-clause-number
 symbol-symbol-requires-clause-number c =
     let all = (goal.at.symbol-symbol-requires-clause-number c).After-agrees in
-    omega (arith, nearest_within _ _ _ c.args.hash c.nearest-word.result _ (occupied all) c.nearest-word.ensures.first c.nearest-word.ensures.second, placed_is all, c.self.invariant.linked.numbered)
+    omega (arith, nearest_within _ _ _ c.args.hash c.matching_word-word.result _ (occupied all) c.matching_word-word.ensures.first c.matching_word-word.ensures.second, placed_is all, c.self.invariant.linked.numbered)
 
 pub index-requires-then-not-is_power_of_two : goal.index-requires-then-not-is_power_of_two
 index-requires-then-not-is_power_of_two c =
     let all = (goal.at.index-requires-then-not-is_power_of_two c).After-agrees in
-    omega (arith, nearest_within _ _ _ c.args.hash c.nearest-word.result _ (occupied all) c.nearest-word.ensures.first c.nearest-word.ensures.second, placed_is all, c.id.ensures, c.symbol-symbol.ensures, c.self.inside.hashes.ok.0)
+    omega (arith, nearest_within _ _ _ c.args.hash c.matching_word-word.result _ (occupied all) c.matching_word-word.ensures.first c.matching_word-word.ensures.second, placed_is all, c.id.ensures, c.symbol-symbol.ensures, c.self.inside.hashes.ok.0)
 
 pub returns-then-word-head-clause-found : goal.returns-then-word-head-clause-found
 returns-then-word-head-clause-found c =
     let all = (goal.at.returns-then-word-head-clause-found c).After-agrees in
-    let within : c.nearest-word.result % (c.self.inside.modulus.mask + 1) < length c.args.self.now.hashes = nearest_within _ _ _ c.args.hash c.nearest-word.result _ (occupied all) c.nearest-word.ensures.first c.nearest-word.ensures.second in
-    let sure : (get_or c.args.self.now.hashes (c.nearest-word.result % (c.self.inside.modulus.mask + 1)) 0 ≡ c.args.hash) ⊎ (c.args.self.now.count ≡ c.self.inside.modulus.mask + 1) =
+    let within : c.matching_word-word.result % (c.self.inside.modulus.mask + 1) < length c.args.self.now.hashes = nearest_within _ _ _ c.args.hash c.matching_word-word.result _ (occupied all) c.matching_word-word.ensures.first c.matching_word-word.ensures.second in
+    let sure : (get_or c.args.self.now.hashes (c.matching_word-word.result % (c.self.inside.modulus.mask + 1)) 0 ≡ c.args.hash) ⊎ (c.args.self.now.count ≡ c.self.inside.modulus.mask + 1) =
     elim c.else-not-is_power_of_two.branch [
       | else-not-is_power_of_two-via-then-not-is_power_of_two+else-index-hash w ↦
-          inl (hash_read c.args.self.now.hashes (c.nearest-word.result % (c.self.inside.modulus.mask + 1)) _ _ within (rw (← c.self.view_is) w.index-then-not-is_power_of_two.ensures) (w.id.ensures ∙ c.symbol-symbol.ensures) ∙ w.if-index-hash.false)
+          inl (hash_read c.args.self.now.hashes (c.matching_word-word.result % (c.self.inside.modulus.mask + 1)) _ _ within (rw (← c.self.view_is) w.index-then-not-is_power_of_two.ensures) (w.id.ensures ∙ c.symbol-symbol.ensures) ∙ w.if-index-hash.false)
       | else-not-is_power_of_two-via-else-not-is_power_of_two w ↦ inr (count_is all ∙ sym c.self.invariant.counted ∙ c.is_power_of_two.ensures.0 w.if-not-is_power_of_two.false)
     ] in
     let high = c.agrees.ensures.0 c.if-not-agrees.false in
@@ -102,15 +102,15 @@ returns-then-word-head-clause-found c =
 pub returns-clause-found : goal.returns-clause-found
 returns-clause-found c =
     let all = (goal.at.returns-clause-found c).After-agrees in
-    let within : c.nearest-word.result % (c.self.inside.modulus.mask + 1) < length c.args.self.now.hashes = nearest_within _ _ _ c.args.hash c.nearest-word.result _ (occupied all) c.nearest-word.ensures.first c.nearest-word.ensures.second in
-    let sure : (get_or c.args.self.now.hashes (c.nearest-word.result % (c.self.inside.modulus.mask + 1)) 0 ≡ c.args.hash) ⊎ (c.args.self.now.count ≡ c.self.inside.modulus.mask + 1) =
+    let within : c.matching_word-word.result % (c.self.inside.modulus.mask + 1) < length c.args.self.now.hashes = nearest_within _ _ _ c.args.hash c.matching_word-word.result _ (occupied all) c.matching_word-word.ensures.first c.matching_word-word.ensures.second in
+    let sure : (get_or c.args.self.now.hashes (c.matching_word-word.result % (c.self.inside.modulus.mask + 1)) 0 ≡ c.args.hash) ⊎ (c.args.self.now.count ≡ c.self.inside.modulus.mask + 1) =
     elim c.else-not-is_power_of_two.branch [
       | else-not-is_power_of_two-via-then-not-is_power_of_two+else-index-hash w ↦
-          inl (hash_read c.args.self.now.hashes (c.nearest-word.result % (c.self.inside.modulus.mask + 1)) _ _ within (rw (← c.self.view_is) w.index-then-not-is_power_of_two.ensures) (w.id.ensures ∙ c.symbol-symbol.ensures) ∙ w.if-index-hash.false)
+          inl (hash_read c.args.self.now.hashes (c.matching_word-word.result % (c.self.inside.modulus.mask + 1)) _ _ within (rw (← c.self.view_is) w.index-then-not-is_power_of_two.ensures) (w.id.ensures ∙ c.symbol-symbol.ensures) ∙ w.if-index-hash.false)
       | else-not-is_power_of_two-via-else-not-is_power_of_two w ↦ inr (count_is all ∙ sym c.self.invariant.counted ∙ c.is_power_of_two.ensures.0 w.if-not-is_power_of_two.false)
     ] in
     let high = c.agrees.ensures.0 c.if-not-agrees.false in
     let some : 0 < c.self.inside.modulus.mask + 1 = omega arith in
-    let first : c.index-head.result.now.first / (c.self.inside.modulus.mask + 1) ≢ c.args.hash / (c.self.inside.modulus.mask + 1) = λ q. c.if-word-head.false (c.nearest-word.ensures.first q) in
-    let second = c.nearest-word.ensures.second first in
+    let first : c.index-head.result.now.first / (c.self.inside.modulus.mask + 1) ≢ c.args.hash / (c.self.inside.modulus.mask + 1) = λ q. c.if-word-head.false (c.matching_word-word.ensures.first q) in
+    let second = c.matching_word-word.ensures.second first in
     rw (c.symbol-symbol.ensures, second) (second_found _ _ _ _ some (occupied all) _ _ first (rw second at high) (rw second at sure) (two_steps _ _ _ c.step.ensures c.step-2.ensures))

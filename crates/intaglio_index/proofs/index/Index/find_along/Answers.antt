@@ -13,19 +13,19 @@ returns-then-hash-found-clause-passed c = λ e start from. passes _ _ _ _ _ (c.l
 pub returns-then-hash-found-2-clause-found : goal.returns-then-hash-found-2-clause-found
 returns-then-hash-found-2-clause-found c = λ start from. finds _ _ _ _ _ c.in-Some.found.1 (rw c.in-Some.is at (c.loop-candidate.invariant.since start from)) c.if-hash-found-2.true
 
-pub behind-candidate-requires : goal.behind-candidate-requires
-behind-candidate-requires c = within _ _ _ _ _ c.in-Some.found.1 (rw c.in-Some.is at c.loop-candidate.invariant.reached.1)
+pub next_entry-candidate-requires : goal.next_entry-candidate-requires
+next_entry-candidate-requires c = within _ _ _ _ _ c.in-Some.found.1 (rw c.in-Some.is at c.loop-candidate.invariant.reached.1)
 
 pub loop-candidate-smaller : goal.loop-candidate-smaller
 loop-candidate-smaller c =
-    rw c.in-Some.is (falls _ _ _ _ _ c.in-Some.found.1 _ (rw c.in-Some.is at c.loop-candidate.invariant.reached.1) (c.behind-candidate.ensures.next _ _))
+    rw c.in-Some.is (falls _ _ _ _ _ c.in-Some.found.1 _ (rw c.in-Some.is at c.loop-candidate.invariant.reached.1) (c.next_entry-candidate.ensures.next _ _))
 
 pub loop-candidate-preserved : goal.loop-candidate-preserved
 loop-candidate-preserved c =
     let l : c.in-Some.found.1 < c.args.hash = omega (arith, c.if-hash-found.false, c.if-hash-found-2.false) in
     record {
-      reached = (c.loop-candidate.invariant.reached.0, goes_on _ _ _ _ _ c.in-Some.found.1 _ _ (rw c.in-Some.is at c.loop-candidate.invariant.reached.1) l c.step.ensures (c.behind-candidate.ensures.next _ _));
-      since = λ start from. goes_on _ _ _ _ _ c.in-Some.found.1 _ _ (rw c.in-Some.is at (c.loop-candidate.invariant.since start from)) l c.step.ensures (c.behind-candidate.ensures.next _ _);
+      reached = (c.loop-candidate.invariant.reached.0, goes_on _ _ _ _ _ c.in-Some.found.1 _ _ (rw c.in-Some.is at c.loop-candidate.invariant.reached.1) l c.step.ensures (c.next_entry-candidate.ensures.next _ _));
+      since = λ start from. goes_on _ _ _ _ _ c.in-Some.found.1 _ _ (rw c.in-Some.is at (c.loop-candidate.invariant.since start from)) l c.step.ensures (c.next_entry-candidate.ensures.next _ _);
     }
 
 pub returns-clause-none : goal.returns-clause-none

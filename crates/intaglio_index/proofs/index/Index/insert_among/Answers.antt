@@ -1,6 +1,6 @@
 use Rattle.std.proofs.Common.{◌≡◌, ℕ, ◌<◌, ◌+◌, ◌%◌, ◌++◌, ◌∷◌, [], length, set, arith, sym, ◌∙◌}
 use Rattle.std.proofs.lemmas.List.{length-set, get_or_read}
-use Rattle.intaglio_index.specs.Placed.{chain, chain_from, leader_of, IsPredecessor}
+use Rattle.intaglio_index.specs.Placed.{chain, chain_from, first_symbol_of, IsPredecessor}
 use Rattle.intaglio_index.specs.Heads.{IsWord, IsHead}
 use Rattle.intaglio_index.specs.Filter.{IsFiltered}
 use Rattle.intaglio_index.proofs.ChainLemmas.{chain-distinct}
@@ -22,9 +22,9 @@ free c = (let room = rw (← c.self.view_is) at c.requires.room in omega (arith,
 within : (c : After-marked) → c.args.hash % length c.self.inside.heads.items < length c.self.inside.heads.items
 within c = omega (arith, free c)
 
-leads : (c : After-marked) → c.leader-leader.result ≡ leader_of (chain_from (length c.self.inside.heads.items) (c.args.hash % length c.self.inside.heads.items) 0 [] c.self.inside.hashes.items)
+leads : (c : After-marked) → c.first_symbol-first_symbol.result ≡ first_symbol_of (chain_from (length c.self.inside.heads.items) (c.args.hash % length c.self.inside.heads.items) 0 [] c.self.inside.hashes.items)
 unfolding chain
-leads c = rw (at_bucket c, ← c.self.view_is) at c.leader-leader.ensures
+leads c = rw (at_bucket c, ← c.self.view_is) at c.first_symbol-first_symbol.ensures
 
 old_head : (c : After-marked) → IsHead (c.self.inside.modulus.mask + 1) c.index-head.result.now (chain_from (length c.self.inside.heads.items) (c.args.hash % length c.self.inside.heads.items) 0 [] c.self.inside.hashes.items)
 old_head c = head_read _ _ _ _ _ _ c.self.invariant.headed (within c) (rw (at_bucket c) at c.index-head.ensures)
@@ -48,11 +48,11 @@ unfolding chain
 invariant_of-self c =
     let all = (goal.at.invariant_of-self c).After-marked in
     let begins = rw (← c.self.view_is) at c.in-None.ensures in
-    let linked = place_first (length c.self.inside.heads.items) c.self.inside.hashes.items c.self.inside.links.items c.self.invariant.linked c.args.hash c.args.symbol (number_is all) c.word-word.ensures.number (free all) c.leader-leader.result (leads all) begins in
+    let linked = place_first (length c.self.inside.heads.items) c.self.inside.hashes.items c.self.inside.links.items c.self.invariant.linked c.args.hash c.args.symbol (number_is all) c.word-word.ensures.number (free all) c.first_symbol-first_symbol.result (leads all) begins in
     let alone = alone_is _ _ c.is_none.result (leads all) c.is_none.ensures in
-    let head = c.led.ensures _ _ _ _ (old_head all) alone begins (new_word all) in
-    let headed = headed_pushed _ _ _ _ c.args.hash c.led.result c.marked.result (within all) c.self.invariant.filtered.size c.self.invariant.headed (marked_some _ _ c.marked.ensures.set) head in
-    let size = length-set c.self.inside.heads.items (c.args.hash % length c.self.inside.heads.items) c.led.result in
+    let head = c.with_first.ensures _ _ _ _ (old_head all) alone begins (new_word all) in
+    let headed = headed_pushed _ _ _ _ c.args.hash c.with_first.result c.marked.result (within all) c.self.invariant.filtered.size c.self.invariant.headed (marked_some _ _ c.marked.ensures.set) head in
+    let size = length-set c.self.inside.heads.items (c.args.hash % length c.self.inside.heads.items) c.with_first.result in
     rw (c.push_reserved.ensures.items, c.push_reserved-in-None.ensures.items, c.unwrap_or.ensures, at_bucket all) record {
       modulus = c.self.invariant.modulus;
       counted = c.self.invariant.counted ∙ sym size;
@@ -79,9 +79,9 @@ invariant_of-self-in-Some c =
     let next = rw c.deref.ensures.value at c.next.ensures in
     let linked = place_behind (length c.self.inside.heads.items) c.self.inside.hashes.items c.self.inside.links.items c.self.invariant.linked c.args.hash c.args.symbol (number_is all) c.word-word.ensures.number (free all) c.in-Some.last c.next.result (below all c.in-Some.last c.in-Some.ensures) next pred in
     let apart = chain-distinct (length c.self.inside.heads.items) (c.args.hash % length c.self.inside.heads.items) c.self.inside.hashes.items in
-    let head = c.followed.ensures _ _ _ _ (old_head all) (leads all) apart pred (new_word all) in
-    let headed = headed_pushed _ _ _ _ c.args.hash c.followed.result c.marked.result (within all) c.self.invariant.filtered.size c.self.invariant.headed (marked_some _ _ c.marked.ensures.set) head in
-    let size = length-set c.self.inside.heads.items (c.args.hash % length c.self.inside.heads.items) c.followed.result in
+    let head = c.with_after.ensures _ _ _ _ (old_head all) (leads all) apart pred (new_word all) in
+    let headed = headed_pushed _ _ _ _ c.args.hash c.with_after.result c.marked.result (within all) c.self.invariant.filtered.size c.self.invariant.headed (marked_some _ _ c.marked.ensures.set) head in
+    let size = length-set c.self.inside.heads.items (c.args.hash % length c.self.inside.heads.items) c.with_after.result in
     rw (c.push_reserved.ensures.items, c.push_reserved-in-Some.ensures.items, c.unwrap_or-link.ensures, c.id.ensures, at_bucket all) record {
       modulus = c.self.invariant.modulus;
       counted = c.self.invariant.counted ∙ sym size;

@@ -17,8 +17,8 @@ exact c = count_is c ∙ sym c.self.invariant.counted ∙ c.is_power_of_two.ensu
 within : (c : After-index) → c.args.hash % c.args.self.now.count < length c.self.inside.heads.items
 within c = omega (arith, c.requires.bucket, c.requires.within, count_is c)
 
-vacant : (c : After-index) → c.index.result.now ≡ 0 → chain c.args.self.now (c.args.hash % c.args.self.now.count) ≡ []
-vacant c none =
+empty_bucket : (c : After-index) → c.index.result.now ≡ 0 → chain c.args.self.now (c.args.hash % c.args.self.now.count) ≡ []
+empty_bucket c none =
     is_vacant c.args.self.now c.self.inside.heads.items c.self.inside.filters.items (c.self.inside.modulus.mask + 1) (c.args.hash % c.args.self.now.count) (count_is c) c.self.invariant.filtered.size (rw (← c.self.view_is) c.self.invariant.headed) (within c)
     c.index.result.now (rw c.requires.bucket at c.index.ensures) none
 
@@ -34,7 +34,7 @@ pub returns-then-index-eq0 : goal.returns-then-index-eq0
 returns-then-index-eq0 c =
     let all = (goal.at.returns-then-index-eq0 c).After-index in
     elim c.then-index-eq0.either [
-      | inl none ↦ rw (vacant all none) tt
+      | inl none ↦ rw (empty_bucket all none) tt
       | inr p ↦ begins_above _ _ _ _ (some_size _) (exact all) (occupied all p.0) (rw c.high-high.ensures at p.1)
     ]
 
@@ -53,11 +53,11 @@ symbol-second-requires-clause-number c =
     let all = (goal.at.symbol-second-requires-clause-number c).After-index in
     omega (arith, second_within _ _ _ _ (occupied all c.if-index-eq0.false), placed_is all, c.self.invariant.linked.numbered)
 
-pub behind-requires : goal.behind-requires
-behind-requires c = rw c.symbol-second.ensures (second_within _ _ _ _ (occupied (goal.at.behind-requires c).After-index c.if-index-eq0.false))
+pub next_entry-requires : goal.next_entry-requires
+next_entry-requires c = rw c.symbol-second.ensures (second_within _ _ _ _ (occupied (goal.at.next_entry-requires c).After-index c.if-index-eq0.false))
 
 pub last_below-requires-2 : goal.last_below-requires-2
 last_below-requires-2 c =
     let all = (goal.at.last_below-requires-2 c).After-index in
-    rw c.symbol-second.ensures (behind_second _ _ _ _ (some_size _) (exact all) (occupied all c.if-index-eq0.false) c.behind.result (rw c.high-high.ensures at c.if-high-head.false) (rw c.high-high.ensures at c.if-high-head-2.false)
-    (λ b hash before behind split. c.behind.ensures.next b hash before behind (split ∙ ap (λ s. before ++ (s, hash) ∷ behind) (sym c.symbol-second.ensures))))
+    rw c.symbol-second.ensures (behind_second _ _ _ _ (some_size _) (exact all) (occupied all c.if-index-eq0.false) c.next_entry.result (rw c.high-high.ensures at c.if-high-head.false) (rw c.high-high.ensures at c.if-high-head-2.false)
+    (λ b hash before behind split. c.next_entry.ensures.next b hash before behind (split ∙ ap (λ s. before ++ (s, hash) ∷ behind) (sym c.symbol-second.ensures))))

@@ -1,0 +1,280 @@
+//! A store of contents with an index over it.
+ghost use Rattle.std.specs.Prelude.{◌≡◌, ◌+◌, ◌^◌, ◌<◌, ◌≤◌, ◌↔◌, ◌++◌, List, [], length};
+ghost use Rattle.std.specs.Prelude.{IfSome, IsTrue, OnOk, OnErr};
+ghost use Rattle.intaglio_content.specs.Key.{hash_of};
+ghost use Rattle.intaglio_content.specs.Work.{Event};
+ghost use Rattle.intaglio_symbol.specs.AllSymbols.{numbers_from};
+ghost use Rattle.intaglio_index.specs.Change.{KeepsPlaces};
+ghost use Rattle.intaglio_core.specs.State.{first, IsValid};
+ghost use Rattle.intaglio_core.specs.PendingSearch.{IsPendingSearch, IsPendingSince};
+ghost use Rattle.intaglio_core.specs.Cost.{Costs, Adds, SearchCost, KnownSearchCost, IsRecorded};
+ghost use Rattle.intaglio_core.specs.Indexed.{HasPlaces, FindsPlace, FindsNoPlace};
+
+mod capacity;
+mod form_lookup;
+mod forms;
+mod make;
+mod owned;
+
+use crate::pending_search::PendingSearch;
+use intaglio_content::{SoughtIn, Store, Work};
+use intaglio_index::Index;
+use intaglio_symbol::{AllSymbols, Symbol};
+use std::alloc::{AllocError, Global};
+use std::hash::BuildHasher;
+use std::marker::{Model, PhantomData};
+
+/// Contents in the order of their symbols, no two equal. A content's symbol is its position.
+#[derive(Drop)]
+pub struct IndexedStore<L: Store, S: BuildHasher> {
+    list: L,
+    index: Index,
+    hasher: S,
+    limit: usize,
+    // A field has to name the types that belong to the store: they may have lifetimes.
+    content: PhantomData<(L::Content, L::Prepared)>,
+}
+
+/// A table of owned contents, in a `Vec`.
+pub type Core<C, S> = IndexedStore<Vec<C>, S>;
+
+impl<L: Store, S: BuildHasher> Model for IndexedStore<L, S> {
+    ghost use Rattle.std.specs.Prelude.{◌-◌, length, min};
+    ghost use Rattle.intaglio_content.specs.Key.{hash_of};
+    ghost use Rattle.intaglio_core.specs.State.{Table};
+    ghost use Rattle.intaglio_core.specs.Indexed.{IsIndexed};
+
+    ghost Value = { Table L.Content S };
+
+    ghost view = { λ t. record {
+      state = record {
+        contents = L.contents t.list;
+        spare = min (L.most t.list) t.index.room - length (L.contents t.list);
+        buckets = t.index.count;
+        limit = t.limit;
+      };
+      hasher = t.hasher;
+      spare_bytes = L.spare_bytes t.list;
+    } };
+
+    ghost invariant = { λ t.
+        let hash = hash_of S.BuildHasher S.Hasher.Hasher t.hasher in
+        IsIndexed L.Content.key hash (L.contents t.list) t.index t.limit };
+}
+
+impl<L: Store, S: BuildHasher> IndexedStore<L, S> {
+    /// The allocator of the contents.
+    pub fn allocator(&self) -> Global {
+        self.list.alloc()
+    }
+
+    /// Where the contents are.
+    pub fn store(&self) -> &L
+        ensures contents { L.contents result.now ≡ self.now.state.contents }
+        ensures bound { length (L.contents result.now) ≤ 2 ^ 32 }
+    {
+        &self.list
+    }
+
+    /// The table's hash builder.
+    pub fn hasher(&self) -> &S
+        ensures { result.now ≡ self.now.hasher }
+    {
+        &self.hasher
+    }
+
+    /// The most contents that the table can hold: 2^32, unless it was made by
+    /// [`with_limit`](IndexedStore::with_limit).
+    pub fn limit(&self) -> usize
+        ensures { result ≡ self.now.state.limit }
+    {
+        self.limit
+    }
+
+    /// How many contents the table can hold before it has to grow.
+    pub fn capacity(&self) -> usize
+        ensures { result ≡ length self.now.state.contents + self.now.state.spare }
+    {
+        self.list.capacity().min(self.index.room())
+    }
+
+    /// The number of contents.
+    pub fn len(&self) -> usize
+        ensures count { result ≡ length self.now.state.contents }
+        ensures valid { IsValid L.Content.key self.now.state }
+    {
+        self.list.len()
+    }
+
+    /// Whether there is no content.
+    pub fn is_empty(&self) -> bool
+        ensures { IsTrue result ↔ (self.now.state.contents ≡ []) }
+    {
+        self.list.len() == 0
+    }
+
+    /// Whether the symbol's number is below [`len`](IndexedStore::len), whoever issued it.
+    pub fn contains(&self, symbol: Symbol) -> bool
+        ensures { IsTrue result ↔ (symbol < length self.now.state.contents) }
+    {
+        (symbol.id() as usize) < self.list.len()
+    }
+
+    /// The symbols that were issued, in order.
+    pub fn all_symbols(&self) -> AllSymbols<'_>
+        ensures { result ≡ numbers_from 0 (length self.now.state.contents) }
+    {
+        AllSymbols::over(self, self.list.len())
+    }
+
+    /// The symbol of the content with the sought key, if there is one.
+    ///
+    /// Costs one hashing, and comparisons only with contents whose hash is equal.
+    #[inline(always)]
+    pub fn search<Q: SoughtIn<L>>(&self, sought: &Q, work: &mut Work) -> Option<Symbol>
+        ensures found { result ≡ first L.Content.key self.now.state.contents (Q.key sought.now) }
+        ensures within { IfSome result (λ symbol. symbol < length self.now.state.contents) }
+        ensures cost { let hash = hash_of S.BuildHasher S.Hasher.Hasher self.now.hasher in
+            Costs work.old work.new (SearchCost L.Content.key hash self.now.state (Q.key sought.now)) }
+        ensures recorded { Costs work.old work.new (IsRecorded (Q.key sought.now) result) }
+        ensures valid { IsValid L.Content.key self.now.state }
+    {
+        let hash = sought.hash_by(&self.hasher, work);
+        self.search_hashed(hash, sought, work)
+    }
+
+    // As `search`, for a key whose hash is known: compares only with the contents of this hash.
+    #[inline(always)]
+    pub(crate) fn search_hashed<Q: SoughtIn<L>>(
+        &self,
+        hash: u64,
+        sought: &Q,
+        work: &mut Work,
+    ) -> Option<Symbol>
+        requires hash { hash ≡ hash_of S.BuildHasher S.Hasher.Hasher self.now.hasher (Q.key sought.now) }
+        ensures found { result ≡ first L.Content.key self.now.state.contents (Q.key sought.now) }
+        ensures cost { let hash = hash_of S.BuildHasher S.Hasher.Hasher self.now.hasher in
+            Costs work.old work.new (KnownSearchCost L.Content.key hash self.now.state (Q.key sought.now)) }
+        ensures recorded { Costs work.old work.new (IsRecorded (Q.key sought.now) result) }
+        ensures valid { IsValid L.Content.key self.now.state }
+    {
+        let candidate = self.index.find(hash, work);
+        self.search_from(candidate, sought, work)
+    }
+
+    // Finds the first content with this hash, which `end_search` compares. Its events are apart, since other
+    // searches may be begun before it is ended.
+    #[inline(always)]
+    pub(crate) fn begin_search(&self, hash: u64) -> PendingSearch
+        ensures { let of_key = hash_of S.BuildHasher S.Hasher.Hasher self.now.hasher in
+            IsPendingSearch L.Content.key of_key self.now.state hash result }
+    {
+        let mut work = Work::new();
+        let candidate = self.index.find(hash, &mut work);
+        PendingSearch { candidate, work }
+    }
+
+    // The rest of a search that was begun apart. Records what was done for it before, too.
+    #[inline(always)]
+    pub(crate) fn end_search<Q: SoughtIn<L>>(
+        &self,
+        pending: &PendingSearch,
+        sought: &Q,
+        work: &mut Work,
+    ) -> Option<Symbol>
+        requires pending { let hash = hash_of S.BuildHasher S.Hasher.Hasher self.now.hasher in
+            IsPendingSearch L.Content.key hash self.now.state (hash (Q.key sought.now)) pending.now }
+        ensures found { result ≡ first L.Content.key self.now.state.contents (Q.key sought.now) }
+        ensures events { (more : List Event) ×
+            (work.new.events ≡ work.old.events ++ pending.now.work.events ++ more) }
+        ensures cost { let hash = hash_of S.BuildHasher S.Hasher.Hasher self.now.hasher in
+            Costs work.old work.new (KnownSearchCost L.Content.key hash self.now.state (Q.key sought.now)) }
+        ensures recorded { Costs work.old work.new (IsRecorded (Q.key sought.now) result) }
+        ensures valid { IsValid L.Content.key self.now.state }
+    {
+        work.append(&pending.work);
+        self.search_from(pending.candidate, sought, work)
+    }
+
+    // Reads a byte of the content that a begun search compares first.
+    #[inline(always)]
+    pub(crate) fn touch<Q: SoughtIn<L>>(&self, pending: &PendingSearch, sought: &Q) -> u8 {
+        match pending.candidate {
+            Some(symbol) if self.contains(symbol) => {
+                sought.touch_at(&self.list, symbol.id() as usize)
+            }
+            _ => 0,
+        }
+    }
+
+    // The rest of a search, from the first content with the sought hash on. `start` in the clauses is the list
+    // of events at the search's begin.
+    #[inline(always)]
+    fn search_from<Q: SoughtIn<L>>(
+        &self,
+        candidate: Option<Symbol>,
+        sought: &Q,
+        work: &mut Work,
+    ) -> Option<Symbol>
+        requires pending { let hash = hash_of S.BuildHasher S.Hasher.Hasher self.now.hasher in
+            (start : List Event) ×
+            IsPendingSince L.Content.key hash self.now.state (Q.key sought.now) start work.old.events candidate }
+        ensures found { result ≡ first L.Content.key self.now.state.contents (Q.key sought.now) }
+        ensures events { (more : List Event) × (work.new.events ≡ work.old.events ++ more) }
+        ensures cost { let hash = hash_of S.BuildHasher S.Hasher.Hasher self.now.hasher in
+            let k = Q.key sought.now in
+            (start : List Event) →
+            IsPendingSince L.Content.key hash self.now.state k start work.old.events candidate →
+            Adds start work.new.events (KnownSearchCost L.Content.key hash self.now.state k) }
+        ensures recorded { let hash = hash_of S.BuildHasher S.Hasher.Hasher self.now.hasher in
+            let k = Q.key sought.now in
+            (start : List Event) →
+            IsPendingSince L.Content.key hash self.now.state k start work.old.events candidate →
+            Adds start work.new.events (IsRecorded k result) }
+        ensures valid { IsValid L.Content.key self.now.state }
+    {
+        let index = &self.index;
+        let list = &self.list;
+        let mut candidate = Some(candidate?);
+        while let Some(symbol) = candidate {
+            if sought.same_at(list, symbol.id() as usize, work) {
+                return Some(symbol);
+            }
+            candidate = index.find_next(symbol, work);
+        }
+        None
+    }
+}
+
+// Makes room for one more content: in the list, in the hashes and links, and in the buckets. The index
+// grows last, so that a failed growth records no event.
+#[inline(always)]
+fn find_room<L: Store>(
+    list: &mut L,
+    index: &mut Index,
+    limit: usize,
+    work: &mut Work,
+) -> Result<(), AllocError>
+    requires placed { HasPlaces (length (L.contents list.old)) limit index.old }
+    ensures contents { L.contents list.new ≡ L.contents list.old }
+    ensures capacity { L.most list.old ≤ L.most list.new }
+    ensures spare_bytes { L.spare_bytes list.new ≡ L.spare_bytes list.old }
+    ensures index { KeepsPlaces index.old index.new }
+    ensures free { OnOk result (length (L.contents list.old) < L.most list.new) }
+    ensures place { let n = length (L.contents list.old) in
+        OnOk result (FindsPlace n limit index.old index.new work.old work.new) }
+    ensures refused { let n = length (L.contents list.old) in
+        OnErr result (FindsNoPlace n (L.most list.old) index.old index.new work.old work.new) }
+{
+    let count = list.len();
+    if count < list.capacity().min(index.room()) {
+        return Ok(());
+    }
+    list.reserve(1)?;
+    let buckets = index.bucket_count();
+    if count < buckets {
+        return index.reserve(count + 1, work);
+    }
+    let doubled = (2 * buckets).max(4);
+    index.reserve(limit.min(doubled), work)
+}

@@ -1,0 +1,138 @@
+//! Tables and C strings, with failing allocations.
+use crate::checked_table::tell;
+use crate::fault::Fault;
+use crate::kinds::{Constructor, Stored, make_table};
+use intaglio::cstr::{CString, CStringError};
+use intaglio::{RoomError, Work, run};
+use std::alloc::{AllocError, Global};
+
+// One more than the most contents that a table can hold.
+const TOO_MANY: usize = 4294967297;
+
+// The outcome of a constructor.
+#[derive(Clone, Copy)]
+enum Outcome {
+    Right,
+    Wrong,
+    NoMemory,
+    TooLarge,
+}
+
+impl Outcome {
+    fn is_right(self) -> bool {
+        matches!(self, Outcome::Right)
+    }
+
+    fn is_refused(self) -> bool {
+        matches!(self, Outcome::NoMemory)
+    }
+
+    fn is_too_large(self) -> bool {
+        matches!(self, Outcome::TooLarge)
+    }
+}
+
+/// Makes a table by each constructor, and a C string. If one fails, nothing was made, and it is called again.
+pub fn make_all<C: Stored>(rt: &(impl Eprint + AllocGlobal)) -> Result<(), Fault> {
+    let full = full_bytes(rt.alloc())?;
+    let again = full_bytes(rt.alloc())?;
+    tell(rt, "table", 0);
+    make_tables::<C>(rt)?;
+    grow_c_string(rt, full, again)
+}
+
+fn make_tables<C: Stored>(rt: &(impl Eprint + AllocGlobal)) -> Result<(), Fault> {
+    make::<C>(rt, Constructor::New, 1, 4096)?;
+    make::<C>(rt, Constructor::WithCapacity(5), 2, 8)?;
+    make::<C>(rt, Constructor::WithHasher, 3, 4096)?;
+    make::<C>(rt, Constructor::WithCapacityAndHasher(10), 4, 10)
+}
+
+fn make<C: Stored>(
+    rt: &(impl Eprint + AllocGlobal),
+    constructor: Constructor,
+    number: u32,
+    capacity: usize,
+) -> Result<(), Fault> {
+    tell(rt, "make", number);
+    let mut made = table_made::<C>(rt.alloc(), constructor, capacity);
+    if made.is_refused() {
+        tell(rt, "refused", number);
+        tell(rt, "make", number);
+        made = table_made::<C>(rt.alloc(), constructor, capacity);
+    }
+    if made.is_right() {
+        Ok(())
+    } else {
+        Err(Fault::Answer(number))
+    }
+}
+
+// Makes an empty table, which should have that capacity.
+fn table_made<C: Stored>(alloc: Global, constructor: Constructor, capacity: usize) -> Outcome {
+    match make_table::<C>(alloc, constructor) {
+        Ok(table) if table.is_empty() && table.capacity() == capacity => Outcome::Right,
+        Ok(_) => Outcome::Wrong,
+        Err(RoomError::Memory(_)) => Outcome::NoMemory,
+        Err(RoomError::CapacityOverflow) => Outcome::TooLarge,
+    }
+}
+
+/// Calls what allocates nothing: constructors of tables of capacity 0, and those that fail because of a size.
+pub fn make_without_memory<C: Stored>(alloc: Global) -> bool {
+    is_empty::<C>(alloc, Constructor::WithCapacity(0))
+        && is_empty::<C>(alloc, Constructor::WithCapacityAndHasher(0))
+        && is_empty::<C>(alloc, Constructor::WithLimit(1))
+        && is_empty::<C>(alloc, Constructor::WithLimit(TOO_MANY - 1))
+        && table_made::<C>(alloc, Constructor::WithCapacity(TOO_MANY), 0).is_too_large()
+        && table_made::<C>(alloc, Constructor::WithCapacityAndHasher(TOO_MANY), 0).is_too_large()
+        && table_made::<C>(alloc, Constructor::WithLimit(TOO_MANY), 0).is_too_large()
+        && table_made::<C>(alloc, Constructor::WithLimit(0), 0).is_too_large()
+}
+
+// Whether the constructor makes an empty table of capacity 0, on which a run of no calls succeeds.
+fn is_empty<C: Stored>(alloc: Global, constructor: Constructor) -> bool {
+    match make_table::<C>(alloc, constructor) {
+        Ok(mut table) => {
+            table.is_empty()
+                && table.capacity() == 0
+                && matches!(table.reserve(TOO_MANY), Err(RoomError::CapacityOverflow))
+                && run(alloc, &mut table, Vec::new(alloc), &mut Work::new()).is_ok()
+        }
+        Err(_) => false,
+    }
+}
+
+// Makes a C string of bytes without spare capacity, so that the final zero makes the vector grow.
+fn grow_c_string(
+    rt: &(impl Eprint + AllocGlobal),
+    full: Vec<u8>,
+    again: Vec<u8>,
+) -> Result<(), Fault> {
+    tell(rt, "c_string", 5);
+    let mut made = c_string_made(rt.alloc(), full);
+    if made.is_refused() {
+        tell(rt, "refused", 5);
+        tell(rt, "c_string", 5);
+        made = c_string_made(rt.alloc(), again);
+    }
+    if made.is_right() {
+        Ok(())
+    } else {
+        Err(Fault::Answer(5))
+    }
+}
+
+fn c_string_made(alloc: Global, bytes: Vec<u8>) -> Outcome {
+    match CString::new(alloc, bytes) {
+        Ok(string) if string.as_c_str().to_bytes() == b"abc".as_slice() => Outcome::Right,
+        Err(CStringError::Memory(_)) => Outcome::NoMemory,
+        _ => Outcome::Wrong,
+    }
+}
+
+fn full_bytes(alloc: Global) -> Result<Vec<u8>, AllocError> {
+    let mut bytes = Vec::with_capacity(alloc, 3)?;
+    bytes.extend_from_slice(b"abc")?;
+    Ok(bytes)
+}
