@@ -1,18 +1,14 @@
 /* Intaglio: symbol tables (string interners) for C and C++, proved correct.
  *
  * A symbol table assigns each distinct string a number, its symbol, and returns the string of a symbol. Symbols count up from
- * 0. There are eight kinds of tables with the same functions:
+ * 0. There are six kinds of tables with the same functions:
  *
- *   intaglio_text          UTF-8 texts
- *   intaglio_bytes         bytes
- *   intaglio_cstr          C strings: bytes whose only zero is the last one, which is included in the length
- *   intaglio_path          paths: UTF-8 texts that are equal if their components are, as "a//b" and "a/./b"
- *   intaglio_osstr         platform strings: UTF-8 texts
- *   intaglio_bstr          byte strings: bytes that are text by convention
- *   intaglio_packed_text   UTF-8 texts in one buffer
- *   intaglio_packed_bytes  bytes in one buffer
- *
- * A packed table takes about half the memory, but the pointer of its get is valid only until the next call that interns or shrinks.
+ *   intaglio_text    UTF-8 texts
+ *   intaglio_bytes   bytes
+ *   intaglio_cstr    C strings: bytes whose only zero is the last one, which is included in the length
+ *   intaglio_path    paths: UTF-8 texts that are equal if their components are, as "a//b" and "a/./b"
+ *   intaglio_osstr   platform strings: UTF-8 texts
+ *   intaglio_bstr    byte strings: bytes that are text by convention
  *
  * For example, intaglio_text_intern interns a string in an intaglio_text. If the kind is known only at run time, use
  * intaglio_table and the functions without a kind in their names, such as intaglio_intern.
@@ -29,8 +25,8 @@
  * without a number must not be null. Memory that a function writes must not overlap other memory that is passed to it. None of this
  * is checked.
  *
- * Ownership: a table owns its strings. New strings are copied, except by intern_static into a table that isn't packed.
- * Each table must be freed. No pointer is kept after a call, except by intern_static.
+ * Ownership: a table owns its strings. New strings are copied, except by intern_static. Each table must be freed. No pointer
+ * is kept after a call, except by intern_static.
  *
  * Threads: a handle must not be used by two threads at the same time, even by functions that only read. It may be passed to
  * another thread through a lock, or by starting or joining a thread. No function may be called in a signal handler, or in the
@@ -81,9 +77,7 @@ enum {
     INTAGLIO_CSTR = 2,
     INTAGLIO_PATH = 3,
     INTAGLIO_OSSTR = 4,
-    INTAGLIO_BSTR = 5,
-    INTAGLIO_PACKED_TEXT = 6,
-    INTAGLIO_PACKED_BYTES = 7
+    INTAGLIO_BSTR = 5
 };
 
 /* A code: 0 if the call succeeded, and otherwise why it failed. */
@@ -97,7 +91,7 @@ enum {
     INTAGLIO_NO_MEMORY = 3,     /* malloc or realloc returned null */
     INTAGLIO_TOO_LARGE = 4,     /* a capacity above 2^32 or the limit, or a limit of 0 or above 2^32 */
     INTAGLIO_STALE = 5,         /* the table has fewer strings than the mark counts */
-    INTAGLIO_NOT_UTF8 = 6,      /* text, path, osstr, packed_text, a frozen table of texts: the bytes aren't UTF-8 */
+    INTAGLIO_NOT_UTF8 = 6,      /* text, path, osstr, a frozen table of texts: the bytes aren't UTF-8 */
     INTAGLIO_INNER_ZERO = 7,    /* cstr: a zero byte before the last byte */
     INTAGLIO_MISSING_ZERO = 8,  /* cstr: no zero byte at all */
     INTAGLIO_BAD_ENDS = 9,      /* the ends of a batch decrease or exceed its bytes, or its arrays differ in length */
@@ -170,15 +164,15 @@ void intaglio_free(intaglio_table *table);
  * unchanged. */
 INTAGLIO_MUST_USE intaglio_code intaglio_intern(intaglio_table *table, const uint8_t *bytes, size_t len, uint32_t *symbol);
 
-/* The same without a copy, but a packed table copies a new string all the same. The bytes must not change until the program ends. */
+/* The same without a copy. The bytes must not change until the program ends. */
 INTAGLIO_MUST_USE intaglio_code intaglio_intern_static(intaglio_table *table, const uint8_t *bytes, size_t len, uint32_t *symbol);
 
 /* Returns whether a string is in the table. If so, its symbol is stored in *symbol; otherwise *symbol is unchanged. */
 bool intaglio_check_interned(const intaglio_table *table, const uint8_t *bytes, size_t len, uint32_t *symbol);
 
 /* Stores the address and the length of a symbol's bytes in *out. The bytes stay valid until the table is cleared, rolled back to
- * before the symbol, freed or replaced; interning doesn't move them, except in a packed table: there the pointer is valid only until
- * the next call that interns or shrinks. Returns false if there is no such symbol; *out is then unchanged. */
+ * before the symbol, freed or replaced; interning doesn't move them. Returns false if there is no such symbol; *out is then
+ * unchanged. */
 bool intaglio_get(const intaglio_table *table, uint32_t symbol, intaglio_spelling *out);
 
 /* Stores the number of a symbol's bytes in *len, and copies them to the start of the buffer if it has space for all of them.
@@ -192,7 +186,7 @@ size_t intaglio_len(const intaglio_table *table);
 size_t intaglio_capacity(const intaglio_table *table);
 
 /* Reserves capacity for `additional` more strings. The table then doesn't grow for that many new strings, but each copy of a
- * string is still allocated; in a packed table the buffer of all strings may still grow. Errors: NO_TABLE, TOO_LARGE, NO_MEMORY. */
+ * string is still allocated. Errors: NO_TABLE, TOO_LARGE, NO_MEMORY. */
 INTAGLIO_MUST_USE intaglio_code intaglio_reserve(intaglio_table *table, size_t additional);
 
 /* Shrinks the capacity to `min_capacity`, or to the number of strings if that is greater. Errors: NO_TABLE, NO_MEMORY. */
@@ -248,8 +242,8 @@ bool intaglio_frozen_get(const uint8_t *bytes, size_t len, uint32_t symbol, inta
 size_t intaglio_frozen_len(const uint8_t *bytes, size_t len);
 
 /* Freezes a table: stores the number of bytes in *len, and copies them to the start of the buffer if it has space for all of them. The
- * strings are those of the table, with their symbols; a C string keeps its zero. They are texts if the kind is text, path, osstr or
- * packed_text. The keys are those of the hash function in the frozen table: the same strings under the same keys give the same bytes.
+ * strings are those of the table, with their symbols; a C string keeps its zero. They are texts if the kind is text, path or osstr. The
+ * keys are those of the hash function in the frozen table: the same strings under the same keys give the same bytes.
  * Errors: NO_TABLE; NO_SPACE, with *len; TOO_MANY, TOO_LONG, NO_PLACES, NO_MEMORY, NOT_UTF8, EQUAL. But for NO_SPACE nothing is then
  * written. */
 INTAGLIO_MUST_USE intaglio_code intaglio_freeze(const intaglio_table *table, uint64_t key0, uint64_t key1, uint8_t *buffer, size_t size, size_t *len);
@@ -297,8 +291,6 @@ INTAGLIO_KIND(cstr, INTAGLIO_CSTR)
 INTAGLIO_KIND(path, INTAGLIO_PATH)
 INTAGLIO_KIND(osstr, INTAGLIO_OSSTR)
 INTAGLIO_KIND(bstr, INTAGLIO_BSTR)
-INTAGLIO_KIND(packed_text, INTAGLIO_PACKED_TEXT)
-INTAGLIO_KIND(packed_bytes, INTAGLIO_PACKED_BYTES)
 #undef INTAGLIO_KIND
 
 #ifdef __cplusplus

@@ -13,7 +13,6 @@
 #include <string.h>
 
 #define TABLES 12
-#define KINDS ((uint32_t)INTAGLIO_PACKED_BYTES + 1)
 #define MOST 300     /* strings in a table, after which it is cleared */
 #define LONGEST 400  /* bytes of a string */
 #define BATCH 12     /* strings in a batch */
@@ -117,7 +116,7 @@ static uint32_t fault(uint32_t kind, const uint8_t *at, size_t len) {
         const uint8_t *zero = len == 0 ? NULL : (const uint8_t *)memchr(at, 0, len);
         return zero == NULL ? INTAGLIO_MISSING_ZERO : zero + 1 < at + len ? INTAGLIO_INNER_ZERO : INTAGLIO_DONE;
     }
-    if (kind == INTAGLIO_BYTES || kind == INTAGLIO_BSTR || kind == INTAGLIO_PACKED_BYTES) return INTAGLIO_DONE;
+    if (kind == INTAGLIO_BYTES || kind == INTAGLIO_BSTR) return INTAGLIO_DONE;
     for (size_t i = 0, size; i < len; i += size)
         if ((size = sequence(at + i, len - i)) == 0) return INTAGLIO_NOT_UTF8;
     return INTAGLIO_DONE;
@@ -202,12 +201,6 @@ static void same_symbol(struct table *t, uint32_t symbol) {
     e->seen = out.at;
 }
 
-/* After a call that interns or shrinks, the bytes of a packed table may be elsewhere. */
-static void may_move(struct table *t) {
-    if (t->kind != INTAGLIO_PACKED_TEXT && t->kind != INTAGLIO_PACKED_BYTES) return;
-    for (size_t i = 0; i < t->len; i++) t->entries[i].seen = NULL;
-}
-
 static void same_table(struct table *t) {
     same_sizes(t, false);
     for (size_t i = 0; i < t->len; i++) same_symbol(t, (uint32_t)i);
@@ -239,7 +232,7 @@ static size_t random_string(uint32_t kind, uint8_t *at) {
 
 /* ---- calls ---- */
 static void make(struct table *t) {
-    uint32_t kind = one_of(15) ? KINDS + (uint32_t)below(1000) : (uint32_t)below(KINDS), code;
+    uint32_t kind = one_of(15) ? 6 + (uint32_t)below(1000) : (uint32_t)below(6), code;
     size_t size = one_of(20) ? ((size_t)1 << 32) + 1 + below(1000) : below(40);
     size_t which = below(5);
     bool is_limit = which < 2;
@@ -256,12 +249,12 @@ static void make(struct table *t) {
     }
     bool is_large = size > (size_t)1 << 32 || (is_limit && size == 0);
     cut(t, 0);
-    t->live = kind < KINDS && !is_large && failed == 0;
+    t->live = kind < 6 && !is_large && failed == 0;
     t->kind = t->live ? kind : 0;
     t->limit = is_limit ? size : (size_t)1 << 32;
     t->capacity = is_limit || !t->live ? 0 : size;
-    if (kind >= KINDS || is_large) WANT(failed == 0);
-    same_code(t, code, kind >= KINDS ? INTAGLIO_NO_KIND : is_large ? INTAGLIO_TOO_LARGE : INTAGLIO_DONE);
+    if (kind >= 6 || is_large) WANT(failed == 0);
+    same_code(t, code, kind >= 6 ? INTAGLIO_NO_KIND : is_large ? INTAGLIO_TOO_LARGE : INTAGLIO_DONE);
     same_sizes(t, true);
 }
 
@@ -293,7 +286,6 @@ static void intern(struct table *t, bool is_static) {
     call = is_static ? "intern_static" : "intern";
     if (is_static) IN_LIBRARY(code = intaglio_intern_static(&t->handle, string.at, string.len, &symbol));
     else IN_LIBRARY(code = intaglio_intern(&t->handle, string.at, string.len, &symbol));
-    may_move(t);
     if (wanted != INTAGLIO_DONE || at < t->len) WANT(failed == 0);
     same_code(t, code, wanted);
     WANT(symbol == (code == INTAGLIO_DONE ? at : 77));
@@ -349,9 +341,8 @@ static void resize(struct table *t) {
     call = "shrink_to";
     bool is_small = t->live && size < t->capacity;
     IN_LIBRARY(code = intaglio_shrink_to(&t->handle, size));
-    may_move(t);
     if (!is_small) WANT(failed == 0);
-    /* If an allocation of a shrink after its first fails, nothing may report it: a list then keeps its memory. */
+    /* If the second of a shrink's two allocations fails, nothing may report it: the list of strings then keeps its memory. */
     WANT(code == (t->live ? INTAGLIO_DONE : INTAGLIO_NO_TABLE) || (code == INTAGLIO_NO_MEMORY && failed == 1));
     if (code == INTAGLIO_DONE && is_small) t->capacity = size < t->len ? t->len : size;
     same_sizes(t, true);
@@ -411,7 +402,6 @@ static void intern_all(struct table *t) {
     }
     call = "intern_all";
     IN_LIBRARY(code = intaglio_intern_all(&t->handle, b.bytes.at, b.bytes.len, b.ends, b.count, symbols, count));
-    may_move(t);
     if (new_ones == 0) WANT(failed == 0);
     if (code != INTAGLIO_DONE) cut(t, mark), t->capacity = old;
     same_code(t, code, wanted);

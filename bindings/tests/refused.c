@@ -1,4 +1,4 @@
-/* Makes each allocation fail in turn, in a run of every call that may allocate, on a table of bytes and on a packed one. The very call in which it fails must return
+/* Makes each allocation fail in turn, in a run of every call that may allocate. The very call in which it fails must return
  * NO_MEMORY and leave the strings unchanged. Linked with -Wl,--wrap=malloc,--wrap=realloc. */
 #include "intaglio.h"
 #include <stdio.h>
@@ -30,15 +30,15 @@ static void fail(int line, long nth, const char *what) {
 /* The strings of a table: each is its symbol in decimals. */
 static size_t spell(char *into, uint32_t symbol) { return (size_t)sprintf(into, "%u", symbol); }
 
-static void holds(intaglio_table *table, size_t count, long nth) {
-    WANT(intaglio_len(table) == count);
+static void holds(intaglio_bytes *table, size_t count, long nth) {
+    WANT(intaglio_bytes_len(table) == count);
     for (uint32_t symbol = 0; symbol < count; symbol++) {
         char word[16];
         size_t len = spell(word, symbol);
         intaglio_spelling out;
         uint32_t found;
-        WANT(intaglio_get(table, symbol, &out) && out.len == len && memcmp(out.at, word, len) == 0);
-        WANT(intaglio_check_interned(table, (const uint8_t *)word, len, &found) && found == symbol);
+        WANT(intaglio_bytes_get(table, symbol, &out) && out.len == len && memcmp(out.at, word, len) == 0);
+        WANT(intaglio_bytes_check_interned(table, (const uint8_t *)word, len, &found) && found == symbol);
     }
 }
 
@@ -51,7 +51,7 @@ static bool done(uint32_t code, long before, long nth) {
 
 static const char *const words[] = {"5", "6", "7", "8", "9", "10", "11", "12"};
 
-static void intern_group(intaglio_table *table, long nth) {
+static void intern_group(intaglio_bytes *table, long nth) {
     uint8_t bytes[64];
     size_t ends[8], len = 0;
     uint32_t symbols[8];
@@ -60,7 +60,7 @@ static void intern_group(intaglio_table *table, long nth) {
         ends[i] = len += strlen(words[i]);
     }
     long before = refused;
-    while (!done(intaglio_intern_all(table, bytes, len, ends, 8, symbols, 8), before, nth)) {
+    while (!done(intaglio_bytes_intern_all(table, bytes, len, ends, 8, symbols, 8), before, nth)) {
         holds(table, 5, nth);
         before = refused;
     }
@@ -68,20 +68,20 @@ static void intern_group(intaglio_table *table, long nth) {
     holds(table, 13, nth);
 }
 
-/* One run, on a table of the kind. A call that failed is made again, and then succeeds. */
-static void run(uint32_t kind, long nth) {
-    intaglio_table table = INTAGLIO_TABLE_NONE;
+/* One run. A call that failed is made again, and then succeeds. */
+static void run(long nth) {
+    intaglio_bytes table = INTAGLIO_NONE;
     uint32_t symbol;
     long before = refused;
-    while (!done(intaglio_with_capacity(&table, kind, 2, 1, 2), before, nth)) {
-        WANT(!table.live && intaglio_intern(&table, (const uint8_t *)"a", 1, &symbol) == INTAGLIO_NO_TABLE);
+    while (!done(intaglio_bytes_with_capacity(&table, 2, 1, 2), before, nth)) {
+        WANT(!table.table.live && intaglio_bytes_intern(&table, (const uint8_t *)"a", 1, &symbol) == INTAGLIO_NO_TABLE);
         before = refused;
     }
     for (uint32_t i = 0; i < 5; i++) {
         char word[16];
         size_t len = spell(word, i);
         before = refused;
-        while (!done(intaglio_intern(&table, (const uint8_t *)word, len, &symbol), before, nth)) {
+        while (!done(intaglio_bytes_intern(&table, (const uint8_t *)word, len, &symbol), before, nth)) {
             holds(&table, i, nth);
             before = refused;
         }
@@ -89,45 +89,40 @@ static void run(uint32_t kind, long nth) {
     }
     intern_group(&table, nth);
     before = refused;
-    while (!done(intaglio_intern_static(&table, (const uint8_t *)"13", 2, &symbol), before, nth)) {
+    while (!done(intaglio_bytes_intern_static(&table, (const uint8_t *)"13", 2, &symbol), before, nth)) {
         holds(&table, 13, nth);
         before = refused;
     }
     before = refused;
-    while (!done(intaglio_reserve(&table, 100), before, nth)) {
+    while (!done(intaglio_bytes_reserve(&table, 100), before, nth)) {
         holds(&table, 14, nth);
         before = refused;
     }
-    WANT(intaglio_capacity(&table) >= 114);
+    WANT(intaglio_bytes_capacity(&table) >= 114);
     before = refused;
-    /* If an allocation of a shrink after its first fails, nothing may report it: a list then keeps its memory. */
-    uint32_t code = intaglio_shrink_to(&table, 0);
+    /* If the second of a shrink's two allocations fails, nothing may report it: the list of strings then keeps its memory. */
+    uint32_t code = intaglio_bytes_shrink_to(&table, 0);
     WANT(code == INTAGLIO_DONE || (code == INTAGLIO_NO_MEMORY && refused == before + 1));
     holds(&table, 14, nth);
     uint8_t frozen[1024];
     size_t size;
     before = refused;
-    while (!done(intaglio_freeze(&table, 1, 2, frozen, sizeof frozen, &size), before, nth)) {
+    while (!done(intaglio_bytes_freeze(&table, 1, 2, frozen, sizeof frozen, &size), before, nth)) {
         holds(&table, 14, nth);
         before = refused;
     }
     WANT(intaglio_frozen_check(frozen, size) == INTAGLIO_DONE && intaglio_frozen_len(frozen, size) == 14);
-    intaglio_free(&table);
+    intaglio_bytes_free(&table);
 }
 
-/* The number of requests of a run, each of which was refused in turn. */
-static long refuse_each(uint32_t kind) {
+int main(void) {
     long nth = 0;
     for (;; nth++) {
         left = nth;
         refused = 0;
-        run(kind, nth);
-        if (refused == 0) return nth;
+        run(nth);
+        if (refused == 0) break;
     }
-}
-
-int main(void) {
-    long plain = refuse_each(INTAGLIO_BYTES), packed = refuse_each(INTAGLIO_PACKED_BYTES);
-    printf("%ld requests, and %ld of a packed table, each refused in turn\n", plain, packed);
-    return plain == 0 || packed == 0;
+    printf("%ld requests, each refused in turn\n", nth);
+    return nth == 0;
 }

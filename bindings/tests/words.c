@@ -1,7 +1,7 @@
 /* Interns the lines of its input, and writes what the proved program writes: the symbol of each line, an empty line, and each
  * string once, in the order of the symbols.
  *
- *     words text|bytes|cstr|path|osstr|bstr|packed_text|packed_bytes
+ *     words text|bytes|cstr|path|osstr|bstr
  */
 #include "intaglio.h"
 #include <stdio.h>
@@ -33,10 +33,8 @@ CALLS(cstr)
 CALLS(path)
 CALLS(osstr)
 CALLS(bstr)
-CALLS(packed_text)
-CALLS(packed_bytes)
 #define KIND(KIND) {#KIND, KIND##_make, KIND##_intern, KIND##_check, KIND##_get, KIND##_len, KIND##_free}
-static const struct calls kinds[] = {KIND(text), KIND(bytes), KIND(cstr), KIND(path), KIND(osstr), KIND(bstr), KIND(packed_text), KIND(packed_bytes)};
+static const struct calls kinds[] = {KIND(text), KIND(bytes), KIND(cstr), KIND(path), KIND(osstr), KIND(bstr)};
 
 static int fail(const char *what, uint32_t code) {
     fprintf(stderr, "%s: %u\n", what, code);
@@ -71,7 +69,7 @@ int main(int argc, char **argv) {
     uint32_t symbol = 0, again = 0;
     uint32_t code = calls->intern(&table, (const uint8_t *)"a", 1, &symbol);
     if (code != INTAGLIO_NO_TABLE) return fail("a table before it was made", code);
-    code = intaglio_new(&table, 8, 11, 22);
+    code = intaglio_new(&table, 6, 11, 22);
     if (code != INTAGLIO_NO_KIND) return fail("a table of no kind", code);
     code = calls->make(&table, 11, 22);
     if (code != INTAGLIO_DONE) return fail("new", code);

@@ -46,7 +46,7 @@ static PyObject *done_or_refused(uint32_t code) {
 /* Contents */
 
 static bool has_texts(const Table *self) {
-    return self->kind == INTAGLIO_PACKED_TEXT || self->kind == INTAGLIO_PATH || self->kind == INTAGLIO_OSSTR;
+    return self->kind == INTAGLIO_TEXT || self->kind == INTAGLIO_PATH || self->kind == INTAGLIO_OSSTR;
 }
 
 /* Whether `spell` takes the object as it is. */
@@ -671,9 +671,8 @@ static PyType_Spec base = {"intaglio.Table", sizeof(Table), 0, Py_TPFLAGS_DEFAUL
     static PyObject *new_##NAME(PyTypeObject *type, PyObject *Py_UNUSED(args), PyObject *Py_UNUSED(named)) { return new_table(type, NUMBER); } \
     static PyType_Slot slots_of_##NAME[] = {{Py_tp_doc, (void *)DOC}, {Py_tp_new, new_##NAME}, {0, NULL}}; \
     static PyType_Spec spec_of_##NAME = {"intaglio." CLASS, sizeof(Table), 0, Py_TPFLAGS_DEFAULT | Py_TPFLAGS_BASETYPE | Py_TPFLAGS_SEQUENCE, slots_of_##NAME};
-/* Strings are copied into a table and out of it, so the texts and the bytes are in one buffer each. */
-KIND(text, INTAGLIO_PACKED_TEXT, "SymbolTable", "A table of texts.")
-KIND(bytes, INTAGLIO_PACKED_BYTES, "BytesTable", "A table of bytes.")
+KIND(text, INTAGLIO_TEXT, "SymbolTable", "A table of texts.")
+KIND(bytes, INTAGLIO_BYTES, "BytesTable", "A table of bytes.")
 KIND(cstr, INTAGLIO_CSTR, "CStringTable", "A table of bytes without a zero, which the library holds as C strings. Raises InnerZero.")
 KIND(path, INTAGLIO_PATH, "PathTable", "A table of paths, which are equal if their components are, as \"a//b\" and \"a/./b\".")
 KIND(osstr, INTAGLIO_OSSTR, "OsStringTable", "A table of platform strings that are texts.")

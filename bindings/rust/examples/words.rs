@@ -1,7 +1,7 @@
 //! Interns the lines of its input, and writes what the proved program writes: the symbol of each line, an empty line, and each
 //! string once, in the order of the symbols.
 //!
-//!     words text|bytes|bstr|cstr|osstr|path|packed_text|packed_bytes
+//!     words text|bytes|bstr|cstr|osstr|path
 use std::borrow::Cow;
 use std::env::args;
 use std::error::Error;
@@ -10,7 +10,7 @@ use std::io::{BufWriter, Read, Write, stdin, stdout};
 use std::path::Path;
 
 use intaglio_proved::bstr::{self, BStr};
-use intaglio_proved::{Kind, SymbolTable, Table, bytes, cstr, osstr, packed, path};
+use intaglio_proved::{Kind, SymbolTable, Table, bytes, cstr, osstr, path};
 
 fn encode<'a, K: Kind>(
     lines: impl Iterator<Item = &'a K::Content>,
@@ -50,8 +50,6 @@ fn main() -> Result<(), Box<dyn Error>> {
         }
         Some("osstr") => encode(str::from_utf8(input)?.split('\n').map(OsStr::new), osstr::SymbolTable::new(), OsStr::as_encoded_bytes),
         Some("path") => encode(str::from_utf8(input)?.split('\n').map(Path::new), path::SymbolTable::new(), |path| path.as_os_str().as_encoded_bytes()),
-        Some("packed_text") => encode(str::from_utf8(input)?.split('\n'), packed::SymbolTable::new(), str::as_bytes),
-        Some("packed_bytes") => encode(lines(), packed::bytes::SymbolTable::new(), |bytes| bytes),
-        _ => Err("usage: words text|bytes|bstr|cstr|osstr|path|packed_text|packed_bytes".into()),
+        _ => Err("usage: words text|bytes|bstr|cstr|osstr|path".into()),
     }
 }

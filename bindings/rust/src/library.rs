@@ -58,7 +58,7 @@ mod sealed {
     pub trait Sealed {}
 }
 
-/// A kind of tables: [`Text`], [`Bytes`], [`Bstr`], [`Cstr`], [`Osstr`], [`Path`], [`PackedText`] or [`PackedBytes`].
+/// A kind of tables: [`Text`], [`Bytes`], [`Bstr`], [`Cstr`], [`Osstr`] or [`Path`].
 pub trait Kind: sealed::Sealed {
     /// The strings.
     type Content: ?Sized + ToOwned + Debug + 'static;
@@ -228,47 +228,6 @@ impl Kind for Osstr {
         // SAFETY: The bytes are those that `bytes` of this kind took from an `OsStr`: a kind is a type, so no other kind's get
         // into the table.
         unsafe { OsStr::from_encoded_bytes_unchecked(bytes) }
-    }
-}
-
-/// UTF-8 texts in one buffer.
-#[derive(Debug)]
-pub enum PackedText {}
-
-impl sealed::Sealed for PackedText {}
-
-impl Kind for PackedText {
-    type Content = str;
-
-    const NUMBER: u32 = 6;
-
-    fn bytes(content: &str) -> &[u8] {
-        content.as_bytes()
-    }
-
-    unsafe fn content(bytes: &[u8]) -> &str {
-        // SAFETY: As in `Text`.
-        unsafe { core::str::from_utf8_unchecked(bytes) }
-    }
-}
-
-/// Bytes in one buffer.
-#[derive(Debug)]
-pub enum PackedBytes {}
-
-impl sealed::Sealed for PackedBytes {}
-
-impl Kind for PackedBytes {
-    type Content = [u8];
-
-    const NUMBER: u32 = 7;
-
-    fn bytes(content: &[u8]) -> &[u8] {
-        content
-    }
-
-    unsafe fn content(bytes: &[u8]) -> &[u8] {
-        bytes
     }
 }
 

@@ -9,7 +9,7 @@ use std::path::{Path, PathBuf};
 use std::thread;
 
 use intaglio_proved::bstr::{self, BStr, BString};
-use intaglio_proved::{Refusal, Symbol, SymbolTable, bytes, cstr, osstr, packed, path};
+use intaglio_proved::{Refusal, Symbol, SymbolTable, bytes, cstr, osstr, path};
 
 fn symbols(ids: &[u32]) -> Vec<Symbol> {
     ids.iter().copied().map(Symbol::new).collect()
@@ -35,21 +35,6 @@ fn bytes_need_not_be_utf8() {
     assert_eq!(table.intern(&b"\xff\x00"[..]), Ok(Symbol::new(0)));
     assert_eq!(table.intern(vec![0xff, 0]), Ok(Symbol::new(0)));
     assert_eq!(table.bytestrings().collect::<Vec<_>>(), [b"\xff\x00"]);
-}
-
-#[test]
-fn packed_tables_hold_texts_and_bytes() {
-    let mut table = packed::SymbolTable::with_limit(3).unwrap();
-    assert_eq!(table.intern("b"), Ok(Symbol::new(0)));
-    assert_eq!(table.intern_all(["a", "b", ""]), Ok(symbols(&[1, 0, 2])));
-    assert_eq!(table.try_intern("c"), Err(Refusal::Full));
-    assert_eq!(table.strings().collect::<Vec<_>>(), ["b", "a", ""]);
-    assert_eq!((table.take_back(1), table.check_all(["a", "b"])), (Ok(()), vec![None, Some(Symbol::new(0))]));
-    let mut table = packed::bytes::SymbolTable::default();
-    assert_eq!(table.intern(&b"\xff\x00"[..]), Ok(Symbol::new(0)));
-    assert_eq!(table.intern(vec![0xff]), Ok(Symbol::new(1)));
-    assert_eq!(table.intern_copy(b"\xff\x00"), Ok(Symbol::new(0)));
-    assert_eq!(table.bytestrings().collect::<Vec<_>>(), [&b"\xff\x00"[..], b"\xff"]);
 }
 
 #[test]
@@ -183,7 +168,6 @@ fn tables_may_be_shared_and_survive_panics() {
     fn holds<T: Send + Sync + RefUnwindSafe + Unpin>(_: T) {}
     holds((SymbolTable::default(), bytes::SymbolTable::default(), cstr::SymbolTable::default()));
     holds((osstr::SymbolTable::default(), path::SymbolTable::default(), bstr::SymbolTable::default()));
-    holds((packed::SymbolTable::default(), packed::bytes::SymbolTable::default()));
 }
 
 #[test]

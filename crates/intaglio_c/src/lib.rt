@@ -1,5 +1,4 @@
-//! The tables of texts, bytes, C strings, paths, platform strings and byte strings for C, and packed tables of texts
-//! and of bytes.
+//! The tables of texts, bytes, C strings, paths, platform strings and byte strings for C.
 //!
 //! A handle knows the kind of its table, so one function serves all kinds. The
 //! header also has names for each kind. A frozen table has no handle: it is its bytes.
@@ -102,7 +101,7 @@ pub extern "C" fn intaglio_intern(
     symbol_code(handle.intern(alloc, bytes), symbol)
 }
 
-/// Interns these bytes, which must never change, and writes their symbol. They aren't copied, unless the table is packed.
+/// Interns these bytes, which aren't copied and must never change, and writes their symbol.
 #[unsafe(no_mangle)]
 pub extern "C" fn intaglio_intern_static(
     alloc: Global,
@@ -137,8 +136,7 @@ pub extern "C" fn intaglio_check_interned(
     }
 }
 
-/// Writes where the bytes of a symbol are, if it has any, and returns whether it has. Those of a packed table may be
-/// elsewhere after the next call that interns or shrinks.
+/// Writes where the bytes of a symbol are, if it has any, and returns whether it has.
 #[unsafe(no_mangle)]
 pub extern "C" fn intaglio_get(
     alloc: Global,

@@ -20,7 +20,7 @@ use Rattle.intaglio_symbol.specs.declared.error.StaleMark.{StaleMark}
 use Rattle.intaglio_handle.specs.Kinds.{fault, key}
 use Rattle.intaglio_handle.specs.Answers.{symbol_answer}
 use Rattle.intaglio_handle.specs.Seen.{Seen, as_bytes, seen_as, seen_of, c_str_bytes, position, look_up, unless, IsChangedBy}
-use Rattle.intaglio_handle.specs.Steps.{Interns, InternsBy, InternsStatic, IsStaticRefused, IsUncopiedOrRefused, Takes}
+use Rattle.intaglio_handle.specs.Steps.{Interns, InternsBy, InternsStatic, IsUncopiedOrRefused, Takes}
 use Rattle.intaglio_hash.specs.declared.state.KeyedState.{KeyedState}
 use Rattle.intaglio_handle.specs.declared.kind.Kind.{Kind}
 use Rattle.intaglio_handle.specs.declared.refusal.Refusal.{Refusal}
@@ -82,19 +82,19 @@ module _ {C : Type 0} (bytes : C → List ℕ) where
 
 module _ {C : Type 0} (kind : Kind) (bytes : C → List ℕ) where
   -- bytes that the kind doesn't take
-  refused : (Refused : Kind → State (List ℕ) → State (List ℕ) → Type 0) (old : Seen) (held : State C) (h : KeyedState) (b : List ℕ) (r : Refusal) (result : Result ℕ Refusal) → old ≡ seen_of kind bytes held h → fault kind b ≡ Some r → result ≡ Err r
-      → IsChangedBy old (seen_of kind bytes held h) (λ _ s'. InternsBy (Refused old.kind) b old.state (look_up old b) result s')
+  refused : (Refused : State (List ℕ) → State (List ℕ) → Type 0) (old : Seen) (held : State C) (h : KeyedState) (b : List ℕ) (r : Refusal) (result : Result ℕ Refusal) → old ≡ seen_of kind bytes held h → fault kind b ≡ Some r → result ≡ Err r
+      → IsChangedBy old (seen_of kind bytes held h) (λ _ s'. InternsBy Refused b old.state (look_up old b) result s')
   refused Refused old held h b r result is fault_is err =
       let s = as_bytes bytes held in
-      let step = subst (λ (f : Option Refusal). InternsBy (Refused kind) b s (unless f (position (seen_of kind bytes held h) b)) result s) (sym fault_is) (err, refl) in
-      changed old kind bytes held held h h (λ _ x. InternsBy (Refused old.kind) b old.state (look_up old b) result x) is refl
-      (subst (λ (x : Seen). InternsBy (Refused x.kind) b x.state (look_up x b) result s) (sym is) step)
+      let step = subst (λ (f : Option Refusal). InternsBy Refused b s (unless f (position (seen_of kind bytes held h) b)) result s) (sym fault_is) (err, refl) in
+      changed old kind bytes held held h h (λ _ x. InternsBy Refused b old.state (look_up old b) result x) is refl
+      (subst (λ (x : Seen). InternsBy Refused b x.state (look_up x b) result s) (sym is) step)
 
   pub refused_form : (old : Seen) (held : State C) (h : KeyedState) (b : List ℕ) (r : Refusal) (result : Result ℕ Refusal) → old ≡ seen_of kind bytes held h → fault kind b ≡ Some r → result ≡ Err r → IsChangedBy old (seen_of kind bytes held h) (λ _ s'. Interns b old result s')
-  refused_form = refused (λ _. IsUncopiedOrRefused)
+  refused_form = refused IsUncopiedOrRefused
 
   pub refused_content : (old : Seen) (held : State C) (h : KeyedState) (b : List ℕ) (r : Refusal) (result : Result ℕ Refusal) → old ≡ seen_of kind bytes held h → fault kind b ≡ Some r → result ≡ Err r → IsChangedBy old (seen_of kind bytes held h) (λ _ s'. InternsStatic b old result s')
-  refused_content = refused IsStaticRefused
+  refused_content = refused IsRefused
 
 -- whether a size is too large, by the result
 module _ {X Y E P : Type 0} where
@@ -126,9 +126,9 @@ module _ {C : Type 0} (kind : Kind) (bytes : C → List ℕ) (content_key : C �
       subst (λ (x : Seen). Ok result ≡ look_up x b) (sym is) (rw allowed (ap Ok position))
 
   -- a content that isn't there is stored
-  takes : (Refused : State (List ℕ) → State (List ℕ) → Type 0) → ((s s' : State (List ℕ)) → IsRefused s s' → Refused s s') → (old new : State C) (c : C) (b : List ℕ) (result : Result ℕ InternError) → bytes c ≡ b → core_change.Takes old c result new
-      → Takes Refused b (as_bytes bytes old) (symbol_answer result) (as_bytes bytes new)
-  takes Refused own old new c b (Ok symbol) spelled taken =
+  takes : (old new : State C) (c : C) (b : List ℕ) (result : Result ℕ InternError) → bytes c ≡ b → core_change.Takes old c result new
+      → Takes IsRefused b (as_bytes bytes old) (symbol_answer result) (as_bytes bytes new)
+  takes old new c b (Ok symbol) spelled taken =
       let count = length-map old.contents bytes in record {
         below_limit = subst (λ (m : ℕ). m < old.limit) (sym count) taken.below_limit;
         position = taken.position ∙ sym count;
@@ -137,15 +137,15 @@ module _ {C : Type 0} (kind : Kind) (bytes : C → List ℕ) (content_key : C �
         growth = λ grown. (count ∙ (taken.growth grown).0, (taken.growth grown).1);
         limit = taken.limit;
       }
-  takes Refused own old new c b (Err (Overflow full)) spelled refused = (length-map old.contents bytes ∙ refused.0, ap (as_bytes bytes) refused.1)
-  takes Refused own old new c b (Err (Memory e)) spelled refused = own _ _ (record {
+  takes old new c b (Err (Overflow full)) spelled refused = (length-map old.contents bytes ∙ refused.0, ap (as_bytes bytes) refused.1)
+  takes old new c b (Err (Memory e)) spelled refused = record {
     below_limit = subst (λ (m : ℕ). m < old.limit) (sym (length-map old.contents bytes)) refused.below_limit;
     no_room = refused.no_room;
     contents = ap (map bytes) refused.contents;
     spare = refused.spare;
     buckets = refused.buckets;
     limit = refused.limit;
-  })
+  }
 
   -- a copy of a form
   uncopied : (old new : State C) → core_change.IsUncopied old new ⊎ IsRefused old new → IsUncopiedOrRefused (as_bytes bytes old) (as_bytes bytes new)
@@ -159,11 +159,11 @@ module _ {C : Type 0} (kind : Kind) (bytes : C → List ℕ) (content_key : C �
     limit = refused.limit;
   })
 
-  copies : (Refused : State (List ℕ) → State (List ℕ) → Type 0) → ((s s' : State (List ℕ)) → IsUncopiedOrRefused s s' → Refused s s') → (spelling : C → List ℕ) (old new : State C) (k : Key) (w b : List ℕ) (result : Result ℕ InternError) → ((c : C) → spelling c ≡ w → bytes c ≡ b)
-      → TakesCopy content_key spelling old k w result new → Takes Refused b (as_bytes bytes old) (symbol_answer result) (as_bytes bytes new)
-  copies Refused own spelling old new k w b (Ok symbol) spelled copied = takes IsRefused (λ _ _ refused. refused) old new copied.copy b (Ok symbol) (spelled copied.copy copied.same_spelling) copied.taken
-  copies Refused own spelling old new k w b (Err (Overflow full)) spelled refused = (length-map old.contents bytes ∙ refused.0, ap (as_bytes bytes) refused.1)
-  copies Refused own spelling old new k w b (Err (Memory e)) spelled refused = own _ _ (uncopied old new refused)
+  copies : (spelling : C → List ℕ) (old new : State C) (k : Key) (w b : List ℕ) (result : Result ℕ InternError) → ((c : C) → spelling c ≡ w → bytes c ≡ b) → TakesCopy content_key spelling old k w result new
+      → Takes IsUncopiedOrRefused b (as_bytes bytes old) (symbol_answer result) (as_bytes bytes new)
+  copies spelling old new k w b (Ok symbol) spelled copied = takes old new copied.copy b (Ok symbol) (spelled copied.copy copied.same_spelling) copied.taken
+  copies spelling old new k w b (Err (Overflow full)) spelled refused = (length-map old.contents bytes ∙ refused.0, ap (as_bytes bytes) refused.1)
+  copies spelling old new k w b (Err (Memory e)) spelled refused = uncopied old new refused
 
   -- an interning, by the result of the look-up
   by_look_up : (Refused : State (List ℕ) → State (List ℕ) → Type 0) (Taken : Type 0) (o : Option ℕ) (old new : State C) (b : List ℕ) (result : Result ℕ InternError)
@@ -172,45 +172,34 @@ module _ {C : Type 0} (kind : Kind) (bytes : C → List ℕ) (content_key : C �
   by_look_up Refused Taken None old new b result takes step = takes step
   by_look_up Refused Taken (Some i) old new b result takes step = (ap symbol_answer step.0, ap (as_bytes bytes) step.1)
 
-  interned : (Refused : Kind → State (List ℕ) → State (List ℕ) → Type 0) (old : Seen) (held : State C) (h : KeyedState) (t' : Table C KeyedState) (b : List ℕ) (k : Key) (result : Result ℕ InternError) → old ≡ seen_of kind bytes held h → t'.hasher ≡ h
-      → fault kind b ≡ None → k ≡ key kind b → InternsBy (Refused kind) b (as_bytes bytes held) (Ok (first content_key held.contents k)) (symbol_answer result) (as_bytes bytes t'.state)
-      → IsChangedBy old (seen_as kind bytes t') (λ _ s'. InternsBy (Refused old.kind) b old.state (look_up old b) (symbol_answer result) s')
+  interned : (Refused : State (List ℕ) → State (List ℕ) → Type 0) (old : Seen) (held : State C) (h : KeyedState) (t' : Table C KeyedState) (b : List ℕ) (k : Key) (result : Result ℕ InternError) → old ≡ seen_of kind bytes held h → t'.hasher ≡ h
+      → fault kind b ≡ None → k ≡ key kind b → InternsBy Refused b (as_bytes bytes held) (Ok (first content_key held.contents k)) (symbol_answer result) (as_bytes bytes t'.state)
+      → IsChangedBy old (seen_as kind bytes t') (λ _ s'. InternsBy Refused b old.state (look_up old b) (symbol_answer result) s')
   interned Refused old held h t' b k result is hasher allowed spelled step =
       let answer = symbol_answer result in let s = as_bytes bytes held in let s' = as_bytes bytes t'.state in
       let place = first-bytes held.contents k ∙ ap (first (key kind) (map bytes held.contents)) spelled in
-      let found = subst (λ (o : Option ℕ). InternsBy (Refused kind) b s (Ok o) answer s') place step in
-      let looked_up = subst (λ (f : Option Refusal). InternsBy (Refused kind) b s (unless f (position (seen_of kind bytes held h) b)) answer s') (sym allowed) found in
-      changed old kind bytes held t'.state h t'.hasher (λ _ x. InternsBy (Refused old.kind) b old.state (look_up old b) answer x) is hasher
-      (subst (λ (x : Seen). InternsBy (Refused x.kind) b x.state (look_up x b) answer s') (sym is) looked_up)
+      let found = subst (λ (o : Option ℕ). InternsBy Refused b s (Ok o) answer s') place step in
+      let looked_up = subst (λ (f : Option Refusal). InternsBy Refused b s (unless f (position (seen_of kind bytes held h) b)) answer s') (sym allowed) found in
+      changed old kind bytes held t'.state h t'.hasher (λ _ x. InternsBy Refused b old.state (look_up old b) answer x) is hasher
+      (subst (λ (x : Seen). InternsBy Refused b x.state (look_up x b) answer s') (sym is) looked_up)
 
   -- by a form, which is copied
-  interned_by_form : (Refused : Kind → State (List ℕ) → State (List ℕ) → Type 0) → ((s s' : State (List ℕ)) → IsUncopiedOrRefused s s' → Refused kind s s') → (spelling : C → List ℕ) (old : Seen) (held : State C) (h : KeyedState) (t' : Table C KeyedState) (b w : List ℕ) (k : Key) (result : Result ℕ InternError) (answer : Result ℕ Refusal)
-      → old ≡ seen_of kind bytes held h → t'.hasher ≡ h → fault kind b ≡ None → k ≡ key kind b → ((c : C) → spelling c ≡ w → bytes c ≡ b) → InternsForm content_key spelling held k w result t'.state → answer ≡ symbol_answer result
-      → IsChangedBy old (seen_as kind bytes t') (λ _ s'. InternsBy (Refused old.kind) b old.state (look_up old b) answer s')
-  interned_by_form Refused own spelling old held h t' b w k result answer is hasher allowed same_key spelled step answered =
-      subst (λ (a : Result ℕ Refusal). IsChangedBy old (seen_as kind bytes t') (λ _ s'. InternsBy (Refused old.kind) b old.state (look_up old b) a s')) (sym answered)
-      (interned Refused old held h t' b k result is hasher allowed same_key
-      (by_look_up (Refused kind) (TakesCopy content_key spelling held k w result t'.state) (first content_key held.contents k) held t'.state b result (copies (Refused kind) own spelling held t'.state k w b result spelled) step))
-
   pub interned_form : (spelling : C → List ℕ) (old : Seen) (held : State C) (h : KeyedState) (t' : Table C KeyedState) (b w : List ℕ) (k : Key) (result : Result ℕ InternError) (answer : Result ℕ Refusal) → old ≡ seen_of kind bytes held h → t'.hasher ≡ h
       → fault kind b ≡ None → k ≡ key kind b → ((c : C) → spelling c ≡ w → bytes c ≡ b) → InternsForm content_key spelling held k w result t'.state → answer ≡ symbol_answer result
       → IsChangedBy old (seen_as kind bytes t') (λ _ s'. Interns b old answer s')
-  interned_form = interned_by_form (λ _. IsUncopiedOrRefused) (λ _ _ refused. refused)
-
-  -- static bytes that are copied all the same
-  pub interned_copied : ((s s' : State (List ℕ)) → IsUncopiedOrRefused s s' → IsStaticRefused kind s s') → (spelling : C → List ℕ) (old : Seen) (held : State C) (h : KeyedState) (t' : Table C KeyedState) (b w : List ℕ) (k : Key) (result : Result ℕ InternError) (answer : Result ℕ Refusal) → old ≡ seen_of kind bytes held h → t'.hasher ≡ h
-      → fault kind b ≡ None → k ≡ key kind b → ((c : C) → spelling c ≡ w → bytes c ≡ b) → InternsForm content_key spelling held k w result t'.state → answer ≡ symbol_answer result
-      → IsChangedBy old (seen_as kind bytes t') (λ _ s'. InternsStatic b old answer s')
-  interned_copied = interned_by_form IsStaticRefused
+  interned_form spelling old held h t' b w k result answer is hasher allowed same_key spelled step answered =
+      subst (λ (a : Result ℕ Refusal). IsChangedBy old (seen_as kind bytes t') (λ _ s'. Interns b old a s')) (sym answered)
+      (interned IsUncopiedOrRefused old held h t' b k result is hasher allowed same_key
+      (by_look_up IsUncopiedOrRefused (TakesCopy content_key spelling held k w result t'.state) (first content_key held.contents k) held t'.state b result (copies spelling held t'.state k w b result spelled) step))
 
   -- by a content, which is moved in
-  pub interned_content : ((s s' : State (List ℕ)) → IsRefused s s' → IsStaticRefused kind s s') → (old : Seen) (held : State C) (h : KeyedState) (t' : Table C KeyedState) (c : C) (b : List ℕ) (result : Result ℕ InternError) (answer : Result ℕ Refusal) → old ≡ seen_of kind bytes held h → t'.hasher ≡ h
+  pub interned_content : (old : Seen) (held : State C) (h : KeyedState) (t' : Table C KeyedState) (c : C) (b : List ℕ) (result : Result ℕ InternError) (answer : Result ℕ Refusal) → old ≡ seen_of kind bytes held h → t'.hasher ≡ h
       → fault kind b ≡ None → bytes c ≡ b → core_change.Interns content_key held c result t'.state → answer ≡ symbol_answer result
       → IsChangedBy old (seen_as kind bytes t') (λ _ s'. InternsStatic b old answer s')
-  interned_content own old held h t' c b result answer is hasher allowed spelled step answered =
+  interned_content old held h t' c b result answer is hasher allowed spelled step answered =
       subst (λ (a : Result ℕ Refusal). IsChangedBy old (seen_as kind bytes t') (λ _ s'. InternsStatic b old a s')) (sym answered)
-      (interned IsStaticRefused old held h t' b (content_key c) result is hasher allowed (same c ∙ ap (key kind) spelled)
-      (by_look_up (IsStaticRefused kind) (core_change.Takes held c result t'.state) (first content_key held.contents (content_key c)) held t'.state b result (takes (IsStaticRefused kind) own held t'.state c b result spelled) step))
+      (interned IsRefused old held h t' b (content_key c) result is hasher allowed (same c ∙ ap (key kind) spelled)
+      (by_look_up IsRefused (core_change.Takes held c result t'.state) (first content_key held.contents (content_key c)) held t'.state b result (takes held t'.state c b result spelled) step))
 
 -- the key of a C string is that of its bytes without their last
 without_zero : (bytes : List ℕ) → bytes ∷ [] ≡ without_last (bytes ++ 0 ∷ []) ∷ []

@@ -71,8 +71,6 @@ frozen_kind kind.CStr = frozen.Bytes
 frozen_kind kind.Path = frozen.Text
 frozen_kind kind.OsStr = frozen.Text
 frozen_kind kind.BStr = frozen.Bytes
-frozen_kind kind.PackedText = frozen.Text
-frozen_kind kind.PackedBytes = frozen.Bytes
 
 -- bytes are a frozen table of the strings of a table, as C sees them, each at its symbol
 pub record IsFrozenOf (t : Seen) (bs : List ℕ) : Type 0 where

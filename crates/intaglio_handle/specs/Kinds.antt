@@ -5,7 +5,7 @@ use Rattle.intaglio_content.specs.Key.{Key}
 use Rattle.intaglio_cstr.specs.Zeros.{first_zero, without_last}
 use Rattle.intaglio_path.specs.Components.{components}
 use Rattle.intaglio_handle.specs.declared.kind.Kind.{Kind}
-use Rattle.intaglio_handle.specs.declared.kind.Kind.TheVariants.{Text, Bytes, CStr, Path, OsStr, BStr, PackedText, PackedBytes}
+use Rattle.intaglio_handle.specs.declared.kind.Kind.TheVariants.{Text, Bytes, CStr, Path, OsStr, BStr}
 use Rattle.intaglio_handle.specs.declared.refusal.Refusal.{Refusal}
 use Rattle.intaglio_handle.specs.declared.refusal.Refusal.TheVariants.{NotUtf8, InnerZero, MissingZero}
 
@@ -18,8 +18,6 @@ kind_of n =
     else if n == 3 then Some Path
     else if n == 4 then Some OsStr
     else if n == 5 then Some BStr
-    else if n == 6 then Some PackedText
-    else if n == 7 then Some PackedBytes
     else None
 
 -- what bytes are compared by
@@ -30,8 +28,6 @@ key CStr bytes = without_last bytes ∷ []
 key Path bytes = components bytes
 key OsStr bytes = bytes ∷ []
 key BStr bytes = bytes ∷ []
-key PackedText bytes = bytes ∷ []
-key PackedBytes bytes = bytes ∷ []
 
 -- why bytes aren't a text, if they aren't
 abbrev pub utf8_fault : List ℕ → Option Refusal
@@ -53,5 +49,3 @@ fault CStr bytes = zero_fault bytes
 fault Path bytes = utf8_fault bytes
 fault OsStr bytes = utf8_fault bytes
 fault BStr bytes = None
-fault PackedText bytes = utf8_fault bytes
-fault PackedBytes bytes = None

@@ -38,10 +38,6 @@ seen_as k bytes t = seen_of k bytes t.state t.hasher
 abbrev pub c_str_bytes : CStrContent → List ℕ
 c_str_bytes content = c_str_content_bytes content ++ 0 ∷ []
 
--- a packed table's contents are their bytes
-abbrev pub packed_bytes : List ℕ → List ℕ
-packed_bytes bytes = bytes
-
 abbrev pub seen : AnyTable → Seen
 seen (any_table.Text t) = seen_as kind.Text str_content_bytes t
 seen (any_table.Bytes t) = seen_as kind.Bytes bytes_content_bytes t
@@ -49,8 +45,6 @@ seen (any_table.CStr t) = seen_as kind.CStr c_str_bytes t
 seen (any_table.Path t) = seen_as kind.Path path_content_bytes t
 seen (any_table.OsStr t) = seen_as kind.OsStr os_str_content_bytes t
 seen (any_table.BStr t) = seen_as kind.BStr bstr_content_bytes t
-seen (any_table.PackedText t) = seen_as kind.PackedText packed_bytes t
-seen (any_table.PackedBytes t) = seen_as kind.PackedBytes packed_bytes t
 
 -- the symbol of the content that is equal to the one with these bytes, if one is stored
 abbrev pub position : Seen → List ℕ → Option ℕ

@@ -3,20 +3,12 @@ use Rattle.std.specs.Prelude.{◌≡◌, ℕ, ◌+◌, ◌<◌, ◌⊎◌, List,
 use Rattle.intaglio_core.specs.Change.{IsCut, IsRefused, IsReserved, IsShrunk, IsTaken, IsUncopied, IsUnreserved}
 use Rattle.intaglio_core.specs.State.{State}
 use Rattle.intaglio_handle.specs.Seen.{Seen, look_up}
-use Rattle.intaglio_handle.specs.declared.kind.Kind.{Kind}
-use Rattle.intaglio_handle.specs.declared.kind.Kind.TheVariants.{PackedText, PackedBytes}
 use Rattle.intaglio_handle.specs.declared.refusal.Refusal.{Refusal}
 use Rattle.intaglio_handle.specs.declared.refusal.Refusal.TheVariants.{Full, NoMemory, TooLarge, Stale}
 
 -- the allocation of a copy failed, or that of a growth
 abbrev pub IsUncopiedOrRefused : State (List ℕ) → State (List ℕ) → Type 0
 IsUncopiedOrRefused old new = IsUncopied old new ⊎ IsRefused old new
-
--- an allocation failed while static bytes were interned in a table of this kind: only packed tables copy them
-abbrev pub IsStaticRefused : Kind → State (List ℕ) → State (List ℕ) → Type 0
-IsStaticRefused PackedText old new = IsUncopiedOrRefused old new
-IsStaticRefused PackedBytes old new = IsUncopiedOrRefused old new
-IsStaticRefused _ old new = IsRefused old new
 
 -- bytes that aren't stored are interned; Refused holds if an allocation fails
 abbrev pub Takes : (State (List ℕ) → State (List ℕ) → Type 0) → List ℕ → State (List ℕ) → Result ℕ Refusal → State (List ℕ) → Type 0
@@ -35,9 +27,9 @@ InternsBy Refused bytes s (Ok None) result s' = Takes Refused bytes s result s'
 abbrev pub Interns : List ℕ → Seen → Result ℕ Refusal → State (List ℕ) → Type 0
 Interns bytes t result s' = InternsBy IsUncopiedOrRefused bytes t.state (look_up t bytes) result s'
 
--- bytes are interned, without a copy unless the table is packed
+-- bytes are interned without a copy
 abbrev pub InternsStatic : List ℕ → Seen → Result ℕ Refusal → State (List ℕ) → Type 0
-InternsStatic bytes t result s' = InternsBy (IsStaticRefused t.kind) bytes t.state (look_up t bytes) result s'
+InternsStatic bytes t result s' = InternsBy IsRefused bytes t.state (look_up t bytes) result s'
 
 -- a reservation for n more, by its result
 abbrev pub Reserves : ℕ → Seen → Result (Unit {0}) Refusal → State (List ℕ) → Type 0

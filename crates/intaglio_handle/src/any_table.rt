@@ -3,9 +3,8 @@ use intaglio_bytes::b_str::BStrContent;
 use intaglio_bytes::bytes::BytesContent;
 use intaglio_cstr::CStrContent;
 use intaglio_hash::KeyedState;
-use intaglio_packed::{Packed, Texts};
 use intaglio_path::PathContent;
-use intaglio_table::{Table, TableOver};
+use intaglio_table::Table;
 use intaglio_text::StrContent;
 use intaglio_text::osstr::OsStrContent;
 
@@ -29,8 +28,4 @@ pub enum AnyTable {
     OsStr(Table<OsStrContent, KeyedState>),
     /// Byte strings.
     BStr(Table<BStrContent, KeyedState>),
-    /// Texts in one buffer.
-    PackedText(TableOver<Texts, KeyedState>),
-    /// Bytes in one buffer.
-    PackedBytes(TableOver<Packed, KeyedState>),
 }

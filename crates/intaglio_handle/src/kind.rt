@@ -15,10 +15,6 @@ pub enum Kind {
     OsStr,
     /// Byte strings: bytes that are text by convention.
     BStr,
-    /// UTF-8 texts in one buffer.
-    PackedText,
-    /// Bytes in one buffer.
-    PackedBytes,
 }
 
 impl Kind {
@@ -36,8 +32,6 @@ impl Kind {
             3 => Some(Kind::Path),
             4 => Some(Kind::OsStr),
             5 => Some(Kind::BStr),
-            6 => Some(Kind::PackedText),
-            7 => Some(Kind::PackedBytes),
             _ => None,
         }
     }

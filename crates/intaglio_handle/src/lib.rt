@@ -1,4 +1,4 @@
-//! The tables of texts, bytes, C strings, paths, platform strings and byte strings for C, and packed ones.
+//! The tables of texts, bytes, C strings, paths, platform strings and byte strings for C.
 //!
 //! C holds a [`Handle`], which owns an [`AnyTable`]. Each call takes the table out
 //! of the handle, and puts it back. Its contract is about the table as C sees it, with its contents as their

@@ -58,8 +58,6 @@ impl AnyTable {
             AnyTable::Path(table) => Some(table.get(symbol)?.as_str().as_bytes()),
             AnyTable::OsStr(table) => Some(table.get(symbol)?.as_bytes()),
             AnyTable::BStr(table) => Some(table.get(symbol)?.as_bytes()),
-            AnyTable::PackedText(table) => Some(table.get(symbol)?.as_bytes()),
-            AnyTable::PackedBytes(table) => table.get(symbol),
         }
     }
 
@@ -75,8 +73,6 @@ impl AnyTable {
             AnyTable::Path(table) => Ok(table.check_interned(Path::new(text_of(bytes)?))),
             AnyTable::OsStr(table) => Ok(table.check_interned(text_of(bytes)?)),
             AnyTable::BStr(table) => Ok(table.check_interned(BStr::new(bytes))),
-            AnyTable::PackedText(table) => Ok(table.check_interned(text_of(bytes)?)),
-            AnyTable::PackedBytes(table) => Ok(table.check_interned(bytes)),
         }
     }
 
@@ -92,12 +88,10 @@ impl AnyTable {
             AnyTable::Path(table) => symbol_answer(table.get_or_intern(Path::new(text_of(bytes)?))),
             AnyTable::OsStr(table) => symbol_answer(table.get_or_intern(text_of(bytes)?)),
             AnyTable::BStr(table) => symbol_answer(table.get_or_intern(BStr::new(bytes))),
-            AnyTable::PackedText(table) => symbol_answer(table.get_or_intern(text_of(bytes)?)),
-            AnyTable::PackedBytes(table) => symbol_answer(table.get_or_intern(bytes)),
         }
     }
 
-    // The same for bytes that never change, without a copy unless the table is packed.
+    // The same without a copy, for bytes that never change.
     pub(crate) fn intern_static(&mut self, bytes: &'static [u8]) -> Result<Symbol, Refusal>
         ensures step { TakesStep self.old self.new result (InternsStatic bytes.now) }
     {
@@ -118,8 +112,6 @@ impl AnyTable {
             AnyTable::BStr(table) => {
                 symbol_answer(table.intern(BStrContent::Borrowed(BStr::new(bytes))))
             }
-            AnyTable::PackedText(table) => symbol_answer(table.get_or_intern(text_of(bytes)?)),
-            AnyTable::PackedBytes(table) => symbol_answer(table.get_or_intern(bytes)),
         }
     }
 }

@@ -7,7 +7,7 @@ use super::AnyTable;
 use crate::kind::Kind;
 use intaglio_core::RoomError;
 use intaglio_hash::KeyedState;
-use intaglio_table::{Table, TableOver};
+use intaglio_table::Table;
 use std::alloc::Global;
 
 impl AnyTable {
@@ -28,12 +28,6 @@ impl AnyTable {
             Kind::Path => Ok(Self::Path(Table::with_capacity_and_hasher(alloc, capacity, keys)?)),
             Kind::OsStr => Ok(Self::OsStr(Table::with_capacity_and_hasher(alloc, capacity, keys)?)),
             Kind::BStr => Ok(Self::BStr(Table::with_capacity_and_hasher(alloc, capacity, keys)?)),
-            Kind::PackedText => Ok(Self::PackedText(TableOver::with_capacity_and_hasher(
-                alloc, capacity, keys,
-            )?)),
-            Kind::PackedBytes => Ok(Self::PackedBytes(TableOver::with_capacity_and_hasher(
-                alloc, capacity, keys,
-            )?)),
         }
     }
 
@@ -54,8 +48,6 @@ impl AnyTable {
             Kind::Path => Ok(Self::Path(Table::with_limit(alloc, limit, keys)?)),
             Kind::OsStr => Ok(Self::OsStr(Table::with_limit(alloc, limit, keys)?)),
             Kind::BStr => Ok(Self::BStr(Table::with_limit(alloc, limit, keys)?)),
-            Kind::PackedText => Ok(Self::PackedText(TableOver::with_limit(alloc, limit, keys)?)),
-            Kind::PackedBytes => Ok(Self::PackedBytes(TableOver::with_limit(alloc, limit, keys)?)),
         }
     }
 }

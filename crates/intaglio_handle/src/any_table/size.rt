@@ -16,8 +16,6 @@ macro_rules! on_table {
             AnyTable::Path($table) => $call,
             AnyTable::OsStr($table) => $call,
             AnyTable::BStr($table) => $call,
-            AnyTable::PackedText($table) => $call,
-            AnyTable::PackedBytes($table) => $call,
         }
     };
 }

@@ -40,8 +40,6 @@ fn frozen_kind(table: &AnyTable) -> Kind
         AnyTable::Path(_) => Kind::Text,
         AnyTable::OsStr(_) => Kind::Text,
         AnyTable::BStr(_) => Kind::Bytes,
-        AnyTable::PackedText(_) => Kind::Text,
-        AnyTable::PackedBytes(_) => Kind::Bytes,
     }
 }
 

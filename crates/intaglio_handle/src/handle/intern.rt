@@ -26,7 +26,7 @@ impl Handle {
         answer
     }
 
-    /// The same for bytes that never change, without a copy unless the table is packed.
+    /// The same without a copy, for bytes that never change.
     ///
     /// # Errors
     ///

@@ -5,7 +5,7 @@ use Rattle.intaglio_bytes.specs.BytesContent.{bytes_content_bytes}
 use Rattle.intaglio_path.specs.PathContent.{path_content_bytes}
 use Rattle.intaglio_text.specs.OsStrContent.{os_str_content_bytes}
 use Rattle.intaglio_text.specs.StrContent.{str_content_bytes}
-use Rattle.intaglio_handle.specs.Seen.{seen, packed_bytes}
+use Rattle.intaglio_handle.specs.Seen.{seen}
 use Rattle.intaglio_handle.specs.declared.kind.Kind.TheVariants as kind
 use Rattle.intaglio_handle.proofs.AsBytes.{stored}
 use Rattle.intaglio_handle.proofs.any_table.AnyTable.bytes_at.Goals as goal
@@ -36,12 +36,3 @@ returns-in_ok-get-in-BStr c = record { bytes = ap Some c.as_bytes-in-BStr.ensure
 
 pub returns-in_err-get-in-BStr : goal.returns-in_err-get-in-BStr
 returns-in_err-get-in-BStr c = record { bytes = rw c.from_residual-in_err-get-in-BStr.ensures (stored kind.BStr bstr_content_bytes _ _ _ _ _ (ap seen c.in-BStr.is) c.in_err-get-in-BStr.ensures) }
-
-pub returns-in_ok-get-in-PackedText : goal.returns-in_ok-get-in-PackedText
-returns-in_ok-get-in-PackedText c = record { bytes = ap Some c.as_bytes-in-PackedText.ensures.value ∙ stored kind.PackedText packed_bytes _ _ _ _ _ (ap seen c.in-PackedText.is) c.in_ok-get-in-PackedText.ensures }
-
-pub returns-in_err-get-in-PackedText : goal.returns-in_err-get-in-PackedText
-returns-in_err-get-in-PackedText c = record { bytes = rw c.from_residual-in_err-get-in-PackedText.ensures (stored kind.PackedText packed_bytes _ _ _ _ _ (ap seen c.in-PackedText.is) c.in_err-get-in-PackedText.ensures) }
-
-pub returns-in-PackedBytes : goal.returns-in-PackedBytes
-returns-in-PackedBytes c = record { bytes = stored kind.PackedBytes packed_bytes _ _ _ _ _ (ap seen c.in-PackedBytes.is) c.get-in-PackedBytes.ensures }

@@ -6,7 +6,7 @@ use Rattle.intaglio_path.specs.Components.{components}
 use Rattle.intaglio_path.specs.PathContent.{path_content_bytes}
 use Rattle.intaglio_text.specs.OsStrContent.{os_str_content_bytes}
 use Rattle.intaglio_text.specs.StrContent.{str_content_bytes}
-use Rattle.intaglio_handle.specs.Seen.{seen, c_str_bytes, packed_bytes}
+use Rattle.intaglio_handle.specs.Seen.{seen, c_str_bytes}
 use Rattle.intaglio_handle.specs.declared.kind.Kind.TheVariants as kind
 use Rattle.intaglio_handle.proofs.AsBytes.{found, c_str_key, ended_key}
 use Rattle.intaglio_handle.proofs.any_table.AnyTable.find.Goals as goal
@@ -28,9 +28,3 @@ returns-in_ok-text_of-in-OsStr c = record { found = found kind.OsStr os_str_cont
 
 pub returns-in-BStr : goal.returns-in-BStr
 returns-in-BStr c = record { found = found kind.BStr bstr_content_bytes _ (λ _. refl) _ _ _ _ _ _ (ap seen c.in-BStr.is) refl (ap (λ (b : List ℕ). b ∷ []) c.new-in-BStr.ensures) c.check_interned-in-BStr.ensures.found }
-
-pub returns-in_ok-text_of-in-PackedText : goal.returns-in_ok-text_of-in-PackedText
-returns-in_ok-text_of-in-PackedText c = record { found = found kind.PackedText packed_bytes _ (λ _. refl) _ _ _ _ _ _ (ap seen c.in-PackedText.is) c.in_ok-text_of-in-PackedText.ensures.faultless (ap (λ (b : List ℕ). b ∷ []) c.in_ok-text_of-in-PackedText.ensures.ok) c.check_interned-in-PackedText.ensures.found }
-
-pub returns-in-PackedBytes : goal.returns-in-PackedBytes
-returns-in-PackedBytes c = record { found = found kind.PackedBytes packed_bytes _ (λ _. refl) _ _ _ _ _ _ (ap seen c.in-PackedBytes.is) refl refl c.check_interned-in-PackedBytes.ensures.found }

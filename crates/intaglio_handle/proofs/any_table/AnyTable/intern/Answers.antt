@@ -6,7 +6,7 @@ use Rattle.intaglio_path.specs.Components.{components}
 use Rattle.intaglio_path.specs.PathContent.{path_content_bytes}
 use Rattle.intaglio_text.specs.OsStrContent.{os_str_content_bytes}
 use Rattle.intaglio_text.specs.StrContent.{str_content_bytes}
-use Rattle.intaglio_handle.specs.Seen.{seen, c_str_bytes, packed_bytes}
+use Rattle.intaglio_handle.specs.Seen.{seen, c_str_bytes}
 use Rattle.intaglio_handle.specs.declared.kind.Kind.TheVariants as kind
 use Rattle.intaglio_handle.proofs.AsBytes.{interned_form, refused_form, c_str_key, ended_key}
 use Rattle.intaglio_handle.proofs.any_table.AnyTable.intern.Goals as goal
@@ -40,12 +40,3 @@ returns-in_err-text_of-in-Path c = record { step = refused_form kind.Path path_c
 
 pub returns-in_err-text_of-in-OsStr : goal.returns-in_err-text_of-in-OsStr
 returns-in_err-text_of-in-OsStr c = record { step = refused_form kind.OsStr os_str_content_bytes _ _ _ _ _ _ (ap seen c.in-OsStr.is) c.in_err-text_of-in-OsStr.ensures.err (let e : c.from_residual-in_err-text_of-in-OsStr.result ≡ Err c.in_err-text_of-in-OsStr.field-0.0 = search rules in e) }
-
-pub returns-in_ok-text_of-in-PackedText : goal.returns-in_ok-text_of-in-PackedText
-returns-in_ok-text_of-in-PackedText c = record { step = interned_form kind.PackedText packed_bytes _ (λ _. refl) _ _ _ _ c.get_or_intern-in-PackedText.new.self c.args.bytes.now _ _ _ _ (ap seen c.in-PackedText.is) c.get_or_intern-in-PackedText.ensures.hasher c.in_ok-text_of-in-PackedText.ensures.faultless (ap (λ (b : List ℕ). b ∷ []) c.in_ok-text_of-in-PackedText.ensures.ok) (λ x is. is ∙ c.in_ok-text_of-in-PackedText.ensures.ok) c.get_or_intern-in-PackedText.ensures.step c.symbol_answer-in-PackedText.ensures.answer }
-
-pub returns-in_err-text_of-in-PackedText : goal.returns-in_err-text_of-in-PackedText
-returns-in_err-text_of-in-PackedText c = record { step = refused_form kind.PackedText packed_bytes _ _ _ _ _ _ (ap seen c.in-PackedText.is) c.in_err-text_of-in-PackedText.ensures.err (let e : c.from_residual-in_err-text_of-in-PackedText.result ≡ Err c.in_err-text_of-in-PackedText.field-0.0 = search rules in e) }
-
-pub returns-in-PackedBytes : goal.returns-in-PackedBytes
-returns-in-PackedBytes c = record { step = interned_form kind.PackedBytes packed_bytes _ (λ _. refl) _ _ _ _ c.get_or_intern-in-PackedBytes.new.self c.args.bytes.now _ _ _ _ (ap seen c.in-PackedBytes.is) c.get_or_intern-in-PackedBytes.ensures.hasher refl refl (λ x is. is) c.get_or_intern-in-PackedBytes.ensures.step c.symbol_answer-in-PackedBytes.ensures.answer }

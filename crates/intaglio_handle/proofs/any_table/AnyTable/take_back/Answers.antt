@@ -5,7 +5,7 @@ use Rattle.intaglio_bytes.specs.BytesContent.{bytes_content_bytes}
 use Rattle.intaglio_path.specs.PathContent.{path_content_bytes}
 use Rattle.intaglio_text.specs.OsStrContent.{os_str_content_bytes}
 use Rattle.intaglio_text.specs.StrContent.{str_content_bytes}
-use Rattle.intaglio_handle.specs.Seen.{seen, c_str_bytes, packed_bytes}
+use Rattle.intaglio_handle.specs.Seen.{seen, c_str_bytes}
 use Rattle.intaglio_handle.proofs.AsBytes.{changed, taken_back}
 use Rattle.intaglio_handle.proofs.any_table.AnyTable.take_back.Goals as goal
 
@@ -26,9 +26,3 @@ returns-in-OsStr c = record { step = changed _ _ _ _ _ _ _ _ (ap seen c.in-OsStr
 
 pub returns-in-BStr : goal.returns-in-BStr
 returns-in-BStr c = record { step = changed _ _ _ _ _ _ _ _ (ap seen c.in-BStr.is) c.take_back-in-BStr.ensures.hasher (taken_back bstr_content_bytes _ _ _ _ c.take_back-in-BStr.ensures.step) }
-
-pub returns-in-PackedText : goal.returns-in-PackedText
-returns-in-PackedText c = record { step = changed _ _ _ _ _ _ _ _ (ap seen c.in-PackedText.is) c.take_back-in-PackedText.ensures.hasher (taken_back packed_bytes _ _ _ _ c.take_back-in-PackedText.ensures.step) }
-
-pub returns-in-PackedBytes : goal.returns-in-PackedBytes
-returns-in-PackedBytes c = record { step = changed _ _ _ _ _ _ _ _ (ap seen c.in-PackedBytes.is) c.take_back-in-PackedBytes.ensures.hasher (taken_back packed_bytes _ _ _ _ c.take_back-in-PackedBytes.ensures.step) }

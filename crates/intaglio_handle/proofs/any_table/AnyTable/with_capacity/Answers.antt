@@ -6,7 +6,7 @@ use Rattle.intaglio_bytes.specs.BytesContent.{bytes_content_bytes}
 use Rattle.intaglio_path.specs.PathContent.{path_content_bytes}
 use Rattle.intaglio_text.specs.OsStrContent.{os_str_content_bytes}
 use Rattle.intaglio_text.specs.StrContent.{str_content_bytes}
-use Rattle.intaglio_handle.specs.Seen.{c_str_bytes, new_table, seen_as, packed_bytes}
+use Rattle.intaglio_handle.specs.Seen.{c_str_bytes, new_table, seen_as}
 use Rattle.intaglio_handle.specs.declared.kind.Kind.TheVariants as kind
 use Rattle.intaglio_handle.specs.declared.kind.Kind.{Kind}
 use Rattle.intaglio_handle.proofs.AsBytes.{too_large_not, too_large}
@@ -83,27 +83,3 @@ returns-in_err-with_capacity_and_hasher-in-OsStr-clause-made c = IfOk-from_err _
 
 pub returns-in_err-with_capacity_and_hasher-in-BStr-clause-made : goal.returns-in_err-with_capacity_and_hasher-in-BStr-clause-made
 returns-in_err-with_capacity_and_hasher-in-BStr-clause-made c = IfOk-from_err _ _ c.from_residual-in_err-with_capacity_and_hasher-in-BStr.ensures.0
-
-pub returns-in_ok-with_capacity_and_hasher-in-PackedText-clause-made : goal.returns-in_ok-with_capacity_and_hasher-in-PackedText-clause-made
-returns-in_ok-with_capacity_and_hasher-in-PackedText-clause-made c = ap (seen_as kind.PackedText packed_bytes) c.in_ok-with_capacity_and_hasher-in-PackedText.ensures.made ∙ ap (λ (k : Kind). new_table k c.args.capacity (2 ^ 32) c.args.keys) (sym c.in-PackedText.is)
-
-pub returns-in_ok-with_capacity_and_hasher-in-PackedText-clause-overflow : goal.returns-in_ok-with_capacity_and_hasher-in-PackedText-clause-overflow
-returns-in_ok-with_capacity_and_hasher-in-PackedText-clause-overflow c = too_large_not _ _ c.in_ok-with_capacity_and_hasher-in-PackedText.ensures.overflow
-
-pub returns-in_err-with_capacity_and_hasher-in-PackedText-clause-overflow : goal.returns-in_err-with_capacity_and_hasher-in-PackedText-clause-overflow
-returns-in_err-with_capacity_and_hasher-in-PackedText-clause-overflow c = too_large _ _ _ _ (let e : c.from_residual-in_err-with_capacity_and_hasher-in-PackedText.result ≡ Err c.in_err-with_capacity_and_hasher-in-PackedText.field-0.0 = search rules in e) c.in_err-with_capacity_and_hasher-in-PackedText.was c.with_capacity_and_hasher-in-PackedText.ensures.overflow
-
-pub returns-in_err-with_capacity_and_hasher-in-PackedText-clause-made : goal.returns-in_err-with_capacity_and_hasher-in-PackedText-clause-made
-returns-in_err-with_capacity_and_hasher-in-PackedText-clause-made c = IfOk-from_err _ _ c.from_residual-in_err-with_capacity_and_hasher-in-PackedText.ensures.0
-
-pub returns-in_ok-with_capacity_and_hasher-in-PackedBytes-clause-made : goal.returns-in_ok-with_capacity_and_hasher-in-PackedBytes-clause-made
-returns-in_ok-with_capacity_and_hasher-in-PackedBytes-clause-made c = ap (seen_as kind.PackedBytes packed_bytes) c.in_ok-with_capacity_and_hasher-in-PackedBytes.ensures.made ∙ ap (λ (k : Kind). new_table k c.args.capacity (2 ^ 32) c.args.keys) (sym c.in-PackedBytes.is)
-
-pub returns-in_ok-with_capacity_and_hasher-in-PackedBytes-clause-overflow : goal.returns-in_ok-with_capacity_and_hasher-in-PackedBytes-clause-overflow
-returns-in_ok-with_capacity_and_hasher-in-PackedBytes-clause-overflow c = too_large_not _ _ c.in_ok-with_capacity_and_hasher-in-PackedBytes.ensures.overflow
-
-pub returns-in_err-with_capacity_and_hasher-in-PackedBytes-clause-overflow : goal.returns-in_err-with_capacity_and_hasher-in-PackedBytes-clause-overflow
-returns-in_err-with_capacity_and_hasher-in-PackedBytes-clause-overflow c = too_large _ _ _ _ (let e : c.from_residual-in_err-with_capacity_and_hasher-in-PackedBytes.result ≡ Err c.in_err-with_capacity_and_hasher-in-PackedBytes.field-0.0 = search rules in e) c.in_err-with_capacity_and_hasher-in-PackedBytes.was c.with_capacity_and_hasher-in-PackedBytes.ensures.overflow
-
-pub returns-in_err-with_capacity_and_hasher-in-PackedBytes-clause-made : goal.returns-in_err-with_capacity_and_hasher-in-PackedBytes-clause-made
-returns-in_err-with_capacity_and_hasher-in-PackedBytes-clause-made c = IfOk-from_err _ _ c.from_residual-in_err-with_capacity_and_hasher-in-PackedBytes.ensures.0
