@@ -4,7 +4,7 @@ from typing import NamedTuple
 
 # The tables by which the programs go: the proved program's by how many words a call takes, the Rust program's by what they
 # are. Rivals are tables that a user would write or pick where there were no crate `intaglio`.
-OURS = ["single", "batch", "packed", "packed_batch"]
+OURS = ["single", "batch"]
 RIVALS = ["boxes", "buffer"]
 
 # A table begins with no capacity, or with that of all words.
@@ -45,20 +45,15 @@ class Comparison(NamedTuple):
         return Run(side.table, side.hashing, room, size)
 
     def batches(self):
-        """Our own tables, with calls that take a batch."""
-        return [self.sides[0]._replace(table="batch"), self.sides[1]._replace(table="packed_batch")]
+        """Our own table, with calls that take a batch."""
+        return self.sides[0]._replace(table="batch")
 
 
 COMPARISONS = {
     "fold": Comparison(
         "FoldHasher on all sides (a fixed seed)",
         Side("the Rust crate", "crate", "fold"),
-        [
-            Side("ours", "single", "fold"),
-            Side("packed", "packed", "fold"),
-            Side("boxes", "boxes", "fold"),
-            Side("buffer", "buffer", "fold"),
-        ],
+        [Side("ours", "single", "fold"), Side("boxes", "boxes", "fold"), Side("buffer", "buffer", "fold")],
         is_rounded=True,
     ),
     "sip": Comparison(
@@ -66,7 +61,6 @@ COMPARISONS = {
         Side("the Rust crate", "crate", "std"),
         [
             Side("ours", "single", "keyed"),
-            Side("packed", "packed", "keyed"),
             Side("boxes", "boxes", "std"),
             Side("buffer", "buffer", "std"),
             Side("ours by the toolchain's RandomState", "single", "std"),
@@ -76,12 +70,7 @@ COMPARISONS = {
     "default": Comparison(
         "the default of each side: ours FoldHasher, the Rust crate RandomState, hashbrown ahash",
         Side("the Rust crate", "crate", "std"),
-        [
-            Side("ours", "single", "fold"),
-            Side("packed", "packed", "fold"),
-            Side("boxes", "boxes", "hashbrown"),
-            Side("buffer", "buffer", "hashbrown"),
-        ],
+        [Side("ours", "single", "fold"), Side("boxes", "boxes", "hashbrown"), Side("buffer", "buffer", "hashbrown")],
         is_rounded=True,
     ),
 }
@@ -96,18 +85,12 @@ HASHINGS = {
 }
 
 
-def copies_of(sizes, has_rivals):
-    """The runs that take one borrowed word a call, once."""
-    batches = [side.table for comparison in COMPARISONS.values() for side in comparison.batches()]
-    return [run for run in runs_of(sizes, has_rivals) if run.table not in batches]
-
-
 def runs_of(sizes, has_rivals):
     """Each run that the comparisons need, once."""
     runs = []
     for size in sizes:
         for comparison in COMPARISONS.values():
-            for side in [comparison.base, *comparison.sides, *comparison.batches()]:
+            for side in [comparison.base, *comparison.sides, comparison.batches()]:
                 if has_rivals or side.table not in RIVALS:
                     runs += [comparison.run(side, capacity, size) for capacity in CAPACITIES]
     return list(dict.fromkeys(runs))

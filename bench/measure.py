@@ -4,7 +4,7 @@ import os
 import subprocess
 import sys
 
-from comparisons import CAPACITIES, COMPARISONS, HASHINGS, OURS, RIVALS, Run, copies_of, runs_of
+from comparisons import CAPACITIES, COMPARISONS, HASHINGS, OURS, RIVALS, Run, runs_of
 
 # How many tables a process fills one after the other, so that each process takes long enough.
 FILLS = {1_000: 200, 10_000: 30, 100_000: 6, 1_000_000: 2, 4_000_000: 1}
@@ -13,7 +13,6 @@ FILLS = {1_000: 200, 10_000: 30, 100_000: 6, 1_000_000: 2, 4_000_000: 1}
 def measure(programs, sizes, turns, has_rivals):
     """Rows of turn, run, operation and its least nanoseconds; and the highest load average meanwhile."""
     runs = [("time", run) for run in runs_of(sizes, has_rivals)]
-    runs += [("copy", run) for run in copies_of(sizes, has_rivals)]
     runs += [("hash", run) for run in HASHINGS.values()]
     rows, sums, load = [], {}, 0.0
     for turn in range(1, turns + 1):
@@ -50,7 +49,7 @@ def memory(programs, sizes, has_rivals):
     rows = []
     for size in sizes:
         for capacity in CAPACITIES:
-            for side in [comparison.base, *comparison.sides[:4]]:
+            for side in [comparison.base, *comparison.sides[:3]]:
                 if has_rivals or side.table not in RIVALS:
                     run = comparison.run(side, capacity, size)
                     empty = resident(programs, Run(side.table, side.hashing, 0, 0))

@@ -8,17 +8,12 @@ prints them from the file results.csv that bench/run writes.
 
 import csv
 import sys
-from pathlib import Path
 
 sys.dont_write_bytecode = True
-sys.path.append(str(Path(__file__).resolve().parent.parent / "checks"))
-
-import arguments  # noqa: E402
 from comparisons import CAPACITIES, COMPARISONS, HASHINGS, Run  # noqa: E402
 
 OPERATIONS = {
     "new": "intern new owned words",
-    "copied": "intern new borrowed words",
     "hit": "look-up hits, random order",
     "again": "intern owned words again, random order",
     "miss": "look-up misses",
@@ -33,7 +28,7 @@ COLUMNS = ["turn", "table", "hashing", "capacity", "size", "operation", "value"]
 LEGEND = """Each cell is the least time of all turns over that of the Rust crate `intaglio` under the hashers that the heading names. Below 1
 it takes less than the Rust crate. In brackets stand the Rust crate's nanoseconds for each word.
 
-- ours: the proved table of owned texts; packed: the proved table in one buffer
+- ours: the proved table
 - boxes: hashbrown's table of numbers beside a list of boxed strings
 - buffer: hashbrown's table of numbers beside one buffer of text, as the crates `string-interner` and `lasso` have it
 - grown: the table begins with no capacity; reserved: it begins with that of all words
@@ -91,25 +86,19 @@ def single_table(times, comparison, capacity, sizes):
 
 def batch_table(times, comparison, capacity, sizes):
     """Ratios of calls that take a batch."""
-    said = "ours and packed, each over the Rust crate's single calls / over its own"
+    said = "ours over the Rust crate's single calls / over our own"
     lines = [f"### {comparison.title}; {capacity}", "", said, "", *head(sizes)]
     for operation, name in OPERATIONS.items():
-        rows = [[batch_cell(times, comparison, (side, capacity, size), operation) for size in sizes] for side in (0, 1)]
-        cells = [f"{ours}; {packed}" for ours, packed in zip(*rows) if ours and packed]
+        cells = []
+        for size in sizes:
+            sides = [comparison.batches(), comparison.base, comparison.sides[0]]
+            batch, *single = [times.get((comparison.run(side, capacity, size), operation)) for side in sides]
+            if batch is not None:
+                rust, ours = [ratio(batch, other) for other in single]
+                cells.append(f"**{rust}** / {ours}")
         if cells:
             lines.append(row(name, cells))
     return lines + [""]
-
-
-def batch_cell(times, comparison, place, operation):
-    """The two ratios of a batch of one of our tables, or nothing where the operation has no batch."""
-    side, capacity, size = place
-    sides = [comparison.batches()[side], comparison.base, comparison.sides[side]]
-    batch, *single = [times.get((comparison.run(it, capacity, size), operation)) for it in sides]
-    if batch is None or None in single:
-        return ""
-    rust, own = [ratio(batch, other) for other in single]
-    return f"**{rust}** / {own}"
 
 
 def hash_table(times):
@@ -156,6 +145,6 @@ def ratio(one, other):
 
 
 if __name__ == "__main__":
-    parser = arguments.parser(__doc__)
-    parser.add_argument("results", metavar="RESULTS")
-    print(page(read_results(parser.parse_args().results)))
+    if len(sys.argv) != 2:
+        sys.exit("usage: bench/tables.py RESULTS")
+    print(page(read_results(sys.argv[1])))

@@ -8,9 +8,6 @@ import struct
 import sys
 from itertools import pairwise
 
-sys.dont_write_bytecode = True
-import arguments
-
 MAGIC, VERSION, BYTES, TEXT = b"INTAGLIO", 1, 0, 1
 HEADER = struct.Struct("<8sIIQQQ24s")
 MAX_COUNT, MAX_TEXT = 2**31, 2**32 - 1
@@ -217,9 +214,8 @@ def freeze(strings, kind=BYTES, key0=0, key1=0):
 
 
 def main():
-    parser, status = arguments.parser(__doc__), 0
-    parser.add_argument("files", metavar="FILE", nargs="+")
-    for name in parser.parse_args().files:
+    status = 0
+    for name in sys.argv[1:]:
         with open(name, "rb") as file:
             if faults := faults_of(file.read()):
                 print(f"{name}: {', '.join(faults)}")

@@ -91,24 +91,13 @@ enum {
     INTAGLIO_NO_MEMORY = 3,     /* malloc or realloc returned null */
     INTAGLIO_TOO_LARGE = 4,     /* a capacity above 2^32 or the limit, or a limit of 0 or above 2^32 */
     INTAGLIO_STALE = 5,         /* the table has fewer strings than the mark counts */
-    INTAGLIO_NOT_UTF8 = 6,      /* text, path, osstr, a frozen table of texts: the bytes aren't UTF-8 */
+    INTAGLIO_NOT_UTF8 = 6,      /* text, path, osstr: the bytes aren't UTF-8 */
     INTAGLIO_INNER_ZERO = 7,    /* cstr: a zero byte before the last byte */
     INTAGLIO_MISSING_ZERO = 8,  /* cstr: no zero byte at all */
     INTAGLIO_BAD_ENDS = 9,      /* the ends of a batch decrease or exceed its bytes, or its arrays differ in length */
     INTAGLIO_NO_SYMBOL = 10,    /* the table has no such symbol */
     INTAGLIO_NO_SPACE = 11,     /* the buffer is too short */
-    INTAGLIO_NO_KIND = 12,      /* the number is not that of a kind */
-    INTAGLIO_NOT_FROZEN = 13,   /* the bytes don't begin as a frozen table does */
-    INTAGLIO_OTHER_VERSION = 14, /* a frozen table of another version */
-    INTAGLIO_RESERVED = 15,     /* a reserved byte of a frozen table isn't zero */
-    INTAGLIO_TOO_MANY = 16,     /* more strings than a frozen table can have, which is 2^31 */
-    INTAGLIO_TRUNCATED = 17,    /* the bytes of a frozen table end within its header or a section */
-    INTAGLIO_TEXT_ENDS = 18,    /* the strings of a frozen table don't fill its text */
-    INTAGLIO_UNUSED = 19,       /* a place of a frozen table that no string has isn't empty */
-    INTAGLIO_NOT_FOUND = 20,    /* a string of a frozen table isn't found at its symbol */
-    INTAGLIO_TOO_LONG = 21,     /* the strings have 2^32 bytes or more together, too many for a frozen table */
-    INTAGLIO_EQUAL = 22,        /* two strings are equal: never of a table's strings, but no contract says so */
-    INTAGLIO_NO_PLACES = 23     /* the search for places in a frozen table failed: freeze with other keys */
+    INTAGLIO_NO_KIND = 12       /* the number is not that of a kind */
 };
 
 /* Returns the text of a code, without a full stop. */
@@ -127,22 +116,11 @@ static inline const char *intaglio_message(intaglio_code code) {
         case INTAGLIO_NO_SYMBOL: return "the table has no such symbol";
         case INTAGLIO_NO_SPACE: return "the buffer is too short";
         case INTAGLIO_NO_KIND: return "no such kind of table";
-        case INTAGLIO_NOT_FROZEN: return "not a frozen table";
-        case INTAGLIO_OTHER_VERSION: return "a frozen table of another version";
-        case INTAGLIO_RESERVED: return "a reserved byte of the frozen table is not zero";
-        case INTAGLIO_TOO_MANY: return "too many strings for a frozen table";
-        case INTAGLIO_TRUNCATED: return "the frozen table is truncated";
-        case INTAGLIO_TEXT_ENDS: return "the strings of the frozen table do not fill its text";
-        case INTAGLIO_UNUSED: return "a place of the frozen table without a string is not empty";
-        case INTAGLIO_TOO_LONG: return "the strings are too long for a frozen table";
-        case INTAGLIO_EQUAL: return "two strings are equal";
-        case INTAGLIO_NO_PLACES: return "no places were found for the strings under these keys";
-        case INTAGLIO_NOT_FOUND: return "a string of the frozen table is not found at its symbol";
         default: return "unknown code";
     }
 }
 
-/* The number that check_all and frozen_find_all write for a string that isn't in the table. */
+/* The number that check_all writes for a string that isn't in the table. */
 #define INTAGLIO_ABSENT UINT64_MAX
 
 /* Returns INTAGLIO_VERSION of the library, as the header that it was built with has it. */
@@ -215,53 +193,7 @@ INTAGLIO_MUST_USE intaglio_code intaglio_check_all(const intaglio_table *table, 
  * contents of `buffer` and `ends` are then unspecified. */
 INTAGLIO_MUST_USE intaglio_code intaglio_copy_all(const intaglio_table *table, const uint32_t *symbols, size_t count, uint8_t *buffer, size_t size, size_t *ends, size_t ends_count);
 
-/* A frozen table is a symbol table as one block of bytes, such as a mapped file: docs/FROZEN.md has the format. It has no handle, and
- * nothing is allocated or freed: each function takes the bytes. Any number of threads may read one at the same time.
- *
- * frozen_check says whether bytes are a frozen table. If they are, and stay as they were, the functions below it find each string at
- * its symbol. They never read outside the bytes, whatever these are. So bytes from a trusted source needn't be checked:
- * if they aren't a frozen table, what is found is still equal to what was sought, but a string may not be found, and a
- * symbol may have no string. */
-
-/* Checks that these bytes are a frozen table. All of them are read.
- * Errors: NOT_FROZEN, OTHER_VERSION, NO_KIND, RESERVED, TOO_MANY, TRUNCATED, TEXT_ENDS, UNUSED, NOT_FOUND, NOT_UTF8. */
-INTAGLIO_MUST_USE intaglio_code intaglio_frozen_check(const uint8_t *bytes, size_t len);
-
-/* Returns whether a string is in a frozen table. If so, its symbol is stored in *symbol; otherwise *symbol is unchanged. */
-bool intaglio_frozen_find(const uint8_t *bytes, size_t len, const uint8_t *string, size_t string_len, uint32_t *symbol);
-
-/* Looks up a batch, and stores the symbol of each string, or INTAGLIO_ABSENT if it isn't in the frozen table. `symbols_count` must
- * equal `count`. Errors: BAD_ENDS, and those of frozen_check that a header can have. Nothing is then written. */
-INTAGLIO_MUST_USE intaglio_code intaglio_frozen_find_all(const uint8_t *bytes, size_t len, const uint8_t *strings, size_t strings_len, const size_t *ends, size_t count, uint64_t *symbols, size_t symbols_count);
-
-/* Stores the address and the length of a symbol's string in *out. Unless the length is 0, the address leads into `bytes`. Returns false
- * if there is no such symbol; *out is then unchanged. */
-bool intaglio_frozen_get(const uint8_t *bytes, size_t len, uint32_t symbol, intaglio_spelling *out);
-
-/* Returns the number of strings, or 0 if the header is invalid or the bytes are shorter than it requires. */
-size_t intaglio_frozen_len(const uint8_t *bytes, size_t len);
-
-/* Freezes a table: stores the number of bytes in *len, and copies them to the start of the buffer if it has space for all of them. The
- * strings are those of the table, with their symbols; a C string keeps its zero. They are texts if the kind is text, path or osstr. The
- * keys are those of the hash function in the frozen table: the same strings under the same keys give the same bytes.
- * Errors: NO_TABLE; NO_SPACE, with *len; TOO_MANY, TOO_LONG, NO_PLACES, NO_MEMORY, NOT_UTF8, EQUAL. But for NO_SPACE nothing is then
- * written. */
-INTAGLIO_MUST_USE intaglio_code intaglio_freeze(const intaglio_table *table, uint64_t key0, uint64_t key1, uint8_t *buffer, size_t size, size_t *len);
-
-/* Returns how many bytes a frozen table of the strings has, or of an empty one if there is no table. It reads the length of each string. No contract
- * covers this function, but freeze returns NO_SPACE if the number is too small. */
-static inline size_t intaglio_frozen_size(const intaglio_table *table) {
-    intaglio_spelling out;
-    size_t count = intaglio_len(table), places = count + count / 19 + 2, size = 64 + 5 * places + 4 * count + 2 * (count / 3 + 1);
-    for (size_t i = 0; i < count; i++)
-        if (intaglio_get(table, (uint32_t)i, &out)) size += out.len;
-    return size;
-}
-
-/* Returns whether the strings are texts, which frozen_check has found to be UTF-8. */
-bool intaglio_frozen_is_text(const uint8_t *bytes, size_t len);
-
-/* The functions on tables for each kind, on a struct of that kind, such as intaglio_text. Initialize it with INTAGLIO_NONE. */
+/* The same functions for each kind, on a struct of that kind, such as intaglio_text. Initialize it with INTAGLIO_NONE. */
 #define INTAGLIO_NONE {{false, NULL}}
 #define INTAGLIO_KIND(NAME, KIND) \
     typedef struct { intaglio_table table; } intaglio_##NAME; \
@@ -282,8 +214,7 @@ bool intaglio_frozen_is_text(const uint8_t *bytes, size_t len);
     INTAGLIO_MUST_USE static inline intaglio_code intaglio_##NAME##_take_back(intaglio_##NAME *table, size_t mark) { return intaglio_take_back(&table->table, mark); } \
     INTAGLIO_MUST_USE static inline intaglio_code intaglio_##NAME##_intern_all(intaglio_##NAME *table, const uint8_t *bytes, size_t len, const size_t *ends, size_t count, uint32_t *symbols, size_t symbols_count) { return intaglio_intern_all(&table->table, bytes, len, ends, count, symbols, symbols_count); } \
     INTAGLIO_MUST_USE static inline intaglio_code intaglio_##NAME##_check_all(const intaglio_##NAME *table, const uint8_t *bytes, size_t len, const size_t *ends, size_t count, uint64_t *symbols, size_t symbols_count) { return intaglio_check_all(&table->table, bytes, len, ends, count, symbols, symbols_count); } \
-    INTAGLIO_MUST_USE static inline intaglio_code intaglio_##NAME##_copy_all(const intaglio_##NAME *table, const uint32_t *symbols, size_t count, uint8_t *buffer, size_t size, size_t *ends, size_t ends_count) { return intaglio_copy_all(&table->table, symbols, count, buffer, size, ends, ends_count); } \
-    INTAGLIO_MUST_USE static inline intaglio_code intaglio_##NAME##_freeze(const intaglio_##NAME *table, uint64_t key0, uint64_t key1, uint8_t *buffer, size_t size, size_t *len) { return intaglio_freeze(&table->table, key0, key1, buffer, size, len); }
+    INTAGLIO_MUST_USE static inline intaglio_code intaglio_##NAME##_copy_all(const intaglio_##NAME *table, const uint32_t *symbols, size_t count, uint8_t *buffer, size_t size, size_t *ends, size_t ends_count) { return intaglio_copy_all(&table->table, symbols, count, buffer, size, ends, ends_count); }
 
 INTAGLIO_KIND(text, INTAGLIO_TEXT)
 INTAGLIO_KIND(bytes, INTAGLIO_BYTES)

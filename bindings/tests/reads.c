@@ -66,24 +66,6 @@ static size_t spell(uint32_t kind, uint32_t i, uint8_t *into) {
     if (!holds || table->live != before.live || table->ptr != before.ptr) { fprintf(stderr, "line %d, kind %u: %s\n", __LINE__, kind, #CONDITION); exit(1); } \
 } while (0)
 
-/* Freezing requests memory of its own, and writes to none of the table's. The bytes are read without a request. */
-static void freeze(intaglio_table *table, uint32_t kind) {
-    static uint8_t frozen[1 << 16];
-    uint8_t bytes[128];
-    const intaglio_table before = *table;
-    size_t len;
-    uint32_t symbol;
-    intaglio_spelling out;
-    WANT(intaglio_freeze(table, 1, 2, frozen, sizeof frozen, &len) == INTAGLIO_DONE && table->live == before.live && table->ptr == before.ptr);
-    READS(intaglio_frozen_check(frozen, len) == INTAGLIO_DONE && intaglio_frozen_len(frozen, len) == STRINGS);
-    READS(intaglio_frozen_is_text(frozen, len) == (kind == INTAGLIO_TEXT || kind == INTAGLIO_PATH || kind == INTAGLIO_OSSTR));
-    for (uint32_t i = 0; i < STRINGS; i++) {
-        size_t size = spell(kind, i, bytes);
-        READS(intaglio_frozen_find(frozen, len, bytes, size, &symbol) && symbol == i);
-        READS(intaglio_frozen_get(frozen, len, i, &out) && out.len == size && memcmp(out.at, bytes, size) == 0);
-    }
-}
-
 static void read_all(intaglio_table *table, uint32_t kind) {
     uint8_t bytes[128], copy[128], all[256];
     const intaglio_table before = *table;
@@ -123,7 +105,6 @@ static void run(uint32_t kind) {
     WANT(is_ours(table.ptr) && mprotect(block, SIZE, PROT_READ) == 0);
     intaglio_table copy = table;
     read_all(&copy, kind);
-    freeze(&copy, kind);
     WANT(mprotect(block, SIZE, PROT_READ | PROT_WRITE) == 0);
     intaglio_free(&table);
 }

@@ -104,14 +104,6 @@ static void run(long nth) {
     uint32_t code = intaglio_bytes_shrink_to(&table, 0);
     WANT(code == INTAGLIO_DONE || (code == INTAGLIO_NO_MEMORY && refused == before + 1));
     holds(&table, 14, nth);
-    uint8_t frozen[1024];
-    size_t size;
-    before = refused;
-    while (!done(intaglio_bytes_freeze(&table, 1, 2, frozen, sizeof frozen, &size), before, nth)) {
-        holds(&table, 14, nth);
-        before = refused;
-    }
-    WANT(intaglio_frozen_check(frozen, size) == INTAGLIO_DONE && intaglio_frozen_len(frozen, size) == 14);
     intaglio_bytes_free(&table);
 }
 

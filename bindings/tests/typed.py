@@ -1,10 +1,9 @@
 """A program whose types `mypy --strict` must accept, and which runs."""
 from array import array
 from collections.abc import Sequence
-from pathlib import Path, PurePath
-from tempfile import TemporaryDirectory
+from pathlib import PurePath
 
-from intaglio import BytesTable, Frozen, NoSymbol, PathTable, Refused, SymbolTable
+from intaglio import BytesTable, NoSymbol, PathTable, Refused, SymbolTable
 
 
 def first(strings: Sequence[str]) -> str:
@@ -24,15 +23,6 @@ with SymbolTable(["a", "b"], capacity=2, keys=(1, 2)) as table:
     buffer = array("I", bytes(8))
     count: int = table.intern_into(["a", "b"], buffer)
     assert (first(table), one, some, other, each, count) == ("a", "b", ["a"], 0, [0, None], 2)
-
-with TemporaryDirectory() as folder:
-    path = Path(folder) / "frozen"
-    SymbolTable(["a", "b"]).freeze(path, keys=(1, 2))
-    frozen: Frozen[str] = Frozen(path)
-    symbols_there: list[int | None] = frozen.find_all(["b", "c"])
-    last: str = frozen[-1]
-    assert (symbols_there, last, first(frozen), list(frozen.items())) == ([1, None], "b", "a", [(0, "a"), (1, "b")])
-    frozen.close()
 
 paths = PathTable([PurePath("a"), "a/."])
 data: bytes = BytesTable([b"a", bytearray(b"b"), memoryview(b"c")])[2]

@@ -16,10 +16,10 @@ use plan::{Hashing, Kind, Plan, Task};
 use std::hash::{BuildHasher, RandomState};
 use std::io;
 use table::Table;
-use turn::{copy, hash_alone, hold, turn};
+use turn::{hash_alone, hold, turn};
 
 const USAGE: &str =
-    "check|time|hold|hash|copy crate|boxes|buffer fold|std|hashbrown CAPACITY SIZE TURNS";
+    "check|time|hold|hash crate|boxes|buffer fold|std|hashbrown CAPACITY SIZE TURNS";
 
 fn main() -> io::Result<()> {
     let arguments: Vec<String> = std::env::args().collect();
@@ -59,7 +59,6 @@ fn run<T: Table>(plan: Plan, make: impl Fn() -> T) -> io::Result<()> {
             Task::Check | Task::Time => turn(&mut table, plan),
             Task::Hold => hold(&mut table, plan)?,
             Task::Hash => hash_alone(&table, plan),
-            Task::Copy => copy(&mut table, plan),
         }
     }
     Ok(())

@@ -23,17 +23,6 @@ pub fn intern<T: Table>(table: &mut T, words: Vec<String>) -> u64 {
 }
 
 #[inline(never)]
-pub fn intern_forms<T: Table>(table: &mut T, words: &[String]) -> u64 {
-    let mut sum = 0u64;
-    for word in words {
-        if let Some(number) = table.intern_form(word) {
-            sum = sum.wrapping_add(u64::from(number) + 1);
-        }
-    }
-    sum
-}
-
-#[inline(never)]
 pub fn look_up<T: Table>(table: &T, words: &[String]) -> u64 {
     let mut sum = 0u64;
     for word in words {

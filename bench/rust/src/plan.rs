@@ -11,8 +11,6 @@ pub enum Task {
     Hold,
     /// Words are hashed alone, and the time is printed.
     Hash,
-    /// New words are interned by their borrowed forms, and the time is printed.
-    Copy,
 }
 
 /// Which table.
@@ -52,7 +50,7 @@ pub struct Plan {
 }
 
 impl Plan {
-    /// Reads `check|time|hold|hash|copy crate|boxes|buffer fold|std|hashbrown CAPACITY SIZE TURNS`.
+    /// Reads `check|time|hold|hash crate|boxes|buffer fold|std|hashbrown CAPACITY SIZE TURNS`.
     pub fn read(arguments: &[String]) -> Option<Plan> {
         let [_, task, kind, hashing, capacity, size, turns] = arguments else {
             return None;
@@ -63,7 +61,6 @@ impl Plan {
                 "time" => Task::Time,
                 "hold" => Task::Hold,
                 "hash" => Task::Hash,
-                "copy" => Task::Copy,
                 _ => return None,
             },
             kind: match kind.as_str() {

@@ -1,6 +1,6 @@
 //! One turn: each operation once, on a table that is empty at first.
 
-use crate::operations::{clear, get, hash, intern, intern_forms, iterate, look_up};
+use crate::operations::{clear, get, hash, intern, iterate, look_up};
 use crate::plan::{Plan, Task};
 use crate::table::Table;
 use crate::words::{numbers, shuffle, word, words};
@@ -43,12 +43,6 @@ fn measure(plan: Plan, name: &str, operation: impl FnOnce() -> u64) {
 pub fn hash_alone<T: Table>(table: &T, plan: Plan) {
     let fresh = words(&numbers(0, plan.size));
     measure(plan, "hash", || hash(table, &fresh));
-}
-
-/// Prints the same line for new words that are interned by their borrowed forms.
-pub fn copy<T: Table>(table: &mut T, plan: Plan) {
-    let fresh = words(&numbers(0, plan.size));
-    measure(plan, "copied", || intern_forms(table, &fresh));
 }
 
 /// Fills the table with words that it makes one at a time, prints how many texts there are and how many bytes they have,

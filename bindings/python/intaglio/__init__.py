@@ -15,8 +15,6 @@ its strings, each at its symbol: table[-1] is the last, and table[1:3] a list. `
 
 intern_all, check_all and get_all make one call for many strings; intern_into and check_into write the symbols to a buffer.
 
-table.freeze(path) writes the strings to a file, and Frozen(path) maps it: a read-only sequence of them, each at its symbol.
-
 A call that fails raises a subclass of Refused, named after the reason, and leaves the strings unchanged.
 
 A table may be used by several threads. A batch of internings or look-ups holds the interpreter's lock until it is done: no other
@@ -26,15 +24,12 @@ from collections.abc import Sequence
 
 from intaglio._table import BytesTable, ByteStringTable, CStringTable, OsStringTable, PathTable, SymbolTable, Table, __version__
 from intaglio.errors import (
-    REFUSALS, BadEnds, Equal, Full, InnerZero, MissingZero, NoKind, NoMemory, NoPlaces, NoSpace, NoSymbol, NotFound, NotFrozen, NotUtf8, NoTable, OtherVersion,
-    Refused, Reserved, Stale, TextEnds, TooLarge, TooLong, TooMany, Truncated, Unused,
+    REFUSALS, BadEnds, Full, InnerZero, MissingZero, NoKind, NoMemory, NoSpace, NoSymbol, NotUtf8, NoTable, Refused, Stale, TooLarge,
 )
-from intaglio.frozen import Frozen
 
 __all__ = [
-    "SymbolTable", "BytesTable", "CStringTable", "PathTable", "OsStringTable", "ByteStringTable", "Table", "ABSENT", "Frozen",
+    "SymbolTable", "BytesTable", "CStringTable", "PathTable", "OsStringTable", "ByteStringTable", "Table", "ABSENT",
     "Refused", "NoTable", "Full", "NoMemory", "TooLarge", "Stale", "NotUtf8", "InnerZero", "MissingZero", "BadEnds", "NoSymbol", "NoSpace", "NoKind",
-    "NotFrozen", "OtherVersion", "Reserved", "TooMany", "Truncated", "TextEnds", "Unused", "NotFound", "TooLong", "Equal", "NoPlaces",
     "REFUSALS", "__version__",
 ]
 

@@ -540,27 +540,6 @@ static PyObject *table_close(Table *self, PyObject *Py_UNUSED(none)) {
     Py_RETURN_NONE;
 }
 
-PyDoc_STRVAR(freeze_doc, "freeze($self, path, /, *, keys=(0, 0))\n--\n\n"
-"Writes the strings, each at its symbol, to a file with a frozen table, which Frozen reads. The keys are those of its hash function:\n"
-"the same strings under the same keys give the same bytes. The file is replaced when all is written and synced; path.new is\n"
-"there meanwhile. The strings of a CStringTable end with a zero there. Raises TooMany, TooLong, NoPlaces, NoMemory, NoTable, OSError.");
-static PyObject *table_freeze(Table *self, PyObject *args, PyObject *named) {
-    static char *names[] = {"", "keys", NULL};
-    PyObject *path, *passed = NULL, *written = NULL;
-    uint64_t keys[2] = {0, 0};
-    size_t len = 0;
-    if (!PyArg_ParseTupleAndKeywords(args, named, "O|$O:freeze", names, &path, &passed) || (passed && read_keys(passed, keys) < 0)) return NULL;
-    size_t size = intaglio_frozen_size(&self->handle);
-    PyObject *bytes = PyBytes_FromStringAndSize(NULL, (Py_ssize_t)size);
-    if (!bytes) return NULL;
-    uint32_t code = intaglio_freeze(&self->handle, keys[0], keys[1], (uint8_t *)PyBytes_AS_STRING(bytes), size, &len);
-    PyObject *module = code ? refused(code) : PyImport_ImportModule("intaglio.frozen");
-    if (module && (len == size || _PyBytes_Resize(&bytes, (Py_ssize_t)len) == 0)) written = PyObject_CallMethod(module, "replace", "OO", path, bytes);
-    Py_XDECREF(module);
-    Py_XDECREF(bytes);
-    return written;
-}
-
 static PyObject *table_enter(PyObject *self, PyObject *Py_UNUSED(none)) { return Py_NewRef(self); }
 static PyObject *table_exit(Table *self, PyObject *Py_UNUSED(args)) { return table_close(self, NULL); }
 
@@ -634,7 +613,6 @@ static PyMethodDef methods[] = {
     {"take_back", (PyCFunction)table_take_back, METH_O, take_back_doc},
     {"reserve", (PyCFunction)table_reserve, METH_O, reserve_doc},
     {"shrink_to", FAST(table_shrink_to), METH_FASTCALL, shrink_to_doc},
-    {"freeze", FAST(table_freeze), METH_VARARGS | METH_KEYWORDS, freeze_doc},
     {"close", (PyCFunction)table_close, METH_NOARGS, close_doc},
     {"__enter__", table_enter, METH_NOARGS, NULL},
     {"__exit__", (PyCFunction)table_exit, METH_VARARGS, NULL},
@@ -678,121 +656,6 @@ KIND(path, INTAGLIO_PATH, "PathTable", "A table of paths, which are equal if the
 KIND(osstr, INTAGLIO_OSSTR, "OsStringTable", "A table of platform strings that are texts.")
 KIND(bstr, INTAGLIO_BSTR, "ByteStringTable", "A table of bytes that are text by convention.")
 
-/* Frozen tables: functions of their bytes, over which frozen.py has a class. */
-
-/* Borrows the bytes of a table. */
-static int borrow_frozen(PyObject *data, Py_buffer *view) { return PyObject_GetBuffer(data, view, PyBUF_SIMPLE); }
-
-/* The bytes of a string, which stay with it, or null and an exception: TypeError, UnicodeEncodeError, MemoryError. */
-static const uint8_t *spell_frozen(bool is_text, PyObject *string, size_t *len) {
-    Py_ssize_t size;
-    if (is_text && PyUnicode_Check(string)) {
-        const char *text = PyUnicode_AsUTF8AndSize(string, &size);
-        *len = (size_t)size;
-        return (const uint8_t *)text;
-    }
-    if (!is_text && PyBytes_Check(string)) {
-        *len = (size_t)PyBytes_GET_SIZE(string);
-        return (const uint8_t *)PyBytes_AS_STRING(string);
-    }
-    PyErr_Format(PyExc_TypeError, "%s, not %.200s", is_text ? "a string" : "bytes", Py_TYPE(string)->tp_name);
-    return NULL;
-}
-
-/* The symbol of a string or None, or null and an exception. */
-static PyObject *find_frozen(const Py_buffer *view, bool is_text, PyObject *string) {
-    size_t len;
-    uint32_t symbol;
-    const uint8_t *at = spell_frozen(is_text, string, &len);
-    if (at && intaglio_frozen_find(view->buf, (size_t)view->len, at, len, &symbol)) return PyLong_FromUnsignedLong(symbol);
-    if (!at && !PyErr_ExceptionMatches(PyExc_UnicodeEncodeError)) return NULL;
-    PyErr_Clear();
-    Py_RETURN_NONE;
-}
-
-PyDoc_STRVAR(frozen_check_doc, "frozen_check(data, /)\n--\n\nRaises what is wrong with bytes that are no frozen table.");
-static PyObject *frozen_check(PyObject *Py_UNUSED(module), PyObject *data) {
-    Py_buffer view;
-    if (borrow_frozen(data, &view) < 0) return NULL;
-    uint32_t code = intaglio_frozen_check(view.buf, (size_t)view.len);
-    PyBuffer_Release(&view);
-    return done_or_refused(code);
-}
-
-PyDoc_STRVAR(frozen_len_doc, "frozen_len(data, /)\n--\n\nHow many strings there are.");
-static PyObject *frozen_len(PyObject *Py_UNUSED(module), PyObject *data) {
-    Py_buffer view;
-    if (borrow_frozen(data, &view) < 0) return NULL;
-    size_t len = intaglio_frozen_len(view.buf, (size_t)view.len);
-    PyBuffer_Release(&view);
-    return PyLong_FromSize_t(len);
-}
-
-PyDoc_STRVAR(frozen_is_text_doc, "frozen_is_text(data, /)\n--\n\nWhether the strings are texts.");
-static PyObject *frozen_is_text(PyObject *Py_UNUSED(module), PyObject *data) {
-    Py_buffer view;
-    if (borrow_frozen(data, &view) < 0) return NULL;
-    bool is_text = intaglio_frozen_is_text(view.buf, (size_t)view.len);
-    PyBuffer_Release(&view);
-    return PyBool_FromLong(is_text);
-}
-
-PyDoc_STRVAR(frozen_find_doc, "frozen_find(data, string, /)\n--\n\nThe symbol of a string, or None.");
-static PyObject *frozen_find(PyObject *Py_UNUSED(module), PyObject *const *args, Py_ssize_t count) {
-    Py_buffer view;
-    if (count != 2) return PyErr_Format(PyExc_TypeError, "takes the bytes and a string (%zd given)", count);
-    if (borrow_frozen(args[0], &view) < 0) return NULL;
-    PyObject *found = find_frozen(&view, intaglio_frozen_is_text(view.buf, (size_t)view.len), args[1]);
-    PyBuffer_Release(&view);
-    return found;
-}
-
-PyDoc_STRVAR(frozen_find_all_doc, "frozen_find_all(data, strings, /)\n--\n\nThe symbol of each string, or None.");
-static PyObject *frozen_find_all(PyObject *Py_UNUSED(module), PyObject *const *args, Py_ssize_t count) {
-    Py_buffer view;
-    if (count != 2) return PyErr_Format(PyExc_TypeError, "takes the bytes and strings (%zd given)", count);
-    PyObject *strings = PySequence_Tuple(args[1]);
-    if (!strings || borrow_frozen(args[0], &view) < 0) {
-        Py_XDECREF(strings);
-        return NULL;
-    }
-    bool is_text = intaglio_frozen_is_text(view.buf, (size_t)view.len);
-    PyObject *list = PyList_New(PyTuple_GET_SIZE(strings));
-    for (Py_ssize_t i = 0; list && i < PyTuple_GET_SIZE(strings); i++) {
-        PyObject *found = find_frozen(&view, is_text, PyTuple_GET_ITEM(strings, i));
-        if (found) PyList_SET_ITEM(list, i, found);
-        else Py_CLEAR(list);
-    }
-    PyBuffer_Release(&view);
-    Py_DECREF(strings);
-    return list;
-}
-
-PyDoc_STRVAR(frozen_get_doc, "frozen_get(data, symbol, /)\n--\n\nThe string of a symbol, or None if there is none.");
-static PyObject *frozen_get(PyObject *Py_UNUSED(module), PyObject *const *args, Py_ssize_t count) {
-    Py_buffer view;
-    intaglio_spelling out;
-    PyObject *string = NULL;
-    if (count != 2) return PyErr_Format(PyExc_TypeError, "takes the bytes and a symbol (%zd given)", count);
-    Py_ssize_t symbol = read_symbol(args[1]);
-    if ((symbol < 0 && PyErr_Occurred()) || borrow_frozen(args[0], &view) < 0) return NULL;
-    if (symbol < 0 || symbol > (Py_ssize_t)UINT32_MAX || !intaglio_frozen_get(view.buf, (size_t)view.len, (uint32_t)symbol, &out)) string = Py_NewRef(Py_None);
-    else if (intaglio_frozen_is_text(view.buf, (size_t)view.len)) string = PyUnicode_DecodeUTF8((const char *)out.at, (Py_ssize_t)out.len, NULL);
-    else string = PyBytes_FromStringAndSize((const char *)out.at, (Py_ssize_t)out.len);
-    PyBuffer_Release(&view);
-    return string;
-}
-
-static PyMethodDef functions[] = {
-    {"frozen_check", frozen_check, METH_O, frozen_check_doc},
-    {"frozen_len", frozen_len, METH_O, frozen_len_doc},
-    {"frozen_is_text", frozen_is_text, METH_O, frozen_is_text_doc},
-    {"frozen_find", FAST(frozen_find), METH_FASTCALL, frozen_find_doc},
-    {"frozen_find_all", FAST(frozen_find_all), METH_FASTCALL, frozen_find_all_doc},
-    {"frozen_get", FAST(frozen_get), METH_FASTCALL, frozen_get_doc},
-    {NULL, NULL, 0, NULL},
-};
-
 static int add_types(PyObject *module) {
     static PyType_Spec *const kinds[] = {&spec_of_text, &spec_of_bytes, &spec_of_cstr, &spec_of_path, &spec_of_osstr, &spec_of_bstr};
     PyObject *table = PyType_FromModuleAndSpec(module, &base, NULL);
@@ -822,6 +685,6 @@ static PyModuleDef_Slot module_slots[] = {
 #endif
     {0, NULL},
 };
-static struct PyModuleDef definition = {PyModuleDef_HEAD_INIT, "intaglio._table", "The tables, over libintaglio.", 0, functions, module_slots, NULL, NULL, NULL};
+static struct PyModuleDef definition = {PyModuleDef_HEAD_INIT, "intaglio._table", "The tables, over libintaglio.", 0, NULL, module_slots, NULL, NULL, NULL};
 
 PyMODINIT_FUNC PyInit__table(void) { return PyModuleDef_Init(&definition); }

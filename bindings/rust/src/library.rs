@@ -45,13 +45,6 @@ unsafe extern "C" {
     fn intaglio_take_back(table: *mut RawHandle, mark: usize) -> u32;
     fn intaglio_intern_all(table: *mut RawHandle, bytes: *const u8, len: usize, ends: *const usize, count: usize, symbols: *mut u32, symbols_count: usize) -> u32;
     fn intaglio_check_all(table: *mut RawHandle, bytes: *const u8, len: usize, ends: *const usize, count: usize, symbols: *mut u64, symbols_count: usize) -> u32;
-    fn intaglio_freeze(table: *mut RawHandle, key0: u64, key1: u64, buffer: *mut u8, size: usize, len: *mut usize) -> u32;
-    fn intaglio_frozen_check(bytes: *const u8, len: usize) -> u32;
-    fn intaglio_frozen_find(bytes: *const u8, len: usize, string: *const u8, string_len: usize, symbol: *mut u32) -> bool;
-    fn intaglio_frozen_find_all(bytes: *const u8, len: usize, strings: *const u8, strings_len: usize, ends: *const usize, count: usize, symbols: *mut u64, symbols_count: usize) -> u32;
-    fn intaglio_frozen_get(bytes: *const u8, len: usize, symbol: u32, out: *mut RawSpelling) -> bool;
-    fn intaglio_frozen_len(bytes: *const u8, len: usize) -> usize;
-    fn intaglio_frozen_is_text(bytes: *const u8, len: usize) -> bool;
 }
 
 mod sealed {
@@ -379,105 +372,11 @@ impl<K: Kind> RawTable<K> {
         assert!(code == 0, "the ends ascend, and there is a place for each symbol");
         symbols.into_iter().map(|symbol| u32::try_from(symbol).ok()).collect()
     }
-
-    // Freezes the table into a buffer of this size. Returns the code, and how many bytes there are.
-    fn freeze_into(&self, keys: (u64, u64), buffer: &mut [u8]) -> (u32, usize) {
-        let mut len = 0;
-        // SAFETY: As in `len`. The buffer is a slice that nothing else has.
-        let code = self.read(|handle| unsafe { intaglio_freeze(handle, keys.0, keys.1, buffer.as_mut_ptr(), buffer.len(), &mut len) });
-        (code, len)
-    }
-
-    /// The bytes of a frozen table of the strings, or the error's code.
-    pub fn freeze(&self, keys: (u64, u64)) -> Result<Vec<u8>, u32> {
-        let text = (0..self.len()).filter_map(|id| self.get(u32::try_from(id).ok()?)).map(|content| K::bytes(content).len()).sum();
-        let mut bytes = vec![0; frozen_size(self.len(), text)];
-        let (mut code, mut len) = self.freeze_into(keys, &mut bytes);
-        if code == NO_SPACE {
-            bytes.resize(len, 0);
-            (code, len) = self.freeze_into(keys, &mut bytes);
-        }
-        bytes.truncate(len);
-        if code == 0 { Ok(bytes) } else { Err(code) }
-    }
-}
-
-// The code for a buffer that is too short.
-const NO_SPACE: u32 = 11;
-
-// How many bytes a frozen table has, of so many strings and bytes of text, by docs/FROZEN.md.
-fn frozen_size(count: usize, text: usize) -> usize {
-    let (places, groups) = (count + count / 19 + 2, count / 3 + 1);
-    64 + 5 * places + 4 * count + 2 * groups + text
 }
 
 impl<K: Kind> Drop for RawTable<K> {
     fn drop(&mut self) {
         // SAFETY: As in `clear`. Nothing uses the handle afterwards.
         unsafe { intaglio_free(&mut self.handle) }
-    }
-}
-
-/// The bytes of a frozen table, or any others: each call reads the header again, and nothing outside the bytes.
-#[derive(Clone, Copy)]
-pub struct RawFrozen<'a> {
-    bytes: &'a [u8],
-}
-
-impl<'a> RawFrozen<'a> {
-    pub fn new(bytes: &'a [u8]) -> RawFrozen<'a> {
-        RawFrozen { bytes }
-    }
-
-    pub fn bytes(self) -> &'a [u8] {
-        self.bytes
-    }
-
-    pub fn check(self) -> u32 {
-        // SAFETY: A slice's pointer isn't null, and the library only reads.
-        unsafe { intaglio_frozen_check(self.bytes.as_ptr(), self.bytes.len()) }
-    }
-
-    pub fn find(self, string: &[u8]) -> Option<u32> {
-        let mut symbol = 0;
-        // SAFETY: As in `check`. `symbol` is in neither slice.
-        let found = unsafe { intaglio_frozen_find(self.bytes.as_ptr(), self.bytes.len(), string.as_ptr(), string.len(), &mut symbol) };
-        found.then_some(symbol)
-    }
-
-    pub fn find_all(self, batch: &Batch) -> Vec<Option<u32>> {
-        let Batch { bytes, ends } = batch;
-        let mut symbols = vec![u64::MAX; ends.len()];
-        // SAFETY: As in `check`. The three are vectors of their own.
-        let _code = unsafe {
-            intaglio_frozen_find_all(
-                self.bytes.as_ptr(), self.bytes.len(), bytes.as_ptr(), bytes.len(), ends.as_ptr(), ends.len(), symbols.as_mut_ptr(), symbols.len(),
-            )
-        };
-        symbols.into_iter().map(|symbol| u32::try_from(symbol).ok()).collect()
-    }
-
-    pub fn get(self, symbol: u32) -> Option<&'a [u8]> {
-        let mut out = RawSpelling { at: core::ptr::null(), len: 0 };
-        // SAFETY: As in `check`. `out` is the library's struct.
-        if !unsafe { intaglio_frozen_get(self.bytes.as_ptr(), self.bytes.len(), symbol, &mut out) } {
-            return None;
-        }
-        if out.len == 0 {
-            return Some(&[]);
-        }
-        // Where the string begins in the bytes. A wrong address panics here, since no contract says which it is.
-        let start = out.at as usize - self.bytes.as_ptr() as usize;
-        Some(&self.bytes[start..start + out.len])
-    }
-
-    pub fn len(self) -> usize {
-        // SAFETY: As in `check`.
-        unsafe { intaglio_frozen_len(self.bytes.as_ptr(), self.bytes.len()) }
-    }
-
-    pub fn is_text(self) -> bool {
-        // SAFETY: As in `check`.
-        unsafe { intaglio_frozen_is_text(self.bytes.as_ptr(), self.bytes.len()) }
     }
 }

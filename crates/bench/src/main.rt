@@ -1,25 +1,22 @@
-//! Measures tables of texts on generated words. The program in `bench/rust` makes the same calls on
+//! Measures the table of texts on generated words. The program in `bench/rust` makes the same calls on
 //! the same words.
 #![tactic(auto)]
 
 mod operations;
 mod plan;
-mod table;
 mod turn;
 mod words;
 
 use anyhow::Result;
-use intaglio::{SymbolTable, packed};
+use intaglio::SymbolTable;
 use intaglio_hash::KeyedState;
-use plan::{Hashing, Place, Plan, Task};
+use plan::{Hashing, Plan, Task};
 use std::env;
 use std::hash::{BuildHasher, RandomState};
 use std::rt::{Clock, Env};
-use table::WordTable;
-use turn::{copy, hash_alone, hold, turn};
+use turn::{hash_alone, hold, turn};
 
-const USAGE: &str =
-    "check|time|hold|hash|copy single|batch|both|packed|packed_batch|packed_both fold|keyed|std CAPACITY SIZE TURNS";
+const USAGE: &str = "check|time|hold|hash single|batch|both fold|keyed|std CAPACITY SIZE TURNS";
 
 fn main(rt: HostRuntime) -> Result<()> {
     let mut arguments = Vec::new(rt.alloc());
@@ -30,61 +27,33 @@ fn main(rt: HostRuntime) -> Result<()> {
         println!(rt; "usage: {USAGE}")?;
         return Ok(());
     };
+    let (alloc, capacity) = (rt.alloc(), plan.capacity);
     for _ in 0..plan.turns {
         match plan.hashing {
-            Hashing::Fold => fold(&rt, plan)?,
+            Hashing::Fold => run(&rt, SymbolTable::with_capacity(alloc, capacity)?, plan)?,
             Hashing::Keyed => {
                 let builder = KeyedState::from_random(&RandomState::new(&rt)?);
-                run_with(&rt, plan, builder)?;
+                let table = SymbolTable::with_capacity_and_hasher(alloc, capacity, builder)?;
+                run(&rt, table, plan)?;
             }
-            Hashing::Std => run_with(&rt, plan, RandomState::new(&rt)?)?,
+            Hashing::Std => {
+                let builder = RandomState::new(&rt)?;
+                let table = SymbolTable::with_capacity_and_hasher(alloc, capacity, builder)?;
+                run(&rt, table, plan)?;
+            }
         }
     }
     Ok(())
 }
 
-// A turn with the hasher of fixed seed, whose tables round their capacity up.
-fn fold<R: Print + Input + Clock + AllocGlobal>(rt: &R, plan: Plan) -> Result<()> {
-    match plan.place {
-        Place::Owned => run(
-            rt,
-            SymbolTable::with_capacity(rt.alloc(), plan.capacity)?,
-            plan,
-        ),
-        Place::Packed => {
-            let table = packed::SymbolTable::with_capacity(rt.alloc(), plan.capacity)?;
-            run(rt, table, plan)
-        }
-    }
-}
-
-fn run_with<R: Print + Input + Clock + AllocGlobal, S: BuildHasher + Drop>(
+fn run<R: Print + Input + Clock + AllocGlobal, S: BuildHasher + Drop>(
     rt: &R,
-    plan: Plan,
-    builder: S,
-) -> Result<()> {
-    let (alloc, capacity) = (rt.alloc(), plan.capacity);
-    match plan.place {
-        Place::Owned => {
-            let table = SymbolTable::with_capacity_and_hasher(alloc, capacity, builder)?;
-            run(rt, table, plan)
-        }
-        Place::Packed => {
-            let table = packed::SymbolTable::with_capacity_and_hasher(alloc, capacity, builder)?;
-            run(rt, table, plan)
-        }
-    }
-}
-
-fn run<R: Print + Input + Clock + AllocGlobal, T: WordTable + Drop>(
-    rt: &R,
-    mut table: T,
+    mut table: SymbolTable<S>,
     plan: Plan,
 ) -> Result<()> {
     match plan.task {
         Task::Check | Task::Time => turn(rt, &mut table, plan),
         Task::Hold => hold(rt, &mut table, plan),
         Task::Hash => hash_alone(rt, &mut table, plan),
-        Task::Copy => copy(rt, &mut table, plan),
     }
 }

@@ -1,29 +1,29 @@
 //! What is measured. Each operation returns a sum that shows what it found.
-ghost use Rattle.std.specs.Prelude.{◌≡◌};
+ghost use Rattle.std.specs.Prelude.{◌≡◌, []};
 
-use crate::table::{WordTable, forms};
-use intaglio::{InternError, Symbol};
+use intaglio::{InternError, StrContent, Symbol, SymbolTable};
 use std::alloc::{AllocError, Global};
+use std::hash::BuildHasher;
 
 /// How many words a batch has.
 const BATCH: usize = 64;
 
 /// Hashes the words, and adds up their hashes.
 #[inline(never)]
-pub fn hash<T: WordTable>(table: &T, words: &[String]) -> u64 {
+pub fn hash<S: BuildHasher>(table: &SymbolTable<S>, words: &[String]) -> u64 {
     let mut sum = 0u64;
     for word in words {
-        sum = sum.wrapping_add(table.hash(word.as_str()));
+        sum = sum.wrapping_add(table.hasher().hash_one(word.as_str()));
     }
     sum
 }
 
 /// Interns the words, and adds up the numbers of their symbols, plus 1 for each.
 #[inline(never)]
-pub fn intern<T: WordTable>(table: &mut T, words: Vec<String>) -> u64 {
+pub fn intern<S: BuildHasher>(table: &mut SymbolTable<S>, words: Vec<String>) -> u64 {
     let mut sum = 0u64;
     for word in words {
-        if let Ok(symbol) = table.intern_word(word) {
+        if let Ok(symbol) = table.intern(StrContent::from(word)) {
             sum = sum.wrapping_add(symbol.id() as u64 + 1);
         }
     }
@@ -32,31 +32,30 @@ pub fn intern<T: WordTable>(table: &mut T, words: Vec<String>) -> u64 {
 
 /// The same in batches.
 #[inline(never)]
-pub fn intern_batches<T: WordTable>(
+pub fn intern_batches<S: BuildHasher>(
     alloc: Global,
-    table: &mut T,
+    table: &mut SymbolTable<S>,
     words: Vec<String>,
 ) -> Result<u64, InternError> {
     let mut sum = 0u64;
     let mut batch = Vec::with_capacity(alloc, BATCH)?;
     for word in words {
         batch.reserve(1)?;
-        batch.push_reserved(T::word_of(word));
+        batch.push_reserved(StrContent::from(word));
         if batch.len() == BATCH {
-            sum = sum.wrapping_add(intern_batch(alloc, table, batch)?);
+            sum = sum.wrapping_add(intern_batch(table, batch)?);
             batch = Vec::with_capacity(alloc, BATCH)?;
         }
     }
-    Ok(sum.wrapping_add(intern_batch(alloc, table, batch)?))
+    Ok(sum.wrapping_add(intern_batch(table, batch)?))
 }
 
-fn intern_batch<T: WordTable>(
-    alloc: Global,
-    table: &mut T,
-    batch: Vec<T::Word>,
+fn intern_batch<S: BuildHasher>(
+    table: &mut SymbolTable<S>,
+    batch: Vec<StrContent>,
 ) -> Result<u64, InternError> {
     let mut sum = 0u64;
-    for symbol in table.intern_words(alloc, batch)? {
+    for symbol in table.intern_all(batch)? {
         sum = sum.wrapping_add(symbol.id() as u64 + 1);
     }
     Ok(sum)
@@ -64,10 +63,10 @@ fn intern_batch<T: WordTable>(
 
 /// Interns the words by their borrowed forms, and adds up the numbers of their symbols, plus 1 for each.
 #[inline(never)]
-pub fn get_or_intern<T: WordTable>(table: &mut T, words: &[String]) -> u64 {
+pub fn get_or_intern<S: BuildHasher>(table: &mut SymbolTable<S>, words: &[String]) -> u64 {
     let mut sum = 0u64;
     for word in words {
-        if let Ok(symbol) = table.intern_form(word.as_str()) {
+        if let Ok(symbol) = table.get_or_intern(word.as_str()) {
             sum = sum.wrapping_add(symbol.id() as u64 + 1);
         }
     }
@@ -76,14 +75,14 @@ pub fn get_or_intern<T: WordTable>(table: &mut T, words: &[String]) -> u64 {
 
 /// The same in batches.
 #[inline(never)]
-pub fn get_or_intern_batches<T: WordTable>(
+pub fn get_or_intern_batches<S: BuildHasher>(
     alloc: Global,
-    table: &mut T,
+    table: &mut SymbolTable<S>,
     words: &[String],
 ) -> Result<u64, InternError> {
     let mut sum = 0u64;
     for batch in words.chunks(BATCH) {
-        for symbol in table.intern_forms(&forms(alloc, batch)?)? {
+        for symbol in table.get_or_intern_all(&forms(alloc, batch)?)? {
             sum = sum.wrapping_add(symbol.id() as u64 + 1);
         }
     }
@@ -92,14 +91,14 @@ pub fn get_or_intern_batches<T: WordTable>(
 
 /// Looks up the words in batches, and adds up the numbers of the symbols found, plus 1 for each.
 #[inline(never)]
-pub fn look_up_batches<T: WordTable>(
+pub fn look_up_batches<S: BuildHasher>(
     alloc: Global,
-    table: &T,
+    table: &SymbolTable<S>,
     words: &[String],
 ) -> Result<u64, AllocError> {
     let mut sum = 0u64;
     for batch in words.chunks(BATCH) {
-        for found in table.find_all(&forms(alloc, batch)?)? {
+        for found in table.check_all(&forms(alloc, batch)?)? {
             if let Some(symbol) = found {
                 sum = sum.wrapping_add(symbol.id() as u64 + 1);
             }
@@ -108,12 +107,22 @@ pub fn look_up_batches<T: WordTable>(
     Ok(sum)
 }
 
+// The words as forms.
+fn forms(alloc: Global, words: &[String]) -> Result<Vec<&str>, AllocError> {
+    let mut forms = Vec::with_capacity(alloc, words.len())?;
+    for word in words {
+        forms.reserve(1)?;
+        forms.push_reserved(word.as_str());
+    }
+    Ok(forms)
+}
+
 /// Looks up the words, and adds up the numbers of the symbols found, plus 1 for each.
 #[inline(never)]
-pub fn look_up<T: WordTable>(table: &T, words: &[String]) -> u64 {
+pub fn look_up<S: BuildHasher>(table: &SymbolTable<S>, words: &[String]) -> u64 {
     let mut sum = 0u64;
     for word in words {
-        if let Some(symbol) = table.find(word.as_str()) {
+        if let Some(symbol) = table.check_interned(word.as_str()) {
             sum = sum.wrapping_add(symbol.id() as u64 + 1);
         }
     }
@@ -122,10 +131,10 @@ pub fn look_up<T: WordTable>(table: &T, words: &[String]) -> u64 {
 
 /// Adds up the lengths of the texts of these symbols.
 #[inline(never)]
-pub fn get<T: WordTable>(table: &T, numbers: &[u32]) -> u64 {
+pub fn get<S: BuildHasher>(table: &SymbolTable<S>, numbers: &[u32]) -> u64 {
     let mut sum = 0u64;
     for number in numbers {
-        if let Some(text) = table.text(Symbol::new(*number)) {
+        if let Some(text) = table.get(Symbol::new(*number)) {
             sum = sum.wrapping_add(text.len() as u64);
         }
     }
@@ -134,14 +143,19 @@ pub fn get<T: WordTable>(table: &T, numbers: &[u32]) -> u64 {
 
 /// Adds up the numbers of all symbols and the lengths of all texts.
 #[inline(never)]
-pub fn iterate<T: WordTable>(table: &T) -> u64 {
-    table.sum()
+pub fn iterate<S: BuildHasher>(table: &SymbolTable<S>) -> u64 {
+    let mut sum = 0u64;
+    for (symbol, text) in table.iter() {
+        sum = sum.wrapping_add(symbol.id() as u64);
+        sum = sum.wrapping_add(text.len() as u64);
+    }
+    sum
 }
 
 /// Drops all texts, and returns how many are left.
 #[inline(never)]
-pub fn clear<T: WordTable>(table: &mut T) -> u64
-    ensures dropped { T.count table.new ≡ 0 }
+pub fn clear<S: BuildHasher>(table: &mut SymbolTable<S>) -> u64
+    ensures dropped { table.new.state.contents ≡ [] }
     ensures none_left { result ≡ 0 }
 {
     table.clear();

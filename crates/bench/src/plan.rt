@@ -11,8 +11,6 @@ pub enum Task {
     Hold,
     /// Words are only hashed, and the time is printed.
     Hash,
-    /// New words are interned by their borrowed forms, and the time is printed.
-    Copy,
 }
 
 /// How many words a call takes.
@@ -24,15 +22,6 @@ pub enum Calls {
     Batch,
     /// First the operations of single calls, then those of batches, on the same table.
     Both,
-}
-
-/// Where a table has its texts.
-#[derive(Clone, Copy)]
-pub enum Place {
-    /// Each in an allocation of its own.
-    Owned,
-    /// All in one buffer.
-    Packed,
 }
 
 /// Which hashers a table has.
@@ -51,7 +40,6 @@ pub enum Hashing {
 pub struct Plan {
     pub task: Task,
     pub calls: Calls,
-    pub place: Place,
     pub hashing: Hashing,
     /// The initial capacity of each table.
     pub capacity: usize,
@@ -62,7 +50,8 @@ pub struct Plan {
 }
 
 impl Plan {
-    /// Reads the arguments that the program's usage says, after its name.
+    /// Reads `check|time|hold|hash single|batch|both fold|keyed|std CAPACITY SIZE
+    /// TURNS`, after the program's name.
     pub fn read(arguments: &[String]) -> Option<Plan> {
         let [_, task, calls, hashing, capacity, size, turns] = arguments else {
             return None;
@@ -70,7 +59,6 @@ impl Plan {
         Some(Plan {
             task: task_of(task)?,
             calls: calls_of(calls)?,
-            place: place_of(calls),
             hashing: hashing_of(hashing)?,
             capacity: capacity.as_str().parse().ok()?,
             size: size.as_str().parse().ok()?,
@@ -85,24 +73,16 @@ fn task_of(word: &str) -> Option<Task> {
         "time" => Some(Task::Time),
         "hold" => Some(Task::Hold),
         "hash" => Some(Task::Hash),
-        "copy" => Some(Task::Copy),
         _ => None,
     }
 }
 
 fn calls_of(word: &str) -> Option<Calls> {
     match word {
-        "single" | "packed" => Some(Calls::Single),
-        "batch" | "packed_batch" => Some(Calls::Batch),
-        "both" | "packed_both" => Some(Calls::Both),
+        "single" => Some(Calls::Single),
+        "batch" => Some(Calls::Batch),
+        "both" => Some(Calls::Both),
         _ => None,
-    }
-}
-
-fn place_of(word: &str) -> Place {
-    match word {
-        "packed" | "packed_batch" | "packed_both" => Place::Packed,
-        _ => Place::Owned,
     }
 }
 

@@ -5,11 +5,11 @@ use crate::operations::{
     look_up, look_up_batches,
 };
 use crate::plan::{Calls, Plan, Task};
-use crate::table::WordTable;
 use crate::words::{numbers, shuffle, word, words};
 use anyhow::Result;
-use intaglio::InternError;
+use intaglio::{InternError, StrContent, SymbolTable};
 use std::alloc::{AllocError, Global};
+use std::hash::BuildHasher;
 use std::rt::Clock;
 use std::time::Instant;
 
@@ -29,7 +29,11 @@ enum Operation<'a> {
 }
 
 impl<'a> Operation<'a> {
-    fn run<T: WordTable>(self, alloc: Global, table: &mut T) -> Result<u64, InternError> {
+    fn run<S: BuildHasher>(
+        self,
+        alloc: Global,
+        table: &mut SymbolTable<S>,
+    ) -> Result<u64, InternError> {
         match self {
             Operation::Hash(words) => Ok(hash(table, words)),
             Operation::Intern(words) => Ok(intern(table, words)),
@@ -47,9 +51,9 @@ impl<'a> Operation<'a> {
 
 /// Prints a line for each operation: its name, how many words, the nanoseconds for each of them
 /// unless the task is a check, and the operation's sum.
-pub fn turn<R: Print + Clock + AllocGlobal, T: WordTable>(
+pub fn turn<R: Print + Clock + AllocGlobal, S: BuildHasher>(
     rt: &R,
-    table: &mut T,
+    table: &mut SymbolTable<S>,
     plan: Plan,
 ) -> Result<()> {
     match plan.calls {
@@ -63,9 +67,9 @@ pub fn turn<R: Print + Clock + AllocGlobal, T: WordTable>(
     }
 }
 
-fn single_calls<R: Print + Clock + AllocGlobal, T: WordTable>(
+fn single_calls<R: Print + Clock + AllocGlobal, S: BuildHasher>(
     rt: &R,
-    table: &mut T,
+    table: &mut SymbolTable<S>,
     plan: Plan,
 ) -> Result<()> {
     let alloc = rt.alloc();
@@ -85,9 +89,9 @@ fn single_calls<R: Print + Clock + AllocGlobal, T: WordTable>(
 }
 
 // The same operations in batches, as far as there is a call that takes a batch.
-fn batches<R: Print + Clock + AllocGlobal, T: WordTable>(
+fn batches<R: Print + Clock + AllocGlobal, S: BuildHasher>(
     rt: &R,
-    table: &mut T,
+    table: &mut SymbolTable<S>,
     plan: Plan,
 ) -> Result<()> {
     let alloc = rt.alloc();
@@ -120,9 +124,9 @@ fn other_words(alloc: Global, plan: Plan) -> Result<Vec<String>, AllocError> {
     words(alloc, &numbers(alloc, plan.size, plan.size)?)
 }
 
-fn measure<R: Print + Clock + AllocGlobal, T: WordTable>(
+fn measure<R: Print + Clock + AllocGlobal, S: BuildHasher>(
     rt: &R,
-    table: &mut T,
+    table: &mut SymbolTable<S>,
     plan: Plan,
     name: &str,
     operation: Operation<'_>,
@@ -151,37 +155,27 @@ fn report<R: Print + Clock>(
 }
 
 /// Prints such a line for hashing alone. The sum is that of the hashes.
-pub fn hash_alone<R: Print + Clock + AllocGlobal, T: WordTable>(
+pub fn hash_alone<R: Print + Clock + AllocGlobal, S: BuildHasher>(
     rt: &R,
-    table: &mut T,
+    table: &mut SymbolTable<S>,
     plan: Plan,
 ) -> Result<()> {
     let fresh = words(rt.alloc(), &numbers(rt.alloc(), 0, plan.size)?)?;
     measure(rt, table, plan, "hash", Operation::Hash(&fresh))
 }
 
-/// Prints such a line for new words that are interned by their borrowed forms.
-pub fn copy<R: Print + Clock + AllocGlobal, T: WordTable>(
-    rt: &R,
-    table: &mut T,
-    plan: Plan,
-) -> Result<()> {
-    let fresh = words(rt.alloc(), &numbers(rt.alloc(), 0, plan.size)?)?;
-    measure(rt, table, plan, "copied", Operation::GetOrIntern(&fresh))
-}
-
 /// Fills the table with words made one at a time, prints the number of texts and of their bytes, and returns
 /// when the input ends: the table's memory can be measured while it waits.
-pub fn hold<R: Print + Input + AllocGlobal, T: WordTable>(
+pub fn hold<R: Print + Input + AllocGlobal, S: BuildHasher>(
     rt: &R,
-    table: &mut T,
+    table: &mut SymbolTable<S>,
     plan: Plan,
 ) -> Result<()> {
     let mut bytes = 0u64;
     for number in 0..plan.size {
         let text = word(rt.alloc(), number)?;
         bytes = bytes.wrapping_add(text.len() as u64);
-        table.intern_word(text)?;
+        table.intern(StrContent::from(text))?;
     }
     let count = table.len();
     println!(rt; "held {count} {bytes}")?;

@@ -1,24 +1,18 @@
 //! The tables of texts, bytes, C strings, paths, platform strings and byte strings for C.
 //!
 //! A handle knows the kind of its table, so one function serves all kinds. The
-//! header also has names for each kind. A frozen table has no handle: it is its bytes.
+//! header also has names for each kind.
 #![tactic(auto)]
 
-ghost use Rattle.std.specs.Prelude.{◌≡◌, ◌↔◌, false, length, slice_get, IsTrue, Some};
+ghost use Rattle.std.specs.Prelude.{◌≡◌, false, length};
 ghost use Rattle.std.specs.Option.{option_map};
 ghost use Rattle.intaglio_handle.specs.Answers.{IsCodeOf, given};
 ghost use Rattle.intaglio_handle.specs.Batches.{CopiesAll, FindsAll, InternsAll};
 ghost use Rattle.intaglio_handle.specs.Handles.{ChangesWithCode, ChangesWithSymbol, Clears, HoldsNone, Keeps, MakesLimited, MakesRoom, capacity, count, filled, known, stored, table_of};
 ghost use Rattle.intaglio_handle.specs.Steps.{Interns, InternsStatic, Reserves, Shrinks, TakesBack};
 ghost use Rattle.std.specs.Hash.DefaultHasher.{with_keys};
-ghost use Rattle.intaglio_frozen.specs.IsFrozen.{HasHeader, HasSections, IsFrozen, text_kind};
-ghost use Rattle.intaglio_frozen.specs.Layout.{kind as kind_of, strings as strings_of};
-ghost use Rattle.intaglio_handle.specs.Frozen.{Checks, FindsEach, FreezesHeld, position_in};
 
-use intaglio_handle::{
-    Handle, Spelling, check_frozen, code, find_all_frozen, find_frozen, get_frozen, is_frozen_text,
-    len_frozen, symbol_code,
-};
+use intaglio_handle::{Handle, Spelling, code, symbol_code};
 use intaglio_hash::KeyedState;
 use std::alloc::Global;
 
@@ -262,92 +256,4 @@ pub extern "C" fn intaglio_copy_all(
     ensures kept { Keeps handle.old handle.new }
 {
     code(handle.copy_all(alloc, symbols, buffer, ends))
-}
-
-/// Writes how many bytes a frozen table of the contents has, and copies them to the start of a buffer that has space
-/// for them.
-#[unsafe(no_mangle)]
-pub extern "C" fn intaglio_freeze(
-    alloc: Global,
-    handle: &mut Handle,
-    key0: u64,
-    key1: u64,
-    buffer: &mut [u8],
-    len: &mut usize,
-) -> u32
-    ensures frozen { IsCodeOf result (FreezesHeld handle.old buffer.old buffer.new len.old len.new) }
-    ensures kept { Keeps handle.old handle.new }
-{
-    code(handle.freeze(alloc, key0, key1, buffer, len))
-}
-
-/// Checks that these bytes are a frozen table. Reads all of them.
-#[unsafe(no_mangle)]
-pub extern "C" fn intaglio_frozen_check(bytes: &[u8]) -> u32
-    ensures checked { IsCodeOf result (Checks bytes.now) }
-    ensures only { IsFrozen bytes.now → result ≡ 0 }
-{
-    code(check_frozen(bytes))
-}
-
-/// Returns whether a string is found in the bytes of a frozen table, and writes its symbol if it is.
-#[unsafe(no_mangle)]
-pub extern "C" fn intaglio_frozen_find(bytes: &[u8], string: &[u8], symbol: &mut u32) -> bool
-    ensures found { IsTrue result → slice_get (strings_of bytes.now) symbol.new ≡ Some string.now }
-    ensures frozen { IsFrozen bytes.now
-        → given result symbol.new ≡ position_in (strings_of bytes.now) string.now }
-    ensures unwritten { result ≡ false → symbol.new ≡ symbol.old }
-{
-    match find_frozen(bytes, string) {
-        Some(known) => {
-            *symbol = known.id();
-            true
-        }
-        None => false,
-    }
-}
-
-/// Looks up a batch of strings in the bytes of a frozen table, and writes the symbol of each, or 2^64 - 1 if it isn't
-/// found.
-#[unsafe(no_mangle)]
-pub extern "C" fn intaglio_frozen_find_all(
-    bytes: &[u8],
-    strings: &[u8],
-    ends: &[usize],
-    symbols: &mut [u64],
-) -> u32
-    ensures found { IsFrozen bytes.now → IsCodeOf result
-        (FindsEach (strings_of bytes.now) strings.now ends.now symbols.old symbols.new) }
-{
-    code(find_all_frozen(bytes, strings, ends, symbols))
-}
-
-/// Writes where the string of a symbol is in the bytes of a frozen table, if there is one, and returns whether there
-/// is.
-#[unsafe(no_mangle)]
-pub extern "C" fn intaglio_frozen_get(bytes: &[u8], symbol: u32, out: &mut Spelling) -> bool
-    ensures found { IsTrue result
-        → option_map length (slice_get (strings_of bytes.now) symbol) ≡ Some out.new.len }
-    ensures frozen { IsFrozen bytes.now
-        → given result out.new.len ≡ option_map length (slice_get (strings_of bytes.now) symbol) }
-    ensures unwritten { result ≡ false → out.new ≡ out.old }
-{
-    get_frozen(bytes, symbol, out)
-}
-
-/// The number of strings of a frozen table.
-#[unsafe(no_mangle)]
-pub extern "C" fn intaglio_frozen_len(bytes: &[u8]) -> usize
-    ensures count { HasSections bytes.now → result ≡ length (strings_of bytes.now) }
-    ensures frozen { IsFrozen bytes.now → result ≡ length (strings_of bytes.now) }
-{
-    len_frozen(bytes)
-}
-
-/// Returns whether the kind of a frozen table is text.
-#[unsafe(no_mangle)]
-pub extern "C" fn intaglio_frozen_is_text(bytes: &[u8]) -> bool
-    ensures kind { HasHeader bytes.now → IsTrue result ↔ (kind_of bytes.now ≡ text_kind) }
-{
-    is_frozen_text(bytes)
 }

@@ -1,10 +1,11 @@
 //! What tables store and compare.
 //!
-//! - [`Keyed`], [`Content`], [`Spelled`], [`Formed`], [`LookedUp`], [`Sought`], [`ToContent`]: contents and forms.
-//! - [`Store`], [`ByteStore`], [`SoughtIn`], [`CopiedTo`], [`Lends`], [`LookedUpIn`]: where contents are kept.
-//! - [`Forms`], [`Pairs`], [`StoreForms`], [`StorePairs`]: iterators; [`Texts`] and the like mark the six kinds.
+//! - [`Keyed`], [`Content`], [`Spelled`], [`Formed`], [`LookedUp`], [`Sought`], [`ToContent`]: what a content is,
+//!   what it is looked up by, what can be copied into one.
+//! - [`Store`], [`SoughtIn`], [`CopiedTo`], [`Lends`]: where contents are kept.
 //! - [`Work`] records, for contracts alone, what a call did.
-//! - [`Bytewise`], [`feed_item`]: for kinds that are compared by their bytes.
+//! - [`Bytewise`] is for kinds compared by their bytes; [`feed_item`] feeds an item of a key into a hasher.
+//! - [`Forms`] and [`Pairs`] iterate over contents; [`Texts`] and the like mark the six kinds.
 #![tactic(auto)]
 
 mod bytewise;
@@ -14,7 +15,6 @@ mod forms;
 mod kinds;
 mod pairs;
 mod store;
-mod store_forms;
 mod vec_store;
 mod work;
 
@@ -24,6 +24,5 @@ pub use feed::feed_item;
 pub use forms::Forms;
 pub use kinds::{BStrings, Bytestrings, CStrings, OsStrings, Paths, Texts};
 pub use pairs::Pairs;
-pub use store::{ByteStore, CopiedTo, Lends, LookedUpIn, SoughtIn, Store};
-pub use store_forms::{StoreForms, StorePairs};
+pub use store::{CopiedTo, Lends, SoughtIn, Store};
 pub use work::Work;

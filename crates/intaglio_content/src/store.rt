@@ -1,5 +1,5 @@
 //! Where a table keeps its contents.
-ghost use Rattle.std.specs.Prelude.{◌≡◌, ◌+◌, ◌<◌, ◌≤◌, ℕ, List, [], ◌∷◌, ◌++◌, length, map, min, slice_get, sum_by, take, Some};
+ghost use Rattle.std.specs.Prelude.{◌≡◌, ◌+◌, ◌<◌, ◌≤◌, ℕ, List, [], ◌∷◌, ◌++◌, length, min, slice_get, take, Some};
 ghost use Rattle.std.specs.Prelude.{IfOk, IsOk, OnErr, OnOk};
 ghost use Rattle.std.specs.Option.{option_map};
 ghost use Rattle.intaglio_content.specs.Key.{hash_of};
@@ -46,9 +46,6 @@ pub trait Store {
         ensures most { IfOk result (λ store. capacity ≤ most store) }
         ensures spare_bytes { IfOk result (λ store. spare_bytes store ≡ 0) }
         ensures none_needed { capacity ≡ 0 → IsOk result };
-
-    /// The allocator of the list.
-    fn alloc(&self) -> Global;
 
     /// The number of contents.
     fn len(&self) -> usize
@@ -98,29 +95,6 @@ pub trait Store {
         ensures no_more { most self.new ≤ most self.old }
         ensures frees { length (contents self.old) ≡ 0 → min_capacity ≡ 0 → most self.new ≡ 0 }
         ensures frees_bytes { length (contents self.old) ≡ 0 → spare_bytes self.new ≡ 0 };
-}
-
-/// A store that keeps the bytes of all its contents in one buffer.
-pub trait ByteStore: Store
-where
-    Self::Content: Content,
-{
-    /// The number of bytes of all contents together.
-    fn byte_count(&self) -> usize
-        ensures { result ≡ sum_by length (map Self.Content.spelling (Self.contents self.now)) };
-
-    /// Makes room for this many more bytes.
-    ///
-    /// # Errors
-    ///
-    /// [`AllocError`] if the allocation fails. Then nothing has changed.
-    fn reserve_bytes(&mut self, additional: usize) -> Result<(), AllocError>
-        ensures contents { Self.contents self.new ≡ Self.contents self.old }
-        ensures most { Self.most self.new ≡ Self.most self.old }
-        ensures spare_bytes { Self.spare_bytes self.old ≤ Self.spare_bytes self.new }
-        ensures bytes { OnOk result (additional ≤ Self.spare_bytes self.new) }
-        ensures err { OnErr result (Self.spare_bytes self.new ≡ Self.spare_bytes self.old) }
-        ensures none_needed { additional ≤ Self.spare_bytes self.old → IsOk result };
 }
 
 /// A value that can be looked up in a store.
@@ -198,12 +172,4 @@ where
         requires { i < length (Self.contents self.now) }
         ensures { Some (lent_spelling result)
             ≡ option_map Self.Content.spelling (slice_get (Self.contents self.now) i) };
-}
-
-/// A store whose contents are looked up by one borrowed form.
-pub trait LookedUpIn<'q>: Store
-where
-    Self::Content: Content,
-{
-    type By: CopiedTo<Self> + Drop;
 }

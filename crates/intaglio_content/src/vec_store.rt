@@ -1,8 +1,8 @@
 //! A `Vec` of owned contents as the store of a table.
 ghost use Rattle.std.specs.Prelude.{◌≡◌, vec_capacity};
 
-use crate::content::{Content, Formed, Keyed, LookedUp, Sought, ToContent};
-use crate::store::{CopiedTo, Lends, LookedUpIn, SoughtIn, Store};
+use crate::content::{Content, Formed, Keyed, Sought, ToContent};
+use crate::store::{CopiedTo, Lends, SoughtIn, Store};
 use crate::work::Work;
 use std::alloc::{AllocError, Global};
 use std::hash::BuildHasher;
@@ -24,10 +24,6 @@ impl<C: Keyed> Store for Vec<C> {
 
     fn with_capacity(alloc: Global, capacity: usize) -> Result<Vec<C>, AllocError> {
         Vec::with_capacity(alloc, capacity)
-    }
-
-    fn alloc(&self) -> Global {
-        *self.allocator()
     }
 
     #[inline(always)]
@@ -113,8 +109,4 @@ impl<'a, C: Formed<'a>> Lends<'a> for Vec<C> {
         let content = &self[i];
         content.borrow()
     }
-}
-
-impl<'q, C: LookedUp<'q>> LookedUpIn<'q> for Vec<C> {
-    type By = C::By;
 }

@@ -90,13 +90,6 @@ module _ {C : Type 0} (key : C → Key) where
       get_or-map key s.contents i is.content [] inside ∙ ap key (get_or_from_slice_get s.contents i is.content is.content is.stands) ∙ is.same_key in
       first-some (map key s.contents) k i within here (λ j lt e. valid.distinct j i [] lt within (e ∙ sym here))
 
-  -- the spelling that is read at a symbol is found there by its key
-  pub spelling-found : (spelling : C → List ℕ) (key_of : List ℕ → Key) (s : State C) (w : List ℕ) (i : ℕ) → ((c : C) → key c ≡ key_of (spelling c)) → IsValid key s
-      → Some w ≡ option_map spelling (slice_get s.contents i) → IsFound key s (key_of w) i
-  spelling-found spelling key_of s w i law valid read =
-      let h = mapped-some spelling (slice_get s.contents i) w (sym read) in
-      stored-found s (key_of w) i valid (record { content = h.0; stands = h.1; same_key = law h.0 ∙ ap key_of h.2 })
-
   -- the content that is read at a symbol is found there
   pub read-found : (s : State C) (i : ℕ) (r : Option (Bor C)) → IsValid key s → option_copied r ≡ slice_get s.contents i → IfSome r (λ c. IsFound key s (key c.now) i)
   read-found s i None valid e = tt

@@ -1,5 +1,5 @@
 -- How calls change the state of a table.
-use Rattle.std.specs.Prelude.{◌≡◌, ◌≢◌, ◌⊎◌, ⊤, List, ℕ, ◌+◌, ◌*◌, ◌<◌, ◌≤◌, min, max, [], ◌∷◌, ◌++◌, length, take, Result, Ok, Err, MatchOption}
+use Rattle.std.specs.Prelude.{◌≡◌, ◌≢◌, ◌⊎◌, List, ℕ, ◌+◌, ◌*◌, ◌<◌, ◌≤◌, min, max, [], ◌∷◌, ◌++◌, length, take, Result, Ok, Err, MatchOption}
 use Rattle.intaglio_content.specs.Key.{Key}
 use Rattle.intaglio_core.specs.State.{State, first}
 use Rattle.intaglio_symbol.specs.declared.error.InternError.{InternError}
@@ -59,11 +59,6 @@ abbrev pub TakesCopy : {C : Type 0} → (C → Key) → (C → List ℕ) → Sta
 TakesCopy key spelling old k w (Ok symbol) new = IsCopyTaken key spelling old k w symbol new
 TakesCopy key spelling old k w (Err (Overflow _)) new = (length old.contents ≡ old.limit) × (new ≡ old)
 TakesCopy key spelling old k w (Err (Memory _)) new = IsUncopied old new ⊎ IsRefused old new
-
--- an interning didn't fail for memory
-abbrev pub IsNotMemory : Result ℕ InternError → Type 0
-IsNotMemory (Err (Memory _)) = ⊥
-IsNotMemory _ = ⊤
 
 -- one interning by a form, which is copied only if its key isn't stored
 abbrev pub InternsForm : {C : Type 0} → (C → Key) → (C → List ℕ) → State C → Key → List ℕ → Result ℕ InternError → State C → Type 0

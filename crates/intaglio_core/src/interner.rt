@@ -11,36 +11,75 @@ ghost use Rattle.intaglio_core.specs.Cost.{Costs, InternCost, SearchCost, IsRoom
 ghost use Rattle.intaglio_core.specs.Cost.{KnownInternCost, KnownSearchCost, IsRecorded};
 
 use crate::begun::Begun;
-use crate::table_core::{Core, IndexedStore};
-use intaglio_content::{Content, CopiedTo, Sought, SoughtIn, Store, Work};
+use crate::table_core::Core;
+use intaglio_content::{Content, Sought, ToContent, Work};
 use intaglio_symbol::{InternError, Mark, RoomError, StaleMark, Symbol};
 use std::hash::BuildHasher;
 
-/// A symbol table, whatever its contents are kept in: what it does by borrowed forms. A contract sees it as its
-/// state: the contents in the order of their symbols, the spare capacity, the number of buckets, and the limit.
+/// A symbol table. A contract sees it as its state: the contents in the order of their symbols, the spare
+/// capacity, the number of buckets, and the limit.
 ///
 /// Each call that searches or places takes a [`Work`], in which it records what it did. After every call no
 /// two contents are equal, and there are at least as many buckets as contents.
-pub trait FormInterner {
-    /// What contracts see of one stored content.
-    type Content: Content + SoughtIn<Self::Store> + Drop;
-
-    /// What is made before a copy of a form is stored.
-    type Prepared: Drop;
-
-    /// Where the contents are.
-    type Store: Store<Content = Self::Content, Prepared = Self::Prepared>;
+pub trait Interner {
+    /// What the table stores.
+    type Content: Content + Sought<Self::Content> + Drop;
 
     ghost state: { Self → State Self.Content };
 
     // The hash of a key by the table's builder, which no call changes.
     ghost hash: { Self → Key → ℕ };
 
-    /// The hash of a content or a form, for [`get_or_intern_hashed`](FormInterner::get_or_intern_hashed) and
-    /// the like.
-    fn hash_counted<Q: SoughtIn<Self::Store>>(&self, sought: &Q, work: &mut Work) -> u64
+    /// Interns the content: returns the symbol of an equal one, or else stores it.
+    ///
+    /// # Errors
+    ///
+    /// `Overflow` if the content is new and the table holds as many as its limit, `Memory` if the table has
+    /// to grow and an allocation fails. Then the contents are unchanged, and the argument is dropped.
+    fn intern_counted(
+        &mut self,
+        content: Self::Content,
+        work: &mut Work,
+    ) -> Result<Symbol, InternError>
+        ensures step { Interns Self.Content.key (state self.old) content result (state self.new) }
+        ensures found { IfOk result (IsFound Self.Content.key (state self.new) (Self.Content.key content)) }
+        ensures stored { IfOk result (IsStored Self.Content.key (state self.new) (Self.Content.key content)) }
+        ensures kept { Keeps Self.Content.key (state self.old) (state self.new) }
+        ensures others { let k = Self.Content.key content in
+            FindsOthers Self.Content.key (state self.old) k (state self.new) }
+        ensures refused { OnErr result ((state self.new).contents ≡ (state self.old).contents) }
+        ensures cost { let cost = InternCost Self.Content.key (hash self.old) (state self.old) in
+            Costs work.old work.new (cost (Self.Content.key content) result (state self.new)) }
+        ensures same_hash { hash self.new ≡ hash self.old }
+        ensures valid { IsValid Self.Content.key (state self.new) };
+
+    /// The hash of a content or a form, for [`intern_hashed`](Interner::intern_hashed) and the like.
+    fn hash_counted<Q: Sought<Self::Content>>(&self, sought: &Q, work: &mut Work) -> u64
         ensures hash { result ≡ hash self.now (Q.key sought.now) }
         ensures cost { work.new.events ≡ work.old.events ++ hashed (Q.key sought.now) ∷ [] };
+
+    /// As [`intern_counted`](Interner::intern_counted), for a content whose hash is known.
+    ///
+    /// If many contents are hashed before the first of them is interned, the cache misses of several searches
+    /// overlap. [`intern_all`](crate::intern_all) does so.
+    fn intern_hashed(
+        &mut self,
+        known_hash: u64,
+        content: Self::Content,
+        work: &mut Work,
+    ) -> Result<Symbol, InternError>
+        requires known { known_hash ≡ hash self.old (Self.Content.key content) }
+        ensures step { Interns Self.Content.key (state self.old) content result (state self.new) }
+        ensures found { IfOk result (IsFound Self.Content.key (state self.new) (Self.Content.key content)) }
+        ensures stored { IfOk result (IsStored Self.Content.key (state self.new) (Self.Content.key content)) }
+        ensures kept { Keeps Self.Content.key (state self.old) (state self.new) }
+        ensures others { let k = Self.Content.key content in
+            FindsOthers Self.Content.key (state self.old) k (state self.new) }
+        ensures refused { OnErr result ((state self.new).contents ≡ (state self.old).contents) }
+        ensures cost { let cost = KnownInternCost Self.Content.key (hash self.old) (state self.old) in
+            Costs work.old work.new (cost (Self.Content.key content) result (state self.new)) }
+        ensures same_hash { hash self.new ≡ hash self.old }
+        ensures valid { IsValid Self.Content.key (state self.new) };
 
     /// Interns by a form whose hash is known: returns the symbol of the equal content, or
     /// else stores a copy of the form.
@@ -49,7 +88,7 @@ pub trait FormInterner {
     ///
     /// `Overflow` if the form is new and the table holds as many contents as its limit, `Memory` if the
     /// allocation of the copy or of a growth fails. Then the contents are unchanged.
-    fn get_or_intern_hashed<Q: CopiedTo<Self::Store>>(
+    fn get_or_intern_hashed<Q: ToContent<Self::Content>>(
         &mut self,
         known_hash: u64,
         form: &Q,
@@ -68,8 +107,8 @@ pub trait FormInterner {
         ensures same_hash { hash self.new ≡ hash self.old }
         ensures valid { IsValid Self.Content.key (state self.new) };
 
-    /// As [`search_counted`](FormInterner::search_counted), for a content or a form whose hash is known.
-    fn search_hashed<Q: SoughtIn<Self::Store>>(
+    /// As [`search_counted`](Interner::search_counted), for a content or a form whose hash is known.
+    fn search_hashed<Q: Sought<Self::Content>>(
         &self,
         known_hash: u64,
         sought: &Q,
@@ -83,7 +122,7 @@ pub trait FormInterner {
         ensures valid { IsValid Self.Content.key (state self.now) };
 
     /// Begins a search by a known hash: finds the first content with this hash, and doesn't read it.
-    /// [`end_search`](FormInterner::end_search) compares it.
+    /// [`end_search`](Interner::end_search) compares it.
     ///
     /// If several searches are begun before the first of them is ended, their cache misses overlap.
     fn begin_search(&self, known_hash: u64) -> Begun
@@ -91,11 +130,11 @@ pub trait FormInterner {
 
     /// Reads a byte of the content that the search will compare first, so that it is in the cache then. The
     /// byte itself means nothing.
-    fn touch<Q: SoughtIn<Self::Store>>(&self, begun: &Begun, sought: &Q) -> u8;
+    fn touch<Q: Sought<Self::Content>>(&self, begun: &Begun, sought: &Q) -> u8;
 
     /// Ends a search that was begun with the hash of this content or form. Records in `work` what was done
     /// for it before, and then the rest.
-    fn end_search<Q: SoughtIn<Self::Store>>(
+    fn end_search<Q: Sought<Self::Content>>(
         &self,
         begun: &Begun,
         sought: &Q,
@@ -112,7 +151,7 @@ pub trait FormInterner {
         ensures valid { IsValid Self.Content.key (state self.now) };
 
     /// The symbol of the content that is equal to this content or form, if there is one.
-    fn search_counted<Q: SoughtIn<Self::Store>>(
+    fn search_counted<Q: Sought<Self::Content>>(
         &self,
         sought: &Q,
         work: &mut Work,
@@ -147,6 +186,13 @@ pub trait FormInterner {
         ensures same_hash { hash self.new ≡ hash self.old }
         ensures valid { IsValid Self.Content.key (state self.new) };
 
+    /// The content of a symbol.
+    fn content(&self, symbol: Symbol) -> Option<&Self::Content>
+        ensures content { option_copied result ≡ slice_get (state self.now).contents symbol }
+        ensures found { IfSome result (λ content.
+            IsFound Self.Content.key (state self.now) (Self.Content.key content.now) symbol) }
+        ensures valid { IsValid Self.Content.key (state self.now) };
+
     /// The number of contents.
     fn count(&self) -> usize
         ensures count { result ≡ length (state self.now).contents }
@@ -177,148 +223,19 @@ pub trait FormInterner {
         ensures valid { IsValid Self.Content.key (state self.new) };
 }
 
-/// A symbol table that keeps owned contents, in a `Vec`.
-pub trait Interner: FormInterner<Store = Vec<Self::Content>, Prepared = Self::Content> {
-    /// Interns the content: returns the symbol of an equal one, or else stores it.
-    ///
-    /// # Errors
-    ///
-    /// `Overflow` if the content is new and the table holds as many as its limit, `Memory` if the table has
-    /// to grow and an allocation fails. Then the contents are unchanged, and the argument is dropped.
-    fn intern_counted(
-        &mut self,
-        content: Self::Content,
-        work: &mut Work,
-    ) -> Result<Symbol, InternError>
-        ensures step { Interns Self.Content.key (Self.state self.old) content result (Self.state self.new) }
-        ensures found { IfOk result (IsFound Self.Content.key (Self.state self.new) (Self.Content.key content)) }
-        ensures stored { IfOk result (IsStored Self.Content.key (Self.state self.new) (Self.Content.key content)) }
-        ensures kept { Keeps Self.Content.key (Self.state self.old) (Self.state self.new) }
-        ensures others { let k = Self.Content.key content in
-            FindsOthers Self.Content.key (Self.state self.old) k (Self.state self.new) }
-        ensures refused { OnErr result ((Self.state self.new).contents ≡ (Self.state self.old).contents) }
-        ensures cost { let cost = InternCost Self.Content.key (Self.hash self.old) (Self.state self.old) in
-            Costs work.old work.new (cost (Self.Content.key content) result (Self.state self.new)) }
-        ensures same_hash { Self.hash self.new ≡ Self.hash self.old }
-        ensures valid { IsValid Self.Content.key (Self.state self.new) };
-
-    /// As [`intern_counted`](Interner::intern_counted), for a content whose hash is known.
-    ///
-    /// If many contents are hashed before the first of them is interned, the cache misses of several searches
-    /// overlap. [`intern_all`](crate::intern_all) does so.
-    fn intern_hashed(
-        &mut self,
-        known_hash: u64,
-        content: Self::Content,
-        work: &mut Work,
-    ) -> Result<Symbol, InternError>
-        requires known { known_hash ≡ Self.hash self.old (Self.Content.key content) }
-        ensures step { Interns Self.Content.key (Self.state self.old) content result (Self.state self.new) }
-        ensures found { IfOk result (IsFound Self.Content.key (Self.state self.new) (Self.Content.key content)) }
-        ensures stored { IfOk result (IsStored Self.Content.key (Self.state self.new) (Self.Content.key content)) }
-        ensures kept { Keeps Self.Content.key (Self.state self.old) (Self.state self.new) }
-        ensures others { let k = Self.Content.key content in
-            FindsOthers Self.Content.key (Self.state self.old) k (Self.state self.new) }
-        ensures refused { OnErr result ((Self.state self.new).contents ≡ (Self.state self.old).contents) }
-        ensures cost { let cost = KnownInternCost Self.Content.key (Self.hash self.old) (Self.state self.old) in
-            Costs work.old work.new (cost (Self.Content.key content) result (Self.state self.new)) }
-        ensures same_hash { Self.hash self.new ≡ Self.hash self.old }
-        ensures valid { IsValid Self.Content.key (Self.state self.new) };
-
-    /// The content of a symbol.
-    fn content(&self, symbol: Symbol) -> Option<&Self::Content>
-        ensures content { option_copied result ≡ slice_get (Self.state self.now).contents symbol }
-        ensures found { IfSome result (λ content.
-            IsFound Self.Content.key (Self.state self.now) (Self.Content.key content.now) symbol) }
-        ensures valid { IsValid Self.Content.key (Self.state self.now) };
-}
-
-impl<L: Store, S: BuildHasher> FormInterner for IndexedStore<L, S>
-where
-    L::Content: Content + SoughtIn<L> + Drop,
-    L::Prepared: Drop,
-{
-    type Content = L::Content;
-
-    type Prepared = L::Prepared;
-
-    type Store = L;
+impl<C: Content + Sought<C> + Drop, S: BuildHasher> Interner for Core<C, S> {
+    type Content = C;
 
     ghost state = { λ t. t.state };
 
     ghost hash = { λ t. hash_of S.BuildHasher S.Hasher.Hasher t.hasher };
 
-    fn hash_counted<Q: SoughtIn<L>>(&self, sought: &Q, work: &mut Work) -> u64 {
-        sought.hash_by(self.hasher(), work)
-    }
-
-    fn get_or_intern_hashed<Q: CopiedTo<L>>(
-        &mut self,
-        known_hash: u64,
-        form: &Q,
-        work: &mut Work,
-    ) -> Result<Symbol, InternError> {
-        IndexedStore::get_or_intern_hashed(self, known_hash, form, work)
-    }
-
-    fn search_hashed<Q: SoughtIn<L>>(
-        &self,
-        known_hash: u64,
-        sought: &Q,
-        work: &mut Work,
-    ) -> Option<Symbol> {
-        IndexedStore::search_hashed(self, known_hash, sought, work)
-    }
-
-    fn begin_search(&self, known_hash: u64) -> Begun {
-        IndexedStore::begin_search(self, known_hash)
-    }
-
-    fn touch<Q: SoughtIn<L>>(&self, begun: &Begun, sought: &Q) -> u8 {
-        IndexedStore::touch(self, begun, sought)
-    }
-
-    fn end_search<Q: SoughtIn<L>>(
-        &self,
-        begun: &Begun,
-        sought: &Q,
-        work: &mut Work,
-    ) -> Option<Symbol> {
-        IndexedStore::end_search(self, begun, sought, work)
-    }
-
-    fn search_counted<Q: SoughtIn<L>>(&self, sought: &Q, work: &mut Work) -> Option<Symbol> {
-        self.search(sought, work)
-    }
-
-    fn reserve_counted(&mut self, additional: usize, work: &mut Work) -> Result<(), RoomError> {
-        self.reserve_with(additional, work)
-    }
-
-    fn shrink_counted(&mut self, min_capacity: usize, work: &mut Work) -> Result<(), RoomError> {
-        self.shrink_with(min_capacity, work)
-    }
-
-    fn count(&self) -> usize {
-        self.len()
-    }
-
-    fn empty(&mut self) {
-        self.clear();
-    }
-
-    fn mark(&self) -> Mark {
-        IndexedStore::mark(self)
-    }
-
-    fn take_back(&mut self, mark: Mark) -> Result<(), StaleMark> {
-        IndexedStore::take_back(self, mark)
-    }
-}
-
-impl<C: Content + Sought<C> + Drop, S: BuildHasher> Interner for Core<C, S> {
     fn intern_counted(&mut self, content: C, work: &mut Work) -> Result<Symbol, InternError> {
         self.intern(content, work)
+    }
+
+    fn hash_counted<Q: Sought<C>>(&self, sought: &Q, work: &mut Work) -> u64 {
+        sought.hash_with(self.hasher(), work)
     }
 
     fn intern_hashed(
@@ -330,7 +247,76 @@ impl<C: Content + Sought<C> + Drop, S: BuildHasher> Interner for Core<C, S> {
         Core::intern_hashed(self, known_hash, content, work)
     }
 
+    fn get_or_intern_hashed<Q: ToContent<C>>(
+        &mut self,
+        known_hash: u64,
+        form: &Q,
+        work: &mut Work,
+    ) -> Result<Symbol, InternError> {
+        Core::get_or_intern_hashed(self, known_hash, form, work)
+    }
+
+    fn search_hashed<Q: Sought<C>>(
+        &self,
+        known_hash: u64,
+        sought: &Q,
+        work: &mut Work,
+    ) -> Option<Symbol> {
+        Core::search_hashed(self, known_hash, sought, work)
+    }
+
+    fn begin_search(&self, known_hash: u64) -> Begun {
+        Core::begin_search(self, known_hash)
+    }
+
+    fn touch<Q: Sought<C>>(&self, begun: &Begun, sought: &Q) -> u8 {
+        match begun.candidate {
+            None => 0,
+            Some(symbol) => match self.get(symbol) {
+                None => 0,
+                Some(content) => sought.touch(content),
+            },
+        }
+    }
+
+    fn end_search<Q: Sought<C>>(
+        &self,
+        begun: &Begun,
+        sought: &Q,
+        work: &mut Work,
+    ) -> Option<Symbol> {
+        Core::end_search(self, begun, sought, work)
+    }
+
+    fn search_counted<Q: Sought<C>>(&self, sought: &Q, work: &mut Work) -> Option<Symbol> {
+        self.search(sought, work)
+    }
+
+    fn reserve_counted(&mut self, additional: usize, work: &mut Work) -> Result<(), RoomError> {
+        self.reserve_with(additional, work)
+    }
+
+    fn shrink_counted(&mut self, min_capacity: usize, work: &mut Work) -> Result<(), RoomError> {
+        self.shrink_with(min_capacity, work)
+    }
+
     fn content(&self, symbol: Symbol) -> Option<&C> {
         self.get(symbol)
+    }
+
+    fn count(&self) -> usize {
+        self.len()
+    }
+
+    fn empty(&mut self) {
+        self.clear();
+    }
+
+    fn mark(&self) -> Mark {
+        Core::mark(self)
+    }
+
+    fn take_back(&mut self, mark: Mark) -> Result<(), StaleMark> {
+        Core::take_back(self, mark)
     }
 }

@@ -16,7 +16,6 @@ use crate::take::take_lines;
 use crate::write::Encoding;
 use intaglio_bytes::b_str::BStrContent;
 use intaglio_bytes::bytes::BytesContent;
-use intaglio_core::{Sought, Spelled};
 use intaglio_cstr::CStrContent;
 use intaglio_lines::kind::Kind;
 use intaglio_lines::read::read_all;
@@ -105,12 +104,12 @@ pub fn encode_input<S: BuildHasher + Drop, W: Write>(
 }
 
 // As `encode_input`, for an input whose lines become contents of this type.
-fn encode_by<
-    'a,
-    C: FromLine<'a, Vec<C>> + Spelled + Sought<C> + Drop,
-    S: BuildHasher + Drop,
-    W: Write,
->(alloc: Global, builder: S, input: &'a [u8], writer: &mut W) -> Result<(), ToolError>
+fn encode_by<'a, C: FromLine<'a>, S: BuildHasher + Drop, W: Write>(
+    alloc: Global,
+    builder: S,
+    input: &'a [u8],
+    writer: &mut W,
+) -> Result<(), ToolError>
     requires allowed { C.allows input.now }
     ensures written { OnOk result (Writes W.contents writer.old writer.new (encoded_by C.key_of input.now)) }
     ensures zero { IfErr result (ReportsFirstUnfit C.fits input.now) }

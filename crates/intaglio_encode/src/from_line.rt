@@ -8,7 +8,7 @@ ghost use Rattle.intaglio_encode.specs.Cuts.{IsUtf8-parts};
 use bstr::BStr;
 use intaglio_bytes::b_str::BStrContent;
 use intaglio_bytes::bytes::BytesContent;
-use intaglio_core::{Bytewise, Content, CopiedTo, Keyed, Store, ToContent};
+use intaglio_core::{Bytewise, Keyed, Sought, Spelled, ToContent};
 use intaglio_cstr::{CStrContent, CString};
 use intaglio_path::{Path, PathContent};
 use intaglio_text::StrContent;
@@ -16,16 +16,13 @@ use intaglio_text::osstr::OsStrContent;
 use std::alloc::{AllocError, Global};
 use std::str;
 
-/// A content that is interned by a form of a line of an input, into a store of type `L`.
+/// A content that is interned by a form of a line of an input.
 ///
 /// Not every input may be split into lines, and not every line fits. If an input is allowed, so is each part
 /// that a split at a byte 10 gives.
-pub trait FromLine<'a, L: Store>: Content
-where
-    L::Content: Content,
-{
+pub trait FromLine<'a>: Spelled + Sought<Self> + Drop {
     /// The form of a line.
-    type Line: CopiedTo<L> + Drop;
+    type Line: ToContent<Self> + Drop;
 
     ghost allows: { List ℕ → Type 0 };
 
@@ -42,7 +39,7 @@ where
     ghost allows_nothing: { allows [] };
 }
 
-impl<'a> FromLine<'a, Vec<StrContent>> for StrContent {
+impl<'a> FromLine<'a> for StrContent {
     type Line = &'a str;
 
     ghost allows = { λ bytes. IsUtf8 bytes };
@@ -58,7 +55,7 @@ impl<'a> FromLine<'a, Vec<StrContent>> for StrContent {
     }
 }
 
-impl<'a> FromLine<'a, Vec<OsStrContent>> for OsStrContent {
+impl<'a> FromLine<'a> for OsStrContent {
     type Line = &'a str;
 
     ghost allows = { λ bytes. IsUtf8 bytes };
@@ -74,7 +71,7 @@ impl<'a> FromLine<'a, Vec<OsStrContent>> for OsStrContent {
     }
 }
 
-impl<'a> FromLine<'a, Vec<PathContent>> for PathContent {
+impl<'a> FromLine<'a> for PathContent {
     type Line = Path<'a>;
 
     ghost allows = { λ bytes. IsUtf8 bytes };
@@ -90,7 +87,7 @@ impl<'a> FromLine<'a, Vec<PathContent>> for PathContent {
     }
 }
 
-impl<'a> FromLine<'a, Vec<BytesContent>> for BytesContent {
+impl<'a> FromLine<'a> for BytesContent {
     type Line = &'a [u8];
 
     ghost allows = { λ _. Unit {0} };
@@ -106,7 +103,7 @@ impl<'a> FromLine<'a, Vec<BytesContent>> for BytesContent {
     }
 }
 
-impl<'a> FromLine<'a, Vec<BStrContent>> for BStrContent {
+impl<'a> FromLine<'a> for BStrContent {
     type Line = BStr<'a>;
 
     ghost allows = { λ _. Unit {0} };
@@ -158,7 +155,7 @@ impl<'a> ToContent<CStrContent> for Unended<'a> {
     ghost key_of_form = { λ _. refl };
 }
 
-impl<'a> FromLine<'a, Vec<CStrContent>> for CStrContent {
+impl<'a> FromLine<'a> for CStrContent {
     type Line = Unended<'a>;
 
     ghost allows = { λ _. Unit {0} };

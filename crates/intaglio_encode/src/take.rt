@@ -8,7 +8,7 @@ ghost use Rattle.intaglio_encode.specs.declared.error.ToolError.TheVariants.{Ove
 
 use crate::error::ToolError;
 use crate::from_line::FromLine;
-use intaglio_core::{Content, FormInterner, Store, Symbol, Work, get_or_intern_all};
+use intaglio_core::{Interner, Symbol, Work, get_or_intern_all};
 use intaglio_lines::lines::first_line;
 use std::alloc::{AllocError, Global};
 
@@ -30,13 +30,13 @@ struct Group<'a, F> {
 ///
 /// `ZeroByte` for the first line that doesn't fit, `Overflow` if there are more distinct lines than the table
 /// can hold, `Memory` if an allocation failed.
-pub fn take_lines<'a, T: FormInterner>(
+pub fn take_lines<'a, T: Interner>(
     alloc: Global,
     table: &mut T,
     input: &'a [u8],
 ) -> Result<Vec<Symbol>, ToolError>
 where
-    T::Content: FromLine<'a, T::Store>,
+    T::Content: FromLine<'a>,
     requires allowed { T.Content.allows input.now }
     requires empty { (T.state table.old).contents ≡ [] }
     ensures symbols { IfOk result (λ symbols. symbols.items ≡ issue T.Content.key_of (lines_of input.now)) }
@@ -52,7 +52,7 @@ where
     let mut rest = input;
     let mut number = 0u64;
     while !rest.is_empty() {
-        let group = gather::<T::Store, T::Content>(alloc, rest)?;
+        let group = gather::<T::Content>(alloc, rest)?;
         number += group.forms.len() as u64;
         let taken = get_or_intern_all(alloc, table, &group.forms, &mut Work::new())?;
         symbols.extend_from_slice(&taken)?;
@@ -65,12 +65,10 @@ where
 }
 
 // The first lines of an input as forms.
-fn gather<'a, L: Store, C: FromLine<'a, L>>(
+fn gather<'a, C: FromLine<'a>>(
     alloc: Global,
     input: &'a [u8],
 ) -> Result<Group<'a, C::Line>, AllocError>
-where
-    L::Content: Content,
     requires allowed { C.allows input.now }
     requires some { 0 < length input.now }
     ensures allowed { IfOk result (λ group. C.allows group.rest.now) }

@@ -10,7 +10,6 @@ use Rattle.intaglio_core.specs.State.{first, AreDistinct}
 use Rattle.intaglio_core.proofs.First.{first-none, first-some}
 use Rattle.intaglio_frozen.proofs.Places.{strings_length}
 use Rattle.intaglio_frozen.specs.Layout.{count, u32_at, tags_at, strings}
-use Rattle.intaglio_frozen.specs.IsFrozen.{IsFrozen}
 use Rattle.intaglio_frozen.specs.LookUp.{hash, place, if_same, find_at, find, FindsAll}
 
 -- a text's key
@@ -96,18 +95,11 @@ at-past bs w p tag t s et e es past =
     let none : slice_get (strings bs) s ≡ None = slice_get_past (strings bs) s (omega (arith, past, strings_length bs)) in
     rw (eq-eqb (get_or bs (tags_at bs + p) 0) tag m, ← es, none) refl
 
-pub at-same : (bs w : List ℕ) (p tag t s : ℕ) → t ≡ tags_at bs → get_or bs (t + p) 0 ≡ tag → s ≡ u32_at bs (64 + 4 * p) →
-    find_at bs p tag w ≡ if_same (slice_get (strings bs) s) s w
-at-same bs w p tag t s et e es =
+pub at-text : (bs w : List ℕ) (p tag t s : ℕ) (x : List ℕ) → t ≡ tags_at bs → get_or bs (t + p) 0 ≡ tag → s ≡ u32_at bs (64 + 4 * p) → slice_get (strings bs) s ≡ Some x →
+    find_at bs p tag w ≡ cond (bytes_eq x w) (Some s) None
+at-text bs w p tag t s x et e es some =
     let m : get_or bs (tags_at bs + p) 0 ≡ tag = rw et at e in
-    rw (eq-eqb (get_or bs (tags_at bs + p) 0) tag m, ← es) refl
-
--- what a test of the only symbol finds
-pub same-string : (s : ℕ) (o : Option (List ℕ)) (t w : List ℕ) (b : Bool) → o ≡ Some t → bytes_eq t w ≡ b → if_same o s w ≡ cond b (Some s) None
-same-string s o t w b e eb = rw (e, eb) refl
-
-pub frozen_first : (bs w : List ℕ) (r : Option ℕ) → IsFrozen bs → find bs w ≡ r → r ≡ first key (strings bs) (key w)
-frozen_first bs w r frozen e = sym e ∙ find_is_first bs w frozen.found
+    rw (eq-eqb (get_or bs (tags_at bs + p) 0) tag m, ← es, some) refl
 
 -- two lists with the same text at each position
 pub same_by_get : (xs ys : List (List ℕ)) (n : ℕ) → n ≡ length xs → n ≡ length ys → ((k : ℕ) → k < n → slice_get xs k ≡ slice_get ys k) → xs ≡ ys

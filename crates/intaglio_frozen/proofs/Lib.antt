@@ -2,6 +2,3 @@
 pub mod Ends
 pub mod Places
 pub mod Found
-pub mod Left
-pub mod Thawed
-pub mod Spelled

@@ -1,8 +1,7 @@
 -- The strings of a block, and where they stand.
-use Rattle.std.proofs.Common.{◌≡◌, ℕ, zero, suc, ◌+◌, ◌-◌, ◌*◌, ◌/◌, ◌^◌, ◌<◌, ◌≤◌, List, ◌∷◌, length, drop, get_or, slice_get, slice_range, option_copied, Option, None, Some, IfSome, IsSome, Bor, refl, sym, ap, ◌∙◌, arith, length-drop}
+use Rattle.std.proofs.Common.{◌≡◌, ℕ, zero, suc, ◌+◌, ◌-◌, ◌*◌, ◌/◌, ◌^◌, ◌<◌, ◌≤◌, List, ◌∷◌, length, drop, get_or, slice_get, slice_range, Some, refl, ap, ◌∙◌, arith, length-drop}
 use Rattle.std.proofs.lemmas.Nat.{div_below, row_fits}
 use Rattle.std.proofs.Math.Nat.{mul_comm}
-use Rattle.std.specs.Slice.{IsGetRangeResult}
 use Rattle.intaglio_frozen.proofs.Ends.{from_length, strings-at, ends-at}
 use Rattle.intaglio_frozen.specs.Layout.{u32_at, numbers_at, count, ends_at, text_at, ends, strings}
 use Rattle.intaglio_frozen.specs.LookUp.{scaled}
@@ -26,39 +25,20 @@ pub end_is : (bs : List ℕ) (i : ℕ) → i < count bs → get_or (ends bs) i 0
 end_is bs i l = numbers_get bs (ends_at bs) (count bs) i l
 
 -- where it begins
-pub start_is_end : (bs : List ℕ) (i : ℕ) → 0 < i → get_or (0 ∷ ends bs) i 0 ≡ get_or (ends bs) (i - 1) 0
-start_is_end bs zero p = absurd (omega arith)
-start_is_end bs (suc i) p = ap (λ k. get_or (ends bs) k 0) (omega arith)
+pub start_is : (bs : List ℕ) (i : ℕ) → 0 < i → i < count bs → get_or (0 ∷ ends bs) i 0 ≡ u32_at bs (ends_at bs + 4 * (i - 1))
+start_is bs zero p l = absurd (omega arith)
+start_is bs (suc i) p l = end_is bs i (omega arith) ∙ ap (λ k. u32_at bs (ends_at bs + 4 * k)) (omega arith)
 
 pub strings_get : (bs : List ℕ) (i : ℕ) → i < count bs →
     slice_get (strings bs) i ≡ Some (slice_range (drop (text_at bs) bs) (get_or (0 ∷ ends bs) i 0) (get_or (ends bs) i 0))
 unfolding strings
 strings_get bs i l = strings-at 0 (drop (text_at bs) bs) (ends bs) i (omega (arith, numbers_length bs (ends_at bs) (count bs)))
 
--- a string, by where it begins and ends
-pub string_in : (bs t : List ℕ) (i start end : ℕ) → i < count bs → start ≡ get_or (0 ∷ ends bs) i 0 → end ≡ get_or (ends bs) i 0 →
-    t ≡ slice_range (drop (text_at bs) bs) start end → slice_get (strings bs) i ≡ Some t
-string_in bs t i start end l es ee et = rw (et, es, ee) (strings_get bs i l)
-
 pub ends_order : (bs : List ℕ) (i : ℕ) → IsBlock bs → i < count bs →
     (get_or (0 ∷ ends bs) i 0 ≤ get_or (ends bs) i 0) × (get_or (ends bs) i 0 ≤ length (drop (text_at bs) bs))
 ends_order bs i b l =
     let at = ends-at 0 (length bs - text_at bs) (ends bs) i b.ends (omega (arith, numbers_length bs (ends_at bs) (count bs))) in
     (at.0, omega (arith, at.1, length-drop (text_at bs) bs))
-
--- what lies between the ends of a string
-pub part_found : (bs : List ℕ) (i start end : ℕ) (r : Option (Bor (List ℕ))) → i < count bs → start ≡ get_or (0 ∷ ends bs) i 0 → end ≡ get_or (ends bs) i 0 →
-    IsGetRangeResult (drop (text_at bs) bs) start end r → IfSome r (λ s. slice_get (strings bs) i ≡ Some s.now)
-part_found bs i start end None l es ee p = tt
-part_found bs i start end (Some s) l es ee p = string_in bs s.now i start end l es ee p.0.2
-
-pub part_whole : (bs : List ℕ) (i start end : ℕ) (r : Option (Bor (List ℕ))) → IsBlock bs → i < count bs → start ≡ get_or (0 ∷ ends bs) i 0 → end ≡ get_or (ends bs) i 0 →
-    IsGetRangeResult (drop (text_at bs) bs) start end r → option_copied r ≡ slice_get (strings bs) i
-part_whole bs i start end None block l es ee p =
-    let order = ends_order bs i block l in
-    let some : IsSome {T = Bor (List ℕ)} None = p.1 (rw (es, ee) order.0, rw ee order.1) in
-    cc
-part_whole bs i start end (Some s) block l es ee p = sym (string_in bs s.now i start end l es ee p.0.2)
 
 product : (a n m : ℕ) → 0 < n → a < m → a * n < n * m
 product a n m p l = omega (arith, row_fits a n m n l (omega arith), mul_comm n m)

@@ -41,14 +41,10 @@ pub record HasHeader (bs : List ℕ) : Type 0 where
   pub reserved : IsReserved bs
   pub few : count bs ≤ 2 ^ 31
 
--- a header, and the sections within the bytes
-pub record HasSections (bs : List ℕ) : Type 0 where
+-- the sections are within the bytes, and the strings fill the text
+pub record IsBlock (bs : List ℕ) : Type 0 where
   pub header : HasHeader bs
   pub within : text_at bs ≤ length bs
-
--- the strings fill the text
-pub record IsBlock (bs : List ℕ) : Type 0 where
-  pub sections : HasSections bs
   pub ends : AreEnds 0 (length bs - text_at bs) (ends bs)
 
 -- the symbol of a place that no string has

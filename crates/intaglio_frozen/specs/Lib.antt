@@ -4,6 +4,5 @@ pub mod Layout
 pub mod LookUp
 pub mod IsFrozen
 pub mod Fault
-pub mod Read
+pub mod Block
 pub mod Freezing
-pub mod Left

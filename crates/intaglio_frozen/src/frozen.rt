@@ -1,6 +1,5 @@
 //! A frozen table.
-ghost use Rattle.std.specs.Prelude.{◌≡◌, ℕ, List, length, slice_get, map, zip, [], ◌∷◌, IfOk, IfErr, IsOk, Some, ◌^◌, ◌<◌, ◌≤◌, MatchOption, is_some, option_copied};
-ghost use Rattle.intaglio_symbol.specs.AllSymbols.{numbers_from};
+ghost use Rattle.std.specs.Prelude.{◌≡◌, ℕ, List, length, slice_get, map, [], ◌∷◌, IfOk, IfErr, IsOk, Some, ◌^◌, ◌<◌, ◌≤◌, MatchOption, is_some, option_copied};
 ghost use Rattle.intaglio_core.specs.State.{first, AreDistinct};
 ghost use Rattle.intaglio_frozen.specs.Layout.{strings};
 ghost use Rattle.intaglio_frozen.specs.IsFrozen.{IsFrozen};
@@ -10,7 +9,6 @@ ghost use Rattle.intaglio_frozen.specs.declared.error.FrozenError.TheVariants.{N
 
 use crate::block::Block;
 use crate::error::FrozenError;
-use crate::iter::{FrozenPairs, FrozenStrings};
 use crate::list::first_fault;
 use intaglio_symbol::Symbol;
 use std::alloc::{AllocError, Global};
@@ -93,43 +91,6 @@ impl<'a> Frozen<'a> {
         self.block.string(i)
     }
 
-    /// All symbols with their strings, in order.
-    ///
-    /// ```
-    /// # use intaglio::{StrContent, SymbolTable};
-    /// # use intaglio_frozen::{Frozen, Kind, freeze};
-    /// # let mut words = SymbolTable::new(rt.alloc())?;
-    /// # let _symbol = words.intern(StrContent::from("abc"))?;
-    /// # let bytes = freeze(rt.alloc(), &words, Kind::Text, 1, 2)?;
-    /// let table = Frozen::open(&bytes)?;
-    /// for (symbol, string) in table.iter() {
-    ///     assert!(rt; table.get(symbol) == Some(string));
-    /// }
-    /// ```
-    pub fn iter(&self) -> FrozenPairs<'a>
-        ensures all { result ≡ zip (numbers_from 0 (length self.now)) self.now }
-        ensures bound { length result ≤ 2 ^ 32 }
-    {
-        // The number of strings is at most 2^32.
-        let _count = self.len();
-        FrozenPairs::of(self.strings())
-    }
-
-    /// All strings, in the order of their symbols.
-    pub fn strings(&self) -> FrozenStrings<'a>
-        ensures { result ≡ self.now }
-    {
-        self.block.strings()
-    }
-
-    // As `strings`, with what holds of them.
-    pub(crate) fn distinct_strings(&self) -> FrozenStrings<'a>
-        ensures all { result ≡ self.now }
-        ensures distinct { AreDistinct (map (λ w. w ∷ []) self.now) }
-    {
-        self.block.strings()
-    }
-
     /// The symbol of a string, if it is in the table.
     #[inline]
     pub fn check_interned(&self, string: &[u8]) -> Option<Symbol>
@@ -168,18 +129,6 @@ impl<'a> Frozen<'a> {
             found.push_reserved(self.check_interned(strings[i]));
         }
         Ok(found)
-    }
-}
-
-impl<'b, 'a> IntoIterator for &'b Frozen<'a> {
-    type Item = (Symbol, &'a [u8]);
-
-    type IntoIter = FrozenPairs<'a>;
-
-    ghost into_iter_gives = { λ table pairs. pairs ≡ zip (numbers_from 0 (length table.now)) table.now };
-
-    fn into_iter(self) -> FrozenPairs<'a> {
-        self.iter()
     }
 }
 

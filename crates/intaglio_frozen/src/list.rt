@@ -8,7 +8,7 @@ use crate::kind::Kind;
 use intaglio_content::{Spelled, Store};
 use intaglio_packed::{Packed, Texts};
 use intaglio_symbol::Symbol;
-use intaglio_table::{Table, TableOver};
+use intaglio_table::Table;
 use std::hash::BuildHasher;
 use std::str;
 
@@ -67,38 +67,6 @@ impl<C: Spelled, S: BuildHasher> StringList for Table<C, S> {
         // The number of contents is at most 2^32.
         let _count = Table::len(self);
         self[Symbol::new(i as u32)].spelling()
-    }
-}
-
-impl<S: BuildHasher> StringList for TableOver<Packed, S> {
-    ghost strings = { λ table. table.state.contents };
-
-    #[inline(always)]
-    fn len(&self) -> usize {
-        TableOver::len(self)
-    }
-
-    #[inline(always)]
-    fn string(&self, i: usize) -> &[u8] {
-        // The number of contents is at most 2^32.
-        let _count = TableOver::len(self);
-        self.get(Symbol::new(i as u32)).unwrap()
-    }
-}
-
-impl<S: BuildHasher> StringList for TableOver<Texts, S> {
-    ghost strings = { λ table. table.state.contents };
-
-    #[inline(always)]
-    fn len(&self) -> usize {
-        TableOver::len(self)
-    }
-
-    #[inline(always)]
-    fn string(&self, i: usize) -> &[u8] {
-        // The number of contents is at most 2^32.
-        let _count = TableOver::len(self);
-        self.get(Symbol::new(i as u32)).unwrap().as_bytes()
     }
 }
 

@@ -19,18 +19,16 @@ use Rattle.intaglio_symbol.specs.declared.error.RoomError.TheVariants as room_er
 use Rattle.intaglio_symbol.specs.declared.error.StaleMark.{StaleMark}
 use Rattle.intaglio_handle.specs.Kinds.{fault, key}
 use Rattle.intaglio_handle.specs.Answers.{symbol_answer}
-use Rattle.intaglio_handle.specs.Seen.{Seen, as_bytes, seen_as, seen_of, c_str_bytes, position, look_up, unless, IsChangedBy}
+use Rattle.intaglio_handle.specs.Seen.{Seen, as_bytes, seen_as, c_str_bytes, position, look_up, unless, IsChangedBy}
 use Rattle.intaglio_handle.specs.Steps.{Interns, InternsBy, InternsStatic, IsUncopiedOrRefused, Takes}
 use Rattle.intaglio_hash.specs.declared.state.KeyedState.{KeyedState}
 use Rattle.intaglio_handle.specs.declared.kind.Kind.{Kind}
 use Rattle.intaglio_handle.specs.declared.refusal.Refusal.{Refusal}
 
 -- a table whose state alone changed, as it is seen
-pub changed : {C : Type 0} (old : Seen) (kind : Kind) (bytes : C → List ℕ) (s s' : State C) (h h' : KeyedState) (Step : State (List ℕ) → State (List ℕ) → Type 0)
-    → old ≡ seen_of kind bytes s h → h' ≡ h → Step (as_bytes bytes s) (as_bytes bytes s')
-    → IsChangedBy old (seen_of kind bytes s' h') Step
-changed old kind bytes s s' h h' Step is same step =
-    subst (λ (x : Seen). IsChangedBy x (seen_of kind bytes s' h') Step) (sym is) (record { kind = refl; hasher = same; step = step })
+pub changed : {C : Type 0} (old : Seen) (kind : Kind) (bytes : C → List ℕ) (t t' : Table C KeyedState) (Step : State (List ℕ) → State (List ℕ) → Type 0) → old ≡ seen_as kind bytes t → t'.hasher ≡ t.hasher
+    → Step (as_bytes bytes t.state) (as_bytes bytes t'.state) → IsChangedBy old (seen_as kind bytes t') Step
+changed old kind bytes t t' Step is same step = subst (λ (x : Seen). IsChangedBy x (seen_as kind bytes t') Step) (sym is) (record { kind = refl; hasher = same; step = step })
 
 module _ {C : Type 0} (bytes : C → List ℕ) where
   -- a rollback
@@ -82,18 +80,18 @@ module _ {C : Type 0} (bytes : C → List ℕ) where
 
 module _ {C : Type 0} (kind : Kind) (bytes : C → List ℕ) where
   -- bytes that the kind doesn't take
-  refused : (Refused : State (List ℕ) → State (List ℕ) → Type 0) (old : Seen) (held : State C) (h : KeyedState) (b : List ℕ) (r : Refusal) (result : Result ℕ Refusal) → old ≡ seen_of kind bytes held h → fault kind b ≡ Some r → result ≡ Err r
-      → IsChangedBy old (seen_of kind bytes held h) (λ _ s'. InternsBy Refused b old.state (look_up old b) result s')
-  refused Refused old held h b r result is fault_is err =
-      let s = as_bytes bytes held in
-      let step = subst (λ (f : Option Refusal). InternsBy Refused b s (unless f (position (seen_of kind bytes held h) b)) result s) (sym fault_is) (err, refl) in
-      changed old kind bytes held held h h (λ _ x. InternsBy Refused b old.state (look_up old b) result x) is refl
+  refused : (Refused : State (List ℕ) → State (List ℕ) → Type 0) (old : Seen) (t : Table C KeyedState) (b : List ℕ) (r : Refusal) (result : Result ℕ Refusal) → old ≡ seen_as kind bytes t → fault kind b ≡ Some r → result ≡ Err r
+      → IsChangedBy old (seen_as kind bytes t) (λ _ s'. InternsBy Refused b old.state (look_up old b) result s')
+  refused Refused old t b r result is fault_is err =
+      let s = as_bytes bytes t.state in
+      let step = subst (λ (f : Option Refusal). InternsBy Refused b s (unless f (position (seen_as kind bytes t) b)) result s) (sym fault_is) (err, refl) in
+      changed old kind bytes t t (λ _ x. InternsBy Refused b old.state (look_up old b) result x) is refl
       (subst (λ (x : Seen). InternsBy Refused b x.state (look_up x b) result s) (sym is) step)
 
-  pub refused_form : (old : Seen) (held : State C) (h : KeyedState) (b : List ℕ) (r : Refusal) (result : Result ℕ Refusal) → old ≡ seen_of kind bytes held h → fault kind b ≡ Some r → result ≡ Err r → IsChangedBy old (seen_of kind bytes held h) (λ _ s'. Interns b old result s')
+  pub refused_form : (old : Seen) (t : Table C KeyedState) (b : List ℕ) (r : Refusal) (result : Result ℕ Refusal) → old ≡ seen_as kind bytes t → fault kind b ≡ Some r → result ≡ Err r → IsChangedBy old (seen_as kind bytes t) (λ _ s'. Interns b old result s')
   refused_form = refused IsUncopiedOrRefused
 
-  pub refused_content : (old : Seen) (held : State C) (h : KeyedState) (b : List ℕ) (r : Refusal) (result : Result ℕ Refusal) → old ≡ seen_of kind bytes held h → fault kind b ≡ Some r → result ≡ Err r → IsChangedBy old (seen_of kind bytes held h) (λ _ s'. InternsStatic b old result s')
+  pub refused_content : (old : Seen) (t : Table C KeyedState) (b : List ℕ) (r : Refusal) (result : Result ℕ Refusal) → old ≡ seen_as kind bytes t → fault kind b ≡ Some r → result ≡ Err r → IsChangedBy old (seen_as kind bytes t) (λ _ s'. InternsStatic b old result s')
   refused_content = refused IsRefused
 
 -- whether a size is too large, by the result
@@ -106,8 +104,8 @@ module _ {X Y E P : Type 0} where
 
 -- the bytes of a symbol
 module _ {C : Type 0} (kind : Kind) (bytes : C → List ℕ) where
-  pub stored : (old : Seen) (held : State C) (h : KeyedState) (i : ℕ) (o : Option (List ℕ)) → old ≡ seen_of kind bytes held h → o ≡ option_map bytes (slice_get held.contents i) → o ≡ slice_get old.state.contents i
-  stored old held h i o is found = subst (λ (x : Seen). o ≡ slice_get x.state.contents i) (sym is) (found ∙ sym (slice_get-map bytes held.contents i))
+  pub stored : (old : Seen) (t : Table C KeyedState) (i : ℕ) (o : Option (List ℕ)) → old ≡ seen_as kind bytes t → o ≡ option_map bytes (slice_get t.state.contents i) → o ≡ slice_get old.state.contents i
+  stored old t i o is found = subst (λ (x : Seen). o ≡ slice_get x.state.contents i) (sym is) (found ∙ sym (slice_get-map bytes t.state.contents i))
 
 -- a kind whose contents have their bytes' keys
 module _ {C : Type 0} (kind : Kind) (bytes : C → List ℕ) (content_key : C → Key) (same : (c : C) → content_key c ≡ key kind (bytes c)) where
@@ -119,10 +117,10 @@ module _ {C : Type 0} (kind : Kind) (bytes : C → List ℕ) (content_key : C �
   first-bytes cs k = ap (λ (ks : List Key). first_of ks k) (keys cs)
 
   -- a look-up
-  pub found : (old : Seen) (held : State C) (h : KeyedState) (b : List ℕ) (sought : Key) (result : Option ℕ) → old ≡ seen_of kind bytes held h → fault kind b ≡ None → sought ≡ key kind b → result ≡ first content_key held.contents sought
+  pub found : (old : Seen) (t : Table C KeyedState) (b : List ℕ) (sought : Key) (result : Option ℕ) → old ≡ seen_as kind bytes t → fault kind b ≡ None → sought ≡ key kind b → result ≡ first content_key t.state.contents sought
       → Ok result ≡ look_up old b
-  found old held h b sought result is allowed spelled answer =
-      let position = answer ∙ first-bytes held.contents sought ∙ ap (first (key kind) (map bytes held.contents)) spelled in
+  found old t b sought result is allowed spelled answer =
+      let position = answer ∙ first-bytes t.state.contents sought ∙ ap (first (key kind) (map bytes t.state.contents)) spelled in
       subst (λ (x : Seen). Ok result ≡ look_up x b) (sym is) (rw allowed (ap Ok position))
 
   -- a content that isn't there is stored
@@ -172,34 +170,34 @@ module _ {C : Type 0} (kind : Kind) (bytes : C → List ℕ) (content_key : C �
   by_look_up Refused Taken None old new b result takes step = takes step
   by_look_up Refused Taken (Some i) old new b result takes step = (ap symbol_answer step.0, ap (as_bytes bytes) step.1)
 
-  interned : (Refused : State (List ℕ) → State (List ℕ) → Type 0) (old : Seen) (held : State C) (h : KeyedState) (t' : Table C KeyedState) (b : List ℕ) (k : Key) (result : Result ℕ InternError) → old ≡ seen_of kind bytes held h → t'.hasher ≡ h
-      → fault kind b ≡ None → k ≡ key kind b → InternsBy Refused b (as_bytes bytes held) (Ok (first content_key held.contents k)) (symbol_answer result) (as_bytes bytes t'.state)
+  interned : (Refused : State (List ℕ) → State (List ℕ) → Type 0) (old : Seen) (t t' : Table C KeyedState) (b : List ℕ) (k : Key) (result : Result ℕ InternError) → old ≡ seen_as kind bytes t → t'.hasher ≡ t.hasher
+      → fault kind b ≡ None → k ≡ key kind b → InternsBy Refused b (as_bytes bytes t.state) (Ok (first content_key t.state.contents k)) (symbol_answer result) (as_bytes bytes t'.state)
       → IsChangedBy old (seen_as kind bytes t') (λ _ s'. InternsBy Refused b old.state (look_up old b) (symbol_answer result) s')
-  interned Refused old held h t' b k result is hasher allowed spelled step =
-      let answer = symbol_answer result in let s = as_bytes bytes held in let s' = as_bytes bytes t'.state in
-      let place = first-bytes held.contents k ∙ ap (first (key kind) (map bytes held.contents)) spelled in
+  interned Refused old t t' b k result is hasher allowed spelled step =
+      let answer = symbol_answer result in let s = as_bytes bytes t.state in let s' = as_bytes bytes t'.state in
+      let place = first-bytes t.state.contents k ∙ ap (first (key kind) (map bytes t.state.contents)) spelled in
       let found = subst (λ (o : Option ℕ). InternsBy Refused b s (Ok o) answer s') place step in
-      let looked_up = subst (λ (f : Option Refusal). InternsBy Refused b s (unless f (position (seen_of kind bytes held h) b)) answer s') (sym allowed) found in
-      changed old kind bytes held t'.state h t'.hasher (λ _ x. InternsBy Refused b old.state (look_up old b) answer x) is hasher
+      let looked_up = subst (λ (f : Option Refusal). InternsBy Refused b s (unless f (position (seen_as kind bytes t) b)) answer s') (sym allowed) found in
+      changed old kind bytes t t' (λ _ x. InternsBy Refused b old.state (look_up old b) answer x) is hasher
       (subst (λ (x : Seen). InternsBy Refused b x.state (look_up x b) answer s') (sym is) looked_up)
 
   -- by a form, which is copied
-  pub interned_form : (spelling : C → List ℕ) (old : Seen) (held : State C) (h : KeyedState) (t' : Table C KeyedState) (b w : List ℕ) (k : Key) (result : Result ℕ InternError) (answer : Result ℕ Refusal) → old ≡ seen_of kind bytes held h → t'.hasher ≡ h
-      → fault kind b ≡ None → k ≡ key kind b → ((c : C) → spelling c ≡ w → bytes c ≡ b) → InternsForm content_key spelling held k w result t'.state → answer ≡ symbol_answer result
+  pub interned_form : (spelling : C → List ℕ) (old : Seen) (t t' : Table C KeyedState) (b w : List ℕ) (k : Key) (result : Result ℕ InternError) (answer : Result ℕ Refusal) → old ≡ seen_as kind bytes t → t'.hasher ≡ t.hasher
+      → fault kind b ≡ None → k ≡ key kind b → ((c : C) → spelling c ≡ w → bytes c ≡ b) → InternsForm content_key spelling t.state k w result t'.state → answer ≡ symbol_answer result
       → IsChangedBy old (seen_as kind bytes t') (λ _ s'. Interns b old answer s')
-  interned_form spelling old held h t' b w k result answer is hasher allowed same_key spelled step answered =
+  interned_form spelling old t t' b w k result answer is hasher allowed same_key spelled step answered =
       subst (λ (a : Result ℕ Refusal). IsChangedBy old (seen_as kind bytes t') (λ _ s'. Interns b old a s')) (sym answered)
-      (interned IsUncopiedOrRefused old held h t' b k result is hasher allowed same_key
-      (by_look_up IsUncopiedOrRefused (TakesCopy content_key spelling held k w result t'.state) (first content_key held.contents k) held t'.state b result (copies spelling held t'.state k w b result spelled) step))
+      (interned IsUncopiedOrRefused old t t' b k result is hasher allowed same_key
+      (by_look_up IsUncopiedOrRefused (TakesCopy content_key spelling t.state k w result t'.state) (first content_key t.state.contents k) t.state t'.state b result (copies spelling t.state t'.state k w b result spelled) step))
 
   -- by a content, which is moved in
-  pub interned_content : (old : Seen) (held : State C) (h : KeyedState) (t' : Table C KeyedState) (c : C) (b : List ℕ) (result : Result ℕ InternError) (answer : Result ℕ Refusal) → old ≡ seen_of kind bytes held h → t'.hasher ≡ h
-      → fault kind b ≡ None → bytes c ≡ b → core_change.Interns content_key held c result t'.state → answer ≡ symbol_answer result
+  pub interned_content : (old : Seen) (t t' : Table C KeyedState) (c : C) (b : List ℕ) (result : Result ℕ InternError) (answer : Result ℕ Refusal) → old ≡ seen_as kind bytes t → t'.hasher ≡ t.hasher
+      → fault kind b ≡ None → bytes c ≡ b → core_change.Interns content_key t.state c result t'.state → answer ≡ symbol_answer result
       → IsChangedBy old (seen_as kind bytes t') (λ _ s'. InternsStatic b old answer s')
-  interned_content old held h t' c b result answer is hasher allowed spelled step answered =
+  interned_content old t t' c b result answer is hasher allowed spelled step answered =
       subst (λ (a : Result ℕ Refusal). IsChangedBy old (seen_as kind bytes t') (λ _ s'. InternsStatic b old a s')) (sym answered)
-      (interned IsRefused old held h t' b (content_key c) result is hasher allowed (same c ∙ ap (key kind) spelled)
-      (by_look_up IsRefused (core_change.Takes held c result t'.state) (first content_key held.contents (content_key c)) held t'.state b result (takes held t'.state c b result spelled) step))
+      (interned IsRefused old t t' b (content_key c) result is hasher allowed (same c ∙ ap (key kind) spelled)
+      (by_look_up IsRefused (core_change.Takes t.state c result t'.state) (first content_key t.state.contents (content_key c)) t.state t'.state b result (takes t.state t'.state c b result spelled) step))
 
 -- the key of a C string is that of its bytes without their last
 without_zero : (bytes : List ℕ) → bytes ∷ [] ≡ without_last (bytes ++ 0 ∷ []) ∷ []

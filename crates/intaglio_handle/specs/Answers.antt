@@ -5,7 +5,7 @@ use Rattle.intaglio_symbol.specs.declared.error.InternError.TheVariants.{Overflo
 use Rattle.intaglio_symbol.specs.declared.error.RoomError.{RoomError}
 use Rattle.intaglio_symbol.specs.declared.error.RoomError.TheVariants as room_error
 use Rattle.intaglio_handle.specs.declared.refusal.Refusal.{Refusal}
-use Rattle.intaglio_handle.specs.declared.refusal.Refusal.TheVariants.{NoTable, Full, NoMemory, TooLarge, Stale, NotUtf8, InnerZero, MissingZero, BadEnds, NoSymbol, NoSpace, NoKind, NotFrozen, OtherVersion, Reserved, TooMany, Truncated, TextEnds, Unused, NotFound, TooLong, Equal, NoPlaces}
+use Rattle.intaglio_handle.specs.declared.refusal.Refusal.TheVariants.{NoTable, Full, NoMemory, TooLarge, Stale, NotUtf8, InnerZero, MissingZero, BadEnds, NoSymbol, NoSpace, NoKind}
 
 -- the code of an error
 abbrev pub refusal_code : Refusal → ℕ
@@ -21,17 +21,6 @@ refusal_code BadEnds = 9
 refusal_code NoSymbol = 10
 refusal_code NoSpace = 11
 refusal_code NoKind = 12
-refusal_code NotFrozen = 13
-refusal_code OtherVersion = 14
-refusal_code Reserved = 15
-refusal_code TooMany = 16
-refusal_code Truncated = 17
-refusal_code TextEnds = 18
-refusal_code Unused = 19
-refusal_code NotFound = 20
-refusal_code TooLong = 21
-refusal_code Equal = 22
-refusal_code NoPlaces = 23
 
 module _ {X : Type 0} where
   -- the code of a result: 0 if the call succeeded

@@ -1,7 +1,6 @@
 -- What the contracts cite.
 pub mod Answers
 pub mod Batches
-pub mod Frozen
 pub mod Handles
 pub mod Kinds
 pub mod Owned

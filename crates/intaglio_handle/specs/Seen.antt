@@ -26,13 +26,9 @@ pub record Seen : Type 0 where
 abbrev pub as_bytes : {C : Type 0} → (C → List ℕ) → State C → State (List ℕ)
 as_bytes bytes s = record { contents = map bytes s.contents; spare = s.spare; buckets = s.buckets; limit = s.limit }
 
--- a state of a table of this kind, by the bytes of its contents
-abbrev pub seen_of : {C : Type 0} → Kind → (C → List ℕ) → State C → KeyedState → Seen
-seen_of k bytes s hasher = record { kind = k; state = as_bytes bytes s; hasher = hasher }
-
 -- a table of this kind, by the bytes of its contents
 abbrev pub seen_as : {C : Type 0} → Kind → (C → List ℕ) → Table C KeyedState → Seen
-seen_as k bytes t = seen_of k bytes t.state t.hasher
+seen_as k bytes t = record { kind = k; state = as_bytes bytes t.state; hasher = t.hasher }
 
 -- the bytes of a C string include the final zero
 abbrev pub c_str_bytes : CStrContent → List ℕ

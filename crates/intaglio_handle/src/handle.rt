@@ -4,7 +4,6 @@ ghost use Rattle.std.specs.Option.{option_map};
 ghost use Rattle.std.specs.declared.option.Option.TheVariants.{None, Some};
 
 mod batches;
-mod freeze;
 mod get;
 mod intern;
 mod lifecycle;

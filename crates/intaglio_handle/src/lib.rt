@@ -10,7 +10,6 @@
 mod any_table;
 mod box_parts;
 mod codes;
-mod frozen;
 mod handle;
 mod kind;
 mod refusal;
@@ -19,9 +18,6 @@ mod table_ptr;
 
 pub use any_table::AnyTable;
 pub use codes::{code, symbol_code};
-pub use frozen::{
-    check_frozen, find_all_frozen, find_frozen, get_frozen, is_frozen_text, len_frozen,
-};
 pub use handle::Handle;
 pub use kind::Kind;
 pub use refusal::Refusal;

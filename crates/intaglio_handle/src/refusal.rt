@@ -2,7 +2,6 @@
 ghost use Rattle.std.specs.Prelude.{◌≡◌};
 
 use intaglio_core::{InternError, RoomError, StaleMark};
-use intaglio_frozen::{FreezeError, FrozenError};
 use std::alloc::AllocError;
 
 /// Why a call failed.
@@ -32,28 +31,6 @@ pub enum Refusal {
     NoSpace,
     /// The number is no kind's.
     NoKind,
-    /// The bytes don't begin as a frozen table does.
-    NotFrozen,
-    /// A frozen table of another version.
-    OtherVersion,
-    /// A reserved byte of a frozen table isn't 0.
-    Reserved,
-    /// There are more strings than a frozen table can have.
-    TooMany,
-    /// The bytes of a frozen table end within its header or a section.
-    Truncated,
-    /// The strings of a frozen table don't fill its text.
-    TextEnds,
-    /// A place of a frozen table that no string has isn't empty.
-    Unused,
-    /// A string of a frozen table isn't found at its symbol.
-    NotFound,
-    /// The strings have 2^32 bytes or more together.
-    TooLong,
-    /// Two strings are equal.
-    Equal,
-    /// No places were found for the strings of a frozen table.
-    NoPlaces,
 }
 
 impl Refusal {
@@ -76,17 +53,6 @@ impl Refusal {
             Refusal::NoSymbol => 10,
             Refusal::NoSpace => 11,
             Refusal::NoKind => 12,
-            Refusal::NotFrozen => 13,
-            Refusal::OtherVersion => 14,
-            Refusal::Reserved => 15,
-            Refusal::TooMany => 16,
-            Refusal::Truncated => 17,
-            Refusal::TextEnds => 18,
-            Refusal::Unused => 19,
-            Refusal::NotFound => 20,
-            Refusal::TooLong => 21,
-            Refusal::Equal => 22,
-            Refusal::NoPlaces => 23,
         }
     }
 }
@@ -134,43 +100,5 @@ impl From<StaleMark> for Refusal {
 
     fn from(_error: StaleMark) -> Refusal {
         Refusal::Stale
-    }
-}
-
-impl From<FrozenError> for Refusal {
-    ghost use Rattle.intaglio_handle.specs.Frozen.{frozen_refusal};
-
-    ghost from_gives = { λ error refusal. refusal ≡ frozen_refusal error };
-
-    fn from(error: FrozenError) -> Refusal {
-        match error {
-            FrozenError::Magic => Refusal::NotFrozen,
-            FrozenError::Version => Refusal::OtherVersion,
-            FrozenError::Kind => Refusal::NoKind,
-            FrozenError::Reserved => Refusal::Reserved,
-            FrozenError::TooMany => Refusal::TooMany,
-            FrozenError::Truncated => Refusal::Truncated,
-            FrozenError::Ends => Refusal::TextEnds,
-            FrozenError::Unused => Refusal::Unused,
-            FrozenError::NotFound(_) => Refusal::NotFound,
-            FrozenError::NotUtf8(_) => Refusal::NotUtf8,
-        }
-    }
-}
-
-impl From<FreezeError> for Refusal {
-    ghost use Rattle.intaglio_handle.specs.Frozen.{freeze_refusal};
-
-    ghost from_gives = { λ error refusal. refusal ≡ freeze_refusal error };
-
-    fn from(error: FreezeError) -> Refusal {
-        match error {
-            FreezeError::TooMany => Refusal::TooMany,
-            FreezeError::TooLong => Refusal::TooLong,
-            FreezeError::Equal(_, _) => Refusal::Equal,
-            FreezeError::NotUtf8(_) => Refusal::NotUtf8,
-            FreezeError::NoPlaces => Refusal::NoPlaces,
-            FreezeError::Memory => Refusal::NoMemory,
-        }
     }
 }

@@ -1,6 +1,5 @@
 -- What a contract sees of a list of strings in one buffer.
 use Rattle.std.specs.Prelude.{◌≡◌, ℕ, ◌<◌, ◌≤◌, List, [], ◌∷◌, length, refl, slice_range}
-use Rattle.intaglio_content.specs.Key.{Key}
 use Rattle.std.specs.Coded.{Coded, code_by, coded×, coded_ℕ, coded_list}
 
 -- the strings, for how many there is room in total, and the room for further bytes
@@ -18,10 +17,6 @@ strings_code =
     (λ v. (v.list, (v.most, v.spare_bytes)))
     (λ p. record { list = p.0; most = p.1.0; spare_bytes = p.1.1 })
     (λ _. refl)
-
--- the key of a string in a packed table: the string alone
-abbrev pub packed_key : List ℕ → Key
-packed_key w = w ∷ []
 
 -- the strings between a beginning and the ends, which follow each other in the bytes
 abbrev pub strings_from : ℕ → List ℕ → List ℕ → List (List ℕ)

@@ -60,11 +60,6 @@ impl Packed {
         Ok(Packed { bytes, ends })
     }
 
-    /// The allocator of the list.
-    pub fn alloc(&self) -> Global {
-        *self.bytes.allocator()
-    }
-
     /// The number of strings.
     pub fn len(&self) -> usize
         ensures { result ≡ length self.now.list }

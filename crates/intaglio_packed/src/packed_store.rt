@@ -4,7 +4,7 @@ ghost use Rattle.intaglio_content.specs.Key.{hash_of};
 
 use crate::packed::Packed;
 use crate::spelling::Spelling;
-use intaglio_content::{ByteStore, CopiedTo, Lends, LookedUpIn, SoughtIn, Store, Work, feed_item};
+use intaglio_content::{CopiedTo, Lends, SoughtIn, Store, Work, feed_item};
 use std::alloc::{AllocError, Global};
 use std::hash::{BuildHasher, Hasher};
 
@@ -25,10 +25,6 @@ impl Store for Packed {
 
     fn with_capacity(alloc: Global, capacity: usize) -> Result<Packed, AllocError> {
         Packed::with_capacity(alloc, capacity, 0)
-    }
-
-    fn alloc(&self) -> Global {
-        Packed::alloc(self)
     }
 
     #[inline(always)]
@@ -56,16 +52,6 @@ impl Store for Packed {
 
     fn shrink_to(&mut self, min_capacity: usize) {
         Packed::shrink_to(self, min_capacity);
-    }
-}
-
-impl ByteStore for Packed {
-    fn byte_count(&self) -> usize {
-        Packed::byte_count(self)
-    }
-
-    fn reserve_bytes(&mut self, additional: usize) -> Result<(), AllocError> {
-        Packed::reserve_bytes(self, additional)
     }
 }
 
@@ -122,10 +108,6 @@ impl<'a> Lends<'a> for Packed {
     fn form_at(&'a self, i: usize) -> &'a [u8] {
         self.string(i)
     }
-}
-
-impl<'q> LookedUpIn<'q> for Packed {
-    type By = &'q [u8];
 }
 
 // Whether two strings are the same.

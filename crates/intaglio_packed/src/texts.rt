@@ -5,7 +5,7 @@ ghost use Rattle.intaglio_content.specs.Key.{hash_of};
 
 use crate::packed::Packed;
 use crate::spelling::Spelling;
-use intaglio_content::{ByteStore, CopiedTo, Lends, LookedUpIn, SoughtIn, Store, Work};
+use intaglio_content::{CopiedTo, Lends, SoughtIn, Store, Work};
 use std::alloc::{AllocError, Global};
 use std::hash::BuildHasher;
 use std::marker::Model;
@@ -52,14 +52,6 @@ impl Texts {
         Ok(Texts {
             strings: Packed::with_capacity(alloc, texts, bytes)?,
         })
-    }
-
-    /// The texts as strings of bytes.
-    #[inline(always)]
-    pub fn strings(&self) -> &Packed
-        ensures { result.now ≡ self.now }
-    {
-        &self.strings
     }
 
     /// A text that is there. Its bytes aren't tested again.
@@ -135,10 +127,6 @@ impl Store for Texts {
         Texts::with_capacity(alloc, capacity, 0)
     }
 
-    fn alloc(&self) -> Global {
-        self.strings.alloc()
-    }
-
     #[inline(always)]
     fn len(&self) -> usize {
         self.strings.len()
@@ -164,16 +152,6 @@ impl Store for Texts {
 
     fn shrink_to(&mut self, min_capacity: usize) {
         self.strings.shrink_to(min_capacity);
-    }
-}
-
-impl ByteStore for Texts {
-    fn byte_count(&self) -> usize {
-        Texts::byte_count(self)
-    }
-
-    fn reserve_bytes(&mut self, additional: usize) -> Result<(), AllocError> {
-        Texts::reserve_bytes(self, additional)
     }
 }
 
@@ -224,8 +202,4 @@ impl<'a> Lends<'a> for Texts {
     fn form_at(&'a self, i: usize) -> &'a str {
         self.text(i)
     }
-}
-
-impl<'q> LookedUpIn<'q> for Texts {
-    type By = &'q str;
 }

@@ -3,7 +3,7 @@ use crate::change::{Ask, Change, own};
 use crate::contents::Contents;
 use crate::fault::Fault;
 use crate::kinds::{FixedTable, Making, Stored, make_table};
-use intaglio::{Call, FormInterner, Interner, Reply, Symbol, Work, run};
+use intaglio::{Call, Interner, Reply, Symbol, Work, run};
 use std::alloc::Global;
 
 /// How the calls are made.

@@ -11,8 +11,6 @@ mod encoding;
 mod errors;
 mod feeds;
 mod forms;
-mod frozen_tables;
 mod hashes;
-mod packed_tables;
 mod searches;
 mod symbols_to_come;

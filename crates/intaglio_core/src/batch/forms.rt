@@ -12,8 +12,8 @@ ghost use Rattle.intaglio_core.specs.Batch.{hashings, SearchesForms, ChecksForms
 ghost use Rattle.intaglio_core.specs.Batch.{InternsEachForm, FailsEachForm};
 
 use crate::begun::Begun;
-use crate::interner::FormInterner;
-use intaglio_content::{CopiedTo, SoughtIn, Work};
+use crate::interner::Interner;
+use intaglio_content::{Sought, ToContent, Work};
 use intaglio_symbol::{InternError, Symbol};
 use std::alloc::{AllocError, Global};
 
@@ -26,7 +26,7 @@ use std::alloc::{AllocError, Global};
 /// # Errors
 ///
 /// [`AllocError`] if one of the lists can't be allocated.
-pub fn check_all<T: FormInterner, Q: SoughtIn<T::Store>>(
+pub fn check_all<T: Interner, Q: Sought<T::Content>>(
     alloc: Global,
     table: &T,
     forms: &[Q],
@@ -53,7 +53,7 @@ pub fn check_all<T: FormInterner, Q: SoughtIn<T::Store>>(
 ///
 /// `Overflow` if the table can't hold them all, `Memory` if the allocation of a list, of a copy or of a
 /// growth fails. Then the table has the same contents as before and no lower capacity.
-pub fn get_or_intern_all<T: FormInterner, Q: CopiedTo<T::Store>>(
+pub fn get_or_intern_all<T: Interner, Q: ToContent<T::Content>>(
     alloc: Global,
     table: &mut T,
     forms: &[Q],
@@ -100,7 +100,7 @@ pub fn get_or_intern_all<T: FormInterner, Q: CopiedTo<T::Store>>(
 }
 
 // Hashes the forms, or contents.
-pub(super) fn hash_forms<T: FormInterner, Q: SoughtIn<T::Store>>(
+pub(super) fn hash_forms<T: Interner, Q: Sought<T::Content>>(
     alloc: Global,
     table: &T,
     forms: &[Q],
@@ -119,7 +119,7 @@ pub(super) fn hash_forms<T: FormInterner, Q: SoughtIn<T::Store>>(
 }
 
 // Looks up hashed forms, or contents.
-pub(super) fn search_forms<T: FormInterner, Q: SoughtIn<T::Store>>(
+pub(super) fn search_forms<T: Interner, Q: Sought<T::Content>>(
     alloc: Global,
     table: &T,
     forms: &[Q],
@@ -139,7 +139,7 @@ pub(super) fn search_forms<T: FormInterner, Q: SoughtIn<T::Store>>(
 }
 
 // Begins a search for each hash.
-fn begin_searches<T: FormInterner>(
+fn begin_searches<T: Interner>(
     alloc: Global,
     table: &T,
     hashes: &[u64],
@@ -157,7 +157,7 @@ fn begin_searches<T: FormInterner>(
 // Reads a byte of each content that will be compared. They are returned as a list, and the call isn't
 // inlined, so that the compiler can't leave out the reads.
 #[inline(never)]
-fn touch_candidates<T: FormInterner, Q: SoughtIn<T::Store>>(
+fn touch_candidates<T: Interner, Q: Sought<T::Content>>(
     alloc: Global,
     table: &T,
     forms: &[Q],
@@ -171,7 +171,7 @@ fn touch_candidates<T: FormInterner, Q: SoughtIn<T::Store>>(
 }
 
 // Ends the searches that were begun.
-fn end_searches<T: FormInterner, Q: SoughtIn<T::Store>>(
+fn end_searches<T: Interner, Q: Sought<T::Content>>(
     alloc: Global,
     table: &T,
     forms: &[Q],
@@ -194,7 +194,7 @@ fn end_searches<T: FormInterner, Q: SoughtIn<T::Store>>(
 }
 
 // Interns forms that were looked up. After an error, those before the failed one are stored.
-fn intern_each_form<T: FormInterner, Q: CopiedTo<T::Store>>(
+fn intern_each_form<T: Interner, Q: ToContent<T::Content>>(
     alloc: Global,
     table: &mut T,
     forms: &[Q],
@@ -231,7 +231,7 @@ fn intern_each_form<T: FormInterner, Q: CopiedTo<T::Store>>(
 }
 
 // Interns a form that was looked up.
-fn intern_one_form<T: FormInterner, Q: CopiedTo<T::Store>>(
+fn intern_one_form<T: Interner, Q: ToContent<T::Content>>(
     table: &mut T,
     hash: u64,
     found: Option<Symbol>,

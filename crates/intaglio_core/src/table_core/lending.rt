@@ -6,46 +6,38 @@ ghost use Rattle.intaglio_core.specs.State.{first, spelling_at, pairs_of};
 ghost use Rattle.intaglio_core.specs.Lookup.{IsFound};
 ghost use Rattle.intaglio_core.specs.Cost.{Costs, SearchCost};
 
-use super::{Core, IndexedStore};
-use intaglio_content::{Content, Formed, Forms, Lends, Pairs, SoughtIn, Work};
+use super::Core;
+use intaglio_content::{Formed, Forms, Pairs, Sought, Work};
 use intaglio_symbol::Symbol;
 use std::hash::BuildHasher;
 
-impl<'a, L: Lends<'a>, S: BuildHasher> IndexedStore<L, S>
-where
-    L::Content: Content,
-{
+impl<'a, C: Formed<'a>, S: BuildHasher> Core<C, S> {
     /// The form of a symbol's content.
-    pub fn form(&'a self, symbol: Symbol) -> Option<L::Form>
-        ensures form { option_map L.lent_spelling result ≡ spelling_at L.Content.spelling self.now.state symbol }
+    pub fn form(&'a self, symbol: Symbol) -> Option<C::Form>
+        ensures form { option_map C.form_spelling result ≡ spelling_at C.spelling self.now.state symbol }
         ensures found { IfSome result (λ form.
-            IsFound L.Content.key self.now.state (L.Content.key_of (L.lent_spelling form)) symbol) }
+            IsFound C.key self.now.state (C.key_of (C.form_spelling form)) symbol) }
     {
-        if !self.contains(symbol) {
-            return None;
-        }
-        Some(self.list.form_at(symbol.id() as usize))
+        Some(self.get(symbol)?.borrow())
     }
 
     /// The symbol of the content with the sought key and the form of what is stored, if there is one.
-    pub fn search_form<Q: SoughtIn<L>>(
+    pub fn search_form<Q: Sought<C>>(
         &'a self,
         sought: &Q,
         work: &mut Work,
-    ) -> Option<(Symbol, L::Form)>
+    ) -> Option<(Symbol, C::Form)>
         ensures found { option_map (λ pair. pair.0) result
-            ≡ first L.Content.key self.now.state.contents (Q.key sought.now) }
+            ≡ first C.key self.now.state.contents (Q.key sought.now) }
         ensures stored { IfSome result (λ pair.
-            Some (L.lent_spelling pair.1) ≡ spelling_at L.Content.spelling self.now.state pair.0) }
+            Some (C.form_spelling pair.1) ≡ spelling_at C.spelling self.now.state pair.0) }
         ensures cost { let hash = hash_of S.BuildHasher S.Hasher.Hasher self.now.hasher in
-            Costs work.old work.new (SearchCost L.Content.key hash self.now.state (Q.key sought.now)) }
+            Costs work.old work.new (SearchCost C.key hash self.now.state (Q.key sought.now)) }
     {
         let symbol = self.search(sought, work)?;
         Some((symbol, self.form(symbol)?))
     }
-}
 
-impl<'a, C: Formed<'a>, S: BuildHasher> Core<C, S> {
     /// The forms of all contents, in the order of their symbols.
     pub fn forms(&'a self) -> Forms<'a, C>
         ensures all { result ≡ map C.spelling self.now.state.contents }

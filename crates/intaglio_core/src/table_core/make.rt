@@ -4,18 +4,17 @@ ghost use Rattle.intaglio_symbol.specs.declared.error.RoomError.TheVariants.{Cap
 ghost use Rattle.intaglio_core.specs.State.{IsValid, empty_table};
 ghost use Rattle.intaglio_core.specs.Capacity.{IsRounded};
 
-use super::IndexedStore;
-use intaglio_content::Store;
+use super::Core;
+use intaglio_content::Keyed;
 use intaglio_index::Index;
 use intaglio_symbol::{DEFAULT_SYMBOL_TABLE_CAPACITY, RoomError};
 use std::alloc::Global;
 use std::hash::{BuildHasher, BuildHasherDefault, FoldHasher};
-use std::marker::PhantomData;
 
 // How many symbols there are.
 const SYMBOLS: usize = 1 << 32;
 
-impl<L: Store> IndexedStore<L, BuildHasherDefault<FoldHasher>> {
+impl<C: Keyed> Core<C, BuildHasherDefault<FoldHasher>> {
     /// An empty table with std's builder of fixed seed. Its capacity is `capacity` rounded up to a power of
     /// two; 0 stays 0, and allocates nothing.
     ///
@@ -26,14 +25,14 @@ impl<L: Store> IndexedStore<L, BuildHasherDefault<FoldHasher>> {
     pub fn with_capacity(
         alloc: Global,
         capacity: usize,
-    ) -> Result<IndexedStore<L, BuildHasherDefault<FoldHasher>>, RoomError>
+    ) -> Result<Core<C, BuildHasherDefault<FoldHasher>>, RoomError>
     where
-        L: Drop,
+        C: Drop,
         ensures empty { IfOk result (λ t. t.state.contents ≡ []) }
         ensures rounded { IfOk result (λ t. IsRounded capacity t.state.spare) }
         ensures buckets { IfOk result (λ t. t.state.buckets ≡ t.state.spare) }
         ensures limit { IfOk result (λ t. t.state.limit ≡ 2 ^ 32) }
-        ensures valid { IfOk result (λ t. IsValid L.Content.key t.state) }
+        ensures valid { IfOk result (λ t. IsValid C.key t.state) }
         ensures overflow { (result ≡ Err CapacityOverflow) ↔ (2 ^ 32 < capacity) }
         ensures none_needed { capacity ≡ 0 → IsOk result }
     {
@@ -45,25 +44,25 @@ impl<L: Store> IndexedStore<L, BuildHasherDefault<FoldHasher>> {
         } else {
             capacity.next_power_of_two()
         };
-        IndexedStore::with_capacity_and_hasher(alloc, rounded, BuildHasherDefault::new())
+        Core::with_capacity_and_hasher(alloc, rounded, BuildHasherDefault::new())
     }
 }
 
-impl<L: Store, S: BuildHasher> IndexedStore<L, S> {
+impl<C: Keyed, S: BuildHasher> Core<C, S> {
     /// An empty table of the default capacity, [`DEFAULT_SYMBOL_TABLE_CAPACITY`].
     ///
     /// # Errors
     ///
     /// `Memory` if an allocation fails.
-    pub fn with_hasher(alloc: Global, hasher: S) -> Result<IndexedStore<L, S>, RoomError>
+    pub fn with_hasher(alloc: Global, hasher: S) -> Result<Core<C, S>, RoomError>
     where
-        L: Drop,
+        C: Drop,
         S: Drop,
         ensures made { IfOk result (λ t. t ≡ empty_table 4096 (2 ^ 32) hasher) }
-        ensures valid { IfOk result (λ t. IsValid L.Content.key t.state) }
+        ensures valid { IfOk result (λ t. IsValid C.key t.state) }
         ensures only_memory { ¬ (result ≡ Err CapacityOverflow) }
     {
-        IndexedStore::with_capacity_and_hasher(alloc, DEFAULT_SYMBOL_TABLE_CAPACITY, hasher)
+        Core::with_capacity_and_hasher(alloc, DEFAULT_SYMBOL_TABLE_CAPACITY, hasher)
     }
 
     /// An empty table of exactly this capacity. A capacity of 0 allocates nothing.
@@ -76,12 +75,12 @@ impl<L: Store, S: BuildHasher> IndexedStore<L, S> {
         alloc: Global,
         capacity: usize,
         hasher: S,
-    ) -> Result<IndexedStore<L, S>, RoomError>
+    ) -> Result<Core<C, S>, RoomError>
     where
-        L: Drop,
+        C: Drop,
         S: Drop,
         ensures made { IfOk result (λ t. t ≡ empty_table capacity (2 ^ 32) hasher) }
-        ensures valid { IfOk result (λ t. IsValid L.Content.key t.state) }
+        ensures valid { IfOk result (λ t. IsValid C.key t.state) }
         ensures overflow { (result ≡ Err CapacityOverflow) ↔ (2 ^ 32 < capacity) }
         ensures none_needed { capacity ≡ 0 → IsOk result }
     {
@@ -89,13 +88,12 @@ impl<L: Store, S: BuildHasher> IndexedStore<L, S> {
             return Err(RoomError::CapacityOverflow);
         }
         let index = Index::with_buckets(alloc, capacity)?;
-        let list = L::with_capacity(alloc, capacity)?;
-        Ok(IndexedStore {
+        let list = Vec::with_capacity(alloc, capacity)?;
+        Ok(Core {
             list,
             index,
             hasher,
             limit: SYMBOLS,
-            content: PhantomData,
         })
     }
 
@@ -104,28 +102,23 @@ impl<L: Store, S: BuildHasher> IndexedStore<L, S> {
     /// # Errors
     ///
     /// Only `CapacityOverflow`, if the limit is 0 or above 2^32.
-    pub fn with_limit(
-        alloc: Global,
-        limit: usize,
-        hasher: S,
-    ) -> Result<IndexedStore<L, S>, RoomError>
+    pub fn with_limit(alloc: Global, limit: usize, hasher: S) -> Result<Core<C, S>, RoomError>
     where
-        L: Drop,
+        C: Drop,
         S: Drop,
         ensures made { IfOk result (λ t. t ≡ empty_table 0 limit hasher) }
-        ensures valid { IfOk result (λ t. IsValid L.Content.key t.state) }
+        ensures valid { IfOk result (λ t. IsValid C.key t.state) }
         ensures overflow { (result ≡ Err CapacityOverflow) ↔ ((limit ≡ 0) ⊎ (2 ^ 32 < limit)) }
         ensures good { 0 < limit → limit ≤ 2 ^ 32 → IsOk result }
     {
         if limit == 0 || limit > SYMBOLS {
             return Err(RoomError::CapacityOverflow);
         }
-        Ok(IndexedStore {
-            list: L::new(alloc),
+        Ok(Core {
+            list: Vec::new(alloc),
             index: Index::with_buckets(alloc, 0).unwrap(),
             hasher,
             limit,
-            content: PhantomData,
         })
     }
 }

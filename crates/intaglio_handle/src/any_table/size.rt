@@ -1,5 +1,5 @@
 //! Length and capacity: the calls that are the same for each kind.
-ghost use Rattle.std.specs.Prelude.{◌≡◌, ◌+◌, ◌≤◌, ◌^◌, length};
+ghost use Rattle.std.specs.Prelude.{◌≡◌, ◌+◌, length};
 ghost use Rattle.intaglio_core.specs.Change.{Empties, Reserves, Shrinks, TakesBack};
 ghost use Rattle.intaglio_handle.specs.Seen.{IsChanged, contents_of, seen};
 
@@ -23,7 +23,6 @@ macro_rules! on_table {
 impl AnyTable {
     pub(crate) fn len(&self) -> usize
         ensures count { result ≡ length (contents_of self.now) }
-        ensures few { result ≤ 2 ^ 32 }
     {
         on_table!(self, table => table.len())
     }

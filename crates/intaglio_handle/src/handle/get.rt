@@ -55,7 +55,7 @@ impl Handle {
 }
 
 // Copies bytes to the start of a buffer that has space for them.
-pub(super) fn fill(buffer: &mut [u8], bytes: &[u8])
+fn fill(buffer: &mut [u8], bytes: &[u8])
     ensures copied { buffer.new ≡ filled buffer.old (Some bytes.now) }
 {
     if buffer.len() < bytes.len() {

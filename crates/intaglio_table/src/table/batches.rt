@@ -6,10 +6,9 @@ ghost use Rattle.intaglio_core.specs.Lookup.{FindsEach, FindsEachKey, Keeps, Sto
 ghost use Rattle.intaglio_core.specs.Issue.{interned_all, issue_from};
 ghost use Rattle.intaglio_core.specs.Batch.{IfOverflow, KeepsTable};
 
-use super::{Table, TableOver};
+use super::Table;
 use intaglio_core::{
-    Content, InternError, LookedUpIn, Sought, SoughtIn, Symbol, Work, check_all, get_or_intern_all,
-    intern_all,
+    Content, InternError, LookedUp, Sought, Symbol, Work, check_all, get_or_intern_all, intern_all,
 };
 use std::alloc::AllocError;
 use std::hash::BuildHasher;
@@ -54,12 +53,8 @@ impl<C: Content + Sought<C> + Drop, S: BuildHasher> Table<C, S> {
     }
 }
 
-impl<'q, L: LookedUpIn<'q>, S: BuildHasher> TableOver<L, S>
-where
-    L::Content: Content + SoughtIn<L> + Drop,
-    L::Prepared: Drop,
-{
-    /// Looks up a batch of forms, and returns what [`check_interned`](TableOver::check_interned) returns for
+impl<'q, C: LookedUp<'q> + Sought<C> + Drop, S: BuildHasher> Table<C, S> {
+    /// Looks up a batch of forms, and returns what [`check_interned`](Table::check_interned) returns for
     /// each, in the same order.
     ///
     /// Each form is hashed once. All are hashed before the first is looked up, so the cache misses of several
@@ -76,9 +71,9 @@ where
     /// let found = table.check_all(&["a", "b"])?;
     /// assert!(rt; found.as_slice() == [Some(symbol), None].as_slice());
     /// ```
-    pub fn check_all(&self, forms: &[L::By]) -> Result<Vec<Option<Symbol>>, AllocError>
+    pub fn check_all(&self, forms: &[C::By]) -> Result<Vec<Option<Symbol>>, AllocError>
         ensures { let held = self.now.state.contents in
-            IfOk result (λ found. found.items ≡ map (λ form. first L.Content.key held (L.By.key form)) forms.now) }
+            IfOk result (λ found. found.items ≡ map (λ form. first C.key held (C.By.key form)) forms.now) }
     {
         check_all(self.core.allocator(), &self.core, forms, &mut Work::new())
     }
@@ -86,8 +81,8 @@ where
     /// Interns a batch of forms, all or none, and returns their symbols in the same
     /// order. Only new forms are copied.
     ///
-    /// The symbols are those of [`get_or_intern`](TableOver::get_or_intern) called one by one. Each form is
-    /// hashed once; all are looked up before the first is added, as by [`intern_all`](TableOver::intern_all).
+    /// The symbols are those of [`get_or_intern`](Table::get_or_intern) called one by one. Each form is
+    /// hashed once; all are looked up before the first is added, as by [`intern_all`](Table::intern_all).
     ///
     /// # Errors
     ///
@@ -101,24 +96,24 @@ where
     /// let symbols = table.get_or_intern_all(&["b", "a", "b"])?;
     /// assert!(rt; symbols.as_slice() == [Symbol::new(0), Symbol::new(1), Symbol::new(0)].as_slice());
     /// ```
-    pub fn get_or_intern_all(&mut self, forms: &[L::By]) -> Result<Vec<Symbol>, InternError>
-        ensures symbols { let held = map L.Content.spelling self.old.state.contents in
-            let issued = issue_from L.Content.key_of held (map L.By.form_spelling forms.now) in
+    pub fn get_or_intern_all(&mut self, forms: &[C::By]) -> Result<Vec<Symbol>, InternError>
+        ensures symbols { let held = map C.spelling self.old.state.contents in
+            let issued = issue_from C.key_of held (map C.By.form_spelling forms.now) in
             IfOk result (λ symbols. symbols.items ≡ issued) }
-        ensures held { let held = map L.Content.spelling self.old.state.contents in
-            let all = interned_all L.Content.key_of held (map L.By.form_spelling forms.now) in
-            OnOk result (map L.Content.spelling self.new.state.contents ≡ all) }
+        ensures held { let held = map C.spelling self.old.state.contents in
+            let all = interned_all C.key_of held (map C.By.form_spelling forms.now) in
+            OnOk result (map C.spelling self.new.state.contents ≡ all) }
         ensures found { IfOk result (λ symbols.
-            FindsEachKey L.Content.key self.new.state (map L.By.key forms.now) symbols.items) }
+            FindsEachKey C.key self.new.state (map C.By.key forms.now) symbols.items) }
         ensures stored { IfOk result (λ symbols.
-            StoresEachKey L.Content.key self.new.state (map L.By.key forms.now) symbols.items) }
-        ensures kept { Keeps L.Content.key self.old.state self.new.state }
+            StoresEachKey C.key self.new.state (map C.By.key forms.now) symbols.items) }
+        ensures kept { Keeps C.key self.old.state self.new.state }
         ensures refused { OnErr result (self.new.state.contents ≡ self.old.state.contents) }
-        ensures overflow { let held = map L.Content.spelling self.old.state.contents in
-            let all = interned_all L.Content.key_of held (map L.By.form_spelling forms.now) in
+        ensures overflow { let held = map C.spelling self.old.state.contents in
+            let all = interned_all C.key_of held (map C.By.form_spelling forms.now) in
             IfErr result (λ e. IfOverflow e (self.old.state.limit < length all)) }
         ensures table { let hash = hash_of S.BuildHasher S.Hasher.Hasher in
-            KeepsTable L.Content.key (hash self.old.hasher) self.old.state (hash self.new.hasher) self.new.state }
+            KeepsTable C.key (hash self.old.hasher) self.old.state (hash self.new.hasher) self.new.state }
     {
         let alloc = self.core.allocator();
         get_or_intern_all(alloc, &mut self.core, forms, &mut Work::new())

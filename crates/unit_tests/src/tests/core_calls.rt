@@ -1,6 +1,6 @@
 //! Each public call of `Core`, made once on a table with random keys.
 use super::assertions::same;
-use intaglio::{Call, Core, FormInterner, Mark, RoomError, StrContent, Symbol, Work, run};
+use intaglio::{Call, Core, Interner, Mark, RoomError, StrContent, Symbol, Work, run};
 use std::alloc::Global;
 use std::hash::RandomState;
 use std::process::Abort;
@@ -137,7 +137,7 @@ fn resizes(rt: &impl Abort, table: &mut Table) {
 fn cuts(rt: &impl Abort, table: &mut Table) {
     same(
         rt,
-        (table.mark(), FormInterner::mark(table)),
+        (table.mark(), Interner::mark(table)),
         (Mark::new(4), Mark::new(4)),
     );
     same(

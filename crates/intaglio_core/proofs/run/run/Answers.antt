@@ -39,28 +39,28 @@ pub returns-clause-issues : goal.returns-clause-issues
 returns-clause-issues g c = λ cs empty interns none.
     let e : c.loop-call.yielded ≡ map Intern cs = grind (arith, common_steps, c.in-None.ensures.steps, c.loop-call.invariant.whole) in
     let ran = c.loop-call.invariant.ran in
-    rw (← empty) (Runs-issue g.T.Content.Keyed.key g.T.Content.Content.spelling (g.T.FormInterner.hash c.args.table.now) _ _ cs _ ran.0 (rw e at ran.2) none)
+    rw (← empty) (Runs-issue g.T.Content.Keyed.key g.T.Content.Content.spelling (g.T.Interner.hash c.args.table.now) _ _ cs _ ran.0 (rw e at ran.2) none)
 
 pub returns-clause-hashes : goal.returns-clause-hashes
 returns-clause-hashes g c =
     let ran = c.loop-call.invariant.ran in
     let all : c.loop-call.yielded ≡ c.args.calls.items = grind (arith, common_steps, c.in-None.ensures.steps, c.loop-call.invariant.whole) in
-    (ran.0, ran.1, rw (← all) (Runs-hash g.T.Content.Keyed.key (g.T.FormInterner.hash c.args.table.now) g.T.Content.Content.spelling _ _ c.loop-call.yielded _ ran.0 ran.2))
+    (ran.0, ran.1, rw (← all) (Runs-hash g.T.Content.Keyed.key (g.T.Interner.hash c.args.table.now) g.T.Content.Content.spelling _ _ c.loop-call.yielded _ ran.0 ran.2))
 
 pub returns-clause-growth : goal.returns-clause-growth
 returns-clause-growth g c =
     let ran = c.loop-call.invariant.ran in
     let all : c.loop-call.yielded ≡ c.args.calls.items = grind (arith, common_steps, c.in-None.ensures.steps, c.loop-call.invariant.whole) in
-    (ran.0, ran.1, λ keep. Runs-place g.T.Content.Keyed.key (g.T.FormInterner.hash c.args.table.now) g.T.Content.Content.spelling _ _ c.loop-call.yielded _ ran.0 (rw all keep) ran.2)
+    (ran.0, ran.1, λ keep. Runs-place g.T.Content.Keyed.key (g.T.Interner.hash c.args.table.now) g.T.Content.Content.spelling _ _ c.loop-call.yielded _ ran.0 (rw all keep) ran.2)
 
 pub returns-clause-room : goal.returns-clause-room
 returns-clause-room g c = λ cs interns few.
     let e : c.loop-call.yielded ≡ map Intern cs = grind (arith, common_steps, c.in-None.ensures.steps, c.loop-call.invariant.whole) in
     let ran = c.loop-call.invariant.ran in
-    Runs-room g.T.Content.Keyed.key (g.T.FormInterner.hash c.args.table.now) g.T.Content.Content.spelling _ _ cs _ ran.0 (rw e at ran.2) few
+    Runs-room g.T.Content.Keyed.key (g.T.Interner.hash c.args.table.now) g.T.Content.Content.spelling _ _ cs _ ran.0 (rw e at ran.2) few
 
 pub returns-clause-capacity : goal.returns-clause-capacity
 returns-clause-capacity g c =
     let ran = c.loop-call.invariant.ran in
     let all : c.loop-call.yielded ≡ c.args.calls.items = grind (arith, common_steps, c.in-None.ensures.steps, c.loop-call.invariant.whole) in
-    λ keep. Runs-roomier g.T.Content.Keyed.key g.T.Content.Content.spelling (g.T.FormInterner.hash c.args.table.now) _ _ c.loop-call.yielded _ ran.0 (rw all keep) ran.2
+    λ keep. Runs-roomier g.T.Content.Keyed.key g.T.Content.Content.spelling (g.T.Interner.hash c.args.table.now) _ _ c.loop-call.yielded _ ran.0 (rw all keep) ran.2

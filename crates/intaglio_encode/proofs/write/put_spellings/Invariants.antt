@@ -7,4 +7,4 @@ use Rattle.intaglio_encode.proofs.write.put_spellings.Given as goal
 
 abbrev pub invariant-loop-number : goal.invariant-loop-number
 invariant-loop-number g l = Appends (append_known (g.W.Write.contents l.initial.writer) l.initial.block.items) (append_known (g.W.Write.contents l.writer) l.block.items)
-    (flat_map spelling_line (map g.T.Content.Content.spelling (take l.number (g.T.FormInterner.state l.table).contents)))
+    (flat_map spelling_line (map g.T.Content.Content.spelling (take l.number (g.T.Interner.state l.table).contents)))

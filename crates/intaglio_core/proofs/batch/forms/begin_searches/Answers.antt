@@ -8,7 +8,7 @@ loop-place-preserved g c =
     let lt : c.loop-place.place < length c.args.hashes.now = search rules in
     let more = take_more c.args.hashes.now c.loop-place.place 0 lt in
     record {
-      begun = rw (c.push_reserved.ensures.items, more) (AreBegun-push g.T.Content.Keyed.key (g.T.FormInterner.hash c.args.table.now) (g.T.FormInterner.state c.args.table.now) _ _ _ c.begin_search.result c.loop-place.invariant.begun c.begin_search.ensures);
+      begun = rw (c.push_reserved.ensures.items, more) (AreBegun-push g.T.Content.Keyed.key (g.T.Interner.hash c.args.table.now) (g.T.Interner.state c.args.table.now) _ _ _ c.begin_search.result c.loop-place.invariant.begun c.begin_search.ensures);
       count = search rules;
       room = search rules;
     }

@@ -7,14 +7,14 @@ use Rattle.intaglio_core.proofs.batch.forms.end_searches.Goals as goal
 pub bounds-begun-place : goal.bounds-begun-place
 bounds-begun-place g c =
     let lt : c.loop-place.place < length c.args.forms.now = search rules in
-    let same = AreBegun-length g.T.Content.Keyed.key (g.T.FormInterner.hash c.args.table.now) (g.T.FormInterner.state c.args.table.now) (λ q. g.T.FormInterner.hash c.args.table.now (g.Q.Keyed.key q)) c.args.forms.now c.args.begun.now c.requires.begun in
+    let same = AreBegun-length g.T.Content.Keyed.key (g.T.Interner.hash c.args.table.now) (g.T.Interner.state c.args.table.now) (λ q. g.T.Interner.hash c.args.table.now (g.Q.Keyed.key q)) c.args.forms.now c.args.begun.now c.requires.begun in
     rw same lt
 
 pub end_search-requires : goal.end_search-requires
 end_search-requires g c =
     let lt : c.loop-place.place < length c.args.forms.now = search rules in
     record {
-      begun = begun-at g.T.Content.Keyed.key (g.T.FormInterner.hash c.args.table.now) (g.T.FormInterner.state c.args.table.now) (λ q. g.T.FormInterner.hash c.args.table.now (g.Q.Keyed.key q)) c.args.forms.now c.args.begun.now c.loop-place.place c.index-forms-place.result c.index-begun-place.result c.requires.begun lt c.index-forms-place.is c.index-begun-place.is;
+      begun = begun-at g.T.Content.Keyed.key (g.T.Interner.hash c.args.table.now) (g.T.Interner.state c.args.table.now) (λ q. g.T.Interner.hash c.args.table.now (g.Q.Keyed.key q)) c.args.forms.now c.args.begun.now c.loop-place.place c.index-forms-place.result c.index-begun-place.result c.requires.begun lt c.index-forms-place.is c.index-begun-place.is;
     }
 
 pub loop-place-preserved : goal.loop-place-preserved
@@ -23,7 +23,7 @@ loop-place-preserved g c =
     let more = next-part c.args.forms.now c.loop-place.place c.index-forms-place.result lt c.index-forms-place.is in
     record {
       symbols = rw (c.push_reserved.ensures.items, more, map-append, c.loop-place.invariant.symbols, c.end_search.ensures.found) refl;
-      cost = rw more (Adds-search_form g.T.Content.Keyed.key g.Q.Keyed.key (g.T.FormInterner.hash c.args.table.now) (g.T.FormInterner.state c.args.table.now) _ _ _ _ _ c.loop-place.invariant.cost c.end_search.ensures.cost);
+      cost = rw more (Adds-search_form g.T.Content.Keyed.key g.Q.Keyed.key (g.T.Interner.hash c.args.table.now) (g.T.Interner.state c.args.table.now) _ _ _ _ _ c.loop-place.invariant.cost c.end_search.ensures.cost);
       count = search rules;
       room = search rules;
     }

@@ -6,8 +6,8 @@ use Rattle.intaglio_core.proofs.batch.forms.end_searches.Given as goal
 
 abbrev pub invariant-loop-place : goal.invariant-loop-place
 invariant-loop-place g l = record {
-  symbols : l.found.items ≡ map (λ q. first g.T.Content.Keyed.key (g.T.FormInterner.state l.table).contents (g.Q.Keyed.key q)) (take l.place l.forms);
-  cost : Adds l.initial.work.events l.work.events (SearchesForms g.T.Content.Keyed.key g.Q.Keyed.key (g.T.FormInterner.hash l.table) (g.T.FormInterner.state l.table) (take l.place l.forms));
+  symbols : l.found.items ≡ map (λ q. first g.T.Content.Keyed.key (g.T.Interner.state l.table).contents (g.Q.Keyed.key q)) (take l.place l.forms);
+  cost : Adds l.initial.work.events l.work.events (SearchesForms g.T.Content.Keyed.key g.Q.Keyed.key (g.T.Interner.hash l.table) (g.T.Interner.state l.table) (take l.place l.forms));
   count : vec_len l.found ≡ l.place;
   room : length l.forms ≤ vec_capacity l.found;
 }

@@ -12,19 +12,19 @@ use Rattle.intaglio_handle.proofs.AsBytes.{found, c_str_key, ended_key}
 use Rattle.intaglio_handle.proofs.any_table.AnyTable.find.Goals as goal
 
 pub returns-in_ok-text_of-in-Text : goal.returns-in_ok-text_of-in-Text
-returns-in_ok-text_of-in-Text c = record { found = found kind.Text str_content_bytes _ (λ _. refl) _ _ _ _ _ _ (ap seen c.in-Text.is) c.in_ok-text_of-in-Text.ensures.faultless (ap (λ (b : List ℕ). b ∷ []) c.in_ok-text_of-in-Text.ensures.ok) c.check_interned.ensures.found }
+returns-in_ok-text_of-in-Text c = record { found = found kind.Text str_content_bytes _ (λ _. refl) _ _ _ _ _ (ap seen c.in-Text.is) c.in_ok-text_of-in-Text.ensures.faultless (ap (λ (b : List ℕ). b ∷ []) c.in_ok-text_of-in-Text.ensures.ok) c.check_interned.ensures.found }
 
 pub returns-in-Bytes : goal.returns-in-Bytes
-returns-in-Bytes c = record { found = found kind.Bytes bytes_content_bytes _ (λ _. refl) _ _ _ _ _ _ (ap seen c.in-Bytes.is) refl refl c.check_interned-in-Bytes.ensures.found }
+returns-in-Bytes c = record { found = found kind.Bytes bytes_content_bytes _ (λ _. refl) _ _ _ _ _ (ap seen c.in-Bytes.is) refl refl c.check_interned-in-Bytes.ensures.found }
 
 pub returns-in_ok-c_str_of-in-CStr : goal.returns-in_ok-c_str_of-in-CStr
-returns-in_ok-c_str_of-in-CStr c = record { found = found kind.CStr c_str_bytes _ c_str_key _ _ _ _ _ _ (ap seen c.in-CStr.is) c.in_ok-c_str_of-in-CStr.ensures.faultless (ended_key _ _ c.in_ok-c_str_of-in-CStr.ensures.ok) c.check_interned-in-CStr.ensures.found }
+returns-in_ok-c_str_of-in-CStr c = record { found = found kind.CStr c_str_bytes _ c_str_key _ _ _ _ _ (ap seen c.in-CStr.is) c.in_ok-c_str_of-in-CStr.ensures.faultless (ended_key _ _ c.in_ok-c_str_of-in-CStr.ensures.ok) c.check_interned-in-CStr.ensures.found }
 
 pub returns-in_ok-text_of-in-Path : goal.returns-in_ok-text_of-in-Path
-returns-in_ok-text_of-in-Path c = record { found = found kind.Path path_content_bytes _ (λ _. refl) _ _ _ _ _ _ (ap seen c.in-Path.is) c.in_ok-text_of-in-Path.ensures.faultless (ap components (c.new.ensures ∙ c.in_ok-text_of-in-Path.ensures.ok)) c.check_interned-in-Path.ensures.found }
+returns-in_ok-text_of-in-Path c = record { found = found kind.Path path_content_bytes _ (λ _. refl) _ _ _ _ _ (ap seen c.in-Path.is) c.in_ok-text_of-in-Path.ensures.faultless (ap components (c.new.ensures ∙ c.in_ok-text_of-in-Path.ensures.ok)) c.check_interned-in-Path.ensures.found }
 
 pub returns-in_ok-text_of-in-OsStr : goal.returns-in_ok-text_of-in-OsStr
-returns-in_ok-text_of-in-OsStr c = record { found = found kind.OsStr os_str_content_bytes _ (λ _. refl) _ _ _ _ _ _ (ap seen c.in-OsStr.is) c.in_ok-text_of-in-OsStr.ensures.faultless (ap (λ (b : List ℕ). b ∷ []) c.in_ok-text_of-in-OsStr.ensures.ok) c.check_interned-in-OsStr.ensures.found }
+returns-in_ok-text_of-in-OsStr c = record { found = found kind.OsStr os_str_content_bytes _ (λ _. refl) _ _ _ _ _ (ap seen c.in-OsStr.is) c.in_ok-text_of-in-OsStr.ensures.faultless (ap (λ (b : List ℕ). b ∷ []) c.in_ok-text_of-in-OsStr.ensures.ok) c.check_interned-in-OsStr.ensures.found }
 
 pub returns-in-BStr : goal.returns-in-BStr
-returns-in-BStr c = record { found = found kind.BStr bstr_content_bytes _ (λ _. refl) _ _ _ _ _ _ (ap seen c.in-BStr.is) refl (ap (λ (b : List ℕ). b ∷ []) c.new-in-BStr.ensures) c.check_interned-in-BStr.ensures.found }
+returns-in-BStr c = record { found = found kind.BStr bstr_content_bytes _ (λ _. refl) _ _ _ _ _ (ap seen c.in-BStr.is) refl (ap (λ (b : List ℕ). b ∷ []) c.new-in-BStr.ensures) c.check_interned-in-BStr.ensures.found }

@@ -12,31 +12,31 @@ use Rattle.intaglio_handle.proofs.AsBytes.{interned_form, refused_form, c_str_ke
 use Rattle.intaglio_handle.proofs.any_table.AnyTable.intern.Goals as goal
 
 pub returns-in_ok-text_of-in-Text : goal.returns-in_ok-text_of-in-Text
-returns-in_ok-text_of-in-Text c = record { step = interned_form kind.Text str_content_bytes _ (λ _. refl) _ _ _ _ c.get_or_intern.new.self c.args.bytes.now _ _ _ _ (ap seen c.in-Text.is) c.get_or_intern.ensures.hasher c.in_ok-text_of-in-Text.ensures.faultless (ap (λ (b : List ℕ). b ∷ []) c.in_ok-text_of-in-Text.ensures.ok) (λ x is. is ∙ c.in_ok-text_of-in-Text.ensures.ok) c.get_or_intern.ensures.step c.symbol_answer.ensures.answer }
+returns-in_ok-text_of-in-Text c = record { step = interned_form kind.Text str_content_bytes _ (λ _. refl) _ _ _ c.get_or_intern.new.self c.args.bytes.now _ _ _ _ (ap seen c.in-Text.is) c.get_or_intern.ensures.hasher c.in_ok-text_of-in-Text.ensures.faultless (ap (λ (b : List ℕ). b ∷ []) c.in_ok-text_of-in-Text.ensures.ok) (λ x is. is ∙ c.in_ok-text_of-in-Text.ensures.ok) c.get_or_intern.ensures.step c.symbol_answer.ensures.answer }
 
 pub returns-in-Bytes : goal.returns-in-Bytes
-returns-in-Bytes c = record { step = interned_form kind.Bytes bytes_content_bytes _ (λ _. refl) _ _ _ _ c.get_or_intern-in-Bytes.new.self c.args.bytes.now _ _ _ _ (ap seen c.in-Bytes.is) c.get_or_intern-in-Bytes.ensures.hasher refl refl (λ x is. is) c.get_or_intern-in-Bytes.ensures.step c.symbol_answer-in-Bytes.ensures.answer }
+returns-in-Bytes c = record { step = interned_form kind.Bytes bytes_content_bytes _ (λ _. refl) _ _ _ c.get_or_intern-in-Bytes.new.self c.args.bytes.now _ _ _ _ (ap seen c.in-Bytes.is) c.get_or_intern-in-Bytes.ensures.hasher refl refl (λ x is. is) c.get_or_intern-in-Bytes.ensures.step c.symbol_answer-in-Bytes.ensures.answer }
 
 pub returns-in_ok-c_str_of-in-CStr : goal.returns-in_ok-c_str_of-in-CStr
-returns-in_ok-c_str_of-in-CStr c = record { step = interned_form kind.CStr c_str_bytes _ c_str_key _ _ _ _ c.get_or_intern-in-CStr.new.self c.args.bytes.now _ _ _ _ (ap seen c.in-CStr.is) c.get_or_intern-in-CStr.ensures.hasher c.in_ok-c_str_of-in-CStr.ensures.faultless (ended_key _ _ c.in_ok-c_str_of-in-CStr.ensures.ok) (λ x is. ap (λ (b : List ℕ). b ++ 0 ∷ []) is ∙ c.in_ok-c_str_of-in-CStr.ensures.ok) c.get_or_intern-in-CStr.ensures.step c.symbol_answer-in-CStr.ensures.answer }
+returns-in_ok-c_str_of-in-CStr c = record { step = interned_form kind.CStr c_str_bytes _ c_str_key _ _ _ c.get_or_intern-in-CStr.new.self c.args.bytes.now _ _ _ _ (ap seen c.in-CStr.is) c.get_or_intern-in-CStr.ensures.hasher c.in_ok-c_str_of-in-CStr.ensures.faultless (ended_key _ _ c.in_ok-c_str_of-in-CStr.ensures.ok) (λ x is. ap (λ (b : List ℕ). b ++ 0 ∷ []) is ∙ c.in_ok-c_str_of-in-CStr.ensures.ok) c.get_or_intern-in-CStr.ensures.step c.symbol_answer-in-CStr.ensures.answer }
 
 pub returns-in_ok-text_of-in-Path : goal.returns-in_ok-text_of-in-Path
-returns-in_ok-text_of-in-Path c = record { step = interned_form kind.Path path_content_bytes _ (λ _. refl) _ _ _ _ c.get_or_intern-in-Path.new.self c.args.bytes.now _ _ _ _ (ap seen c.in-Path.is) c.get_or_intern-in-Path.ensures.hasher c.in_ok-text_of-in-Path.ensures.faultless (ap components (c.new.ensures ∙ c.in_ok-text_of-in-Path.ensures.ok)) (λ x is. is ∙ c.new.ensures ∙ c.in_ok-text_of-in-Path.ensures.ok) c.get_or_intern-in-Path.ensures.step c.symbol_answer-in-Path.ensures.answer }
+returns-in_ok-text_of-in-Path c = record { step = interned_form kind.Path path_content_bytes _ (λ _. refl) _ _ _ c.get_or_intern-in-Path.new.self c.args.bytes.now _ _ _ _ (ap seen c.in-Path.is) c.get_or_intern-in-Path.ensures.hasher c.in_ok-text_of-in-Path.ensures.faultless (ap components (c.new.ensures ∙ c.in_ok-text_of-in-Path.ensures.ok)) (λ x is. is ∙ c.new.ensures ∙ c.in_ok-text_of-in-Path.ensures.ok) c.get_or_intern-in-Path.ensures.step c.symbol_answer-in-Path.ensures.answer }
 
 pub returns-in_ok-text_of-in-OsStr : goal.returns-in_ok-text_of-in-OsStr
-returns-in_ok-text_of-in-OsStr c = record { step = interned_form kind.OsStr os_str_content_bytes _ (λ _. refl) _ _ _ _ c.get_or_intern-in-OsStr.new.self c.args.bytes.now _ _ _ _ (ap seen c.in-OsStr.is) c.get_or_intern-in-OsStr.ensures.hasher c.in_ok-text_of-in-OsStr.ensures.faultless (ap (λ (b : List ℕ). b ∷ []) c.in_ok-text_of-in-OsStr.ensures.ok) (λ x is. is ∙ c.in_ok-text_of-in-OsStr.ensures.ok) c.get_or_intern-in-OsStr.ensures.step c.symbol_answer-in-OsStr.ensures.answer }
+returns-in_ok-text_of-in-OsStr c = record { step = interned_form kind.OsStr os_str_content_bytes _ (λ _. refl) _ _ _ c.get_or_intern-in-OsStr.new.self c.args.bytes.now _ _ _ _ (ap seen c.in-OsStr.is) c.get_or_intern-in-OsStr.ensures.hasher c.in_ok-text_of-in-OsStr.ensures.faultless (ap (λ (b : List ℕ). b ∷ []) c.in_ok-text_of-in-OsStr.ensures.ok) (λ x is. is ∙ c.in_ok-text_of-in-OsStr.ensures.ok) c.get_or_intern-in-OsStr.ensures.step c.symbol_answer-in-OsStr.ensures.answer }
 
 pub returns-in-BStr : goal.returns-in-BStr
-returns-in-BStr c = record { step = interned_form kind.BStr bstr_content_bytes _ (λ _. refl) _ _ _ _ c.get_or_intern-in-BStr.new.self c.args.bytes.now _ _ _ _ (ap seen c.in-BStr.is) c.get_or_intern-in-BStr.ensures.hasher refl (ap (λ (b : List ℕ). b ∷ []) c.new-in-BStr.ensures) (λ x is. is ∙ c.new-in-BStr.ensures) c.get_or_intern-in-BStr.ensures.step c.symbol_answer-in-BStr.ensures.answer }
+returns-in-BStr c = record { step = interned_form kind.BStr bstr_content_bytes _ (λ _. refl) _ _ _ c.get_or_intern-in-BStr.new.self c.args.bytes.now _ _ _ _ (ap seen c.in-BStr.is) c.get_or_intern-in-BStr.ensures.hasher refl (ap (λ (b : List ℕ). b ∷ []) c.new-in-BStr.ensures) (λ x is. is ∙ c.new-in-BStr.ensures) c.get_or_intern-in-BStr.ensures.step c.symbol_answer-in-BStr.ensures.answer }
 
 pub returns-in_err-text_of-in-Text : goal.returns-in_err-text_of-in-Text
-returns-in_err-text_of-in-Text c = record { step = refused_form kind.Text str_content_bytes _ _ _ _ _ _ (ap seen c.in-Text.is) c.in_err-text_of-in-Text.ensures.err (let e : c.from_residual.result ≡ Err c.in_err-text_of-in-Text.field-0.0 = search rules in e) }
+returns-in_err-text_of-in-Text c = record { step = refused_form kind.Text str_content_bytes _ _ _ _ _ (ap seen c.in-Text.is) c.in_err-text_of-in-Text.ensures.err (let e : c.from_residual.result ≡ Err c.in_err-text_of-in-Text.field-0.0 = search rules in e) }
 
 pub returns-in_err-c_str_of-in-CStr : goal.returns-in_err-c_str_of-in-CStr
-returns-in_err-c_str_of-in-CStr c = record { step = refused_form kind.CStr c_str_bytes _ _ _ _ _ _ (ap seen c.in-CStr.is) c.in_err-c_str_of-in-CStr.ensures.err (let e : c.from_residual-in_err-c_str_of-in-CStr.result ≡ Err c.in_err-c_str_of-in-CStr.field-0.0 = search rules in e) }
+returns-in_err-c_str_of-in-CStr c = record { step = refused_form kind.CStr c_str_bytes _ _ _ _ _ (ap seen c.in-CStr.is) c.in_err-c_str_of-in-CStr.ensures.err (let e : c.from_residual-in_err-c_str_of-in-CStr.result ≡ Err c.in_err-c_str_of-in-CStr.field-0.0 = search rules in e) }
 
 pub returns-in_err-text_of-in-Path : goal.returns-in_err-text_of-in-Path
-returns-in_err-text_of-in-Path c = record { step = refused_form kind.Path path_content_bytes _ _ _ _ _ _ (ap seen c.in-Path.is) c.in_err-text_of-in-Path.ensures.err (let e : c.from_residual-in_err-text_of-in-Path.result ≡ Err c.in_err-text_of-in-Path.field-0.0 = search rules in e) }
+returns-in_err-text_of-in-Path c = record { step = refused_form kind.Path path_content_bytes _ _ _ _ _ (ap seen c.in-Path.is) c.in_err-text_of-in-Path.ensures.err (let e : c.from_residual-in_err-text_of-in-Path.result ≡ Err c.in_err-text_of-in-Path.field-0.0 = search rules in e) }
 
 pub returns-in_err-text_of-in-OsStr : goal.returns-in_err-text_of-in-OsStr
-returns-in_err-text_of-in-OsStr c = record { step = refused_form kind.OsStr os_str_content_bytes _ _ _ _ _ _ (ap seen c.in-OsStr.is) c.in_err-text_of-in-OsStr.ensures.err (let e : c.from_residual-in_err-text_of-in-OsStr.result ≡ Err c.in_err-text_of-in-OsStr.field-0.0 = search rules in e) }
+returns-in_err-text_of-in-OsStr c = record { step = refused_form kind.OsStr os_str_content_bytes _ _ _ _ _ (ap seen c.in-OsStr.is) c.in_err-text_of-in-OsStr.ensures.err (let e : c.from_residual-in_err-text_of-in-OsStr.result ≡ Err c.in_err-text_of-in-OsStr.field-0.0 = search rules in e) }
