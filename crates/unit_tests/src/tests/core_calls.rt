@@ -39,20 +39,20 @@ fn replies(
     format!(in alloc; "{replies:?}").expect(rt, "memory")
 }
 
-fn twelve_calls<C: From<&'static str> + Drop>(rt: &impl Abort, alloc: Global) -> Vec<Call<C>> {
+fn twelve_calls(rt: &impl Abort, alloc: Global) -> Vec<Call<StrContent>> {
     vec![in alloc;
-        Call::Intern(C::from("abc")),
-        Call::Intern(C::from("abc")),
-        Call::Check(C::from("xyz")),
-        Call::GetInterned(C::from("abc")),
-        Call::IsInterned(C::from("xyz")),
+        Call::Intern(StrContent::from("abc")),
+        Call::Intern(StrContent::from("abc")),
+        Call::Check(StrContent::from("xyz")),
+        Call::GetInterned(StrContent::from("abc")),
+        Call::IsInterned(StrContent::from("xyz")),
         Call::Contains(Symbol::new(1)),
         Call::Get(Symbol::new(0)),
         Call::Len,
         Call::IsEmpty,
         Call::Clear,
         Call::IsEmpty,
-        Call::Intern(C::from("xyz")),
+        Call::Intern(StrContent::from("xyz")),
     ]
     .expect(rt, "memory")
 }
@@ -61,7 +61,7 @@ const TWELVE_REPLIES: &str = "[Symbol(Some(Symbol(0))), Symbol(Some(Symbol(0))),
     Pair(Some((Symbol(0), [97, 98, 99]))), Bool(false), Bool(false), Spelling(Some([97, 98, 99])), \
     Count(1), Bool(false), Done, Bool(true), Symbol(Some(Symbol(0)))]";
 
-fn four_calls<C: Drop>(rt: &impl Abort, alloc: Global) -> Vec<Call<C>> {
+fn four_calls(rt: &impl Abort, alloc: Global) -> Vec<Call<StrContent>> {
     vec![in alloc;
         Call::ShrinkTo(2),
         Call::ShrinkToFit,
@@ -81,36 +81,56 @@ fn twelve_calls_have_twelve_replies(rt: HostRuntime) {
     same(&rt, four.as_str(), "[Done, Done, Done, Done]");
 }
 
-// Makes the calls by forms, and prints their replies.
-fn replies_by_forms<T: SpelledInterner>(
+fn calls_by_forms<'a>(
+    rt: &impl Abort,
+    alloc: Global,
+    text: &'a str,
+    other: &'a str,
+) -> Vec<Call<&'a str>> {
+    let mut calls = Vec::with_capacity(alloc, 14).expect(rt, "memory");
+    calls.push_reserved(Call::Intern(text));
+    calls.push_reserved(Call::Intern(text));
+    calls.push_reserved(Call::Check(other));
+    calls.push_reserved(Call::GetInterned(text));
+    calls.push_reserved(Call::IsInterned(other));
+    calls.push_reserved(Call::Contains(Symbol::new(1)));
+    calls.push_reserved(Call::Get(Symbol::new(0)));
+    calls.push_reserved(Call::Len);
+    calls.push_reserved(Call::TakeBack(Mark::new(0)));
+    calls.push_reserved(Call::IsEmpty);
+    calls.push_reserved(Call::Reserve(1));
+    calls.push_reserved(Call::Clear);
+    calls.push_reserved(Call::ShrinkTo(2));
+    calls.push_reserved(Call::ShrinkToFit);
+    calls
+}
+
+const REPLIES_BY_FORMS: &str = "[Symbol(Some(Symbol(0))), Symbol(Some(Symbol(0))), Symbol(None), \
+    Pair(Some((Symbol(0), [97, 98, 99]))), Bool(false), Bool(false), Spelling(Some([97, 98, 99])), \
+    Count(1), Done, Bool(true), Done, Done, Done, Done]";
+
+fn runs_by_forms<'a, T: SpelledInterner>(
     rt: &impl Abort,
     alloc: Global,
     table: &mut T,
-    calls: Vec<Call<&'static str>>,
-) -> String
+    text: &'a str,
+    other: &'a str,
+)
 where
-    &'static str: CopiedTo<T::Store>,
+    &'a str: CopiedTo<T::Store>,
 {
+    let calls = calls_by_forms(rt, alloc, text, other);
     let replies = run_forms(alloc, table, calls, &mut Work::new()).expect(rt, "memory");
-    format!(in alloc; "{replies:?}").expect(rt, "memory")
-}
-
-fn runs_by_forms<T: SpelledInterner>(rt: &impl Abort, alloc: Global, table: &mut T)
-where
-    &'static str: CopiedTo<T::Store>,
-{
-    let twelve = replies_by_forms(rt, alloc, table, twelve_calls(rt, alloc));
-    same(rt, twelve.as_str(), TWELVE_REPLIES);
-    let four = replies_by_forms(rt, alloc, table, four_calls(rt, alloc));
-    same(rt, four.as_str(), "[Done, Done, Done, Done]");
+    let printed = format!(in alloc; "{replies:?}").expect(rt, "memory");
+    same(rt, printed.as_str(), REPLIES_BY_FORMS);
 }
 
 #[test]
 fn calls_by_forms_have_the_same_replies(rt: HostRuntime) {
     let mut packed = packed::SymbolTable::new(rt.alloc()).expect(&rt, "a table");
-    runs_by_forms(&rt, rt.alloc(), &mut packed);
+    runs_by_forms(&rt, rt.alloc(), &mut packed, "abc", "xyz");
     let mut owned = SymbolTable::new(rt.alloc()).expect(&rt, "a table");
-    runs_by_forms(&rt, rt.alloc(), &mut owned);
+    runs_by_forms(&rt, rt.alloc(), &mut owned, "abc", "xyz");
 }
 
 fn fills(rt: &impl Abort, table: &mut Table, texts: &'static str) {
