@@ -24,8 +24,8 @@ use std::{io, str};
 /// before its first occurrence.
 ///
 /// The builder is that of the table in which the lines are interned, the keys are those of the frozen table
-/// ([`freeze`]). All is made before anything is written. How far it is, is told to `progress`, on which nothing
-/// else depends.
+/// ([`freeze`]). All is made before anything is written. Each stage is reported to `progress`; what is written
+/// doesn't depend on it.
 ///
 /// # Errors
 ///

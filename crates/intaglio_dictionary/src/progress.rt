@@ -1,6 +1,6 @@
 //! How far the freezing of an input is.
 
-/// What is told how far the freezing of an input is. No clause is about it: nothing that is written depends on it.
+/// Receives reports on how far the freezing of an input is. What is written doesn't depend on it.
 pub trait Progress {
     /// The lines are interned, and this many are distinct; next, they are frozen.
     fn interned(&mut self, count: usize);
