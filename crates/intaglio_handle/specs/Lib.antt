@@ -7,4 +7,5 @@ pub mod Kinds
 pub mod Lent
 pub mod Owned
 pub mod Seen
+pub mod Sizes
 pub mod Steps

@@ -12,6 +12,21 @@ pub enum Change {
     TakeBack(usize),
 }
 
+impl Change {
+    // The name that is printed for the call. Std's own shrink of a list doesn't report a failed
+    // allocation, and the list then keeps its capacity, so no call reports it if the last
+    // request of a shrink is refused.
+    fn name(self) -> &'static str {
+        match self {
+            Change::Reserve(_) => "reserve",
+            Change::ShrinkTo(_) => "shrink",
+            Change::ShrinkToFit => "shrink",
+            Change::Clear => "clear",
+            Change::TakeBack(_) => "take_back",
+        }
+    }
+}
+
 /// A call.
 #[derive(Drop)]
 pub enum Ask<C> {
@@ -21,17 +36,12 @@ pub enum Ask<C> {
 }
 
 impl<C> Ask<C> {
-    /// The name that is printed for the call. Std's own shrink of a list doesn't report a failed
-    /// allocation, and the list then keeps its capacity, so no call reports it if the last
-    /// request of a shrink is refused.
+    /// The name that is printed for the call.
     pub fn name(&self) -> &'static str {
         match self {
             Ask::Intern(_) => "intern",
             Ask::GetInterned(_) => "get_interned",
-            Ask::Change(Change::Reserve(_)) => "reserve",
-            Ask::Change(Change::ShrinkTo(_) | Change::ShrinkToFit) => "shrink",
-            Ask::Change(Change::Clear) => "clear",
-            Ask::Change(Change::TakeBack(_)) => "take_back",
+            Ask::Change(change) => change.name(),
         }
     }
 
