@@ -9,8 +9,8 @@ use Rattle.intaglio.specs.Keys.{str_key}
 use Rattle.intaglio.specs.StrContent.{str_content_bytes}
 use Rattle.intaglio.specs.Types.{StrContent}
 use Rattle.intaglio.specs.Pattern.{SamePattern}
-use Rattle.intaglio.proofs.CallerLaws.{first-key, issued-each}
-use Rattle.intaglio.proofs.PatternLaw.{pattern-law}
+use Rattle.intaglio.proofs.CallerLaws.{first_key, issued_each}
+use Rattle.intaglio.proofs.PatternLaw.{pattern_law}
 use Rattle.example_column.specs.Rows.{text_of, rows_of, row_key}
 
 -- the rows of contents
@@ -25,8 +25,8 @@ text-key (Some x) c e = cc
 head-text : (held cs : List StrContent) (c : StrContent) → text_of (interned_all str_key held (c ∷ cs)) (issued str_key held c) ≡ str_content_bytes c
 head-text held cs c =
     let all = interned_all str_key held (c ∷ cs) in
-    let found = issued-each str_key held (c ∷ cs) 0 c (issued str_key held c) refl refl in
-    text-key (slice_get all (issued str_key held c)) c (first-key str_key all (str_key c) (issued str_key held c) found)
+    let found = issued_each str_key held (c ∷ cs) 0 c (issued str_key held c) refl refl in
+    text-key (slice_get all (issued str_key held c)) c (first_key str_key all (str_key c) (issued str_key held c) found)
 
 -- the codes that contents are given stand for their texts
 pub decoded : (held cs : List StrContent) → rows_of (interned_all str_key held cs) (issue_from str_key held cs) ≡ rows cs
@@ -71,5 +71,5 @@ module _ (old held rows_in : List StrContent) (codes : List ℕ) (symbols : code
 -- rows have the same codes exactly if they have the same pattern
 pub same-codes : (ours theirs : List (List ℕ)) (codes others : List ℕ) → codes ≡ issue row_key ours → others ≡ issue row_key theirs → (codes ≡ others) ↔ SamePattern row_key row_key ours theirs
 same-codes ours theirs codes others e f =
-    let law = pattern-law row_key row_key ours theirs in
+    let law = pattern_law row_key row_key ours theirs in
     (λ same. law.0 (sym e ∙ same ∙ f), λ pattern. e ∙ law.1 pattern ∙ sym f)

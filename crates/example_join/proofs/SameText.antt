@@ -6,16 +6,16 @@ use Rattle.intaglio.specs.Keys.{str_key}
 use Rattle.intaglio.specs.State.{State, IsValid, first, spelling_at}
 use Rattle.intaglio.specs.StrContent.{str_content_bytes}
 use Rattle.intaglio.specs.Types.{StrContent}
-use Rattle.intaglio.proofs.CallerLaws.{found-stored, stored-found}
+use Rattle.intaglio.proofs.CallerLaws.{found_stored, stored_found}
 use Rattle.example_join.specs.Texts.{HaveSameText, found_in}
 
 module _ (s : State StrContent) (text : List ℕ) (i : ℕ) where
   stored-text : IsValid str_key s → (o : Option StrContent) → slice_get s.contents i ≡ o → option_map str_content_bytes o ≡ Some text → first str_key s.contents (text ∷ []) ≡ Some i
   stored-text valid None stands e = cc
-  stored-text valid (Some c) stands e = stored-found str_key s (text ∷ []) i valid (record { content = c; stands = stands; same_key = let f : str_content_bytes c ≡ text = cc in rw f refl })
+  stored-text valid (Some c) stands e = stored_found str_key s (text ∷ []) i valid (record { content = c; stands = stands; same_key = let f : str_content_bytes c ≡ text = cc in rw f refl })
 
   found-text : first str_key s.contents (text ∷ []) ≡ Some i → spelling_at str_content_bytes s i ≡ Some text
-  found-text e = let h = found-stored str_key s (text ∷ []) i e in let k : str_content_bytes h.content ∷ [] ≡ text ∷ [] = h.same_key in rw h.stands cc
+  found-text e = let h = found_stored str_key s (text ∷ []) i e in let k : str_content_bytes h.content ∷ [] ≡ text ∷ [] = h.same_key in rw h.stands cc
 
 module _ (left right : State StrContent) (one other : ℕ) (valid : IsValid str_key right) where
   by-text : (o : Option (List ℕ)) → (unwrap_or (option_map (λ (text : List ℕ). first str_key right.contents (text ∷ [])) o) None ≡ Some other) ↔ MatchOption o ⊥ (λ text. spelling_at str_content_bytes right other ≡ Some text)

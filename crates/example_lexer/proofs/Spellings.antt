@@ -10,7 +10,7 @@ use Rattle.intaglio.specs.Keys.{bytes_key}
 use Rattle.intaglio.specs.Lookup.{IsStored, Keeps}
 use Rattle.intaglio.specs.State.{State, IsValid}
 use Rattle.intaglio.specs.Types.{BytesContent}
-use Rattle.intaglio.proofs.CallerLaws.{same_symbol, stored-found}
+use Rattle.intaglio.proofs.CallerLaws.{same_symbol, stored_found}
 use Rattle.example_lexer.specs.Spelled.{text_of, spelled}
 use Rattle.example_lexer.specs.declared.token.Token.{Token}
 
@@ -62,7 +62,7 @@ pub same_text : (s : State BytesContent) (i j : ℕ) → IsValid bytes_key s →
 same_text s i j valid h k =
     let x = there s.contents i h in
     let y = there s.contents j k in
-    let a = stored-found bytes_key s (bytes_key x.0) i valid (record { content = x.0; stands = x.1; same_key = refl }) in
-    let b = stored-found bytes_key s (bytes_key y.0) j valid (record { content = y.0; stands = y.1; same_key = refl }) in
+    let a = stored_found bytes_key s (bytes_key x.0) i valid (record { content = x.0; stands = x.1; same_key = refl }) in
+    let b = stored_found bytes_key s (bytes_key y.0) j valid (record { content = y.0; stands = y.1; same_key = refl }) in
     let same = same_symbol bytes_key s (bytes_key x.0) (bytes_key y.0) i j a b in
     (λ e. same.0 (ap (λ (t : List ℕ). t ∷ []) (rw (x.1, y.1) at e)), λ e. ap (λ (n : ℕ). text_of s.contents n) e)

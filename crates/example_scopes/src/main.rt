@@ -34,6 +34,7 @@ fn declare(names: &mut SymbolTable, block: &'static str) -> Result<(), InternErr
 /// # Errors
 ///
 /// Those of [`declare`].
+#[tactic(auto, using(intaglio::proofs::Rollbacks::kept_count, intaglio::proofs::Rollbacks::not_stale, intaglio::proofs::Rollbacks::rolled_back))]
 fn visit(names: &mut SymbolTable, block: &'static str) -> Result<usize, InternError>
     ensures outside { names.new.state.contents ≡ names.old.state.contents }
 {

@@ -40,60 +40,60 @@ found-or-not keys k (Some i) e = (λ t. first_of-contains keys k i e, λ c. refl
 
 module _ {C : Type 0} (key : C → Key) where
   -- what is found has the key that was looked up
-  pub first-key : (cs : List C) (k : Key) (i : ℕ) → first key cs k ≡ Some i → option_map key (slice_get cs i) ≡ Some k
-  first-key = below.first-key key
+  pub first_key : (cs : List C) (k : Key) (i : ℕ) → first key cs k ≡ Some i → option_map key (slice_get cs i) ≡ Some k
+  first_key = below.first-key key
 
   -- what is found is stored under the symbol at which it is found
-  pub found-stored : (s : State C) (k : Key) (i : ℕ) → IsFound key s k i → IsStored key s k i
-  found-stored = below.found-stored key
+  pub found_stored : (s : State C) (k : Key) (i : ℕ) → IsFound key s k i → IsStored key s k i
+  found_stored = below.found-stored key
 
   -- a symbol that is found is below the number of contents
-  pub found-below : (s : State C) (k : Key) (i : ℕ) → IsFound key s k i → i < length s.contents
-  found-below = below.found-below key
+  pub found_below : (s : State C) (k : Key) (i : ℕ) → IsFound key s k i → i < length s.contents
+  found_below = below.found-below key
 
   -- a content is found at its symbol
-  pub stored-found : (s : State C) (k : Key) (i : ℕ) → IsValid key s → IsStored key s k i → IsFound key s k i
-  stored-found = below.stored-found key
+  pub stored_found : (s : State C) (k : Key) (i : ℕ) → IsValid key s → IsStored key s k i → IsFound key s k i
+  stored_found = below.stored-found key
 
   -- equal contents have the same symbol, and different ones different symbols
   pub same_symbol : (s : State C) (k l : Key) (i j : ℕ) → IsFound key s k i → IsFound key s l j → (k ≡ l) ↔ (i ≡ j)
   same_symbol = below.same_symbol key
 
   -- if there are no contents, nothing is found
-  pub empty-finds_nothing : (s : State C) → s.contents ≡ [] → FindsNothing key s
-  empty-finds_nothing = below.empty-finds_nothing key
+  pub empty_finds_nothing : (s : State C) → s.contents ≡ [] → FindsNothing key s
+  empty_finds_nothing = below.empty-finds_nothing key
 
   -- after a clear nothing is found
-  pub cleared-finds_nothing : (old new : State C) → Empties old new → FindsNothing key new
-  cleared-finds_nothing = below.cleared-finds_nothing key
+  pub cleared_finds_nothing : (old new : State C) → Empties old new → FindsNothing key new
+  cleared_finds_nothing = below.cleared-finds_nothing key
 
   -- the same contents are found at the same symbols
-  pub same_contents-keeps : (old new : State C) → new.contents ≡ old.contents → Keeps key old new
-  same_contents-keeps = below.same_contents-keeps key
+  pub same_contents_keeps : (old new : State C) → new.contents ≡ old.contents → Keeps key old new
+  same_contents_keeps = below.same_contents-keeps key
 
   -- what is kept over one call and over the next is kept over both
-  pub keeps-then : (old next new : State C) → Keeps key old next → Keeps key next new → Keeps key old new
-  keeps-then = below.keeps-then key
+  pub keeps_then : (old next new : State C) → Keeps key old next → Keeps key next new → Keeps key old new
+  keeps_then = below.keeps-then key
 
   -- the contents that are kept are the first ones afterwards
-  pub keeps-front : (old new : State C) → Keeps key old new → take (length old.contents) new.contents ≡ old.contents
-  keeps-front = below.keeps-front key
+  pub keeps_front : (old new : State C) → Keeps key old new → take (length old.contents) new.contents ≡ old.contents
+  keeps_front = below.keeps-front key
 
   -- after contents were interned in order, each is found at the symbol that it was issued
-  pub issued-each : (held cs : List C) (n : ℕ) (c : C) (i : ℕ) → slice_get cs n ≡ Some c → slice_get (issue_from key held cs) n ≡ Some i → first key (interned_all key held cs) (key c) ≡ Some i
-  issued-each = below.issued-each key
+  pub issued_each : (held cs : List C) (n : ℕ) (c : C) (i : ℕ) → slice_get cs n ≡ Some c → slice_get (issue_from key held cs) n ≡ Some i → first key (interned_all key held cs) (key c) ≡ Some i
+  issued_each = below.issued-each key
 
   -- a look-up finds a symbol exactly if a content has the key
-  pub found-contains : (cs : List C) (k : Key) → IsTrue (is_some (first key cs k)) ↔ Contains (map key cs) k
-  found-contains cs k = found-or-not (map key cs) k (first key cs k) refl
+  pub found_contains : (cs : List C) (k : Key) → IsTrue (is_some (first key cs k)) ↔ Contains (map key cs) k
+  found_contains cs k = found-or-not (map key cs) k (first key cs k) refl
 
   -- a content that wasn't found is interned at the end of the list
-  pub absent-grows : (old new : State C) (c : C) (i : ℕ) → first key old.contents (key c) ≡ None → Interns key old c (Ok i) new → Grows old c i new
-  absent-grows old new c i none step = let taken : IsAppended old c i new = rw none at step in (taken.position, taken.contents)
+  pub absent_grows : (old new : State C) (c : C) (i : ℕ) → first key old.contents (key c) ≡ None → Interns key old c (Ok i) new → Grows old c i new
+  absent_grows old new c i none step = let taken : IsAppended old c i new = rw none at step in (taken.position, taken.contents)
 
   -- a content that was found is there already, and nothing changes
-  pub found-same : (old new : State C) (c : C) (i j : ℕ) → IsFound key old (key c) j → Interns key old c (Ok i) new → (i ≡ j) × (new ≡ old)
-  found-same old new c i j found step = let same : (◌≡◌ {A = Result ℕ InternError} (Ok i) (Ok j)) × (new ≡ old) = rw found at step in (cc, same.1)
+  pub found_same : (old new : State C) (c : C) (i j : ℕ) → IsFound key old (key c) j → Interns key old c (Ok i) new → (i ≡ j) × (new ≡ old)
+  found_same old new c i j found step = let same : (◌≡◌ {A = Result ℕ InternError} (Ok i) (Ok j)) × (new ≡ old) = rw found at step in (cc, same.1)
 
   by-count : (o : Option ℕ) (old new : State C) (c : C) (i : ℕ) → MatchOption o (IsAppended old c i new) (λ j. (◌≡◌ {A = Result ℕ InternError} (Ok i) (Ok j)) × (new ≡ old))
       → (length new.contents ≡ length old.contents → (o ≡ Some i) × (new ≡ old)) × (length new.contents ≢ length old.contents → (o ≡ None) × Grows old c i new)
@@ -117,11 +117,11 @@ module _ {C : Type 0} (key : C → Key) where
     }
 
     -- the same for a form, of which a copy is interned
-    pub absent-form-grows : (old new : State C) (k : Key) (w : List ℕ) (i : ℕ) → first key old.contents k ≡ None → InternsForm key spelling old k w (Ok i) new → GrowsByForm key spelling old k w i new
-    absent-form-grows old new k w i none step = let taken : IsCopyAppended key spelling old k w i new = rw none at step in form-grows old new k w i taken
+    pub absent_form_grows : (old new : State C) (k : Key) (w : List ℕ) (i : ℕ) → first key old.contents k ≡ None → InternsForm key spelling old k w (Ok i) new → GrowsByForm key spelling old k w i new
+    absent_form_grows old new k w i none step = let taken : IsCopyAppended key spelling old k w i new = rw none at step in form-grows old new k w i taken
 
-    pub found-form-same : (old new : State C) (k : Key) (w : List ℕ) (i j : ℕ) → IsFound key old k j → InternsForm key spelling old k w (Ok i) new → (i ≡ j) × (new ≡ old)
-    found-form-same old new k w i j found step = let same : (◌≡◌ {A = Result ℕ InternError} (Ok i) (Ok j)) × (new ≡ old) = rw found at step in (cc, same.1)
+    pub found_form_same : (old new : State C) (k : Key) (w : List ℕ) (i j : ℕ) → IsFound key old k j → InternsForm key spelling old k w (Ok i) new → (i ≡ j) × (new ≡ old)
+    found_form_same old new k w i j found step = let same : (◌≡◌ {A = Result ℕ InternError} (Ok i) (Ok j)) × (new ≡ old) = rw found at step in (cc, same.1)
 
     form-by-count : (o : Option ℕ) (old new : State C) (k : Key) (w : List ℕ) (i : ℕ) → MatchOption o (IsCopyAppended key spelling old k w i new) (λ j. (◌≡◌ {A = Result ℕ InternError} (Ok i) (Ok j)) × (new ≡ old))
         → (length new.contents ≡ length old.contents → (o ≡ Some i) × (new ≡ old)) × (length new.contents ≢ length old.contents → (o ≡ None) × GrowsByForm key spelling old k w i new)
@@ -131,9 +131,9 @@ module _ {C : Type 0} (key : C → Key) where
     )
     form-by-count (Some j) old new k w i h = (λ e. (cc, h.1), λ n. absurd (n (ap (λ (s : State C). length s.contents) h.1)))
 
-    pub counted-form : (old new : State C) (k : Key) (w : List ℕ) (i : ℕ) → InternsForm key spelling old k w (Ok i) new
+    pub counted_form : (old new : State C) (k : Key) (w : List ℕ) (i : ℕ) → InternsForm key spelling old k w (Ok i) new
         → (length new.contents ≡ length old.contents → IsFound key old k i × (new ≡ old)) × (length new.contents ≢ length old.contents → (first key old.contents k ≡ None) × GrowsByForm key spelling old k w i new)
-    counted-form old new k w i step = form-by-count (first key old.contents k) old new k w i step
+    counted_form old new k w i step = form-by-count (first key old.contents k) old new k w i step
 
 -- of the kinds whose key is the spelling as one item: all but paths
 module _ {C : Type 0} (key : C → Key) (spelling : C → List ℕ) (bytewise : (c : C) → key c ≡ spelling c ∷ []) where
@@ -147,23 +147,23 @@ module _ {C : Type 0} (key : C → Key) (spelling : C → List ℕ) (bytewise : 
   key-at (c ∷ cs) (suc i) d = key-at cs i d
 
   -- a look-up finds a symbol exactly if a content has the spelling
-  pub found-spelled : (cs : List C) (w : List ℕ) → IsTrue (is_some (first key cs (w ∷ []))) ↔ Contains (map spelling cs) w
-  found-spelled cs w =
-      let law = found-contains key cs (w ∷ []) in
+  pub found_spelled : (cs : List C) (w : List ℕ) → IsTrue (is_some (first key cs (w ∷ []))) ↔ Contains (map spelling cs) w
+  found_spelled cs w =
+      let law = found_contains key cs (w ∷ []) in
       let size : length (map key cs) ≡ length (map spelling cs) = length-map cs key ∙ sym (length-map cs spelling) in (
         λ t. let c = law.0 t in let lt = c.1 in let e : get_or (map spelling cs) c.0 w ∷ [] ≡ w ∷ [] = sym (key-at cs c.0 w) ∙ c.2 in (c.0, omega arith, cc),
         λ c. let lt = c.1 in law.1 (c.0, omega arith, key-at cs c.0 w ∙ ap (λ (v : List ℕ). v ∷ []) c.2),
       )
 
   -- the spellings of a table's contents are distinct
-  pub spellings-differ : (s : State C) → IsValid key s → AllPairs (λ v w. v ≢ w) (map spelling s.contents)
-  spellings-differ s valid = λ i j d lt below e.
+  pub spellings_differ : (s : State C) → IsValid key s → AllPairs (λ v w. v ≢ w) (map spelling s.contents)
+  spellings_differ s valid = λ i j d lt below e.
       let size : length (map key s.contents) ≡ length (map spelling s.contents) = length-map s.contents key ∙ sym (length-map s.contents spelling) in
       valid.distinct i j (d ∷ []) lt (omega arith) (key-at s.contents i d ∙ ap (λ (v : List ℕ). v ∷ []) e ∙ sym (key-at s.contents j d))
 
   -- whether there are more contents says whether a text was there, and the list of the texts afterwards
-  pub counted-spelled : (old new : State C) (w : List ℕ) (i : ℕ) → InternsForm key spelling old (w ∷ []) w (Ok i) new
+  pub counted_spelled : (old new : State C) (w : List ℕ) (i : ℕ) → InternsForm key spelling old (w ∷ []) w (Ok i) new
       → (length new.contents ≡ length old.contents → Contains (map spelling old.contents) w × (new ≡ old)) × (length new.contents ≢ length old.contents → map spelling new.contents ≡ map spelling old.contents ++ w ∷ [])
-  counted-spelled old new w i step =
-      let law = counted-form key spelling old new (w ∷ []) w i step in
-      (λ e. ((found-spelled old.contents w).0 (ap (λ (o : Option ℕ). is_some o) (law.0 e).0), (law.0 e).1), λ n. (law.1 n).1.spellings)
+  counted_spelled old new w i step =
+      let law = counted_form key spelling old new (w ∷ []) w i step in
+      (λ e. ((found_spelled old.contents w).0 (ap (λ (o : Option ℕ). is_some o) (law.0 e).0), (law.0 e).1), λ n. (law.1 n).1.spellings)

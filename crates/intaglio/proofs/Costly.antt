@@ -59,8 +59,8 @@ compared-once x x' y (placed ∷ a) b c h = compared-once x x' y a b c h
 placed-one : (a b : List Event) → 0 < placed_count (a ++ placed ∷ b)
 placed-one a b = let sum : placed_count (a ++ placed ∷ b) ≡ placed_count a + (1 + placed_count b) = placed_count-append a (placed ∷ b) in omega (arith, sum)
 
-pub searches-are-cheap : (hash : Key → ℕ) (k : Key) (bucket : List Key) → SearchesAreCheap hash k bucket
-searches-are-cheap hash k bucket = record {
+pub searches_are_cheap : (hash : Key → ℕ) (k : Key) (bucket : List Key) → SearchesAreCheap hash k bucket
+searches_are_cheap hash k bucket = record {
   no_second_hashing = λ x y a b c is. absurd (omega (arith, two-hashings x y a b c, ap (λ (ks : List Key). length ks) is.hashings));
   hashes_sought_key = λ x a b other is.
       absurd (other (hashed-holds (λ (z : Key). z ≡ k) x a b (All-same (λ (z : Key). z ≡ k) _ (k ∷ []) is.hashings (All-cons (λ (z : Key). z ≡ k) k [] refl (All-nil (λ (z : Key). z ≡ k))))));
@@ -89,8 +89,8 @@ module _ {C : Type 0} (key : C → Key) (hash : Key → ℕ) (old : State C) (k 
       let none : placed_count is.search ≡ 0 = is.searches.placements in
       omega (arith, parts, whole, begins, none)
 
-  pub internings-are-cheap : InterningsAreCheap key hash old k new
-  internings-are-cheap = record {
+  pub internings_are_cheap : InterningsAreCheap key hash old k new
+  internings_are_cheap = record {
     no_second_hashing = λ x y a b c is. absurd (omega (arith, two-hashings x y a b c, adding-hashes _ is));
     places_one = λ same cost is.
         let none : placed_count is.growth ≡ 0 = ap (λ (ms : List Event). placed_count ms) (is.grows.only_growth same) in

@@ -10,8 +10,8 @@ use Rattle.intaglio_symbol.specs.declared.error.StaleMark.{StaleMark}
 
 module _ {C : Type 0} (key : C → Key) where
   -- after a call that keeps the contents there are no fewer
-  pub kept-count : (old next : State C) → Keeps key old next → length old.contents ≤ length next.contents
-  kept-count old next kept =
+  pub kept_count : (old next : State C) → Keeps key old next → length old.contents ≤ length next.contents
+  kept_count old next kept =
       let front : length (take (length old.contents) next.contents) ≡ length old.contents = ap (λ (cs : List C). length cs) (keeps-front key old next kept) in
       omega (arith, front, length-take (length old.contents) next.contents)
 
@@ -19,9 +19,9 @@ module _ {C : Type 0} (key : C → Key) where
     -- the mark isn't stale
     pub not_stale : (r : Result (Unit {0}) StaleMark) → TakesBack next (length old.contents) r new → IsOk r
     not_stale (Ok _) step = refl
-    not_stale (Err _) step = let le = kept-count old next kept in let lt = step.0 in absurd (omega arith)
+    not_stale (Err _) step = let le = kept_count old next kept in let lt = step.0 in absurd (omega arith)
 
     -- and the contents are those at the time of the mark
     pub rolled_back : (r : Result (Unit {0}) StaleMark) → TakesBack next (length old.contents) r new → new.contents ≡ old.contents
     rolled_back (Ok _) step = restored key old next new kept step
-    rolled_back (Err _) step = let le = kept-count old next kept in let lt = step.0 in absurd (omega arith)
+    rolled_back (Err _) step = let le = kept_count old next kept in let lt = step.0 in absurd (omega arith)

@@ -2,7 +2,7 @@ use Rattle.std.proofs.Common.{◌≡◌, ◌++◌, ◌∷◌, [], rules}
 use Rattle.std.proofs.lemmas.List.{take-append-drop}
 use Rattle.intaglio.specs.Keys.{bytes_key}
 use Rattle.intaglio.specs.Lookup.{IsStored}
-use Rattle.intaglio.proofs.CallerLaws.{keeps-then}
+use Rattle.intaglio.proofs.CallerLaws.{keeps_then}
 use Rattle.example_lexer.specs.declared.token.Token.{Token}
 use Rattle.example_lexer.proofs.Spellings.{stored-text, stored-within, spelled-push, issued-push}
 use Rattle.example_lexer.proofs.lexer.lex.Goals as goal
@@ -19,5 +19,5 @@ loop-rest-preserved c =
     record {
       whole = spelled-push old new c.intern.ensures.kept c.loop-rest.tokens.items c.push_reserved.new.self.items token lexeme c.split_at.result.1.now c.loop-rest.rest.now c.args.source.now c.loop-rest.invariant.issued added (stored-text new lexeme c.in_ok-text.text stored) cut c.loop-rest.invariant.whole;
       issued = issued-push old new c.intern.ensures.kept c.loop-rest.tokens.items c.push_reserved.new.self.items token c.loop-rest.invariant.issued added (stored-within new lexeme c.in_ok-text.text stored);
-      kept = keeps-then bytes_key c.args.texts.now.state old new c.loop-rest.invariant.kept c.intern.ensures.kept;
+      kept = keeps_then bytes_key c.args.texts.now.state old new c.loop-rest.invariant.kept c.intern.ensures.kept;
     }
