@@ -299,16 +299,46 @@ static Outcome join(const Table *self, const Batch *batch, Py_ssize_t first, Gro
     return DONE;
 }
 
-/* Interns all contents or none. The collector is off, since it may run code of Python's, and with it other threads. */
+/* Interns the contents from one on, as many as a group has, one by one. */
+static Outcome intern_singly(Table *self, const Batch *batch, Py_ssize_t first, Group *group, uint32_t *code) {
+    PyObject **items = PySequence_Fast_ITEMS(batch->items);
+    uint32_t *symbols = batch->numbers;
+    for (group->count = 0; group->count < GROUP && first + (Py_ssize_t)group->count < batch->count; group->count++) {
+        size_t len;
+        Py_ssize_t i = first + (Py_ssize_t)group->count;
+        fetch(items, i, batch->count);
+        if (!is_native(self, items[i])) return NOT_NATIVE;
+        const uint8_t *at = spell(self, items[i], &len);
+        if (!at) return NOT_SPELLED;
+        *code = intaglio_intern(&self->handle, at, len, &symbols[i]);
+        if (*code) break;
+    }
+    return DONE;
+}
+
+/* The same in one call of the library. */
+static Outcome intern_group(Table *self, const Batch *batch, Py_ssize_t first, Group *group, uint32_t *code) {
+    Outcome outcome = join(self, batch, first, group);
+    uint32_t *symbols = (uint32_t *)batch->numbers + first;
+    if (group->count) *code = intaglio_intern_all(&self->handle, group->at, group->len, group->ends, group->count, symbols, group->count);
+    return outcome;
+}
+
+/* Interns all contents or none. Groups pay if most strings are in the table, since the library hashes a new one of a group twice: so after
+ * a group in which most were new, the next is interned one by one. The collector is off, since it may run code of Python's, and with it
+ * other threads. */
 static Outcome intern_each(Table *self, Batch *batch) {
-    uint32_t *symbols = batch->numbers, code = INTAGLIO_DONE;
+    uint32_t code = INTAGLIO_DONE;
     Outcome outcome = DONE;
     Group group;
     int collects = PyGC_Disable();
-    size_t mark = intaglio_len(&self->handle);
+    size_t mark = intaglio_len(&self->handle), before = mark;
+    bool are_new = mark == 0;
     for (Py_ssize_t i = 0; outcome == DONE && !code && i < batch->count; i += (Py_ssize_t)group.count) {
-        outcome = join(self, batch, i, &group);
-        if (group.count) code = intaglio_intern_all(&self->handle, group.at, group.len, group.ends, group.count, symbols + i, group.count);
+        outcome = (are_new ? intern_singly : intern_group)(self, batch, i, &group, &code);
+        size_t after = intaglio_len(&self->handle);
+        are_new = after - before > group.count / 2;
+        before = after;
     }
     if (outcome != DONE || code) (void)!intaglio_take_back(&self->handle, mark);
     if (collects) PyGC_Enable();
