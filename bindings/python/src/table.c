@@ -18,6 +18,9 @@ enum {
     NEAR = 256,
     /* How many contents ahead a batch fetches an object. */
     AHEAD = 8,
+    /* How many strings of a batch are passed to the library in one call, and how many bytes they may have together. */
+    GROUP = 64,
+    GROUP_BYTES = 8192,
     LINE = 64,
     /* How many keys are tried to freeze a table in memory. */
     FREEZINGS = 8
@@ -104,14 +107,19 @@ static int check_open(Table *self) {
     return code ? -1 : 0;
 }
 
+/* Whether the exception says that a text isn't UTF-8, and so is in no table. Then it is cleared. */
+static bool is_absent(void) {
+    if (!PyErr_ExceptionMatches(PyExc_UnicodeEncodeError)) return false;
+    PyErr_Clear();
+    return true;
+}
+
 /* Looks a native content up. Returns 1 and its symbol, 0 if it isn't in the table, or -1 and an exception. */
 static inline int find_native(Table *self, PyObject *content, uint32_t *symbol) {
     size_t len;
     const uint8_t *at = spell(self, content, &len);
     if (at) return intaglio_check_interned(&self->handle, at, len, symbol);
-    if (!PyErr_ExceptionMatches(PyExc_UnicodeEncodeError)) return -1;
-    PyErr_Clear();
-    return 0;
+    return is_absent() ? 0 : -1;
 }
 
 /* The same for any content. A native one needs no reference beside the caller's, since no code of Python's runs meanwhile; to count
@@ -203,9 +211,16 @@ typedef struct {
     void *numbers;
 } Batch;
 
-/* What is done with each content. */
-typedef enum { DONE, FAILED, NOT_NATIVE } Outcome;
+/* What became of a batch: done; an exception; contents that aren't native, or that have no UTF-8. */
+typedef enum { DONE, FAILED, NOT_NATIVE, NOT_SPELLED } Outcome;
 typedef Outcome (*Each)(Table *, Batch *);
+
+/* Some strings of a batch, one behind the other, and the end of each. */
+typedef struct {
+    const uint8_t *at;
+    size_t count, len, ends[GROUP];
+    uint8_t bytes[GROUP_BYTES];
+} Group;
 
 static void close_batch(Batch *batch) {
     Py_CLEAR(batch->items);
@@ -238,12 +253,18 @@ static int convert_batch(Table *self, Batch *batch) {
     return status;
 }
 
-/* Opens the batch and does something with each content. If some aren't native, it begins again with a list in which all are:
- * that is rarer than one more pass over the objects would be dear. */
-static int run_batch(Table *self, Batch *batch, PyObject *contents, Each each) {
+static int check_count(const Batch *batch, Py_ssize_t most) {
+    if (batch->count <= most) return 0;
+    refused(INTAGLIO_NO_SPACE);
+    return -1;
+}
+
+/* Opens the batch, which may have so many contents at most, and does something with each. If some aren't native, it begins again with
+ * a list in which all are: that is rarer than one more pass over the objects would be dear. */
+static int run_batch(Table *self, Batch *batch, PyObject *contents, Each each, Py_ssize_t most) {
     if (open_batch(batch, contents) < 0) return -1;
-    Outcome outcome = each(self, batch);
-    if (outcome == NOT_NATIVE) outcome = convert_batch(self, batch) == 0 ? each(self, batch) : FAILED;
+    Outcome outcome = check_count(batch, most) == 0 ? each(self, batch) : FAILED;
+    if (outcome == NOT_NATIVE) outcome = convert_batch(self, batch) == 0 && check_count(batch, most) == 0 ? each(self, batch) : FAILED;
     if (outcome == DONE) return 0;
     close_batch(batch);
     return -1;
@@ -256,50 +277,101 @@ static inline void fetch(PyObject **items, Py_ssize_t i, Py_ssize_t count) {
     __builtin_prefetch((const char *)items[i + AHEAD] + LINE);
 }
 
-/* Interns all contents or none. The collector is off, since it may run code of Python's, and with it other threads. */
-static Outcome intern_each(Table *self, Batch *batch) {
+/* Joins the strings of the contents from one on, as many as the group has places and room for; a string that is too long for it is
+ * a group of its own, and isn't copied. The library looks the strings of a call up together, which is faster. If the group ends before
+ * a content that isn't native or not spelled, that is returned, in the last case with an exception. */
+static Outcome join(const Table *self, const Batch *batch, Py_ssize_t first, Group *group) {
     PyObject **items = PySequence_Fast_ITEMS(batch->items);
-    uint32_t *symbols = batch->numbers, code = INTAGLIO_DONE;
-    bool is_odd = false;
-    Py_ssize_t i = 0;
-    int collects = PyGC_Disable();
-    size_t mark = intaglio_len(&self->handle);
-    for (; i < batch->count; i++) {
+    group->at = group->bytes;
+    group->count = group->len = 0;
+    for (Py_ssize_t i = first; i < batch->count && group->count < GROUP; i++) {
         size_t len;
         fetch(items, i, batch->count);
-        is_odd = !is_native(self, items[i]);
-        const uint8_t *at = is_odd ? NULL : spell(self, items[i], &len);
-        if (!at) break;
-        code = intaglio_intern(&self->handle, at, len, &symbols[i]);
-        if (code) break;
+        if (!is_native(self, items[i])) return NOT_NATIVE;
+        const uint8_t *at = spell(self, items[i], &len);
+        if (!at) return NOT_SPELLED;
+        if (len <= GROUP_BYTES - group->len) memcpy(group->bytes + group->len, at, len);
+        else if (group->count == 0) group->at = at;
+        else break;
+        group->ends[group->count++] = group->len += len;
+        if (group->at == at) break;
     }
-    if (i < batch->count) (void)!intaglio_take_back(&self->handle, mark);
+    return DONE;
+}
+
+/* Interns the contents from one on, as many as a group has, one by one. */
+static Outcome intern_singly(Table *self, const Batch *batch, Py_ssize_t first, Group *group, uint32_t *code) {
+    PyObject **items = PySequence_Fast_ITEMS(batch->items);
+    uint32_t *symbols = batch->numbers;
+    for (group->count = 0; group->count < GROUP && first + (Py_ssize_t)group->count < batch->count; group->count++) {
+        size_t len;
+        Py_ssize_t i = first + (Py_ssize_t)group->count;
+        fetch(items, i, batch->count);
+        if (!is_native(self, items[i])) return NOT_NATIVE;
+        const uint8_t *at = spell(self, items[i], &len);
+        if (!at) return NOT_SPELLED;
+        *code = intaglio_intern(&self->handle, at, len, &symbols[i]);
+        if (*code) break;
+    }
+    return DONE;
+}
+
+/* The same in one call of the library. */
+static Outcome intern_group(Table *self, const Batch *batch, Py_ssize_t first, Group *group, uint32_t *code) {
+    Outcome outcome = join(self, batch, first, group);
+    uint32_t *symbols = (uint32_t *)batch->numbers + first;
+    if (group->count) *code = intaglio_intern_all(&self->handle, group->at, group->len, group->ends, group->count, symbols, group->count);
+    return outcome;
+}
+
+/* Interns all contents or none. Groups pay if most strings are in the table, since the library hashes a new one of a group twice: so after
+ * a group in which most were new, the next is interned one by one. The collector is off, since it may run code of Python's, and with it
+ * other threads. */
+static Outcome intern_each(Table *self, Batch *batch) {
+    uint32_t code = INTAGLIO_DONE;
+    Outcome outcome = DONE;
+    Group group;
+    int collects = PyGC_Disable();
+    size_t mark = intaglio_len(&self->handle), before = mark;
+    bool are_new = mark == 0;
+    for (Py_ssize_t i = 0; outcome == DONE && !code && i < batch->count; i += (Py_ssize_t)group.count) {
+        outcome = (are_new ? intern_singly : intern_group)(self, batch, i, &group, &code);
+        size_t after = intaglio_len(&self->handle);
+        are_new = after - before > group.count / 2;
+        before = after;
+    }
+    if (outcome != DONE || code) (void)!intaglio_take_back(&self->handle, mark);
     if (collects) PyGC_Enable();
-    if (i == batch->count) return DONE;
-    if (is_odd) return NOT_NATIVE;
-    if (code) refused(code);
-    else not_spelled();
+    /* A code is of a string before the content at which the group ends. */
+    if (code) {
+        PyErr_Clear();
+        refused(code);
+        return FAILED;
+    }
+    if (outcome != NOT_SPELLED) return outcome;
+    not_spelled();
     return FAILED;
 }
 
 /* Looks each content up. */
 static Outcome find_each(Table *self, Batch *batch) {
-    PyObject **items = PySequence_Fast_ITEMS(batch->items);
     uint64_t *found = batch->numbers;
+    uint32_t code = INTAGLIO_DONE;
     Outcome outcome = DONE;
+    Group group;
     if (check_open(self) < 0) return FAILED;
     int collects = PyGC_Disable();
-    for (Py_ssize_t i = 0; outcome == DONE && i < batch->count; i++) {
-        uint32_t symbol;
-        int status = -1;
-        fetch(items, i, batch->count);
-        if (is_native(self, items[i])) status = find_native(self, items[i], &symbol);
-        else outcome = NOT_NATIVE;
-        if (status == -1 && outcome == DONE) outcome = FAILED;
-        found[i] = status == 1 ? symbol : INTAGLIO_ABSENT;
+    for (Py_ssize_t i = 0; outcome == DONE && !code && i < batch->count;) {
+        outcome = join(self, batch, i, &group);
+        code = intaglio_check_all(&self->handle, group.at, group.len, group.ends, group.count, found + i, group.count);
+        i += (Py_ssize_t)group.count;
+        if (outcome != NOT_SPELLED) continue;
+        outcome = is_absent() ? DONE : FAILED;
+        found[i++] = INTAGLIO_ABSENT;
     }
     if (collects) PyGC_Enable();
-    return outcome;
+    if (code) refused(code);
+    return code ? FAILED : outcome;
 }
 
 /* A list of the batch's symbols. */
@@ -328,7 +400,7 @@ static PyObject *list_found(const Batch *batch) {
 
 static PyObject *list_batch(Table *self, PyObject *contents, Each each, PyObject *(*listed)(const Batch *)) {
     Batch batch;
-    if (run_batch(self, &batch, contents, each) < 0) return NULL;
+    if (run_batch(self, &batch, contents, each, PY_SSIZE_T_MAX) < 0) return NULL;
     PyObject *list = listed(&batch);
     close_batch(&batch);
     return list;
@@ -354,14 +426,11 @@ static PyObject *write_batch(Table *self, PyObject *const *args, Py_ssize_t coun
     PyObject *written = NULL, *items = PySequence_Fast(args[0], "an iterable of strings");
     if (!items) return NULL;
     if (borrow(args[1], &view, formats, (Py_ssize_t)size) == 0) {
-        PyObject *own = PyTuple_Check(items) ? Py_NewRef(items) : PySequence_Tuple(items);
-        if (own && PyTuple_GET_SIZE(own) > view.len / (Py_ssize_t)size) refused(INTAGLIO_NO_SPACE);
-        else if (own && run_batch(self, &batch, own, each) == 0) {
+        if (run_batch(self, &batch, items, each, view.len / (Py_ssize_t)size) == 0) {
             memcpy(view.buf, batch.numbers, (size_t)batch.count * size);
             written = PyLong_FromSsize_t(batch.count);
             close_batch(&batch);
         }
-        Py_XDECREF(own);
         PyBuffer_Release(&view);
     }
     Py_DECREF(items);
@@ -641,7 +710,7 @@ static int table_init(Table *self, PyObject *args, PyObject *named) {
     uint32_t code = make(self, limit != Py_None, size, keys);
     Batch batch;
     if (code) refused(code);
-    if (code || (contents && run_batch(self, &batch, contents, intern_each) < 0)) return -1;
+    if (code || (contents && run_batch(self, &batch, contents, intern_each, PY_SSIZE_T_MAX) < 0)) return -1;
     if (contents) close_batch(&batch);
     return 0;
 }

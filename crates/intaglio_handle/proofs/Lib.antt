@@ -2,4 +2,5 @@
 pub mod AsBytes
 pub mod Faults
 pub mod Batches
+pub mod Hashes
 pub mod Walks

@@ -3,6 +3,7 @@ pub mod Answers
 pub mod Batches
 pub mod Frozen
 pub mod Handles
+pub mod Hashes
 pub mod Kinds
 pub mod Lent
 pub mod Owned

@@ -9,9 +9,11 @@ use intaglio_table::{Table, TableOver};
 use intaglio_text::StrContent;
 use intaglio_text::osstr::OsStrContent;
 
+mod ahead;
 pub(crate) mod batches;
 mod bytes;
 mod constructors;
+mod hashes;
 mod size;
 
 /// A table of one of the kinds.

@@ -5,6 +5,7 @@ ghost use Rattle.intaglio_handle.specs.Handles.{found};
 ghost use Rattle.intaglio_handle.specs.Seen.{TakesStep, contents_of, seen};
 
 use super::AnyTable;
+use super::ahead::GROUP;
 use crate::refusal::Refusal;
 use intaglio_core::{Mark, Symbol};
 
@@ -53,12 +54,16 @@ impl AnyTable {
         requires batch { is_batch bytes.now ends.now (length symbols.old) ≡ true }
         ensures step { TakesStep self.old self.new result (InternsEach bytes.now ends.now symbols.new) }
     {
+        let mut hashes = [0u64; GROUP];
+        let mut used = GROUP;
         let mut start = 0;
         for (i, &end) in ends.iter().enumerate() {
-            match self.intern(&bytes[start..end]) {
+            used = self.look_ahead(bytes, start, ends.split_at(i).1, &mut hashes, used);
+            match self.intern_hashed(hashes[used], &bytes[start..end]) {
                 Ok(symbol) => symbols[i] = symbol.id(),
                 Err(refusal) => return Err(refusal),
             }
+            used += 1;
             start = end;
         }
         Ok(())
@@ -90,9 +95,13 @@ impl AnyTable {
         requires batch { is_batch bytes.now ends.now (length symbols.old) ≡ true }
         ensures found { symbols.new ≡ found_all (seen self.now) (pieces bytes.now 0 ends.now) }
     {
+        let mut hashes = [0u64; GROUP];
+        let mut used = GROUP;
         let mut start = 0;
         for (i, &end) in ends.iter().enumerate() {
-            symbols[i] = or_absent(self.find(&bytes[start..end]));
+            used = self.look_ahead(bytes, start, ends.split_at(i).1, &mut hashes, used);
+            symbols[i] = or_absent(self.find_hashed(hashes[used], &bytes[start..end]));
+            used += 1;
             start = end;
         }
     }

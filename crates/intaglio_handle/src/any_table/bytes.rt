@@ -20,7 +20,7 @@ use intaglio_text::osstr::OsStrContent;
 
 // The text with these bytes.
 #[inline(always)]
-fn text_of(bytes: &[u8]) -> Result<&str, Refusal>
+pub(super) fn text_of(bytes: &[u8]) -> Result<&str, Refusal>
     ensures ok { IfOk result (λ text. text.now ≡ bytes.now) }
     ensures faultless { IfOk result (λ _. utf8_fault bytes.now ≡ None) }
     ensures err { IfErr result (λ refusal. utf8_fault bytes.now ≡ Some refusal) }
@@ -32,7 +32,7 @@ fn text_of(bytes: &[u8]) -> Result<&str, Refusal>
 }
 
 // The C string with these bytes.
-fn c_str_of(bytes: &[u8]) -> Result<CStr<'_>, Refusal>
+pub(super) fn c_str_of(bytes: &[u8]) -> Result<CStr<'_>, Refusal>
     ensures ok { IfOk result (λ text. c_str_spelling text ++ 0 ∷ [] ≡ bytes.now) }
     ensures faultless { IfOk result (λ _. zero_fault bytes.now ≡ None) }
     ensures err { IfErr result (λ refusal. zero_fault bytes.now ≡ Some refusal) }
