@@ -23,6 +23,8 @@ use std::str;
 pub(crate) struct Layout<'a> {
     bytes: &'a [u8],
     text: &'a [u8],
+    // The ends of the strings, and the four bytes before them, so that each string has a number before its end.
+    ends: &'a [u8],
     state: KeyedState,
     kind: Kind,
     count: usize,
@@ -68,6 +70,7 @@ impl<'a> Layout<'a> {
         Ok(Layout {
             bytes,
             text: &bytes[text_at..],
+            ends: &bytes[ends_at - 4..],
             state: KeyedState::with_keys(header.key0, header.key1),
             kind: header.kind,
             count,
@@ -230,7 +233,9 @@ impl<'a> Layout<'a> {
         requires { i < length (strings self.now) }
         ensures { result ≡ get_or (0 ∷ ends self.now) i 0 }
     {
-        if i == 0 { 0 } else { self.end_of(i - 1) }
+        // The number is read for the first string too: then no branch is needed.
+        let before = read_u32(self.ends, 4 * i) as usize;
+        if i == 0 { 0 } else { before }
     }
 
     // Where a string ends.
@@ -239,7 +244,7 @@ impl<'a> Layout<'a> {
         requires { i < length (strings self.now) }
         ensures { result ≡ get_or (ends self.now) i 0 }
     {
-        read_u32(self.bytes, self.ends_at + 4 * i) as usize
+        read_u32(self.ends, 4 * i + 4) as usize
     }
 }
 
