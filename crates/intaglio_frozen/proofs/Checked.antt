@@ -1,9 +1,7 @@
 -- What is found of strings, batch by batch.
-use Rattle.std.proofs.Common.{◌≡◌, ◌⊎◌, inl, inr, ℕ, ◌+◌, ◌-◌, ◌<◌, ◌≤◌, List, slice_get, ◌++◌, Some, length, take, length-append, arith}
+use Rattle.std.proofs.Common.{◌≡◌, ◌⊎◌, inl, inr, ℕ, ◌+◌, ◌-◌, ◌<◌, ◌≤◌, List, ◌++◌, length, take, length-append, arith}
 use Rattle.std.proofs.lemmas.Bool.{cases_lt}
 use Rattle.std.proofs.lemmas.List.{length-take-le}
-use Rattle.intaglio_frozen.specs.Layout.{strings}
-use Rattle.intaglio_frozen.specs.LookUp.{find}
 use Rattle.intaglio_frozen.specs.Checked.{IsFoundAt, AreFoundBelow, AreFoundFrom}
 
 found-either : (bs : List ℕ) (start n k : ℕ) → AreFoundBelow bs start → AreFoundFrom bs start n → k < start + n → (k < start) ⊎ (start ≤ k) → IsFoundAt bs k

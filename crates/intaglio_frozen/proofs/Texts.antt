@@ -1,5 +1,5 @@
 -- Strings of a text.
-use Rattle.std.proofs.Common.{◌≡◌, ℕ, zero, suc, ◌<◌, ◌≤◌, List, ◌∷◌, length, drop, get_or, slice_get, slice_range, Some, sym, subst, ◌∙◌, arith}
+use Rattle.std.proofs.Common.{◌≡◌, ℕ, zero, suc, ◌<◌, ◌≤◌, List, ◌∷◌, length, drop, get_or, slice_range, Some, sym, subst, ◌∙◌, arith}
 use Rattle.std.proofs.lemmas.Option.{slice_get_within}
 use Rattle.std.proofs.lemmas.Str.{IsUtf8-between, IsCharBoundary-start}
 use Rattle.std.specs.Str.{IsUtf8, IsCharBoundary}

@@ -1,4 +1,4 @@
-use Rattle.std.proofs.Common.{◌≡◌, ◌+◌, ◌-◌, ◌*◌, ◌<◌, length, length-drop, sym, ap, ◌∙◌, arith}
+use Rattle.std.proofs.Common.{◌+◌, ◌-◌, ◌*◌, ◌<◌, length, length-drop, sym, ap, ◌∙◌, arith}
 use Rattle.intaglio_frozen.specs.Layout.{u32_at, count, ends_at}
 use Rattle.intaglio_frozen.proofs.Places.{end_is, strings_length, u32_in}
 use Rattle.intaglio_frozen.proofs.layout.Layout.end_of.Goals as goal
