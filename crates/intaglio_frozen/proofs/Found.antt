@@ -106,6 +106,14 @@ at-same bs w p tag t s et e es =
 pub same-string : (s : ℕ) (o : Option (List ℕ)) (t w : List ℕ) (b : Bool) → o ≡ Some t → bytes_eq t w ≡ b → if_same o s w ≡ cond b (Some s) None
 same-string s o t w b e eb = rw (e, eb) refl
 
+-- the string at i is found there exactly if its place has the symbol i
+pub found-same : (bs w : List ℕ) (s i : ℕ) → slice_get (strings bs) i ≡ Some w → find bs w ≡ if_same (slice_get (strings bs) s) s w → s ≡ i → find bs w ≡ Some i
+found-same bs w s i at e same =
+    e ∙ same-string s (slice_get (strings bs) s) w w true (ap (slice_get (strings bs)) same ∙ at) ((bytes_decides w w).1 refl) ∙ ap Some same
+
+pub found-other : (bs w : List ℕ) (s i : ℕ) → find bs w ≡ if_same (slice_get (strings bs) s) s w → (s ≡ i → ⊥) → find bs w ≡ Some i → ⊥
+found-other bs w s i e other found = other (same-sound (slice_get (strings bs) s) s i w (sym e ∙ found)).1
+
 pub frozen_first : (bs w : List ℕ) (r : Option ℕ) → IsFrozen bs → find bs w ≡ r → r ≡ first key (strings bs) (key w)
 frozen_first bs w r frozen e = sym e ∙ find_is_first bs w frozen.found
 

@@ -2,6 +2,8 @@
 pub mod Ends
 pub mod Places
 pub mod Found
+pub mod Texts
+pub mod Checked
 pub mod Left
 pub mod Thawed
 pub mod Spelled

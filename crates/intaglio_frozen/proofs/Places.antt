@@ -2,7 +2,9 @@
 use Rattle.std.proofs.Common.{◌≡◌, ℕ, zero, suc, ◌+◌, ◌-◌, ◌*◌, ◌/◌, ◌^◌, ◌<◌, ◌≤◌, List, ◌∷◌, length, drop, get_or, slice_get, slice_range, option_copied, Option, None, Some, IfSome, IsSome, Bor, refl, sym, ap, ◌∙◌, arith, length-drop}
 use Rattle.std.proofs.lemmas.Nat.{div_below, row_fits}
 use Rattle.std.proofs.Math.Nat.{mul_comm}
+use Rattle.std.proofs.lemmas.List.{get_or-drop}
 use Rattle.std.specs.Slice.{IsGetRangeResult}
+use Rattle.intaglio_hash.specs.Push.{number}
 use Rattle.intaglio_frozen.proofs.Ends.{from_length, strings-at, ends-at}
 use Rattle.intaglio_frozen.specs.Layout.{u32_at, numbers_at, count, ends_at, text_at, ends, strings}
 use Rattle.intaglio_frozen.specs.LookUp.{scaled}
@@ -20,6 +22,18 @@ numbers_get bs at (suc n) (suc i) l = numbers_get bs (at + 4) n i (omega arith) 
 pub strings_length : (bs : List ℕ) → length (strings bs) ≡ count bs
 unfolding strings
 strings_length bs = from_length 0 (drop (text_at bs) bs) (ends bs) ∙ numbers_length bs (ends_at bs) (count bs)
+
+-- a number in the bytes from a position on
+number-in : (bs : List ℕ) (a k j n : ℕ) → number (drop a bs) k j n ≡ number bs (a + k) j n
+number-in bs a k j zero = refl
+number-in bs a k j (suc n) =
+    let byte : get_or (drop a bs) (k + j) 0 ≡ get_or bs (a + k + j) 0 = get_or-drop a bs (k + j) 0 ∙ ap (λ p. get_or bs p 0) (omega arith) in
+    let rest = number-in bs a k (suc j) n in
+    cc
+
+pub u32_in : (bs : List ℕ) (a k at : ℕ) → at ≡ a + k → u32_at (drop a bs) k ≡ u32_at bs at
+unfolding u32_at
+u32_in bs a k at e = number-in bs a k 0 4 ∙ ap (λ p. number bs p 0 4) (sym e)
 
 -- where a text ends
 pub end_is : (bs : List ℕ) (i : ℕ) → i < count bs → get_or (ends bs) i 0 ≡ u32_at bs (ends_at bs + 4 * i)

@@ -1,9 +1,11 @@
 //! Bytes whose strings can be read.
-ghost use Rattle.std.specs.Prelude.{◌≡◌, ◌↔◌, ◌^◌, ◌<◌, ◌≤◌, IsTrue, length, slice_get, Some, IfOk, IfErr, IsOk};
+ghost use Rattle.std.specs.Prelude.{◌≡◌, false, ◌↔◌, ◌^◌, ◌<◌, ◌≤◌, IsTrue, length, slice_get, Some, IfOk, IfErr, IsOk};
 ghost use Rattle.intaglio_frozen.specs.Layout.{kind, strings};
 ghost use Rattle.intaglio_frozen.specs.LookUp.{find};
-ghost use Rattle.intaglio_frozen.specs.IsFrozen.{number_of, HasUnused, IsBlock};
+ghost use Rattle.intaglio_frozen.specs.IsFrozen.{number_of, HasUnused, IsBlock, AreTexts};
+ghost use Rattle.intaglio_frozen.specs.Checked.{IsHashAt, IsFoundAt};
 ghost use Rattle.intaglio_frozen.specs.Fault.{IsFault};
+ghost use Rattle.intaglio_frozen.specs.declared.error.FrozenError.TheVariants.{NotFound};
 
 use crate::error::FrozenError;
 use crate::iter::FrozenStrings;
@@ -81,6 +83,33 @@ impl<'a> Block<'a> {
         ensures { IsTrue result ↔ HasUnused self.now }
     {
         self.layout.has_unused()
+    }
+
+    // Whether all of the text is UTF-8, and each string ends where a character does.
+    pub(crate) fn is_text(&self) -> bool
+        ensures { IsTrue result → AreTexts (strings self.now) }
+    {
+        self.layout.is_text()
+    }
+
+    // The hash of a string that is there.
+    #[inline(always)]
+    pub(crate) fn hash(&self, i: usize) -> u64
+        requires { i < length (strings self.now) }
+        ensures { IsHashAt self.now i result }
+    {
+        self.layout.hash(self.string(i))
+    }
+
+    // Whether the string of a symbol is found at it, by the string's hash.
+    #[inline(always)]
+    pub(crate) fn is_at(&self, hash: u64, i: usize) -> bool
+        requires there { i < length (strings self.now) }
+        requires hash { IsHashAt self.now i hash }
+        ensures found { IsTrue result → IsFoundAt self.now i }
+        ensures not_found { result ≡ false → IsFault self.now (NotFound i) }
+    {
+        self.layout.is_at(hash, i)
     }
 
     // What a look-up finds.

@@ -1,17 +1,16 @@
 //! A frozen table.
-ghost use Rattle.std.specs.Prelude.{◌≡◌, ℕ, List, length, slice_get, map, zip, [], ◌∷◌, IfOk, IfErr, IsOk, Some, ◌^◌, ◌<◌, ◌≤◌, MatchOption, is_some, option_copied};
+ghost use Rattle.std.specs.Prelude.{◌≡◌, ℕ, List, length, slice_get, map, zip, [], ◌∷◌, IfOk, IfErr, IsOk, Some, ◌^◌, ◌<◌, ◌≤◌, is_some, option_copied};
 ghost use Rattle.intaglio_symbol.specs.AllSymbols.{numbers_from};
 ghost use Rattle.intaglio_core.specs.State.{first, AreDistinct};
 ghost use Rattle.intaglio_frozen.specs.Layout.{strings};
 ghost use Rattle.intaglio_frozen.specs.IsFrozen.{IsFrozen};
-ghost use Rattle.intaglio_frozen.specs.LookUp.{FindsAll};
 ghost use Rattle.intaglio_frozen.specs.Fault.{IsFault};
-ghost use Rattle.intaglio_frozen.specs.declared.error.FrozenError.TheVariants.{NotFound};
 
 use crate::block::Block;
+use crate::checking::{first_no_text, first_not_found};
 use crate::error::FrozenError;
 use crate::iter::{FrozenPairs, FrozenStrings};
-use crate::list::{StringList, first_fault};
+use crate::list::StringList;
 use intaglio_symbol::Symbol;
 use std::alloc::{AllocError, Global};
 use std::marker::Model;
@@ -56,9 +55,7 @@ impl<'a> Frozen<'a> {
         if let Some(i) = first_not_found(&block) {
             return Err(FrozenError::NotFound(i));
         }
-        // The number of strings is at most 2^32.
-        let _count = block.len();
-        if let Some(i) = first_fault(block.kind(), &block) {
+        if let Some(i) = first_no_text(&block) {
             return Err(FrozenError::NotUtf8(i));
         }
         Ok(Frozen { block })
@@ -195,16 +192,4 @@ impl StringList for Frozen<'_> {
     fn string(&self, i: usize) -> &[u8] {
         self.block.string(i)
     }
-}
-
-// The first string that isn't found at its symbol.
-fn first_not_found(block: &Block<'_>) -> Option<u32>
-    ensures { MatchOption result (FindsAll block.now) (λ i. IsFault block.now (NotFound i)) }
-{
-    for i in 0..block.len() {
-        if block.find(block.string(i)) != Some(i as u32) {
-            return Some(i as u32);
-        }
-    }
-    None
 }

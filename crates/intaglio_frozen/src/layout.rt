@@ -1,9 +1,10 @@
 //! Bytes whose header and sections can be read.
-ghost use Rattle.std.specs.Prelude.{◌≡◌, ◌↔◌, ◌+◌, ◌-◌, ◌*◌, ◌^◌, ◌<◌, ◌≤◌, ◌∷◌, IsTrue, length, drop, get_or, slice_get, slice_range, option_copied, None, Some, IfOk, IfErr, IfSome, IsOk, MatchOption};
+ghost use Rattle.std.specs.Prelude.{◌≡◌, ◌≢◌, ℕ, List, false, ◌↔◌, ◌+◌, ◌-◌, ◌*◌, ◌^◌, ◌<◌, ◌≤◌, ◌∷◌, IsTrue, length, drop, get_or, slice_get, slice_range, option_copied, None, Some, IfOk, IfErr, IfSome, IsOk, MatchOption};
 ghost use Rattle.intaglio_frozen.specs.Strings.{AreEnds};
 ghost use Rattle.intaglio_frozen.specs.Layout.{kind, numbers_at, text_at, ends, strings, places};
 ghost use Rattle.intaglio_frozen.specs.LookUp.{hash, place, if_same, find};
-ghost use Rattle.intaglio_frozen.specs.IsFrozen.{number_of, HasSections, HasUnused, IsBlock};
+ghost use Rattle.intaglio_frozen.specs.IsFrozen.{number_of, HasSections, HasUnused, IsBlock, AreTexts};
+ghost use Rattle.intaglio_frozen.specs.Checked.{IsHashAt, IsFoundAt, AreCharEnds};
 ghost use Rattle.intaglio_frozen.specs.Fault.{IsFault};
 
 use crate::error::FrozenError;
@@ -15,12 +16,15 @@ use crate::numbers::{
 };
 use intaglio_hash::KeyedState;
 use std::marker::Model;
+use std::str;
 
 /// Bytes whose header and sections can be read. A contract sees the bytes.
 #[derive(Drop)]
 pub(crate) struct Layout<'a> {
     bytes: &'a [u8],
     text: &'a [u8],
+    // The ends of the strings, and the four bytes before them, so that each string has a number before its end.
+    ends: &'a [u8],
     state: KeyedState,
     kind: Kind,
     count: usize,
@@ -66,6 +70,7 @@ impl<'a> Layout<'a> {
         Ok(Layout {
             bytes,
             text: &bytes[text_at..],
+            ends: &bytes[ends_at - 4..],
             state: KeyedState::with_keys(header.key0, header.key1),
             kind: header.kind,
             count,
@@ -137,6 +142,29 @@ impl<'a> Layout<'a> {
         self.text.get(self.start_of(i)..self.end_of(i))
     }
 
+    // Whether all of the text is UTF-8, and each string ends where a character does.
+    pub(crate) fn is_text(&self) -> bool
+        requires { IsBlock self.now }
+        ensures { IsTrue result → AreTexts (strings self.now) }
+    {
+        let Ok(text) = str::from_utf8(self.text) else {
+            return false;
+        };
+        self.has_char_ends(text)
+    }
+
+    // Whether each string ends where a character of this text does.
+    fn has_char_ends(&self, text: &str) -> bool
+        ensures { IsTrue result → AreCharEnds text.now (ends self.now) }
+    {
+        for i in 0..self.count {
+            if !text.is_char_boundary(self.end_of(i)) {
+                return false;
+            }
+        }
+        true
+    }
+
     // All strings, in order, where they fill the text.
     #[tactic(auto, unfolding(crate::specs::Layout::strings))]
     pub(crate) fn strings(&self) -> FrozenStrings<'a>
@@ -165,9 +193,24 @@ impl<'a> Layout<'a> {
         Some(symbol)
     }
 
+    // Whether the string of a symbol is found at it, by the string's hash. No string is compared: what has the
+    // symbol in its place is the string itself.
+    #[inline(always)]
+    pub(crate) fn is_at(&self, hashed: u64, i: usize) -> bool
+        requires { IsHashAt self.now i hashed }
+        ensures found { IsTrue result → IsFoundAt self.now i }
+        ensures not_found { result ≡ false → (w : List ℕ) → slice_get (strings self.now) i ≡ Some w → find self.now w ≢ Some i }
+    {
+        let place = self.place(hashed);
+        if self.bytes[self.tags_at + place] != (hashed % 256) as u8 {
+            return false;
+        }
+        read_u32(self.bytes, HEADER + 4 * place) as usize == i
+    }
+
     #[inline(always)]
     #[tactic(auto, unfolding(crate::specs::LookUp::hash))]
-    fn hash(&self, string: &[u8]) -> u64
+    pub(crate) fn hash(&self, string: &[u8]) -> u64
         ensures { result ≡ hash self.now string.now }
     {
         hash_by(&self.state, string)
@@ -190,7 +233,9 @@ impl<'a> Layout<'a> {
         requires { i < length (strings self.now) }
         ensures { result ≡ get_or (0 ∷ ends self.now) i 0 }
     {
-        if i == 0 { 0 } else { self.end_of(i - 1) }
+        // The number is read for the first string too: then no branch is needed.
+        let before = read_u32(self.ends, 4 * i) as usize;
+        if i == 0 { 0 } else { before }
     }
 
     // Where a string ends.
@@ -199,7 +244,7 @@ impl<'a> Layout<'a> {
         requires { i < length (strings self.now) }
         ensures { result ≡ get_or (ends self.now) i 0 }
     {
-        read_u32(self.bytes, self.ends_at + 4 * i) as usize
+        read_u32(self.ends, 4 * i + 4) as usize
     }
 }
 

@@ -2,6 +2,7 @@
 #![tactic(auto)]
 
 mod block;
+mod checking;
 mod error;
 mod freezing;
 mod frozen;

@@ -1,0 +1,5 @@
+use Rattle.intaglio_frozen.specs.Checked.{AreFoundFrom}
+use Rattle.intaglio_frozen.proofs.checking.first_misplaced.Given as goal
+
+abbrev pub invariant-loop-k : goal.invariant-loop-k
+invariant-loop-k l = AreFoundFrom l.block l.start l.k
