@@ -54,6 +54,7 @@ invariant_of-self c =
     rw (c.truncate.ensures.items, c.truncate-2.ensures.items, at_bucket all) record {
       modulus = c.self.invariant.modulus;
       counted = c.self.invariant.counted;
+      enough = c.self.invariant.enough;
       linked = cut.0;
       headed = headed_filter _ _ _ _ _ _ (within all) c.self.invariant.filtered.size (others all) c.self.invariant.headed 0 (λ e. empty, λ e. refl) (rw empty tt);
       filtered = filtered_vacated _ _ _ _ (filtered-take _ _ _ (c.placed-last.result - 1) c.self.invariant.filtered) empty;
@@ -79,6 +80,7 @@ invariant_of-self-in-Some-behind c =
     rw (c.truncate.ensures.items, c.truncate-2.ensures.items, at_bucket all) record {
       modulus = c.self.invariant.modulus;
       counted = c.self.invariant.counted ∙ sym size;
+      enough = rw size c.self.invariant.enough;
       linked = rw size cut.0;
       headed = headed_head _ _ _ _ _ _ (within all) c.self.invariant.filtered.size (others all) c.self.invariant.headed c.read.result (neither (marked all) (led_some _ _ (sym c.in-Some-behind.is ∙ cut.1))) head;
       filtered = rw size (filtered-take _ _ _ (c.placed-last.result - 1) c.self.invariant.filtered);
@@ -155,6 +157,7 @@ invariant_of-self-in-Some c =
     rw (c.truncate.ensures.items, c.truncate-2.ensures.items, c.unwrap_or.ensures, c.id.ensures, at_bucket all) record {
       modulus = c.self.invariant.modulus;
       counted = c.self.invariant.counted ∙ sym size;
+      enough = rw size c.self.invariant.enough;
       linked = rw size (behind_cut all c.in-Some.before pred).0;
       headed = headed;
       filtered = rw size (filtered-take _ _ _ (c.placed-last.result - 1) c.self.invariant.filtered);
