@@ -73,6 +73,7 @@ impl Model for Index {
       modulus : IsModulus index.modulus;
       counted : index.modulus.count ≡ length index.heads.items;
       enough : index.places ≤ length index.heads.items;
+      placed : length index.hashes.items ≤ index.places;
       linked : IsLinked (length index.heads.items) index.hashes.items index.links.items;
       headed : IsHeaded (index.modulus.mask + 1) index.heads.items index.filters.items index.hashes.items;
       filtered : IsFiltered index.filters.items (length index.heads.items) index.hashes.items;

@@ -1,4 +1,4 @@
-use Rattle.std.proofs.Common.{◌≡◌, ◌<◌, ◌+◌, ◌%◌, [], length, arith, ◌∙◌, sym, ap, refl, None}
+use Rattle.std.proofs.Common.{◌≡◌, ◌<◌, ◌+◌, ◌%◌, [], ◌∷◌, length, length-append, arith, ◌∙◌, sym, ap, refl, None}
 use Rattle.std.proofs.lemmas.List.{length-set, get_or_read}
 use Rattle.intaglio_index.specs.declared.index.head.Head.{Head}
 use Rattle.intaglio_index.specs.Placed.{Placed, chain, chain_from}
@@ -31,6 +31,7 @@ invariant_of-self c =
       modulus = c.self.invariant.modulus;
       counted = c.self.invariant.counted ∙ sym size;
       enough = rw size c.self.invariant.enough;
+      placed = omega (arith, room, number, length-append c.self.inside.hashes.items (c.args.hash ∷ []));
       linked = rw size linked;
       headed = headed;
       filtered = rw size marks;

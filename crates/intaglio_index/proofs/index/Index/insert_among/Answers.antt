@@ -1,4 +1,4 @@
-use Rattle.std.proofs.Common.{◌≡◌, ℕ, ◌<◌, ◌+◌, ◌%◌, ◌++◌, ◌∷◌, [], length, set, arith, sym, ◌∙◌}
+use Rattle.std.proofs.Common.{◌≡◌, ℕ, ◌<◌, ◌≤◌, ◌+◌, ◌%◌, ◌++◌, ◌∷◌, [], length, length-append, set, arith, sym, ◌∙◌}
 use Rattle.std.proofs.lemmas.List.{length-set, get_or_read}
 use Rattle.intaglio_index.specs.Placed.{chain, chain_from, first_symbol_of, IsPredecessor}
 use Rattle.intaglio_index.specs.Heads.{IsWord, IsHead}
@@ -18,6 +18,9 @@ number_is c = rw (← c.self.view_is) at c.requires.next
 
 free : (c : After-marked) → c.args.symbol < length c.self.inside.heads.items
 free c = (let room = rw (← c.self.view_is) at c.requires.room in omega (arith, room, c.self.invariant.enough))
+
+filled : (c : After-marked) → length (c.self.inside.hashes.items ++ c.args.hash ∷ []) ≤ c.self.inside.places
+filled c = (let room = rw (← c.self.view_is) at c.requires.room in omega (arith, room, number_is c, length-append c.self.inside.hashes.items (c.args.hash ∷ [])))
 
 within : (c : After-marked) → c.args.hash % length c.self.inside.heads.items < length c.self.inside.heads.items
 within c = omega (arith, free c)
@@ -57,6 +60,7 @@ invariant_of-self c =
       modulus = c.self.invariant.modulus;
       counted = c.self.invariant.counted ∙ sym size;
       enough = rw size c.self.invariant.enough;
+      placed = filled all;
       linked = rw size linked;
       headed = headed;
       filtered = rw size (filtered all);
@@ -87,6 +91,7 @@ invariant_of-self-in-Some c =
       modulus = c.self.invariant.modulus;
       counted = c.self.invariant.counted ∙ sym size;
       enough = rw size c.self.invariant.enough;
+      placed = filled all;
       linked = rw size linked;
       headed = headed;
       filtered = rw size (filtered all);
