@@ -1,7 +1,8 @@
 -- What a search costs among many buckets bounds its cost among fewer of which each is made of whole ones.
-use Rattle.std.proofs.Common.{◌≡◌, ℕ, zero, suc, ◌+◌, ◌*◌, ◌%◌, ◌<◌, ◌≤◌, Bool, true, false, cond, List, [], ◌∷◌, length, filter, map, get_or, sym, ap, ◌∙◌, refl, arith, inl, inr}
+use Rattle.std.proofs.Common.{◌≡◌, ℕ, zero, suc, ◌+◌, ◌*◌, ◌%◌, ◌<◌, ◌≤◌, ◌==◌, Bool, true, false, cond, List, [], ◌∷◌, length, filter, map, get_or, sym, ap, ◌∙◌, refl, arith, inl, inr}
 use Rattle.std.specs.List.{All, Contains}
-use Rattle.std.proofs.Math.Nat.{mod-mod_of_dvd, dvd-mul_left, ◌∣◌}
+use Rattle.std.proofs.Math.Nat.{mod-mod_of_dvd, dvd-mul_left}
+use Rattle.std.specs.Int.{◌∣◌}
 use Rattle.std.proofs.lemmas.Bool.Decides.{eqb_tells}
 use Rattle.std.proofs.lemmas.List.Elements.{All-weaker}
 use Rattle.intaglio_index.proofs.ChainLemmas.{eqb-equal}
@@ -17,31 +18,27 @@ contains_both : {X : Type 0} (x y : X) (xs ys : List X) → (Contains xs y → C
 contains_both x y xs ys goes zero l e = (zero, omega arith, e)
 contains_both x y xs ys goes (suc i) l e = contains_later x y ys (goes (i, omega (arith, l), e))
 
+fewer_by : {X : Type 0} (b d : Bool) (x : X) (xs ys : List X) → (b ≡ true → d ≡ true) → length xs ≤ length ys → length (cond b (x ∷ xs) xs) ≤ length (cond d (x ∷ ys) ys)
+fewer_by true true x xs ys passes le = omega (arith, le)
+fewer_by true false x xs ys passes le = absurd (let no = passes refl in cc)
+fewer_by false true x xs ys passes le = omega (arith, le)
+fewer_by false false x xs ys passes le = le
+
+within_by : {X : Type 0} (b d : Bool) (x y : X) (xs ys : List X) → (b ≡ true → d ≡ true) → (Contains xs y → Contains ys y) → Contains (cond b (x ∷ xs) xs) y → Contains (cond d (x ∷ ys) ys) y
+within_by true true x y xs ys passes goes c = contains_both x y xs ys goes c.0 c.1 c.2
+within_by true false x y xs ys passes goes c = absurd (let no = passes refl in cc)
+within_by false true x y xs ys passes goes c = contains_later x y ys (goes c)
+within_by false false x y xs ys passes goes c = goes c
+
 -- what passes one test passes another
 module _ {X : Type 0} (p q : X → Bool) (passes : (x : X) → p x ≡ true → q x ≡ true) where
   filter-fewer : (xs : List X) → length (filter p xs) ≤ length (filter q xs)
   filter-fewer [] = omega arith
-  filter-fewer (x ∷ xs) =
-      let rest = filter-fewer xs in
-      let cases : (b d : Bool) → (b ≡ true → d ≡ true) → length (cond b (x ∷ filter p xs) (filter p xs)) ≤ length (cond d (x ∷ filter q xs) (filter q xs)) = elim [
-        | true true ↦ λ yes. omega (arith, rest)
-        | true false ↦ λ yes. absurd (let no = yes refl in cc)
-        | false true ↦ λ yes. omega (arith, rest)
-        | false false ↦ λ yes. rest
-      ] in
-      cases (p x) (q x) (passes x)
+  filter-fewer (x ∷ xs) = fewer_by (p x) (q x) x (filter p xs) (filter q xs) (passes x) (filter-fewer xs)
 
   filter-within : (y : X) (xs : List X) → Contains (filter p xs) y → Contains (filter q xs) y
   filter-within y [] c = c
-  filter-within y (x ∷ xs) =
-      let rest = filter-within y xs in
-      let cases : (b d : Bool) → (b ≡ true → d ≡ true) → Contains (cond b (x ∷ filter p xs) (filter p xs)) y → Contains (cond d (x ∷ filter q xs) (filter q xs)) y = elim [
-        | true true ↦ λ yes c. contains_both x y (filter p xs) (filter q xs) rest c.0 c.1 c.2
-        | true false ↦ λ yes c. absurd (let no = yes refl in cc)
-        | false true ↦ λ yes c. contains_later x y (filter q xs) (rest c)
-        | false false ↦ λ yes c. rest c
-      ] in
-      cases (p x) (q x) (passes x)
+  filter-within y (x ∷ xs) c = within_by (p x) (q x) x y (filter p xs) (filter q xs) (passes x) (filter-within y xs) c
 
 module _ (hash : Key → ℕ) (n m : ℕ) (multiple : (j : ℕ) × (m ≡ suc j * n)) where
   divides : n ∣ m
@@ -51,8 +48,8 @@ module _ (hash : Key → ℕ) (n m : ℕ) (multiple : (j : ℕ) × (m ≡ suc j 
   shares : (a b : ℕ) → a % m ≡ b % m → a % n ≡ b % n
   shares a b e = sym (mod-mod_of_dvd n a divides) ∙ ap (λ r. r % n) e ∙ mod-mod_of_dvd n b divides
 
-  shares_as : (k x : Key) → (hash x % m == hash k % m) ≡ true → (hash x % n == hash k % n) ≡ true
-  shares_as k x yes = elim (eqb_tells (hash x % m) (hash k % m)) [
+  shares_as : (k x : Key) → ((hash x % m) == (hash k % m)) ≡ true → ((hash x % n) == (hash k % n)) ≡ true
+  shares_as k x same_bucket = elim (eqb_tells (hash x % m) (hash k % m)) [
     | inl same ↦ eqb-equal _ _ (shares (hash x) (hash k) same.1)
     | inr other ↦ absurd (let no = other.0 in cc)
   ]
@@ -65,7 +62,7 @@ module _ (hash : Key → ℕ) (n m : ℕ) (multiple : (j : ℕ) × (m ≡ suc j 
         once = is.once;
         within = All-weaker (Contains (bucket_keys hash m keys k)) (Contains (bucket_keys hash n keys k)) (λ x c. filter-within _ _ (shares_as k) x keys c) (stored_keys cost) is.within;
         equal_hashes = is.equal_hashes;
-        steps = omega (arith, is.steps, filter-fewer (λ x. hash x % m == hash k % m) (λ x. hash x % n == hash k % n) (shares_as k) keys);
+        steps = omega (arith, is.steps, filter-fewer (λ x. (hash x % m) == (hash k % m)) (λ x. (hash x % n) == (hash k % n)) (shares_as k) keys);
         placements = is.placements;
       }
 

@@ -34,7 +34,7 @@ returns-in_err-candidate-clause-cost g c = λ start pending.
     let none : c.args.candidate ≡ None = search rules in
     let rest = nothing g.L.Store.buckets_for g.L.Content.Keyed.key old c.args.self.now.state c.self.inside.index (old k) pending.0 start c.args.work.now.events c.args.candidate pending.2 none hashes count pending.1 in
     let passed = rw count at (passes g.L.Content.Keyed.key old c.self.inside.index c.args.self.now.state.contents k start c.args.work.now.events hashes (rw (← c.self.view_is) c.self.invariant.distinct) rest.1) in
-    costs_fewer old c.args.self.now.state.buckets (g.L.Store.buckets_for c.args.self.now.state.buckets) (g.met.L.Store.buckets_multiple c.args.self.now.state.buckets) (map g.L.Content.Keyed.key c.args.self.now.state.contents) k start c.args.work.now.events passed
+    costs_fewer old c.args.self.now.state.buckets (g.L.Store.buckets_for c.args.self.now.state.buckets) (g.L.Store.buckets_multiple c.args.self.now.state.buckets) (map g.L.Content.Keyed.key c.args.self.now.state.contents) k start c.args.work.now.events passed
 
 pub returns-in_err-candidate-clause-recorded : goal.returns-in_err-candidate-clause-recorded
 returns-in_err-candidate-clause-recorded g c = λ start pending.
@@ -79,7 +79,7 @@ returns-then-same_at-clause-events g c =
 pub returns-then-same_at-clause-cost : goal.returns-then-same_at-clause-cost
 returns-then-same_at-clause-cost g c = λ start pending.
     let found = finds c.in-Some.symbol c.if-same_at.ensures.content _ (rw c.in-Some.is at (c.loop-candidate.invariant.since start pending)) (rw (← c.id.ensures) c.if-same_at.ensures.stands) (c.if-same_at.ensures.same_keys.0 refl) c.if-same_at.ensures.event in
-    let multiple : (n : ℕ) × (c.self.inside.index.count ≡ suc n * c.self.inside.index.places) = rw c.self.invariant.buckets (g.met.L.Store.buckets_multiple c.self.inside.index.places) in
+    let multiple : (n : ℕ) × (c.self.inside.index.count ≡ suc n * c.self.inside.index.places) = rw c.self.invariant.buckets (g.L.Store.buckets_multiple c.self.inside.index.places) in
     rw (← c.self.view_is) (costs_fewer _ c.self.inside.index.places c.self.inside.index.count multiple _ _ start _ (rw (← c.self.view_is) at found.1))
 
 pub returns-then-same_at-clause-recorded : goal.returns-then-same_at-clause-recorded
@@ -121,7 +121,7 @@ returns-clause-events g c = c.loop-candidate.invariant.events
 pub returns-clause-cost : goal.returns-clause-cost
 returns-clause-cost g c = λ start pending.
     let ended = ends (rw c.in_default.is at (c.loop-candidate.invariant.since start pending)) in
-    let multiple : (n : ℕ) × (c.self.inside.index.count ≡ suc n * c.self.inside.index.places) = rw c.self.invariant.buckets (g.met.L.Store.buckets_multiple c.self.inside.index.places) in
+    let multiple : (n : ℕ) × (c.self.inside.index.count ≡ suc n * c.self.inside.index.places) = rw c.self.invariant.buckets (g.L.Store.buckets_multiple c.self.inside.index.places) in
     rw (← c.self.view_is) (costs_fewer _ c.self.inside.index.places c.self.inside.index.count multiple _ _ start _ (rw (← c.self.view_is) at ended.1))
 
 pub returns-clause-recorded : goal.returns-clause-recorded
