@@ -1,8 +1,7 @@
 //! A packed list of strings as the store of a table.
 ghost use Rattle.std.specs.Prelude.{◌≡◌, ◌↔◌, ◌∷◌, [], IsTrue, length, ⊤, refl, ◌≤◌};
 ghost use Rattle.intaglio_content.specs.Key.{hash_of};
-ghost use Rattle.intaglio_packed.specs.Buckets.{sparse};
-ghost use Rattle.intaglio_packed.proofs.Multiple.{sparse-multiple};
+ghost use Rattle.intaglio_packed.specs.Buckets.{sparse, sparse-multiple};
 
 use crate::buckets::sparse_buckets;
 use crate::packed::Packed;

@@ -2,8 +2,7 @@
 ghost use Rattle.std.specs.Prelude.{◌≡◌, ◌+◌, ◌<◌, ◌≤◌, [], ◌∷◌, ◌++◌, length, ⊤, refl, sum_by, take, slice_get, Some, IfOk, IsOk, OnErr, OnOk};
 ghost use Rattle.intaglio_packed.specs.Strings.{HasRoom};
 ghost use Rattle.intaglio_content.specs.Key.{hash_of};
-ghost use Rattle.intaglio_packed.specs.Buckets.{sparse};
-ghost use Rattle.intaglio_packed.proofs.Multiple.{sparse-multiple};
+ghost use Rattle.intaglio_packed.specs.Buckets.{sparse, sparse-multiple};
 
 use crate::buckets::sparse_buckets;
 use crate::packed::Packed;
