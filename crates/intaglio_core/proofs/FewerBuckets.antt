@@ -1,6 +1,6 @@
 -- What a search costs among many buckets bounds its cost among fewer of which each is made of whole ones.
-use Rattle.std.proofs.Common.{◌≡◌, ℕ, zero, suc, ◌+◌, ◌*◌, ◌%◌, ◌<◌, ◌≤◌, ◌==◌, Bool, true, false, cond, List, [], ◌∷◌, length, filter, map, get_or, sym, ap, ◌∙◌, refl, arith, inl, inr}
-use Rattle.std.specs.List.{All, Contains}
+use Rattle.std.proofs.Common.{◌≡◌, ℕ, zero, suc, ◌*◌, ◌%◌, ◌<◌, ◌≤◌, ◌==◌, Bool, true, false, cond, List, [], ◌∷◌, length, filter, get_or, sym, ap, ◌∙◌, refl, arith, inl, inr}
+use Rattle.std.specs.List.{Contains}
 use Rattle.std.proofs.Math.Nat.{mod-mod_of_dvd, dvd-mul_left}
 use Rattle.std.specs.Int.{◌∣◌}
 use Rattle.std.proofs.lemmas.Bool.Decides.{eqb_tells}

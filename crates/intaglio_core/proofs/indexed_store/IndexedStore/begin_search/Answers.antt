@@ -1,4 +1,4 @@
-use Rattle.std.proofs.Common.{◌≡◌, map, refl}
+use Rattle.std.proofs.Common.{◌≡◌, map}
 use Rattle.intaglio_content.specs.Key.{hash_of}
 use Rattle.intaglio_core.proofs.Starts.{pending}
 use Rattle.intaglio_core.proofs.indexed_store.IndexedStore.begin_search.Goals as goal
