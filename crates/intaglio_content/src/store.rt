@@ -1,5 +1,5 @@
 //! Where a table keeps its contents.
-ghost use Rattle.std.specs.Prelude.{◌≡◌, ◌+◌, ◌<◌, ◌≤◌, ℕ, List, [], ◌∷◌, ◌++◌, length, map, min, option_copied, slice_get, sum_by, take, Some};
+ghost use Rattle.std.specs.Prelude.{◌≡◌, ◌+◌, ◌*◌, ◌<◌, ◌≤◌, ℕ, suc, List, [], ◌∷◌, ◌++◌, length, map, min, option_copied, slice_get, sum_by, take, Some};
 ghost use Rattle.std.specs.Prelude.{IfOk, IsOk, OnErr, OnOk};
 ghost use Rattle.std.specs.Option.{option_map};
 ghost use Rattle.intaglio_content.specs.Key.{hash_of};
@@ -14,7 +14,8 @@ use std::hash::BuildHasher;
 /// A list of contents, as a table keeps it: a `Vec` of owned contents, or many strings in one buffer.
 ///
 /// Contracts see the list itself, how many contents it has room for in total, and how many more bytes of
-/// their spellings. A `Vec` keeps no spellings, so for it the number of bytes is 0.
+/// their spellings. A `Vec` keeps no spellings, so for it the number of bytes is 0. They see also how many
+/// buckets an index over the list has.
 pub trait Store {
     /// What contracts see of one item of the list.
     type Content: Keyed;
@@ -29,6 +30,12 @@ pub trait Store {
     ghost most: { Self → ℕ };
 
     ghost spare_bytes: { Self → ℕ };
+
+    // by the number of contents that an index is made for, the number of its buckets
+    ghost buckets_for: { ℕ → ℕ };
+
+    // so the contents of one bucket would also share a bucket if there were one for each content
+    ghost buckets_multiple: { (n : ℕ) → (k : ℕ) × (buckets_for n ≡ suc k * n) };
 
     /// An empty list, which allocates nothing.
     fn new(alloc: Global) -> Self
@@ -98,6 +105,13 @@ pub trait Store {
         ensures no_more { most self.new ≤ most self.old }
         ensures frees { length (contents self.old) ≡ 0 → min_capacity ≡ 0 → most self.new ≡ 0 }
         ensures frees_bytes { length (contents self.old) ≡ 0 → spare_bytes self.new ≡ 0 };
+
+    /// How many buckets an index over such a list has if it is made for `count` contents: one for each, or
+    /// a multiple of that.
+    fn bucket_count(count: usize) -> usize
+        ensures buckets { result ≡ buckets_for count }
+        ensures enough { count ≤ result }
+        ensures none { count ≡ 0 → result ≡ 0 };
 }
 
 /// A store that keeps the bytes of all its contents in one buffer.

@@ -1,5 +1,6 @@
 //! A `Vec` of owned contents as the store of a table.
-ghost use Rattle.std.specs.Prelude.{◌≡◌, vec_capacity};
+ghost use Rattle.std.specs.Prelude.{◌≡◌, ◌*◌, suc, vec_capacity};
+ghost use Rattle.std.proofs.Common.{arith};
 
 use crate::content::{Content, Formed, Keyed, LookedUp, Sought, Spelled, ToContent};
 use crate::store::{CopiedTo, Lends, LookedUpIn, SoughtIn, SpelledStore, Store};
@@ -17,6 +18,10 @@ impl<C: Keyed> Store for Vec<C> {
     ghost most = { λ list. vec_capacity list };
 
     ghost spare_bytes = { λ _. 0 };
+
+    ghost buckets_for = { λ n. n };
+
+    ghost buckets_multiple = { λ n. (0, omega arith) };
 
     fn new(alloc: Global) -> Vec<C> {
         Vec::new(alloc)
@@ -61,6 +66,11 @@ impl<C: Keyed> Store for Vec<C> {
 
     fn shrink_to(&mut self, min_capacity: usize) {
         Vec::shrink_to(self, min_capacity);
+    }
+
+    #[inline(always)]
+    fn bucket_count(count: usize) -> usize {
+        count
     }
 }
 

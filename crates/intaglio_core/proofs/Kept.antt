@@ -47,9 +47,9 @@ distinct-take keys n le apart = λ i j d lt below.
     rw (get_or-take n keys i d a, get_or-take n keys j d b) (apart i j d lt (omega arith))
 
 -- a content is taken where a place was found for it
-pub list-taken : {C : Type 0} (cs : List C) (c : C) (n capacity more limit : ℕ) (old mid new : Placed) (before after : Work) → n ≡ length cs → length cs < limit → length cs ≤ old.room → old.room ≤ old.count
-    → capacity ≤ more → old.room ≤ mid.room → FindsPlace (length cs) limit old mid before after → new.count ≡ mid.count → new.room ≡ mid.room
-    → IsAppended (record { contents = cs; spare = min capacity old.room - length cs; buckets = old.count; limit = limit }) c n (record { contents = cs ++ c ∷ []; spare = min more new.room - length (cs ++ c ∷ []); buckets = new.count; limit = limit })
+pub list-taken : {C : Type 0} (cs : List C) (c : C) (n capacity more limit : ℕ) (old mid new : Placed) (before after : Work) → n ≡ length cs → length cs < limit → length cs ≤ old.room → old.room ≤ old.places
+    → capacity ≤ more → old.room ≤ mid.room → FindsPlace (length cs) limit old mid before after → new.places ≡ mid.places → new.room ≡ mid.room
+    → IsAppended (record { contents = cs; spare = min capacity old.room - length cs; buckets = old.places; limit = limit }) c n (record { contents = cs ++ c ∷ []; spare = min more new.room - length (cs ++ c ∷ []); buckets = new.places; limit = limit })
 list-taken cs c n capacity more limit old mid new before after at below within fits list index place count room =
     let size : length (cs ++ c ∷ []) ≡ length cs + 1 = simp length-append in
     record {
@@ -57,17 +57,17 @@ list-taken cs c n capacity more limit old mid new before after at below within f
       position = at;
       contents = refl;
       spare = λ some. (omega arith, count ∙ place.kept (omega arith));
-      growth = λ grew. elim (cases_lt (length cs) old.count) [
+      growth = λ grew. elim (cases_lt (length cs) old.places) [
         | inl inside ↦ absurd (grew (count ∙ place.kept inside))
         | inr full ↦ (omega arith, rw count (place.grown full))
       ];
       limit = refl;
     }
 
-module _ {C : Type 0} (key : C → Key) (hash : Key → ℕ) where
-  pub indexed-push : (cs : List C) (c : C) (old new : Placed) (most h : ℕ) → IsIndexed key hash cs old most → first_of (map key cs) (key c) ≡ None → length cs < most
-      → h ≡ hash (key c) → new.hashes ≡ old.hashes ++ h ∷ [] → new.room ≤ new.count → length cs < new.room → IsIndexed key hash (cs ++ c ∷ []) new most
-  indexed-push cs c old new most h is none below same placed fits free =
+module _ {C : Type 0} (buckets_for : ℕ → ℕ) (key : C → Key) (hash : Key → ℕ) where
+  pub indexed-push : (cs : List C) (c : C) (old new : Placed) (most h : ℕ) → IsIndexed buckets_for key hash cs old most → first_of (map key cs) (key c) ≡ None → length cs < most
+      → h ≡ hash (key c) → new.hashes ≡ old.hashes ++ h ∷ [] → new.room ≤ new.places → length cs < new.room → new.count ≡ buckets_for new.places → IsIndexed buckets_for key hash (cs ++ c ∷ []) new most
+  indexed-push cs c old new most h is none below same placed fits free buckets =
       let size : length (cs ++ c ∷ []) ≡ length cs + 1 = simp length-append in
       record {
         hashes = rw (placed, is.hashes, same, map-append) refl;
@@ -76,11 +76,12 @@ module _ {C : Type 0} (key : C → Key) (hash : Key → ℕ) where
         numbered = is.numbered;
         fits = fits;
         within = omega arith;
+        buckets = buckets;
       }
 
-  pub indexed-take : (cs : List C) (old new : Placed) (most n : ℕ) → IsIndexed key hash cs old most → n ≤ length cs
-      → new.hashes ≡ take n old.hashes → new.count ≡ old.count → new.room ≡ old.room → IsIndexed key hash (take n cs) new most
-  indexed-take cs old new most n is le cut count room =
+  pub indexed-take : (cs : List C) (old new : Placed) (most n : ℕ) → IsIndexed buckets_for key hash cs old most → n ≤ length cs
+      → new.hashes ≡ take n old.hashes → new.count ≡ old.count → new.places ≡ old.places → new.room ≡ old.room → IsIndexed buckets_for key hash (take n cs) new most
+  indexed-take cs old new most n is le cut count places room =
       let size : length (take n cs) ≡ n = length-take-le n cs le in
       let a = is.fits in
       let b = is.within in
@@ -91,12 +92,13 @@ module _ {C : Type 0} (key : C → Key) (hash : Key → ℕ) where
         distinct = rw keys (distinct-take (map key cs) n (omega (arith, le, length-map cs key)) is.distinct);
         limited = omega arith;
         numbered = is.numbered;
-        fits = omega (arith, a, count, room);
+        fits = omega (arith, a, places, room);
         within = omega (arith, b, room, size, le);
+        buckets = count ∙ is.buckets ∙ ap buckets_for (sym places);
       }
 
-  pub indexed-valid : (cs : List C) (index : Placed) (most capacity : ℕ) → IsIndexed key hash cs index most
-      → IsValid key (record { contents = cs; spare = min capacity index.room - length cs; buckets = index.count; limit = most })
+  pub indexed-valid : (cs : List C) (index : Placed) (most capacity : ℕ) → IsIndexed buckets_for key hash cs index most
+      → IsValid key (record { contents = cs; spare = min capacity index.room - length cs; buckets = index.places; limit = most })
   indexed-valid cs index most capacity is =
       let a = is.fits in
       let b = is.within in

@@ -16,3 +16,4 @@ pub mod ByForm
 pub mod OnResult
 pub mod Alike
 pub mod Starts
+pub mod FewerBuckets

@@ -78,10 +78,10 @@ no-room-cost s before after e = room-cost s 0 before after (omega arith) (e ∙ 
 
 -- what a reservation of the index costs
 pub reserve-cost : {C : Type 0} (s : State C) (result : Result (Unit {0}) AllocError) (wanted : ℕ) (old new : Placed) (before after : Work)
-    → length old.hashes ≤ length s.contents → (wanted ≤ old.count → KeepsBuckets old new before after) → OnOk result (old.count < wanted → PlacesEach old before after)
+    → length old.hashes ≤ length s.contents → (wanted ≤ old.places → KeepsBuckets old new before after) → OnOk result (old.places < wanted → PlacesEach old before after)
     → OnErr result (KeepsBuckets old new before after) → Costs before after (IsRoomCost s)
 reserve-cost s (Ok _) wanted old new before after le stays places err =
-    elim (cases_lt old.count wanted) [
+    elim (cases_lt old.places wanted) [
       | inl more ↦ room-cost s (length old.hashes) before.events after.events le (places more)
       | inr enough ↦ no-room-cost s before.events after.events (stays enough).quiet
     ]

@@ -8,15 +8,16 @@ use Rattle.intaglio_core.specs.State.{State, AreDistinct}
 use Rattle.intaglio_core.specs.Cost.{IsGrowthCost}
 use Rattle.intaglio_symbol.specs.declared.error.InternError.{InternError}
 
-module _ {C : Type 0} (key : C → Key) (hash : Key → ℕ) where
-  -- the index has the hashes of the contents' keys, and room for them
+module _ {C : Type 0} (buckets_for : ℕ → ℕ) (key : C → Key) (hash : Key → ℕ) where
+  -- the index has the hashes of the contents' keys, room for them, and its number of buckets by what it was made for
   pub record IsIndexed (contents : List C) (index : Placed) (most : ℕ) : Type 0 where
     pub hashes : index.hashes ≡ map (λ c. hash (key c)) contents
     pub distinct : AreDistinct (map key contents)
     pub limited : length contents ≤ most
     pub numbered : most ≤ 2 ^ 32
-    pub fits : index.room ≤ index.count
+    pub fits : index.room ≤ index.places
     pub within : length contents ≤ index.room
+    pub buckets : index.count ≡ buckets_for index.places
 
 -- what is added for a content that isn't stored yet: a growth and a placement
 pub record IsGrowthAndPlacement {C : Type 0} (old new : State C) (cost : List Event) : Type 0 where
@@ -34,20 +35,20 @@ pub record HasPlaces (n limit : ℕ) (index : Placed) : Type 0 where
   pub below : n < limit
   pub numbered : limit ≤ 2 ^ 32
   pub hashes : length index.hashes ≡ n
-  pub fits : index.room ≤ index.count
+  pub fits : index.room ≤ index.places
   pub within : n ≤ index.room
 
--- there is room for more than n symbols. If the buckets were full, they grew
+-- there is room for more than n symbols. If the buckets held as many as they were made for, they grew
 -- and all symbols were placed again
 pub record FindsPlace (n limit : ℕ) (old new : Placed) (before after : Work) : Type 0 where
   pub free : n < new.room
-  pub kept : n < old.count → new.count ≡ old.count
-  pub quiet : n < old.count → after.events ≡ before.events
-  pub grown : old.count ≤ n → min limit (max 4 (2 * old.count)) ≤ new.count
-  pub placed_again : old.count ≤ n → after.events ≡ before.events ++ replicate n placed
+  pub kept : n < old.places → new.places ≡ old.places
+  pub quiet : n < old.places → after.events ≡ before.events
+  pub grown : old.places ≤ n → min limit (max 4 (2 * old.places)) ≤ new.places
+  pub placed_again : old.places ≤ n → after.events ≡ before.events ++ replicate n placed
 
 -- room for more than n symbols was missing, and an allocation failed
 pub record FindsNoPlace (n capacity : ℕ) (old new : Placed) (before after : Work) : Type 0 where
   pub full : min capacity old.room ≤ n
-  pub kept : new.count ≡ old.count
+  pub kept : new.places ≡ old.places
   pub quiet : after.events ≡ before.events

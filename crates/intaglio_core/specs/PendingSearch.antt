@@ -9,16 +9,16 @@ use Rattle.intaglio_core.specs.State.{State}
 use Rattle.intaglio_core.specs.Cost.{Adds}
 use Rattle.intaglio_core.specs.declared.pending_search.PendingSearch.{PendingSearch}
 
-module _ {C : Type 0} (key : C → Key) (hash : Key → ℕ) where
+module _ {C : Type 0} (buckets_for : ℕ → ℕ) (key : C → Key) (hash : Key → ℕ) where
   -- what the index of a table holds
   abbrev pub placed_of : State C → Placed
-  placed_of s = record { count = s.buckets; hashes = map (λ c. hash (key c)) s.contents; room = s.buckets }
+  placed_of s = record { count = buckets_for s.buckets; hashes = map (λ c. hash (key c)) s.contents; room = s.buckets; places = s.buckets }
 
   -- a search for hash h, by its events so far and the symbol that it compares first
   abbrev pub IsPending : State C → ℕ → List Event → Option ℕ → Type 0
   IsPending s h cost None =
-      AllByRecursion (λ placed. placed ≢ h) (map (λ c. hash (key c)) s.contents) × IsPassed (chain (placed_of s) (h % s.buckets)) [] cost
-  IsPending s h cost (Some i) = IsFound h (chain (placed_of s) (h % s.buckets)) [] cost i
+      AllByRecursion (λ placed. placed ≢ h) (map (λ c. hash (key c)) s.contents) × IsPassed (chain (placed_of s) (h % buckets_for s.buckets)) [] cost
+  IsPending s h cost (Some i) = IsFound h (chain (placed_of s) (h % buckets_for s.buckets)) [] cost i
 
   -- a search for hash h
   abbrev pub IsPendingSearch : State C → ℕ → PendingSearch → Type 0

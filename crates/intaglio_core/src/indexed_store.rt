@@ -50,7 +50,7 @@ impl<L: Store, S: BuildHasher> Model for IndexedStore<L, S> {
       state = record {
         contents = L.contents t.list;
         spare = min (L.most t.list) t.index.room - length (L.contents t.list);
-        buckets = t.index.count;
+        buckets = t.index.places;
         limit = t.limit;
       };
       hasher = t.hasher;
@@ -59,7 +59,7 @@ impl<L: Store, S: BuildHasher> Model for IndexedStore<L, S> {
 
     ghost invariant = { λ t.
         let hash = hash_of S.BuildHasher S.Hasher.Hasher t.hasher in
-        IsIndexed L.Content.key hash (L.contents t.list) t.index t.limit };
+        IsIndexed L.buckets_for L.Content.key hash (L.contents t.list) t.index t.limit };
 }
 
 impl<L: Store, S: BuildHasher> IndexedStore<L, S> {
@@ -167,7 +167,7 @@ impl<L: Store, S: BuildHasher> IndexedStore<L, S> {
     #[inline(always)]
     pub(crate) fn begin_search(&self, hash: u64) -> PendingSearch
         ensures { let of_key = hash_of S.BuildHasher S.Hasher.Hasher self.now.hasher in
-            IsPendingSearch L.Content.key of_key self.now.state hash result }
+            IsPendingSearch L.buckets_for L.Content.key of_key self.now.state hash result }
     {
         let mut work = Work::new();
         let candidate = self.index.find(hash, &mut work);
@@ -183,7 +183,7 @@ impl<L: Store, S: BuildHasher> IndexedStore<L, S> {
         work: &mut Work,
     ) -> Option<Symbol>
         requires pending { let hash = hash_of S.BuildHasher S.Hasher.Hasher self.now.hasher in
-            IsPendingSearch L.Content.key hash self.now.state (hash (Q.key sought.now)) pending.now }
+            IsPendingSearch L.buckets_for L.Content.key hash self.now.state (hash (Q.key sought.now)) pending.now }
         ensures found { result ≡ first L.Content.key self.now.state.contents (Q.key sought.now) }
         ensures events { (more : List Event) ×
             (work.new.events ≡ work.old.events ++ pending.now.work.events ++ more) }
@@ -218,18 +218,19 @@ impl<L: Store, S: BuildHasher> IndexedStore<L, S> {
     ) -> Option<Symbol>
         requires pending { let hash = hash_of S.BuildHasher S.Hasher.Hasher self.now.hasher in
             (start : List Event) ×
-            IsPendingSince L.Content.key hash self.now.state (Q.key sought.now) start work.old.events candidate }
+            IsPendingSince L.buckets_for L.Content.key hash self.now.state (Q.key sought.now) start
+            work.old.events candidate }
         ensures found { result ≡ first L.Content.key self.now.state.contents (Q.key sought.now) }
         ensures events { (more : List Event) × (work.new.events ≡ work.old.events ++ more) }
         ensures cost { let hash = hash_of S.BuildHasher S.Hasher.Hasher self.now.hasher in
             let k = Q.key sought.now in
             (start : List Event) →
-            IsPendingSince L.Content.key hash self.now.state k start work.old.events candidate →
+            IsPendingSince L.buckets_for L.Content.key hash self.now.state k start work.old.events candidate →
             Adds start work.new.events (KnownSearchCost L.Content.key hash self.now.state k) }
         ensures recorded { let hash = hash_of S.BuildHasher S.Hasher.Hasher self.now.hasher in
             let k = Q.key sought.now in
             (start : List Event) →
-            IsPendingSince L.Content.key hash self.now.state k start work.old.events candidate →
+            IsPendingSince L.buckets_for L.Content.key hash self.now.state k start work.old.events candidate →
             Adds start work.new.events (IsRecorded k result) }
         ensures valid { IsValid L.Content.key self.now.state }
     {
@@ -265,16 +266,18 @@ fn find_room<L: Store>(
         OnOk result (FindsPlace n limit index.old index.new work.old work.new) }
     ensures refused { let n = length (L.contents list.old) in
         OnErr result (FindsNoPlace n (L.most list.old) index.old index.new work.old work.new) }
+    ensures buckets { index.old.count ≡ L.buckets_for index.old.places →
+        index.new.count ≡ L.buckets_for index.new.places }
 {
     let count = list.len();
     if count < list.capacity().min(index.room()) {
         return Ok(());
     }
     list.reserve(1)?;
-    let buckets = index.bucket_count();
-    if count < buckets {
-        return index.reserve(count + 1, work);
+    let places = index.places();
+    if count < places {
+        return index.reserve(count + 1, L::bucket_count(count + 1), work);
     }
-    let doubled = (2 * buckets).max(4);
-    index.reserve(limit.min(doubled), work)
+    let doubled = limit.min((2 * places).max(4));
+    index.reserve(doubled, L::bucket_count(doubled), work)
 }

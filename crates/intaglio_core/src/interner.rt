@@ -88,7 +88,7 @@ pub trait FormInterner {
     ///
     /// If several searches are begun before the first of them is ended, their cache misses overlap.
     fn begin_search(&self, known_hash: u64) -> PendingSearch
-        ensures { IsPendingSearch Self.Content.key (hash self.now) (state self.now) known_hash result };
+        ensures { IsPendingSearch Self.Store.buckets_for Self.Content.key (hash self.now) (state self.now) known_hash result };
 
     /// Reads a byte of the content that the search will compare first, so that it is in the cache then. The
     /// byte itself means nothing.
@@ -103,7 +103,7 @@ pub trait FormInterner {
         work: &mut Work,
     ) -> Option<Symbol>
         requires pending { let h = hash self.now (Q.key sought.now) in
-            IsPendingSearch Self.Content.key (hash self.now) (state self.now) h pending.now }
+            IsPendingSearch Self.Store.buckets_for Self.Content.key (hash self.now) (state self.now) h pending.now }
         ensures found { result ≡ first Self.Content.key (state self.now).contents (Q.key sought.now) }
         ensures events { (more : List Event) ×
             (work.new.events ≡ work.old.events ++ pending.now.work.events ++ more) }

@@ -6,7 +6,8 @@
 //! hash, in order of hashes. [`Index::find`] and [`Index::find_next`] return only the symbols of one hash.
 //!
 //! A contract sees an index as the record `Placed`: the number of buckets, the hash of each placed symbol in
-//! the order of their numbers, and the room: how many symbols can be placed in total.
+//! the order of their numbers, the room, which is how many symbols can be placed in total, and for how many
+//! the buckets were made.
 mod index;
 
 pub use index::Index;

@@ -5,6 +5,7 @@
 //! - [`Spelling`] is what contracts see of one of them, [`PackedIter`] iterates over them.
 #![tactic(auto)]
 
+mod buckets;
 mod iter;
 mod packed;
 mod packed_store;

@@ -228,13 +228,14 @@ impl Packed {
     }
 }
 
-// Where a string begins, or where the next one will.
+// Where a string begins. The end before it is read without a branch, also for the first string, which has none.
 #[inline(always)]
 fn start_of(ends: &[usize], i: usize) -> usize
-    requires { i ≤ length ends.now }
+    requires { i < length ends.now }
     ensures { result ≡ get_or (0 ∷ ends.now) i 0 }
 {
-    if i == 0 { 0 } else { ends[i - 1] }
+    let before = ends[i.saturating_sub(1)];
+    if i == 0 { 0 } else { before }
 }
 
 // A part of the bytes.

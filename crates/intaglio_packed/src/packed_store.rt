@@ -1,7 +1,9 @@
 //! A packed list of strings as the store of a table.
 ghost use Rattle.std.specs.Prelude.{◌≡◌, ◌↔◌, ◌∷◌, [], IsTrue, length, ⊤, refl, ◌≤◌};
 ghost use Rattle.intaglio_content.specs.Key.{hash_of};
+ghost use Rattle.intaglio_packed.specs.Buckets.{sparse, sparse-multiple};
 
+use crate::buckets::sparse_buckets;
 use crate::packed::Packed;
 use crate::spelling::Spelling;
 use intaglio_content::{
@@ -20,6 +22,10 @@ impl Store for Packed {
     ghost most = { λ p. p.most };
 
     ghost spare_bytes = { λ p. p.spare_bytes };
+
+    ghost buckets_for = { sparse };
+
+    ghost buckets_multiple = { sparse-multiple };
 
     fn new(alloc: Global) -> Packed {
         Packed::new(alloc)
@@ -58,6 +64,10 @@ impl Store for Packed {
 
     fn shrink_to(&mut self, min_capacity: usize) {
         Packed::shrink_to(self, min_capacity);
+    }
+
+    fn bucket_count(count: usize) -> usize {
+        sparse_buckets(count)
     }
 }
 

@@ -2,7 +2,9 @@
 ghost use Rattle.std.specs.Prelude.{◌≡◌, ◌+◌, ◌<◌, ◌≤◌, [], ◌∷◌, ◌++◌, length, ⊤, refl, sum_by, take, slice_get, Some, IfOk, IsOk, OnErr, OnOk};
 ghost use Rattle.intaglio_packed.specs.Strings.{HasRoom};
 ghost use Rattle.intaglio_content.specs.Key.{hash_of};
+ghost use Rattle.intaglio_packed.specs.Buckets.{sparse, sparse-multiple};
 
+use crate::buckets::sparse_buckets;
 use crate::packed::Packed;
 use crate::spelling::Spelling;
 use intaglio_content::{
@@ -129,6 +131,10 @@ impl Store for Texts {
 
     ghost spare_bytes = { λ t. t.spare_bytes };
 
+    ghost buckets_for = { sparse };
+
+    ghost buckets_multiple = { sparse-multiple };
+
     fn new(alloc: Global) -> Texts {
         Texts::new(alloc)
     }
@@ -166,6 +172,10 @@ impl Store for Texts {
 
     fn shrink_to(&mut self, min_capacity: usize) {
         self.strings.shrink_to(min_capacity);
+    }
+
+    fn bucket_count(count: usize) -> usize {
+        sparse_buckets(count)
     }
 }
 

@@ -146,7 +146,7 @@ fn begin_searches<T: FormInterner>(
 ) -> Result<Vec<PendingSearch>, AllocError>
     ensures { let held = T.state table.now in
         IfOk result (λ pending.
-        ArePendingSearches T.Content.key (T.hash table.now) held hashes.now pending.items) }
+        ArePendingSearches T.Store.buckets_for T.Content.key (T.hash table.now) held hashes.now pending.items) }
 {
     let mut pending = Vec::with_capacity(alloc, hashes.len())?;
     for place in 0..hashes.len() {
@@ -180,7 +180,8 @@ fn end_searches<T: FormInterner, Q: SoughtIn<T::Store>>(
     work: &mut Work,
 ) -> Result<Vec<Option<Symbol>>, AllocError>
     requires pending { let hashes = map (λ q. T.hash table.now (Q.key q)) forms.now in
-        ArePendingSearches T.Content.key (T.hash table.now) (T.state table.now) hashes pending.now }
+        ArePendingSearches T.Store.buckets_for T.Content.key (T.hash table.now) (T.state table.now)
+        hashes pending.now }
     ensures symbols { let held = (T.state table.now).contents in
         IfOk result (λ found. found.items ≡ map (λ q. first T.Content.key held (Q.key q)) forms.now) }
     ensures cost { OnOk result (Costs work.old work.new

@@ -108,7 +108,8 @@ impl<L: Store, S: BuildHasher> IndexedStore<L, S> {
             return Ok(());
         }
         self.list.reserve(additional)?;
-        self.index.reserve(count + additional, work)?;
+        let total = count + additional;
+        self.index.reserve(total, L::bucket_count(total), work)?;
         Ok(())
     }
 
@@ -150,9 +151,9 @@ impl<L: Store, S: BuildHasher> IndexedStore<L, S> {
         if self.list.capacity().min(self.index.room()) <= min_capacity {
             return Ok(());
         }
-        let buckets = count.max(min_capacity);
-        self.index.rebuild(buckets, work)?;
-        self.list.shrink_to(buckets);
+        let kept = count.max(min_capacity);
+        self.index.rebuild(kept, L::bucket_count(kept), work)?;
+        self.list.shrink_to(kept);
         Ok(())
     }
 }

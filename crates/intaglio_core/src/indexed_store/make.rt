@@ -88,7 +88,7 @@ impl<L: Store, S: BuildHasher> IndexedStore<L, S> {
         if capacity > SYMBOLS {
             return Err(RoomError::CapacityOverflow);
         }
-        let index = Index::with_buckets(alloc, capacity)?;
+        let index = Index::with_sparse_buckets(alloc, capacity, L::bucket_count(capacity))?;
         let list = L::with_capacity(alloc, capacity)?;
         Ok(IndexedStore {
             list,
@@ -122,7 +122,7 @@ impl<L: Store, S: BuildHasher> IndexedStore<L, S> {
         }
         Ok(IndexedStore {
             list: L::new(alloc),
-            index: Index::with_buckets(alloc, 0).unwrap(),
+            index: Index::with_sparse_buckets(alloc, 0, L::bucket_count(0)).unwrap(),
             hasher,
             limit,
             content: PhantomData,

@@ -105,11 +105,33 @@ fn a_shrink_keeps_symbols(rt: HostRuntime) {
     let mut work = Work::new();
     let mut index = filled(&rt, &[13, 3, 23, 8, 14]);
     index.truncate(3);
-    index.rebuild(3, &mut work).expect(&rt, "no memory");
+    index.rebuild(3, 3, &mut work).expect(&rt, "no memory");
     same(&rt, (index.bucket_count(), index.room()), (3, 3));
     meets(&rt, &index, 3, 0, &[1]);
     meets(&rt, &index, 3, 1, &[0]);
     meets(&rt, &index, 3, 2, &[2]);
+}
+
+#[test]
+fn sparse_buckets_split_those_of_one_bucket_each(rt: HostRuntime) {
+    let mut work = Work::new();
+    let mut index = Index::with_sparse_buckets(rt.alloc(), 3, 6).expect(&rt, "no memory");
+    same(&rt, (index.bucket_count(), index.places()), (6, 3));
+    same(&rt, index.room(), 3);
+    index.place(7, Symbol::new(0), &mut work);
+    index.place(4, Symbol::new(1), &mut work);
+    index.place(1, Symbol::new(2), &mut work);
+    meets(&rt, &index, 3, 1, &[2, 0]);
+    meets(&rt, &index, 3, 4, &[1]);
+    index.rebuild(3, 3, &mut work).expect(&rt, "no memory");
+    same(&rt, (index.bucket_count(), index.places()), (3, 3));
+    meets(&rt, &index, 3, 1, &[2, 1, 0]);
+    index.reserve(4, 8, &mut work).expect(&rt, "no memory");
+    same(&rt, (index.bucket_count(), index.places()), (8, 4));
+    same(&rt, index.room(), 4);
+    meets(&rt, &index, 3, 1, &[2]);
+    meets(&rt, &index, 3, 4, &[1]);
+    meets(&rt, &index, 3, 7, &[0]);
 }
 
 // A hash for each number, spread over the buckets.
@@ -160,7 +182,7 @@ fn grow<Rt: Abort>(rt: &Rt, index: &mut Index, from: u32, to: u32)
 {
     let mut work = Work::new();
     index
-        .reserve(to as usize, &mut work)
+        .reserve(to as usize, to as usize, &mut work)
         .expect(rt, "no memory");
     for number in from..to {
         index.place(spread(number), Symbol::new(number), &mut work);

@@ -8,7 +8,7 @@ loop-place-preserved g c =
     let lt : c.loop-place.place < length c.args.hashes.now = search rules in
     let more = take_more c.args.hashes.now c.loop-place.place 0 lt in
     record {
-      pending = rw (c.push_reserved.ensures.items, more) (ArePendingSearches-push g.T.Content.Keyed.key (g.T.FormInterner.hash c.args.table.now) (g.T.FormInterner.state c.args.table.now) _ _ _ c.begin_search.result c.loop-place.invariant.pending c.begin_search.ensures);
+      pending = rw (c.push_reserved.ensures.items, more) (ArePendingSearches-push g.T.Store.Store.buckets_for g.T.Content.Keyed.key (g.T.FormInterner.hash c.args.table.now) (g.T.FormInterner.state c.args.table.now) _ _ _ c.begin_search.result c.loop-place.invariant.pending c.begin_search.ensures);
       count = search rules;
       room = search rules;
     }

@@ -7,14 +7,14 @@ use Rattle.intaglio_core.proofs.batch.forms.end_searches.Goals as goal
 pub bounds-pending-place : goal.bounds-pending-place
 bounds-pending-place g c =
     let lt : c.loop-place.place < length c.args.forms.now = search rules in
-    let same = ArePendingSearches-length g.T.Content.Keyed.key (g.T.FormInterner.hash c.args.table.now) (g.T.FormInterner.state c.args.table.now) (λ q. g.T.FormInterner.hash c.args.table.now (g.Q.Keyed.key q)) c.args.forms.now c.args.pending.now c.requires.pending in
+    let same = ArePendingSearches-length g.T.Store.Store.buckets_for g.T.Content.Keyed.key (g.T.FormInterner.hash c.args.table.now) (g.T.FormInterner.state c.args.table.now) (λ q. g.T.FormInterner.hash c.args.table.now (g.Q.Keyed.key q)) c.args.forms.now c.args.pending.now c.requires.pending in
     rw same lt
 
 pub end_search-requires : goal.end_search-requires
 end_search-requires g c =
     let lt : c.loop-place.place < length c.args.forms.now = search rules in
     record {
-      pending = pending-at g.T.Content.Keyed.key (g.T.FormInterner.hash c.args.table.now) (g.T.FormInterner.state c.args.table.now) (λ q. g.T.FormInterner.hash c.args.table.now (g.Q.Keyed.key q)) c.args.forms.now c.args.pending.now c.loop-place.place c.index-forms-place.result c.index-pending-place.result c.requires.pending lt c.index-forms-place.is c.index-pending-place.is;
+      pending = pending-at g.T.Store.Store.buckets_for g.T.Content.Keyed.key (g.T.FormInterner.hash c.args.table.now) (g.T.FormInterner.state c.args.table.now) (λ q. g.T.FormInterner.hash c.args.table.now (g.Q.Keyed.key q)) c.args.forms.now c.args.pending.now c.loop-place.place c.index-forms-place.result c.index-pending-place.result c.requires.pending lt c.index-forms-place.is c.index-pending-place.is;
     }
 
 pub loop-place-preserved : goal.loop-place-preserved

@@ -1,4 +1,4 @@
-use Rattle.std.proofs.Common.{◌≡◌, ◌<◌, ◌≤◌, ◌*◌, ◌∙◌, ◌∷◌, ◌++◌, [], min, max, length, arith, None, ap}
+use Rattle.std.proofs.Common.{◌≡◌, ◌<◌, ◌≤◌, ◌*◌, ◌∙◌, ◌∷◌, ◌++◌, [], min, max, length, arith, None, ap, sym}
 use Rattle.intaglio_content.specs.Key.{hash_of}
 use Rattle.intaglio_core.specs.State.{first}
 use Rattle.intaglio_core.proofs.Kept.{indexed-push, indexed-valid}
@@ -12,9 +12,10 @@ invariant_of-self-2 g c =
     let none : first g.L.Content.Keyed.key (g.L.Store.contents c.self.inside.list) (g.L.Content.Keyed.key pushed.copy) ≡ None = rw pushed.same_key (rw (← c.self.view_is) at c.requires.absent) in
     let hash : c.args.hash ≡ hash_of g.S.BuildHasher g.S.Hasher.Hasher c.self.inside.hasher (g.L.Content.Keyed.key pushed.copy) = rw pushed.same_key (rw (← c.self.view_is) at c.requires.hash) in
     let below : length (g.L.Store.contents c.self.inside.list) < c.self.inside.limit = omega (arith, c.if-count-self.false, c.len-count.ensures) in
+    let buckets : c.place.new.self.count ≡ g.L.Store.buckets_for c.place.new.self.places = c.place.ensures.count ∙ c.find_room.ensures.buckets c.self.invariant.buckets ∙ ap g.L.Store.buckets_for (sym c.place.ensures.places) in
     let free : length (g.L.Store.contents c.self.inside.list) < c.place.new.self.room = omega (arith, c.in_ok-find_room.ensures.place.free, c.place.ensures.room, ap length c.prepare.ensures.contents) in
     rw items
-    (indexed-push g.L.Content.Keyed.key (hash_of g.S.BuildHasher g.S.Hasher.Hasher c.self.inside.hasher) (g.L.Store.contents c.self.inside.list) pushed.copy c.self.inside.index c.place.new.self c.self.inside.limit c.args.hash c.self.invariant none below hash (rw c.find_room.ensures.index.hashes at c.place.ensures.hashes) c.place.ensures.fits free)
+    (indexed-push g.L.Store.buckets_for g.L.Content.Keyed.key (hash_of g.S.BuildHasher g.S.Hasher.Hasher c.self.inside.hasher) (g.L.Store.contents c.self.inside.list) pushed.copy c.self.inside.index c.place.new.self c.self.inside.limit c.args.hash c.self.invariant none below hash (rw c.find_room.ensures.index.hashes at c.place.ensures.hashes) c.place.ensures.fits free buckets)
 
 pub returns-clause-valid : goal.returns-clause-valid
 returns-clause-valid g c =
@@ -23,16 +24,17 @@ returns-clause-valid g c =
     let none : first g.L.Content.Keyed.key (g.L.Store.contents c.self.inside.list) (g.L.Content.Keyed.key pushed.copy) ≡ None = rw pushed.same_key (rw (← c.self.view_is) at c.requires.absent) in
     let hash : c.args.hash ≡ hash_of g.S.BuildHasher g.S.Hasher.Hasher c.self.inside.hasher (g.L.Content.Keyed.key pushed.copy) = rw pushed.same_key (rw (← c.self.view_is) at c.requires.hash) in
     let below : length (g.L.Store.contents c.self.inside.list) < c.self.inside.limit = omega (arith, c.if-count-self.false, c.len-count.ensures) in
+    let buckets : c.place.new.self.count ≡ g.L.Store.buckets_for c.place.new.self.places = c.place.ensures.count ∙ c.find_room.ensures.buckets c.self.invariant.buckets ∙ ap g.L.Store.buckets_for (sym c.place.ensures.places) in
     let free : length (g.L.Store.contents c.self.inside.list) < c.place.new.self.room = omega (arith, c.in_ok-find_room.ensures.place.free, c.place.ensures.room, ap length c.prepare.ensures.contents) in
-    indexed-valid g.L.Content.Keyed.key (hash_of g.S.BuildHasher g.S.Hasher.Hasher c.self.inside.hasher) (g.L.Store.contents c.push_copy.new.store) c.place.new.self c.self.inside.limit (g.L.Store.most c.push_copy.new.store)
+    indexed-valid g.L.Store.buckets_for g.L.Content.Keyed.key (hash_of g.S.BuildHasher g.S.Hasher.Hasher c.self.inside.hasher) (g.L.Store.contents c.push_copy.new.store) c.place.new.self c.self.inside.limit (g.L.Store.most c.push_copy.new.store)
     (rw items
-    (indexed-push g.L.Content.Keyed.key (hash_of g.S.BuildHasher g.S.Hasher.Hasher c.self.inside.hasher) (g.L.Store.contents c.self.inside.list) pushed.copy c.self.inside.index c.place.new.self c.self.inside.limit c.args.hash c.self.invariant none below hash (rw c.find_room.ensures.index.hashes at c.place.ensures.hashes) c.place.ensures.fits free))
+    (indexed-push g.L.Store.buckets_for g.L.Content.Keyed.key (hash_of g.S.BuildHasher g.S.Hasher.Hasher c.self.inside.hasher) (g.L.Store.contents c.self.inside.list) pushed.copy c.self.inside.index c.place.new.self c.self.inside.limit c.args.hash c.self.invariant none below hash (rw c.find_room.ensures.index.hashes at c.place.ensures.hashes) c.place.ensures.fits free buckets))
 
 pub returns-clause-cost : goal.returns-clause-cost
 returns-clause-cost g c =
     let below : length (g.L.Store.contents c.self.inside.list) < c.self.inside.limit = omega (arith, c.if-count-self.false, c.len-count.ensures) in
     let place = rw c.prepare.ensures.contents at c.in_ok-find_room.ensures.place in
-    let enough : length (g.L.Store.contents c.self.inside.list) ≤ c.self.inside.index.count = omega (arith, c.self.invariant.within, c.self.invariant.fits) in
-    let kept : length (g.L.Store.contents c.self.inside.list) < c.self.inside.index.count → c.place.new.self.count ≡ c.self.inside.index.count = λ h. c.place.ensures.count ∙ place.kept h in
-    let more : c.self.inside.index.count ≤ length (g.L.Store.contents c.self.inside.list) → min c.self.inside.limit (max 4 (2 * c.self.inside.index.count)) ≤ c.place.new.self.count = λ h. rw c.place.ensures.count (place.grown h) in
+    let enough : length (g.L.Store.contents c.self.inside.list) ≤ c.self.inside.index.places = omega (arith, c.self.invariant.within, c.self.invariant.fits) in
+    let kept : length (g.L.Store.contents c.self.inside.list) < c.self.inside.index.places → c.place.new.self.places ≡ c.self.inside.index.places = λ h. c.place.ensures.places ∙ place.kept h in
+    let more : c.self.inside.index.places ≤ length (g.L.Store.contents c.self.inside.list) → min c.self.inside.limit (max 4 (2 * c.self.inside.index.places)) ≤ c.place.new.self.places = λ h. rw c.place.ensures.places (place.grown h) in
     rw (← c.self.view_is) (add-cost _ _ c.new-symbol.result c.args.work.now.events c.find_room.new.work.events c.place.new.work.events below enough kept more place.quiet place.placed_again c.place.ensures.events)

@@ -8,7 +8,7 @@ use Rattle.intaglio_core.proofs.indexed_store.IndexedStore.search_from.Given as 
 abbrev pub invariant-loop-candidate : goal.invariant-loop-candidate
 invariant-loop-candidate g l = record {
   reached : (start : List Event) × IsWalking g.L.Content.Keyed.key (hash_of g.S.BuildHasher g.S.Hasher.Hasher l.self.hasher) l.index (g.L.Store.contents l.list) (g.Q.Keyed.key l.sought) start l.work.events l.candidate;
-  since : (start : List Event) → IsPendingSince g.L.Content.Keyed.key (hash_of g.S.BuildHasher g.S.Hasher.Hasher l.self.hasher) l.self.state (g.Q.Keyed.key l.sought) start l.fn.work.events l.fn.candidate →
+  since : (start : List Event) → IsPendingSince g.L.Store.buckets_for g.L.Content.Keyed.key (hash_of g.S.BuildHasher g.S.Hasher.Hasher l.self.hasher) l.self.state (g.Q.Keyed.key l.sought) start l.fn.work.events l.fn.candidate →
       IsWalking g.L.Content.Keyed.key (hash_of g.S.BuildHasher g.S.Hasher.Hasher l.self.hasher) l.index (g.L.Store.contents l.list) (g.Q.Keyed.key l.sought) start l.work.events l.candidate;
   events : (more : List Event) × (l.work.events ≡ l.fn.work.events ++ more);
 }

@@ -1,4 +1,4 @@
-use Rattle.std.proofs.Common.{◌≡◌, ℕ, ◌<◌, ◌+◌, ◌%◌, ◌++◌, ◌∷◌, [], length, set, arith, sym, ◌∙◌}
+use Rattle.std.proofs.Common.{◌≡◌, ℕ, ◌<◌, ◌≤◌, ◌+◌, ◌%◌, ◌++◌, ◌∷◌, [], length, length-append, set, arith, sym, ◌∙◌}
 use Rattle.std.proofs.lemmas.List.{length-set, get_or_read}
 use Rattle.intaglio_index.specs.Placed.{chain, chain_from, first_symbol_of, IsPredecessor}
 use Rattle.intaglio_index.specs.Heads.{IsWord, IsHead}
@@ -17,7 +17,10 @@ number_is : (c : After-marked) → c.args.symbol ≡ length c.self.inside.hashes
 number_is c = rw (← c.self.view_is) at c.requires.next
 
 free : (c : After-marked) → c.args.symbol < length c.self.inside.heads.items
-free c = (let room = rw (← c.self.view_is) at c.requires.room in omega (arith, room, c.self.inside.heads.ok.0))
+free c = (let room = rw (← c.self.view_is) at c.requires.room in omega (arith, room, c.self.invariant.enough))
+
+filled : (c : After-marked) → length (c.self.inside.hashes.items ++ c.args.hash ∷ []) ≤ c.self.inside.places
+filled c = (let room = rw (← c.self.view_is) at c.requires.room in omega (arith, room, number_is c, length-append c.self.inside.hashes.items (c.args.hash ∷ [])))
 
 within : (c : After-marked) → c.args.hash % length c.self.inside.heads.items < length c.self.inside.heads.items
 within c = omega (arith, free c)
@@ -56,6 +59,8 @@ invariant_of-self c =
     rw (c.push_reserved.ensures.items, c.push_reserved-in-None.ensures.items, c.unwrap_or.ensures, at_bucket all) record {
       modulus = c.self.invariant.modulus;
       counted = c.self.invariant.counted ∙ sym size;
+      enough = rw size c.self.invariant.enough;
+      placed = filled all;
       linked = rw size linked;
       headed = headed;
       filtered = rw size (filtered all);
@@ -85,6 +90,8 @@ invariant_of-self-in-Some c =
     rw (c.push_reserved.ensures.items, c.push_reserved-in-Some.ensures.items, c.unwrap_or-link.ensures, c.id.ensures, at_bucket all) record {
       modulus = c.self.invariant.modulus;
       counted = c.self.invariant.counted ∙ sym size;
+      enough = rw size c.self.invariant.enough;
+      placed = filled all;
       linked = rw size linked;
       headed = headed;
       filtered = rw size (filtered all);
