@@ -1,8 +1,16 @@
 -- Steps in order with their costs, and one step more.
-use Rattle.std.proofs.Common.{List, [], ◌∷◌, ◌++◌, append_assoc, append-nil, refl, sym}
-use Rattle.intaglio_content.specs.Work.{Event}
-use Rattle.intaglio_core.specs.Cost.{Adds, InOrder}
+use Rattle.std.proofs.Common.{◌≡◌, suc, List, [], ◌∷◌, ◌++◌, All, append_assoc, append-nil, refl, sym, ap, arith}
+use Rattle.intaglio_content.specs.Key.{Key}
+use Rattle.intaglio_content.specs.Work.{Event, hashed, compared, step, placed}
+use Rattle.intaglio_core.specs.Cost.{Adds, InOrder, hashed_keys}
 use Rattle.intaglio_core.proofs.Spent.{Adds-then}
+
+pub hashed_keys-append : (a b : List Event) → hashed_keys (a ++ b) ≡ hashed_keys a ++ hashed_keys b
+hashed_keys-append [] b = refl
+hashed_keys-append (hashed k ∷ a) b = ap (λ (ks : List Key). k ∷ ks) (hashed_keys-append a b)
+hashed_keys-append (compared k l ∷ a) b = hashed_keys-append a b
+hashed_keys-append (step ∷ a) b = hashed_keys-append a b
+hashed_keys-append (placed ∷ a) b = hashed_keys-append a b
 
 module _ {S X Y : Type 0} (OneStep : S → X → Y → List Event → S → Type 0) where
   InOrder-push : (old : S) (xs : List X) (ys : List Y) (cost : List Event) (mid : S) (x : X) (y : Y) (now : List Event) (new : S)
@@ -19,3 +27,24 @@ module _ {S X Y : Type 0} (OneStep : S → X → Y → List Event → S → Type
       → Adds before after (λ cost. InOrder OneStep old (xs ++ x ∷ []) (ys ++ y ∷ []) cost new)
   Adds-push old xs ys mid x y new before between after run one =
       Adds-then _ _ _ before between after (λ cost now ran costs. InOrder-push old xs ys cost mid x y now new ran costs) run one
+
+  -- where each step hashes its own keys, all hash those of all, in their order
+  pub InOrder-hash : (keys : List X → List Key) → keys [] ≡ []
+      → ((old next : S) (x : X) (y : Y) (now : List Event) (xs : List X) → OneStep old x y now next → hashed_keys now ++ keys xs ≡ keys (x ∷ xs))
+      → (old new : S) (xs : List X) (ys : List Y) (cost : List Event) → InOrder OneStep old xs ys cost new → hashed_keys cost ≡ keys xs
+  InOrder-hash keys none one old new [] [] cost run = rw (run.0, none) refl
+  InOrder-hash keys none one old new [] (y ∷ ys) cost run = absurd run
+  InOrder-hash keys none one old new (x ∷ xs) [] cost run = absurd run
+  InOrder-hash keys none one old new (x ∷ xs) (y ∷ ys) cost run =
+      rw (run.3, hashed_keys-append run.1 run.2, InOrder-hash keys none one run.0 new xs ys run.2 run.5) (one old run.0 x y run.1 xs run.4)
+
+  -- what each of some steps keeps to, all of them do
+  pub InOrder-keeps : (P : X → Type 0) (Keeps : S → S → Type 0) → ((s : S) → Keeps s s) → ((a b c : S) → Keeps a b → Keeps b c → Keeps a c)
+      → ((old next : S) (x : X) (y : Y) (now : List Event) → P x → OneStep old x y now next → Keeps old next)
+      → (old new : S) (xs : List X) (ys : List Y) (cost : List Event) → All P xs → InOrder OneStep old xs ys cost new → Keeps old new
+  InOrder-keeps P Keeps same then one old new [] [] cost all run = rw run.1 (same old)
+  InOrder-keeps P Keeps same then one old new [] (y ∷ ys) cost all run = absurd run
+  InOrder-keeps P Keeps same then one old new (x ∷ xs) [] cost all run = absurd run
+  InOrder-keeps P Keeps same then one old new (x ∷ xs) (y ∷ ys) cost all run =
+      then old run.0 new (one old run.0 x y run.1 (all 0 x (omega arith)) run.4)
+      (InOrder-keeps P Keeps same then one run.0 new xs ys run.2 (λ k d lt. all (suc k) d (omega arith)) run.5)

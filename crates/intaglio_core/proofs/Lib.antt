@@ -17,3 +17,4 @@ pub mod OnResult
 pub mod Alike
 pub mod Starts
 pub mod FewerBuckets
+pub mod FormRuns

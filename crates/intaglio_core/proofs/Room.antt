@@ -6,17 +6,18 @@ use Rattle.intaglio_content.specs.Work.{Event}
 use Rattle.intaglio_core.specs.State.{State, first}
 use Rattle.intaglio_core.specs.Change.{HasNoLessRoom, Interns, InternsForm, IsAppended, IsCopyAppended, IsRefused, IsUncopied}
 use Rattle.intaglio_core.specs.Step.{Step}
-use Rattle.intaglio_core.specs.Run.{Runs, KeepsRoom}
+use Rattle.intaglio_core.specs.Run.{Runs, IsCall, KeepsRoom}
 use Rattle.intaglio_symbol.specs.declared.error.InternError.{InternError}
 use Rattle.intaglio_symbol.specs.declared.error.InternError.TheVariants as intern_error
 use Rattle.intaglio_core.specs.declared.run.Call.{Call}
 use Rattle.intaglio_core.specs.declared.run.Call.TheVariants.{Intern, Check, GetInterned, IsInterned, Contains, Get, Len, IsEmpty, Clear, Reserve, TakeBack}
 use Rattle.intaglio_core.specs.declared.run.Reply.{Reply}
 use Rattle.intaglio_core.specs.declared.run.Reply.TheVariants as reply
+use Rattle.intaglio_core.proofs.InOrder.{InOrder-keeps}
 use Rattle.intaglio_core.proofs.LookUps.{check-same, get_interned-same, is_interned-same, contains-same, get-same, len-same, is_empty-same}
 
 module _ {C : Type 0} (key : C → Key) where
-  same-roomier : (old next : State C) → next ≡ old → HasNoLessRoom old next
+  pub same-roomier : (old next : State C) → next ≡ old → HasNoLessRoom old next
   same-roomier old next same =
       let size : length next.contents ≡ length old.contents = ap (λ (s : State C). length s.contents) same in
       let room : next.spare ≡ old.spare = ap (λ (s : State C). s.spare) same in
@@ -89,7 +90,7 @@ module _ {C : Type 0} (key : C → Key) where
     take_back-roomier old next n reply.Stale made = same-roomier old next (made (record { private = tt })).1
     take_back-roomier old next n _ made = absurd made
 
-    call-roomier : (old next : State C) (call : Call C) (r : Reply) → KeepsRoom call → Step key spelling old call r next → HasNoLessRoom old next
+    pub call-roomier : (old next : State C) (call : Call C) (r : Reply) → KeepsRoom call → Step key spelling old call r next → HasNoLessRoom old next
     call-roomier old next (Intern c) r keep made = intern-roomier old next c r made
     call-roomier old next (Check c) r keep made = same-roomier old next (check-same key spelling old next c r made)
     call-roomier old next (GetInterned c) r keep made = same-roomier old next (get_interned-same key spelling old next c r made)
@@ -106,10 +107,4 @@ module _ {C : Type 0} (key : C → Key) where
     -- capacity doesn't fall over a run that drops nothing and shrinks nothing
     pub Runs-roomier : (hash : Key → ℕ) (old new : State C) (calls : List (Call C)) (replies : List Reply) (cost : List Event) → All KeepsRoom calls → Runs key spelling hash old calls replies cost new
         → HasNoLessRoom old new
-    Runs-roomier hash old new [] [] cost all run = rw run.1 (omega arith)
-    Runs-roomier hash old new [] (r ∷ replies) cost all run = absurd run
-    Runs-roomier hash old new (c ∷ cs) [] cost all run = absurd run
-    Runs-roomier hash old new (c ∷ cs) (r ∷ replies) cost all run =
-        let one : HasNoLessRoom old run.0 = call-roomier old run.0 c r (all 0 c (omega arith)) run.4.0 in
-        let rest : HasNoLessRoom run.0 new = Runs-roomier hash run.0 new cs replies run.2 (λ k d lt. all (suc k) d (omega arith)) run.5 in
-        omega arith
+    Runs-roomier hash = InOrder-keeps (IsCall key spelling hash) KeepsRoom HasNoLessRoom (λ s. omega arith) (λ a b c one rest. omega (arith, one, rest)) (λ old next c r now keep one. call-roomier old next c r keep one.0)

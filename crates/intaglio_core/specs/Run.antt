@@ -46,7 +46,7 @@ KeepsContents _ = Unit {0}
 
 -- over internings and look-ups, the placements and the contents before are together at most three times the
 -- contents after. So from an empty table, at most three symbols are placed for each content that is added
-abbrev pub PlacesFew : {C : Type 0} → State C → List (Call C) → State C → List Event → Type 0
+abbrev pub PlacesFew : {C Q : Type 0} → State C → List (Call Q) → State C → List Event → Type 0
 PlacesFew old calls new cost =
     All KeepsContents calls → placed_count cost + length old.contents ≤ 3 * length new.contents
 
@@ -57,7 +57,7 @@ KeepsRoom ShrinkToFit = ⊥
 KeepsRoom _ = Unit {0}
 
 -- such calls don't lower the capacity
-abbrev pub HoldsRoom : {C : Type 0} → State C → List (Call C) → State C → Type 0
+abbrev pub HoldsRoom : {C Q : Type 0} → State C → List (Call Q) → State C → Type 0
 HoldsRoom old calls new = All KeepsRoom calls → HasNoLessRoom old new
 
 -- internings of no more contents than the spare capacity never run out of memory
@@ -72,7 +72,7 @@ IsRefusal reply.NoMemory = Unit {0}
 IsRefusal _ = ⊥
 
 -- internings alone, none of which fails, into an empty table reply the issued symbols
-abbrev pub IssuesInOrder : {C : Type 0} → (C → Key) → State C → List (Call C) → List Reply → Type 0
-IssuesInOrder {C} key old calls replies =
-    (cs : List C) → old.contents ≡ [] → calls ≡ map Intern cs → All (λ r. ¬ IsRefusal r) replies
-    → replies ≡ map (λ i. reply.Symbol (Some i)) (issue key cs)
+abbrev pub IssuesInOrder : {C Q : Type 0} → (Q → Key) → State C → List (Call Q) → List Reply → Type 0
+IssuesInOrder {C} {Q} key old calls replies =
+    (qs : List Q) → old.contents ≡ [] → calls ≡ map Intern qs → All (λ r. ¬ IsRefusal r) replies
+    → replies ≡ map (λ i. reply.Symbol (Some i)) (issue key qs)

@@ -1,10 +1,11 @@
 //! A list of calls by borrowed forms, made in order on any table.
-ghost use Rattle.std.specs.Prelude.{◌≡◌, [], IfOk, IsOk, OnErr};
+ghost use Rattle.std.specs.Prelude.{◌≡◌, [], IfOk, IsOk, OnOk, OnErr};
 ghost use Rattle.intaglio_core.specs.State.{IsValid};
 ghost use Rattle.intaglio_core.specs.Change.{InternsForm};
 ghost use Rattle.intaglio_core.specs.Cost.{Costs, InternCost, SearchCost};
 ghost use Rattle.intaglio_core.specs.Step.{Step};
 ghost use Rattle.intaglio_core.specs.FormRun.{FormStep, FormStepCost, FormRuns};
+ghost use Rattle.intaglio_core.specs.Run.{HashesOnce, PlacesFew, HoldsRoom, IssuesInOrder};
 
 use super::{Call, Reply, copy_of, reserve, shrink, take_back};
 use crate::interner::SpelledInterner;
@@ -43,6 +44,14 @@ pub fn run_forms<T: SpelledInterner, Q: CopiedTo<T::Store> + Drop>(
     ensures ok { let runs = FormRuns T.Content.key Q.key T.Content.spelling Q.form_spelling in
         IfOk result (λ replies. Costs work.old work.new (λ cost.
         runs (T.hash table.old) (T.state table.old) calls.items replies.items cost (T.state table.new))) }
+
+    // Over the whole run: which symbols are issued, what is hashed, what is
+    // placed, and which capacity is kept.
+    ensures issues { IfOk result (λ replies. IssuesInOrder Q.key (T.state table.old) calls.items replies.items) }
+    ensures hashes { OnOk result (Costs work.old work.new (HashesOnce Q.key calls.items)) }
+    ensures growth { OnOk result
+        (Costs work.old work.new (PlacesFew (T.state table.old) calls.items (T.state table.new))) }
+    ensures capacity { OnOk result (HoldsRoom (T.state table.old) calls.items (T.state table.new)) }
     ensures same_hash { T.hash table.new ≡ T.hash table.old }
 
     // If the replies can't be allocated, no call is made.

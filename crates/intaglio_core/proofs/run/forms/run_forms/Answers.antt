@@ -1,6 +1,8 @@
-use Rattle.std.proofs.Common.{◌≡◌, ◌∙◌, [], arith, append_assoc, append-nil, refl, sym, rules}
+use Rattle.std.proofs.Common.{◌≡◌, ◌∙◌, [], arith, append_assoc, append-nil, map, refl, sym, rules}
 use Rattle.std.specs.Vec.Iter.{into_iter_items}
 use Rattle.std.proofs.lemmas.Grind.{common_steps}
+use Rattle.intaglio_core.specs.declared.run.Call.TheVariants.{Intern}
+use Rattle.intaglio_core.proofs.FormRuns.{FormRuns-issue, FormRuns-hash, FormRuns-place, FormRuns-roomier}
 use Rattle.intaglio_core.proofs.InOrder.{Adds-push}
 use Rattle.intaglio_core.proofs.run.forms.run_forms.Goals as goal
 
@@ -30,3 +32,27 @@ pub returns-clause-ok : goal.returns-clause-ok
 returns-clause-ok g c =
     let all : c.loop-call.yielded ≡ c.args.calls.items = grind (arith, common_steps, c.in-None.ensures.steps, c.loop-call.invariant.whole) in
     rw all at c.loop-call.invariant.ran
+
+pub returns-clause-issues : goal.returns-clause-issues
+returns-clause-issues g c = λ qs empty interns none.
+    let e : c.loop-call.yielded ≡ map Intern qs = grind (arith, common_steps, c.in-None.ensures.steps, c.loop-call.invariant.whole) in
+    let ran = c.loop-call.invariant.ran in
+    FormRuns-issue g.T.Content.Keyed.key g.Q.Keyed.key g.T.Content.Content.spelling g.Q.CopiedTo.form_spelling (g.T.FormInterner.hash c.args.table.now) _ _ qs _ ran.0 empty (rw e at ran.2) none
+
+pub returns-clause-hashes : goal.returns-clause-hashes
+returns-clause-hashes g c =
+    let ran = c.loop-call.invariant.ran in
+    let all : c.loop-call.yielded ≡ c.args.calls.items = grind (arith, common_steps, c.in-None.ensures.steps, c.loop-call.invariant.whole) in
+    (ran.0, ran.1, rw (← all) (FormRuns-hash g.T.Content.Keyed.key g.Q.Keyed.key g.T.Content.Content.spelling g.Q.CopiedTo.form_spelling (g.T.FormInterner.hash c.args.table.now) _ _ c.loop-call.yielded _ ran.0 ran.2))
+
+pub returns-clause-growth : goal.returns-clause-growth
+returns-clause-growth g c =
+    let ran = c.loop-call.invariant.ran in
+    let all : c.loop-call.yielded ≡ c.args.calls.items = grind (arith, common_steps, c.in-None.ensures.steps, c.loop-call.invariant.whole) in
+    (ran.0, ran.1, λ keep. FormRuns-place g.T.Content.Keyed.key g.Q.Keyed.key g.T.Content.Content.spelling g.Q.CopiedTo.form_spelling (g.T.FormInterner.hash c.args.table.now) _ _ c.loop-call.yielded _ ran.0 (rw all keep) ran.2)
+
+pub returns-clause-capacity : goal.returns-clause-capacity
+returns-clause-capacity g c =
+    let ran = c.loop-call.invariant.ran in
+    let all : c.loop-call.yielded ≡ c.args.calls.items = grind (arith, common_steps, c.in-None.ensures.steps, c.loop-call.invariant.whole) in
+    λ keep. FormRuns-roomier g.T.Content.Keyed.key g.Q.Keyed.key g.T.Content.Content.spelling g.Q.CopiedTo.form_spelling (g.T.FormInterner.hash c.args.table.now) _ _ c.loop-call.yielded _ ran.0 (rw all keep) ran.2
