@@ -1,5 +1,5 @@
 -- Room that was there stays, but for calls that shrink.
-use Rattle.std.proofs.Common.{◌≡◌, ◌⊎◌, ℕ, suc, ◌+◌, ◌≤◌, List, [], ◌∷◌, length, All, Option, Some, None, Ok, Err, Result, MatchOption, length-append, inl, inr, ap, arith}
+use Rattle.std.proofs.Common.{◌≡◌, ◌⊎◌, ℕ, ◌+◌, ◌≤◌, List, length, All, Option, Some, None, Ok, Err, Result, MatchOption, length-append, inl, inr, ap, arith}
 use Rattle.std.proofs.lemmas.Bool.{cases_lt}
 use Rattle.intaglio_content.specs.Key.{Key}
 use Rattle.intaglio_content.specs.Work.{Event}

@@ -1,10 +1,10 @@
 -- Calls by borrowed forms: one, its reply and its cost, and a list of them.
-use Rattle.std.specs.Prelude.{◌≡◌, ◌≢◌, ℕ, List, [], ◌∷◌, length, Some, Ok, Err, is_some, option_map, alloc_error, IsSomeAnd}
+use Rattle.std.specs.Prelude.{◌≡◌, ◌≢◌, ℕ, List, [], Some, Ok, Err, is_some, option_map, alloc_error, IsSomeAnd}
 use Rattle.intaglio_content.specs.Key.{Key}
 use Rattle.intaglio_content.specs.Work.{Event}
 use Rattle.intaglio_core.specs.State.{State, first, IsValid}
 use Rattle.intaglio_core.specs.Change.{InternsForm}
-use Rattle.intaglio_core.specs.Cost.{InOrder, InternCost, SearchCost, hashed_keys}
+use Rattle.intaglio_core.specs.Cost.{InOrder, InternCost, SearchCost}
 use Rattle.intaglio_core.specs.Step.{Step, StepCost, found}
 use Rattle.intaglio_symbol.specs.declared.error.InternError.TheVariants as intern_error
 use Rattle.intaglio_symbol.specs.declared.error.SymbolOverflowError.{SymbolOverflowError}
