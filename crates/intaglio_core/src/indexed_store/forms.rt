@@ -51,9 +51,13 @@ where
         self.get_or_intern_hashed(hash, form, work)
     }
 
-    // As `get_or_intern`, for a form whose hash is known.
+    /// As [`get_or_intern`](IndexedStore::get_or_intern), for a form whose hash is known: nothing is hashed.
+    ///
+    /// # Errors
+    ///
+    /// Those of [`get_or_intern`](IndexedStore::get_or_intern).
     #[inline(always)]
-    pub(crate) fn get_or_intern_hashed<Q: CopiedTo<L>>(
+    pub fn get_or_intern_hashed<Q: CopiedTo<L>>(
         &mut self,
         hash: u64,
         form: &Q,

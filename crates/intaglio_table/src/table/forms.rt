@@ -1,11 +1,13 @@
 //! Interning by a borrowed form.
 ghost use Rattle.std.specs.Prelude.{◌≡◌, ◌+◌, ◌<◌, ◌≤◌, IfOk, OnErr};
+ghost use Rattle.intaglio_content.specs.Key.{hash_of};
 ghost use Rattle.intaglio_core.specs.State.{IsValid};
+ghost use Rattle.intaglio_core.specs.Cost.{Costs, KnownInternCost};
 ghost use Rattle.intaglio_core.specs.Change.{InternsForm, IsNotMemory};
-ghost use Rattle.intaglio_core.specs.Lookup.{FindsOthers, IsFound, IsStored, Keeps};
+ghost use Rattle.intaglio_core.specs.Lookup.{FindsInterned, FindsOthers, IsFound, IsStored, Keeps};
 
 use super::TableOver;
-use intaglio_core::{Content, InternError, LookedUpIn, Symbol, Work};
+use intaglio_core::{Content, CopiedTo, InternError, LookedUpIn, Store, Symbol, Work};
 use std::hash::BuildHasher;
 
 impl<'q, L: LookedUpIn<'q>, S: BuildHasher> TableOver<L, S>
@@ -51,5 +53,40 @@ where
         ensures valid { IsValid L.Content.key self.new.state }
     {
         self.core.get_or_intern(&form, &mut Work::new())
+    }
+}
+
+impl<L: Store, S: BuildHasher> TableOver<L, S>
+where
+    L::Content: Content,
+    L::Prepared: Drop,
+{
+    /// As [`get_or_intern`](TableOver::get_or_intern), for a form whose hash is known: nothing is hashed. Records
+    /// in `work` what it does, as the call of the same name of `FormInterner` does.
+    ///
+    /// # Errors
+    ///
+    /// Those of [`get_or_intern`](TableOver::get_or_intern).
+    #[inline(always)]
+    pub fn get_or_intern_hashed<Q: CopiedTo<L>>(
+        &mut self,
+        known_hash: u64,
+        form: &Q,
+        work: &mut Work,
+    ) -> Result<Symbol, InternError>
+        requires known { known_hash ≡ hash_of S.BuildHasher S.Hasher.Hasher self.old.hasher (Q.key form.now) }
+        ensures step { let interns = InternsForm L.Content.key L.Content.spelling self.old.state in
+            interns (Q.key form.now) (Q.form_spelling form.now) result self.new.state }
+        ensures interned { FindsInterned L.Content.key self.old.state (Q.key form.now) result self.new.state }
+        ensures cost { let hash = hash_of S.BuildHasher S.Hasher.Hasher self.old.hasher in
+            let cost = KnownInternCost L.Content.key hash self.old.state in
+            Costs work.old work.new (cost (Q.key form.now) result self.new.state) }
+        ensures bytes { self.old.spare_bytes ≤ self.new.spare_bytes + Q.needs form.now }
+        ensures none_needed { 0 < self.old.state.spare → Q.fits form.now self.old.spare_bytes →
+            IsNotMemory result }
+        ensures hasher { self.new.hasher ≡ self.old.hasher }
+        ensures valid { IsValid L.Content.key self.new.state }
+    {
+        self.core.get_or_intern_hashed(known_hash, form, work)
     }
 }
