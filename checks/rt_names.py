@@ -14,6 +14,7 @@ import shutil
 import subprocess
 import sys
 import tempfile
+from concurrent.futures import ThreadPoolExecutor
 from pathlib import Path
 
 sys.dont_write_bytecode = True
@@ -92,6 +93,12 @@ def build_missing(libraries):
 
 def processors():
     return load().processors()
+
+
+def with_one_job_each():
+    """The environment of an `rt ci` that proves as many crates side by side as there are processors, each by one job. Several jobs of a check
+    copy the prover, which takes a fifth more of processors in all."""
+    return {**os.environ, "RT_JOBS": str(processors())}
 
 
 def free():
@@ -282,14 +289,25 @@ def longest_chain(crates):
     return chain
 
 
+def beside(call, *given):
+    """What a call gives that runs on what nothing else uses of the processors: in a thread of its own, whose priority is lower, as is that of what it starts."""
+    with ThreadPoolExecutor(1, initializer=os.nice, initargs=[10]) as pool:
+        return pool.submit(call, *given).result()
+
+
 def in_lanes(crates, prove):
     """Proves these crates side by side, by `prove` of a crate and its jobs, each once those of them below it are proved, and returns whether all are.
-    Those of the longest chain have a job for each processor, since all waits for them; the others share what is left."""
+    Those of the longest chain have a job for each processor, since all waits for them; the others run on what these leave."""
     rt, names, chain, most = load(), {it.name for it in crates}, longest_chain(crates), min(4, processors())
 
     def task(crate):
         waits, least = [(it.name, "proof") for it in crate.below() if it.name in names], most if crate.name in chain else 1
         need = rt.need(crate) * (1 + 0.6 * (least - 1))
-        return waits, functions_of(crate), need, lambda given, jobs: all(given[it] for it in waits) and prove(crate, max(jobs, least))
+
+        def call(given, jobs):
+            how = prove if crate.name in chain else functools.partial(beside, prove)
+            return all(given[it] for it in waits) and how(crate, max(jobs, least))
+
+        return waits, functions_of(crate), need, call
 
     return all(rt.in_lanes({(it.name, "proof"): task(it) for it in crates}).values())
