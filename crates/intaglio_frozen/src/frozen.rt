@@ -123,7 +123,10 @@ impl<'a> Frozen<'a> {
     pub(crate) fn distinct_strings(&self) -> FrozenStrings<'a>
         ensures all { result ≡ self.now }
         ensures distinct { AreDistinct (map (λ w. w ∷ []) self.now) }
+        ensures few { length self.now ≤ 2 ^ 32 }
     {
+        // The number of strings is at most 2^32.
+        let _count = self.len();
         self.block.strings()
     }
 
