@@ -4,6 +4,7 @@ use Rattle.std.specs.List.{flat_map, fold}
 use Rattle.intaglio_core.specs.State.{first}
 use Rattle.intaglio_lines.specs.Lines.{lines_of}
 use Rattle.intaglio_lines.specs.Encoded.{number_line}
+use Rattle.intaglio_lines.specs.StreamError.{IsWritingError}
 use Rattle.intaglio_dictionary.specs.declared.error.DictionaryError.{DictionaryError}
 use Rattle.intaglio_dictionary.specs.declared.error.DictionaryError.TheVariants.{NoString, Stream}
 
@@ -28,10 +29,10 @@ AreSymbols symbols strings = All (λ symbol. symbol < length strings) symbols
 abbrev pub unknown : List ℕ → List (List ℕ) → Option ℕ
 unknown symbols strings = find (λ symbol. nat_le (length strings) symbol) symbols
 
--- the error reports this symbol, or that something failed
+-- the error reports this symbol, or, if there is none, that an allocation or a write failed
 abbrev pub Reports : DictionaryError → Option ℕ → Type 0
 Reports (NoString symbol) first = first ≡ Some symbol
-Reports (Stream failure) first = first ≡ None
+Reports (Stream failure) first = (first ≡ None) × IsWritingError failure
 
 -- how many bytes the strings have together
 abbrev pub total : List (List ℕ) → ℕ

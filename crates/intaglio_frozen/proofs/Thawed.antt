@@ -1,5 +1,5 @@
 -- Distinct strings, interned in order, are all stored.
-use Rattle.std.proofs.Common.{◌≡◌, ◌∙◌, ◌++◌, ◌<◌, List, [], ◌∷◌, length, map, None, refl, sym, arith, append-nil, append_assoc}
+use Rattle.std.proofs.Common.{◌≡◌, ℕ, ◌∙◌, ◌++◌, ◌<◌, ◌≤◌, List, [], ◌∷◌, length, map, None, refl, sym, arith, append-nil, append_assoc}
 use Rattle.std.proofs.lemmas.List.{length-append, map-append}
 use Rattle.std.proofs.Math.Seq.{get_or-append_seam}
 use Rattle.std.proofs.Math.ListN.{get_or-append}
@@ -7,6 +7,9 @@ use Rattle.intaglio_content.specs.Key.{Key}
 use Rattle.intaglio_core.proofs.First.{first-none}
 use Rattle.intaglio_core.specs.State.{first, first_of, AreDistinct}
 use Rattle.intaglio_core.specs.Issue.{interned, interned_all}
+use Rattle.intaglio_core.specs.Batch.{IfOverflow}
+use Rattle.intaglio_symbol.specs.declared.error.InternError.{InternError}
+use Rattle.intaglio_symbol.specs.declared.error.InternError.TheVariants.{Overflow, Memory}
 
 -- none of the keys before another is equal to it
 none_before : (keys rest : List Key) (k : Key) → AreDistinct (keys ++ k ∷ rest) → first_of keys k ≡ None
@@ -21,3 +24,12 @@ all_interned key held (c ∷ cs) apart =
     let grown : interned key held c ≡ held ++ c ∷ [] = rw none refl in
     let moved : held ++ c ∷ [] ++ cs ≡ held ++ c ∷ cs = append_assoc held (c ∷ []) cs in
     rw grown (all_interned key (held ++ c ∷ []) cs (rw moved apart) ∙ moved)
+
+-- where there are no more of them than the limit, an error is no overflow
+pub no_overflow : {C : Type 0} (key : C → Key) (cs : List C) (limit : ℕ) (e : InternError) → AreDistinct (map key cs) → length cs ≤ limit →
+    IfOverflow e (limit < length (interned_all key [] cs)) → IfOverflow e ⊥
+no_overflow key cs limit (Overflow full) apart few more =
+    let all = all_interned key [] cs apart in
+    let beyond : limit < length cs = rw all at more in
+    omega (arith, beyond, few)
+no_overflow key cs limit (Memory refused) apart few more = tt

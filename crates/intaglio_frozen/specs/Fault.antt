@@ -1,9 +1,9 @@
 -- What is wrong with bytes that are no frozen table.
-use Rattle.std.specs.Prelude.{◌≡◌, ◌≢◌, ℕ, ◌-◌, ◌^◌, ◌<◌, ◌⊎◌, List, length, slice_get, Some, IsUtf8}
+use Rattle.std.specs.Prelude.{◌≡◌, ◌≢◌, ℕ, ◌-◌, ◌^◌, ◌<◌, ◌≤◌, ◌⊎◌, List, length, slice_get, Some, IsUtf8}
 use Rattle.intaglio_frozen.specs.Strings.{AreEnds}
 use Rattle.intaglio_frozen.specs.Layout.{u32_at, kind, count, text_at, ends, strings}
 use Rattle.intaglio_frozen.specs.LookUp.{find}
-use Rattle.intaglio_frozen.specs.IsFrozen.{HasMagic, HasHeader, HasUnused, IsReserved, text_kind}
+use Rattle.intaglio_frozen.specs.IsFrozen.{HasMagic, HasVersion, HasHeader, HasSections, IsBlock, HasUnused, IsReserved, text_kind}
 use Rattle.intaglio_frozen.specs.declared.error.FrozenError.{FrozenError}
 use Rattle.intaglio_frozen.specs.declared.error.FrozenError.TheVariants.{Magic, Version, Kind, Reserved, TooMany, Truncated, Ends, Unused, NotFound, NotUtf8}
 
@@ -11,15 +11,15 @@ use Rattle.intaglio_frozen.specs.declared.error.FrozenError.TheVariants.{Magic, 
 abbrev pub IsNoText : List (List ℕ) → ℕ → Type 0
 IsNoText ws i = (w : List ℕ) × (slice_get ws i ≡ Some w) × ¬ IsUtf8 w
 
--- the bytes have this fault
+-- the bytes have this fault, and what is read before it is right
 abbrev pub IsFault : List ℕ → FrozenError → Type 0
 IsFault bs Magic = ¬ HasMagic bs
-IsFault bs Version = HasMagic bs × (u32_at bs 8 ≢ 1)
-IsFault bs Kind = text_kind < kind bs
-IsFault bs Reserved = ¬ IsReserved bs
-IsFault bs TooMany = 2 ^ 31 < count bs
-IsFault bs Truncated = length bs < 64 ⊎ (HasHeader bs × (length bs < text_at bs))
-IsFault bs Ends = ¬ AreEnds 0 (length bs - text_at bs) (ends bs)
-IsFault bs Unused = ¬ HasUnused bs
-IsFault bs (NotFound i) = (w : List ℕ) × (slice_get (strings bs) i ≡ Some w) × (find bs w ≢ Some i)
-IsFault bs (NotUtf8 i) = (kind bs ≡ text_kind) × IsNoText (strings bs) i
+IsFault bs Truncated = (HasMagic bs × (length bs < 64)) ⊎ (HasHeader bs × (length bs < text_at bs))
+IsFault bs Version = HasMagic bs × (64 ≤ length bs) × (u32_at bs 8 ≢ 1)
+IsFault bs Kind = HasVersion bs × (text_kind < kind bs)
+IsFault bs Reserved = HasVersion bs × ¬ IsReserved bs
+IsFault bs TooMany = HasVersion bs × (2 ^ 31 < count bs)
+IsFault bs Ends = HasSections bs × ¬ AreEnds 0 (length bs - text_at bs) (ends bs)
+IsFault bs Unused = IsBlock bs × ¬ HasUnused bs
+IsFault bs (NotFound i) = IsBlock bs × (w : List ℕ) × (slice_get (strings bs) i ≡ Some w) × (find bs w ≢ Some i)
+IsFault bs (NotUtf8 i) = IsBlock bs × (kind bs ≡ text_kind) × IsNoText (strings bs) i

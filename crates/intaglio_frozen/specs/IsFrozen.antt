@@ -32,6 +32,12 @@ pub record IsReserved (bs : List ℕ) : Type 0 where
 abbrev pub HasMagic : List ℕ → Type 0
 HasMagic bs = (8 ≤ length bs) × (u64_at bs 0 ≡ 0x4f49_4c47_4154_4e49)
 
+-- a header whose version is 1
+pub record HasVersion (bs : List ℕ) : Type 0 where
+  pub long : 64 ≤ length bs
+  pub magic : HasMagic bs
+  pub version : u32_at bs 8 ≡ 1
+
 -- a header of version 1
 pub record HasHeader (bs : List ℕ) : Type 0 where
   pub long : 64 ≤ length bs

@@ -48,7 +48,8 @@ impl<'a> Block<'a> {
 
     // What the strings are.
     pub(crate) fn kind(&self) -> Kind
-        ensures { number_of result ≡ kind self.now }
+        ensures value { number_of result ≡ kind self.now }
+        ensures block { IsBlock self.now }
     {
         self.layout.kind()
     }

@@ -123,7 +123,10 @@ impl<'a> Frozen<'a> {
     pub(crate) fn distinct_strings(&self) -> FrozenStrings<'a>
         ensures all { result ≡ self.now }
         ensures distinct { AreDistinct (map (λ w. w ∷ []) self.now) }
+        ensures few { length self.now ≤ 2 ^ 32 }
     {
+        // The number of strings is at most 2^32.
+        let _count = self.len();
         self.block.strings()
     }
 
@@ -152,6 +155,18 @@ impl<'a> Frozen<'a> {
     /// # Errors
     ///
     /// [`AllocError`] if the allocation of the list fails.
+    ///
+    /// ```
+    /// # use intaglio::{StrContent, SymbolTable};
+    /// # use intaglio_frozen::{Frozen, Kind, freeze};
+    /// # let mut words = SymbolTable::new(rt.alloc())?;
+    /// # let symbol = words.intern(StrContent::from("abc"))?;
+    /// # let bytes = freeze(rt.alloc(), &words, Kind::Text, 1, 2)?;
+    /// let table = Frozen::open(&bytes)?;
+    /// let strings = [b"abc".as_slice(), b"x".as_slice()];
+    /// let found = table.check_all(rt.alloc(), &strings)?;
+    /// assert!(rt; found.as_slice() == [Some(symbol), None].as_slice());
+    /// ```
     pub fn check_all(
         &self,
         alloc: Global,

@@ -1,6 +1,7 @@
 //! How a frozen table becomes one that grows.
-ghost use Rattle.std.specs.Prelude.{◌≡◌, ◌^◌, map, IfOk};
+ghost use Rattle.std.specs.Prelude.{◌≡◌, ◌^◌, map, IfOk, IfErr};
 ghost use Rattle.intaglio_content.specs.Key.{hash_of};
+ghost use Rattle.intaglio_core.specs.Batch.{IfOverflow};
 
 use crate::frozen::Frozen;
 use crate::iter::FrozenStrings;
@@ -18,7 +19,7 @@ impl<'a> Frozen<'a> {
     ///
     /// # Errors
     ///
-    /// `Memory` if an allocation fails.
+    /// Only `Memory`, if an allocation fails.
     ///
     /// ```
     /// # use intaglio::packed::bytes::SymbolTable;
@@ -40,6 +41,7 @@ impl<'a> Frozen<'a> {
         ensures limit { IfOk result (λ thawed. thawed.state.limit ≡ 2 ^ 32) }
         ensures hash { let hash = hash_of S.BuildHasher S.Hasher.Hasher in
             IfOk result (λ thawed. hash thawed.hasher ≡ hash hasher) }
+        ensures only_memory { IfErr result (λ e. IfOverflow e ⊥) }
     {
         let strings = all_strings(alloc, self.distinct_strings())?;
         let mut thawed = TableOver::with_limit(alloc, SYMBOLS, hasher).unwrap();

@@ -1,5 +1,5 @@
 //! Frozen tables: what their iterators yield, and what is found in trusted bytes, also in damaged ones.
-use super::assertions::{copy_of, same};
+use super::assertions::{copy_of, holds, same};
 use intaglio::Symbol;
 use intaglio::packed::bytes::SymbolTable;
 use intaglio_frozen::{Frozen, FrozenError, TrustedFrozen};
@@ -49,6 +49,17 @@ fn a_frozen_table_yields_its_symbols_with_their_strings(rt: HostRuntime) {
         same(&rt, table.get(symbol), Some(string));
         same(&rt, table.check_interned(string), Some(symbol));
     }
+}
+
+#[test]
+fn a_batch_is_looked_up_in_a_frozen_table(rt: HostRuntime) {
+    let table = Frozen::open(&TABLE).expect(&rt, "no table");
+    let strings = [b"xy".as_slice(), b"x".as_slice(), b"".as_slice()];
+    let found = table.check_all(rt.alloc(), &strings).expect(&rt, "memory");
+    let symbols = [Some(Symbol::new(2)), None, Some(Symbol::new(1))];
+    same(&rt, found.as_slice(), symbols.as_slice());
+    holds(&rt, table.is_interned(b"xy"));
+    holds(&rt, !table.is_interned(b"x"));
 }
 
 #[test]

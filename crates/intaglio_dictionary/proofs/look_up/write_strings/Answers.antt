@@ -18,4 +18,4 @@ pub returns-in_err-write_output-in-None-clause-unknown : goal.returns-in_err-wri
 returns-in_err-write_output-in-None-clause-unknown g c =
     let none : unknown c.args.symbols.now c.args.table.now ≡ None = search rules in
     let passed = err_from_is_err_and c.from_residual.result c.from_residual.ensures.1 in
-    rw (passed.1, passed.2) none
+    rw (passed.1, passed.2) (none, c.in_err-write_output-in-None.ensures.err)
