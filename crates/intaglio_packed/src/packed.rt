@@ -104,8 +104,8 @@ impl Packed {
         requires { i < length self.now.list }
         ensures { slice_get self.now.list i ≡ Some result.now }
     {
+        let end = self.ends[i]; // read first, so that it needn't wait for the choice in `start_of`
         let start = start_of(&self.ends, i);
-        let end = self.ends[i];
         part(&self.bytes, start, end)
     }
 
