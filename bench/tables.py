@@ -20,6 +20,7 @@ OPERATIONS = {
     "new": "intern new owned words",
     "copied": "intern new borrowed words",
     "hit": "look-up hits, random order",
+    "borrowed": "intern borrowed words again, random order",
     "again": "intern owned words again, random order",
     "miss": "look-up misses",
     "get": "get by symbol, random order",

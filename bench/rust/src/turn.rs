@@ -17,6 +17,7 @@ pub fn turn<T: Table>(table: &mut T, plan: Plan) {
     measure(plan, "new", || intern(table, fresh));
     let known = words(&shuffled);
     measure(plan, "hit", || look_up(table, &known));
+    measure(plan, "borrowed", || intern_forms(table, &known));
     measure(plan, "again", || intern(table, known));
     let absent = words(&numbers(plan.size, plan.size));
     measure(plan, "miss", || look_up(table, &absent));

@@ -104,8 +104,9 @@ impl Packed {
         requires { i < length self.now.list }
         ensures { slice_get self.now.list i ≡ Some result.now }
     {
-        let start = start_of(&self.ends, i);
+        // Read before the choice in `start_of`: the compiler then makes a shorter loop of many calls.
         let end = self.ends[i];
+        let start = start_of(&self.ends, i);
         part(&self.bytes, start, end)
     }
 
@@ -228,14 +229,13 @@ impl Packed {
     }
 }
 
-// Where a string begins. The end before it is read without a branch, also for the first string, which has none.
+// Where a string begins.
 #[inline(always)]
 fn start_of(ends: &[usize], i: usize) -> usize
     requires { i < length ends.now }
     ensures { result ≡ get_or (0 ∷ ends.now) i 0 }
 {
-    let before = ends[i.saturating_sub(1)];
-    if i == 0 { 0 } else { before }
+    if i == 0 { 0 } else { ends[i - 1] }
 }
 
 // A part of the bytes.
