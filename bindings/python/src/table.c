@@ -324,8 +324,8 @@ static Outcome intern_group(Table *self, const Batch *batch, Py_ssize_t first, G
     return outcome;
 }
 
-/* Interns all contents or none. Groups pay if most strings are in the table, since the library hashes a new one of a group twice: so after
- * a group in which most were new, the next is interned one by one. The collector is off, since it may run code of Python's, and with it
+/* Interns all contents or none. After a group in which most were new, the next is interned one by one: that was quicker while the
+ * library hashed a new string of a group twice, which it no longer does, and wasn't measured since. The collector is off, since it may run code of Python's, and with it
  * other threads. */
 static Outcome intern_each(Table *self, Batch *batch) {
     uint32_t code = INTAGLIO_DONE;

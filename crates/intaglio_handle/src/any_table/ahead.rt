@@ -22,9 +22,11 @@ impl AnyTable {
         used: usize,
     ) -> usize
         requires ends { are_ends (length bytes.now) start ends.now ≡ true }
-        requires left { AreHashes (seen self.now).kind (seen self.now).hasher (pieces bytes.now start ends.now) (drop used hashes.old) }
+        requires left { AreHashes (seen self.now).kind (seen self.now).hasher
+            (pieces bytes.now start ends.now) (drop used hashes.old) }
         requires some { 0 < length hashes.old }
-        ensures left { AreHashes (seen self.now).kind (seen self.now).hasher (pieces bytes.now start ends.now) (drop result hashes.new) }
+        ensures left { AreHashes (seen self.now).kind (seen self.now).hasher
+            (pieces bytes.now start ends.now) (drop result hashes.new) }
         ensures some { result < length hashes.new }
         ensures places { length hashes.new ≡ length hashes.old }
     {
@@ -41,7 +43,8 @@ impl AnyTable {
     #[inline(never)]
     fn hash_group(&self, bytes: &[u8], start: usize, ends: &[usize], hashes: &mut [u64])
         requires ends { are_ends (length bytes.now) start ends.now ≡ true }
-        ensures hashes { AreHashes (seen self.now).kind (seen self.now).hasher (pieces bytes.now start ends.now) hashes.new }
+        ensures hashes { AreHashes (seen self.now).kind (seen self.now).hasher
+            (pieces bytes.now start ends.now) hashes.new }
         ensures places { length hashes.new ≡ length hashes.old }
     {
         let mut begin = start;
@@ -51,8 +54,8 @@ impl AnyTable {
         }
     }
 
-    // Reads what the look-ups by these hashes will read. The bytes are written, and the call isn't inlined, so that
-    // the compiler can't leave out the reads.
+    // Reads what the look-ups by these hashes will read. The bytes are written, and the call isn't inlined, so
+    // that the compiler can't leave out the reads.
     #[inline(never)]
     fn touch_group(&self, hashes: &[u64], touched: &mut [u8]) {
         for i in 0..hashes.len().min(touched.len()) {

@@ -9,6 +9,7 @@ ghost use Rattle.intaglio_handle.specs.Steps.{Interns};
 
 use super::AnyTable;
 use super::bytes::{c_str_of, text_of};
+use crate::codes::symbol_answer;
 use crate::refusal::Refusal;
 use bstr::BStr;
 use intaglio_bytes::bytes::BytesContent;
@@ -99,16 +100,38 @@ impl AnyTable {
         }
     }
 
-    // Interns these bytes, whose hash is known. They are copied if they are new, and then hashed once more.
+    // Interns these bytes, whose hash is known: as `intern`, but nothing is hashed.
     #[inline(always)]
     pub(super) fn intern_hashed(&mut self, hash: u64, bytes: &[u8]) -> Result<Symbol, Refusal>
         requires hash { IsHash (seen self.old).kind (seen self.old).hasher bytes.now hash }
         ensures step { TakesStep self.old self.new result (Interns bytes.now) }
     {
-        match self.find_hashed(hash, bytes) {
-            Ok(Some(symbol)) => Ok(symbol),
-            Ok(None) => self.intern(bytes),
-            Err(refusal) => Err(refusal),
+        let work = &mut Work::new();
+        match self {
+            AnyTable::Text(table) => {
+                symbol_answer(table.get_or_intern_hashed(hash, &text_of(bytes)?, work))
+            }
+            AnyTable::Bytes(table) => {
+                symbol_answer(table.get_or_intern_hashed(hash, &bytes, work))
+            }
+            AnyTable::CStr(table) => {
+                symbol_answer(table.get_or_intern_hashed(hash, &c_str_of(bytes)?, work))
+            }
+            AnyTable::Path(table) => {
+                symbol_answer(table.get_or_intern_hashed(hash, &Path::new(text_of(bytes)?), work))
+            }
+            AnyTable::OsStr(table) => {
+                symbol_answer(table.get_or_intern_hashed(hash, &text_of(bytes)?, work))
+            }
+            AnyTable::BStr(table) => {
+                symbol_answer(table.get_or_intern_hashed(hash, &BStr::new(bytes), work))
+            }
+            AnyTable::PackedText(table) => {
+                symbol_answer(table.get_or_intern_hashed(hash, &text_of(bytes)?, work))
+            }
+            AnyTable::PackedBytes(table) => {
+                symbol_answer(table.get_or_intern_hashed(hash, &bytes, work))
+            }
         }
     }
 }
