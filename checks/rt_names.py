@@ -108,8 +108,26 @@ def free():
 
 def checked(crate, texts, functions, kept):
     """What a check of these functions prints, of a copy of the crate with these texts in place of its own, over what `kept` holds."""
-    only = [word for function in functions for word in ("--only", function)]
-    return load().checked(crate, texts, ["--jobs", "1", *only], kept).stdout
+    rt, only = load(), [word for function in functions for word in ("--only", function)]
+    words = [rt.rtlib.RATTLE, "check", *crate.words(["--jobs", "1", *only], keeps=False), "--incremental", kept]
+    with tempfile.TemporaryDirectory(prefix="together-") as room:
+        for part in rt.rtlib.PARTS:
+            if Path(crate.folder, part).is_dir():
+                shutil.copytree(Path(crate.folder, part), Path(room, part))
+        for path, text in texts.items():
+            Path(room, path).write_text(text, encoding="utf-8")
+        for function in functions:
+            leave_to_the_prover(Path(room, "proofs", *function.split("::")))
+        ran = subprocess.run([*rt.rtlib.guarded(), *words], cwd=room, stdin=subprocess.DEVNULL, capture_output=True, errors="replace")
+        return ran.stdout + ran.stderr
+
+
+def leave_to_the_prover(proof):
+    """Gives a function that has no file of a proof one with no answers. All goals are left to the prover, as without the file; but it doesn't
+    write one for each that stays open, with what is known there, which takes it as long as a tenth of the check."""
+    if not any((proof / it).is_file() for it in ("Answers.antt", "Proof.antt")):
+        proof.mkdir(parents=True, exist_ok=True)
+        (proof / "Answers.antt").write_text("-- No goal has an answer of its own.\n", encoding="utf-8")
 
 
 def messages(said):
