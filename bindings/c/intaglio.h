@@ -263,7 +263,7 @@ static inline size_t intaglio_frozen_size(const intaglio_table *table) {
     return size;
 }
 
-/* Returns whether the strings are texts, which frozen_check has found to be UTF-8. */
+/* Returns whether the strings are texts, which frozen_check has found to be UTF-8, or false if the header is invalid. */
 bool intaglio_frozen_is_text(const uint8_t *bytes, size_t len);
 
 /* The functions on tables for each kind, on a struct of that kind, such as intaglio_text. Initialize it with INTAGLIO_NONE. */

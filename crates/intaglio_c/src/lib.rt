@@ -14,7 +14,7 @@ ghost use Rattle.intaglio_handle.specs.Steps.{Interns, InternsStatic, Reserves, 
 ghost use Rattle.std.specs.Hash.DefaultHasher.{with_keys};
 ghost use Rattle.intaglio_frozen.specs.IsFrozen.{HasHeader, HasSections, IsFrozen, text_kind};
 ghost use Rattle.intaglio_frozen.specs.Layout.{kind as kind_of, strings as strings_of};
-ghost use Rattle.intaglio_handle.specs.Frozen.{Checks, FindsEach, FreezesHeld, position_in};
+ghost use Rattle.intaglio_handle.specs.Frozen.{Checks, FindsEach, FindsSome, FreezesHeld, position_in};
 
 use intaglio_handle::{
     Handle, Spelling, check_frozen, code, find_all_frozen, find_frozen, get_frozen, is_frozen_text,
@@ -302,7 +302,8 @@ pub extern "C" fn intaglio_frozen_find_all(
     ends: &[usize],
     symbols: &mut [u64],
 ) -> u32
-    ensures found { IsFrozen bytes.now → IsCodeOf result
+    ensures found { IsCodeOf result (FindsSome bytes.now strings.now ends.now symbols.old symbols.new) }
+    ensures frozen { IsFrozen bytes.now → IsCodeOf result
         (FindsEach (strings_of bytes.now) strings.now ends.now symbols.old symbols.new) }
 {
     code(find_all_frozen(bytes, strings, ends, symbols))
@@ -321,19 +322,21 @@ pub extern "C" fn intaglio_frozen_get(bytes: &[u8], symbol: u32, out: &mut Spell
     get_frozen(bytes, symbol, out)
 }
 
-/// The number of strings of a frozen table.
+/// The number of strings of a frozen table, or 0 if the bytes have no header or are shorter than it requires.
 #[unsafe(no_mangle)]
 pub extern "C" fn intaglio_frozen_len(bytes: &[u8]) -> usize
     ensures count { HasSections bytes.now → result ≡ length (strings_of bytes.now) }
+    ensures none { ¬ HasSections bytes.now → result ≡ 0 }
     ensures frozen { IsFrozen bytes.now → result ≡ length (strings_of bytes.now) }
 {
     len_frozen(bytes)
 }
 
-/// Returns whether the kind of a frozen table is text.
+/// Returns whether the kind of a frozen table is text, or false if the bytes have no header.
 #[unsafe(no_mangle)]
 pub extern "C" fn intaglio_frozen_is_text(bytes: &[u8]) -> bool
     ensures kind { HasHeader bytes.now → IsTrue result ↔ (kind_of bytes.now ≡ text_kind) }
+    ensures none { ¬ HasHeader bytes.now → result ≡ false }
 {
     is_frozen_text(bytes)
 }

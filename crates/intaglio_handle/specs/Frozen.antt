@@ -1,9 +1,9 @@
 -- What C sees of a frozen table, which is its bytes.
-use Rattle.std.specs.Prelude.{◌≡◌, ℕ, ◌<◌, ◌≤◌, List, [], ◌∷◌, length, map, Option, Some, MatchOption, MatchResult, Result, Ok, Err}
+use Rattle.std.specs.Prelude.{◌≡◌, ◌⊎◌, ⊤, ℕ, ◌<◌, ◌≤◌, true, false, List, [], ◌∷◌, length, map, slice_get, Option, Some, None, MatchOption, MatchResult, Result, Ok, Err}
 use Rattle.intaglio_core.specs.State.{first}
 use Rattle.intaglio_frozen.specs.Fault.{IsFault}
 use Rattle.intaglio_frozen.specs.Freezing.{IsRefusal}
-use Rattle.intaglio_frozen.specs.IsFrozen.{IsFrozen, number_of}
+use Rattle.intaglio_frozen.specs.IsFrozen.{HasSections, IsFrozen, number_of}
 use Rattle.intaglio_frozen.specs.Layout.{kind as kind_of, strings}
 use Rattle.intaglio_frozen.specs.declared.error.FreezeError.{FreezeError}
 use Rattle.intaglio_frozen.specs.declared.error.FreezeError.TheVariants as error
@@ -53,6 +53,22 @@ positions list ws = map (λ w. or_absent (position_in list w)) ws
 abbrev pub FindsEach : List (List ℕ) → List ℕ → List ℕ → List ℕ → List ℕ → Result (Unit {0}) Refusal → Type 0
 FindsEach list batch ends places symbols result =
     Either (is_batch batch ends (length places)) ((result ≡ Ok tt) × (symbols ≡ positions list (pieces batch 0 ends))) ((result ≡ Err BadEnds) × (symbols ≡ places))
+
+-- what is written for a string that is looked up in bytes that may be no frozen table: that it isn't found, or a symbol that has it
+abbrev pub IsRight : List (List ℕ) → List ℕ → ℕ → Type 0
+IsRight list w n = (n ≡ or_absent None) ⊎ (slice_get list n ≡ Some w)
+
+-- the same for each string of a batch
+abbrev pub AreRight : List (List ℕ) → List (List ℕ) → List ℕ → Type 0
+AreRight list [] [] = ⊤
+AreRight list (w ∷ ws) (n ∷ ns) = IsRight list w n × AreRight list ws ns
+AreRight list _ _ = ⊥
+
+-- a batch is looked up in bytes with the sections of a frozen table, and otherwise nothing is written
+abbrev pub FindsSome : List ℕ → List ℕ → List ℕ → List ℕ → List ℕ → Result (Unit {0}) Refusal → Type 0
+FindsSome bs batch ends places symbols (Ok _) = HasSections bs × (is_batch batch ends (length places) ≡ true) × AreRight (strings bs) (pieces batch 0 ends) symbols
+FindsSome bs batch ends places symbols (Err BadEnds) = HasSections bs × (is_batch batch ends (length places) ≡ false) × (symbols ≡ places)
+FindsSome bs batch ends places symbols (Err refusal) = (¬ HasSections bs) × IsRefused bs refusal × (symbols ≡ places)
 
 -- the error for C of an error of freezing
 abbrev pub freeze_refusal : FreezeError → Refusal

@@ -7,7 +7,7 @@ ghost use Rattle.intaglio_frozen.specs.IsFrozen.{HasHeader, HasSections, IsFroze
 ghost use Rattle.intaglio_frozen.specs.Layout.{kind, strings};
 ghost use Rattle.intaglio_handle.specs.Answers.{given};
 ghost use Rattle.intaglio_handle.specs.Batches.{is_batch, or_absent, pieces};
-ghost use Rattle.intaglio_handle.specs.Frozen.{Checks, FindsEach, position_in, positions};
+ghost use Rattle.intaglio_handle.specs.Frozen.{AreRight, Checks, FindsEach, FindsSome, IsRight, position_in, positions};
 
 use crate::any_table::batches::is_batch;
 use crate::refusal::Refusal;
@@ -61,9 +61,10 @@ pub fn get_frozen(bytes: &[u8], symbol: u32, out: &mut Spelling) -> bool
     }
 }
 
-/// The number of strings of a frozen table, or 0 if the bytes aren't as long as their header requires.
+/// The number of strings of a frozen table, or 0 if the bytes have no header or are shorter than it requires.
 pub fn len_frozen(bytes: &[u8]) -> usize
     ensures count { HasSections bytes.now → result ≡ length (strings bytes.now) }
+    ensures none { ¬ HasSections bytes.now → result ≡ 0 }
     ensures frozen { IsFrozen bytes.now → result ≡ length (strings bytes.now) }
 {
     match TrustedFrozen::open(bytes) {
@@ -72,9 +73,10 @@ pub fn len_frozen(bytes: &[u8]) -> usize
     }
 }
 
-/// Whether the kind of a frozen table is text.
+/// Whether the kind of a frozen table is text, or false if the bytes have no header.
 pub fn is_frozen_text(bytes: &[u8]) -> bool
-    ensures { HasHeader bytes.now → IsTrue result ↔ (kind bytes.now ≡ text_kind) }
+    ensures kind { HasHeader bytes.now → IsTrue result ↔ (kind bytes.now ≡ text_kind) }
+    ensures none { ¬ HasHeader bytes.now → result ≡ false }
 {
     match Header::read(bytes) {
         Ok(header) => header.kind == Kind::Text,
@@ -94,7 +96,8 @@ pub fn find_all_frozen(
     ends: &[usize],
     symbols: &mut [u64],
 ) -> Result<(), Refusal>
-    ensures { IsFrozen bytes.now
+    ensures found { FindsSome bytes.now batch.now ends.now symbols.old symbols.new result }
+    ensures frozen { IsFrozen bytes.now
         → FindsEach (strings bytes.now) batch.now ends.now symbols.old symbols.new result }
 {
     let table = match TrustedFrozen::open(bytes) {
@@ -110,7 +113,9 @@ pub fn find_all_frozen(
 
 // The number that is written for a string.
 fn number_in(table: &TrustedFrozen<'_>, string: &[u8]) -> u64
-    ensures { IsFrozen table.now → result ≡ or_absent (position_in (strings table.now) string.now) }
+    ensures found { IsRight (strings table.now) string.now result }
+    ensures frozen { IsFrozen table.now
+        → result ≡ or_absent (position_in (strings table.now) string.now) }
 {
     match table.check_interned(string) {
         Some(symbol) => symbol.id() as u64,
@@ -121,7 +126,8 @@ fn number_in(table: &TrustedFrozen<'_>, string: &[u8]) -> u64
 // Looks up the strings of a batch.
 fn find_each(table: &TrustedFrozen<'_>, batch: &[u8], ends: &[usize], symbols: &mut [u64])
     requires batch { is_batch batch.now ends.now (length symbols.old) ≡ true }
-    ensures found { IsFrozen table.now
+    ensures found { AreRight (strings table.now) (pieces batch.now 0 ends.now) symbols.new }
+    ensures frozen { IsFrozen table.now
         → symbols.new ≡ positions (strings table.now) (pieces batch.now 0 ends.now) }
 {
     let mut start = 0;
