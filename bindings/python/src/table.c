@@ -299,10 +299,22 @@ static Outcome join(const Table *self, const Batch *batch, Py_ssize_t first, Gro
     return DONE;
 }
 
-/* Interns the contents from one on, as many as a group has, one by one. */
-static Outcome intern_singly(Table *self, const Batch *batch, Py_ssize_t first, Group *group, uint32_t *code) {
+/* One call of the library on a string, with the batch's numbers and the place of this string's. Returns a code. */
+typedef uint32_t (*Single)(Table *, const uint8_t *, size_t, void *, Py_ssize_t);
+
+static inline uint32_t intern_one(Table *self, const uint8_t *at, size_t len, void *symbols, Py_ssize_t i) {
+    return intaglio_intern(&self->handle, at, len, (uint32_t *)symbols + i);
+}
+
+static inline uint32_t find_one(Table *self, const uint8_t *at, size_t len, void *found, Py_ssize_t i) {
+    uint32_t symbol;
+    ((uint64_t *)found)[i] = intaglio_check_interned(&self->handle, at, len, &symbol) ? symbol : INTAGLIO_ABSENT;
+    return INTAGLIO_DONE;
+}
+
+/* Makes the call on the contents from one on, as many as a group has. */
+static inline Outcome do_singly(Table *self, const Batch *batch, Py_ssize_t first, Group *group, uint32_t *code, Single single) {
     PyObject **items = PySequence_Fast_ITEMS(batch->items);
-    uint32_t *symbols = batch->numbers;
     for (group->count = 0; group->count < GROUP && first + (Py_ssize_t)group->count < batch->count; group->count++) {
         size_t len;
         Py_ssize_t i = first + (Py_ssize_t)group->count;
@@ -310,10 +322,18 @@ static Outcome intern_singly(Table *self, const Batch *batch, Py_ssize_t first, 
         if (!is_native(self, items[i])) return NOT_NATIVE;
         const uint8_t *at = spell(self, items[i], &len);
         if (!at) return NOT_SPELLED;
-        *code = intaglio_intern(&self->handle, at, len, &symbols[i]);
+        *code = single(self, at, len, batch->numbers, i);
         if (*code) break;
     }
     return DONE;
+}
+
+static Outcome intern_singly(Table *self, const Batch *batch, Py_ssize_t first, Group *group, uint32_t *code) {
+    return do_singly(self, batch, first, group, code, intern_one);
+}
+
+static Outcome find_singly(Table *self, const Batch *batch, Py_ssize_t first, Group *group, uint32_t *code) {
+    return do_singly(self, batch, first, group, code, find_one);
 }
 
 /* The same in one call of the library. */
@@ -324,9 +344,21 @@ static Outcome intern_group(Table *self, const Batch *batch, Py_ssize_t first, G
     return outcome;
 }
 
-/* Interns all contents or none. After a group in which most were new, the next is interned one by one: that was quicker while the
- * library hashed a new string of a group twice, which it no longer does, and wasn't measured since. The collector is off, since it may run code of Python's, and with it
- * other threads. */
+static Outcome find_group(Table *self, const Batch *batch, Py_ssize_t first, Group *group, uint32_t *code) {
+    Outcome outcome = join(self, batch, first, group);
+    uint64_t *found = (uint64_t *)batch->numbers + first;
+    *code = intaglio_check_all(&self->handle, group->at, group->len, group->ends, group->count, found, group->count);
+    return outcome;
+}
+
+static bool are_most_absent(const uint64_t *found, size_t count) {
+    size_t absent = 0;
+    for (size_t i = 0; i < count; i++) absent += found[i] == INTAGLIO_ABSENT;
+    return absent > count / 2;
+}
+
+/* Interns all contents or none. After a group in which most were new, the next is interned one by one: a string that isn't there needs few
+ * cache lines, so that a group gains less than it costs. The collector is off, since it may run code of Python's, and with it other threads. */
 static Outcome intern_each(Table *self, Batch *batch) {
     uint32_t code = INTAGLIO_DONE;
     Outcome outcome = DONE;
@@ -353,7 +385,7 @@ static Outcome intern_each(Table *self, Batch *batch) {
     return FAILED;
 }
 
-/* Looks each content up. */
+/* Looks each content up, after a group of which most were absent one by one. */
 static Outcome find_each(Table *self, Batch *batch) {
     uint64_t *found = batch->numbers;
     uint32_t code = INTAGLIO_DONE;
@@ -361,9 +393,10 @@ static Outcome find_each(Table *self, Batch *batch) {
     Group group;
     if (check_open(self) < 0) return FAILED;
     int collects = PyGC_Disable();
+    bool are_absent = false;
     for (Py_ssize_t i = 0; outcome == DONE && !code && i < batch->count;) {
-        outcome = join(self, batch, i, &group);
-        code = intaglio_check_all(&self->handle, group.at, group.len, group.ends, group.count, found + i, group.count);
+        outcome = (are_absent ? find_singly : find_group)(self, batch, i, &group, &code);
+        are_absent = are_most_absent(found + i, group.count);
         i += (Py_ssize_t)group.count;
         if (outcome != NOT_SPELLED) continue;
         outcome = is_absent() ? DONE : FAILED;
