@@ -312,7 +312,7 @@ static inline uint32_t find_one(Table *self, const uint8_t *at, size_t len, void
     return INTAGLIO_DONE;
 }
 
-/* Makes the call on the contents from one on, as many as a group has. */
+/* Calls the library on each of the contents from one on, as many as a group has. */
 static inline Outcome do_singly(Table *self, const Batch *batch, Py_ssize_t first, Group *group, uint32_t *code, Single single) {
     PyObject **items = PySequence_Fast_ITEMS(batch->items);
     for (group->count = 0; group->count < GROUP && first + (Py_ssize_t)group->count < batch->count; group->count++) {
@@ -385,7 +385,7 @@ static Outcome intern_each(Table *self, Batch *batch) {
     return FAILED;
 }
 
-/* Looks each content up, after a group of which most were absent one by one. */
+/* Looks each content up. After a group in which most were absent, the next is looked up one by one, as in intern_each. */
 static Outcome find_each(Table *self, Batch *batch) {
     uint64_t *found = batch->numbers;
     uint32_t code = INTAGLIO_DONE;
