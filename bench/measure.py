@@ -8,6 +8,9 @@ from comparisons import CAPACITIES, COMPARISONS, HASHINGS, OURS, RIVALS, Run, co
 
 # How many tables a process fills one after the other, so that each process takes long enough.
 FILLS = {1_000: 200, 10_000: 30, 100_000: 6, 1_000_000: 2, 4_000_000: 1}
+# How many processes a turn starts, one where nothing is said. A process over 10,000 words is fast or slow from its start,
+# whichever the table: hits were seen to take 30 and 130 ns.
+PROCESSES = {1_000: 3, 10_000: 8}
 
 
 def measure(programs, sizes, turns, has_rivals):
@@ -28,7 +31,8 @@ def measure(programs, sizes, turns, has_rivals):
 def least_times(programs, task, run, sums):
     """The least nanoseconds for each operation. The sum that an operation finds must be the same wherever it is run."""
     least = {}
-    for line in output([*command(programs, task, run), FILLS[run.size]]).splitlines():
+    words = [*command(programs, task, run), FILLS[run.size]]
+    for line in "".join(output(words) for _ in range(PROCESSES.get(run.size, 1))).splitlines():
         operation, _, nanoseconds, found = line.split()
         least[operation] = min(float(nanoseconds), least.get(operation, float("inf")))
         # Hashes differ under random keys.

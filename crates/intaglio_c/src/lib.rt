@@ -14,7 +14,7 @@ ghost use Rattle.intaglio_handle.specs.Steps.{Interns, InternsStatic, Reserves, 
 ghost use Rattle.std.specs.Hash.DefaultHasher.{with_keys};
 ghost use Rattle.intaglio_frozen.specs.IsFrozen.{HasHeader, HasSections, IsFrozen, text_kind};
 ghost use Rattle.intaglio_frozen.specs.Layout.{kind as kind_of, strings as strings_of};
-ghost use Rattle.intaglio_handle.specs.Frozen.{Checks, FindsEach, FindsSome, FreezesHeld, position_in};
+ghost use Rattle.intaglio_handle.specs.Frozen.{Checks, FindsEach, FindsEqualOrAbsent, FreezesHeld, position_in};
 
 use intaglio_handle::{
     Handle, Spelling, check_frozen, code, find_all_frozen, find_frozen, get_frozen, is_frozen_text,
@@ -302,7 +302,7 @@ pub extern "C" fn intaglio_frozen_find_all(
     ends: &[usize],
     symbols: &mut [u64],
 ) -> u32
-    ensures found { IsCodeOf result (FindsSome bytes.now strings.now ends.now symbols.old symbols.new) }
+    ensures found { IsCodeOf result (FindsEqualOrAbsent bytes.now strings.now ends.now symbols.old symbols.new) }
     ensures frozen { IsFrozen bytes.now → IsCodeOf result
         (FindsEach (strings_of bytes.now) strings.now ends.now symbols.old symbols.new) }
 {

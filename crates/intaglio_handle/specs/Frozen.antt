@@ -55,20 +55,20 @@ FindsEach list batch ends places symbols result =
     Either (is_batch batch ends (length places)) ((result ≡ Ok tt) × (symbols ≡ positions list (pieces batch 0 ends))) ((result ≡ Err BadEnds) × (symbols ≡ places))
 
 -- what is written for a string that is looked up in bytes that may be no frozen table: that it isn't found, or a symbol that has it
-abbrev pub IsRight : List (List ℕ) → List ℕ → ℕ → Type 0
-IsRight list w n = (n ≡ or_absent None) ⊎ (slice_get list n ≡ Some w)
+abbrev pub IsEqualOrAbsent : List (List ℕ) → List ℕ → ℕ → Type 0
+IsEqualOrAbsent list w n = (n ≡ or_absent None) ⊎ (slice_get list n ≡ Some w)
 
 -- the same for each string of a batch
-abbrev pub AreRight : List (List ℕ) → List (List ℕ) → List ℕ → Type 0
-AreRight list [] [] = ⊤
-AreRight list (w ∷ ws) (n ∷ ns) = IsRight list w n × AreRight list ws ns
-AreRight list _ _ = ⊥
+abbrev pub AreEqualOrAbsent : List (List ℕ) → List (List ℕ) → List ℕ → Type 0
+AreEqualOrAbsent list [] [] = ⊤
+AreEqualOrAbsent list (w ∷ ws) (n ∷ ns) = IsEqualOrAbsent list w n × AreEqualOrAbsent list ws ns
+AreEqualOrAbsent list _ _ = ⊥
 
 -- a batch is looked up in bytes with the sections of a frozen table, and otherwise nothing is written
-abbrev pub FindsSome : List ℕ → List ℕ → List ℕ → List ℕ → List ℕ → Result (Unit {0}) Refusal → Type 0
-FindsSome bs batch ends places symbols (Ok _) = HasSections bs × (is_batch batch ends (length places) ≡ true) × AreRight (strings bs) (pieces batch 0 ends) symbols
-FindsSome bs batch ends places symbols (Err BadEnds) = HasSections bs × (is_batch batch ends (length places) ≡ false) × (symbols ≡ places)
-FindsSome bs batch ends places symbols (Err refusal) = (¬ HasSections bs) × IsRefused bs refusal × (symbols ≡ places)
+abbrev pub FindsEqualOrAbsent : List ℕ → List ℕ → List ℕ → List ℕ → List ℕ → Result (Unit {0}) Refusal → Type 0
+FindsEqualOrAbsent bs batch ends places symbols (Ok _) = HasSections bs × (is_batch batch ends (length places) ≡ true) × AreEqualOrAbsent (strings bs) (pieces batch 0 ends) symbols
+FindsEqualOrAbsent bs batch ends places symbols (Err BadEnds) = HasSections bs × (is_batch batch ends (length places) ≡ false) × (symbols ≡ places)
+FindsEqualOrAbsent bs batch ends places symbols (Err refusal) = (¬ HasSections bs) × IsRefused bs refusal × (symbols ≡ places)
 
 -- the error for C of an error of freezing
 abbrev pub freeze_refusal : FreezeError → Refusal

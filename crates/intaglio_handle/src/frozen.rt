@@ -7,7 +7,8 @@ ghost use Rattle.intaglio_frozen.specs.IsFrozen.{HasHeader, HasSections, IsFroze
 ghost use Rattle.intaglio_frozen.specs.Layout.{kind, strings};
 ghost use Rattle.intaglio_handle.specs.Answers.{given};
 ghost use Rattle.intaglio_handle.specs.Batches.{is_batch, or_absent, pieces};
-ghost use Rattle.intaglio_handle.specs.Frozen.{AreRight, Checks, FindsEach, FindsSome, IsRight, position_in, positions};
+ghost use Rattle.intaglio_handle.specs.Frozen.{Checks, FindsEach, position_in, positions};
+ghost use Rattle.intaglio_handle.specs.Frozen.{AreEqualOrAbsent, FindsEqualOrAbsent, IsEqualOrAbsent};
 
 use crate::any_table::batches::is_batch;
 use crate::refusal::Refusal;
@@ -96,7 +97,7 @@ pub fn find_all_frozen(
     ends: &[usize],
     symbols: &mut [u64],
 ) -> Result<(), Refusal>
-    ensures found { FindsSome bytes.now batch.now ends.now symbols.old symbols.new result }
+    ensures found { FindsEqualOrAbsent bytes.now batch.now ends.now symbols.old symbols.new result }
     ensures frozen { IsFrozen bytes.now
         → FindsEach (strings bytes.now) batch.now ends.now symbols.old symbols.new result }
 {
@@ -113,7 +114,7 @@ pub fn find_all_frozen(
 
 // The number that is written for a string.
 fn number_in(table: &TrustedFrozen<'_>, string: &[u8]) -> u64
-    ensures found { IsRight (strings table.now) string.now result }
+    ensures found { IsEqualOrAbsent (strings table.now) string.now result }
     ensures frozen { IsFrozen table.now
         → result ≡ or_absent (position_in (strings table.now) string.now) }
 {
@@ -126,7 +127,7 @@ fn number_in(table: &TrustedFrozen<'_>, string: &[u8]) -> u64
 // Looks up the strings of a batch.
 fn find_each(table: &TrustedFrozen<'_>, batch: &[u8], ends: &[usize], symbols: &mut [u64])
     requires batch { is_batch batch.now ends.now (length symbols.old) ≡ true }
-    ensures found { AreRight (strings table.now) (pieces batch.now 0 ends.now) symbols.new }
+    ensures found { AreEqualOrAbsent (strings table.now) (pieces batch.now 0 ends.now) symbols.new }
     ensures frozen { IsFrozen table.now
         → symbols.new ≡ positions (strings table.now) (pieces batch.now 0 ends.now) }
 {
