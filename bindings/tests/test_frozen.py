@@ -1,4 +1,5 @@
 """Frozen tables from Python: those of checks/frozen_tables.py, which is written from docs/FROZEN.md alone."""
+import random
 import sys
 import tempfile
 import unittest
@@ -9,7 +10,7 @@ sys.path.insert(0, str(Path(__file__).resolve().parent.parent.parent / "checks")
 import frozen_tables
 import intaglio
 from intaglio import Frozen
-from intaglio._table import thaw
+from intaglio._table import frozen_find_all, thaw
 
 TEXTS = ["a", "bc", "", "é"]
 BYTES = [b"a", b"\xff", b""]
@@ -113,6 +114,21 @@ class OfFrozen(unittest.TestCase):
             Frozen(self.path)
         with self.assertRaises(FileNotFoundError):
             Frozen(self.path.with_name("none"))
+
+    def test_what_is_found_in_damaged_bytes_is_equal(self):
+        words = [str(number) for number in range(40)]
+        whole, chance, found = self.write(words).read_bytes(), random.Random(7), 0
+        for _ in range(5_000):
+            damaged = bytearray(whole)
+            for _ in range(chance.randint(1, 9)):
+                damaged[chance.randrange(frozen_tables.HEADER.size, len(whole))] = chance.randrange(256)
+            reader = frozen_tables.Frozen.__new__(frozen_tables.Frozen)
+            reader.read(bytes(damaged))
+            symbols = frozen_find_all(bytes(damaged), [*words, "absent"])
+            for word, symbol in zip([*words, "absent"], symbols, strict=True):
+                self.assertTrue(symbol is None or reader[symbol] == word.encode(), (word, symbol))
+            found += sum(it is not None for it in symbols)
+        self.assertTrue(100_000 < found < 200_000, found)
 
     def test_trusted_files_are_not_checked(self):
         whole = self.write(BYTES).read_bytes()
