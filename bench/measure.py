@@ -7,7 +7,7 @@ import sys
 from comparisons import CAPACITIES, COMPARISONS, HASHINGS, OURS, RIVALS, Run, copies_of, runs_of
 
 # How many tables a process fills one after the other, so that each process takes long enough.
-FILLS = {1_000: 200, 10_000: 30, 100_000: 6, 1_000_000: 2, 4_000_000: 1}
+FILLS = {1_000: 70, 10_000: 8, 100_000: 6, 1_000_000: 2, 4_000_000: 1}
 # How many processes a turn starts, one where nothing is said. A process over 10,000 words is fast or slow from its start,
 # whichever the table: hits of the Rust crate were seen to take 30 ns in one and 84 ns in another.
 PROCESSES = {1_000: 3, 10_000: 8}

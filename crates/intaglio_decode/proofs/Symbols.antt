@@ -4,7 +4,7 @@ use Rattle.std.specs.Option.{option_or}
 use Rattle.std.specs.List.{before_first, list_any}
 use Rattle.std.specs.Str.Parse.{digits_value}
 use Rattle.intaglio_lines.specs.Lines.{lines_of}
-use Rattle.intaglio_lines.specs.Encoded.{spelling_line}
+use Rattle.intaglio_lines.specs.Output.{spelling_line}
 use Rattle.intaglio_lines.specs.Decoded.{Holds, decoded, is_ended}
 use Rattle.intaglio_lines.specs.Fault.{Fault, is_blank, is_number, symbol_lines, spellings_of, spelling_count, line_fault, first_fault, fault_of, AreKnown}
 use Rattle.intaglio_lines.proofs.Reading.{holds-read}

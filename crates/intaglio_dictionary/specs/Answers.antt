@@ -3,7 +3,7 @@ use Rattle.std.specs.Prelude.{◌≡◌, ℕ, ◌+◌, ◌<◌, List, [], ◌∷
 use Rattle.std.specs.List.{flat_map, fold}
 use Rattle.intaglio_core.specs.State.{first}
 use Rattle.intaglio_lines.specs.Lines.{lines_of}
-use Rattle.intaglio_lines.specs.Encoded.{number_line}
+use Rattle.intaglio_lines.specs.Output.{number_line}
 use Rattle.intaglio_lines.specs.StreamError.{IsWritingError}
 use Rattle.intaglio_dictionary.specs.declared.error.DictionaryError.{DictionaryError}
 use Rattle.intaglio_dictionary.specs.declared.error.DictionaryError.TheVariants.{NoString, Stream}

@@ -3,7 +3,7 @@ ghost use Rattle.std.specs.Prelude.{◌≡◌, ◌≢◌, OnOk, IfErr, IfSome, f
 ghost use Rattle.std.specs.List.{flat_map};
 ghost use Rattle.std.specs.Io.KnownBytes.{IsAtEnd};
 ghost use Rattle.intaglio_lines.specs.Decoded.{decoded};
-ghost use Rattle.intaglio_lines.specs.Encoded.{spelling_line};
+ghost use Rattle.intaglio_lines.specs.Output.{spelling_line};
 ghost use Rattle.intaglio_lines.specs.Puts.{Writes};
 ghost use Rattle.intaglio_lines.specs.StreamError.{IsWritingError};
 ghost use Rattle.intaglio_lines.specs.declared.error.StreamError.TheVariants.{Write as WriteFailed};

@@ -1,7 +1,7 @@
 //! Writes strings of a dictionary.
 ghost use Rattle.std.specs.List.{flat_map};
 ghost use Rattle.intaglio_lines.specs.Decoded.{decoded};
-ghost use Rattle.intaglio_lines.specs.Encoded.{spelling_line};
+ghost use Rattle.intaglio_lines.specs.Output.{spelling_line};
 ghost use Rattle.intaglio_dictionary.specs.Answers.{AreSymbols};
 
 use intaglio_frozen::Frozen;

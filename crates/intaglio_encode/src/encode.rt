@@ -1,7 +1,7 @@
 //! From the bytes read to the bytes written.
 ghost use Rattle.std.specs.Prelude.{◌≡◌, ◌≢◌, ◌<◌, ◌^◌, OnOk, IfErr, IfSome, IsErrAnd};
 ghost use Rattle.std.specs.Io.KnownBytes.{IsAtEnd};
-ghost use Rattle.intaglio_lines.specs.Encoded.{encoded, encoded_by};
+ghost use Rattle.intaglio_encode.specs.Encoded.{encoded, encoded_by};
 ghost use Rattle.intaglio_lines.specs.Kind.{is_fit};
 ghost use Rattle.intaglio_lines.specs.Puts.{Writes};
 ghost use Rattle.intaglio_encode.specs.Encodes.{Accepts, Encodes, Forbids, IsTooMany, ReadsForbidden, WritesOnlyIf};

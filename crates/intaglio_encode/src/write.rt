@@ -1,7 +1,7 @@
 //! Writes the symbols of the lines and the spellings.
 ghost use Rattle.std.specs.Prelude.{OnOk, map};
 ghost use Rattle.std.specs.List.{flat_map};
-ghost use Rattle.intaglio_lines.specs.Encoded.{output_of, number_line, spelling_line};
+ghost use Rattle.intaglio_lines.specs.Output.{output_of, number_line, spelling_line};
 ghost use Rattle.intaglio_lines.specs.Puts.{Puts};
 
 use intaglio_core::{Interner, Spelled, Symbol};

@@ -5,7 +5,7 @@ use Rattle.std.proofs.lemmas.List.Splits.{slice_split_at, slice_split_none, leng
 use Rattle.std.proofs.lemmas.List.Elements.{All-nil, All-cons, All-append}
 use Rattle.std.proofs.lemmas.Bool.{cases_eq}
 use Rattle.intaglio_lines.specs.Lines.{lines_of, without_empty_last}
-use Rattle.intaglio_lines.specs.Encoded.{spelling_line}
+use Rattle.intaglio_lines.specs.Output.{spelling_line}
 use Rattle.intaglio_lines.specs.Decoded.{IsLine, is_ended, with_last_line_ended}
 use Rattle.intaglio_lines.proofs.LineCuts.{without_empty_last-cons, without_empty_last_one}
 

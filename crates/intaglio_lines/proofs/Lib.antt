@@ -3,6 +3,3 @@ pub mod LineCuts
 pub mod ByLines
 pub mod Numbers
 pub mod Reading
-pub mod FirstEqual
-pub mod InOrder
-pub mod Input

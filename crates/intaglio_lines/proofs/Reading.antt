@@ -10,7 +10,7 @@ use Rattle.std.proofs.lemmas.List.Concat.{flat_map-append}
 use Rattle.std.proofs.lemmas.List.Elements.{All-from_recursion, recursion_from_All}
 use Rattle.std.proofs.lemmas.Bool.{or_right}
 use Rattle.intaglio_lines.specs.Lines.{lines_of}
-use Rattle.intaglio_lines.specs.Encoded.{number_line, spelling_line, output_of}
+use Rattle.intaglio_lines.specs.Output.{number_line, spelling_line, output_of}
 use Rattle.intaglio_lines.specs.Decoded.{IsLine, Holds, Decodes, decoded, is_ended, with_last_line_ended}
 use Rattle.intaglio_lines.specs.Fault.{Fault, is_blank, symbol_lines, spellings_of, spelling_count, is_number, line_fault, first_fault, end_fault, fault_of, AreKnown}
 use Rattle.intaglio_lines.proofs.ByLines.{lines_of-are_lines, length-lines_of, lines_of-flat_map, flat_map-lines_of, is_ended-flat_map, length-le-flat_map}

@@ -2,7 +2,7 @@
 use Rattle.std.specs.Prelude.{◌≡◌, ◌≢◌, ℕ, ◌<◌, ◌==◌, Bool, true, List, [], ◌∷◌, ◌++◌, length, slice_index_or, if◌then◌else◌, Option, All}
 use Rattle.std.specs.List.{flat_map}
 use Rattle.std.specs.Io.KnownBytes.{Appends}
-use Rattle.intaglio_lines.specs.Encoded.{output_of, spelling_line}
+use Rattle.intaglio_lines.specs.Output.{output_of, spelling_line}
 
 -- no byte is 10
 abbrev pub IsLine : List ℕ → Type 0

@@ -2,12 +2,10 @@
 //! the kinds of contents that lines become.
 //!
 //! An encoded output has the symbol of each line of an input, an empty line, and the spelling of each symbol.
-//! [`laws`] says what holds of encoding and decoding.
 #![tactic(auto)]
 
 pub mod error;
 pub mod kind;
-pub mod laws;
 pub mod lines;
 pub mod read;
 pub mod write;

@@ -1,7 +1,7 @@
 //! Writes outputs through a block of fixed size.
 ghost use Rattle.std.specs.Prelude.{◌≡◌, ◌≢◌, ◌+◌, ◌≤◌, ◌⊎◌, ℕ, List, [], OnOk, IfErr, vec_len, vec_capacity};
 ghost use Rattle.std.specs.Io.KnownBytes.{Keeps};
-ghost use Rattle.intaglio_lines.specs.Encoded.{spelling_line};
+ghost use Rattle.intaglio_lines.specs.Output.{spelling_line};
 ghost use Rattle.intaglio_lines.specs.Puts.{Puts, Writes, held};
 ghost use Rattle.intaglio_lines.specs.StreamError.{IsWritingError};
 ghost use Rattle.intaglio_lines.specs.declared.error.StreamError.TheVariants.{Write as WriteFailed};

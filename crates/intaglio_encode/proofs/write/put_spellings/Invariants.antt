@@ -2,7 +2,7 @@
 use Rattle.std.proofs.Common.{take, map}
 use Rattle.std.specs.List.{flat_map}
 use Rattle.std.specs.Io.KnownBytes.{Appends, append_known}
-use Rattle.intaglio_lines.specs.Encoded.{spelling_line}
+use Rattle.intaglio_lines.specs.Output.{spelling_line}
 use Rattle.intaglio_encode.proofs.write.put_spellings.Given as goal
 
 abbrev pub invariant-loop-number : goal.invariant-loop-number

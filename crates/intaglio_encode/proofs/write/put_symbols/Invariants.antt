@@ -2,7 +2,7 @@
 use Rattle.std.proofs.Common.{take}
 use Rattle.std.specs.List.{flat_map}
 use Rattle.std.specs.Io.KnownBytes.{Appends, append_known}
-use Rattle.intaglio_lines.specs.Encoded.{number_line}
+use Rattle.intaglio_lines.specs.Output.{number_line}
 use Rattle.intaglio_encode.proofs.write.put_symbols.Given as goal
 
 abbrev pub invariant-loop-symbol : goal.invariant-loop-symbol

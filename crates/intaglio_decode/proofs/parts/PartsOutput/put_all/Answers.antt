@@ -2,7 +2,7 @@ use Rattle.std.proofs.Common.{◌≡◌, ◌∙◌, ◌-◌, ◌^◌, ◌++◌, 
 use Rattle.std.specs.Str.Parse.{digits_value}
 use Rattle.std.proofs.lemmas.List.{length-map}
 use Rattle.std.proofs.lemmas.Option.{same_Some}
-use Rattle.intaglio_lines.specs.Encoded.{spelling_line}
+use Rattle.intaglio_lines.specs.Output.{spelling_line}
 use Rattle.intaglio_lines.proofs.Appended.{Appends-append}
 use Rattle.intaglio_decode.proofs.Symbols.{known-more, number-known, decoded-more}
 use Rattle.intaglio_decode.proofs.parts.PartsOutput.put_all.Goals as goal

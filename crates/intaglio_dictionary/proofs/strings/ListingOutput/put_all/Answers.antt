@@ -1,6 +1,6 @@
 use Rattle.std.proofs.Common.{◌∙◌, sym, ap, refl}
 use Rattle.std.specs.Option.{option_copied}
-use Rattle.intaglio_lines.specs.Encoded.{spelling_line}
+use Rattle.intaglio_lines.specs.Output.{spelling_line}
 use Rattle.intaglio_dictionary.proofs.Listed.{appends-next}
 use Rattle.intaglio_dictionary.proofs.strings.ListingOutput.put_all.Goals as goal
 

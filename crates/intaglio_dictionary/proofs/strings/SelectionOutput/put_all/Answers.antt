@@ -1,7 +1,7 @@
 use Rattle.std.proofs.Common.{◌≡◌, [], sym, ap, slice_index_or, Some, rules, refl}
 use Rattle.std.specs.List.{slice_get}
 use Rattle.std.proofs.lemmas.Option.{get_or_from_slice_get, slice_get_read}
-use Rattle.intaglio_lines.specs.Encoded.{spelling_line}
+use Rattle.intaglio_lines.specs.Output.{spelling_line}
 use Rattle.intaglio_dictionary.proofs.Listed.{appends-next}
 use Rattle.intaglio_dictionary.proofs.strings.SelectionOutput.put_all.Goals as goal
 

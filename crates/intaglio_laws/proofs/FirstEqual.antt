@@ -11,9 +11,10 @@ use Rattle.intaglio_core.specs.Issue.{issued, interned, issue_from, issue, inter
 use Rattle.intaglio_core.proofs.First.{key_eq-decides, some-below, first-append}
 use Rattle.intaglio_core.proofs.Held.{first-still}
 use Rattle.intaglio_lines.specs.Lines.{lines_of}
-use Rattle.intaglio_lines.specs.Encoded.{spelling_line, encoded_by}
+use Rattle.intaglio_lines.specs.Output.{spelling_line}
+use Rattle.intaglio_encode.specs.Encoded.{encoded_by}
 use Rattle.intaglio_lines.specs.Decoded.{IsLine, Holds, decoded, Decodes}
-use Rattle.intaglio_lines.specs.Laws.{first_equal, first_spellings}
+use Rattle.intaglio_laws.specs.Laws.{first_equal, first_spellings}
 use Rattle.intaglio_lines.proofs.ByLines.{lines_of-are_lines, lines_of-flat_map}
 
 or-cond : {A : Type 0} (here : Bool) (x : A) (o rest : Option A) → cond here (Some x) (option_or o rest) ≡ option_or (cond here (Some x) o) rest

@@ -1,7 +1,9 @@
 //! What holds of encoded outputs and of what they are decoded to.
 //!
 //! The functions do nothing: the contract of each is a law.
-ghost use Rattle.intaglio_lines.specs.Laws.{FaultsAreExact, IsReadInOneWay, DecodingIsAFunction, EncodingIsAFunction, DecodingGivesFirstSpellings, DecodingGivesInput, EncodingKeepsInput, DecodingKeepsKeys, EncodingIsInOrder, EncodingGivesBytes};
+#![tactic(auto)]
+
+ghost use Rattle.intaglio_laws.specs.Laws.{FaultsAreExact, IsReadInOneWay, DecodingIsAFunction, EncodingIsAFunction, DecodingGivesFirstSpellings, DecodingGivesInput, EncodingKeepsInput, DecodingKeepsKeys, EncodingIsInOrder, EncodingGivesBytes};
 
 /// Bytes have no fault exactly if they are well formed: symbols in decimal, an empty line, and strings, each
 /// line ended and each symbol the number of a string.

@@ -3,12 +3,13 @@ use Rattle.std.proofs.Common.{◌≡◌, ◌≢◌, ◌∙◌, ap, refl, subst, 
 use Rattle.std.specs.List.{flat_map}
 use Rattle.intaglio_lines.specs.Lines.{lines_of}
 use Rattle.intaglio_lines.specs.Kind.{key_of}
-use Rattle.intaglio_lines.specs.Encoded.{encoded, spelling_line}
+use Rattle.intaglio_lines.specs.Output.{spelling_line}
+use Rattle.intaglio_encode.specs.Encoded.{encoded}
 use Rattle.intaglio_lines.specs.Decoded.{Decodes, with_last_line_ended}
 use Rattle.intaglio_lines.specs.declared.kind.Kind.{Kind}
 use Rattle.intaglio_lines.specs.declared.kind.Kind.TheVariants.{Text, Bytes, BStr, CStr, OsStr, Path}
 use Rattle.intaglio_lines.proofs.ByLines.{flat_map-lines_of}
-use Rattle.intaglio_lines.proofs.FirstEqual.{decodes-first, first_spellings-same}
+use Rattle.intaglio_laws.proofs.FirstEqual.{decodes-first, first_spellings-same}
 
 -- equal contents are spelled alike, but paths
 spelled-alike : (kind : Kind) → kind ≢ Path → (a b : List ℕ) → key_of kind a ≡ key_of kind b → a ≡ b

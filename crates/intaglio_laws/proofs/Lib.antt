@@ -1,0 +1,3 @@
+mod FirstEqual
+mod InOrder
+mod Input
