@@ -106,8 +106,9 @@ def free():
     return load().free()
 
 
-def checked(crate, texts, functions, kept):
-    """What a check of these functions prints, of a copy of the crate with these texts in place of its own, over what `kept` holds."""
+def checked(crate, texts, functions, spoilt, kept):
+    """What a check of these functions prints, of a copy of the crate with these texts in place of its own, over what `kept` holds. The answers of the
+    functions in `spoilt` have one more, which can't be read."""
     rt, only = load(), [word for function in functions for word in ("--only", function)]
     words = [rt.rtlib.RATTLE, "check", *crate.words(["--jobs", "1", *only], keeps=False), "--incremental", kept]
     with tempfile.TemporaryDirectory(prefix="together-") as room:
@@ -117,17 +118,22 @@ def checked(crate, texts, functions, kept):
         for path, text in texts.items():
             Path(room, path).write_text(text, encoding="utf-8")
         for function in functions:
-            leave_to_the_prover(Path(room, "proofs", *function.split("::")))
+            leave_to_the_prover(Path(room, "proofs", *function.split("::")), function in spoilt)
         ran = subprocess.run([*rt.rtlib.guarded(), *words], cwd=room, stdin=subprocess.DEVNULL, capture_output=True, errors="replace")
         return ran.stdout + ran.stderr
 
 
-def leave_to_the_prover(proof):
-    """Gives a function that has no file of a proof one with no answers. All goals are left to the prover, as without the file; but it doesn't
-    write one for each that stays open, with what is known there, which takes it as long as a tenth of the check."""
-    if not any((proof / it).is_file() for it in ("Answers.antt", "Proof.antt")):
+def leave_to_the_prover(proof, is_spoilt):
+    """Gives a function that has no file of a proof one with no answers: all goals are left to the prover, as without the file. If it is to be
+    spoilt, adds an answer that can't be read. The function can't be proved then, and each other goal is closed or stays open as without it; but the
+    prover doesn't write an answer to start from for each that stays open, with what is known there, which takes a sixth of a check."""
+    answers = proof / "Answers.antt"
+    if not any(it.is_file() for it in (answers, proof / "Proof.antt")):
         proof.mkdir(parents=True, exist_ok=True)
-        (proof / "Answers.antt").write_text("-- No goal has an answer of its own.\n", encoding="utf-8")
+        answers.write_text("-- No goal has an answer of its own.\n", encoding="utf-8")
+    if is_spoilt and answers.is_file():
+        with open(answers, "a", encoding="utf-8") as file:
+            file.write("\nspoilt : no_such_name\nspoilt = no_such_name\n")
 
 
 def messages(said):

@@ -1,4 +1,4 @@
-//! Tests of symbols, errors, hashers, the index, the core, contents, encoding, decoding and frozen tables.
+//! Tests of symbols, errors, hashers, the index, the core, contents and frozen tables.
 #![tactic(auto)]
 
 pub mod counting;

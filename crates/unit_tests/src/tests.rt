@@ -1,15 +1,11 @@
 //! Tests of what no contract says: values from outside, the tests of the ported crate, and each public call once.
 
-mod assertions;
 mod buckets;
 mod c_strings;
 mod components;
 mod conversions;
 mod core_calls;
-mod decoding;
-mod encoding;
 mod errors;
-mod fakes;
 mod feeds;
 mod forms;
 mod frozen_tables;

@@ -1,5 +1,4 @@
 //! Each public call of `Core`, made once on a table with random keys.
-use super::assertions::same;
 use intaglio::{
     Call, CopiedTo, Core, FormInterner, Mark, RoomError, SpelledInterner, StrContent, Symbol,
     SymbolTable, Work, packed, run, run_forms,
@@ -7,7 +6,8 @@ use intaglio::{
 use std::alloc::Global;
 use std::hash::RandomState;
 use std::process::Abort;
-use test_hashers::builders::Fold;
+use test_tools::assertions::same;
+use test_tools::builders::Fold;
 
 type Table = Core<StrContent, RandomState>;
 

@@ -1,0 +1,5 @@
+//! Whole inputs, read at once and byte by byte, and readers and writers that fail.
+
+mod decoding;
+mod encoding;
+mod fakes;
