@@ -1,6 +1,7 @@
 //! Tests of what no contract says: values from outside, the tests of the ported crate, and each public call once on
 //! tables of each kind.
 
+mod assertions;
 mod batches;
 mod calls;
 mod columns;

@@ -1,4 +1,5 @@
 //! What decoding writes for whole inputs, and its errors, with readers and writers that fail.
+use super::assertions::holds;
 use super::fakes::{SlowReader, SmallWriter, StuckWriter, UnflushedWriter};
 use intaglio_decode::error::RestoreError;
 use intaglio_decode::restore::restore;
@@ -6,7 +7,6 @@ use intaglio_decode::serve::serve;
 use intaglio_lines::error::{StreamError, report};
 use std::io::{ErrorKind, Read, Write};
 use std::process::Abort;
-use test_tools::assertions::holds;
 
 const INPUT: &[u8] = b"0\n1\n0\n\nb\na\n";
 

@@ -1,4 +1,5 @@
 //! What encoding writes for whole inputs, and its errors, with readers and writers that fail.
+use super::assertions::holds;
 use super::fakes::{SlowReader, SmallWriter, StuckWriter, UnflushedWriter};
 use intaglio_encode::encode::encode;
 use intaglio_encode::error::ToolError;
@@ -9,7 +10,6 @@ use std::alloc::Global;
 use std::hash::{BuildHasherDefault, FoldHasher};
 use std::io::{ErrorKind, Read, Write};
 use std::process::Abort;
-use test_tools::assertions::holds;
 
 type Builder = BuildHasherDefault<FoldHasher>;
 

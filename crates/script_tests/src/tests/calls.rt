@@ -5,7 +5,7 @@ use crate::replies::interned;
 use intaglio::{Formed, LookedUp, Reply, Sought, Symbol, Table};
 use std::alloc::{AllocError, Global};
 use std::process::Abort;
-use test_tools::builders::HasherCount;
+use test_hashers::builders::HasherCount;
 
 /// A call by borrowed forms, or one that borrows what is stored.
 #[derive(Clone, Copy)]

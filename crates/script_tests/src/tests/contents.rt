@@ -11,7 +11,7 @@ use intaglio::{Formed, Reply, Sought, Spelled, StrContent, Table};
 use std::alloc::Global;
 use std::process::Abort;
 use std::str;
-use test_tools::builders::HasherCount;
+use test_hashers::builders::HasherCount;
 
 /// A content that can be made from any spelling of its kind, and what differs between tables of the kinds.
 pub trait TestContent: Spelled + Sought<Self> + Drop {

@@ -1,4 +1,5 @@
 //! What is run on tables of each of the six kinds: scripts, steps on iterators, and more.
+use super::assertions::same;
 use super::calls::Ask;
 use super::contents::TestContent;
 use super::loops::{gives, interns, keeps};
@@ -15,8 +16,7 @@ use intaglio::path::PathContent;
 use intaglio::{AllSymbols, StrContent};
 use std::alloc::Global;
 use std::process::Abort;
-use test_tools::assertions::same;
-use test_tools::builders::{Counted, hash_of};
+use test_hashers::builders::{Counted, hash_of};
 
 /// What can be tried on tables of any kind.
 pub trait Trial {

@@ -1,11 +1,11 @@
 //! How many hashers a table makes, and tables whose hashes are equal, share buckets or are random.
+use super::assertions::same;
 use super::each::{Hashed, on_each};
 use super::script::plays;
 use intaglio::path::{Path, PathContent};
 use intaglio::{Keyed, Sought, StrContent, SymbolTable, Work};
 use std::hash::RandomState;
-use test_tools::assertions::same;
-use test_tools::builders::Counted;
+use test_hashers::builders::Counted;
 
 #[test]
 fn a_call_hashes_once_and_a_growth_never(rt: HostRuntime) {

@@ -1,4 +1,5 @@
 //! What only some kinds of content have: spellings of equal paths, zero bytes, and bytes that aren't UTF-8.
+use super::assertions::same;
 use super::each::{Kept, Script, Trial, on_each, on_paths};
 use intaglio::bstr::BStrContent;
 use intaglio::bytes::BytesContent;
@@ -6,7 +7,6 @@ use intaglio::cstr;
 use intaglio::cstr::{CStr, CStrContent};
 use std::alloc::Global;
 use std::process::Abort;
-use test_tools::assertions::same;
 
 #[test]
 fn spellings_of_a_path(rt: HostRuntime) {

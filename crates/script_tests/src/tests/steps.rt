@@ -5,7 +5,7 @@ use super::script::same_text;
 use intaglio::{AllSymbols, Formed, Forms, Pairs, Symbol, Table};
 use std::alloc::Global;
 use std::process::Abort;
-use test_tools::builders::HasherCount;
+use test_hashers::builders::HasherCount;
 
 /// Scripts whose lines have the steps on an iterator and their expected results.
 #[derive(Clone, Copy)]

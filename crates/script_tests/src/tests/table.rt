@@ -6,7 +6,7 @@ use crate::replies::{interned, roomy, taken};
 use intaglio::{AllSymbols, InternError, Mark, Reply, RoomError, Symbol, Work, intern_all};
 use std::alloc::Global;
 use std::process::Abort;
-use test_tools::builders::{Fold, HasherCount};
+use test_hashers::builders::{Fold, HasherCount};
 
 /// How a table is made.
 #[derive(Clone, Copy)]

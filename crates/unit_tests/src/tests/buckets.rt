@@ -1,9 +1,9 @@
 //! Which symbols a bucket of an index contains, and in which order, after places, rollbacks, shrinks and growth.
 ghost use Rattle.std.specs.Prelude.{◌≡◌, ◌^◌, ◌≤◌, length};
 
+use super::assertions::same;
 use intaglio::{Index, Symbol, Work};
 use std::process::Abort;
-use test_tools::assertions::same;
 
 // An index with symbols of these hashes, and as many buckets.
 fn filled<Rt: Abort + AllocGlobal>(rt: &Rt, hashes: &[u64]) -> Index

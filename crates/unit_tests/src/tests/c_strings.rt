@@ -1,8 +1,8 @@
 //! Which bytes `CStr` and `CString` accept, and the errors for the others.
+use super::assertions::{holds, same};
 use intaglio::cstr::{CStr, CStrError, CString, CStringError};
 use std::alloc::{AllocError, Global};
 use std::process::Abort;
-use test_tools::assertions::{holds, same};
 
 const MISSING: Result<&[u8], CStrError> = Err(CStrError::MissingZero);
 

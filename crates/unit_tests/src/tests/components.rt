@@ -1,9 +1,9 @@
 //! The components of paths, and that paths are equal exactly if their components are.
+use super::assertions::{holds, same};
 use intaglio::path::{Component, Path, PathContent};
 use intaglio::{Sought, Work};
 use std::hash::{BuildHasherDefault, FoldHasher};
 use std::process::Abort;
-use test_tools::assertions::{holds, same};
 
 // A line for each text: the text, `>`, and its components with bars between them. `R` is the root, `C` a `.`
 // and `P` a `..`; the others are names.

@@ -1,8 +1,8 @@
 //! Conversions between symbols and numbers.
+use super::assertions::{holds, same};
 use intaglio::{DEFAULT_SYMBOL_TABLE_CAPACITY, Mark, Symbol, SymbolOverflowError};
 use std::num::{NonZeroU8, NonZeroU16, NonZeroU32, NonZeroU64, NonZeroUsize};
 use std::process::Abort;
-use test_tools::assertions::{holds, same};
 
 #[test]
 fn numbers_are_kept(rt: HostRuntime) {

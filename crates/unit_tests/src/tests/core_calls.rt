@@ -1,4 +1,5 @@
 //! Each public call of `Core`, made once on a table with random keys.
+use super::assertions::same;
 use intaglio::{
     Call, CopiedTo, Core, FormInterner, Mark, RoomError, SpelledInterner, StrContent, Symbol,
     SymbolTable, Work, packed, run, run_forms,
@@ -6,8 +7,7 @@ use intaglio::{
 use std::alloc::Global;
 use std::hash::RandomState;
 use std::process::Abort;
-use test_tools::assertions::same;
-use test_tools::builders::Fold;
+use test_hashers::builders::Fold;
 
 type Table = Core<StrContent, RandomState>;
 

@@ -1,4 +1,5 @@
 //! Owned and borrowed contents of each kind, and the iterators over contents.
+use super::assertions::{copy_of, holds, same};
 use intaglio::bstr::BStrContent;
 use intaglio::bytes::BytesContent;
 use intaglio::cstr::{CStr, CStrContent, CString};
@@ -9,7 +10,6 @@ use intaglio::{
 use std::alloc::Global;
 use std::process::Abort;
 use std::test::Fail;
-use test_tools::assertions::{copy_of, holds, same};
 
 fn finds<C: Keyed, Q: Sought<C>>(sought: &Q, stored: &C) -> bool {
     sought.same_as(stored, &mut Work::new())

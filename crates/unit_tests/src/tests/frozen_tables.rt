@@ -1,10 +1,10 @@
 //! Frozen tables: what their iterators yield, and what is found in trusted bytes, also in damaged ones.
+use super::assertions::{copy_of, holds, same};
 use intaglio::Symbol;
 use intaglio::packed::bytes::SymbolTable;
 use intaglio_frozen::{Frozen, FrozenError, TrustedFrozen};
 use std::hash::BuildHasherDefault;
 use std::process::Abort;
-use test_tools::assertions::{copy_of, holds, same};
 
 // The table of `abc`, the empty string and `xy` under the keys 1 and 2, as `checks/frozen_tables.py` writes it.
 const TABLE: [u8; 110] = [

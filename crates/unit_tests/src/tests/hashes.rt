@@ -1,10 +1,10 @@
 //! Hashes of `KeyedHasher`, compared with those of Rust's own `DefaultHasher` and, with keys, of `SipHasher13`.
+use super::assertions::{holds, same};
 use intaglio_hash::{KeyedHasher, KeyedState};
 use std::alloc::{AllocError, Global};
 use std::collections::HashMap;
 use std::hash::{BuildHasher, DefaultHasher, Hash, Hasher, RandomState};
 use std::process::Abort;
-use test_tools::assertions::{holds, same};
 
 // The bytes 0 to 7 and 8 to 15, as in the vectors of SipHash's authors.
 const KEY0: u64 = 0x0706_0504_0302_0100;

@@ -1,12 +1,12 @@
 //! Packed tables: each call, beside what the table of owned texts returns for the same calls.
+use super::assertions::{copy_of, holds, same};
 use intaglio::bytes::BytesContent;
 use intaglio::packed::{SymbolTable, bytes};
 use intaglio::{InternError, StaleMark, StrContent, Symbol, SymbolOverflowError};
 use std::alloc::Global;
 use std::hash::BuildHasherDefault;
 use std::process::Abort;
-use test_tools::assertions::{copy_of, holds, same};
-use test_tools::builders::{Counted, Fold};
+use test_hashers::builders::{Counted, Fold};
 
 const WORDS: &str = "to be or not to be that is the question";
 

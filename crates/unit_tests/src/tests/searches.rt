@@ -1,12 +1,12 @@
 //! How many contents a search compares, and how often it hashes, if many hashes are equal or share a bucket.
+use super::assertions::same;
 use crate::counting::Counting;
 use intaglio::{Core, Symbol, Work};
 use std::alloc::Global;
 use std::fmt::Write;
 use std::process::Abort;
-use test_tools::assertions::same;
-use test_tools::builders::{Counted, HasherCount};
-use test_tools::expected_writes::ExpectedWrites;
+use test_hashers::builders::{Counted, HasherCount};
+use test_hashers::expected_writes::ExpectedWrites;
 
 // Texts, many of which share a bucket, and what their searches do.
 #[derive(Drop)]

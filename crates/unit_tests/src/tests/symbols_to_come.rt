@@ -1,7 +1,7 @@
 //! The iterator over the symbols of a table, from both ends.
+use super::assertions::{copy_of, holds, same};
 use intaglio::{AllSymbols, Symbol};
-use test_tools::assertions::{copy_of, holds, same};
-use test_tools::builders::hash_of;
+use test_hashers::builders::hash_of;
 
 #[test]
 fn ends_taken_in_turn(rt: HostRuntime) {
