@@ -51,13 +51,14 @@ class Comparison(NamedTuple):
 
 COMPARISONS = {
     "fold": Comparison(
-        "FoldHasher on all sides (a fixed seed)",
+        "FoldHasher's hashes on all sides (a fixed seed), packed by FixedState",
         Side("the Rust crate", "crate", "fold"),
         [
             Side("ours", "single", "fold"),
-            Side("packed", "packed", "fold"),
+            Side("packed", "packed", "fixed"),
             Side("boxes", "boxes", "fold"),
             Side("buffer", "buffer", "fold"),
+            Side("ours by FixedState", "single", "fixed"),
         ],
         is_rounded=True,
     ),
@@ -74,11 +75,11 @@ COMPARISONS = {
         is_rounded=False,
     ),
     "default": Comparison(
-        "the default of each side: ours FoldHasher, the Rust crate RandomState, hashbrown ahash",
+        "the default of each side: ours FoldHasher, packed FixedState, the Rust crate RandomState, hashbrown ahash",
         Side("the Rust crate", "crate", "std"),
         [
             Side("ours", "single", "fold"),
-            Side("packed", "packed", "fold"),
+            Side("packed", "packed", "fixed"),
             Side("boxes", "boxes", "hashbrown"),
             Side("buffer", "buffer", "hashbrown"),
         ],
@@ -89,6 +90,7 @@ COMPARISONS = {
 # Hashing alone, on so few words that they stay in the processor's caches. The last is what the others are compared with.
 HASHINGS = {
     "ours: FoldHasher": Run("single", "fold", 0, 1_000),
+    "ours: FixedState": Run("single", "fixed", 0, 1_000),
     "ours: KeyedState": Run("single", "keyed", 0, 1_000),
     "ours: the toolchain's RandomState": Run("single", "std", 0, 1_000),
     "Rust: the port of FoldHasher": Run("crate", "fold", 0, 1_000),

@@ -36,7 +36,7 @@ def least_times(programs, task, run, sums):
         operation, _, nanoseconds, found = line.split()
         least[operation] = min(float(nanoseconds), least.get(operation, float("inf")))
         # Hashes differ under random keys.
-        is_fixed = task != "hash" or run.hashing == "fold"
+        is_fixed = task != "hash" or run.hashing in ("fold", "fixed")
         if is_fixed and sums.setdefault((operation, run.size), found) != found:
             sys.exit(f"bench/run: the sums of {operation} differ: {run}, {line}")
     return least

@@ -15,6 +15,7 @@ MAGIC, VERSION, BYTES, TEXT = b"INTAGLIO", 1, 0, 1
 HEADER = struct.Struct("<8sIIQQQ24s")
 MAX_COUNT, MAX_TEXT = 2**31, 2**32 - 1
 NO_SYMBOL, MAX_PILOT = 2**32 - 1, 2**16 - 1
+ATTEMPTS = 8
 WORD = 2**64 - 1
 
 
@@ -198,13 +199,33 @@ def places_of(hashes):
     return symbols, tags, pilots
 
 
-def freeze(strings, kind=BYTES, key0=0, key1=0):
-    """The bytes of a frozen table of these strings, which must be distinct. Under equal hashes the next key is tried."""
+def hash_all(key0, key1, strings):
+    """SipHash-1-3 under the two keys of all strings, each after its length in eight bytes."""
+    return sip_hash(key0, key1, b"".join(struct.pack("<Q", len(it)) + it for it in strings))
+
+
+def drawn_keys(strings):
+    """The keys that are drawn from the strings."""
+    key0 = hash_all(0, 0, strings)
+    return key0, hash_all(key0, 0, strings)
+
+
+def default_keys(strings):
+    """The keys if none are given, which are tried with the seven pairs after them."""
+    yield 0, 0
+    yield drawn_keys(strings)
+
+
+def freeze(strings, kind=BYTES, key0=None, key1=0):
+    """The bytes of a frozen table of these strings, which must be distinct, or nothing if a string gets no place. If no
+    keys are given, they are 0 and 0, and then those that are drawn from the strings."""
     if len({*strings}) != len(strings):
         raise ValueError("two strings are equal")
-    while not (found := places_of([sip_hash(key0, key1, it) for it in strings])):
-        key0 = key0 + 1 & WORD
-    return assembled(strings, kind, key0, key1, *found)
+    for first, second in default_keys(strings) if key0 is None else [(key0, key1)]:
+        for tried in [first + attempt & WORD for attempt in range(ATTEMPTS)]:
+            if found := places_of([sip_hash(tried, second, it) for it in strings]):
+                return assembled(strings, kind, tried, second, *found)
+    return None
 
 
 def rebuilt(table):

@@ -5,6 +5,7 @@
 //   FAIL_READ=N     the N-th read fails
 //   FAIL_WRITE=N    the N-th write to standard output fails
 //   SHORT=1         a read or a write to standard output moves one byte
+//   SAME_RANDOM=1   random bytes are zero, but for the first, which counts the calls from 0
 // No header is needed, so any C compiler will do.
 typedef __SIZE_TYPE__ size_t;
 typedef long ssize_t;
@@ -18,9 +19,9 @@ int snprintf(char *, size_t, const char *, ...);
 long syscall(long, ...);
 int *__errno_location(void);
 
-enum { ENOMEM = 12, EIO = 5, READ = 0, WRITE = 1 };
+enum { ENOMEM = 12, EIO = 5, READ = 0, WRITE = 1, GETRANDOM = 318 };
 
-static long requests, reads, writes;
+static long requests, reads, writes, draws;
 
 static long number(const char *name) {
     const char *text = getenv(name);
@@ -58,6 +59,13 @@ ssize_t write(int file, const void *bytes, size_t size) {
     if (file != 1) return syscall(WRITE, file, bytes, size);
     if (++writes == number("FAIL_WRITE") && fails(EIO)) return -1;
     return syscall(WRITE, file, bytes, number("SHORT") && size ? 1 : size);
+}
+
+int getentropy(void *bytes, size_t size) {
+    if (!number("SAME_RANDOM")) return syscall(GETRANDOM, bytes, size, 0) == (long)size ? 0 : -1;
+    for (size_t i = 0; i < size; i++) ((unsigned char *)bytes)[i] = i ? 0 : (unsigned char)draws;
+    draws++;
+    return 0;
 }
 
 ssize_t __write(int file, const void *bytes, size_t size) { return write(file, bytes, size); }

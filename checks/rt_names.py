@@ -27,6 +27,8 @@ ALL_PASSED = re.compile(r"^\d+ passed, 0 failed$", re.M)
 # What the prover says of a function, `fn CRATE::PATH: WORDS`, after the notes on its open goals.
 FUNCTION = re.compile(r"^fn (\S+): (.*)$")
 PROVED = re.compile(r"^proved\b")
+# The last line's word on libraries that were built with what earlier checks kept.
+KEPT_WORK = "incremental=trusted"
 # The function's own goals may all be closed: it can't be told, or is told, while a function that it calls isn't proved.
 CALLS_UNPROVED = re.compile(r"^(not proved; |no proof: )(it calls|the borrow checker's part in its proof is not made yet: a call of)")
 OPEN_GOAL = re.compile(r"^note: \S+:\d+:\d+: it is not proved that")
@@ -58,9 +60,19 @@ def load():
     loader.exec_module(module)
     module.Crate.cuts_libraries = True
     module.rtlib.Crate = module.Crate
+    module.rtlib.VERDICT = over_kept(module.rtlib.VERDICT)
     # Whatever it starts ends with this process. (The first call sets a signal's handler, which the main thread alone may.)
     module.rtlib.guarded()
     return module
+
+
+def over_kept(verdict):
+    """The pattern of a verdict's last line, where that may end in KEPT_WORK. `rt lib` builds a library with what earlier checks kept, and the last line
+    of all that is proved over it says so. A run of these scripts takes that library as it takes the others that earlier runs left, and `rt ci` takes none."""
+    ends = r"\n\Z"
+    if not verdict.pattern.endswith(ends):
+        sys.exit("checks/rt_names.py: the pattern of rt's last line doesn't end as it did")
+    return re.compile(verdict.pattern.removesuffix(ends) + f"(?: {KEPT_WORK})?{ends}", verdict.flags)
 
 
 def crates(top=TOP):
@@ -216,12 +228,14 @@ def lines_of(crate):
     return sum(it.read_bytes().count(b"\n") for it in files if not {"tests", "tests.rt"} & {*it.parts})
 
 
-def of_program(name):
-    """The crates that a program stands on, and it, lowest first."""
-    crate = next((it for it in crates() if it.name == name), None) or sys.exit(f"crates.txt lists no {name}")
-    found = [*crate.below(), crate]
+def standing_on(names):
+    """The crates of these names and those that they stand on, lowest first."""
+    found, every = [], {it.name: it for it in crates()}
+    for name in names:
+        crate = every.get(name) or sys.exit(f"crates.txt lists no {name}")
+        found += [it for it in [*crate.below(), crate] if it not in found]
     # No other rt works in them until this process ends.
-    of_program.held = load().rtlib.lock(found)
+    standing_on.held = load().rtlib.lock(found)
     return found
 
 

@@ -4,9 +4,9 @@ It reads files as `rt fmt` lays them out, and nothing else.
 """
 
 import re
-from dataclasses import dataclass
+from collections import namedtuple
+from dataclasses import make_dataclass
 from pathlib import Path
-from typing import NamedTuple
 
 TOP = Path(__file__).resolve().parent.parent
 # How a clause without a name is cited, and what a type promises of each of its values.
@@ -20,34 +20,10 @@ DEFINED = re.compile(r"(?: *(?:(?:pub|opaque) +)*(?:abbrev|record|data|unfoldabl
 FIELD = re.compile(r" +(?:pub )?(\w+) : ")
 
 
-@dataclass(frozen=True, eq=False)
-class Function:
-    """A function: where it is, the impl or trait that it stands in, and its clauses by their names."""
-
-    crate: str
-    file: str
-    line: int
-    owner: str
-    trait: str
-    name: str
-    clauses: dict
-    is_test: bool
-    text: str
-
-
-class Edit(NamedTuple):
-    """An edit: the function that it turns, the clauses by which it is refused, and the promise that it breaks."""
-
-    crate: str
-    folder: str
-    name: str
-    path: str
-    function: str
-    clauses: tuple
-    promise: str
-    beside: tuple
-    file: str
-    pairs: tuple
+# A function: where it is, the impl or trait that it stands in, and its clauses by their names.
+Function = make_dataclass("Function", "crate file line owner trait name clauses is_test text".split(), frozen=True, eq=False)
+# An edit: the function that it turns, the clauses by which it is refused, and the promise that it breaks.
+Edit = namedtuple("Edit", "crate folder name path function clauses promise beside file pairs")
 
 
 def named(text):
@@ -60,12 +36,11 @@ def owner_of(header):
     if found := re.search(r"\btrait (\w+)", header):
         return found[1], found[1]
     rest, depth = re.sub(r"^.*?\bimpl\b", "", header, count=1).strip(), 0
-    if rest.startswith("<"):
-        for at, letter in enumerate(rest):
-            depth += (letter == "<") - (letter == ">" and rest[at - 1] != "-")
-            if not depth:
-                rest = rest[at + 1 :].strip()
-                break
+    for at, letter in enumerate(rest if rest.startswith("<") else ""):
+        depth += (letter == "<") - (letter == ">" and rest[at - 1] != "-")
+        if not depth:
+            rest = rest[at + 1 :].strip()
+            break
     trait, _, owner = rest.partition(" for ")
     owner, trait = (owner, trait) if owner else (trait, "")
     return named(owner.partition(" where ")[0]), named(trait)
@@ -78,8 +53,7 @@ def clauses_from(lines, at, indent):
         row = lines[at].rstrip()
         clause = CLAUSE.fullmatch(row) if not depth else None
         if clause:
-            name = clause[2] or (UNNAMED if clause[1] == "ensures" else clause[1])
-            clauses[name] = ""
+            clauses[name := clause[2] or (UNNAMED if clause[1] == "ensures" else clause[1])] = ""
         if clause or depth:
             clauses[name] += row + "\n"
             depth += row.count("{") - row.count("}")
@@ -91,12 +65,10 @@ def clauses_from(lines, at, indent):
 def functions_in(crate, path):
     """The functions of a file, the ghost members of its impls by owner and trait, and the types that it declares."""
     lines = path.read_text(encoding="utf-8").splitlines()
-    functions, members, types, at = [], {}, set(), 0
-    owner = trait = ""
+    functions, members, types, at, owner, trait = [], {}, set(), 0, "", ""
     while at < len(lines):
         line = lines[at]
-        if found := TYPE.match(line):
-            types.add(found[1])
+        types |= {it[1] for it in [TYPE.match(line)] if it}
         if OWNER.match(line):
             header = line
             while not re.search(r"[{;]\s*\}?$", header) and at + 1 < len(lines):
@@ -108,13 +80,12 @@ def functions_in(crate, path):
         elif found := MEMBER.match(line):
             members.setdefault((owner, trait), {})[found[1]] = line
         elif found := FN.match(line):
-            start = at
-            clauses, at = clauses_from(lines, at, found[1])
+            start, (clauses, at) = at, clauses_from(lines, at, found[1])
             if lines[at].rstrip().endswith("{"):
                 at = next(i for i in range(at, len(lines)) if lines[i].rstrip() == found[1] + "}")
             is_test = bool(re.search(r"#\[test\]\s*(#\[[^\n]*\]\s*)*$", "\n".join(lines[max(0, start - 4) : start])))
-            text = "\n".join(lines[start : at + 1])
-            functions.append(Function(crate, str(path.relative_to(TOP)), start + 1, owner, trait, found[2], clauses, is_test, text))
+            place = crate, str(path.relative_to(TOP)), start + 1
+            functions.append(Function(*place, owner, trait, found[2], clauses, is_test, "\n".join(lines[start : at + 1])))
         at += 1
     return functions, members, types
 
@@ -163,8 +134,7 @@ class Sources:
                     self.members.setdefault((folder.name, *owner), {}).update(own)
             for path in sorted(folder.glob("specs/**/*.antt")):
                 self.definitions.update(definitions_in(path))
-            for path in sorted(folder.glob("must-*/*.edit")):
-                self.edits.append(edits_in(folder.name, path))
+            self.edits += [edits_in(folder.name, path) for path in sorted(folder.glob("must-*/*.edit"))]
 
     def tests(self):
         return [it for it in self.functions if it.is_test]
@@ -176,9 +146,8 @@ class Sources:
         if not root.is_file() or not (is_method or function.text.lstrip().startswith("pub ")):
             return False
         text = root.read_text(encoding="utf-8")
-        modules = re.findall(r"(?m)^pub mod (\w+);", text)
         exported = {word for it in re.findall(r"(?ms)^pub use ([^;]+);", text) for word in re.findall(r"\w+", it)}
-        is_in_module = any(re.match(rf"crates/\w+/src/{it}[./]", function.file) for it in modules)
+        is_in_module = any(re.match(rf"crates/\w+/src/{it}[./]", function.file) for it in re.findall(r"(?m)^pub mod (\w+);", text))
         return is_in_module or (function.owner or function.name) in exported
 
     def clauses_of(self, function):

@@ -12,7 +12,7 @@
  *   intaglio_packed_text   UTF-8 texts in one buffer
  *   intaglio_packed_bytes  bytes in one buffer
  *
- * A packed table takes about half the memory, but the pointer of its get is valid only until the next call that interns or shrinks.
+ * A packed table takes less memory, but the pointer of its get is valid only until the next call that interns or shrinks.
  *
  * For example, intaglio_text_intern interns a string in an intaglio_text. If the kind is known only at run time, use
  * intaglio_table and the functions without a kind in their names, such as intaglio_intern.
@@ -52,11 +52,11 @@ extern "C" {
 #endif
 
 /* The version of this header. The first number changes if a program that was compiled before may break. */
-#define INTAGLIO_VERSION_MAJOR 2
+#define INTAGLIO_VERSION_MAJOR 3
 #define INTAGLIO_VERSION_MINOR 0
 #define INTAGLIO_VERSION_PATCH 0
 #define INTAGLIO_VERSION (INTAGLIO_VERSION_MAJOR * 10000 + INTAGLIO_VERSION_MINOR * 100 + INTAGLIO_VERSION_PATCH)
-#define INTAGLIO_VERSION_STRING "2.0.0"
+#define INTAGLIO_VERSION_STRING "3.0.0"
 
 /* Marks functions whose code must not be ignored. */
 #if defined(__GNUC__) || defined(__clang__)
@@ -248,9 +248,10 @@ size_t intaglio_frozen_len(const uint8_t *bytes, size_t len);
 
 /* Freezes a table: stores the number of bytes in *len, and copies them to the start of the buffer if it has space for all of them. The
  * strings are those of the table, with their symbols; a C string keeps its zero. They are texts if the kind is text, path, osstr or
- * packed_text. The keys are those of the hash function in the frozen table: the same strings under the same keys give the same bytes.
- * Errors: NO_TABLE; NO_SPACE, with *len; TOO_MANY, TOO_LONG, NO_PLACES, NO_MEMORY, NOT_UTF8, EQUAL. But for NO_SPACE nothing is then
- * written. */
+ * packed_text. The keys are those of the hash function in the frozen table; if a string gets no place under them, key0 is one of the seven
+ * numbers after it. The same strings under the same keys give the same bytes. NO_PLACES: other keys may serve, but strings can be chosen so
+ * that known keys don't. Errors: NO_TABLE; NO_SPACE, with *len; TOO_MANY, TOO_LONG, NO_PLACES, NO_MEMORY, NOT_UTF8, EQUAL. But for NO_SPACE
+ * nothing is then written. */
 INTAGLIO_MUST_USE intaglio_code intaglio_freeze(const intaglio_table *table, uint64_t key0, uint64_t key1, uint8_t *buffer, size_t size, size_t *len);
 
 /* Returns how many bytes a frozen table of the strings has, or of an empty one if there is no table. It reads the length of each string. No contract

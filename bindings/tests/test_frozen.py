@@ -1,5 +1,7 @@
 """Frozen tables from Python: those of checks/frozen_tables.py, which is written from docs/FROZEN.md alone."""
+import os
 import random
+import stat
 import sys
 import tempfile
 import unittest
@@ -14,6 +16,7 @@ from intaglio._table import frozen_find_all, thaw
 
 TEXTS = ["a", "bc", "", "é"]
 BYTES = [b"a", b"\xff", b""]
+ROUNDS = 100
 
 
 class OfFrozen(unittest.TestCase):
@@ -83,6 +86,51 @@ class OfFrozen(unittest.TestCase):
             table.freeze(self.path)
         self.assertEqual(self.path.read_bytes(), whole)
 
+    def test_what_is_beside_the_file_and_its_mode_stay(self):
+        beside, target = self.path.with_name("frozen.new"), self.path.with_name("target")
+        os.mkfifo(beside)
+        target.write_bytes(b"")
+        target.chmod(0o640)
+        self.path.symlink_to("target")
+        intaglio.SymbolTable(TEXTS).freeze(self.path)
+        self.assertTrue(self.path.is_symlink() and beside.is_fifo())
+        self.assertEqual((list(Frozen(target)), stat.S_IMODE(target.stat().st_mode)), (TEXTS, 0o640))
+        with self.assertRaises(OSError) as refused:
+            intaglio.SymbolTable(TEXTS).freeze(beside)
+        self.assertEqual((refused.exception.filename, beside.is_fifo()), (str(beside), True))
+        with self.assertRaises(IsADirectoryError):
+            intaglio.SymbolTable(TEXTS).freeze(self.path.parent)
+        self.assertEqual(sorted(it.name for it in self.path.parent.iterdir()), ["frozen", "frozen.new", "target"])
+
+    def test_files_of_any_name(self):
+        for name in (b"\xff", b"n" * 255):
+            path = os.fsencode(self.path.parent) + b"/" + name
+            intaglio.SymbolTable(TEXTS).freeze(path)
+            with Frozen(path) as table:
+                self.assertEqual(list(table), TEXTS)
+
+    def test_processes_that_freeze_to_one_file(self):
+        tables = [intaglio.SymbolTable(f"{i} {number}" for number in range(500 + 300 * i)) for i in range(4)]
+        for turn in range(ROUNDS):
+            ready, begin = os.pipe()
+            processes = []
+            for table in tables[: 2 + turn % 2 * 2]:
+                if not (process := os.fork()):
+                    os.close(begin)
+                    os.read(ready, 1)
+                    try:
+                        table.freeze(self.path)
+                    except BaseException:
+                        os._exit(1)
+                    os._exit(0)
+                processes.append(process)
+            os.close(begin)
+            self.assertEqual([os.waitpid(it, 0)[1] for it in processes], [0] * len(processes))
+            os.close(ready)
+            with Frozen(self.path) as table:
+                self.assertIn(list(table), [list(it) for it in tables])
+            self.assertEqual([it.name for it in self.path.parent.iterdir()], ["frozen"])
+
     def test_what_is_no_pickle_of_a_table_is_refused(self):
         texts, data, paths = (self.write(strings).read_bytes() for strings in (TEXTS, BYTES, ["a/b", "a//b"]))
         self.assertEqual((list(thaw(intaglio.SymbolTable, texts, 0)), list(thaw(intaglio.BytesTable, data, 3))), (TEXTS, BYTES))
@@ -135,6 +183,22 @@ class OfFrozen(unittest.TestCase):
         self.path.write_bytes(whole[:-1] + b"\x00")
         with Frozen(self.path, trusted=True) as table:
             self.assertEqual((table[0], table[1], b"\xff" in table, b"a" in table), (b"a", b"\x00", False, True))
+
+    def test_trusted_texts_that_are_damaged_are_not_decoded(self):
+        whole = self.write(TEXTS).read_bytes()
+        self.path.write_bytes(whole[:-1] + b"\xff")
+        with Frozen(self.path, trusted=True) as table:
+            self.assertEqual((table[0], table.get(1), "é" in table), ("a", "bc", False))
+            for call in (lambda: table[3], lambda: table.get(3), lambda: list(table), lambda: table[2:], lambda: dict(table.items())):
+                with self.assertRaises(UnicodeDecodeError):
+                    call()
+        # The end of the first string lies behind that of the second.
+        at = frozen_tables.Sections(len(TEXTS)).ends
+        self.path.write_bytes(whole[:at] + b"\x05" + whole[at + 1:])
+        with Frozen(self.path, trusted=True) as table:
+            self.assertIsNone(table.get(1))
+            with self.assertRaises(intaglio.NoSymbol):
+                list(table)
 
 
 if __name__ == "__main__":

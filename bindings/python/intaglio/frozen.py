@@ -1,25 +1,75 @@
 """Frozen tables: a symbol table in one block of bytes, such as a file."""
+import contextlib
+import errno
+import fcntl
+import functools
 import mmap
 import operator
 import os
+import stat
 from collections.abc import Sequence
 
 from intaglio._table import frozen_check, frozen_find, frozen_find_all, frozen_get, frozen_is_text, frozen_len
 from intaglio.errors import NoSymbol
 
+# How many names are drawn for a new file.
+MAX_NAMES = 100
+
+
+def mode_at(path):
+    """The mode of the regular file at the path, or None if nothing is there. What is no regular file raises OSError."""
+    try:
+        mode = os.stat(path).st_mode
+    except FileNotFoundError:
+        return None
+    if stat.S_ISDIR(mode):
+        raise OSError(errno.EISDIR, os.strerror(errno.EISDIR), path)
+    if not stat.S_ISREG(mode):
+        raise OSError(errno.EINVAL, "not a regular file", path)
+    return stat.S_IMODE(mode)
+
+
+def open_above_streams(path, flags, mode):
+    """As os.open, but the descriptor isn't 0, 1 or 2: of a standard stream that is closed, the number is free."""
+    descriptor = os.open(path, flags, mode)
+    try:
+        return fcntl.fcntl(descriptor, fcntl.F_DUPFD_CLOEXEC, 3)
+    finally:
+        os.close(descriptor)
+
+
+def create_beside(path, mode):
+    """Makes a file in the folder of the path, under a name that is drawn at random. Returns it and its path."""
+    for _ in range(MAX_NAMES):
+        beside = os.path.join(os.path.dirname(path), f".intaglio.{os.urandom(8).hex()}.new")
+        with contextlib.suppress(FileExistsError):
+            return open(beside, "xb", opener=functools.partial(open_above_streams, mode=mode)), beside
+    raise FileExistsError(errno.EEXIST, "no name is free beside it", path)
+
 
 def replace(path, data):
-    """Writes the bytes to path.new, syncs it, and renames it to the path."""
-    beside = os.fsdecode(path) + ".new"
+    """Writes the bytes to a new file beside the path, syncs it, and renames it to the path.
+
+    A symbolic link is followed, and the mode of the file that is replaced is kept. The new file is written, renamed and removed only here.
+    """
+    path = os.fsdecode(path)
+    mode = mode_at(path)
+    target = os.path.realpath(path) if os.path.islink(path) else path
+    file, beside = create_beside(target, 0o666 if mode is None else 0o600)
     try:
-        with open(beside, "wb") as file:
+        with file:
             file.write(data)
             file.flush()
+            if mode is not None:
+                os.fchmod(file.fileno(), mode)
             os.fsync(file.fileno())
-        os.replace(beside, path)
-    except BaseException:
-        if os.path.exists(beside):
+        os.replace(beside, target)
+    except BaseException as error:
+        with contextlib.suppress(FileNotFoundError):
             os.remove(beside)
+        # (that of a write has no name)
+        if isinstance(error, OSError) and error.filename is None:
+            error.filename = beside
         raise
 
 
@@ -29,8 +79,9 @@ class Frozen(Sequence):
     Frozen(path, *, trusted=False)
 
     The strings are `str` if the kind of the table is text, and else `bytes`. All bytes are checked, unless the file is trusted: then a
-    string that is found is still equal to the one that was sought, but one that is there may not be found. The file
-    must not be made shorter while it is mapped.
+    string that is found is still equal to the one that was sought, but one that is there may not be found, and of a damaged file what
+    returns strings (`get`, `[]`, iterating, `items`) may raise UnicodeDecodeError, or have no string at a symbol below the length.
+    The file must not be made shorter while it is mapped.
 
     Raises NotFrozen, OtherVersion, NoKind, Reserved, TooMany, Truncated, TextEnds, Unused, NotFound, NotUtf8, OSError.
     """
@@ -61,7 +112,7 @@ class Frozen(Sequence):
         return frozen_find_all(self._data, strings)
 
     def get(self, symbol, default=None, /):
-        """The string of a symbol, or the default if there is none."""
+        """The string of a symbol, or the default if there is none. Raises UnicodeDecodeError if the file is trusted, of texts, and damaged."""
         string = frozen_get(self._data, symbol)
         return default if string is None else string
 

@@ -5,9 +5,10 @@
 //! Slices and references of Rust are such pointers.
 //!
 //! A [`RawTable`] owns its handle. A call that changes the table takes `&mut self`, and the handle itself. A call that only
-//! reads takes a copy of the handle, which lasts as long as the call: it takes the table out of the copy and puts it back, and
-//! writes nothing else. So threads may read at once, without a lock. That a read writes nothing to the table's memory is what
-//! its source says and no contract; `bindings/tests/reads.c` makes all of them while that memory can't be written.
+//! reads takes a copy of the handle, which lasts as long as the call, since the library is declared to take a pointer through
+//! which it may write. It borrows the table in place, and writes neither to the copy nor to the table, so threads may read at
+//! once, without a lock. No contract says so: `bindings/tests/reads.c` makes all of these calls while the memory of the table
+//! and of its handle can't be written.
 use core::ffi::{CStr, c_void};
 use core::fmt::{self, Debug};
 use core::marker::PhantomData;

@@ -12,17 +12,17 @@ mod words;
 use anyhow::Result;
 use frozen::{frozen, print_words};
 use intaglio::{SymbolTable, packed};
-use intaglio_hash::KeyedState;
+use intaglio_hash::{FixedState, KeyedState};
 use plan::{Hashing, Place, Plan, Task};
 use std::env;
-use std::hash::{BuildHasher, RandomState};
+use std::hash::{BuildHasher, BuildHasherDefault, FoldHasher, RandomState};
 use std::random::RandomSource;
 use std::rt::{Clock, Env};
 use table::WordTable;
 use turn::{copy, hash_alone, hold, turn};
 
 const USAGE: &str =
-    "check|time|hold|hash|copy|frozen|words single|batch|both|packed|packed_batch|packed_both fold|keyed|std CAPACITY SIZE TURNS";
+    "check|time|hold|hash|copy|frozen|words single|batch|both|packed|packed_batch|packed_both fold|fixed|keyed|std CAPACITY SIZE TURNS";
 
 fn main(rt: HostRuntime) -> Result<()> {
     let mut arguments = Vec::new(rt.alloc());
@@ -49,27 +49,13 @@ fn on_a_table<R: Print + Input + Clock + RandomSource + AllocGlobal>(
     plan: Plan,
 ) -> Result<()> {
     match plan.hashing {
-        Hashing::Fold => fold(rt, plan),
+        Hashing::Fold => run_with(rt, plan, BuildHasherDefault::<FoldHasher>::new()),
+        Hashing::Fixed => run_with(rt, plan, FixedState),
         Hashing::Keyed => {
             let builder = KeyedState::from_random(&RandomState::new(rt)?);
             run_with(rt, plan, builder)
         }
         Hashing::Std => run_with(rt, plan, RandomState::new(rt)?),
-    }
-}
-
-// A turn with the hasher of fixed seed, whose tables round their capacity up.
-fn fold<R: Print + Input + Clock + AllocGlobal>(rt: &R, plan: Plan) -> Result<()> {
-    match plan.place {
-        Place::Owned => run(
-            rt,
-            SymbolTable::with_capacity(rt.alloc(), plan.capacity)?,
-            plan,
-        ),
-        Place::Packed => {
-            let table = packed::SymbolTable::with_capacity(rt.alloc(), plan.capacity)?;
-            run(rt, table, plan)
-        }
     }
 }
 

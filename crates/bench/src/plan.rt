@@ -42,8 +42,10 @@ pub enum Place {
 /// Which hashers a table has.
 #[derive(Clone, Copy)]
 pub enum Hashing {
-    /// `FoldHasher`, with a fixed seed.
+    /// std's `FoldHasher`, with a fixed seed.
     Fold,
+    /// `FixedHasher`, with the same hashes.
+    Fixed,
     /// `KeyedHasher`, with random keys.
     Keyed,
     /// std's `RandomState`.
@@ -115,6 +117,7 @@ fn place_of(word: &str) -> Place {
 fn hashing_of(word: &str) -> Option<Hashing> {
     match word {
         "fold" => Some(Hashing::Fold),
+        "fixed" => Some(Hashing::Fixed),
         "keyed" => Some(Hashing::Keyed),
         "std" => Some(Hashing::Std),
         _ => None,

@@ -4,7 +4,7 @@ ghost use Rattle.intaglio.specs.Pattern.{SamePattern};
 ghost use Rattle.intaglio.specs.StrContent.{str_content_bytes};
 ghost use Rattle.example_column.specs.Rows.{row_key};
 
-use intaglio::{StrContent, Symbol, SymbolTable, TableError, Work, intern_all};
+use intaglio::{StrContent, Symbol, SymbolTable, TableError};
 use std::alloc::{AllocError, Global};
 use std::marker::Model;
 
@@ -41,7 +41,7 @@ impl Column {
         ensures rows { IfOk result (λ column. column ≡ map str_content_bytes rows.items) }
     {
         let mut texts = SymbolTable::new(alloc)?;
-        let codes = intern_all(alloc, &mut texts, rows, &mut Work::new())?;
+        let codes = texts.intern_all(rows)?;
         Ok(Column { codes, texts })
     }
 

@@ -12,7 +12,7 @@ use Rattle.example_words.specs.Counts.{KeepsOthers, count_at, count_in}
 -- a word with a symbol past those before wasn't there, and has the next one
 pub new-word : (old new : State StrContent) (w : List ℕ) (i : ℕ) (o : Option ℕ) → first str_key old.contents (w ∷ []) ≡ o → MatchOption o (IsCopyAppended str_key str_content_bytes old (w ∷ []) w i new) (λ j. (◌≡◌ {A = Result ℕ InternError} (Ok i) (Ok j)) × (new ≡ old))
     → length old.contents ≤ i → (o ≡ None) × (i ≡ length old.contents) × (length new.contents ≡ length old.contents + 1)
-new-word old new w i None e h le = (refl, h.taken.position, rw h.taken.contents (length-append old.contents (h.copy ∷ [])))
+new-word old new w i None e h le = (refl, h.position, rw h.contents.added (length-append old.contents (h.contents.copy ∷ [])))
 new-word old new w i (Some j) e h le = absurd (let lt = found_below str_key old (w ∷ []) j e in let same : i ≡ j = cc in omega arith)
 
 module _ (old new : State StrContent) (counts after : List ℕ) (w : List ℕ) (i : ℕ) (found : IsFound str_key new (w ∷ []) i) (others : FindsOthers str_key old (w ∷ []) new) (same : (k : ℕ) → k ≢ i → k < length old.contents → slice_index_or after k 0 ≡ slice_index_or counts k 0) where

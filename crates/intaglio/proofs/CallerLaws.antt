@@ -111,9 +111,9 @@ module _ {C : Type 0} (key : C → Key) where
   module _ (spelling : C → List ℕ) where
     form-grows : (old new : State C) (k : Key) (w : List ℕ) (i : ℕ) → IsCopyAppended key spelling old k w i new → GrowsByForm key spelling old k w i new
     form-grows old new k w i h = record {
-      position = h.taken.position;
-      keys = rw (h.taken.contents, map-append key old.contents (h.copy ∷ []), h.same_key) refl;
-      spellings = rw (h.taken.contents, map-append spelling old.contents (h.copy ∷ []), h.same_spelling) refl;
+      position = h.position;
+      keys = rw (h.contents.added, map-append key old.contents (h.contents.copy ∷ []), h.contents.same_key) refl;
+      spellings = rw (h.contents.added, map-append spelling old.contents (h.contents.copy ∷ []), h.contents.same_spelling) refl;
     }
 
     -- the same for a form, of which a copy is interned
@@ -126,7 +126,7 @@ module _ {C : Type 0} (key : C → Key) where
     form-by-count : (o : Option ℕ) (old new : State C) (k : Key) (w : List ℕ) (i : ℕ) → MatchOption o (IsCopyAppended key spelling old k w i new) (λ j. (◌≡◌ {A = Result ℕ InternError} (Ok i) (Ok j)) × (new ≡ old))
         → (length new.contents ≡ length old.contents → (o ≡ Some i) × (new ≡ old)) × (length new.contents ≢ length old.contents → (o ≡ None) × GrowsByForm key spelling old k w i new)
     form-by-count None old new k w i h = (
-      λ e. absurd (let more : length new.contents ≡ length old.contents + 1 = rw h.taken.contents (length-append old.contents (h.copy ∷ [])) in omega arith),
+      λ e. absurd (let more : length new.contents ≡ length old.contents + 1 = rw h.contents.added (length-append old.contents (h.contents.copy ∷ [])) in omega arith),
       λ n. (refl, form-grows old new k w i h),
     )
     form-by-count (Some j) old new k w i h = (λ e. (cc, h.1), λ n. absurd (n (ap (λ (s : State C). length s.contents) h.1)))

@@ -2,8 +2,8 @@
 //!
 //! [`SymbolTable`] interns texts. The modules [`bytes`], [`bstr`], [`cstr`], [`osstr`] and [`path`] have
 //! a table each, for bytes, byte strings, C strings, platform strings and paths. Each is a [`Table`] of
-//! one kind of content. [`packed`] has tables of texts and of bytes in one buffer. It is proved that a table behaves as a plain list of distinct contents, whose
-//! symbols are their positions.
+//! one kind of content. [`packed`] has tables of texts and of bytes in one buffer. It is proved that a table
+//! behaves as a plain list of distinct contents, whose symbols are their positions.
 #![tactic(auto)]
 
 pub mod bstr;
@@ -17,13 +17,12 @@ pub mod path;
 mod text;
 
 pub use error::TableError;
-pub use intaglio_core::run::{run, run_forms};
 pub use intaglio_core::{
-    AllSymbols, ByteStore, Bytewise, Call, Content, CopiedTo, Core, DEFAULT_SYMBOL_TABLE_CAPACITY,
-    FormInterner, Formed, Forms, Index, IndexedStore, InternError, Interner, Keyed, Lends,
-    LookedUp, LookedUpIn, Mark, Pairs, Reply, RoomError, Sought, SoughtIn, Spelled,
-    SpelledInterner, SpelledStore, StaleMark, Store, StoreForms, StorePairs, Symbol,
-    SymbolOverflowError, ToContent, Work, check_all, get_or_intern_all, intern_all,
+    AddedTo, AllSymbols, ByteStore, Bytewise, Call, Content, Copied, CopiedTo, Core,
+    DEFAULT_SYMBOL_TABLE_CAPACITY, FormInterner, Formed, Forms, Index, IndexedStore, InternError,
+    Interner, Keyed, Lends, LookedUp, LookedUpIn, Mark, Moved, Pairs, Reply, RoomError, Sought,
+    SoughtIn, Spelled, SpelledStore, StaleMark, Store, StoreForms, StorePairs, Symbol,
+    SymbolOverflowError, ToContent, Work, check_all, get_or_intern_all, intern_all, run,
 };
 pub use intaglio_table::{Table, TableOver};
 pub use intaglio_text::StrContent;

@@ -1,10 +1,11 @@
 //! Tables whose contents are in one buffer: of texts here, of bytes in [`bytes`].
 //!
 //! They have the calls of the other tables that take or give a borrowed string, with the same contracts, and
-//! they take about half the memory, since a string has no allocation of its own. Each new string is copied.
+//! they take less memory, since a string has no allocation of its own. Each new string is copied. By default
+//! they hash with `intaglio_hash::FixedState`, which has the other tables' hashes and is faster.
 use crate::{StoreForms, StorePairs, TableOver};
+use intaglio_hash::FixedState;
 pub use intaglio_packed::{Packed, Spelling, Texts};
-use std::hash::{BuildHasherDefault, FoldHasher};
 
 pub mod bytes;
 
@@ -26,4 +27,4 @@ pub type Iter<'a> = StorePairs<'a, Texts>;
 /// assert!(rt; table.get(symbol) == Some("abc"));
 /// assert!(rt; table.check_interned("abc") == Some(symbol));
 /// ```
-pub type SymbolTable<S = BuildHasherDefault<FoldHasher>> = TableOver<Texts, S>;
+pub type SymbolTable<S = FixedState> = TableOver<Texts, S>;

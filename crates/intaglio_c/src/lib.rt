@@ -29,9 +29,9 @@ const DEFAULT_CAPACITY: usize = 4096;
 /// Returns the version of the library: its first number times 10000, its second times 100, and its third.
 #[unsafe(no_mangle)]
 pub extern "C" fn intaglio_version() -> u32
-    ensures version { result ≡ 20000 }
+    ensures version { result ≡ 30000 }
 {
-    20000
+    30000
 }
 
 /// Puts a new table of a kind with capacity 4096 into the handle.
@@ -251,7 +251,7 @@ pub extern "C" fn intaglio_copy_all(
 }
 
 /// Writes how many bytes a frozen table of the contents has, and copies them to the start of a buffer that has space
-/// for them.
+/// for them. Its keys are these, or one of the seven pairs after them.
 #[unsafe(no_mangle)]
 pub extern "C" fn intaglio_freeze(
     alloc: Global,
@@ -261,7 +261,8 @@ pub extern "C" fn intaglio_freeze(
     buffer: &mut [u8],
     len: &mut usize,
 ) -> u32
-    ensures frozen { IsCodeOf result (FreezesHeld handle.old buffer.old buffer.new len.old len.new) }
+    ensures frozen { IsCodeOf result
+        (FreezesHeld handle.old (key0, key1) buffer.old buffer.new len.old len.new) }
     ensures kept { Keeps handle.old handle.new }
 {
     code(handle.freeze(alloc, key0, key1, buffer, len))

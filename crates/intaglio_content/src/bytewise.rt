@@ -4,6 +4,7 @@ ghost use Rattle.bstr.specs.BStr.{bstr_bytes};
 
 use crate::content::{Keyed, Sought};
 use crate::feed::feed_item;
+use crate::same::same_bytes;
 use crate::work::Work;
 use bstr::BStr;
 use std::hash::{BuildHasher, Hasher};
@@ -27,9 +28,10 @@ impl<Q: Bytewise, C: Bytewise> Sought<C> for Q {
         hasher.finish()
     }
 
+    #[inline(always)]
     fn same_as(&self, stored: &C, work: &mut Work) -> bool {
         work.compared(self, stored);
-        *self.compared_bytes() == *stored.compared_bytes()
+        same_bytes(self.compared_bytes(), stored.compared_bytes())
     }
 
     fn touch(&self, stored: &C) -> u8 {

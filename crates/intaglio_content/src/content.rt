@@ -42,7 +42,7 @@ pub trait Formed<'a>: Content {
 
 /// A content with one borrowed form, by which it is looked up.
 pub trait LookedUp<'q>: Content {
-    type By: ToContent<Self> + Drop;
+    type By: ToContent<Self> + Copy;
 }
 
 /// A value that can be looked up among contents of type `C`.

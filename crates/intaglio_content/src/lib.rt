@@ -1,7 +1,7 @@
 //! What tables store and compare.
 //!
 //! - [`Keyed`], [`Content`], [`Spelled`], [`Formed`], [`LookedUp`], [`Sought`], [`ToContent`]: contents and forms.
-//! - [`Store`], [`ByteStore`], [`SoughtIn`], [`CopiedTo`], [`Lends`], [`LookedUpIn`], [`SpelledStore`]:
+//! - [`Store`], [`ByteStore`], [`SoughtIn`], [`AddedTo`], [`CopiedTo`], [`Lends`], [`LookedUpIn`], [`SpelledStore`]:
 //!   where contents are kept.
 //! - [`Forms`], [`Pairs`], [`StoreForms`], [`StorePairs`]: iterators; [`Texts`] and the like mark the six kinds.
 //! - [`Work`] records, for contracts alone, what a call did.
@@ -14,6 +14,7 @@ mod feed;
 mod forms;
 mod kinds;
 mod pairs;
+mod same;
 mod store;
 mod store_forms;
 mod vec_store;
@@ -25,6 +26,9 @@ pub use feed::feed_item;
 pub use forms::Forms;
 pub use kinds::{BStrings, Bytestrings, CStrings, OsStrings, Paths, Texts};
 pub use pairs::Pairs;
-pub use store::{ByteStore, CopiedTo, Lends, LookedUpIn, SoughtIn, SpelledStore, Store};
+pub use same::same_bytes;
+pub use store::{
+    AddedTo, ByteStore, Copied, CopiedTo, Lends, LookedUpIn, Moved, SoughtIn, SpelledStore, Store,
+};
 pub use store_forms::{StoreForms, StorePairs};
 pub use work::Work;

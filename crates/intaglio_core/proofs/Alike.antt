@@ -1,18 +1,19 @@
 -- What a run replies and leaves follows from its calls, the contents before it and the limit, if it isn't refused memory.
-use Rattle.std.proofs.Common.{◌≡◌, ◌≢◌, ◌∙◌, sym, ap, refl, arith, ℕ, suc, ◌+◌, cond, ltb, List, [], ◌∷◌, ◌++◌, length, map, take, Option, Some, None, option_map, is_some, MatchOption, Result, Ok}
+use Rattle.std.proofs.Common.{◌≡◌, ◌≢◌, ◌∙◌, sym, ap, refl, arith, ℕ, suc, ◌+◌, false, cond, ltb, List, [], ◌∷◌, ◌++◌, length, map, take, Option, Some, None, option_map, is_some, MatchOption, Result, Ok}
 use Rattle.std.specs.Prelude.{slice_get, nat_lt, nat_eq}
 use Rattle.std.proofs.lemmas.Bool.{lt-ltb, le-ltb}
 use Rattle.intaglio_content.specs.Key.{Key}
+use Rattle.intaglio_content.specs.Store.{IsMoved}
 use Rattle.intaglio_content.specs.Work.{Event}
 use Rattle.intaglio_core.specs.State.{State, first}
 use Rattle.intaglio_core.specs.Change.{IsAppended}
 use Rattle.intaglio_core.specs.Step.{Step, found}
 use Rattle.intaglio_core.specs.Run.{Runs}
 use Rattle.intaglio_core.specs.Alike.{Seen, symbol, pair, bool, spelling, count, done, overflow, capacity_overflow, stale, seen, HasMemory, AreAlike}
-use Rattle.intaglio_core.specs.declared.run.Call.{Call}
-use Rattle.intaglio_core.specs.declared.run.Call.TheVariants.{Intern, Check, GetInterned, IsInterned, Contains, Get, Len, IsEmpty, Clear, Reserve, ShrinkTo, ShrinkToFit, TakeBack}
-use Rattle.intaglio_core.specs.declared.run.Reply.{Reply}
-use Rattle.intaglio_core.specs.declared.run.Reply.TheVariants as reply
+use Rattle.intaglio_core.specs.declared.runs.Call.{Call}
+use Rattle.intaglio_core.specs.declared.runs.Call.TheVariants.{Intern, Check, GetInterned, IsInterned, Contains, Get, Len, IsEmpty, Clear, Reserve, ShrinkTo, ShrinkToFit, TakeBack}
+use Rattle.intaglio_core.specs.declared.runs.Reply.{Reply}
+use Rattle.intaglio_core.specs.declared.runs.Reply.TheVariants as reply
 use Rattle.intaglio_symbol.specs.declared.error.InternError.{InternError}
 
 -- what an interning says and leaves, by the place where its key is first
@@ -77,7 +78,7 @@ module _ {C : Type 0} (key : C → Key) (spells : C → List ℕ) where
   plain : (old : State C) (call : Call C) (r : Reply) (new : State C) → seen r ≡ says old.contents old.limit call → new ≡ old → leaves old.contents old.limit call ≡ old.contents → IsPlain old call r new
   plain old call r new e same kept = record { reply = e; contents = same-contents old new same ∙ sym kept; limit = same-limit old new same }
 
-  intern-plain : (old new : State C) (c : C) (r : Reply) → Step key spells old (Intern c) r new → r ≢ reply.NoMemory → IsPlain old (Intern c) r new
+  intern-plain : (old new : State C) (c : C) (r : Reply) → Step key key spells IsMoved false old (Intern c) r new → r ≢ reply.NoMemory → IsPlain old (Intern c) r new
   intern-plain old new c (reply.Symbol (Some i)) step n =
       let h = taken-plain (first key old.contents (key c)) old new c i step in
       record { reply = h.0; contents = h.1; limit = h.2 }
@@ -87,41 +88,41 @@ module _ {C : Type 0} (key : C → Key) (spells : C → List ℕ) where
   intern-plain old new c reply.NoMemory step n = absurd (n refl)
   intern-plain old new c _ step n = absurd step
 
-  check-plain : (old new : State C) (c : C) (r : Reply) → Step key spells old (Check c) r new → IsPlain old (Check c) r new
+  check-plain : (old new : State C) (c : C) (r : Reply) → Step key key spells IsMoved false old (Check c) r new → IsPlain old (Check c) r new
   check-plain old new c (reply.Symbol r) step = plain old (Check c) (reply.Symbol r) new (ap symbol step.0) step.1 refl
   check-plain old new c _ step = absurd step
 
-  get_interned-plain : (old new : State C) (c : C) (r : Reply) → Step key spells old (GetInterned c) r new → r ≢ reply.NoMemory → IsPlain old (GetInterned c) r new
+  get_interned-plain : (old new : State C) (c : C) (r : Reply) → Step key key spells IsMoved false old (GetInterned c) r new → r ≢ reply.NoMemory → IsPlain old (GetInterned c) r new
   get_interned-plain old new c (reply.Pair r) step n = plain old (GetInterned c) (reply.Pair r) new (ap pair step.0) step.1 refl
   get_interned-plain old new c reply.NoMemory step n = absurd (n refl)
-  get_interned-plain old new c _ step n = absurd step
+  get_interned-plain old new c _ step n = absurd step.0
 
-  is_interned-plain : (old new : State C) (c : C) (r : Reply) → Step key spells old (IsInterned c) r new → IsPlain old (IsInterned c) r new
+  is_interned-plain : (old new : State C) (c : C) (r : Reply) → Step key key spells IsMoved false old (IsInterned c) r new → IsPlain old (IsInterned c) r new
   is_interned-plain old new c (reply.Bool r) step = plain old (IsInterned c) (reply.Bool r) new (ap bool step.0) step.1 refl
   is_interned-plain old new c _ step = absurd step
 
-  contains-plain : (old new : State C) (s : ℕ) (r : Reply) → Step key spells old (Contains s) r new → IsPlain old (Contains s) r new
+  contains-plain : (old new : State C) (s : ℕ) (r : Reply) → Step key key spells IsMoved false old (Contains s) r new → IsPlain old (Contains s) r new
   contains-plain old new s (reply.Bool r) step = plain old (Contains s) (reply.Bool r) new (ap bool step.0) step.1 refl
   contains-plain old new s _ step = absurd step
 
-  get-plain : (old new : State C) (s : ℕ) (r : Reply) → Step key spells old (Get s) r new → r ≢ reply.NoMemory → IsPlain old (Get s) r new
+  get-plain : (old new : State C) (s : ℕ) (r : Reply) → Step key key spells IsMoved false old (Get s) r new → r ≢ reply.NoMemory → IsPlain old (Get s) r new
   get-plain old new s (reply.Spelling r) step n = plain old (Get s) (reply.Spelling r) new (ap spelling step.0) step.1 refl
   get-plain old new s reply.NoMemory step n = absurd (n refl)
-  get-plain old new s _ step n = absurd step
+  get-plain old new s _ step n = absurd step.0
 
-  len-plain : (old new : State C) (r : Reply) → Step key spells old Len r new → IsPlain old Len r new
+  len-plain : (old new : State C) (r : Reply) → Step key key spells IsMoved false old Len r new → IsPlain old Len r new
   len-plain old new (reply.Count r) step = plain old Len (reply.Count r) new (ap count step.0) step.1 refl
   len-plain old new _ step = absurd step
 
-  is_empty-plain : (old new : State C) (r : Reply) → Step key spells old IsEmpty r new → IsPlain old IsEmpty r new
+  is_empty-plain : (old new : State C) (r : Reply) → Step key key spells IsMoved false old IsEmpty r new → IsPlain old IsEmpty r new
   is_empty-plain old new (reply.Bool r) step = plain old IsEmpty (reply.Bool r) new (ap bool step.0) step.1 refl
   is_empty-plain old new _ step = absurd step
 
-  clear-plain : (old new : State C) (r : Reply) → Step key spells old Clear r new → IsPlain old Clear r new
+  clear-plain : (old new : State C) (r : Reply) → Step key key spells IsMoved false old Clear r new → IsPlain old Clear r new
   clear-plain old new reply.Done step = record { reply = refl; contents = step.contents; limit = step.limit }
   clear-plain old new _ step = absurd step
 
-  reserve-plain : (old new : State C) (n : ℕ) (r : Reply) → Step key spells old (Reserve n) r new → r ≢ reply.NoMemory → IsPlain old (Reserve n) r new
+  reserve-plain : (old new : State C) (n : ℕ) (r : Reply) → Step key key spells IsMoved false old (Reserve n) r new → r ≢ reply.NoMemory → IsPlain old (Reserve n) r new
   reserve-plain old new n reply.Done step m =
       record { reply = rw (le-ltb old.limit (length old.contents + n) step.within_limit) refl; contents = step.contents; limit = step.limit }
   reserve-plain old new n reply.CapacityOverflow step m =
@@ -129,17 +130,17 @@ module _ {C : Type 0} (key : C → Key) (spells : C → List ℕ) where
   reserve-plain old new n reply.NoMemory step m = absurd (m refl)
   reserve-plain old new n _ step m = absurd step
 
-  shrink_to-plain : (old new : State C) (n : ℕ) (r : Reply) → Step key spells old (ShrinkTo n) r new → r ≢ reply.NoMemory → IsPlain old (ShrinkTo n) r new
+  shrink_to-plain : (old new : State C) (n : ℕ) (r : Reply) → Step key key spells IsMoved false old (ShrinkTo n) r new → r ≢ reply.NoMemory → IsPlain old (ShrinkTo n) r new
   shrink_to-plain old new n reply.Done step m = record { reply = refl; contents = step.contents; limit = step.limit }
   shrink_to-plain old new n reply.NoMemory step m = absurd (m refl)
   shrink_to-plain old new n _ step m = absurd step
 
-  shrink_to_fit-plain : (old new : State C) (r : Reply) → Step key spells old ShrinkToFit r new → r ≢ reply.NoMemory → IsPlain old ShrinkToFit r new
+  shrink_to_fit-plain : (old new : State C) (r : Reply) → Step key key spells IsMoved false old ShrinkToFit r new → r ≢ reply.NoMemory → IsPlain old ShrinkToFit r new
   shrink_to_fit-plain old new reply.Done step m = record { reply = refl; contents = step.contents; limit = step.limit }
   shrink_to_fit-plain old new reply.NoMemory step m = absurd (m refl)
   shrink_to_fit-plain old new _ step m = absurd step
 
-  take_back-plain : (old new : State C) (n : ℕ) (r : Reply) → Step key spells old (TakeBack n) r new → IsPlain old (TakeBack n) r new
+  take_back-plain : (old new : State C) (n : ℕ) (r : Reply) → Step key key spells IsMoved false old (TakeBack n) r new → IsPlain old (TakeBack n) r new
   take_back-plain old new n reply.Done step =
       let some = le-ltb (length old.contents) n step.within in
       record { reply = rw some refl; contents = rw some step.contents; limit = step.limit }
@@ -149,7 +150,7 @@ module _ {C : Type 0} (key : C → Key) (spells : C → List ℕ) where
       record { reply = rw none refl; contents = rw none (same-contents old new h.1); limit = same-limit old new h.1 }
   take_back-plain old new n _ step = absurd step
 
-  step-plain : (old new : State C) (call : Call C) (r : Reply) → Step key spells old call r new → r ≢ reply.NoMemory → IsPlain old call r new
+  step-plain : (old new : State C) (call : Call C) (r : Reply) → Step key key spells IsMoved false old call r new → r ≢ reply.NoMemory → IsPlain old call r new
   step-plain old new (Intern c) r step n = intern-plain old new c r step n
   step-plain old new (Check c) r step n = check-plain old new c r step
   step-plain old new (GetInterned c) r step n = get_interned-plain old new c r step n

@@ -26,11 +26,6 @@ module _ {C : Type 0} (key : C → Key) where
       let all = interned_all-more (interned key held c) cs in
       (once.0 ++ all.0, all.1 ∙ ap (λ t. t ++ all.0) once.1 ∙ append_assoc held once.0 all.0)
 
-  pub interned_all-begins : (held cs : List C) → take (length held) (interned_all key held cs) ≡ held
-  interned_all-begins held cs =
-      let more = interned_all-more held cs in
-      rw more.1 (take-append_seam held more.0)
-
   pub interned_all-longer : (held cs : List C) → length held ≤ length (interned_all key held cs)
   interned_all-longer held cs =
       let more = interned_all-more held cs in

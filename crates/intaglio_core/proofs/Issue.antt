@@ -1,19 +1,20 @@
 -- Interns alone, none refused, are given the symbols of `issue_from`.
 use Rattle.std.proofs.lemmas.List.{length-map, map-append}
-use Rattle.std.proofs.Common.{◌≡◌, ◌∙◌, sym, ℕ, suc, arith, List, [], ◌∷◌, ◌++◌, length, map, Option, Some, None, Ok, Result, MatchOption, unwrap_or, is_some, cond, All, refl, ap}
+use Rattle.std.proofs.Common.{◌≡◌, ◌∙◌, sym, ℕ, suc, arith, Bool, List, [], ◌∷◌, ◌++◌, length, map, Option, Some, None, Ok, Result, MatchOption, unwrap_or, is_some, cond, All, refl, ap}
 use Rattle.intaglio_content.specs.Key.{Key}
+use Rattle.intaglio_content.specs.Store.{IsAddedOne, IsPushed}
 use Rattle.intaglio_content.specs.Work.{Event}
 use Rattle.intaglio_core.specs.State.{State, first}
-use Rattle.intaglio_core.specs.Change.{IsAppended, Interns}
+use Rattle.intaglio_core.specs.Change.{IsAdded, IsAppended, Interns}
 use Rattle.intaglio_core.specs.Cost.{InOrder}
-use Rattle.intaglio_core.specs.Issue.{issued, interned, issue_from}
+use Rattle.intaglio_core.specs.Issue.{issued, interned, issue_from, issue}
 use Rattle.intaglio_core.specs.Step.{Step}
-use Rattle.intaglio_core.specs.Run.{Runs, IsCall, IsRefusal}
+use Rattle.intaglio_core.specs.Run.{RunsValues, IsCall, IsRefusal}
 use Rattle.intaglio_symbol.specs.declared.error.InternError.{InternError}
-use Rattle.intaglio_core.specs.declared.run.Call.{Call}
-use Rattle.intaglio_core.specs.declared.run.Call.TheVariants.{Intern}
-use Rattle.intaglio_core.specs.declared.run.Reply.{Reply}
-use Rattle.intaglio_core.specs.declared.run.Reply.TheVariants as reply
+use Rattle.intaglio_core.specs.declared.runs.Call.{Call}
+use Rattle.intaglio_core.specs.declared.runs.Call.TheVariants.{Intern}
+use Rattle.intaglio_core.specs.declared.runs.Reply.{Reply}
+use Rattle.intaglio_core.specs.declared.runs.Reply.TheVariants as reply
 
 -- an interning gives the symbol of a key, the first one or the next, and the key is held after it
 abbrev pub IsIssued : {C : Type 0} → (C → Key) → State C → Key → ℕ → State C → Type 0
@@ -52,24 +53,32 @@ module _ {C : Type 0} (key : C → Key) where
   pub Interns-ok : (old new : State C) (c : C) (i : ℕ) → Interns key old c (Ok i) new → (i ≡ issued key old.contents c) × (new.contents ≡ interned key old.contents c)
   Interns-ok old new c i h = taken-ok (first key old.contents (key c)) old new c i h
 
-  pub taken-as : (o : Option ℕ) (old new : State C) (c : C) (i : ℕ) → MatchOption o (IsAppended old c i new) (λ j. (◌≡◌ {A = Result ℕ InternError} (Ok i) (Ok j)) × (new ≡ old))
-      → (i ≡ unwrap_or o (length old.contents)) × (map key new.contents ≡ cond (is_some o) (map key old.contents) (map key old.contents ++ key c ∷ []))
-  taken-as None old new c i h = (h.position, rw h.contents (map-append key old.contents (c ∷ [])))
-  taken-as (Some j) old new c i h = ((cc), ap (λ (s : State C). map key s.contents) h.1)
+  -- what is seen of each content, from which its key follows, and of a value whose addition shows there
+  module _ {X : Type 0} (view : C → X) (x : X) (adds : List C → List C → Type 0) (shows : (a b : List C) → adds a b → map view b ≡ map view a ++ x ∷ []) where
+    pub added-as : (o : Option ℕ) (old new : State C) (i : ℕ) → MatchOption o (IsAdded adds old i new) (λ j. (◌≡◌ {A = Result ℕ InternError} (Ok i) (Ok j)) × (new ≡ old))
+        → (i ≡ unwrap_or o (length old.contents)) × (map view new.contents ≡ cond (is_some o) (map view old.contents) (map view old.contents ++ x ∷ []))
+    added-as None old new i h = (h.position, shows old.contents new.contents h.contents)
+    added-as (Some j) old new i h = ((cc), ap (λ (s : State C). map view s.contents) h.1)
 
-  pub issued-as : (old new : State C) (c : C) (i : ℕ) → Interns key old c (Ok i) new → IsIssued key old (key c) i new
-  issued-as old new c i h = taken-as (first key old.contents (key c)) old new c i h
+-- what adds a content with a key shows the key
+pub shows-key : {C : Type 0} (key : C → Key) (k : Key) (a b : List C) → IsAddedOne key k a b → map key b ≡ map key a ++ k ∷ []
+shows-key key k a b is = rw (is.added, map-append key a (is.content ∷ []), is.same_key) refl
 
-  module _ (spelling : C → List ℕ) (hash : Key → ℕ) where
-    -- a reply that is no refusal gives a symbol
-    accepted : (old new : State C) (c : C) (r : Reply) → Step key spelling old (Intern c) r new → ¬ IsRefusal r
-        → (i : ℕ) × (r ≡ reply.Symbol (Some i)) × Interns key old c (Ok i) new
-    accepted old new c (reply.Symbol (Some i)) step fine = (i, refl, step)
-    accepted old new c reply.Overflow step fine = absurd (fine tt)
-    accepted old new c reply.NoMemory step fine = absurd (fine tt)
-    accepted old new c _ step fine = absurd step
+-- and its spelling
+pub shows-spelling : {C : Type 0} (key : C → Key) (spelling : C → List ℕ) (k : Key) (w : List ℕ) (a b : List C) → IsPushed key spelling k w a b → map spelling b ≡ map spelling a ++ w ∷ []
+shows-spelling key spelling k w a b is = rw (is.added, map-append spelling a (is.copy ∷ []), is.same_spelling) refl
 
-    pub Runs-issue : (old new : State C) (cs : List C) (replies : List Reply) (cost : List Event) → Runs key spelling hash old (map Intern cs) replies cost new → All (λ r. ¬ IsRefusal r) replies
-        → replies ≡ map (λ i. reply.Symbol (Some i)) (issue_from key old.contents cs)
-    Runs-issue old new cs replies cost run none =
-        InOrder-issue key key (IsCall key spelling hash) (λ old c r now next one fine. let given = accepted old next c r one.0 fine in (given.0, given.1, issued-as old next c given.0 given.2)) old new old.contents cs replies cost refl run none
+module _ {C Q : Type 0} (key : C → Key) (value_key : Q → Key) (spelling : C → List ℕ) (adds : Q → List C → List C → Type 0) (copies : Bool) (one : (q : Q) (a b : List C) → adds q a b → IsAddedOne key (value_key q) a b) (hash : Key → ℕ) where
+  -- a reply that is no refusal gives a symbol
+  accepted : (old new : State C) (q : Q) (r : Reply) → Step key value_key spelling adds copies old (Intern q) r new → ¬ IsRefusal r
+      → (i : ℕ) × (r ≡ reply.Symbol (Some i)) × IsIssued key old (value_key q) i new
+  accepted old new q (reply.Symbol (Some i)) step fine = (i, refl, added-as key key (value_key q) (adds q) (λ a b is. shows-key key (value_key q) a b (one q a b is)) (first key old.contents (value_key q)) old new i step)
+  accepted old new q reply.Overflow step fine = absurd (fine tt)
+  accepted old new q reply.NoMemory step fine = absurd (fine tt)
+  accepted old new q _ step fine = absurd step
+
+  -- internings alone, none of which is refused, into an empty table are given the symbols of `issue`
+  pub Runs-issue : (old new : State C) (qs : List Q) (replies : List Reply) (cost : List Event) → old.contents ≡ [] → RunsValues key value_key spelling adds copies hash old (map Intern qs) replies cost new
+      → All (λ r. ¬ IsRefusal r) replies → replies ≡ map (λ i. reply.Symbol (Some i)) (issue value_key qs)
+  Runs-issue old new qs replies cost empty run none =
+      InOrder-issue key value_key (IsCall key value_key spelling adds copies hash) (λ old q r now next one fine. accepted old next q r one.0 fine) old new [] qs replies cost (rw empty refl) run none

@@ -7,7 +7,7 @@ use Rattle.std.proofs.lemmas.List.{map-append, length-map, take-map, length-take
 use Rattle.intaglio_index.specs.Placed.{Placed}
 use Rattle.intaglio_content.specs.Key.{Key}
 use Rattle.intaglio_core.specs.State.{key_eq, first_of, AreDistinct, IsValid}
-use Rattle.intaglio_core.specs.Change.{IsAppended}
+use Rattle.intaglio_core.specs.Change.{IsAdded}
 use Rattle.intaglio_core.specs.Indexed.{IsIndexed, FindsPlace}
 use Rattle.intaglio_content.specs.declared.work.Work.{Work}
 use Rattle.intaglio_core.proofs.First.{key_eq-decides}
@@ -46,16 +46,16 @@ distinct-take keys n le apart = λ i j d lt below.
     let b : j < n = omega arith in
     rw (get_or-take n keys i d a, get_or-take n keys j d b) (apart i j d lt (omega arith))
 
--- a content is taken where a place was found for it
-pub list-taken : {C : Type 0} (cs : List C) (c : C) (n capacity more limit : ℕ) (old mid new : Placed) (before after : Work) → n ≡ length cs → length cs < limit → length cs ≤ old.room → old.room ≤ old.places
-    → capacity ≤ more → old.room ≤ mid.room → FindsPlace (length cs) limit old mid before after → new.places ≡ mid.places → new.room ≡ mid.room
-    → IsAppended (record { contents = cs; spare = min capacity old.room - length cs; buckets = old.places; limit = limit }) c n (record { contents = cs ++ c ∷ []; spare = min more new.room - length (cs ++ c ∷ []); buckets = new.places; limit = limit })
-list-taken cs c n capacity more limit old mid new before after at below within fits list index place count room =
-    let size : length (cs ++ c ∷ []) ≡ length cs + 1 = simp length-append in
+-- what is new is added where a place was found for it
+pub list-added : {C : Type 0} (adds : List C → List C → Type 0) (cs ds : List C) (c : C) (n capacity more limit : ℕ) (old mid new : Placed) (before after : Work) → adds cs ds → ds ≡ cs ++ c ∷ [] → n ≡ length cs → length cs < limit
+    → length cs ≤ old.room → old.room ≤ old.places → capacity ≤ more → old.room ≤ mid.room → FindsPlace (length cs) limit old mid before after → new.places ≡ mid.places → new.room ≡ mid.room
+    → IsAdded adds (record { contents = cs; spare = min capacity old.room - length cs; buckets = old.places; limit = limit }) n (record { contents = ds; spare = min more new.room - length ds; buckets = new.places; limit = limit })
+list-added adds cs ds c n capacity more limit old mid new before after added one at below within fits list index place count room =
+    let size : length ds ≡ length cs + 1 = ap length one ∙ simp length-append in
     record {
       below_limit = below;
       position = at;
-      contents = refl;
+      contents = added;
       spare = λ some. (omega arith, count ∙ place.kept (omega arith));
       growth = λ grew. elim (cases_lt (length cs) old.places) [
         | inl inside ↦ absurd (grew (count ∙ place.kept inside))

@@ -1,18 +1,18 @@
 -- What holds of look-ups, for the proofs of callers: what is found after an interning, a rollback or a clear, and where.
-use Rattle.std.proofs.Common.{◌≡◌, ◌≢◌, ◌∙◌, sym, ap, refl, arith, ℕ, zero, suc, ◌+◌, ◌<◌, ◌≤◌, Bool, true, false, cond, List, [], ◌∷◌, ◌++◌, length, map, take, drop, get_or, Option, Some, None, option_map, option_copied, unwrap_or, is_some, Result, Ok, Err, IfSome, inl, inr}
+use Rattle.std.proofs.Common.{◌≡◌, ◌≢◌, ◌∙◌, sym, ap, refl, arith, ℕ, zero, suc, ◌+◌, ◌<◌, ◌≤◌, Bool, true, false, cond, List, [], ◌∷◌, ◌++◌, length, map, take, drop, get_or, Option, Some, None, option_map, option_copied, unwrap_or, is_some, MatchOption, Result, Ok, Err, IfSome, inl, inr}
 use Rattle.std.specs.Prelude.{slice_get, ◌↔◌}
 use Rattle.std.specs.Borrow.{Bor}
 use Rattle.std.proofs.lemmas.Option.{same_Some, slice_get_within, get_or_from_slice_get}
 use Rattle.std.proofs.lemmas.List.{length-map, get_or-map, length-take-le, take-append-drop}
 use Rattle.intaglio_content.specs.Key.{Key}
+use Rattle.intaglio_content.specs.Store.{IsAddedOne, IsMoved, IsPushed}
 use Rattle.intaglio_core.specs.State.{State, key_eq, first, IsValid}
-use Rattle.intaglio_core.specs.Change.{Interns, InternsNew, InternsNewForm, IsTruncated, Empties}
+use Rattle.intaglio_core.specs.Change.{AddsNew, Interns, InternsValue, InternsForm, IsAppended, IsOutOfMemory, IsTruncated, Empties}
 use Rattle.intaglio_core.specs.Lookup.{IsFound, FindsNothing, FindsOthers, FindsInterned, IsStored, Keeps, KeepsBelow, FindsEach, StoresEach}
 use Rattle.intaglio_core.specs.Issue.{issued, interned, issue_from, interned_all}
 use Rattle.intaglio_core.proofs.First.{key_eq-decides, key_eq-unequal, first-append, first-some, some-below, or_at}
 use Rattle.intaglio_core.proofs.Held.{first-still, content-still, slice_get-front}
 use Rattle.intaglio_core.proofs.Issue.{Interns-ok}
-use Rattle.intaglio_core.proofs.Each.{Interns-refused}
 use Rattle.intaglio_symbol.specs.declared.error.InternError.{InternError}
 use Rattle.intaglio_symbol.specs.declared.error.InternError.TheVariants as intern_error
 
@@ -134,6 +134,15 @@ module _ {C : Type 0} (key : C → Key) where
   cond-others false held c k n =
       rw (first-append key held (c ∷ []) k, key_eq-unequal (key c) k (λ e. n (sym e))) (or_at-left (length held) (first key held k))
 
+  refused-by : (o : Option ℕ) (old new : State C) (c : C) (e : InternError) → MatchOption o (AddsNew (IsMoved c) false old (Err e) new) (λ i. (◌≡◌ {A = Result ℕ InternError} (Err e) (Ok i)) × (new ≡ old)) → new.contents ≡ old.contents
+  refused-by None old new c (intern_error.Overflow e) h = ap (λ (s : State C). s.contents) h.1
+  refused-by None old new c (intern_error.Memory e) h = h.contents
+  refused-by (Some i) old new c e h = ap (λ (s : State C). s.contents) h.1
+
+  -- a refused interning leaves the contents
+  Interns-refused : (old new : State C) (c : C) (e : InternError) → Interns key old c (Err e) new → new.contents ≡ old.contents
+  Interns-refused old new c e h = refused-by (first key old.contents (key c)) old new c e h
+
   -- after an interning the content is found at the symbol that was returned
   pub interned-found : (old new : State C) (c : C) (i : ℕ) → Interns key old c (Ok i) new → IsFound key new (key c) i
   interned-found old new c i step =
@@ -156,13 +165,13 @@ module _ {C : Type 0} (key : C → Key) where
         stored = λ j x e. rw held (cond-kept (is_some (first key old.contents (key c))) old.contents c j x e);
         found = λ k j e. rw held (first-still key old.contents (c ∷ []) k j e);
       }
-  interned-keeps old new c (Err e) step = same_contents-keeps old new (Interns-refused key old new c e step)
+  interned-keeps old new c (Err e) step = same_contents-keeps old new (Interns-refused old new c e step)
 
   -- an interning, refused or not, changes no look-up of another key
   pub interned-others : (old new : State C) (c : C) (r : Result ℕ InternError) → Interns key old c r new → FindsOthers key old (key c) new
   interned-others old new c (Ok i) step k n =
       rw (Interns-ok key old new c i step).1 (cond-others (is_some (first key old.contents (key c))) old.contents c k n)
-  interned-others old new c (Err e) step k n = rw (Interns-refused key old new c e step) refl
+  interned-others old new c (Err e) step k n = rw (Interns-refused old new c e step) refl
 
   -- where the key was there
   pub found_again : (s : State C) (k : Key) (i : ℕ) → IsFound key s k i → FindsInterned key s k (Ok i) s
@@ -188,12 +197,8 @@ module _ {C : Type 0} (key : C → Key) where
     stored = tt;
     kept = interned-keeps old new c (Err e) step;
     others = interned-others old new c (Err e) step;
-    refused = Interns-refused key old new c e step;
+    refused = Interns-refused old new c e step;
   }
-
-  -- also where the content isn't there yet
-  pub taken : (old new : State C) (c : C) (r : Result ℕ InternError) → first key old.contents (key c) ≡ None → InternsNew old c r new → FindsInterned key old (key c) r new
-  taken old new c r none step = interned_clauses old new c r (rw none step)
 
   -- an interning that is refused leaves what its callers see
   refused_clauses : (old new : State C) (k : Key) (e : InternError) → new.contents ≡ old.contents → FindsInterned key old k (Err e) new
@@ -205,14 +210,44 @@ module _ {C : Type 0} (key : C → Key) where
     refused = same;
   }
 
-  -- and where a copy of a form is taken
-  pub copied : (spelling : C → List ℕ) (old new : State C) (k : Key) (w : List ℕ) (r : Result ℕ InternError) → first key old.contents k ≡ None → InternsNewForm key spelling old k w r new → FindsInterned key old k r new
-  copied spelling old new k w (Ok i) none step =
-      let absent : first key old.contents (key step.copy) ≡ None = rw step.same_key none in
-      rw step.same_key at (taken old new step.copy (Ok i) absent step.taken)
-  copied spelling old new k w (Err (intern_error.Overflow e)) none step = refused_clauses old new k _ (ap (λ (s : State C). s.contents) step.1)
-  copied spelling old new k w (Err (intern_error.Memory e)) none (inl uncopied) = refused_clauses old new k _ (ap (λ (s : State C). s.contents) uncopied.same)
-  copied spelling old new k w (Err (intern_error.Memory e)) none (inr refused) = refused_clauses old new k _ refused.contents
+  -- out of memory, the contents are the same
+  pub same_contents : (copies : Bool) (old new : State C) → IsOutOfMemory copies old new → new.contents ≡ old.contents
+  same_contents false old new h = h.contents
+  same_contents true old new (inl h) = ap (λ (s : State C). s.contents) h.same
+  same_contents true old new (inr h) = h.contents
+
+  -- what adds one content with a key, of a content that isn't there yet or of the copy of a form
+  module _ (adds : List C → List C → Type 0) (copies : Bool) (k : Key) (one : (a b : List C) → adds a b → IsAddedOne key k a b) where
+    pub added : (old new : State C) (r : Result ℕ InternError) → first key old.contents k ≡ None → AddsNew adds copies old r new → FindsInterned key old k r new
+    added old new (Ok i) none step =
+        let a = one old.contents new.contents step.contents in
+        let absent : first key old.contents (key a.content) ≡ None = rw a.same_key none in
+        let appended : IsAppended old a.content i new = record { below_limit = step.below_limit; position = step.position; contents = a.added; spare = step.spare; growth = step.growth; limit = step.limit } in
+        rw a.same_key at (interned_clauses old new a.content (Ok i) (rw absent appended))
+    added old new (Err (intern_error.Overflow e)) none step = refused_clauses old new k _ (ap (λ (s : State C). s.contents) step.1)
+    added old new (Err (intern_error.Memory e)) none step = refused_clauses old new k _ (same_contents copies old new step)
+
+    by_look_up : (o : Option ℕ) (old new : State C) (r : Result ℕ InternError) → first key old.contents k ≡ o → MatchOption o (AddsNew adds copies old r new) (λ i. (r ≡ Ok i) × (new ≡ old)) → FindsInterned key old k r new
+    by_look_up None old new r none step = added old new r none step
+    by_look_up (Some i) old new r some step = rw (step.0, step.1) (found_again old k i some)
+
+    pub interns-clauses : (old new : State C) (r : Result ℕ InternError) → InternsValue key adds copies old k r new → FindsInterned key old k r new
+    interns-clauses old new r step = by_look_up (first key old.contents k) old new r refl step
+
+  -- what adds a content with a key and a spelling is interned as the copy of a form
+  module _ (spelling : C → List ℕ) (adds : List C → List C → Type 0) (copies : Bool) (k : Key) (w : List ℕ) (copy : (a b : List C) → adds a b → IsPushed key spelling k w a b) where
+    out-form : (kind : Bool) (old new : State C) → IsOutOfMemory kind old new → IsOutOfMemory true old new
+    out-form false old new h = inr h
+    out-form true old new h = h
+
+    form-by : (o : Option ℕ) (old new : State C) (r : Result ℕ InternError) → MatchOption o (AddsNew adds copies old r new) (λ i. (r ≡ Ok i) × (new ≡ old)) → MatchOption o (AddsNew (IsPushed key spelling k w) true old r new) (λ i. (r ≡ Ok i) × (new ≡ old))
+    form-by None old new (Ok i) h = record { below_limit = h.below_limit; position = h.position; contents = copy old.contents new.contents h.contents; spare = h.spare; growth = h.growth; limit = h.limit }
+    form-by None old new (Err (intern_error.Overflow e)) h = h
+    form-by None old new (Err (intern_error.Memory e)) h = out-form copies old new h
+    form-by (Some i) old new r h = h
+
+    pub interns-form : (old new : State C) (r : Result ℕ InternError) → InternsValue key adds copies old k r new → InternsForm key spelling old k w r new
+    interns-form old new r h = form-by (first key old.contents k) old new r h
 
   -- where only the first n contents are left, their symbols are kept, and nothing else is found
   pub cut-keeps : (old : State C) (n : ℕ) (new : State C) → n ≤ length old.contents → new.contents ≡ take n old.contents → KeepsBelow key old n new
@@ -245,18 +280,6 @@ module _ {C : Type 0} (key : C → Key) where
   -- the same of a table that holds them
   pub interned_all-found : (old new : State C) (cs : List C) (symbols : List ℕ) → symbols ≡ issue_from key old.contents cs → new.contents ≡ interned_all key old.contents cs → FindsEach key new cs symbols
   interned_all-found old new cs symbols is held n c i e f = rw held (issued-each old.contents cs n c i e (rw is at f))
-
-  -- and the content of its symbol has its key
-  pub interned_all-stored : (old new : State C) (cs : List C) (symbols : List ℕ) → symbols ≡ issue_from key old.contents cs → new.contents ≡ interned_all key old.contents cs → StoresEach key new cs symbols
-  interned_all-stored old new cs symbols is held n c i e f =
-      found-stored new (key c) i (interned_all-found old new cs symbols is held n c i e f)
-
-  -- internings in order keep each symbol's content, and what was found is found where it was
-  pub interned_all-keeps : (old new : State C) (cs : List C) → new.contents ≡ interned_all key old.contents cs → Keeps key old new
-  interned_all-keeps old new cs held = record {
-    stored = λ i c e. rw held (content-still key old.contents cs i c e);
-    found = λ k i e. rw held (first-still key old.contents cs k i e);
-  }
 
   -- what is kept over one call and over the next is kept over both
   pub keeps-then : (old next new : State C) → Keeps key old next → Keeps key next new → Keeps key old new

@@ -12,9 +12,8 @@ pub mod InOrder
 pub mod Held
 pub mod Each
 pub mod Laws
-pub mod ByForm
 pub mod OnResult
 pub mod Alike
 pub mod Starts
 pub mod FewerBuckets
-pub mod FormRuns
+pub mod Bytes

@@ -1,20 +1,21 @@
 -- Room that was there stays, but for calls that shrink.
-use Rattle.std.proofs.Common.{◌≡◌, ◌⊎◌, ℕ, ◌+◌, ◌≤◌, List, length, All, Option, Some, None, Ok, Err, Result, MatchOption, length-append, inl, inr, ap, arith}
+use Rattle.std.proofs.Common.{◌≡◌, ◌∙◌, ℕ, ◌+◌, ◌≤◌, Bool, true, false, List, length, All, Option, Some, None, Ok, Err, Result, MatchOption, alloc_error, length-append, inl, inr, ap, arith}
 use Rattle.std.proofs.lemmas.Bool.{cases_lt}
 use Rattle.intaglio_content.specs.Key.{Key}
+use Rattle.intaglio_content.specs.Store.{IsAddedOne}
 use Rattle.intaglio_content.specs.Work.{Event}
 use Rattle.intaglio_core.specs.State.{State, first}
-use Rattle.intaglio_core.specs.Change.{HasNoLessRoom, Interns, InternsForm, IsAppended, IsCopyAppended, IsRefused, IsUncopied}
-use Rattle.intaglio_core.specs.Step.{Step}
-use Rattle.intaglio_core.specs.Run.{Runs, IsCall, KeepsRoom}
+use Rattle.intaglio_core.specs.Change.{HasNoLessRoom, AddsNew, InternsValue, IsAdded, IsOutOfMemory}
+use Rattle.intaglio_core.specs.Step.{Step, RepliesReserved, RepliesTakenBack}
+use Rattle.intaglio_core.specs.Run.{RunsValues, IsCall, KeepsRoom}
 use Rattle.intaglio_symbol.specs.declared.error.InternError.{InternError}
 use Rattle.intaglio_symbol.specs.declared.error.InternError.TheVariants as intern_error
-use Rattle.intaglio_core.specs.declared.run.Call.{Call}
-use Rattle.intaglio_core.specs.declared.run.Call.TheVariants.{Intern, Check, GetInterned, IsInterned, Contains, Get, Len, IsEmpty, Clear, Reserve, TakeBack}
-use Rattle.intaglio_core.specs.declared.run.Reply.{Reply}
-use Rattle.intaglio_core.specs.declared.run.Reply.TheVariants as reply
+use Rattle.intaglio_core.specs.declared.runs.Call.{Call}
+use Rattle.intaglio_core.specs.declared.runs.Call.TheVariants.{Intern, Check, GetInterned, IsInterned, Contains, Get, Len, IsEmpty, Clear, Reserve, TakeBack}
+use Rattle.intaglio_core.specs.declared.runs.Reply.{Reply}
+use Rattle.intaglio_core.specs.declared.runs.Reply.TheVariants as reply
 use Rattle.intaglio_core.proofs.InOrder.{InOrder-keeps}
-use Rattle.intaglio_core.proofs.LookUps.{check-same, get_interned-same, is_interned-same, contains-same, get-same, len-same, is_empty-same}
+use Rattle.intaglio_core.proofs.LookUps.{check-same, is_interned-same, contains-same, len-same, is_empty-same}
 
 module _ {C : Type 0} (key : C → Key) where
   pub same-roomier : (old next : State C) → next ≡ old → HasNoLessRoom old next
@@ -26,85 +27,73 @@ module _ {C : Type 0} (key : C → Key) where
   kept-roomier : (old next : State C) → next.contents ≡ old.contents → old.spare ≤ next.spare → HasNoLessRoom old next
   kept-roomier old next same more = let size : length next.contents ≡ length old.contents = ap (λ (cs : List C). length cs) same in omega arith
 
-  answered-roomier : (o : Option ℕ) (old next : State C) (c : C) (i : ℕ) → MatchOption o (IsAppended old c i next) (λ j. (◌≡◌ {A = Result ℕ InternError} (Ok i) (Ok j)) × (next ≡ old)) → HasNoLessRoom old next
-  answered-roomier None old next c i taken =
-      let size : length next.contents ≡ length old.contents + 1 = rw taken.contents (simp length-append (omega arith)) in
+  added-roomier : (adds : List C → List C → Type 0) (k : Key) → ((a b : List C) → adds a b → IsAddedOne key k a b) → (old next : State C) (i : ℕ) → IsAdded adds old i next → HasNoLessRoom old next
+  added-roomier adds k one old next i taken =
+      let size : length next.contents ≡ length old.contents + 1 = ap length (one old.contents next.contents taken.contents).added ∙ simp length-append (omega arith) in
       elim (cases_lt 0 old.spare) [
         | inl some ↦ let left : old.spare ≤ next.spare + 1 = (taken.spare some).0 in omega arith
         | inr none ↦ omega arith
       ]
-  answered-roomier (Some j) old next c i found = same-roomier old next found.1
 
-  overflow-roomier : (o : Option ℕ) (old next : State C) (A : Type 0) (B : ℕ → Type 0) → MatchOption o (A × (next ≡ old)) (λ j. B j × (next ≡ old)) → HasNoLessRoom old next
-  overflow-roomier None old next A B h = same-roomier old next h.1
-  overflow-roomier (Some j) old next A B h = same-roomier old next h.1
+  out-roomier : (copies : Bool) (old next : State C) → IsOutOfMemory copies old next → HasNoLessRoom old next
+  out-roomier false old next h = kept-roomier old next h.contents h.spare
+  out-roomier true old next (inl h) = same-roomier old next h.same
+  out-roomier true old next (inr h) = kept-roomier old next h.contents h.spare
 
-  refused-roomier : (o : Option ℕ) (old next : State C) (B : ℕ → Type 0) → MatchOption o (IsRefused old next) (λ j. B j × (next ≡ old)) → HasNoLessRoom old next
-  refused-roomier None old next B h = kept-roomier old next h.contents h.spare
-  refused-roomier (Some j) old next B h = same-roomier old next h.1
+  -- what adds one content with a key
+  module _ (adds : List C → List C → Type 0) (copies : Bool) (k : Key) (one : (a b : List C) → adds a b → IsAddedOne key k a b) where
+    by_look_up : (o : Option ℕ) (old next : State C) (result : Result ℕ InternError) → MatchOption o (AddsNew adds copies old result next) (λ j. (result ≡ Ok j) × (next ≡ old)) → HasNoLessRoom old next
+    by_look_up None old next (Ok i) h = added-roomier adds k one old next i h
+    by_look_up None old next (Err (intern_error.Overflow e)) h = same-roomier old next h.1
+    by_look_up None old next (Err (intern_error.Memory e)) h = out-roomier copies old next h
+    by_look_up (Some j) old next result h = same-roomier old next h.1
 
-  pub Interns-roomier : (old next : State C) (c : C) (result : Result ℕ InternError) → Interns key old c result next → HasNoLessRoom old next
-  Interns-roomier old next c (Ok i) made = answered-roomier (first key old.contents (key c)) old next c i made
-  Interns-roomier old next c (Err (intern_error.Overflow e)) made = overflow-roomier (first key old.contents (key c)) old next _ _ made
-  Interns-roomier old next c (Err (intern_error.Memory e)) made = refused-roomier (first key old.contents (key c)) old next _ made
+    pub interns-roomier : (old next : State C) (result : Result ℕ InternError) → InternsValue key adds copies old k result next → HasNoLessRoom old next
+    interns-roomier old next result made = by_look_up (first key old.contents k) old next result made
 
-  copied-roomier : (spelling : C → List ℕ) (o : Option ℕ) (old next : State C) (k : Key) (w : List ℕ) (i : ℕ) → MatchOption o (IsCopyAppended key spelling old k w i next) (λ j. (◌≡◌ {A = Result ℕ InternError} (Ok i) (Ok j)) × (next ≡ old)) → HasNoLessRoom old next
-  copied-roomier spelling None old next k w i h = answered-roomier None old next h.copy i h.taken
-  copied-roomier spelling (Some j) old next k w i h = same-roomier old next h.1
+module _ {C Q : Type 0} (key : C → Key) (value_key : Q → Key) (spelling : C → List ℕ) (adds : Q → List C → List C → Type 0) (copies : Bool) (one : (q : Q) (a b : List C) → adds q a b → IsAddedOne key (value_key q) a b) where
+  intern-roomier : (old next : State C) (q : Q) (r : Reply) → Step key value_key spelling adds copies old (Intern q) r next → HasNoLessRoom old next
+  intern-roomier old next q (reply.Symbol (Some i)) made = interns-roomier key (adds q) copies (value_key q) (one q) old next (Ok i) made
+  intern-roomier old next q reply.Overflow made = interns-roomier key (adds q) copies (value_key q) (one q) old next (Err (intern_error.Overflow (record { private = tt }))) (made (record { private = tt }))
+  intern-roomier old next q reply.NoMemory made = interns-roomier key (adds q) copies (value_key q) (one q) old next (Err (intern_error.Memory alloc_error)) made
+  intern-roomier old next q _ made = absurd made
 
-  uncopied-roomier : (o : Option ℕ) (old next : State C) (B : ℕ → Type 0) → MatchOption o (IsUncopied old next ⊎ IsRefused old next) (λ j. B j × (next ≡ old)) → HasNoLessRoom old next
-  uncopied-roomier None old next B (inl h) = same-roomier old next h.same
-  uncopied-roomier None old next B (inr h) = kept-roomier old next h.contents h.spare
-  uncopied-roomier (Some j) old next B h = same-roomier old next h.1
+  reserve-roomier : (old next : State C) (n : ℕ) (r : Reply) → RepliesReserved old n r next → HasNoLessRoom old next
+  reserve-roomier old next n reply.Done made =
+      elim (cases_lt old.spare n) [
+        | inl missing ↦ let more : n ≤ next.spare = made.spare in kept-roomier key old next made.contents (omega arith)
+        | inr there ↦ same-roomier key old next (made.enough there)
+      ]
+  reserve-roomier old next n reply.CapacityOverflow made = same-roomier key old next made.1
+  reserve-roomier old next n reply.NoMemory made = kept-roomier key old next made.contents made.spare
+  reserve-roomier old next n _ made = absurd made
 
-  pub InternsForm-roomier : (spelling : C → List ℕ) (old next : State C) (k : Key) (w : List ℕ) (result : Result ℕ InternError) → InternsForm key spelling old k w result next → HasNoLessRoom old next
-  InternsForm-roomier spelling old next k w (Ok i) made = copied-roomier spelling (first key old.contents k) old next k w i made
-  InternsForm-roomier spelling old next k w (Err (intern_error.Overflow e)) made = overflow-roomier (first key old.contents k) old next _ _ made
-  InternsForm-roomier spelling old next k w (Err (intern_error.Memory e)) made = uncopied-roomier (first key old.contents k) old next _ made
+  clear-roomier : (old next : State C) (r : Reply) → Step key value_key spelling adds copies old Clear r next → HasNoLessRoom old next
+  clear-roomier old next reply.Done made =
+      let none : length next.contents ≡ 0 = ap (λ (cs : List C). length cs) made.contents in
+      let room : next.spare ≡ length old.contents + old.spare = made.spare in omega arith
+  clear-roomier old next _ made = absurd made
 
-  module _ (spelling : C → List ℕ) where
-    intern-roomier : (old next : State C) (c : C) (r : Reply) → Step key spelling old (Intern c) r next → HasNoLessRoom old next
-    intern-roomier old next c (reply.Symbol (Some i)) made = answered-roomier (first key old.contents (key c)) old next c i made
-    intern-roomier old next c reply.Overflow made = overflow-roomier (first key old.contents (key c)) old next _ _ (made (record { private = tt }))
-    intern-roomier old next c reply.NoMemory made = refused-roomier (first key old.contents (key c)) old next _ made
-    intern-roomier old next c _ made = absurd made
+  take_back-roomier : (old next : State C) (n : ℕ) (r : Reply) → RepliesTakenBack old n r next → HasNoLessRoom old next
+  take_back-roomier old next n reply.Done made = let same : length next.contents + next.spare ≡ length old.contents + old.spare = made.spare in omega arith
+  take_back-roomier old next n reply.Stale made = same-roomier key old next (made (record { private = tt })).1
+  take_back-roomier old next n _ made = absurd made
 
-    reserve-roomier : (old next : State C) (n : ℕ) (r : Reply) → Step key spelling old (Reserve n) r next → HasNoLessRoom old next
-    reserve-roomier old next n reply.Done made =
-        elim (cases_lt old.spare n) [
-          | inl missing ↦ let more : n ≤ next.spare = made.spare in kept-roomier old next made.contents (omega arith)
-          | inr there ↦ same-roomier old next (made.enough there)
-        ]
-    reserve-roomier old next n reply.CapacityOverflow made = same-roomier old next made.1
-    reserve-roomier old next n reply.NoMemory made = kept-roomier old next made.contents made.spare
-    reserve-roomier old next n _ made = absurd made
+  call-roomier : (old next : State C) (call : Call Q) (r : Reply) → KeepsRoom call → Step key value_key spelling adds copies old call r next → HasNoLessRoom old next
+  call-roomier old next (Intern q) r keep made = intern-roomier old next q r made
+  call-roomier old next (Check q) r keep made = same-roomier key old next (check-same key value_key spelling adds copies old next q r made)
+  call-roomier old next (GetInterned q) r keep made = same-roomier key old next made.1
+  call-roomier old next (IsInterned q) r keep made = same-roomier key old next (is_interned-same key value_key spelling adds copies old next q r made)
+  call-roomier old next (Contains s) r keep made = same-roomier key old next (contains-same key value_key spelling adds copies old next s r made)
+  call-roomier old next (Get s) r keep made = same-roomier key old next made.1
+  call-roomier old next Len r keep made = same-roomier key old next (len-same key value_key spelling adds copies old next r made)
+  call-roomier old next IsEmpty r keep made = same-roomier key old next (is_empty-same key value_key spelling adds copies old next r made)
+  call-roomier old next (Reserve n) r keep made = reserve-roomier old next n r made
+  call-roomier old next Clear r keep made = clear-roomier old next r made
+  call-roomier old next (TakeBack n) r keep made = take_back-roomier old next n r made
+  call-roomier old next _ r keep made = absurd keep
 
-    clear-roomier : (old next : State C) (r : Reply) → Step key spelling old Clear r next → HasNoLessRoom old next
-    clear-roomier old next reply.Done made =
-        let none : length next.contents ≡ 0 = ap (λ (cs : List C). length cs) made.contents in
-        let room : next.spare ≡ length old.contents + old.spare = made.spare in omega arith
-    clear-roomier old next _ made = absurd made
-
-    take_back-roomier : (old next : State C) (n : ℕ) (r : Reply) → Step key spelling old (TakeBack n) r next → HasNoLessRoom old next
-    take_back-roomier old next n reply.Done made = let same : length next.contents + next.spare ≡ length old.contents + old.spare = made.spare in omega arith
-    take_back-roomier old next n reply.Stale made = same-roomier old next (made (record { private = tt })).1
-    take_back-roomier old next n _ made = absurd made
-
-    pub call-roomier : (old next : State C) (call : Call C) (r : Reply) → KeepsRoom call → Step key spelling old call r next → HasNoLessRoom old next
-    call-roomier old next (Intern c) r keep made = intern-roomier old next c r made
-    call-roomier old next (Check c) r keep made = same-roomier old next (check-same key spelling old next c r made)
-    call-roomier old next (GetInterned c) r keep made = same-roomier old next (get_interned-same key spelling old next c r made)
-    call-roomier old next (IsInterned c) r keep made = same-roomier old next (is_interned-same key spelling old next c r made)
-    call-roomier old next (Contains s) r keep made = same-roomier old next (contains-same key spelling old next s r made)
-    call-roomier old next (Get s) r keep made = same-roomier old next (get-same key spelling old next s r made)
-    call-roomier old next Len r keep made = same-roomier old next (len-same key spelling old next r made)
-    call-roomier old next IsEmpty r keep made = same-roomier old next (is_empty-same key spelling old next r made)
-    call-roomier old next (Reserve n) r keep made = reserve-roomier old next n r made
-    call-roomier old next Clear r keep made = clear-roomier old next r made
-    call-roomier old next (TakeBack n) r keep made = take_back-roomier old next n r made
-    call-roomier old next _ r keep made = absurd keep
-
-    -- capacity doesn't fall over a run that drops nothing and shrinks nothing
-    pub Runs-roomier : (hash : Key → ℕ) (old new : State C) (calls : List (Call C)) (replies : List Reply) (cost : List Event) → All KeepsRoom calls → Runs key spelling hash old calls replies cost new
-        → HasNoLessRoom old new
-    Runs-roomier hash = InOrder-keeps (IsCall key spelling hash) KeepsRoom HasNoLessRoom (λ s. omega arith) (λ a b c one rest. omega (arith, one, rest)) (λ old next c r now keep one. call-roomier old next c r keep one.0)
+  -- capacity doesn't fall over a run that shrinks nothing
+  pub Runs-roomier : (hash : Key → ℕ) (old new : State C) (calls : List (Call Q)) (replies : List Reply) (cost : List Event) → All KeepsRoom calls → RunsValues key value_key spelling adds copies hash old calls replies cost new
+      → HasNoLessRoom old new
+  Runs-roomier hash = InOrder-keeps (IsCall key value_key spelling adds copies hash) KeepsRoom HasNoLessRoom (λ s. omega arith) (λ a b c one rest. omega (arith, one, rest)) (λ old next call r now keep made. call-roomier old next call r keep made.0)

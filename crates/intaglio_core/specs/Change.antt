@@ -1,6 +1,7 @@
 -- How calls change the state of a table.
-use Rattle.std.specs.Prelude.{◌≡◌, ◌≢◌, ◌⊎◌, ⊤, List, ℕ, ◌+◌, ◌*◌, ◌<◌, ◌≤◌, min, max, [], ◌∷◌, ◌++◌, length, take, Result, Ok, Err, MatchOption}
+use Rattle.std.specs.Prelude.{◌≡◌, ◌≢◌, ◌⊎◌, ⊤, Bool, true, false, List, ℕ, ◌+◌, ◌*◌, ◌<◌, ◌≤◌, min, max, [], ◌∷◌, ◌++◌, length, take, Result, Ok, Err, MatchOption}
 use Rattle.intaglio_content.specs.Key.{Key}
+use Rattle.intaglio_content.specs.Store.{IsMoved, IsPushed}
 use Rattle.intaglio_core.specs.State.{State, first}
 use Rattle.intaglio_symbol.specs.declared.error.InternError.{InternError}
 use Rattle.intaglio_symbol.specs.declared.error.InternError.TheVariants.{Overflow, Memory}
@@ -12,12 +13,12 @@ use Rattle.intaglio_symbol.specs.declared.error.StaleMark.{StaleMark}
 abbrev pub HasNoLessRoom : {C : Type 0} → State C → State C → Type 0
 HasNoLessRoom old new = length old.contents + old.spare ≤ length new.contents + new.spare
 
--- a new content gets the next position. It uses spare capacity if there is some, and a growth of the buckets
--- at least doubles them, up to the limit
-pub record IsAppended {C : Type 0} (old : State C) (content : C) (symbol : ℕ) (new : State C) : Type 0 where
+-- what is new gets the next position, and the list becomes what it becomes with it. It uses spare capacity if
+-- there is some, and a growth of the buckets at least doubles them, up to the limit
+pub record IsAdded {C : Type 0} (adds : List C → List C → Type 0) (old : State C) (symbol : ℕ) (new : State C) : Type 0 where
   pub below_limit : length old.contents < old.limit
   pub position : symbol ≡ length old.contents
-  pub contents : new.contents ≡ old.contents ++ content ∷ []
+  pub contents : adds old.contents new.contents
   pub spare : 0 < old.spare → (old.spare ≤ new.spare + 1) × (new.buckets ≡ old.buckets)
   pub growth : new.buckets ≢ old.buckets → (length old.contents ≡ old.buckets) × (min old.limit (max 4 (2 * old.buckets)) ≤ new.buckets)
   pub limit : new.limit ≡ old.limit
@@ -31,44 +32,51 @@ pub record IsRefused {C : Type 0} (old new : State C) : Type 0 where
   pub buckets : new.buckets ≡ old.buckets
   pub limit : new.limit ≡ old.limit
 
--- one interning of a content that isn't stored, by its result
-abbrev pub InternsNew : {C : Type 0} → State C → C → Result ℕ InternError → State C → Type 0
-InternsNew old content (Ok symbol) new = IsAppended old content symbol new
-InternsNew old content (Err (Overflow _)) new = (length old.contents ≡ old.limit) × (new ≡ old)
-InternsNew old content (Err (Memory _)) new = IsRefused old new
-
--- one interning: for a content that is stored, it returns the first position and changes nothing
-abbrev pub Interns : {C : Type 0} → (C → Key) → State C → C → Result ℕ InternError → State C → Type 0
-Interns key old content result new =
-    MatchOption (first key old.contents (key content)) (InternsNew old content result new) (λ i. (result ≡ Ok i) × (new ≡ old))
-
--- a content with this key and this spelling, the copy of a form, gets the next position
-pub record IsCopyAppended {C : Type 0} (key : C → Key) (spelling : C → List ℕ) (old : State C) (k : Key) (w : List ℕ) (symbol : ℕ) (new : State C) : Type 0 where
-  pub copy : C
-  pub same_key : key copy ≡ k
-  pub same_spelling : spelling copy ≡ w
-  pub taken : IsAppended old copy symbol new
-
 -- the allocation of a copy failed
 pub record IsUncopied {C : Type 0} (old new : State C) : Type 0 where
   pub below_limit : length old.contents < old.limit
   pub same : new ≡ old
 
--- one interning by a form that isn't stored, and is copied, by its result
+-- an allocation failed: of a growth, or else of the copy, if there is one
+abbrev pub IsOutOfMemory : {C : Type 0} → Bool → State C → State C → Type 0
+IsOutOfMemory false old new = IsRefused old new
+IsOutOfMemory true old new = IsUncopied old new ⊎ IsRefused old new
+
+-- one interning of what isn't stored, by its result, by what the list becomes with it and whether it is copied
+abbrev pub AddsNew : {C : Type 0} → (List C → List C → Type 0) → Bool → State C → Result ℕ InternError → State C → Type 0
+AddsNew adds copies old (Ok symbol) new = IsAdded adds old symbol new
+AddsNew adds copies old (Err (Overflow _)) new = (length old.contents ≡ old.limit) × (new ≡ old)
+AddsNew adds copies old (Err (Memory _)) new = IsOutOfMemory copies old new
+
+-- one interning: of what is stored, it returns the first position and changes nothing
+abbrev pub InternsValue : {C : Type 0} → (C → Key) → (List C → List C → Type 0) → Bool → State C → Key → Result ℕ InternError → State C → Type 0
+InternsValue key adds copies old k result new =
+    MatchOption (first key old.contents k) (AddsNew adds copies old result new) (λ i. (result ≡ Ok i) × (new ≡ old))
+
+-- of a content, which is moved: out of memory only if there is no spare capacity
+abbrev pub IsAppended : {C : Type 0} → State C → C → ℕ → State C → Type 0
+IsAppended old content symbol new = IsAdded (IsMoved content) old symbol new
+
+abbrev pub InternsNew : {C : Type 0} → State C → C → Result ℕ InternError → State C → Type 0
+InternsNew old content result new = AddsNew (IsMoved content) false old result new
+
+abbrev pub Interns : {C : Type 0} → (C → Key) → State C → C → Result ℕ InternError → State C → Type 0
+Interns key old content result new = InternsValue key (IsMoved content) false old (key content) result new
+
+-- of a form, which is copied: a content with its key and its spelling gets the next position
+abbrev pub IsCopyAppended : {C : Type 0} → (C → Key) → (C → List ℕ) → State C → Key → List ℕ → ℕ → State C → Type 0
+IsCopyAppended key spelling old k w symbol new = IsAdded (IsPushed key spelling k w) old symbol new
+
 abbrev pub InternsNewForm : {C : Type 0} → (C → Key) → (C → List ℕ) → State C → Key → List ℕ → Result ℕ InternError → State C → Type 0
-InternsNewForm key spelling old k w (Ok symbol) new = IsCopyAppended key spelling old k w symbol new
-InternsNewForm key spelling old k w (Err (Overflow _)) new = (length old.contents ≡ old.limit) × (new ≡ old)
-InternsNewForm key spelling old k w (Err (Memory _)) new = IsUncopied old new ⊎ IsRefused old new
+InternsNewForm key spelling old k w result new = AddsNew (IsPushed key spelling k w) true old result new
+
+abbrev pub InternsForm : {C : Type 0} → (C → Key) → (C → List ℕ) → State C → Key → List ℕ → Result ℕ InternError → State C → Type 0
+InternsForm key spelling old k w result new = InternsValue key (IsPushed key spelling k w) true old k result new
 
 -- an interning didn't fail for memory
 abbrev pub IsNotMemory : Result ℕ InternError → Type 0
 IsNotMemory (Err (Memory _)) = ⊥
 IsNotMemory _ = ⊤
-
--- one interning by a form, which is copied only if its key isn't stored
-abbrev pub InternsForm : {C : Type 0} → (C → Key) → (C → List ℕ) → State C → Key → List ℕ → Result ℕ InternError → State C → Type 0
-InternsForm key spelling old k w result new =
-    MatchOption (first key old.contents k) (InternsNewForm key spelling old k w result new) (λ i. (result ≡ Ok i) × (new ≡ old))
 
 -- there is spare capacity for n more. If there was before, nothing changed
 pub record IsReserved {C : Type 0} (old : State C) (n : ℕ) (new : State C) : Type 0 where

@@ -6,10 +6,10 @@ pub mod Capacity
 pub mod Cost
 pub mod Step
 pub mod Run
-pub mod FormRun
 pub mod Alike
 pub mod Issue
 pub mod Pattern
 pub mod Indexed
 pub mod Batch
 pub mod PendingSearch
+pub mod Bytes

@@ -12,9 +12,10 @@ ghost use Rattle.intaglio_core.specs.Indexed.{HasPlaces, FindsPlace, FindsNoPlac
 
 mod capacity;
 mod form_lookup;
-mod forms;
+mod intern;
 mod make;
 mod owned;
+mod search_all;
 
 use crate::pending_search::PendingSearch;
 use intaglio_content::{SoughtIn, Store, Work};
@@ -165,7 +166,7 @@ impl<L: Store, S: BuildHasher> IndexedStore<L, S> {
     // Finds the first content with this hash, which `end_search` compares. Its events are apart, since other
     // searches may be begun before it is ended.
     #[inline(always)]
-    pub(crate) fn begin_search(&self, hash: u64) -> PendingSearch
+    fn begin_search(&self, hash: u64) -> PendingSearch
         ensures { let of_key = hash_of S.BuildHasher S.Hasher.Hasher self.now.hasher in
             IsPendingSearch L.buckets_for L.Content.key of_key self.now.state hash result }
     {
@@ -176,7 +177,7 @@ impl<L: Store, S: BuildHasher> IndexedStore<L, S> {
 
     // The rest of a search that was begun apart. Records what was done for it before, too.
     #[inline(always)]
-    pub(crate) fn end_search<Q: SoughtIn<L>>(
+    fn end_search<Q: SoughtIn<L>>(
         &self,
         pending: &PendingSearch,
         sought: &Q,
@@ -196,9 +197,15 @@ impl<L: Store, S: BuildHasher> IndexedStore<L, S> {
         self.search_from(pending.candidate, sought, work)
     }
 
+    // Reads what a search by this hash will read: the index, and a byte of the content that it compares first.
+    #[inline(always)]
+    pub(crate) fn touch_hashed<Q: SoughtIn<L>>(&self, hash: u64, sought: &Q) -> u8 {
+        self.touch(&self.begin_search(hash), sought)
+    }
+
     // Reads a byte of the content that a begun search compares first.
     #[inline(always)]
-    pub(crate) fn touch<Q: SoughtIn<L>>(&self, pending: &PendingSearch, sought: &Q) -> u8 {
+    fn touch<Q: SoughtIn<L>>(&self, pending: &PendingSearch, sought: &Q) -> u8 {
         match pending.candidate {
             Some(symbol) if self.contains(symbol) => {
                 sought.touch_at(&self.list, symbol.id() as usize)
@@ -276,8 +283,8 @@ fn find_room<L: Store>(
     list.reserve(1)?;
     let places = index.places();
     if count < places {
-        return index.reserve(count + 1, L::bucket_count(count + 1), work);
+        return index.reserve_sparse(count + 1, L::bucket_count(count + 1), work);
     }
     let doubled = limit.min((2 * places).max(4));
-    index.reserve(doubled, L::bucket_count(doubled), work)
+    index.reserve_sparse(doubled, L::bucket_count(doubled), work)
 }

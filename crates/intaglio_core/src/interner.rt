@@ -1,24 +1,26 @@
 //! What every symbol table does, for code that is generic over tables.
-ghost use Rattle.std.specs.Prelude.{◌≡◌, ℕ, ◌++◌, ◌∷◌, List, [], length, slice_get, option_copied};
+ghost use Rattle.std.specs.Prelude.{◌≡◌, ℕ, ◌<◌, ◌≤◌, ◌++◌, ◌∷◌, List, [], length, map, slice_get, option_copied};
 ghost use Rattle.std.specs.Prelude.{IfOk, IfSome, OnOk, OnErr};
-ghost use Rattle.std.specs.Option.{option_map};
 ghost use Rattle.intaglio_content.specs.Key.{Key, hash_of};
 ghost use Rattle.intaglio_content.specs.Work.{Event, hashed};
+ghost use Rattle.intaglio_content.specs.Store.{byte_room};
 ghost use Rattle.intaglio_core.specs.State.{State, first, IsValid};
-ghost use Rattle.intaglio_core.specs.PendingSearch.{IsPendingSearch};
+ghost use Rattle.intaglio_core.specs.Batch.{SearchesForms};
 ghost use Rattle.intaglio_core.specs.Lookup.{IsFound, IsStored, Keeps, KeepsBelow, FindsOthers, FindsNothing};
-ghost use Rattle.intaglio_core.specs.Change.{Interns, InternsForm, Reserves, Shrinks, TakesBack, Empties};
+ghost use Rattle.intaglio_core.specs.Change.{Interns, InternsValue, IsNotMemory};
+ghost use Rattle.intaglio_core.specs.Change.{Reserves, Shrinks, TakesBack, Empties};
+ghost use Rattle.intaglio_core.specs.Bytes.{InternsBytes, ShrinksBytes};
 ghost use Rattle.intaglio_core.specs.Cost.{Costs, InternCost, SearchCost, IsRoomCost};
 ghost use Rattle.intaglio_core.specs.Cost.{KnownInternCost, KnownSearchCost, IsRecorded};
 
 use crate::indexed_store::{Core, IndexedStore};
-use crate::pending_search::PendingSearch;
-use intaglio_content::{Content, CopiedTo, Sought, SoughtIn, SpelledStore, Store, Work};
+use intaglio_content::{AddedTo, Content, Sought, SoughtIn, Store, Work};
 use intaglio_symbol::{InternError, Mark, RoomError, StaleMark, Symbol};
+use std::alloc::{AllocError, Global};
 use std::hash::BuildHasher;
 
-/// A symbol table, whatever its contents are kept in: what it does by borrowed forms. A contract sees it as its
-/// state: the contents in the order of their symbols, the spare capacity, the number of buckets, and the limit.
+/// A symbol table, whatever its contents are kept in. A contract sees it as its state: the contents in the order
+/// of their symbols, the spare capacity, the number of buckets, and the limit.
 ///
 /// Each call that searches or places takes a [`Work`], in which it records what it did. After every call no
 /// two contents are equal, and there are at least as many buckets as contents.
@@ -34,38 +36,47 @@ pub trait FormInterner {
 
     ghost state: { Self → State Self.Content };
 
+    // For how many more bytes of contents there is room. Only packed tables have some.
+    ghost spare_bytes: { Self → ℕ };
+
     // The hash of a key by the table's builder, which no call changes.
     ghost hash: { Self → Key → ℕ };
 
-    /// The hash of a content or a form, for [`get_or_intern_hashed`](FormInterner::get_or_intern_hashed) and
-    /// the like.
+    /// The hash of a content or a form, for [`intern_hashed`](FormInterner::intern_hashed) and the like.
     fn hash_counted<Q: SoughtIn<Self::Store>>(&self, sought: &Q, work: &mut Work) -> u64
         ensures hash { result ≡ hash self.now (Q.key sought.now) }
         ensures cost { work.new.events ≡ work.old.events ++ hashed (Q.key sought.now) ∷ [] };
 
-    /// Interns by a form whose hash is known: returns the symbol of the equal content, or
-    /// else stores a copy of the form.
+    /// Interns a content or a form whose hash is known: returns the symbol of the equal content, or else
+    /// stores the content itself, or a copy of the form.
+    ///
+    /// If many are hashed before the first of them is interned, the cache misses of several searches overlap.
+    /// [`intern_all`](crate::intern_all) does so.
     ///
     /// # Errors
     ///
-    /// `Overflow` if the form is new and the table holds as many contents as its limit, `Memory` if the
-    /// allocation of the copy or of a growth fails. Then the contents are unchanged.
-    fn get_or_intern_hashed<Q: CopiedTo<Self::Store>>(
+    /// `Overflow` if the value is new and the table holds as many contents as its limit, `Memory` if the
+    /// allocation of the copy or of a growth fails. Then the contents are unchanged, and the value is dropped.
+    fn intern_hashed<H, Q: AddedTo<Self::Store, H>>(
         &mut self,
         known_hash: u64,
-        form: &Q,
+        value: Q,
         work: &mut Work,
     ) -> Result<Symbol, InternError>
-        requires known { known_hash ≡ hash self.old (Q.key form.now) }
-        ensures step { let interns = InternsForm Self.Content.key Self.Content.spelling (state self.old) in
-            interns (Q.key form.now) (Q.form_spelling form.now) result (state self.new) }
-        ensures found { IfOk result (IsFound Self.Content.key (state self.new) (Q.key form.now)) }
-        ensures stored { IfOk result (IsStored Self.Content.key (state self.new) (Q.key form.now)) }
+        requires known { known_hash ≡ hash self.old (Q.key value) }
+        ensures step { InternsValue Self.Content.key (Q.adds value) Q.copies (state self.old) (Q.key value) result
+            (state self.new) }
+        ensures found { IfOk result (IsFound Self.Content.key (state self.new) (Q.key value)) }
+        ensures stored { IfOk result (IsStored Self.Content.key (state self.new) (Q.key value)) }
         ensures kept { Keeps Self.Content.key (state self.old) (state self.new) }
-        ensures others { FindsOthers Self.Content.key (state self.old) (Q.key form.now) (state self.new) }
+        ensures others { FindsOthers Self.Content.key (state self.old) (Q.key value) (state self.new) }
         ensures refused { OnErr result ((state self.new).contents ≡ (state self.old).contents) }
+        ensures bytes { let interns = InternsBytes Self.Store.takes Self.Content.key (Q.needs value) (Q.key value) in
+            interns (state self.old) (spare_bytes self.old) result (state self.new) (spare_bytes self.new) }
+        ensures none_needed { 0 < (state self.old).spare → Q.in_store → Q.needs value ≤ spare_bytes self.old →
+            IsNotMemory result }
         ensures cost { let cost = KnownInternCost Self.Content.key (hash self.old) (state self.old) in
-            Costs work.old work.new (cost (Q.key form.now) result (state self.new)) }
+            Costs work.old work.new (cost (Q.key value) result (state self.new)) }
         ensures same_hash { hash self.new ≡ hash self.old }
         ensures valid { IsValid Self.Content.key (state self.new) };
 
@@ -83,34 +94,32 @@ pub trait FormInterner {
         ensures recorded { Costs work.old work.new (IsRecorded (Q.key sought.now) result) }
         ensures valid { IsValid Self.Content.key (state self.now) };
 
-    /// Begins a search by a known hash: finds the first content with this hash, and doesn't read it.
-    /// [`end_search`](FormInterner::end_search) compares it.
+    /// Reads what a search by this hash will read: the index, and a byte of the content that it compares first.
+    /// The byte itself means nothing, and nothing is recorded.
     ///
-    /// If several searches are begun before the first of them is ended, their cache misses overlap.
-    fn begin_search(&self, known_hash: u64) -> PendingSearch
-        ensures { IsPendingSearch Self.Store.buckets_for Self.Content.key (hash self.now) (state self.now) known_hash result };
+    /// If this is called for several hashes before the first of them is searched, their cache misses overlap.
+    fn touch_hashed<Q: SoughtIn<Self::Store>>(&self, known_hash: u64, sought: &Q) -> u8;
 
-    /// Reads a byte of the content that the search will compare first, so that it is in the cache then. The
-    /// byte itself means nothing.
-    fn touch<Q: SoughtIn<Self::Store>>(&self, pending: &PendingSearch, sought: &Q) -> u8;
-
-    /// Ends a search that was begun with the hash of this content or form. Records in `work` what was done
-    /// for it before, and then the rest.
-    fn end_search<Q: SoughtIn<Self::Store>>(
+    /// Looks up a batch of contents or forms whose hashes are known, and returns what
+    /// [`search_hashed`](FormInterner::search_hashed) returns for each, in the same order.
+    ///
+    /// # Errors
+    ///
+    /// [`AllocError`] if a list as long as the batch can't be allocated.
+    fn search_all<Q: SoughtIn<Self::Store>>(
         &self,
-        pending: &PendingSearch,
-        sought: &Q,
+        alloc: Global,
+        forms: &[Q],
+        hashes: &[u64],
         work: &mut Work,
-    ) -> Option<Symbol>
-        requires pending { let h = hash self.now (Q.key sought.now) in
-            IsPendingSearch Self.Store.buckets_for Self.Content.key (hash self.now) (state self.now) h pending.now }
-        ensures found { result ≡ first Self.Content.key (state self.now).contents (Q.key sought.now) }
-        ensures events { (more : List Event) ×
-            (work.new.events ≡ work.old.events ++ pending.now.work.events ++ more) }
-        ensures cost { let k = Q.key sought.now in
-            Costs work.old work.new (KnownSearchCost Self.Content.key (hash self.now) (state self.now) k) }
-        ensures recorded { Costs work.old work.new (IsRecorded (Q.key sought.now) result) }
-        ensures valid { IsValid Self.Content.key (state self.now) };
+    ) -> Result<Vec<Option<Symbol>>, AllocError>
+        requires hashes { hashes.now ≡ map (λ q. hash self.now (Q.key q)) forms.now }
+        ensures symbols { let held = (state self.now).contents in
+            IfOk result (λ found.
+            found.items ≡ map (λ q. first Self.Content.key held (Q.key q)) forms.now) }
+        ensures cost { OnOk result (Costs work.old work.new
+            (SearchesForms Self.Content.key Q.key (hash self.now) (state self.now) forms.now)) }
+        ensures no_cost { OnErr result (work.new.events ≡ work.old.events) };
 
     /// The symbol of the content that is equal to this content or form, if there is one.
     fn search_counted<Q: SoughtIn<Self::Store>>(
@@ -132,6 +141,7 @@ pub trait FormInterner {
     /// allocation fails, and then the contents are unchanged.
     fn reserve_counted(&mut self, additional: usize, work: &mut Work) -> Result<(), RoomError>
         ensures step { Reserves (state self.old) additional result (state self.new) }
+        ensures bytes { spare_bytes self.new ≡ spare_bytes self.old }
         ensures cost { Costs work.old work.new (IsRoomCost (state self.old)) }
         ensures same_hash { hash self.new ≡ hash self.old }
         ensures valid { IsValid Self.Content.key (state self.new) };
@@ -144,9 +154,15 @@ pub trait FormInterner {
     /// `Memory` if the allocation of the smaller buckets fails, and then nothing has changed.
     fn shrink_counted(&mut self, min_capacity: usize, work: &mut Work) -> Result<(), RoomError>
         ensures step { Shrinks (state self.old) min_capacity result (state self.new) }
+        ensures bytes { ShrinksBytes (state self.old) min_capacity (spare_bytes self.old) result (spare_bytes self.new) }
         ensures cost { Costs work.old work.new (IsRoomCost (state self.old)) }
         ensures same_hash { hash self.new ≡ hash self.old }
         ensures valid { IsValid Self.Content.key (state self.new) };
+
+    /// Where the contents are.
+    fn store(&self) -> &Self::Store
+        ensures contents { Self.Store.contents result.now ≡ (state self.now).contents }
+        ensures valid { IsValid Self.Content.key (state self.now) };
 
     /// The number of contents.
     fn count(&self) -> usize
@@ -157,6 +173,8 @@ pub trait FormInterner {
     fn empty(&mut self)
         ensures step { Empties (state self.old) (state self.new) }
         ensures found { FindsNothing Self.Content.key (state self.new) }
+        ensures byte_room { spare_bytes self.new
+            ≡ byte_room Self.Store.takes (state self.old).contents (spare_bytes self.old) }
         ensures same_hash { hash self.new ≡ hash self.old }
         ensures valid { IsValid Self.Content.key (state self.new) };
 
@@ -174,21 +192,14 @@ pub trait FormInterner {
         ensures step { TakesBack (state self.old) mark result (state self.new) }
         ensures kept { OnOk result (KeepsBelow Self.Content.key (state self.old) mark (state self.new)) }
         ensures stale { OnErr result (state self.new ≡ state self.old) }
+        ensures byte_room { byte_room Self.Store.takes (state self.new).contents (spare_bytes self.new)
+            ≡ byte_room Self.Store.takes (state self.old).contents (spare_bytes self.old) }
         ensures same_hash { hash self.new ≡ hash self.old }
         ensures valid { IsValid Self.Content.key (state self.new) };
 }
 
-/// A symbol table whose spellings can be read.
-pub trait SpelledInterner: FormInterner {
-    /// The bytes of a symbol's content.
-    fn spelling(&self, symbol: Symbol) -> Option<&[u8]>
-        ensures spelling { option_copied result
-            ≡ option_map Self.Content.spelling (slice_get (Self.state self.now).contents symbol) }
-        ensures valid { IsValid Self.Content.key (Self.state self.now) };
-}
-
 /// A symbol table that keeps owned contents, in a `Vec`.
-pub trait Interner: FormInterner<Store = Vec<Self::Content>, Prepared = Self::Content> {
+pub trait Interner: FormInterner<Store = Vec<Self::Content>, Prepared = Option<Self::Content>> {
     /// Interns the content: returns the symbol of an equal one, or else stores it.
     ///
     /// # Errors
@@ -208,29 +219,6 @@ pub trait Interner: FormInterner<Store = Vec<Self::Content>, Prepared = Self::Co
             FindsOthers Self.Content.key (Self.state self.old) k (Self.state self.new) }
         ensures refused { OnErr result ((Self.state self.new).contents ≡ (Self.state self.old).contents) }
         ensures cost { let cost = InternCost Self.Content.key (Self.hash self.old) (Self.state self.old) in
-            Costs work.old work.new (cost (Self.Content.key content) result (Self.state self.new)) }
-        ensures same_hash { Self.hash self.new ≡ Self.hash self.old }
-        ensures valid { IsValid Self.Content.key (Self.state self.new) };
-
-    /// As [`intern_counted`](Interner::intern_counted), for a content whose hash is known.
-    ///
-    /// If many contents are hashed before the first of them is interned, the cache misses of several searches
-    /// overlap. [`intern_all`](crate::intern_all) does so.
-    fn intern_hashed(
-        &mut self,
-        known_hash: u64,
-        content: Self::Content,
-        work: &mut Work,
-    ) -> Result<Symbol, InternError>
-        requires known { known_hash ≡ Self.hash self.old (Self.Content.key content) }
-        ensures step { Interns Self.Content.key (Self.state self.old) content result (Self.state self.new) }
-        ensures found { IfOk result (IsFound Self.Content.key (Self.state self.new) (Self.Content.key content)) }
-        ensures stored { IfOk result (IsStored Self.Content.key (Self.state self.new) (Self.Content.key content)) }
-        ensures kept { Keeps Self.Content.key (Self.state self.old) (Self.state self.new) }
-        ensures others { let k = Self.Content.key content in
-            FindsOthers Self.Content.key (Self.state self.old) k (Self.state self.new) }
-        ensures refused { OnErr result ((Self.state self.new).contents ≡ (Self.state self.old).contents) }
-        ensures cost { let cost = KnownInternCost Self.Content.key (Self.hash self.old) (Self.state self.old) in
             Costs work.old work.new (cost (Self.Content.key content) result (Self.state self.new)) }
         ensures same_hash { Self.hash self.new ≡ Self.hash self.old }
         ensures valid { IsValid Self.Content.key (Self.state self.new) };
@@ -256,19 +244,21 @@ where
 
     ghost state = { λ t. t.state };
 
+    ghost spare_bytes = { λ t. t.spare_bytes };
+
     ghost hash = { λ t. hash_of S.BuildHasher S.Hasher.Hasher t.hasher };
 
     fn hash_counted<Q: SoughtIn<L>>(&self, sought: &Q, work: &mut Work) -> u64 {
         sought.hash_by(self.hasher(), work)
     }
 
-    fn get_or_intern_hashed<Q: CopiedTo<L>>(
+    fn intern_hashed<H, Q: AddedTo<L, H>>(
         &mut self,
         known_hash: u64,
-        form: &Q,
+        value: Q,
         work: &mut Work,
     ) -> Result<Symbol, InternError> {
-        IndexedStore::get_or_intern_hashed(self, known_hash, form, work)
+        IndexedStore::intern_hashed(self, known_hash, value, work)
     }
 
     fn search_hashed<Q: SoughtIn<L>>(
@@ -280,21 +270,18 @@ where
         IndexedStore::search_hashed(self, known_hash, sought, work)
     }
 
-    fn begin_search(&self, known_hash: u64) -> PendingSearch {
-        IndexedStore::begin_search(self, known_hash)
+    fn touch_hashed<Q: SoughtIn<L>>(&self, known_hash: u64, sought: &Q) -> u8 {
+        IndexedStore::touch_hashed(self, known_hash, sought)
     }
 
-    fn touch<Q: SoughtIn<L>>(&self, pending: &PendingSearch, sought: &Q) -> u8 {
-        IndexedStore::touch(self, pending, sought)
-    }
-
-    fn end_search<Q: SoughtIn<L>>(
+    fn search_all<Q: SoughtIn<L>>(
         &self,
-        pending: &PendingSearch,
-        sought: &Q,
+        alloc: Global,
+        forms: &[Q],
+        hashes: &[u64],
         work: &mut Work,
-    ) -> Option<Symbol> {
-        IndexedStore::end_search(self, pending, sought, work)
+    ) -> Result<Vec<Option<Symbol>>, AllocError> {
+        IndexedStore::search_all(self, alloc, forms, hashes, work)
     }
 
     fn search_counted<Q: SoughtIn<L>>(&self, sought: &Q, work: &mut Work) -> Option<Symbol> {
@@ -307,6 +294,12 @@ where
 
     fn shrink_counted(&mut self, min_capacity: usize, work: &mut Work) -> Result<(), RoomError> {
         self.shrink_with(min_capacity, work)
+    }
+
+    fn store(&self) -> &L {
+        // What `valid` says is known from here on.
+        let _count = self.len();
+        IndexedStore::store(self)
     }
 
     fn count(&self) -> usize {
@@ -326,30 +319,9 @@ where
     }
 }
 
-impl<L: SpelledStore, S: BuildHasher> SpelledInterner for IndexedStore<L, S>
-where
-    L::Content: Content + SoughtIn<L> + Drop,
-    L::Prepared: Drop,
-{
-    fn spelling(&self, symbol: Symbol) -> Option<&[u8]> {
-        // What `valid` says is known from here on.
-        let _count = self.len();
-        self.store().spelling_at(symbol.id() as usize)
-    }
-}
-
 impl<C: Content + Sought<C> + Drop, S: BuildHasher> Interner for Core<C, S> {
     fn intern_counted(&mut self, content: C, work: &mut Work) -> Result<Symbol, InternError> {
         self.intern(content, work)
-    }
-
-    fn intern_hashed(
-        &mut self,
-        known_hash: u64,
-        content: C,
-        work: &mut Work,
-    ) -> Result<Symbol, InternError> {
-        Core::intern_hashed(self, known_hash, content, work)
     }
 
     fn content(&self, symbol: Symbol) -> Option<&C> {

@@ -11,7 +11,7 @@ const FILES: &str = "files of lines; without any, standard input";
 /// What the program takes.
 pub fn command<'a>(alloc: Global) -> Result<Command<'a>, AllocError> {
     Command::new(alloc, "intaglio_dict")
-        .version("2.0.0")
+        .version("3.0.0")
         .about(
             "Numbers the distinct lines of files, and keeps them in a file in which both strings and numbers are found",
         )
@@ -44,6 +44,13 @@ fn freeze<'a>(alloc: Global) -> Result<Command<'a>, AllocError> {
                 .required(true)
                 .help("the dictionary, which is replaced when the new one is whole"),
         )?
+        .arg(keys(alloc)?)?
+        .arg(
+            Arg::new(alloc, "RANDOM_KEYS")
+                .long("random-keys")
+                .action(ArgAction::SetTrue)
+                .help("draws the keys at random, for lines that were chosen to have no places"),
+        )?
         .arg(
             Arg::new(alloc, "PROGRESS")
                 .long("progress")
@@ -51,6 +58,14 @@ fn freeze<'a>(alloc: Global) -> Result<Command<'a>, AllocError> {
                 .help("shows on standard error how far it is"),
         )?
         .arg(many(alloc, "FILE", FILES))
+}
+
+fn keys<'a>(alloc: Global) -> Result<Arg<'a>, AllocError> {
+    Arg::new(alloc, "KEYS")
+        .long("keys")
+        .value_name("K0,K1")
+        .help("the keys of the hash, two numbers below 2^64; without, the lines alone decide")
+        .conflicts_with("RANDOM_KEYS")
 }
 
 fn find<'a>(alloc: Global) -> Result<Command<'a>, AllocError> {

@@ -1,42 +1,55 @@
 //! The subcommand that writes a dictionary.
 use crate::input::{files, standard};
+use crate::keys::keys_of;
 use crate::noticing::Noticing;
 use crate::progress::Shown;
+use crate::replacing::Place;
 use crate::report;
 use clap::ArgMatches;
 use intaglio_dictionary::error::FreezingError;
-use intaglio_dictionary::freezing::freeze_lines;
+use intaglio_dictionary::freezing::{freeze_lines, freeze_lines_with_default_keys};
 use intaglio_frozen::{FreezeError, Kind};
 use intaglio_lines::error::StreamError;
-use std::fs::OpenFile;
 use std::hash::RandomState;
+use std::path::Path;
 use std::random::RandomSource;
 use std::rt::Files;
 use std::{fs, io};
 
-// The keys of a dictionary: the same lines always give the same bytes.
-const KEYS: (u64, u64) = (0, 0);
+// What the lines are frozen to: strings of a kind, under these keys, or under those that the library chooses.
+#[derive(Clone, Copy)]
+struct Wanted {
+    kind: Kind,
+    keys: Option<(u64, u64)>,
+}
 
 /// Freezes the lines of files or of standard input, and returns the exit status.
 pub fn freeze<R: Files + RandomSource + Input + Eprint + AllocGlobal>(
     rt: &R,
     found: &ArgMatches<'_>,
 ) -> u8 {
-    let (Some(name), Some(kind)) = (found.get_str("DICT"), kind_of(found)) else {
-        return 2;
-    };
-    let input = match found.get_strs("FILE") {
-        Some(names) => files(rt, names),
-        None => standard(rt),
-    };
-    let mut shown = Shown::new(rt, found.get_flag("PROGRESS"));
-    match input {
-        Ok(input) => {
-            shown.stage(input.len(), "bytes read");
-            freeze_to(rt, name, kind, &input, &mut shown)
-        }
+    match freeze_found(rt, found) {
+        Ok(()) => 0,
         Err(status) => status,
     }
+}
+
+fn freeze_found<R: Files + RandomSource + Input + Eprint + AllocGlobal>(
+    rt: &R,
+    found: &ArgMatches<'_>,
+) -> Result<(), u8> {
+    let (Some(name), Some(kind)) = (found.get_str("DICT"), kind_of(found)) else {
+        return Err(2);
+    };
+    let keys = keys_of(rt, found)?;
+    let input = match found.get_strs("FILE") {
+        Some(names) => files(rt, names)?,
+        None => standard(rt)?,
+    };
+    let mut shown = Shown::new(rt, found.get_flag("PROGRESS"));
+    shown.stage(input.len(), "bytes read");
+    let wanted = Wanted { kind, keys };
+    freeze_to(rt, &Place::of(rt, name)?, wanted, &input, &mut shown)
 }
 
 fn kind_of(found: &ArgMatches<'_>) -> Option<Kind> {
@@ -47,74 +60,62 @@ fn kind_of(found: &ArgMatches<'_>) -> Option<Kind> {
     }
 }
 
-// Writes the dictionary beside its place, and renames it when it is whole. A device or a pipe isn't replaced.
+// Writes the dictionary beside its place, and replaces what is there when it is whole.
 fn freeze_to<R: Files + RandomSource + Eprint + AllocGlobal>(
     rt: &R,
-    name: &str,
-    kind: Kind,
+    place: &Place<'_>,
+    wanted: Wanted,
     input: &[u8],
     shown: &mut Shown<'_, R>,
-) -> u8 {
-    if let Ok(found) = fs::metadata(rt, name) {
-        if !found.is_file() {
-            return report::failed(rt, name, "not a regular file");
-        }
+) -> Result<(), u8> {
+    let (path, file) = place.create_beside(rt)?;
+    let replaced = match write_table(rt, path.as_path(), file, wanted, input, shown) {
+        Ok(file) => place.replace(rt, path.as_path(), file),
+        Err(status) => Err(status),
+    };
+    if replaced.is_err() {
+        let _ = fs::remove_file(rt, path.as_path());
     }
-    let beside = match format!(in rt.alloc(); "{name}.new") {
-        Ok(beside) => beside,
-        Err(_) => return report::out_of_memory(rt),
-    };
-    let status = match write_beside(rt, name, beside.as_str(), kind, input, shown) {
-        0 => match fs::rename(rt, beside.as_str(), name) {
-            Ok(()) => return 0,
-            Err(e) => report::of_file(rt, name, e),
-        },
-        status => status,
-    };
-    let _ = fs::remove_file(rt, beside.as_str());
-    status
+    replaced
 }
 
-// Writes the dictionary to a new file.
-fn write_beside<R: Files + RandomSource + Eprint + AllocGlobal>(
+// Writes the dictionary to a file, and returns that. Otherwise the exit status after a message.
+fn write_table<R: Files + RandomSource + Eprint + AllocGlobal>(
     rt: &R,
-    name: &str,
-    beside: &str,
-    kind: Kind,
+    path: Path<'_>,
+    file: R::File,
+    wanted: Wanted,
     input: &[u8],
     shown: &mut Shown<'_, R>,
-) -> u8 {
+) -> Result<R::File, u8> {
     let Ok(builder) = RandomState::new(rt) else {
-        return report::failed(rt, name, "no random seed");
+        return Err(report::no_random_bytes(rt));
     };
-    let file = match fs::create(rt, beside) {
-        Ok(file) => file,
-        Err(e) => return report::of_file(rt, name, e),
+    let (alloc, kind, mut output) = (rt.alloc(), wanted.kind, Noticing::new(file));
+    let written = match wanted.keys {
+        Some(keys) => freeze_lines(alloc, kind, keys, builder, input, &mut output, shown),
+        None => freeze_lines_with_default_keys(alloc, kind, builder, input, &mut output, shown),
     };
-    let mut output = Noticing::new(file);
-    let written = freeze_lines(rt.alloc(), kind, KEYS, builder, input, &mut output, shown);
     let (file, error) = output.into_parts();
     match written {
-        Ok(()) => match file.sync_all() {
-            Ok(()) => 0,
-            Err(e) => report::of_file(rt, name, e),
-        },
-        Err(refused) => refusal(rt, name, refused, error),
+        Ok(()) => Ok(file),
+        Err(refused) => Err(refusal(rt, path.as_str(), refused, error)),
     }
 }
 
-// The exit status after a dictionary wasn't written.
+// The exit status after the dictionary wasn't written to its file.
 fn refusal<R: Eprint + AllocGlobal>(
     rt: &R,
-    name: &str,
+    path: &str,
     refused: FreezingError,
     error: Option<io::Error>,
 ) -> u8 {
     match (refused, error) {
         (FreezingError::Table(FreezeError::Memory), _) => report::out_of_memory(rt),
         (FreezingError::Stream(StreamError::Memory), _) => report::out_of_memory(rt),
-        (FreezingError::Stream(StreamError::Write), Some(e)) => report::of_file(rt, name, e),
-        (FreezingError::NotUtf8, _) => report::of_input(rt, refused),
-        _ => report::failed(rt, name, refused),
+        (FreezingError::Table(FreezeError::NoPlaces), _) => report::no_places(rt),
+        (FreezingError::Stream(_), Some(e)) => report::of_file(rt, path, e),
+        (FreezingError::Stream(failure), None) => report::failed(rt, path, failure),
+        _ => report::of_input(rt, refused),
     }
 }

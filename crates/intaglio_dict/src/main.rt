@@ -6,16 +6,22 @@
 mod command;
 mod freezing;
 mod input;
+mod keys;
 mod noticing;
 mod progress;
+mod replacing;
 mod report;
 mod run;
 
+use std::env::FillError;
 use std::io::ErrorKind;
 use std::process::ExitCode;
 use std::random::RandomSource;
 use std::rt::{Env, Files};
-use std::{env, io};
+use std::{env, io, str};
+
+// An argument is shown if it is no longer than this, a path's greatest length.
+const MAX_SHOWN: usize = 4096;
 
 fn main(rt: HostRuntime) -> ExitCode {
     ExitCode::from(serve(&rt))
@@ -25,7 +31,8 @@ fn main(rt: HostRuntime) -> ExitCode {
 fn serve<R: Files + Env + RandomSource + Input + Print + Eprint + AllocGlobal>(rt: &R) -> u8 {
     match words(rt) {
         Ok(words) => serve_words(rt, &words),
-        Err(e) => report::arguments(rt, e.kind() == ErrorKind::OutOfMemory),
+        Err(e) if e.kind() == ErrorKind::OutOfMemory => report::out_of_memory(rt),
+        Err(_) => report_not_utf8(rt),
     }
 }
 
@@ -51,4 +58,19 @@ fn words<R: Env + AllocGlobal>(rt: &R) -> io::Result<Vec<String>> {
         words.push(word)?;
     }
     Ok(words)
+}
+
+// Reports an argument that isn't UTF-8. Number 0 is the program's name.
+fn report_not_utf8<R: Env + Eprint>(rt: &R) -> u8 {
+    let mut bytes = [0; MAX_SHOWN];
+    for number in 0..usize::MAX {
+        match rt.arg(number, &mut bytes) {
+            Ok(length) if str::from_utf8(&bytes[..length]).is_err() => {
+                return report::not_utf8(rt, number, &bytes[..length]);
+            }
+            Ok(_) | Err(FillError::TooLong) => {}
+            Err(FillError::NotPresent) => break,
+        }
+    }
+    report::long_not_utf8(rt)
 }

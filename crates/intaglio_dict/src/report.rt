@@ -1,14 +1,18 @@
 //! Messages on standard error, each with the exit status. A message that can't be written is lost.
 use clap::error::ErrorKind;
+use intaglio_frozen::FreezeError;
 use intaglio_lines::error::StreamError;
 use std::fmt::Display;
 use std::io;
 
 /// Of an error that a file's name goes before. The number that the system gives the error is left out.
 pub fn of_file<R: Eprint + AllocGlobal>(rt: &R, name: &str, error: io::Error) -> u8 {
+    if error.kind() == io::ErrorKind::OutOfMemory {
+        return out_of_memory(rt);
+    }
     match format!(in rt.alloc(); "{error}") {
         Ok(text) => failed(rt, name, without_number(text.as_str())),
-        Err(_) => failed(rt, name, "out of memory"),
+        Err(_) => out_of_memory(rt),
     }
 }
 
@@ -40,18 +44,45 @@ pub fn of_input<R: Eprint, D: Display + Drop>(rt: &R, what: D) -> u8 {
     1
 }
 
+/// Of lines that have no frozen table under the keys that were tried.
+pub fn no_places<R: Eprint>(rt: &R) -> u8 {
+    let _ = eprintln!(rt;
+        "intaglio_dict: {}; other keys may do: --random-keys",
+        FreezeError::NoPlaces
+    );
+    1
+}
+
+/// Of random bytes, which the system doesn't give.
+pub fn no_random_bytes<R: Eprint>(rt: &R) -> u8 {
+    let _ = eprintln!(rt; "intaglio_dict: no random bytes");
+    1
+}
+
 /// Of memory.
 pub fn out_of_memory<R: Eprint>(rt: &R) -> u8 {
     let _ = eprintln!(rt; "intaglio_dict: out of memory");
     1
 }
 
-/// Of arguments that aren't text, or that there was no memory for.
-pub fn arguments<R: Eprint>(rt: &R, no_memory: bool) -> u8 {
-    if no_memory {
-        return out_of_memory(rt);
-    }
-    let _ = eprintln!(rt; "intaglio_dict: an argument isn't UTF-8");
+/// Of an argument that isn't UTF-8. Number 0 is the program's name.
+pub fn not_utf8<R: Eprint>(rt: &R, number: usize, argument: &[u8]) -> u8 {
+    let typed = argument.escape_ascii();
+    let _ = eprintln!(rt; "intaglio_dict: argument {number} isn't UTF-8: '{typed}'");
+    2
+}
+
+/// Of an argument that isn't UTF-8, and is too long to be shown.
+pub fn long_not_utf8<R: Eprint>(rt: &R) -> u8 {
+    let _ = eprintln!(rt; "intaglio_dict: a long argument isn't UTF-8");
+    2
+}
+
+/// Of keys that aren't two numbers.
+pub fn wrong_keys<R: Eprint>(rt: &R, typed: &str) -> u8 {
+    let _ = eprintln!(rt;
+        "intaglio_dict: --keys '{typed}': two numbers below 2^64 are needed, as in 5,6"
+    );
     2
 }
 

@@ -155,8 +155,8 @@ fn stat<R: Print + Eprint + AllocGlobal>(rt: &R, table: &Frozen<'_>, bytes: u64)
     ended(rt, INPUT, answer, None, &output)
 }
 
-// The exit status after an output, and a message if it isn't whole: the name and the error are the input's. Nothing
-// is said if nobody reads the output.
+// The exit status after an output, and a message if it isn't whole: the name and the error are the input's.
+// Nothing is said if nobody reads the output.
 pub fn ended<R: Eprint + AllocGlobal, W: Write>(
     rt: &R,
     name: &str,

@@ -1,13 +1,11 @@
 -- What is written of the lines of an input, frozen.
-use Rattle.std.specs.Prelude.{◌≡◌, ℕ, ⊤, List, [], ◌∷◌, Option}
+use Rattle.std.specs.Prelude.{ℕ, ⊤, List, [], ◌∷◌, Option, Some, None}
 use Rattle.std.specs.Str.{IsUtf8}
 use Rattle.intaglio_core.specs.Issue.{interned_all}
 use Rattle.intaglio_lines.specs.Lines.{lines_of}
 use Rattle.intaglio_lines.specs.Puts.{Writes}
 use Rattle.intaglio_lines.specs.StreamError.{IsWritingError}
-use Rattle.intaglio_frozen.specs.Layout.{kind as kind_of, strings}
-use Rattle.intaglio_frozen.specs.IsFrozen.{IsFrozen, number_of}
-use Rattle.intaglio_frozen.specs.Freezing.{HasKeys, IsRefusal as IsTableRefusal}
+use Rattle.intaglio_frozen.specs.Freezing.{HasDefaultKeys, HasKeys, IsRefusal as IsTableRefusal, IsTableOf}
 use Rattle.intaglio_frozen.specs.declared.kind.Kind.{Kind}
 use Rattle.intaglio_frozen.specs.declared.kind.Kind.TheVariants.{Bytes, Text}
 use Rattle.intaglio_dictionary.specs.declared.error.FreezingError.{FreezingError}
@@ -22,16 +20,15 @@ abbrev pub Allows : Kind → List ℕ → Type 0
 Allows Bytes input = ⊤
 Allows Text input = IsUtf8 input
 
--- these bytes are a frozen table of this kind, of these strings, under these keys or the next ones
-pub record IsTableOf (wanted : Kind) (keys : ℕ × ℕ) (lines : List (List ℕ)) (bytes : List ℕ) : Type 0 where
-  pub frozen : IsFrozen bytes
-  pub strings : strings bytes ≡ lines
-  pub kind : kind_of bytes ≡ number_of wanted
-  pub keyed : HasKeys keys.0 keys.1 bytes
+-- a frozen table of this kind, of these strings, under keys that are allowed, is written
+abbrev pub WritesTable : {W : Type 0} → Kind → (List ℕ → Type 0) → List (List ℕ) → (W → Option (List ℕ)) → W → W → Type 0
+WritesTable kind HasAllowedKeys lines contents old new =
+    (bytes : List ℕ) × IsTableOf kind lines bytes × HasAllowedKeys bytes × Writes contents old new bytes
 
--- such bytes are written
-abbrev pub WritesTable : {W : Type 0} → Kind → ℕ × ℕ → List (List ℕ) → (W → Option (List ℕ)) → W → W → Type 0
-WritesTable kind keys lines contents old new = (bytes : List ℕ) × IsTableOf kind keys lines bytes × Writes contents old new bytes
+-- the keys of a table of these strings, if keys are given, and if none are
+abbrev pub HasKeysFor : Option (ℕ × ℕ) → List (List ℕ) → List ℕ → Type 0
+HasKeysFor (Some keys) lines bytes = HasKeys keys.0 keys.1 bytes
+HasKeysFor None lines bytes = HasDefaultKeys lines bytes
 
 -- when each error is returned
 abbrev pub IsRefusal : Kind → List ℕ → FreezingError → Type 0

@@ -4,7 +4,8 @@ ghost use Rattle.intaglio_bytes.specs.BytesContent.{bytes_content_bytes};
 ghost use Rattle.intaglio_frozen.specs.declared.kind.Kind.{Kind};
 ghost use Rattle.intaglio_lines.specs.Puts.{Writes};
 ghost use Rattle.intaglio_lines.specs.declared.error.StreamError.TheVariants.{Write as WriteFailed};
-ghost use Rattle.intaglio_dictionary.specs.Frozen.{Allows, IsRefusal, IsTableOf, WritesTable, distinct_lines};
+ghost use Rattle.intaglio_frozen.specs.Freezing.{HasDefaultKeys, HasKeys, IsRefusal as IsTableRefusal, IsTableOf};
+ghost use Rattle.intaglio_dictionary.specs.Frozen.{Allows, HasKeysFor, IsRefusal, WritesTable, distinct_lines};
 ghost use Rattle.intaglio_dictionary.specs.declared.error.FreezingError.TheVariants.{NotUtf8, Stream};
 
 use crate::error::FreezingError;
@@ -12,7 +13,7 @@ use crate::progress::Progress;
 use intaglio_bytes::bytes::BytesContent;
 use intaglio_encode::error::ToolError;
 use intaglio_encode::intern_lines::intern_lines;
-use intaglio_frozen::{FreezeError, Kind, freeze};
+use intaglio_frozen::{FreezeError, Kind, StringList, freeze, freeze_with_default_keys};
 use intaglio_lines::error::StreamError;
 use intaglio_table::Table;
 use std::alloc::Global;
@@ -41,7 +42,49 @@ pub fn freeze_lines<S: BuildHasher + Drop, W: Write, P: Progress>(
     progress: &mut P,
 ) -> Result<(), FreezingError>
     ensures written { let lines = distinct_lines input.now in
-        OnOk result (WritesTable kind keys lines W.contents writer.old writer.new) }
+        OnOk result (WritesTable kind (HasKeys keys.0 keys.1) lines W.contents writer.old writer.new) }
+    ensures refuses { ¬ (Allows kind input.now) → result ≡ Err NotUtf8 }
+    ensures err { IfErr result (IsRefusal kind input.now) }
+    ensures nothing_written { IfErr result (λ e. e ≢ Stream WriteFailed → writer.new ≡ writer.old) }
+{
+    write_frozen(alloc, kind, Some(keys), builder, input, writer, progress)
+}
+
+/// As [`freeze_lines`], for a caller who has no keys ([`freeze_with_default_keys`]). The same lines always give
+/// the same table.
+///
+/// # Errors
+///
+/// Those of [`freeze_lines`].
+pub fn freeze_lines_with_default_keys<S: BuildHasher + Drop, W: Write, P: Progress>(
+    alloc: Global,
+    kind: Kind,
+    builder: S,
+    input: &[u8],
+    writer: &mut W,
+    progress: &mut P,
+) -> Result<(), FreezingError>
+    ensures written { let lines = distinct_lines input.now in
+        OnOk result (WritesTable kind (HasDefaultKeys lines) lines W.contents writer.old writer.new) }
+    ensures refuses { ¬ (Allows kind input.now) → result ≡ Err NotUtf8 }
+    ensures err { IfErr result (IsRefusal kind input.now) }
+    ensures nothing_written { IfErr result (λ e. e ≢ Stream WriteFailed → writer.new ≡ writer.old) }
+{
+    write_frozen(alloc, kind, None, builder, input, writer, progress)
+}
+
+// Writes a frozen table of the distinct lines, under these keys if they are given.
+fn write_frozen<S: BuildHasher + Drop, W: Write, P: Progress>(
+    alloc: Global,
+    kind: Kind,
+    keys: Option<(u64, u64)>,
+    builder: S,
+    input: &[u8],
+    writer: &mut W,
+    progress: &mut P,
+) -> Result<(), FreezingError>
+    ensures written { let lines = distinct_lines input.now in
+        OnOk result (WritesTable kind (HasKeysFor keys lines) lines W.contents writer.old writer.new) }
     ensures refuses { ¬ (Allows kind input.now) → result ≡ Err NotUtf8 }
     ensures err { IfErr result (IsRefusal kind input.now) }
     ensures nothing_written { IfErr result (λ e. e ≢ Stream WriteFailed → writer.new ≡ writer.old) }
@@ -71,20 +114,38 @@ fn is_allowed(kind: Kind, input: &[u8]) -> bool
 fn frozen_lines<S: BuildHasher + Drop, P: Progress>(
     alloc: Global,
     kind: Kind,
-    keys: (u64, u64),
+    keys: Option<(u64, u64)>,
     builder: S,
     input: &[u8],
     progress: &mut P,
 ) -> Result<Vec<u8>, FreezingError>
-    ensures table { IfOk result (λ bytes. IsTableOf kind keys (distinct_lines input.now) bytes.items) }
+    ensures table { IfOk result (λ bytes. IsTableOf kind (distinct_lines input.now) bytes.items) }
+    ensures keyed { IfOk result (λ bytes. HasKeysFor keys (distinct_lines input.now) bytes.items) }
     ensures err { IfErr result (IsRefusal kind input.now) }
 {
     match interned_lines(alloc, builder, input) {
         Ok(table) => {
             progress.interned(table.len());
-            Ok(freeze(alloc, &table, kind, keys.0, keys.1)?)
+            Ok(freeze_table(alloc, &table, kind, keys)?)
         }
         Err(refused) => Err(refused),
+    }
+}
+
+// The bytes of a frozen table of these strings.
+fn freeze_table<L: StringList>(
+    alloc: Global,
+    list: &L,
+    kind: Kind,
+    keys: Option<(u64, u64)>,
+) -> Result<Vec<u8>, FreezeError>
+    ensures table { IfOk result (λ bytes. IsTableOf kind (L.strings list.now) bytes.items) }
+    ensures keyed { IfOk result (λ bytes. HasKeysFor keys (L.strings list.now) bytes.items) }
+    ensures err { IfErr result (IsTableRefusal kind (L.strings list.now)) }
+{
+    match keys {
+        Some((key0, key1)) => freeze(alloc, list, kind, key0, key1),
+        None => freeze_with_default_keys(alloc, list, kind),
     }
 }
 

@@ -25,7 +25,7 @@ where
     L::Content: Content,
 {
     /// The form of a line.
-    type Line: CopiedTo<L> + Drop;
+    type Line: CopiedTo<L>;
 
     ghost allows: { List ℕ → Type 0 };
 

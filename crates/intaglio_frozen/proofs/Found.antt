@@ -2,7 +2,9 @@
 use Rattle.std.proofs.Common.{◌≡◌, ℕ, zero, suc, ◌+◌, ◌*◌, ◌%◌, ◌<◌, ◌≤◌, ◌==◌, Bool, true, false, cond, List, [], ◌∷◌, length, get_or, slice_get, Option, Some, None, map, refl, sym, ap, ◌∙◌, arith}
 use Rattle.std.proofs.Common.{eq-eqb}
 use Rattle.std.proofs.lemmas.Bool.{ne_eqb}
+use Rattle.std.proofs.lemmas.Bool.Decides.{same_from_decides}
 use Rattle.std.proofs.lemmas.Option.{slice_get_past}
+use Rattle.std.specs.Bool.{Decides}
 use Rattle.std.specs.Str.{bytes_eq}
 use Rattle.std.specs.Cmp.Lexicographic.{bytes_decides}
 use Rattle.intaglio_content.specs.Key.{Key}
@@ -22,7 +24,7 @@ key-at [] j d w l e = absurd (omega arith)
 key-at (t ∷ ts) zero d w l e = cc
 key-at (t ∷ ts) (suc j) d w l e = key-at ts j d w (omega arith) e
 
-at-key : (ts : List (List ℕ)) (j : ℕ) (d : Key) (w : List ℕ) → slice_get ts j ≡ Some w → (j < length (map key ts)) × (get_or (map key ts) j d ≡ key w)
+pub at-key : (ts : List (List ℕ)) (j : ℕ) (d : Key) (w : List ℕ) → slice_get ts j ≡ Some w → (j < length (map key ts)) × (get_or (map key ts) j d ≡ key w)
 at-key [] j d w e = cc
 at-key (t ∷ ts) zero d w e = (omega arith, cc)
 at-key (t ∷ ts) (suc j) d w e = let h = at-key ts j d w e in (omega (arith, h.0), h.1)
@@ -105,6 +107,10 @@ at-same bs w p tag t s et e es =
 -- what a test of the only symbol finds
 pub same-string : (s : ℕ) (o : Option (List ℕ)) (t w : List ℕ) (b : Bool) → o ≡ Some t → bytes_eq t w ≡ b → if_same o s w ≡ cond b (Some s) None
 same-string s o t w b e eb = rw (e, eb) refl
+
+-- the same, of a test that says whether the strings are equal
+pub same-compared : (s : ℕ) (o : Option (List ℕ)) (t w : List ℕ) (b : Bool) → o ≡ Some t → Decides b (t ≡ w) → if_same o s w ≡ cond b (Some s) None
+same-compared s o t w b e d = same-string s o t w b e (same_from_decides (bytes_eq t w) b (bytes_decides t w) d)
 
 -- the string at i is found there exactly if its place has the symbol i
 pub found-same : (bs w : List ℕ) (s i : ℕ) → slice_get (strings bs) i ≡ Some w → find bs w ≡ if_same (slice_get (strings bs) s) s w → s ≡ i → find bs w ≡ Some i

@@ -11,3 +11,4 @@ pub mod SameBytes
 pub mod Used
 pub mod HashBelow
 pub mod SameTable
+pub mod Distinct

@@ -3,7 +3,7 @@ use Rattle.std.specs.Prelude.{◌≡◌, ◌≢◌, ℕ, ◌-◌, ◌^◌, ◌<�
 use Rattle.intaglio_frozen.specs.Strings.{AreEnds}
 use Rattle.intaglio_frozen.specs.Layout.{u32_at, kind, count, text_at, ends, strings}
 use Rattle.intaglio_frozen.specs.LookUp.{find}
-use Rattle.intaglio_frozen.specs.IsFrozen.{HasMagic, HasVersion, HasHeader, HasSections, IsBlock, HasUnused, IsReserved, text_kind}
+use Rattle.intaglio_frozen.specs.IsFrozen.{HasMagic, HasVersion, HasKind, HasHeader, HasSections, IsBlock, HasUnused, IsReserved, text_kind}
 use Rattle.intaglio_frozen.specs.declared.error.FrozenError.{FrozenError}
 use Rattle.intaglio_frozen.specs.declared.error.FrozenError.TheVariants.{Magic, Version, Kind, Reserved, TooMany, Truncated, Ends, Unused, NotFound, NotUtf8}
 
@@ -17,8 +17,8 @@ IsFault bs Magic = ¬ HasMagic bs
 IsFault bs Truncated = (HasMagic bs × (length bs < 64)) ⊎ (HasHeader bs × (length bs < text_at bs))
 IsFault bs Version = HasMagic bs × (64 ≤ length bs) × (u32_at bs 8 ≢ 1)
 IsFault bs Kind = HasVersion bs × (text_kind < kind bs)
-IsFault bs Reserved = HasVersion bs × ¬ IsReserved bs
-IsFault bs TooMany = HasVersion bs × (2 ^ 31 < count bs)
+IsFault bs Reserved = HasKind bs × ¬ IsReserved bs
+IsFault bs TooMany = HasKind bs × IsReserved bs × (2 ^ 31 < count bs)
 IsFault bs Ends = HasSections bs × ¬ AreEnds 0 (length bs - text_at bs) (ends bs)
 IsFault bs Unused = IsBlock bs × ¬ HasUnused bs
 IsFault bs (NotFound i) = IsBlock bs × (w : List ℕ) × (slice_get (strings bs) i ≡ Some w) × (find bs w ≢ Some i)

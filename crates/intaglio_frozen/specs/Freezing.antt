@@ -1,26 +1,68 @@
 -- The keys of the table that strings are given, and why strings have no frozen table, or weren't given one.
-use Rattle.std.specs.Prelude.{◌≡◌, ℕ, ◌+◌, ◌-◌, ◌%◌, ◌^◌, ◌<◌, ◌≤◌, ⊤, List, length, sum_by, slice_get, Some}
+use Rattle.std.specs.Prelude.{◌≡◌, ℕ, ◌+◌, ◌-◌, ◌%◌, ◌^◌, ◌<◌, ◌≤◌, ◌⊎◌, List, length, sum_by, slice_get, Some}
+use Rattle.std.specs.Hash.{u64}
+use Rattle.std.specs.Hash.DefaultHasher.{with_keys, write, finish}
+use Rattle.std.specs.List.{fold}
+use Rattle.std.specs.declared.hash.DefaultHasher.{DefaultHasher}
 use Rattle.intaglio_frozen.specs.declared.kind.Kind.{Kind}
 use Rattle.intaglio_frozen.specs.declared.kind.Kind.TheVariants.{Text}
-use Rattle.intaglio_frozen.specs.Layout.{key0, key1}
+use Rattle.intaglio_frozen.specs.IsFrozen.{AreTexts, IsFrozen, number_of}
+use Rattle.intaglio_frozen.specs.Layout.{key0, key1, kind as kind_of, strings}
 use Rattle.intaglio_frozen.specs.Fault.{IsNoText}
 use Rattle.intaglio_frozen.specs.declared.error.FreezeError.{FreezeError}
 use Rattle.intaglio_frozen.specs.declared.error.FreezeError.TheVariants.{TooMany, TooLong, Equal, NotUtf8, NoPlaces, Memory}
+
+-- these bytes are a frozen table of this kind, of these strings
+pub record IsTableOf (wanted : Kind) (ws : List (List ℕ)) (bs : List ℕ) : Type 0 where
+  pub frozen : IsFrozen bs
+  pub strings : strings bs ≡ ws
+  pub kind : kind_of bs ≡ number_of wanted
 
 -- the first key of a table is k0 or one of the seven after it, modulo 2^64, and the second is k1
 pub record HasKeys (k0 k1 : ℕ) (bs : List ℕ) : Type 0 where
   pub first : (key0 bs + (2 ^ 64 - k0)) % 2 ^ 64 < 8
   pub second : key1 bs ≡ k1
 
+-- a hasher after a string: its length, in eight bytes, and its bytes
+abbrev pub after_string : DefaultHasher → List ℕ → DefaultHasher
+after_string h w = write (fold write h (u64 (length w))) w
+
+-- the hash of all strings under two keys
+unfoldable pub hash_all : ℕ → ℕ → List (List ℕ) → ℕ
+hash_all k0 k1 ws = finish (fold after_string (with_keys k0 k1) ws)
+
+-- the keys that are drawn from strings: their hash under 0 and 0, and that under the first key and 0
+abbrev pub drawn_key0 : List (List ℕ) → ℕ
+drawn_key0 ws = hash_all 0 0 ws
+
+abbrev pub drawn_key1 : List (List ℕ) → ℕ
+drawn_key1 ws = hash_all (drawn_key0 ws) 0 ws
+
+-- the keys of a table of these strings, if none are given: 0 and 0, or those that are drawn from the strings,
+-- or the next ones
+abbrev pub HasDefaultKeys : List (List ℕ) → List ℕ → Type 0
+HasDefaultKeys ws bs = HasKeys 0 0 bs ⊎ HasKeys (drawn_key0 ws) (drawn_key1 ws) bs
+
 -- the strings at i and at j, which is greater, are equal
 abbrev pub AreEqual : List (List ℕ) → ℕ → ℕ → Type 0
 AreEqual ws i j = (i < j) × (w : List ℕ) × (slice_get ws i ≡ Some w) × (slice_get ws j ≡ Some w)
 
--- when each error is returned: the first four are of strings that no frozen table of the kind has
+-- no string is equal to a later one
+abbrev pub HasNoEqual : List (List ℕ) → Type 0
+HasNoEqual ws = (i j : ℕ) → ¬ AreEqual ws i j
+
+-- a table of this kind can have the strings, as far as each by itself and their number and lengths go
+pub record AreAllowed (kind : Kind) (ws : List (List ℕ)) : Type 0 where
+  pub few : length ws ≤ 2 ^ 31
+  pub short : sum_by length ws < 2 ^ 32
+  pub texts : kind ≡ Text → AreTexts ws
+
+-- when each error is returned: the first four for strings that no frozen table of the kind has, the others for
+-- strings without these faults (for `Memory` two may be equal, since memory is needed to find that)
 abbrev pub IsRefusal : Kind → List (List ℕ) → FreezeError → Type 0
 IsRefusal kind ws TooMany = 2 ^ 31 < length ws
 IsRefusal kind ws TooLong = 2 ^ 32 ≤ sum_by length ws
 IsRefusal kind ws (Equal i j) = AreEqual ws i j
 IsRefusal kind ws (NotUtf8 i) = (kind ≡ Text) × IsNoText ws i
-IsRefusal kind ws NoPlaces = ⊤
-IsRefusal kind ws Memory = ⊤
+IsRefusal kind ws NoPlaces = AreAllowed kind ws × HasNoEqual ws
+IsRefusal kind ws Memory = AreAllowed kind ws

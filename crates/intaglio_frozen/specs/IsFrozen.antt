@@ -38,6 +38,11 @@ pub record HasVersion (bs : List ℕ) : Type 0 where
   pub magic : HasMagic bs
   pub version : u32_at bs 8 ≡ 1
 
+-- a header of version 1 whose kind is one of the two
+pub record HasKind (bs : List ℕ) : Type 0 where
+  pub version : HasVersion bs
+  pub kind : kind bs ≤ text_kind
+
 -- a header of version 1
 pub record HasHeader (bs : List ℕ) : Type 0 where
   pub long : 64 ≤ length bs

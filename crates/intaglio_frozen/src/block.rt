@@ -12,6 +12,7 @@ use crate::iter::FrozenStrings;
 use crate::kind::Kind;
 use crate::layout::Layout;
 use crate::list::StringList;
+use intaglio_content::same_bytes;
 use std::marker::Model;
 
 /// Bytes whose strings can be read. A contract sees the bytes.
@@ -119,7 +120,7 @@ impl<'a> Block<'a> {
         ensures { result ≡ find self.now string.now }
     {
         let symbol = self.layout.candidate(string)?;
-        if *self.string(symbol as usize) == *string {
+        if same_bytes(self.string(symbol as usize), string) {
             Some(symbol)
         } else {
             None

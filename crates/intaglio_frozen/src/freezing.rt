@@ -1,32 +1,35 @@
 //! How a list of strings is frozen.
-ghost use Rattle.std.specs.Prelude.{◌≡◌, ◌-◌, ◌↔◌, ◌<◌, ◌≤◌, ◌^◌, IfErr, IfOk, IfSome, IsTrue, length, min, sum_by};
+ghost use Rattle.std.specs.Prelude.{◌≡◌, ◌-◌, ◌≤◌, ◌^◌, IfErr, IfOk, IfSome, IsTrue, length, min, sum_by};
 ghost use Rattle.intaglio_frozen.specs.Layout.{key0 as key0_of, key1 as key1_of, kind as kind_of, strings};
 ghost use Rattle.intaglio_frozen.specs.IsFrozen.{IsFrozen, number_of};
-ghost use Rattle.intaglio_frozen.specs.Freezing.{HasKeys, IsRefusal, AreEqual};
-ghost use Rattle.intaglio_frozen.specs.declared.error.FreezeError.TheVariants.{TooMany};
+ghost use Rattle.intaglio_frozen.specs.Freezing.{AreAllowed, HasDefaultKeys, HasKeys, IsRefusal, IsTableOf};
 
+use crate::drawing::hash_all;
+use crate::equal::{equal_pair, equal_strings};
 use crate::error::FreezeError;
 use crate::frozen::Frozen;
 use crate::header::{Header, MAGIC, MAX_COUNT, VERSION};
 use crate::kind::Kind;
 use crate::list::{StringList, first_fault};
-use crate::placing::{Hashed, Sections, hashes, place_all};
+use crate::placing::{Sections, hashes, place_all};
 use intaglio_hash::KeyedState;
 use std::alloc::{AllocError, Global};
 
 // How many pairs of keys are tried.
 const ATTEMPTS: u64 = 8;
 
-/// The bytes of a frozen table of these strings: they open, to the same list, so each string keeps its symbol.
+/// The bytes of a frozen table of these strings: they open, to the same list, so each string keeps its
+/// symbol.
 ///
-/// The hashes are keyed by these numbers, or, where they leave no place for a string, by the first that does of
-/// the seven after `key0`. The same arguments always give the same bytes.
+/// The hashes are keyed by these numbers, or, if a string gets no place under them, by `key1` and one of the
+/// seven numbers after `key0`, modulo 2^64. The same arguments always give the same bytes.
 ///
 /// # Errors
 ///
-/// `TooMany`, `TooLong`, `NotUtf8` or `Equal` for strings that no frozen table of this kind can have; `Memory` if an allocation fails;
-/// `NoPlaces` if none of the keys gave each string a place, which hashes of other strings can cause by chance
-/// alone.
+/// `TooMany`, `TooLong`, `NotUtf8` or `Equal` for strings that no frozen table of this kind can have;
+/// otherwise `Memory` if an allocation fails, which may hide that two strings are equal, and `NoPlaces` if a
+/// string got no place under any of the keys. By chance that is very unlikely, but strings can be chosen for
+/// known keys; others can then serve.
 pub fn freeze<L: StringList>(
     alloc: Global,
     list: &L,
@@ -40,24 +43,97 @@ pub fn freeze<L: StringList>(
     ensures keys { IfOk result (λ bytes. HasKeys key0 key1 bytes.items) }
     ensures err { IfErr result (IsRefusal kind (L.strings list.now)) }
 {
+    check_strings(kind, list)?;
+    match freeze_near(alloc, list, kind, key0, key1)? {
+        Some(bytes) => Ok(bytes),
+        None => Err(no_places(alloc, list)),
+    }
+}
+
+/// As [`freeze`], for a caller who has no keys: under the keys 0 and 0 and those that `freeze` tries after
+/// them, and if a string gets no place under any of these, under keys that are drawn from the strings, by a hash
+/// of all of them, and those that `freeze` tries after these. The same strings always give the same bytes.
+///
+/// # Errors
+///
+/// Those of [`freeze`].
+pub fn freeze_with_default_keys<L: StringList>(
+    alloc: Global,
+    list: &L,
+    kind: Kind,
+) -> Result<Vec<u8>, FreezeError>
+    ensures frozen { IfOk result (λ bytes. IsFrozen bytes.items) }
+    ensures strings { IfOk result (λ bytes. strings bytes.items ≡ L.strings list.now) }
+    ensures kind { IfOk result (λ bytes. kind_of bytes.items ≡ number_of kind) }
+    ensures keys { IfOk result (λ bytes. HasDefaultKeys (L.strings list.now) bytes.items) }
+    ensures err { IfErr result (IsRefusal kind (L.strings list.now)) }
+{
+    check_strings(kind, list)?;
+    if let Some(bytes) = freeze_near(alloc, list, kind, 0, 0)? {
+        return Ok(bytes);
+    }
+    let key0 = hash_all(list, 0, 0);
+    let key1 = hash_all(list, key0, 0);
+    match freeze_near(alloc, list, kind, key0, key1)? {
+        Some(bytes) => Ok(bytes),
+        None => Err(no_places(alloc, list)),
+    }
+}
+
+// Checks all that can be wrong with strings but that two are equal.
+fn check_strings<L: StringList>(kind: Kind, list: &L) -> Result<(), FreezeError>
+    ensures allowed { IfOk result (λ _. AreAllowed kind (L.strings list.now)) }
+    ensures err { IfErr result (IsRefusal kind (L.strings list.now)) }
+{
     if list.len() > MAX_COUNT as usize {
         return Err(FreezeError::TooMany);
     }
     if byte_count(list) > u32::MAX as u64 {
         return Err(FreezeError::TooLong);
     }
-    if let Some(i) = first_fault(kind, list) {
-        return Err(FreezeError::NotUtf8(i));
+    match first_fault(kind, list) {
+        Some(i) => Err(FreezeError::NotUtf8(i)),
+        None => Ok(()),
     }
-    for attempt in 0..ATTEMPTS {
-        if let Some(bytes) = freeze_under(alloc, list, kind, key0.wrapping_add(attempt), key1)? {
-            return Ok(bytes);
-        }
-    }
-    Err(FreezeError::NoPlaces)
 }
 
-// The bytes under these keys, or nothing if they leave no place for a string.
+// The error for strings that got no place under any of the keys.
+fn no_places<L: StringList>(alloc: Global, list: &L) -> FreezeError
+    requires { length (L.strings list.now) ≤ 2 ^ 31 }
+    ensures { let strings = L.strings list.now in
+        (kind : Kind) → AreAllowed kind strings → IsRefusal kind strings result }
+{
+    match equal_strings(alloc, list) {
+        Ok(Some((first, second))) => FreezeError::Equal(first, second),
+        Ok(None) => FreezeError::NoPlaces,
+        Err(_) => FreezeError::Memory,
+    }
+}
+
+// The bytes under these keys or one of the seven pairs after them, or nothing if each leaves a string no
+// place.
+fn freeze_near<L: StringList>(
+    alloc: Global,
+    list: &L,
+    kind: Kind,
+    key0: u64,
+    key1: u64,
+) -> Result<Option<Vec<u8>>, FreezeError>
+    requires { AreAllowed kind (L.strings list.now) }
+    ensures table { let IsTable = IsTableOf kind (L.strings list.now) in
+        IfOk result (λ found. IfSome found (λ bytes. IsTable bytes.items)) }
+    ensures keys { IfOk result (λ found. IfSome found (λ bytes. HasKeys key0 key1 bytes.items)) }
+    ensures err { IfErr result (IsRefusal kind (L.strings list.now)) }
+{
+    for attempt in 0..ATTEMPTS {
+        if let Some(bytes) = freeze_under(alloc, list, kind, key0.wrapping_add(attempt), key1)? {
+            return Ok(Some(bytes));
+        }
+    }
+    Ok(None)
+}
+
+// The bytes under these keys, or nothing if they leave a string no place.
 fn freeze_under<L: StringList>(
     alloc: Global,
     list: &L,
@@ -65,10 +141,9 @@ fn freeze_under<L: StringList>(
     key0: u64,
     key1: u64,
 ) -> Result<Option<Vec<u8>>, FreezeError>
-    requires { length (L.strings list.now) ≤ 2 ^ 31 }
-    ensures frozen { IfOk result (λ found. IfSome found (λ bytes. IsFrozen bytes.items)) }
-    ensures strings { IfOk result (λ found. IfSome found (λ bytes. strings bytes.items ≡ L.strings list.now)) }
-    ensures kind { IfOk result (λ found. IfSome found (λ bytes. kind_of bytes.items ≡ number_of kind)) }
+    requires { AreAllowed kind (L.strings list.now) }
+    ensures table { let IsTable = IsTableOf kind (L.strings list.now) in
+        IfOk result (λ found. IfSome found (λ bytes. IsTable bytes.items)) }
     ensures first_key { IfOk result (λ found. IfSome found (λ bytes. key0_of bytes.items ≡ key0)) }
     ensures second_key { IfOk result (λ found. IfSome found (λ bytes. key1_of bytes.items ≡ key1)) }
     ensures err { IfErr result (IsRefusal kind (L.strings list.now)) }
@@ -103,31 +178,6 @@ fn byte_count<L: StringList>(list: &L) -> u64
         count = count.saturating_add(list.string(i).len() as u64);
     }
     count
-}
-
-// Two equal strings whose hashes follow each other.
-fn equal_pair<L: StringList>(list: &L, hashes: &[Hashed]) -> Option<(u32, u32)>
-    ensures { IfSome result (λ pair. AreEqual (L.strings list.now) pair.0 pair.1) }
-{
-    for i in 1..hashes.len() {
-        if hashes[i - 1].hash == hashes[i].hash
-            && are_equal(list, hashes[i - 1].symbol, hashes[i].symbol)
-        {
-            return Some((hashes[i - 1].symbol, hashes[i].symbol));
-        }
-    }
-    None
-}
-
-// Whether these are two positions, in this order, with equal strings.
-fn are_equal<L: StringList>(list: &L, first: u32, second: u32) -> bool
-    ensures { IsTrue result → AreEqual (L.strings list.now) first second }
-{
-    if first < second && (second as usize) < list.len() {
-        *list.string(first as usize) == *list.string(second as usize)
-    } else {
-        false
-    }
 }
 
 // Whether the bytes are a frozen table of these strings under these keys.

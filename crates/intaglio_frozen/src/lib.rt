@@ -3,6 +3,8 @@
 
 mod block;
 mod checking;
+mod drawing;
+mod equal;
 mod error;
 mod freezing;
 mod frozen;
@@ -18,7 +20,7 @@ mod thawing;
 mod trusted;
 
 pub use error::{FreezeError, FrozenError};
-pub use freezing::freeze;
+pub use freezing::{freeze, freeze_with_default_keys};
 pub use frozen::Frozen;
 pub use header::Header;
 pub use iter::{FrozenPairs, FrozenStrings};

@@ -7,6 +7,7 @@ ghost use Rattle.intaglio_frozen.specs.Fault.{IsFault};
 
 use crate::error::FrozenError;
 use crate::layout::Layout;
+use intaglio_content::same_bytes;
 use intaglio_symbol::Symbol;
 use std::marker::Model;
 
@@ -84,7 +85,7 @@ impl<'a> TrustedFrozen<'a> {
     {
         let symbol = self.layout.candidate(string)?;
         let stored = self.layout.checked_string(symbol as usize)?;
-        if *stored == *string {
+        if same_bytes(stored, string) {
             Some(Symbol::new(symbol))
         } else {
             None

@@ -161,7 +161,10 @@ module _ {C : Type 0} (kind : Kind) (bytes : C → List ℕ) (content_key : C �
 
   copies : (Refused : State (List ℕ) → State (List ℕ) → Type 0) → ((s s' : State (List ℕ)) → IsUncopiedOrRefused s s' → Refused s s') → (spelling : C → List ℕ) (old new : State C) (k : Key) (w b : List ℕ) (result : Result ℕ InternError) → ((c : C) → spelling c ≡ w → bytes c ≡ b)
       → InternsNewForm content_key spelling old k w result new → InternsNew Refused b (as_bytes bytes old) (symbol_answer result) (as_bytes bytes new)
-  copies Refused own spelling old new k w b (Ok symbol) spelled copied = takes IsRefused (λ _ _ refused. refused) old new copied.copy b (Ok symbol) (spelled copied.copy copied.same_spelling) copied.taken
+  copies Refused own spelling old new k w b (Ok symbol) spelled copied =
+      let one = copied.contents in
+      takes IsRefused (λ _ _ refused. refused) old new one.copy b (Ok symbol) (spelled one.copy one.same_spelling)
+      (record { below_limit = copied.below_limit; position = copied.position; contents = one.added; spare = copied.spare; growth = copied.growth; limit = copied.limit })
   copies Refused own spelling old new k w b (Err (Overflow full)) spelled refused = (length-map old.contents bytes ∙ refused.0, ap (as_bytes bytes) refused.1)
   copies Refused own spelling old new k w b (Err (Memory e)) spelled refused = own _ _ (uncopied old new refused)
 

@@ -13,7 +13,7 @@ use Rattle.intaglio_core.specs.Change.{IsAppended, TakesBack}
 use Rattle.intaglio_core.specs.Issue.{issued, interned, interned_all, issue_from}
 use Rattle.intaglio_core.specs.State.{State}
 use Rattle.intaglio_symbol.specs.declared.error.StaleMark.{StaleMark}
-use Rattle.intaglio_handle.specs.Batches.{all_stored, earlier, ends_from, first_fault, are_ends, pieces, AreInterned, IsBegun, IsRolledBack, InternsOr, StopsAt}
+use Rattle.intaglio_handle.specs.Batches.{all_stored, earlier, ends_from, first_fault, are_ends, pieces, AreInterned, IsBegun, IsRolledBack, InternsOr, StopsAt, DoNotFit}
 use Rattle.intaglio_handle.specs.Kinds.{fault, key}
 use Rattle.intaglio_handle.specs.Seen.{Seen, position, unless, IsChangedBy}
 use Rattle.intaglio_handle.specs.Steps.{Interns, InternsBy, IsUncopiedOrRefused}
@@ -236,34 +236,41 @@ module _ (contents : List (List ℕ)) (old : List ℕ) where
   pub missing : (symbols new ends : List ℕ) (start i : ℕ) → i < length symbols → IsCopied (take i symbols) new start ends → slice_get contents (get_or symbols i 0) ≡ None → all_stored contents symbols ≡ None
   missing symbols new ends start i inside at none = from_here symbols new ends start i None at inside none
 
-  longer : (done : List (List ℕ)) (string : List ℕ) (rest : Option (List (List ℕ))) → length old < length (concat done) + length string
-      → IfSome (onto (Some done) (option_map (λ strings. string ∷ strings) rest)) (λ strings. length old < length (concat strings))
-  longer done string None less = tt
-  longer done string (Some ys) less = omega (arith, less, ap length (concat-append done (string ∷ ys)), length-append (concat done) (string ++ concat ys), length-append string (concat ys))
-
   size : (symbols new ends : List ℕ) (start : ℕ) → IsCopied symbols new start ends → length new ≡ length old
   size symbols new ends start at = omega (arith, ap length at.buffer, length-append (concat at.done) (drop start old), at.place, length-drop start old, at.within)
 
+  -- one string more is stored
+  stored_more : (symbols new ends : List ℕ) (start i : ℕ) (string : List ℕ) → i < length symbols → (at : IsCopied (take i symbols) new start ends) → slice_get contents (get_or symbols i 0) ≡ Some string
+      → all_stored contents (take (i + 1) symbols) ≡ Some (at.done ++ string ∷ [])
+  stored_more symbols new ends start i string inside at there =
+      ap (all_stored contents) (take_more symbols i 0 inside) ∙ all_stored-append contents (take i symbols) (get_or symbols i 0 ∷ [])
+      ∙ (λ j. onto (at.stored j) (option_and_then (λ s. option_map (λ strings. s ∷ strings) (Some [])) (there j)))
+
+  concat_more : (done : List (List ℕ)) (string : List ℕ) → concat (done ++ string ∷ []) ≡ concat done ++ string
+  concat_more done string = concat-append done (string ∷ []) ∙ ap (λ (x : List ℕ). concat done ++ x) (append-nil string)
+
   pub too_short : (symbols new ends : List ℕ) (start i : ℕ) (string : List ℕ) → i < length symbols → IsCopied (take i symbols) new start ends → slice_get contents (get_or symbols i 0) ≡ Some string
-      → length new - start < length string → IfSome (all_stored contents symbols) (λ strings. length old < length (concat strings))
-  too_short symbols new ends start i string inside at there less =
-      subst (λ (o : Option (List (List ℕ))). IfSome o (λ strings. length old < length (concat strings))) (sym (from_here symbols new ends start i (Some string) at inside there))
-      (longer at.done string (all_stored contents (drop (i + 1) symbols)) (omega (arith, less, size _ _ _ _ at, at.place, at.within)))
+      → length new - start < length string → DoNotFit contents symbols old
+  too_short symbols new ends start i string inside at there less = (
+    i + 1,
+    at.done ++ string ∷ [],
+    stored_more symbols new ends start i string inside at there,
+    omega (arith, less, size _ _ _ _ at, at.place, at.within, ap length (concat_more at.done string), length-append (concat at.done) string),
+  )
 
   pub copied_more : (symbols new ends written : List ℕ) (start i : ℕ) (string : List ℕ) → i < length symbols → i < length ends → IsCopied (take i symbols) new start (take i ends) → slice_get contents (get_or symbols i 0) ≡ Some string
       → start + length string ≤ length new → written ≡ string
       → IsCopied (take (i + 1) symbols) (put_mid start (start + length string - start) new written) (start + length string) (take (i + 1) (set ends i (start + length string)))
   copied_more symbols new ends written start i string inside inside' at there fits same =
       let end = start + length string in let rest = drop end old in
-      let more : concat (at.done ++ string ∷ []) ≡ concat at.done ++ string = concat-append at.done (string ∷ []) ∙ ap (λ (x : List ℕ). concat at.done ++ x) (append-nil string) in
+      let more = concat_more at.done string in
       let front : take start new ≡ concat at.done = ap (take start) at.buffer ∙ take_at (concat at.done) (drop start old) start (omega (arith, at.place)) in
       let left : drop start new ≡ drop start old = ap (drop start) at.buffer ∙ drop_at (concat at.done) (drop start old) start (omega (arith, at.place)) in
       let sum : start + (end - start) ≡ end = omega arith in
       let back : drop (end - start) (drop start new) ≡ rest = ap (drop (end - start)) left ∙ drop-drop (end - start) start old ∙ ap (λ (n : ℕ). drop n old) sum in
       let ending : end ≡ 0 + length (concat at.done) + length string = omega (arith, at.place) in record {
         done = at.done ++ string ∷ [];
-        stored = ap (all_stored contents) (take_more symbols i 0 inside) ∙ all_stored-append contents (take i symbols) (get_or symbols i 0 ∷ [])
-            ∙ (λ j. onto (at.stored j) (option_and_then (λ s. option_map (λ strings. s ∷ strings) (Some [])) (there j)));
+        stored = stored_more symbols new _ start i string inside at there;
         place = omega (arith, at.place, ap length more, length-append (concat at.done) string);
         within = omega (arith, fits, size _ _ _ _ at);
         buffer = (λ j. front j ++ (same j ++ back j)) ∙ sym (append_assoc (concat at.done) string rest) ∙ ap (λ (x : List ℕ). x ++ rest) (sym more);

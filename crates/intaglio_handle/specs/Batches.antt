@@ -1,5 +1,5 @@
 -- Batches: many strings in one list of bytes, with the end of each.
-use Rattle.std.specs.Prelude.{◌≡◌, ℕ, ◌+◌, ◌-◌, ◌^◌, ◌<◌, ◌≤◌, ◌==◌, Bool, true, false, if◌then◌else◌, nat_lt, List, [], ◌∷◌, ◌++◌, length, map, take, drop, slice_get, Option, Some, None, option_map, option_and_then, MatchOption, IfSome, IsSomeAnd, Result, Ok, Err}
+use Rattle.std.specs.Prelude.{◌≡◌, ℕ, ◌+◌, ◌-◌, ◌^◌, ◌<◌, ◌≤◌, ◌==◌, Bool, true, false, if◌then◌else◌, nat_lt, List, [], ◌∷◌, ◌++◌, length, map, take, drop, slice_get, Option, Some, None, option_map, option_and_then, MatchOption, IsSomeAnd, Result, Ok, Err}
 use Rattle.std.specs.List.{concat}
 use Rattle.intaglio_core.specs.Issue.{issue_from, interned_all}
 use Rattle.intaglio_core.specs.State.{State}
@@ -118,11 +118,15 @@ pub record AreCopied (strings : List (List ℕ)) (old new written : List ℕ) : 
   pub buffer : new ≡ concat strings ++ drop (length (concat strings)) old
   pub ends : written ≡ ends_from 0 strings
 
+-- there is a number of symbols whose strings, those of the first ones, are longer than a buffer
+abbrev pub DoNotFit : List (List ℕ) → List ℕ → List ℕ → Type 0
+DoNotFit contents symbols buffer = (n : ℕ) × (strings : List (List ℕ)) × (all_stored contents (take n symbols) ≡ Some strings) × (length buffer < length (concat strings))
+
 -- the strings of symbols are copied
 abbrev pub CopiesEach : List (List ℕ) → List ℕ → List ℕ → Result (Unit {0}) Refusal → List ℕ → List ℕ → Type 0
 CopiesEach contents symbols buffer (Ok _) buffer' ends = IsSomeAnd (all_stored contents symbols) (λ strings. AreCopied strings buffer buffer' ends)
 CopiesEach contents symbols buffer (Err NoSymbol) buffer' ends = all_stored contents symbols ≡ None
-CopiesEach contents symbols buffer (Err NoSpace) buffer' ends = IfSome (all_stored contents symbols) (λ strings. length buffer < length (concat strings))
+CopiesEach contents symbols buffer (Err NoSpace) buffer' ends = DoNotFit contents symbols buffer
 CopiesEach contents symbols buffer (Err _) buffer' ends = ⊥
 
 -- the same, with a place for the end of each

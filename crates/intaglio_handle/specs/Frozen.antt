@@ -2,9 +2,9 @@
 use Rattle.std.specs.Prelude.{◌≡◌, ◌⊎◌, ⊤, ℕ, ◌<◌, ◌≤◌, true, false, List, [], ◌∷◌, length, map, slice_get, Option, Some, None, MatchOption, MatchResult, Result, Ok, Err}
 use Rattle.intaglio_core.specs.State.{first}
 use Rattle.intaglio_frozen.specs.Fault.{IsFault}
-use Rattle.intaglio_frozen.specs.Freezing.{IsRefusal}
-use Rattle.intaglio_frozen.specs.IsFrozen.{HasSections, IsFrozen, number_of}
-use Rattle.intaglio_frozen.specs.Layout.{kind as kind_of, strings}
+use Rattle.intaglio_frozen.specs.Freezing.{HasKeys, IsRefusal, IsTableOf}
+use Rattle.intaglio_frozen.specs.IsFrozen.{HasSections, IsFrozen}
+use Rattle.intaglio_frozen.specs.Layout.{strings}
 use Rattle.intaglio_frozen.specs.declared.error.FreezeError.{FreezeError}
 use Rattle.intaglio_frozen.specs.declared.error.FreezeError.TheVariants as error
 use Rattle.intaglio_frozen.specs.declared.error.FrozenError.{FrozenError}
@@ -90,25 +90,24 @@ frozen_kind kind.BStr = frozen.Bytes
 frozen_kind kind.PackedText = frozen.Text
 frozen_kind kind.PackedBytes = frozen.Bytes
 
--- bytes are a frozen table of the strings of a table, as C sees them, each at its symbol
-pub record IsFrozenOf (t : Seen) (bs : List ℕ) : Type 0 where
-  pub frozen : IsFrozen bs
-  pub strings : strings bs ≡ t.state.contents
-  pub kind : kind_of bs ≡ number_of (frozen_kind t.kind)
+-- bytes are a frozen table of the strings of a table, as C sees them, each at its symbol, under these keys or the next ones
+pub record IsFrozenOf (t : Seen) (keys : ℕ × ℕ) (bs : List ℕ) : Type 0 where
+  pub table : IsTableOf (frozen_kind t.kind) t.state.contents bs
+  pub keyed : HasKeys keys.0 keys.1 bs
 
 -- the number of the bytes is written, and they are copied to the start of a buffer if it has space for them
-pub record IsWrittenTo (t : Seen) (old new : List ℕ) (size : ℕ) (bs : List ℕ) : Type 0 where
-  pub bytes : IsFrozenOf t bs
+pub record IsWrittenTo (t : Seen) (keys : ℕ × ℕ) (old new : List ℕ) (size : ℕ) (bs : List ℕ) : Type 0 where
+  pub bytes : IsFrozenOf t keys bs
   pub len : size ≡ length bs
   pub buffer : new ≡ filled old (Some bs)
 
--- a table is frozen, by the result
-abbrev pub Freezes : List ℕ → List ℕ → ℕ → ℕ → Seen → Result (Unit {0}) Refusal → Type 0
-Freezes buffer buffer' len len' t (Ok _) = (bs : List ℕ) × IsWrittenTo t buffer buffer' len' bs × (length bs ≤ length buffer)
-Freezes buffer buffer' len len' t (Err NoSpace) = (bs : List ℕ) × IsWrittenTo t buffer buffer' len' bs × (length buffer < length bs)
-Freezes buffer buffer' len len' t (Err refusal) = (error : FreezeError) × (refusal ≡ freeze_refusal error) × IsRefusal (frozen_kind t.kind) t.state.contents error × (buffer' ≡ buffer) × (len' ≡ len)
+-- a table is frozen under keys, by the result
+abbrev pub Freezes : ℕ × ℕ → List ℕ → List ℕ → ℕ → ℕ → Seen → Result (Unit {0}) Refusal → Type 0
+Freezes keys buffer buffer' len len' t (Ok _) = (bs : List ℕ) × IsWrittenTo t keys buffer buffer' len' bs × (length bs ≤ length buffer)
+Freezes keys buffer buffer' len len' t (Err NoSpace) = (bs : List ℕ) × IsWrittenTo t keys buffer buffer' len' bs × (length buffer < length bs)
+Freezes keys buffer buffer' len len' t (Err refusal) = (error : FreezeError) × (refusal ≡ freeze_refusal error) × IsRefusal (frozen_kind t.kind) t.state.contents error × (buffer' ≡ buffer) × (len' ≡ len)
 
 -- the same of the table that a handle holds
-abbrev pub FreezesHeld : Handle → List ℕ → List ℕ → ℕ → ℕ → Result (Unit {0}) Refusal → Type 0
-FreezesHeld handle buffer buffer' len len' result =
-    MatchOption (table_of handle) ((result ≡ Err NoTable) × (buffer' ≡ buffer) × (len' ≡ len)) (λ t. Freezes buffer buffer' len len' t result)
+abbrev pub FreezesHeld : Handle → ℕ × ℕ → List ℕ → List ℕ → ℕ → ℕ → Result (Unit {0}) Refusal → Type 0
+FreezesHeld handle keys buffer buffer' len len' result =
+    MatchOption (table_of handle) ((result ≡ Err NoTable) × (buffer' ≡ buffer) × (len' ≡ len)) (λ t. Freezes keys buffer buffer' len len' t result)

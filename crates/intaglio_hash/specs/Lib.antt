@@ -1,3 +1,4 @@
 -- What the contracts of this crate cite.
+pub mod FixedState
 pub mod KeyedState
 pub mod Push

@@ -5,6 +5,7 @@ ghost use Rattle.std.specs.Hash.DefaultHasher.{write_word as sip_write_word};
 ghost use Rattle.std.specs.Hash.DefaultHasher.{write as sip_write, finish as sip_finish};
 ghost use Rattle.intaglio_hash.specs.Push.{number, after_push};
 
+use crate::words::{read_half, read_word};
 use std::fmt;
 use std::fmt::{Debug, Formatter};
 use std::hash::Hasher;
@@ -132,31 +133,6 @@ impl KeyedHasher {
             self.tail = (number >> 8) >> (56 - 8 * held);
         }
     }
-}
-
-#[inline]
-fn read_word(bytes: &[u8], at: usize) -> u64
-    requires { at + 8 ≤ length bytes.now }
-    ensures { result ≡ number bytes.now at 0 8 }
-{
-    u64::from_le_bytes([
-        bytes[at],
-        bytes[at + 1],
-        bytes[at + 2],
-        bytes[at + 3],
-        bytes[at + 4],
-        bytes[at + 5],
-        bytes[at + 6],
-        bytes[at + 7],
-    ])
-}
-
-#[inline]
-fn read_half(bytes: &[u8], at: usize) -> u64
-    requires { at + 4 ≤ length bytes.now }
-    ensures { result ≡ number bytes.now at 0 4 }
-{
-    u32::from_le_bytes([bytes[at], bytes[at + 1], bytes[at + 2], bytes[at + 3]]) as u64
 }
 
 // Fewer than eight bytes as one number, by reads that may overlap.

@@ -1,10 +1,13 @@
 #![tactic(auto)]
-//! A hash builder with two keys. Its hashers compute SipHash-1-3, as std's `DefaultHasher` does.
+//! Hash builders: one with two keys, whose hashers compute SipHash-1-3, as std's `DefaultHasher` does, and
+//! one of fixed seed, whose hashers compute what std's `FoldHasher` does.
 //!
 //! A table hashes contents with the hashers of its hash builder. These are the builders to choose from:
 //!
-//! - std's `BuildHasherDefault<FoldHasher>`, a table's default, has a fixed seed. Use it where nobody
-//!   chooses contents to slow the program down: it is the fastest of the three.
+//! - [`FixedState`] has a fixed seed. Use it where nobody chooses contents to slow the program down: it is
+//!   the fastest. Packed tables have it by default.
+//! - std's `BuildHasherDefault<FoldHasher>`, the default of the other tables, has the same seed and hashes.
+//!   Use it where a type requires it.
 //! - [`KeyedState`] has two keys: random ones, or two numbers of yours. Use it where contents come from
 //!   untrusted sources, or where several tables or runs must agree on hashes.
 //! - std's `RandomState` has random keys. Use it where a type requires it. [`KeyedState::from_random`]
@@ -22,11 +25,18 @@
 //! - Hashes aren't signatures or checksums. 64 bits are too few for that, and SipHash-1-3 is the faster,
 //!   weaker form of SipHash-2-4.
 //!
-//! It is proved that the hashes are those of std's hasher with the same keys. That SipHash spreads hashes
-//! well and can't be predicted rests on the work of its authors.
+//! It is proved that the hashes are those of std's hashers: [`laws`] says so of `FixedState`, and the
+//! contracts of `KeyedState` for the same keys. That SipHash spreads hashes well and can't be predicted rests
+//! on the work of its authors.
 
+mod fixed_hasher;
+mod fixed_state;
 mod hasher;
+pub mod laws;
 mod state;
+mod words;
 
+pub use fixed_hasher::FixedHasher;
+pub use fixed_state::FixedState;
 pub use hasher::KeyedHasher;
 pub use state::KeyedState;

@@ -9,7 +9,7 @@ use Rattle.std.proofs.lemmas.List.Elements.{recursion_from_All}
 use Rattle.intaglio_content.specs.Work.{Event, step}
 use Rattle.intaglio_index.specs.declared.index.head.Head.{Head}
 use Rattle.intaglio_index.specs.Placed.{Placed, chain, chain_from, head_of, first_symbol_with, IsEntry, BeginsAtOrAbove, IsPredecessor}
-use Rattle.intaglio_index.specs.Found.{IsFound, IsPassed, IsReached, IsAt}
+use Rattle.intaglio_index.specs.Found.{IsFound, IsPassed, IsBehind, IsReached, IsAt}
 use Rattle.intaglio_index.specs.Heads.{IsHead}
 use Rattle.intaglio_index.proofs.ChainLemmas.{Each-weaker, Each-right, Each-append, eqb-equal, eqb-unequal, chain-complete, chain-each, chain-entries, entry_split, InOrder}
 use Rattle.intaglio_index.proofs.HeadLemmas.{IsOccupied, order, apart, entries, first_within, second_within, none_by_words, both_below, second_agrees}
@@ -42,10 +42,21 @@ pub begins : (h : ℕ) (path : List (ℕ × ℕ)) (old now : List Event) (candid
 begins h path old now candidate events next = record { front = []; rest = path; split = refl; next = next; smaller = tt; events = events }
 
 -- behind the first two
-pub begins_third : (h : ℕ) (path : List (ℕ × ℕ)) (old now : List Event) (candidate : Option (ℕ × ℕ)) (e f : ℕ × ℕ) (fs : List (ℕ × ℕ)) → path ≡ e ∷ f ∷ fs → e.1 < h → f.1 < h →
-    now ≡ old ++ replicate 3 step → candidate ≡ head_of fs → IsReached h path old now candidate
-begins_third h path old now candidate e f fs split first second events next =
-    record { front = e ∷ f ∷ []; rest = fs; split = split; next = next; smaller = (first, (second, tt)); events = events }
+pub begins_third : (h : ℕ) (path : List (ℕ × ℕ)) (old now : List Event) (candidate : Option (ℕ × ℕ)) (second : ℕ) (behind : IsBehind h path second) → now ≡ old ++ replicate 3 step →
+    ((before rest : List (ℕ × ℕ)) → path ≡ before ++ (second, behind.hash) ∷ rest → candidate ≡ head_of rest) → IsReached h path old now candidate
+begins_third h path old now candidate second behind events after =
+    record {
+      front = behind.first ∷ (second, behind.hash) ∷ [];
+      rest = behind.rest;
+      split = behind.split;
+      next = after (behind.first ∷ []) behind.rest behind.split;
+      smaller = (behind.first_smaller, (behind.smaller, tt));
+      events = events;
+    }
+
+-- the second is a placed symbol
+pub second_placed : (v : Placed) (h second : ℕ) (behind : IsBehind h (chain v (h % v.count)) second) → second < length v.hashes
+second_placed v h second behind = (rw behind.split at (chain-entries v (h % v.count))).1.0.0
 
 module _ (h : ℕ) (path : List (ℕ × ℕ)) (old now : List Event) where
   standing : (e : ℕ × ℕ) (at : IsReached h path old now (Some e)) → (behind : List (ℕ × ℕ)) × (path ≡ at.front ++ e ∷ behind)
@@ -118,16 +129,13 @@ module _ (v : Placed) (h size : ℕ) (head : Head) (some : 0 < size) (o : IsOccu
   absent_by_head first second end =
       absent_on v h (rw o.split (none_by_words size some h head o.e o.es (apart v (h % v.count) size head o) (order v (h % v.count) size head o) o.is first second end))
 
-  -- that the search goes on behind the second one
-  pub third : (candidate : Option (ℕ × ℕ)) → head.second / size ≢ h / size → head.second ≤ h → head.first ≢ head.second → new ≡ old ++ replicate 3 step →
-      ((b hash : ℕ) (before behind : List (ℕ × ℕ)) → chain v b ≡ before ++ (head.second % size, hash) ∷ behind → candidate ≡ head_of behind) →
-      IsReached h (chain v (h % v.count)) old new candidate
-  third candidate second at_most other events after =
+  -- that the first two have smaller ones
+  pub both_smaller : head.second / size ≢ h / size → head.second ≤ h → head.first ≢ head.second → IsBehind h (chain v (h % v.count)) (head.second % size)
+  both_smaller second at_most other =
       let r = both_below size some h head o.e o.es (order v (h % v.count) size head o) o.is second at_most other in
       let f_is : r.0 ≡ (head.second % size, r.0.1) = entry_is r.0 (head.second % size) r.0.1 (sym r.5) refl in
       let split : chain v (h % v.count) ≡ o.e ∷ r.0 ∷ r.1 = o.split ∙ ap (λ es. o.e ∷ es) r.2 in
-      let next : candidate ≡ head_of r.1 = after (h % v.count) r.0.1 (o.e ∷ []) r.1 (split ∙ ap (λ f. o.e ∷ f ∷ r.1) f_is) in
-      begins_third h (chain v (h % v.count)) old new candidate o.e r.0 r.1 split r.3 r.4 events next
+      record { first = o.e; hash = r.0.1; rest = r.1; split = split ∙ ap (λ f. o.e ∷ f ∷ r.1) f_is; first_smaller = r.3; smaller = r.4 }
 
   -- an entry of the bucket with the same high bits has the hash, if that was read or if the bucket tells the other bits
   sure_of : (e : ℕ × ℕ) → IsEntry v.count (h % v.count) v.hashes e → e.1 / size ≡ h / size → (get_or v.hashes e.0 0 ≡ h) ⊎ (v.count ≡ size) → e.1 ≡ h

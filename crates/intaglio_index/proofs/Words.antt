@@ -4,7 +4,7 @@ use Rattle.std.specs.Int.{IsPowerOfTwo, bit_at}
 use Rattle.std.specs.Int.RustNames.{bit_xor}
 use Rattle.std.specs.Int.Bits.{xor_self}
 use Rattle.std.proofs.lemmas.Bool.{cases_lt}
-use Rattle.std.proofs.lemmas.Nat.{pow_pos, pow_below, xor_shr, div-add-mod', div-mul-add, mod-mul-add, div_below, mod_below, mul-add-lt, le-div, pow-add}
+use Rattle.std.proofs.lemmas.Nat.{pow_pos, pow_below, xor_shr, xor_mod, div-add-mod', div-mul-add, mod-mul-add, div_below, mod_below, mul-add-lt, le-div, pow-add}
 use Rattle.std.proofs.lemmas.Nat.Bits.{bit_at_xor, bit_at-zero, bit_at-lt, same_from_bits}
 use Rattle.std.proofs.Math.Nat.{mul-le-mul_right}
 use Rattle.intaglio_index.specs.Heads.{IsWord}
@@ -40,6 +40,36 @@ agrees_is mask a b power =
     let at : bit_xor a b < 2 ^ power.0 ↔ (a / 2 ^ power.0 ≡ b / 2 ^ power.0) = agrees_at power.0 a b in
     let parted : bit_xor a b < mask + 1 ↔ (a / (mask + 1) ≡ b / (mask + 1)) = rw power.1 at in
     (λ l. parted.0 (omega arith), λ e. (let below : bit_xor a b < mask + 1 = parted.1 e in omega arith))
+
+-- what one of two numbers differs in from their difference is the other
+xor_undone : (a b : ℕ) → bit_xor (bit_xor a b) b ≡ a
+xor_undone a b =
+    same_from_bits (bit_xor (bit_xor a b) b) a
+    (λ i.
+    (let outer : bit_at (bit_xor (bit_xor a b) b) i ≡ (bit_at (bit_xor a b) i + bit_at b i) % 2 = bit_at_xor (bit_xor a b) b i in
+    let inner : bit_at (bit_xor a b) i ≡ (bit_at a i + bit_at b i) % 2 = bit_at_xor a b i in
+    omega (arith, outer, inner, bit_at-lt a i, bit_at-lt b i)))
+
+below_itself : (n size : ℕ) → 0 < size → n < size → n % size ≡ n
+below_itself n size some below =
+    let whole : n / size * size + n % size ≡ n = div-add-mod' n size in
+    let one : n < 1 * size = omega arith in
+    let least : n / size < 1 = div_below n size 1 some one in
+    let none : n / size ≡ 0 = omega arith in
+    let no_blocks : n / size * size ≡ 0 * size = ap (λ q. q * size) none in
+    omega (arith, whole, no_blocks)
+
+low_at : (k a b : ℕ) → a / 2 ^ k ≡ b / 2 ^ k → bit_xor (bit_xor a b) (b % 2 ^ k) ≡ a % 2 ^ k
+low_at k a b same =
+    let below : bit_xor a b < 2 ^ k = (agrees_at k a b).1 same in
+    let parts : bit_xor a b ≡ bit_xor (a % 2 ^ k) (b % 2 ^ k) = sym (below_itself (bit_xor a b) (2 ^ k) (pow_pos k) below) ∙ xor_mod a b k in
+    ap (λ n. bit_xor n (b % 2 ^ k)) parts ∙ xor_undone (a % 2 ^ k) (b % 2 ^ k)
+
+-- the low bits of a number by those of another with the same high bits
+pub low_beside : (mask a b low : ℕ) → IsPowerOfTwo (mask + 1) → a / (mask + 1) ≡ b / (mask + 1) → low ≡ b % (mask + 1) → bit_xor (bit_xor a b) low ≡ a % (mask + 1)
+low_beside mask a b low power same is =
+    let at : bit_xor (bit_xor a b) (b % 2 ^ power.0) ≡ a % 2 ^ power.0 = low_at power.0 a b (rw power.1 at same) in
+    rw (is, power.1) at
 
 module _ (size : ℕ) (some : 0 < size) where
   -- of two numbers in different blocks the one in the lower block is less

@@ -18,6 +18,15 @@ pub record IsPassed (path : List (ℕ × ℕ)) (old new : List Event) : Type 0 w
   pub few : more ≤ length path
   pub events : new ≡ old ++ replicate (more + 1) step
 
+-- the first two symbols, of which this is the second, have smaller hashes
+pub record IsBehind (h : ℕ) (path : List (ℕ × ℕ)) (second : ℕ) : Type 0 where
+  pub first : ℕ × ℕ
+  pub hash : ℕ
+  pub rest : List (ℕ × ℕ)
+  pub split : path ≡ first ∷ (second, hash) ∷ rest
+  pub first_smaller : first.1 < h
+  pub smaller : hash < h
+
 -- a search that has reached a candidate: the symbols before it have smaller hashes
 pub record IsReached (h : ℕ) (path : List (ℕ × ℕ)) (old now : List Event) (candidate : Option (ℕ × ℕ)) : Type 0 where
   pub front : List (ℕ × ℕ)

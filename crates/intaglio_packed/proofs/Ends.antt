@@ -2,6 +2,7 @@
 use Rattle.std.proofs.Common.{sym, ◌≡◌, ℕ, ◌+◌, ◌-◌, ◌<◌, ◌≤◌, suc, zero, List, [], ◌∷◌, ◌++◌, length, take, drop, get_or, slice_get, slice_range, Some, refl, ap, ◌∙◌, arith, length-drop, take_all, length-take-le, sum_by}
 use Rattle.std.proofs.lemmas.List.{drop_all, take-append-le, drop-append-le, drop-take, take-take}
 use Rattle.std.proofs.lemmas.List.Sums.{sum_by-cons}
+use Rattle.intaglio_content.specs.Store.{byte_room}
 use Rattle.intaglio_packed.specs.Strings.{strings_from, AreEnds}
 
 -- the first end is within the bytes
@@ -91,6 +92,11 @@ sum-lengths at bytes (e ∷ es) h =
     let one : length (slice_range bytes at e) ≡ e - at = length-take-le (e - at) (drop at bytes) (omega (arith, length-drop at bytes)) in
     let parts = sum_by-cons length (slice_range bytes at e) (strings_from e bytes es) in
     omega (arith, h.0, one, parts, within, sum-lengths e bytes es h.1)
+
+-- the room for bytes in total is the buffer's capacity
+pub byte_room-is : (capacity : ℕ) (bytes es : List ℕ) → AreEnds 0 (length bytes) es → length bytes ≤ capacity
+    → byte_room length (strings_from 0 bytes es) (capacity - length bytes) ≡ capacity
+byte_room-is capacity bytes es h within = omega (arith, sum-lengths 0 bytes es h)
 
 -- with no strings there are no bytes
 pub no_bytes : (all : ℕ) (es : List ℕ) → AreEnds 0 all es → length es ≡ 0 → all ≡ 0

@@ -1,6 +1,7 @@
 -- What a contract sees of a list of strings in one buffer.
 use Rattle.std.specs.Prelude.{◌≡◌, ℕ, ◌<◌, ◌≤◌, List, [], ◌∷◌, length, refl, slice_range}
 use Rattle.intaglio_content.specs.Key.{Key}
+use Rattle.intaglio_content.specs.Store.{byte_room}
 use Rattle.std.specs.Coded.{Coded, code_by, coded×, coded_ℕ, coded_list}
 
 -- the strings, for how many there is room in total, and the room for further bytes
@@ -43,3 +44,7 @@ pub record KeepsRoom (old new : Strings) : Type 0 where
   pub list : new.list ≡ old.list
   pub most : old.most ≤ new.most
   pub spare_bytes : old.spare_bytes ≤ new.spare_bytes
+
+-- the room for bytes in total: that of the strings, and what is spare
+abbrev pub byte_room_of : Strings → ℕ
+byte_room_of v = byte_room length v.list v.spare_bytes

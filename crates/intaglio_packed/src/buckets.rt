@@ -3,7 +3,7 @@ ghost use Rattle.std.specs.Prelude.{◌≡◌, ◌≤◌};
 ghost use Rattle.intaglio_packed.specs.Buckets.{sparse};
 
 // The most strings for which an index has two buckets each.
-const MOST_SPARSE: usize = 1 << 15;
+const MOST_SPARSE: usize = 1 << 12;
 
 // Twice as many buckets as strings while they are few: then half of the buckets are empty, most of the others
 // have one string, and all of them still fit in the cache.

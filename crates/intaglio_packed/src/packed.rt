@@ -1,7 +1,7 @@
 //! A list of strings in one buffer of bytes, with a list of their ends.
-ghost use Rattle.std.specs.Prelude.{◌≡◌, ◌+◌, ◌<◌, ◌≤◌, [], ◌∷◌, ◌++◌, length, min, sum_by, take, slice_get, slice_range, get_or, Some};
+ghost use Rattle.std.specs.Prelude.{◌≡◌, ◌+◌, ◌<◌, ◌≤◌, [], ◌∷◌, ◌++◌, length, max, min, sum_by, take, slice_get, slice_range, get_or, Some};
 ghost use Rattle.std.specs.Prelude.{IfOk, IsOk, OnOk, OnErr, option_copied};
-ghost use Rattle.intaglio_packed.specs.Strings.{HasRoom, KeepsRoom};
+ghost use Rattle.intaglio_packed.specs.Strings.{byte_room_of, HasRoom, KeepsRoom};
 
 use crate::iter::PackedIter;
 use std::alloc::{AllocError, Global};
@@ -197,6 +197,7 @@ impl Packed {
         ensures list { self.new.list ≡ take n self.old.list }
         ensures most { self.new.most ≡ self.old.most }
         ensures spare_bytes { self.old.spare_bytes ≤ self.new.spare_bytes }
+        ensures byte_room { byte_room_of self.new ≡ byte_room_of self.old }
     {
         if n < self.ends.len() {
             let end = start_of(&self.ends, n);
@@ -206,16 +207,30 @@ impl Packed {
     }
 
     /// Shrinks the room to `min_capacity` strings, or to those that there are if they are more, and the room for
-    /// bytes to those that there are. If an allocation fails, there is more room left.
-    pub fn shrink_to(&mut self, min_capacity: usize)
+    /// bytes to those that there are.
+    ///
+    /// # Errors
+    ///
+    /// [`AllocError`] if an allocation fails. Then there is more room left, as before at most.
+    pub fn shrink_to(&mut self, min_capacity: usize) -> Result<(), AllocError>
         ensures list { self.new.list ≡ self.old.list }
         ensures most { min min_capacity self.old.most ≤ self.new.most }
         ensures no_more { self.new.most ≤ self.old.most }
+        ensures no_more_bytes { self.new.spare_bytes ≤ self.old.spare_bytes }
+        ensures shrunk { OnOk result (self.new.most ≤ max (length self.old.list) min_capacity) }
+        ensures shrunk_bytes { OnOk result (self.new.spare_bytes ≡ 0) }
         ensures frees { length self.old.list ≡ 0 → min_capacity ≡ 0 → self.new.most ≡ 0 }
         ensures frees_bytes { length self.old.list ≡ 0 → self.new.spare_bytes ≡ 0 }
     {
         self.bytes.shrink_to_fit();
         self.ends.shrink_to(min_capacity);
+        // Std's shrinks don't report a failed allocation.
+        let exact = self.bytes.capacity() == self.bytes.len();
+        if exact && self.ends.capacity() <= self.ends.len().max(min_capacity) {
+            Ok(())
+        } else {
+            Err(AllocError)
+        }
     }
 
     /// Drops all strings.
@@ -223,6 +238,7 @@ impl Packed {
         ensures list { self.new.list ≡ [] }
         ensures most { self.new.most ≡ self.old.most }
         ensures spare_bytes { self.old.spare_bytes ≤ self.new.spare_bytes }
+        ensures byte_room { self.new.spare_bytes ≡ byte_room_of self.old }
     {
         self.bytes.clear();
         self.ends.clear();

@@ -1,13 +1,16 @@
 //! A packed list of strings as the store of a table.
-ghost use Rattle.std.specs.Prelude.{◌≡◌, ◌↔◌, ◌∷◌, [], IsTrue, length, ⊤, refl, ◌≤◌};
+ghost use Rattle.std.specs.Prelude.{◌≡◌, ◌↔◌, ◌∷◌, [], IsTrue, length, true, ⊤, refl, ◌≤◌};
 ghost use Rattle.intaglio_content.specs.Key.{hash_of};
 ghost use Rattle.intaglio_packed.specs.Buckets.{sparse, sparse-multiple};
+ghost use Rattle.intaglio_packed.specs.Strings.{packed_key};
+ghost use Rattle.intaglio_content.specs.Store.{IsPushed};
 
 use crate::buckets::sparse_buckets;
 use crate::packed::Packed;
 use crate::spelling::Spelling;
 use intaglio_content::{
-    ByteStore, CopiedTo, Lends, LookedUpIn, SoughtIn, SpelledStore, Store, Work, feed_item,
+    AddedTo, ByteStore, Copied, CopiedTo, Lends, LookedUpIn, SoughtIn, SpelledStore, Store, Work,
+    feed_item,
 };
 use std::alloc::{AllocError, Global};
 use std::hash::{BuildHasher, Hasher};
@@ -22,6 +25,8 @@ impl Store for Packed {
     ghost most = { λ p. p.most };
 
     ghost spare_bytes = { λ p. p.spare_bytes };
+
+    ghost takes = { length };
 
     ghost buckets_for = { sparse };
 
@@ -62,8 +67,8 @@ impl Store for Packed {
         Packed::clear(self);
     }
 
-    fn shrink_to(&mut self, min_capacity: usize) {
-        Packed::shrink_to(self, min_capacity);
+    fn shrink_to(&mut self, min_capacity: usize) -> Result<(), AllocError> {
+        Packed::shrink_to(self, min_capacity)
     }
 
     fn bucket_count(count: usize) -> usize {
@@ -104,23 +109,33 @@ impl SoughtIn<Packed> for &[u8] {
     }
 }
 
-impl CopiedTo<Packed> for &[u8] {
-    ghost form_spelling = { λ bytes. bytes.now };
+impl AddedTo<Packed, Copied> for &[u8] {
+    ghost adds = { λ bytes. IsPushed packed_key (λ w. w) (bytes.now ∷ []) bytes.now };
+
+    ghost copies = { true };
 
     ghost needs = { λ bytes. length bytes.now };
 
-    ghost fits = { λ bytes n. length bytes.now ≤ n };
+    ghost in_store = { ⊤ };
 
-    ghost is_copy = { λ _ _. ⊤ };
+    ghost is_prepared = { λ _ _. ⊤ };
 
     fn prepare(&self, store: &mut Packed) -> Result<(), AllocError> {
         store.reserve_bytes(self.len())
     }
 
-    fn push_copy(&self, copy: (), store: &mut Packed) {
-        let _ = copy;
-        store.push_reserved(*self);
+    fn push(self, prepared: (), store: &mut Packed) {
+        let _ = prepared;
+        store.push_reserved(self);
     }
+
+    ghost adds_one = { λ _ _ _ is. record { content = is.copy; same_key = is.same_key; added = is.added } };
+}
+
+impl CopiedTo<Packed> for &[u8] {
+    ghost form_spelling = { λ bytes. bytes.now };
+
+    ghost adds_copy = { λ _ _ _ is. is };
 
     ghost key_of_form = { λ _. refl };
 }
@@ -151,5 +166,5 @@ impl<'q> LookedUpIn<'q> for Packed {
 fn same_bytes(a: &[u8], b: &[u8]) -> bool
     ensures { IsTrue result ↔ (a.now ∷ [] ≡ b.now ∷ []) }
 {
-    *a == *b
+    intaglio_content::same_bytes(a, b)
 }

@@ -1,14 +1,16 @@
 //! Many texts in one buffer.
-ghost use Rattle.std.specs.Prelude.{◌≡◌, ◌+◌, ◌<◌, ◌≤◌, [], ◌∷◌, ◌++◌, length, ⊤, refl, sum_by, take, slice_get, Some, IfOk, IsOk, OnErr, OnOk};
-ghost use Rattle.intaglio_packed.specs.Strings.{HasRoom};
+ghost use Rattle.std.specs.Prelude.{◌≡◌, ◌+◌, ◌<◌, ◌≤◌, [], ◌∷◌, ◌++◌, length, true, ⊤, refl, sum_by, take, slice_get, Some, IfOk, IsOk, OnErr, OnOk};
+ghost use Rattle.intaglio_packed.specs.Strings.{byte_room_of, HasRoom};
 ghost use Rattle.intaglio_content.specs.Key.{hash_of};
 ghost use Rattle.intaglio_packed.specs.Buckets.{sparse, sparse-multiple};
+ghost use Rattle.intaglio_packed.specs.Strings.{packed_key};
+ghost use Rattle.intaglio_content.specs.Store.{IsPushed};
 
 use crate::buckets::sparse_buckets;
 use crate::packed::Packed;
 use crate::spelling::Spelling;
 use intaglio_content::{
-    ByteStore, CopiedTo, Lends, LookedUpIn, SoughtIn, SpelledStore, Store, Work,
+    AddedTo, ByteStore, Copied, CopiedTo, Lends, LookedUpIn, SoughtIn, SpelledStore, Store, Work,
 };
 use std::alloc::{AllocError, Global};
 use std::hash::BuildHasher;
@@ -92,6 +94,7 @@ impl Texts {
         ensures list { self.new.list ≡ take n self.old.list }
         ensures most { self.new.most ≡ self.old.most }
         ensures spare_bytes { self.old.spare_bytes ≤ self.new.spare_bytes }
+        ensures byte_room { byte_room_of self.new ≡ byte_room_of self.old }
     {
         self.strings.truncate(n);
     }
@@ -130,6 +133,8 @@ impl Store for Texts {
     ghost most = { λ t. t.most };
 
     ghost spare_bytes = { λ t. t.spare_bytes };
+
+    ghost takes = { length };
 
     ghost buckets_for = { sparse };
 
@@ -170,8 +175,8 @@ impl Store for Texts {
         self.strings.clear();
     }
 
-    fn shrink_to(&mut self, min_capacity: usize) {
-        self.strings.shrink_to(min_capacity);
+    fn shrink_to(&mut self, min_capacity: usize) -> Result<(), AllocError> {
+        self.strings.shrink_to(min_capacity)
     }
 
     fn bucket_count(count: usize) -> usize {
@@ -206,23 +211,33 @@ impl SoughtIn<Texts> for &str {
     }
 }
 
-impl CopiedTo<Texts> for &str {
-    ghost form_spelling = { λ text. text.now };
+impl AddedTo<Texts, Copied> for &str {
+    ghost adds = { λ text. IsPushed packed_key (λ w. w) (text.now ∷ []) text.now };
+
+    ghost copies = { true };
 
     ghost needs = { λ text. length text.now };
 
-    ghost fits = { λ text n. length text.now ≤ n };
+    ghost in_store = { ⊤ };
 
-    ghost is_copy = { λ _ _. ⊤ };
+    ghost is_prepared = { λ _ _. ⊤ };
 
     fn prepare(&self, store: &mut Texts) -> Result<(), AllocError> {
         store.reserve_bytes(self.len())
     }
 
-    fn push_copy(&self, copy: (), store: &mut Texts) {
-        let _ = copy;
-        store.push_reserved(*self);
+    fn push(self, prepared: (), store: &mut Texts) {
+        let _ = prepared;
+        store.push_reserved(self);
     }
+
+    ghost adds_one = { λ _ _ _ is. record { content = is.copy; same_key = is.same_key; added = is.added } };
+}
+
+impl CopiedTo<Texts> for &str {
+    ghost form_spelling = { λ text. text.now };
+
+    ghost adds_copy = { λ _ _ _ is. is };
 
     ghost key_of_form = { λ _. refl };
 }

@@ -19,5 +19,5 @@ pub use error::{InternError, RoomError, StaleMark, SymbolOverflowError};
 pub use mark::Mark;
 pub use symbol::Symbol;
 
-/// The capacity of a table whose constructor takes none.
+/// The capacity of a table that `new` or `with_hasher` makes.
 pub const DEFAULT_SYMBOL_TABLE_CAPACITY: usize = 4096;

@@ -3,7 +3,7 @@ use crate::checked_table::tell;
 use crate::fault::Fault;
 use crate::kinds::{Constructor, Stored, make_table};
 use intaglio::cstr::{CString, CStringError};
-use intaglio::{RoomError, Work, run};
+use intaglio::{Call, Moved, RoomError, Work, run};
 use std::alloc::{AllocError, Global};
 
 // One more than the most contents that a table can hold.
@@ -97,7 +97,13 @@ fn is_empty<C: Stored>(alloc: Global, constructor: Constructor) -> bool {
             table.is_empty()
                 && table.capacity() == 0
                 && matches!(table.reserve(TOO_MANY), Err(RoomError::CapacityOverflow))
-                && run(alloc, &mut table, Vec::new(alloc), &mut Work::new()).is_ok()
+                && run::<Moved, _, _>(
+                    alloc,
+                    &mut table,
+                    Vec::<Call<C>>::new(alloc),
+                    &mut Work::new(),
+                )
+                .is_ok()
         }
         Err(_) => false,
     }

@@ -3,6 +3,8 @@
 mod assertions;
 mod buckets;
 mod c_strings;
+mod chosen_strings;
+mod comparisons;
 mod components;
 mod conversions;
 mod core_calls;

@@ -1,7 +1,7 @@
 //! The table of byte slices in one buffer.
 use super::Packed;
 use crate::{StoreForms, StorePairs, TableOver};
-use std::hash::{BuildHasherDefault, FoldHasher};
+use intaglio_hash::FixedState;
 
 /// The byte slices of a table, in the order of their symbols.
 pub type Bytestrings<'a> = StoreForms<'a, Packed>;
@@ -18,4 +18,4 @@ pub type Iter<'a> = StorePairs<'a, Packed>;
 /// let symbol = table.get_or_intern(b"\x00\xff")?;
 /// assert!(rt; table.check_interned(b"\x00\xff") == Some(symbol));
 /// ```
-pub type SymbolTable<S = BuildHasherDefault<FoldHasher>> = TableOver<Packed, S>;
+pub type SymbolTable<S = FixedState> = TableOver<Packed, S>;

@@ -3,7 +3,9 @@ ghost use Rattle.std.specs.Prelude.{◌≡◌, ◌+◌, ◌<◌, ◌≤◌, [], 
 ghost use Rattle.intaglio_core.specs.State.{IsValid};
 ghost use Rattle.intaglio_core.specs.Lookup.{FindsNothing, Keeps, KeepsBelow};
 ghost use Rattle.intaglio_core.specs.Change.{Empties, Reserves, Shrinks, TakesBack};
+ghost use Rattle.intaglio_core.specs.Bytes.{ShrinksBytes};
 ghost use Rattle.intaglio_core.specs.Cost.{Costs, IsRoomCost};
+ghost use Rattle.intaglio_content.specs.Store.{byte_room};
 
 use super::IndexedStore;
 use intaglio_content::{ByteStore, Content, Store, Work};
@@ -19,6 +21,8 @@ impl<L: Store, S: BuildHasher> IndexedStore<L, S> {
         ensures step { Empties self.old.state self.new.state }
         ensures found { FindsNothing L.Content.key self.new.state }
         ensures bytes { self.old.spare_bytes ≤ self.new.spare_bytes }
+        ensures byte_room { self.new.spare_bytes
+            ≡ byte_room L.takes self.old.state.contents self.old.spare_bytes }
         ensures hasher { self.new.hasher ≡ self.old.hasher }
         ensures valid { IsValid L.Content.key self.new.state }
     {
@@ -47,8 +51,10 @@ impl<L: Store, S: BuildHasher> IndexedStore<L, S> {
         L::Content: Drop,
         ensures step { TakesBack self.old.state mark result self.new.state }
         ensures kept { OnOk result (KeepsBelow L.Content.key self.old.state mark self.new.state) }
-        ensures stale { OnErr result (self.new.state ≡ self.old.state) }
+        ensures stale { OnErr result (self.new ≡ self.old) }
         ensures bytes { self.old.spare_bytes ≤ self.new.spare_bytes }
+        ensures byte_room { byte_room L.takes self.new.state.contents self.new.spare_bytes
+            ≡ byte_room L.takes self.old.state.contents self.old.spare_bytes }
         ensures hasher { self.new.hasher ≡ self.old.hasher }
         ensures valid { IsValid L.Content.key self.new.state }
     {
@@ -61,7 +67,7 @@ impl<L: Store, S: BuildHasher> IndexedStore<L, S> {
         }
         if count < length {
             self.list.truncate(count);
-            self.index.truncate(count);
+            self.index.cut(count);
         }
         Ok(())
     }
@@ -109,7 +115,8 @@ impl<L: Store, S: BuildHasher> IndexedStore<L, S> {
         }
         self.list.reserve(additional)?;
         let total = count + additional;
-        self.index.reserve(total, L::bucket_count(total), work)?;
+        self.index
+            .reserve_sparse(total, L::bucket_count(total), work)?;
         Ok(())
     }
 
@@ -121,6 +128,7 @@ impl<L: Store, S: BuildHasher> IndexedStore<L, S> {
     /// `Memory` if the allocation of the smaller buckets fails, and then nothing has changed.
     pub fn shrink_to(&mut self, min_capacity: usize) -> Result<(), RoomError>
         ensures step { Shrinks self.old.state min_capacity result self.new.state }
+        ensures bytes { ShrinksBytes self.old.state min_capacity self.old.spare_bytes result self.new.spare_bytes }
         ensures hasher { self.new.hasher ≡ self.old.hasher }
         ensures valid { IsValid L.Content.key self.new.state }
     {
@@ -134,6 +142,7 @@ impl<L: Store, S: BuildHasher> IndexedStore<L, S> {
     /// As [`shrink_to`](IndexedStore::shrink_to).
     pub fn shrink_to_fit(&mut self) -> Result<(), RoomError>
         ensures step { Shrinks self.old.state 0 result self.new.state }
+        ensures bytes { ShrinksBytes self.old.state 0 self.old.spare_bytes result self.new.spare_bytes }
         ensures hasher { self.new.hasher ≡ self.old.hasher }
         ensures valid { IsValid L.Content.key self.new.state }
     {
@@ -143,6 +152,7 @@ impl<L: Store, S: BuildHasher> IndexedStore<L, S> {
     /// As [`shrink_to`](IndexedStore::shrink_to), and records in `work` what it did.
     pub fn shrink_with(&mut self, min_capacity: usize, work: &mut Work) -> Result<(), RoomError>
         ensures step { Shrinks self.old.state min_capacity result self.new.state }
+        ensures bytes { ShrinksBytes self.old.state min_capacity self.old.spare_bytes result self.new.spare_bytes }
         ensures hasher { self.new.hasher ≡ self.old.hasher }
         ensures cost { Costs work.old work.new (IsRoomCost self.old.state) }
         ensures valid { IsValid L.Content.key self.new.state }
@@ -153,7 +163,8 @@ impl<L: Store, S: BuildHasher> IndexedStore<L, S> {
         }
         let kept = count.max(min_capacity);
         self.index.rebuild(kept, L::bucket_count(kept), work)?;
-        self.list.shrink_to(kept);
+        // The buckets are what the capacity is now, also if the list keeps its memory.
+        let _ = self.list.shrink_to(kept);
         Ok(())
     }
 }

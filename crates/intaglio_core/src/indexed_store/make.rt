@@ -37,6 +37,35 @@ impl<L: Store> IndexedStore<L, BuildHasherDefault<FoldHasher>> {
         ensures overflow { (result ≡ Err CapacityOverflow) ↔ (2 ^ 32 < capacity) }
         ensures none_needed { capacity ≡ 0 → IsOk result }
     {
+        IndexedStore::with_rounded_capacity(alloc, capacity, BuildHasherDefault::new())
+    }
+}
+
+impl<L: Store, S: BuildHasher> IndexedStore<L, S> {
+    /// An empty table. Its capacity is `capacity` rounded up to a power of two; 0 stays 0, and allocates
+    /// nothing.
+    ///
+    /// # Errors
+    ///
+    /// `CapacityOverflow` if the capacity is above 2^32, which is checked before anything is allocated;
+    /// `Memory` if an allocation fails.
+    pub fn with_rounded_capacity(
+        alloc: Global,
+        capacity: usize,
+        hasher: S,
+    ) -> Result<IndexedStore<L, S>, RoomError>
+    where
+        L: Drop,
+        S: Drop,
+        ensures empty { IfOk result (λ t. t.state.contents ≡ []) }
+        ensures rounded { IfOk result (λ t. IsRounded capacity t.state.spare) }
+        ensures buckets { IfOk result (λ t. t.state.buckets ≡ t.state.spare) }
+        ensures limit { IfOk result (λ t. t.state.limit ≡ 2 ^ 32) }
+        ensures hasher { IfOk result (λ t. t.hasher ≡ hasher) }
+        ensures valid { IfOk result (λ t. IsValid L.Content.key t.state) }
+        ensures overflow { (result ≡ Err CapacityOverflow) ↔ (2 ^ 32 < capacity) }
+        ensures none_needed { capacity ≡ 0 → IsOk result }
+    {
         if capacity > SYMBOLS {
             return Err(RoomError::CapacityOverflow);
         }
@@ -45,11 +74,9 @@ impl<L: Store> IndexedStore<L, BuildHasherDefault<FoldHasher>> {
         } else {
             capacity.next_power_of_two()
         };
-        IndexedStore::with_capacity_and_hasher(alloc, rounded, BuildHasherDefault::new())
+        IndexedStore::with_capacity_and_hasher(alloc, rounded, hasher)
     }
-}
 
-impl<L: Store, S: BuildHasher> IndexedStore<L, S> {
     /// An empty table of the default capacity, [`DEFAULT_SYMBOL_TABLE_CAPACITY`].
     ///
     /// # Errors

@@ -2,15 +2,14 @@
 ghost use Rattle.std.specs.Prelude.{◌≡◌, ◌^◌, ◌≤◌, length, slice_get};
 ghost use Rattle.std.specs.Prelude.{option_copied, None, IfSome, IfOk, OnErr};
 ghost use Rattle.intaglio_content.specs.Key.{hash_of};
-ghost use Rattle.intaglio_core.specs.State.{first, IsValid};
-ghost use Rattle.intaglio_core.specs.Change.{Interns, InternsNew};
-ghost use Rattle.intaglio_core.specs.Lookup.{IsFound, IsStored, Keeps, FindsInterned, FindsOthers};
-ghost use Rattle.intaglio_core.specs.Cost.{Costs, InternCost, KnownInternCost};
-ghost use Rattle.intaglio_core.specs.Indexed.{AddCost};
+ghost use Rattle.intaglio_core.specs.State.{IsValid};
+ghost use Rattle.intaglio_core.specs.Change.{Interns};
+ghost use Rattle.intaglio_core.specs.Lookup.{IsFound, IsStored, Keeps, FindsOthers};
+ghost use Rattle.intaglio_core.specs.Cost.{Costs, InternCost};
 
-use super::{Core, find_room};
+use super::Core;
 use intaglio_content::{Keyed, Sought, Work};
-use intaglio_symbol::{InternError, Symbol, SymbolOverflowError};
+use intaglio_symbol::{InternError, Symbol};
 use std::hash::BuildHasher;
 
 impl<C: Keyed, S: BuildHasher> Core<C, S> {
@@ -59,55 +58,6 @@ impl<C: Keyed, S: BuildHasher> Core<C, S> {
         ensures hasher { self.new.hasher ≡ self.old.hasher }
         ensures valid { IsValid C.key self.new.state }
     {
-        let hash = content.hash_with(&self.hasher, work);
-        self.intern_hashed(hash, content, work)
-    }
-
-    // As `intern`, for a content whose hash is known.
-    #[inline(always)]
-    pub(crate) fn intern_hashed(
-        &mut self,
-        hash: u64,
-        content: C,
-        work: &mut Work,
-    ) -> Result<Symbol, InternError>
-    where
-        C: Sought<C> + Drop,
-        requires hash { hash ≡ hash_of S.BuildHasher S.Hasher.Hasher self.old.hasher (C.key content) }
-        ensures step { Interns C.key self.old.state content result self.new.state }
-        ensures interned { FindsInterned C.key self.old.state (C.key content) result self.new.state }
-        ensures cost { let hash = hash_of S.BuildHasher S.Hasher.Hasher self.old.hasher in
-            let cost = KnownInternCost C.key hash self.old.state in
-            Costs work.old work.new (cost (C.key content) result self.new.state) }
-        ensures hasher { self.new.hasher ≡ self.old.hasher }
-        ensures valid { IsValid C.key self.new.state }
-    {
-        match self.search_hashed(hash, &content, work) {
-            Some(symbol) => Ok(symbol),
-            None => self.add(hash, content, work),
-        }
-    }
-
-    // Adds a content that isn't stored.
-    #[inline(always)]
-    fn add(&mut self, hash: u64, content: C, work: &mut Work) -> Result<Symbol, InternError>
-    where
-        C: Drop,
-        requires hash { hash ≡ hash_of S.BuildHasher S.Hasher.Hasher self.old.hasher (C.key content) }
-        requires absent { first C.key self.old.state.contents (C.key content) ≡ None }
-        ensures step { InternsNew self.old.state content result self.new.state }
-        ensures cost { Costs work.old work.new (AddCost self.old.state result self.new.state) }
-        ensures hasher { self.new.hasher ≡ self.old.hasher }
-        ensures valid { IsValid C.key self.new.state }
-    {
-        let count = self.list.len();
-        if count >= self.limit {
-            return Err(InternError::Overflow(SymbolOverflowError::new()));
-        }
-        find_room(&mut self.list, &mut self.index, self.limit, work)?;
-        let symbol = Symbol::new(count as u32);
-        self.index.place(hash, symbol, work);
-        self.list.push_reserved(content);
-        Ok(symbol)
+        self.get_or_intern(content, work)
     }
 }

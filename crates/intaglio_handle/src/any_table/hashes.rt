@@ -66,16 +66,14 @@ impl AnyTable {
     #[inline(always)]
     pub(super) fn touch(&self, hash: u64) -> u8 {
         match self {
-            AnyTable::Text(table) => table.touch(&table.begin_search(hash), &""),
-            AnyTable::Bytes(table) => table.touch(&table.begin_search(hash), &""),
-            AnyTable::CStr(table) => table.touch(&table.begin_search(hash), &""),
-            AnyTable::Path(table) => table.touch(&table.begin_search(hash), &Path::new("")),
-            AnyTable::OsStr(table) => table.touch(&table.begin_search(hash), &""),
-            AnyTable::BStr(table) => table.touch(&table.begin_search(hash), &""),
-            AnyTable::PackedText(table) => table.touch(&table.begin_search(hash), &""),
-            AnyTable::PackedBytes(table) => {
-                table.touch(&table.begin_search(hash), &"".as_bytes())
-            }
+            AnyTable::Text(table) => table.touch_hashed(hash, &""),
+            AnyTable::Bytes(table) => table.touch_hashed(hash, &""),
+            AnyTable::CStr(table) => table.touch_hashed(hash, &""),
+            AnyTable::Path(table) => table.touch_hashed(hash, &Path::new("")),
+            AnyTable::OsStr(table) => table.touch_hashed(hash, &""),
+            AnyTable::BStr(table) => table.touch_hashed(hash, &""),
+            AnyTable::PackedText(table) => table.touch_hashed(hash, &""),
+            AnyTable::PackedBytes(table) => { table.touch_hashed(hash, &"".as_bytes()) }
         }
     }
 
@@ -109,28 +107,26 @@ impl AnyTable {
         let work = &mut Work::new();
         match self {
             AnyTable::Text(table) => {
-                symbol_answer(table.get_or_intern_hashed(hash, &text_of(bytes)?, work))
+                symbol_answer(table.intern_hashed(hash, text_of(bytes)?, work))
             }
-            AnyTable::Bytes(table) => {
-                symbol_answer(table.get_or_intern_hashed(hash, &bytes, work))
-            }
+            AnyTable::Bytes(table) => { symbol_answer(table.intern_hashed(hash, bytes, work)) }
             AnyTable::CStr(table) => {
-                symbol_answer(table.get_or_intern_hashed(hash, &c_str_of(bytes)?, work))
+                symbol_answer(table.intern_hashed(hash, c_str_of(bytes)?, work))
             }
             AnyTable::Path(table) => {
-                symbol_answer(table.get_or_intern_hashed(hash, &Path::new(text_of(bytes)?), work))
+                symbol_answer(table.intern_hashed(hash, Path::new(text_of(bytes)?), work))
             }
             AnyTable::OsStr(table) => {
-                symbol_answer(table.get_or_intern_hashed(hash, &text_of(bytes)?, work))
+                symbol_answer(table.intern_hashed(hash, text_of(bytes)?, work))
             }
             AnyTable::BStr(table) => {
-                symbol_answer(table.get_or_intern_hashed(hash, &BStr::new(bytes), work))
+                symbol_answer(table.intern_hashed(hash, BStr::new(bytes), work))
             }
             AnyTable::PackedText(table) => {
-                symbol_answer(table.get_or_intern_hashed(hash, &text_of(bytes)?, work))
+                symbol_answer(table.intern_hashed(hash, text_of(bytes)?, work))
             }
             AnyTable::PackedBytes(table) => {
-                symbol_answer(table.get_or_intern_hashed(hash, &bytes, work))
+                symbol_answer(table.intern_hashed(hash, bytes, work))
             }
         }
     }

@@ -52,7 +52,7 @@ fn freeze_table(
     key0: u64,
     key1: u64,
 ) -> Result<Vec<u8>, FreezeError>
-    ensures frozen { IfOk result (λ bytes. IsFrozenOf (seen table.now) bytes.items) }
+    ensures frozen { IfOk result (λ bytes. IsFrozenOf (seen table.now) (key0, key1) bytes.items) }
     ensures err { IfErr result (IsRefusal (frozen_kind (seen table.now).kind) (contents_of table.now)) }
 {
     freeze(alloc, table, frozen_kind(table), key0, key1)
@@ -74,7 +74,7 @@ impl Handle {
         buffer: &mut [u8],
         len: &mut usize,
     ) -> Result<(), Refusal>
-        ensures frozen { FreezesHeld self.old buffer.old buffer.new len.old len.new result }
+        ensures frozen { FreezesHeld self.old (key0, key1) buffer.old buffer.new len.old len.new result }
         ensures kept { Keeps self.old self.new }
     {
         if !self.live {

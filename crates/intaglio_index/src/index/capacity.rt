@@ -1,5 +1,5 @@
 //! Construction and capacity.
-ghost use Rattle.std.specs.Prelude.{◌≡◌, ◌<◌, ◌≤◌, [], length, replicate, None, IfOk, IsOk, OnErr, OnOk};
+ghost use Rattle.std.specs.Prelude.{◌≡◌, ◌<◌, ◌≤◌, [], length, replicate, max, vec_capacity, IfOk, IsOk, OnErr, OnOk};
 ghost use Rattle.intaglio_index.specs.Change.{KeepsPlaces, KeepsBuckets, PlacesEach};
 
 use super::Index;
@@ -67,14 +67,42 @@ impl Index {
     /// Reserves capacity for `count` symbols in total (not for `count` more, as `Vec::reserve` does). Placed
     /// symbols stay placed.
     ///
-    /// New buckets are made only if those that there are were made for fewer than `count`: then there are
-    /// exactly `buckets`, made for `count`. All symbols are placed again by their stored hashes: one placement
-    /// each.
+    /// New buckets are made only if there are fewer than `count`: then there are exactly `count`. All symbols
+    /// are placed again by their stored hashes: one placement each.
     ///
     /// # Errors
     ///
     /// [`AllocError`] if an allocation fails. Then the buckets and the symbols in them are unchanged.
-    pub fn reserve(
+    pub fn reserve(&mut self, count: usize, work: &mut Work) -> Result<(), AllocError>
+        ensures kept { KeepsPlaces self.old self.new }
+        ensures enough { OnOk result (count ≤ self.new.room) }
+        ensures made { OnOk result (self.new.count ≡ max self.old.count count) }
+        ensures for_symbols { OnOk result (self.new.places ≡ max self.old.places count) }
+        ensures places { OnOk result (self.old.count < count → PlacesEach self.old work.old work.new) }
+        ensures err { OnErr result (KeepsBuckets self.old self.new work.old work.new) }
+        ensures quiet { count ≤ self.old.count → work.new.events ≡ work.old.events }
+        ensures none_needed { count ≤ self.old.room → IsOk result }
+        ensures unchanged { count ≤ self.old.room → self.new ≡ self.old }
+    {
+        if count > self.heads.len() {
+            return self.rebuild(count, count, work);
+        }
+        reserve_total(&mut self.hashes, count)?;
+        reserve_total(&mut self.links, count)?;
+        self.places = self.places.max(count);
+        Ok(())
+    }
+
+    /// As [`reserve`](Index::reserve), for an index with more buckets than it can hold symbols, as
+    /// [`with_sparse_buckets`](Index::with_sparse_buckets) makes one.
+    ///
+    /// New buckets are made only if those that there are were made for fewer than `count`: then there are
+    /// exactly `buckets`, made for `count`.
+    ///
+    /// # Errors
+    ///
+    /// Those of [`reserve`](Index::reserve).
+    pub fn reserve_sparse(
         &mut self,
         count: usize,
         buckets: usize,
@@ -94,13 +122,7 @@ impl Index {
         if count > self.places {
             return self.rebuild(count, buckets, work);
         }
-        if count > self.hashes.capacity() {
-            self.hashes.reserve(count - self.hashes.len())?;
-        }
-        if count > self.links.capacity() {
-            self.links.reserve(count - self.links.len())?;
-        }
-        Ok(())
+        self.reserve(count, work)
     }
 
     /// Makes exactly `buckets` buckets, with capacity for `count` symbols. All symbols are placed again by their
@@ -124,6 +146,7 @@ impl Index {
         ensures err { OnErr result (self.new ≡ self.old) }
         ensures quiet { OnErr result (work.new.events ≡ work.old.events) }
         ensures places { OnOk result (PlacesEach self.old work.old work.new) }
+        ensures none_needed { buckets ≡ 0 → IsOk result }
     {
         *self = self.rebuilt(count, buckets, work)?;
         Ok(())
@@ -137,6 +160,7 @@ impl Index {
             index ≡ record { count = buckets; hashes = self.now.hashes; room = count; places = count }) }
         ensures quiet { OnErr result (work.new.events ≡ work.old.events) }
         ensures places { OnOk result (PlacesEach self.now work.old work.new) }
+        ensures none_needed { buckets ≡ 0 → IsOk result }
     {
         let mut index = Index::with_sparse_buckets(self.alloc, count, buckets)?;
         for (i, hash) in self.hashes.iter().enumerate() {
@@ -156,4 +180,18 @@ fn repeated<T: Copy>(alloc: Global, value: T, count: usize) -> Result<Vec<T>, Al
         list.push_reserved(value);
     }
     Ok(list)
+}
+
+// Reserves capacity for `count` items in total.
+fn reserve_total<T>(list: &mut Vec<T>, count: usize) -> Result<(), AllocError>
+    ensures items { list.new.items ≡ list.old.items }
+    ensures capacity { vec_capacity list.old ≤ vec_capacity list.new }
+    ensures enough { OnOk result (count ≤ vec_capacity list.new) }
+    ensures none_needed { count ≤ vec_capacity list.old → IsOk result }
+    ensures unchanged { count ≤ vec_capacity list.old → list.new ≡ list.old }
+{
+    if count > list.capacity() {
+        list.reserve(count - list.len())?;
+    }
+    Ok(())
 }

@@ -3,14 +3,14 @@ ghost use Rattle.std.specs.Prelude.{ℕ, ◌↔◌, IsTrue};
 ghost use Rattle.intaglio_index.specs.Filter.{IsMarked};
 
 // Whether the hash's bit is set.
-pub fn is_marked(filter: u8, hash: u64) -> bool
+pub(super) fn is_marked(filter: u8, hash: u64) -> bool
     ensures { IsTrue result ↔ IsMarked filter hash }
 {
     filter >> (hash >> 61) & 1 == 1
 }
 
 // The filter with the hash's bit set.
-pub fn marked(filter: u8, hash: u64) -> u8
+pub(super) fn marked(filter: u8, hash: u64) -> u8
     ensures set { IsMarked result hash }
     ensures kept { (other : ℕ) → IsMarked filter other → IsMarked result other }
 {

@@ -13,14 +13,14 @@ use intaglio_symbol::Symbol;
 
 /// The words of a bucket's first two symbols. If there is no second symbol, both are the first one's.
 #[derive(Clone, Copy)]
-pub struct Head {
-    pub first: u64,
-    pub second: u64,
+pub(super) struct Head {
+    pub(super) first: u64,
+    pub(super) second: u64,
 }
 
 impl Head {
     // The word that agrees with the hash, if one does: the first, or else the second.
-    pub fn matching_word(self, modulus: Modulus, hash: u64) -> u64
+    pub(super) fn matching_word(self, modulus: Modulus, hash: u64) -> u64
         requires { IsModulus modulus }
         ensures first { self.first / (modulus.mask + 1) ≡ hash / (modulus.mask + 1) → result ≡ self.first }
         ensures second { self.first / (modulus.mask + 1) ≢ hash / (modulus.mask + 1) → result ≡ self.second }
@@ -33,7 +33,7 @@ impl Head {
     }
 
     // The head after the symbol of `word` was inserted before all others. `alone`: there are no others.
-    pub fn with_first(self, alone: bool, word: u64) -> Head
+    pub(super) fn with_first(self, alone: bool, word: u64) -> Head
         ensures { (size s h : ℕ) (path : List (ℕ × ℕ)) → IsHead size self path → IsTrue alone ↔ (path ≡ []) →
             BeginsAtOrAbove h path → IsWord size (s, h) word → IsHead size result (insert_sorted s h path) }
     {
@@ -45,7 +45,7 @@ impl Head {
     }
 
     // The head after the symbol of `word` was inserted after `last`.
-    pub fn with_after(self, first_symbol: Option<Symbol>, last: Symbol, word: u64) -> Head
+    pub(super) fn with_after(self, first_symbol: Option<Symbol>, last: Symbol, word: u64) -> Head
         ensures { (size s h : ℕ) (path : List (ℕ × ℕ)) → IsHead size self path →
             first_symbol ≡ first_symbol_of path → IsDistinct nat_eq (symbols_of path) →
             IsPredecessor h path last → IsWord size (s, h) word →
@@ -67,7 +67,12 @@ impl Head {
     }
 
     // The head of the bucket whose first symbol is `first_symbol`.
-    pub fn read(modulus: Modulus, hashes: &[u64], links: &[Symbol], first_symbol: Symbol) -> Head
+    pub(super) fn read(
+        modulus: Modulus,
+        hashes: &[u64],
+        links: &[Symbol],
+        first_symbol: Symbol,
+    ) -> Head
         requires made { IsModulus modulus }
         requires few { length hashes.now ≤ modulus.mask + 1 }
         requires linked { (path : List (ℕ × ℕ)) × IsThread hashes.now links.now (Some first_symbol) path }

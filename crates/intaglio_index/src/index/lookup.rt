@@ -3,7 +3,7 @@ ghost use Rattle.std.specs.Prelude.{◌≡◌, ◌%◌, ◌<◌, ◌++◌, ◌�
 ghost use Rattle.std.specs.Prelude.{None, Some, MatchOption, IfSome};
 ghost use Rattle.std.specs.Option.{option_map};
 ghost use Rattle.intaglio_content.specs.Work.{Event, step};
-ghost use Rattle.intaglio_index.specs.Found.{IsFound, IsPassed, IsReached, IsAt};
+ghost use Rattle.intaglio_index.specs.Found.{IsFound, IsPassed, IsBehind, IsReached, IsAt};
 ghost use Rattle.intaglio_index.specs.Placed.{chain, bucket_of, head_of, first_symbol_of, first_symbol_with};
 ghost use Rattle.intaglio_index.specs.Placed.{IsBucket, IsAbsent, BeginsAtOrAbove, IsPredecessor};
 ghost use Rattle.intaglio_index.specs.Links.{entry_of};
@@ -32,27 +32,6 @@ impl Index {
         self.first_entry(self.modulus.bucket(hash))
     }
 
-    /// As [`first`](Index::first), but also `None` if the bucket's filter shows that no placed symbol has
-    /// this hash. One step.
-    ///
-    /// A bucket's filter is one byte. A look-up that finds nothing mostly reads nothing else.
-    pub fn first_with_filter(&self, hash: u64, work: &mut Work) -> Option<(Symbol, u64)>
-        ensures bucket { IsBucket self.now hash }
-        ensures first { IfSome result (λ found. Some found ≡ head_of (bucket_of self.now hash)) }
-        ensures none { result ≡ None → IsAbsent self.now hash }
-        ensures events { work.new.events ≡ work.old.events ++ step ∷ [] }
-    {
-        work.step(); // where the filter says no too
-        if self.heads.is_empty() {
-            return None;
-        }
-        let bucket = self.modulus.bucket(hash);
-        if !is_marked(self.filters[bucket], hash) {
-            return None;
-        }
-        self.first_entry(bucket)
-    }
-
     /// The first symbol with this hash, if one was placed.
     ///
     /// Takes one step for each symbol of the bucket up to it. If there is none, it takes at least one step,
@@ -65,7 +44,40 @@ impl Index {
         ensures none { result ≡ None → IsAbsent self.now hash }
         ensures passed { result ≡ None → IsPassed (bucket_of self.now hash) work.old.events work.new.events }
     {
+        if !self.modulus.is_power_of_two() {
+            return self.find_by_remainder(hash, work);
+        }
         work.step(); // also where the filter says no
+        let bucket = self.modulus.masked(hash);
+        if !is_marked(self.filters[bucket], hash) {
+            return None;
+        }
+        let head = self.heads[bucket];
+        let word = head.matching_word(self.modulus, hash);
+        if !self.modulus.agrees(word, hash) {
+            if hash < head.second || head.first == head.second {
+                return None;
+            }
+            return self.find_behind(self.modulus.symbol(head.second), hash, work);
+        }
+        let symbol = self.modulus.symbol_beside(word, hash, bucket);
+        if word == head.first {
+            return Some(symbol);
+        }
+        work.step(); // past the first symbol alone
+        Some(symbol)
+    }
+
+    // As `find`, where the number of buckets is no power of two: a word that agrees with the hash is confirmed
+    // by the stored hash. A call of its own, so that `find` is short where it is inlined.
+    #[inline(never)]
+    fn find_by_remainder(&self, hash: u64, work: &mut Work) -> Option<Symbol>
+        ensures found { IfSome result
+            (IsFound hash (bucket_of self.now hash) work.old.events work.new.events) }
+        ensures none { result ≡ None → IsAbsent self.now hash }
+        ensures passed { result ≡ None → IsPassed (bucket_of self.now hash) work.old.events work.new.events }
+    {
+        work.step(); // in an index without buckets too
         if self.heads.is_empty() {
             return None;
         }
@@ -79,20 +91,36 @@ impl Index {
             if hash < head.second || head.first == head.second {
                 return None;
             }
-            work.step(); // past the first symbol
-            work.step(); // and the second
-            let second = self.modulus.symbol(head.second);
-            return self.find_along(self.next_entry(second), hash, work);
+            return self.find_behind(self.modulus.symbol(head.second), hash, work);
         }
         let symbol = self.modulus.symbol(word);
-        if !self.modulus.is_power_of_two() && self.hashes[symbol.id() as usize] != hash {
+        if self.hashes[symbol.id() as usize] != hash {
             return self.find_along(self.first_entry(bucket), hash, work);
         }
         if word == head.first {
             return Some(symbol);
         }
-        work.step(); // past the first symbol alone
+        work.step(); // past the first symbol
         Some(symbol)
+    }
+
+    // The first symbol with the hash, where the first two symbols of its bucket have smaller ones. The search has
+    // made its step into the bucket.
+    #[inline(never)]
+    fn find_behind(&self, second: Symbol, hash: u64, work: &mut Work) -> Option<Symbol>
+        requires behind { IsBehind hash (bucket_of self.now hash) second }
+        requires begun { (start : List Event) × (work.old.events ≡ start ++ step ∷ []) }
+        ensures found { IfSome result (λ symbol. (start : List Event) →
+            work.old.events ≡ start ++ step ∷ [] →
+            IsFound hash (bucket_of self.now hash) start work.new.events symbol) }
+        ensures none { result ≡ None → IsAbsent self.now hash }
+        ensures passed { result ≡ None → (start : List Event) →
+            work.old.events ≡ start ++ step ∷ [] →
+            IsPassed (bucket_of self.now hash) start work.new.events }
+    {
+        work.step(); // past the first symbol
+        work.step(); // and the second
+        self.find_along(self.next_entry(second), hash, work)
     }
 
     // The first symbol with the hash, from a candidate on.

@@ -7,7 +7,7 @@ use intaglio_symbol::Symbol;
 
 /// A number of buckets, and what makes a division by it unnecessary.
 #[derive(Clone, Copy)]
-pub struct Modulus {
+pub(super) struct Modulus {
     count: u64,
     // The least power of two that is not below the count, minus one.
     mask: u64,
@@ -16,7 +16,7 @@ pub struct Modulus {
 }
 
 impl Modulus {
-    pub fn new(count: usize) -> Modulus
+    pub(super) fn new(count: usize) -> Modulus
         ensures made { IsModulus result }
         ensures count { result.count ≡ count }
     {
@@ -34,22 +34,31 @@ impl Modulus {
     }
 
     // Whether the count is a power of two.
-    pub fn is_power_of_two(self) -> bool
+    pub(super) fn is_power_of_two(self) -> bool
         requires { IsModulus self }
         ensures { IsTrue result ↔ (self.count ≡ self.mask + 1) }
     {
         self.mask < self.count
     }
 
+    // The bucket of a hash, if the count is a power of two.
+    pub(super) fn masked(self, hash: u64) -> usize
+        requires made { IsModulus self }
+        requires power { self.count ≡ self.mask + 1 }
+        ensures { result ≡ hash % self.count }
+    {
+        (hash & self.mask) as usize
+    }
+
     // The bucket of a hash.
     #[inline]
-    pub fn bucket(self, hash: u64) -> usize
+    pub(super) fn bucket(self, hash: u64) -> usize
         requires made { IsModulus self }
         requires some { 0 < self.count }
         ensures { result ≡ hash % self.count }
     {
         if self.is_power_of_two() {
-            (hash & self.mask) as usize
+            self.masked(hash)
         } else {
             remainder(hash, self.count, self.inverse) as usize
         }
@@ -59,7 +68,7 @@ impl Modulus {
 // A word is a hash with a symbol in place of the bits under the mask. If the count is a power of two, these
 // bits are the number of the bucket, so a word and its bucket give the whole hash.
 impl Modulus {
-    pub fn word(self, hash: u64, symbol: Symbol) -> u64
+    pub(super) fn word(self, hash: u64, symbol: Symbol) -> u64
         requires made { IsModulus self }
         requires below { symbol < self.mask + 1 }
         ensures word { IsWord (self.mask + 1) (symbol, hash) result }
@@ -69,7 +78,7 @@ impl Modulus {
     }
 
     // The symbol of a word.
-    pub fn symbol(self, word: u64) -> Symbol
+    pub(super) fn symbol(self, word: u64) -> Symbol
         requires made { IsModulus self }
         requires number { word % (self.mask + 1) < 2 ^ 32 }
         ensures { result ≡ word % (self.mask + 1) }
@@ -77,8 +86,19 @@ impl Modulus {
         Symbol::new((word & self.mask) as u32)
     }
 
+    // The symbol of a word that agrees with a hash, by the bits under the mask in which they differ.
+    pub(super) fn symbol_beside(self, word: u64, hash: u64, bucket: usize) -> Symbol
+        requires made { IsModulus self }
+        requires agree { word / (self.mask + 1) ≡ hash / (self.mask + 1) }
+        requires bucket { bucket ≡ hash % (self.mask + 1) }
+        requires number { word % (self.mask + 1) < 2 ^ 32 }
+        ensures { result ≡ word % (self.mask + 1) }
+    {
+        Symbol::new((word ^ hash ^ bucket as u64) as u32)
+    }
+
     // Whether a word and a hash have the same bits above the mask.
-    pub fn agrees(self, word: u64, hash: u64) -> bool
+    pub(super) fn agrees(self, word: u64, hash: u64) -> bool
         requires { IsModulus self }
         ensures { IsTrue result ↔ (word / (self.mask + 1) ≡ hash / (self.mask + 1)) }
     {
@@ -86,7 +106,7 @@ impl Modulus {
     }
 
     // The hash with the bits under the mask cleared.
-    pub fn high(self, hash: u64) -> u64
+    pub(super) fn high(self, hash: u64) -> u64
         requires { IsModulus self }
         ensures { result ≡ hash / (self.mask + 1) * (self.mask + 1) }
     {

@@ -99,7 +99,7 @@ impl Index {
     /// the buckets and the capacity stay.
     ///
     /// Costs a walk along a bucket for each removed symbol.
-    pub fn truncate(&mut self, count: usize)
+    pub fn cut(&mut self, count: usize)
         requires { count ≤ length self.old.hashes }
         ensures hashes { self.new.hashes ≡ take count self.old.hashes }
         ensures count { self.new.count ≡ self.old.count }

@@ -1,15 +1,15 @@
 //! Batches of contents or forms.
-ghost use Rattle.std.specs.Prelude.{◌≡◌, ◌<◌, length, map, IfErr, IfOk, OnErr, OnOk};
+ghost use Rattle.std.specs.Prelude.{◌≡◌, ◌<◌, length, map, sum_by, IfErr, IfOk, OnErr, OnOk};
 ghost use Rattle.intaglio_content.specs.Key.{hash_of};
 ghost use Rattle.intaglio_core.specs.State.{first};
 ghost use Rattle.intaglio_core.specs.Lookup.{FindsEach, FindsEachKey, Keeps, StoresEach, StoresEachKey};
 ghost use Rattle.intaglio_core.specs.Issue.{interned_all, issue_from};
 ghost use Rattle.intaglio_core.specs.Batch.{IfOverflow, StaysValid};
+ghost use Rattle.intaglio_core.specs.Bytes.{KeepsBytes};
 
 use super::{Table, TableOver};
 use intaglio_core::{
     Content, InternError, LookedUpIn, Sought, SoughtIn, Symbol, Work, check_all, get_or_intern_all,
-    intern_all,
 };
 use std::alloc::AllocError;
 use std::hash::BuildHasher;
@@ -49,8 +49,7 @@ impl<C: Content + Sought<C> + Drop, S: BuildHasher> Table<C, S> {
         ensures table { let hash = hash_of S.BuildHasher S.Hasher.Hasher in
             StaysValid C.key (hash self.old.hasher) self.old.state (hash self.new.hasher) self.new.state }
     {
-        let alloc = self.core.allocator();
-        intern_all(alloc, &mut self.core, contents, &mut Work::new())
+        self.core.intern_all(contents, &mut Work::new())
     }
 }
 
@@ -93,7 +92,7 @@ where
     ///
     /// `Overflow` if the table can't hold them all; `Memory` if the allocation of a list as long as the
     /// batch, of a copy or of a growth of the table fails. After an error the contents of the table are
-    /// unchanged and its capacity isn't lower.
+    /// unchanged, its capacity isn't lower, and there is no less room for bytes.
     ///
     /// ```
     /// # use intaglio::{Symbol, SymbolTable};
@@ -119,6 +118,8 @@ where
             IfErr result (λ e. IfOverflow e (self.old.state.limit < length all)) }
         ensures table { let hash = hash_of S.BuildHasher S.Hasher.Hasher in
             StaysValid L.Content.key (hash self.old.hasher) self.old.state (hash self.new.hasher) self.new.state }
+        ensures bytes { KeepsBytes L.takes (sum_by L.By.needs forms.now) self.old.state.contents
+            self.old.spare_bytes result self.new.state.contents self.new.spare_bytes }
     {
         let alloc = self.core.allocator();
         get_or_intern_all(alloc, &mut self.core, forms, &mut Work::new())

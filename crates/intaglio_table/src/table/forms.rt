@@ -1,13 +1,14 @@
 //! Interning by a borrowed form.
-ghost use Rattle.std.specs.Prelude.{◌≡◌, ◌+◌, ◌<◌, ◌≤◌, IfOk, OnErr};
+ghost use Rattle.std.specs.Prelude.{◌≡◌, ◌<◌, ◌≤◌, IfOk, OnErr};
 ghost use Rattle.intaglio_content.specs.Key.{hash_of};
 ghost use Rattle.intaglio_core.specs.State.{IsValid};
 ghost use Rattle.intaglio_core.specs.Cost.{Costs, KnownInternCost};
-ghost use Rattle.intaglio_core.specs.Change.{InternsForm, IsNotMemory};
+ghost use Rattle.intaglio_core.specs.Bytes.{InternsBytes};
+ghost use Rattle.intaglio_core.specs.Change.{InternsValue, InternsForm, IsNotMemory};
 ghost use Rattle.intaglio_core.specs.Lookup.{FindsInterned, FindsOthers, IsFound, IsStored, Keeps};
 
 use super::TableOver;
-use intaglio_core::{Content, CopiedTo, InternError, LookedUpIn, Store, Symbol, Work};
+use intaglio_core::{AddedTo, Content, InternError, LookedUpIn, Store, Symbol, Work};
 use std::hash::BuildHasher;
 
 impl<'q, L: LookedUpIn<'q>, S: BuildHasher> TableOver<L, S>
@@ -23,7 +24,7 @@ where
     ///
     /// `Overflow` if the form is new and the table holds as many contents as its limit; `Memory`
     /// if it is new and the allocation of the copy, or of a growth of the table, fails. After an
-    /// error the contents are unchanged.
+    /// error the contents are unchanged, and there is no less room for bytes.
     ///
     /// ```
     /// # use intaglio::SymbolTable;
@@ -46,13 +47,14 @@ where
         ensures kept { Keeps L.Content.key self.old.state self.new.state }
         ensures others { FindsOthers L.Content.key self.old.state (L.By.key form) self.new.state }
         ensures refused { OnErr result (self.new.state.contents ≡ self.old.state.contents) }
-        ensures bytes { self.old.spare_bytes ≤ self.new.spare_bytes + L.By.needs form }
-        ensures none_needed { 0 < self.old.state.spare → L.By.fits form self.old.spare_bytes →
+        ensures bytes { let interns = InternsBytes L.takes L.Content.key (L.By.needs form) (L.By.key form) in
+            interns self.old.state self.old.spare_bytes result self.new.state self.new.spare_bytes }
+        ensures none_needed { 0 < self.old.state.spare → L.By.in_store → L.By.needs form ≤ self.old.spare_bytes →
             IsNotMemory result }
         ensures hasher { self.new.hasher ≡ self.old.hasher }
         ensures valid { IsValid L.Content.key self.new.state }
     {
-        self.core.get_or_intern(&form, &mut Work::new())
+        self.core.get_or_intern(form, &mut Work::new())
     }
 }
 
@@ -61,32 +63,33 @@ where
     L::Content: Content,
     L::Prepared: Drop,
 {
-    /// As [`get_or_intern`](TableOver::get_or_intern), for a form whose hash is known: nothing is hashed. Records
-    /// in `work` what it does, as the call of the same name of `FormInterner` does.
+    /// As [`get_or_intern`](TableOver::get_or_intern), for a content or a form whose hash is known: nothing is
+    /// hashed. Records in `work` what it does, as the call of the same name of `FormInterner` does.
     ///
     /// # Errors
     ///
     /// Those of [`get_or_intern`](TableOver::get_or_intern).
     #[inline(always)]
-    pub fn get_or_intern_hashed<Q: CopiedTo<L>>(
+    pub fn intern_hashed<H, Q: AddedTo<L, H>>(
         &mut self,
         known_hash: u64,
-        form: &Q,
+        value: Q,
         work: &mut Work,
     ) -> Result<Symbol, InternError>
-        requires known { known_hash ≡ hash_of S.BuildHasher S.Hasher.Hasher self.old.hasher (Q.key form.now) }
-        ensures step { let interns = InternsForm L.Content.key L.Content.spelling self.old.state in
-            interns (Q.key form.now) (Q.form_spelling form.now) result self.new.state }
-        ensures interned { FindsInterned L.Content.key self.old.state (Q.key form.now) result self.new.state }
+        requires known { known_hash ≡ hash_of S.BuildHasher S.Hasher.Hasher self.old.hasher (Q.key value) }
+        ensures step { InternsValue L.Content.key (Q.adds value) Q.copies self.old.state (Q.key value) result
+            self.new.state }
+        ensures interned { FindsInterned L.Content.key self.old.state (Q.key value) result self.new.state }
         ensures cost { let hash = hash_of S.BuildHasher S.Hasher.Hasher self.old.hasher in
             let cost = KnownInternCost L.Content.key hash self.old.state in
-            Costs work.old work.new (cost (Q.key form.now) result self.new.state) }
-        ensures bytes { self.old.spare_bytes ≤ self.new.spare_bytes + Q.needs form.now }
-        ensures none_needed { 0 < self.old.state.spare → Q.fits form.now self.old.spare_bytes →
+            Costs work.old work.new (cost (Q.key value) result self.new.state) }
+        ensures bytes { let interns = InternsBytes L.takes L.Content.key (Q.needs value) (Q.key value) in
+            interns self.old.state self.old.spare_bytes result self.new.state self.new.spare_bytes }
+        ensures none_needed { 0 < self.old.state.spare → Q.in_store → Q.needs value ≤ self.old.spare_bytes →
             IsNotMemory result }
         ensures hasher { self.new.hasher ≡ self.old.hasher }
         ensures valid { IsValid L.Content.key self.new.state }
     {
-        self.core.get_or_intern_hashed(known_hash, form, work)
+        self.core.intern_hashed(known_hash, value, work)
     }
 }

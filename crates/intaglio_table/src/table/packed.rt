@@ -3,6 +3,7 @@ ghost use Rattle.std.specs.Prelude.{◌≡◌, ◌≤◌, length, map, sum_by, I
 ghost use Rattle.intaglio_core.specs.State.{IsValid};
 
 mod bytes;
+mod making;
 mod texts;
 
 use super::TableOver;
@@ -21,8 +22,8 @@ where
         self.core.byte_count()
     }
 
-    /// Makes room for this many more bytes of contents. With room for as many contents, too, which
-    /// [`reserve`](TableOver::reserve) makes, an interning never fails for memory.
+    /// Makes room for this many more bytes of contents. While there is spare capacity too, which
+    /// [`reserve`](TableOver::reserve) makes, to intern a string whose bytes fit never fails for memory.
     ///
     /// # Errors
     ///

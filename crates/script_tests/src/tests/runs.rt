@@ -2,17 +2,22 @@
 use super::contents::{TestContent, borrowed_content, content};
 use super::printed::reply_text;
 use super::script::{Line, same_text, size, symbol};
-use intaglio::{Call, Interner, Mark, Reply, Work, run};
+use intaglio::{Call, Mark, Moved, Reply, Table, Work, run};
 use std::alloc::Global;
+use std::hash::BuildHasher;
 use std::process::Abort;
 
 /// Makes the calls of a script in one run.
-pub fn runs<T: Interner + Drop>(rt: &impl Abort, alloc: Global, mut table: T, script: &'static str)
-where
-    T::Content: TestContent,
-{
-    let calls = calls_of(rt, alloc, script);
-    let replies = run(alloc, &mut table, calls, &mut Work::new()).expect(rt, "memory");
+pub fn runs<C: TestContent, S: BuildHasher + Drop>(
+    rt: &impl Abort,
+    alloc: Global,
+    mut table: Table<C, S>,
+    script: &'static str,
+) {
+    let calls = calls_of::<C>(rt, alloc, script);
+    let replies = run::<Moved, _, _>(alloc, &mut table, calls, &mut Work::new()).expect(
+        rt, "memory",
+    );
     agree(rt, alloc, script, replies.as_slice());
 }
 

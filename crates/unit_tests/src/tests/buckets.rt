@@ -79,11 +79,11 @@ fn a_search_finds_the_symbols_of_its_hash(rt: HostRuntime) {
 #[test]
 fn a_cut_leaves_the_first_symbols(rt: HostRuntime) {
     let mut index = filled(&rt, &[13, 3, 23, 8, 13]);
-    index.truncate(5);
+    index.cut(5);
     meets(&rt, &index, 5, 3, &[1, 3, 4, 0, 2]);
-    index.truncate(3);
+    index.cut(3);
     meets(&rt, &index, 3, 3, &[1, 0, 2]);
-    index.truncate(0);
+    index.cut(0);
     meets(&rt, &index, 0, 3, &[]);
     same(&rt, (index.bucket_count(), index.room()), (5, 5));
 }
@@ -104,7 +104,7 @@ fn a_cleared_index_takes_symbols_again(rt: HostRuntime) {
 fn a_shrink_keeps_symbols(rt: HostRuntime) {
     let mut work = Work::new();
     let mut index = filled(&rt, &[13, 3, 23, 8, 14]);
-    index.truncate(3);
+    index.cut(3);
     index.rebuild(3, 3, &mut work).expect(&rt, "no memory");
     same(&rt, (index.bucket_count(), index.room()), (3, 3));
     meets(&rt, &index, 3, 0, &[1]);
@@ -126,12 +126,31 @@ fn sparse_buckets_split_those_of_one_bucket_each(rt: HostRuntime) {
     index.rebuild(3, 3, &mut work).expect(&rt, "no memory");
     same(&rt, (index.bucket_count(), index.places()), (3, 3));
     meets(&rt, &index, 3, 1, &[2, 1, 0]);
-    index.reserve(4, 8, &mut work).expect(&rt, "no memory");
+    index
+        .reserve_sparse(4, 8, &mut work)
+        .expect(&rt, "no memory");
     same(&rt, (index.bucket_count(), index.places()), (8, 4));
     same(&rt, index.room(), 4);
     meets(&rt, &index, 3, 1, &[2]);
     meets(&rt, &index, 3, 4, &[1]);
     meets(&rt, &index, 3, 7, &[0]);
+}
+
+#[test]
+fn a_reservation_makes_buckets_only_if_there_are_fewer(rt: HostRuntime) {
+    let mut work = Work::new();
+    let mut index = Index::with_sparse_buckets(rt.alloc(), 2, 6).expect(&rt, "no memory");
+    index.place(7, Symbol::new(0), &mut work);
+    index.place(4, Symbol::new(1), &mut work);
+    index.reserve(1, &mut work).expect(&rt, "no memory");
+    same(&rt, (index.bucket_count(), index.places()), (6, 2));
+    index.reserve(6, &mut work).expect(&rt, "no memory");
+    same(&rt, (index.bucket_count(), index.places()), (6, 6));
+    meets(&rt, &index, 2, 1, &[0]);
+    index.reserve(7, &mut work).expect(&rt, "no memory");
+    same(&rt, (index.bucket_count(), index.places()), (7, 7));
+    meets(&rt, &index, 2, 0, &[0]);
+    meets(&rt, &index, 2, 4, &[1]);
 }
 
 // A hash for each number, spread over the buckets.
@@ -182,7 +201,7 @@ fn grow<Rt: Abort>(rt: &Rt, index: &mut Index, from: u32, to: u32)
 {
     let mut work = Work::new();
     index
-        .reserve(to as usize, to as usize, &mut work)
+        .reserve(to as usize, &mut work)
         .expect(rt, "no memory");
     for number in from..to {
         index.place(spread(number), Symbol::new(number), &mut work);

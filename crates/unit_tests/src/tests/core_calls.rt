@@ -1,8 +1,8 @@
 //! Each public call of `Core`, made once on a table with random keys.
 use super::assertions::same;
 use intaglio::{
-    Call, CopiedTo, Core, FormInterner, Mark, RoomError, SpelledInterner, StrContent, Symbol,
-    SymbolTable, Work, packed, run, run_forms,
+    Call, CopiedTo, Core, FormInterner, Interner, Mark, RoomError, SpelledStore, StrContent,
+    Symbol, SymbolTable, Work, packed, run,
 };
 use std::alloc::Global;
 use std::hash::RandomState;
@@ -26,6 +26,15 @@ fn each_constructor_makes_a_table(rt: HostRuntime) {
     same(&rt, rounded(rt.alloc(), 10), Ok(16));
     let hasher = RandomState::new(&rt).expect(&rt, "a seed");
     same(&rt, limited(rt.alloc(), 2, hasher), Ok(2));
+}
+
+#[test]
+fn a_counted_interning_gives_the_symbol(rt: HostRuntime) {
+    let mut table: Core<StrContent, Fold> = Core::with_capacity(rt.alloc(), 0).expect(
+        &rt, "memory",
+    );
+    let symbol = table.intern_counted(StrContent::from("abc"), &mut Work::new());
+    same(&rt, symbol, Ok(Symbol::new(0)));
 }
 
 // Makes the calls, and prints their replies.
@@ -109,7 +118,7 @@ const REPLIES_BY_FORMS: &str = "[Symbol(Some(Symbol(0))), Symbol(Some(Symbol(0))
     Pair(Some((Symbol(0), [97, 98, 99]))), Bool(false), Bool(false), Spelling(Some([97, 98, 99])), \
     Count(1), Done, Bool(true), Done, Done, Done, Done]";
 
-fn runs_by_forms<'a, T: SpelledInterner>(
+fn runs_by_forms<'a, T: FormInterner>(
     rt: &impl Abort,
     alloc: Global,
     table: &mut T,
@@ -117,10 +126,11 @@ fn runs_by_forms<'a, T: SpelledInterner>(
     other: &'a str,
 )
 where
+    T::Store: SpelledStore,
     &'a str: CopiedTo<T::Store>,
 {
     let calls = calls_by_forms(rt, alloc, text, other);
-    let replies = run_forms(alloc, table, calls, &mut Work::new()).expect(rt, "memory");
+    let replies = run(alloc, table, calls, &mut Work::new()).expect(rt, "memory");
     let printed = format!(in alloc; "{replies:?}").expect(rt, "memory");
     same(rt, printed.as_str(), REPLIES_BY_FORMS);
 }

@@ -3,7 +3,7 @@ use super::assertions::{copy_of, holds, same};
 use intaglio::Symbol;
 use intaglio::packed::bytes::SymbolTable;
 use intaglio_frozen::{Frozen, FrozenError, TrustedFrozen};
-use std::hash::BuildHasherDefault;
+use intaglio_hash::FixedState;
 use std::process::Abort;
 
 // The table of `abc`, the empty string and `xy` under the keys 1 and 2, as `checks/frozen_tables.py` writes it.
@@ -65,9 +65,7 @@ fn a_batch_is_looked_up_in_a_frozen_table(rt: HostRuntime) {
 #[test]
 fn a_frozen_table_is_thawed(rt: HostRuntime) {
     let frozen = Frozen::open(&TABLE).expect(&rt, "no table");
-    let mut thawed: SymbolTable = frozen
-        .thaw(rt.alloc(), BuildHasherDefault::new())
-        .expect(&rt, "memory");
+    let mut thawed: SymbolTable = frozen.thaw(rt.alloc(), FixedState).expect(&rt, "memory");
     same(&rt, thawed.len(), 3);
     for (symbol, string) in &frozen {
         same(&rt, thawed.get(symbol), Some(string));

@@ -1,9 +1,12 @@
-//! Hashes of `KeyedHasher`, compared with those of Rust's own `DefaultHasher` and, with keys, of `SipHasher13`.
+//! Hashes of `KeyedHasher`, compared with those of Rust's own `DefaultHasher` and, with keys, of
+//! `SipHasher13`, and of `FixedHasher`, compared with those of std's `FoldHasher`.
 use super::assertions::{holds, same};
-use intaglio_hash::{KeyedHasher, KeyedState};
+use intaglio_hash::{FixedHasher, FixedState, KeyedHasher, KeyedState};
 use std::alloc::{AllocError, Global};
 use std::collections::HashMap;
-use std::hash::{BuildHasher, DefaultHasher, Hash, Hasher, RandomState};
+use std::hash::{
+    BuildHasher, BuildHasherDefault, DefaultHasher, FoldHasher, Hash, Hasher, RandomState,
+};
 use std::process::Abort;
 
 // The bytes 0 to 7 and 8 to 15, as in the vectors of SipHash's authors.
@@ -285,4 +288,35 @@ fn keys_are_not_printed(rt: HostRuntime) {
     let hasher = state.build_hasher();
     let shown = format!(in rt.alloc(); "{hasher:?}").expect(&rt, "memory");
     same(&rt, shown.as_str(), "KeyedHasher { .. }");
+}
+
+fn text_hash<H: Hasher>(mut hasher: H, bytes: &[u8]) -> u64
+where
+    H: Drop,
+{
+    hasher.write(bytes);
+    hasher.write_u8(255);
+    hasher.finish()
+}
+
+// Each length of each class, and some more.
+#[test]
+fn a_fixed_hasher_is_that_of_std(rt: HostRuntime) {
+    let bytes = upward();
+    for count in 0..300 {
+        let hash = text_hash(FixedHasher::default(), &bytes[..count]);
+        same(
+            &rt,
+            (count, hash),
+            (count, text_hash(FoldHasher::default(), &bytes[..count])),
+        );
+    }
+}
+
+#[test]
+fn a_fixed_state_is_the_builder_of_std(rt: HostRuntime) {
+    let std: BuildHasherDefault<FoldHasher> = BuildHasherDefault::new();
+    let three = (263u32, true, "x");
+    same(&rt, FixedState.hash_one(three), std.hash_one(three));
+    same(&rt, hash_by(&FixedState, "word"), hash_by(&std, "word"));
 }

@@ -3,8 +3,9 @@ use super::assertions::{copy_of, holds, same};
 use intaglio::bytes::BytesContent;
 use intaglio::packed::{SymbolTable, bytes};
 use intaglio::{InternError, StaleMark, StrContent, Symbol, SymbolOverflowError};
+use intaglio_hash::FixedState;
+use intaglio_packed::Packed;
 use std::alloc::Global;
-use std::hash::BuildHasherDefault;
 use std::process::Abort;
 use test_hashers::builders::{Counted, Fold};
 
@@ -104,11 +105,9 @@ fn a_packed_table_is_rolled_back_and_cleared(rt: HostRuntime) {
 #[test]
 fn a_full_packed_table_refuses(rt: HostRuntime) {
     let full = Err(InternError::Overflow(SymbolOverflowError::new()));
-    let mut table: SymbolTable = SymbolTable::with_limit(
-        rt.alloc(),
-        2,
-        BuildHasherDefault::new(),
-    ).expect(&rt, "a table");
+    let mut table: SymbolTable = SymbolTable::with_limit(rt.alloc(), 2, FixedState).expect(
+        &rt, "a table",
+    );
     same(&rt, table.get_or_intern("a"), Ok(Symbol::new(0)));
     same(&rt, table.get_or_intern("b"), Ok(Symbol::new(1)));
     same(&rt, table.get_or_intern("c"), full);
@@ -124,7 +123,7 @@ fn full_batch() -> Result<Vec<Symbol>, InternError> {
 
 #[test]
 fn a_packed_table_has_room_and_gives_it_up(rt: HostRuntime) {
-    let mut table: SymbolTable<Fold> = SymbolTable::with_capacity(rt.alloc(), 0).expect(
+    let mut table = SymbolTable::with_capacity_and_hasher(rt.alloc(), 0, Fold::new()).expect(
         &rt, "a table",
     );
     same(&rt, table.capacity(), 0);
@@ -136,6 +135,15 @@ fn a_packed_table_has_room_and_gives_it_up(rt: HostRuntime) {
     same(&rt, table.capacity(), 1);
     same(&rt, table.get(Symbol::new(0)), Some("abc"));
     same(&rt, table.check_interned("abc"), Some(Symbol::new(0)));
+}
+
+#[test]
+fn a_packed_list_gives_up_its_room(rt: HostRuntime) {
+    let mut list = Packed::with_capacity(rt.alloc(), 5, 100).expect(&rt, "memory");
+    same(&rt, list.push(b"abc"), Ok(()));
+    same(&rt, list.shrink_to(2), Ok(()));
+    same(&rt, list.capacity(), 2);
+    same(&rt, list.get(0), Some(b"abc".as_slice()));
 }
 
 #[test]

@@ -1,6 +1,7 @@
 //! Tables of texts in one buffer.
-ghost use Rattle.std.specs.Prelude.{◌≡◌, ◌+◌, ◌<◌, ◌≤◌, ◌^◌, length, map, IfOk, OnErr};
+ghost use Rattle.std.specs.Prelude.{◌≡◌, ◌<◌, ◌≤◌, ◌^◌, length, map, IfOk, OnErr};
 ghost use Rattle.intaglio_core.specs.State.{pairs_of, IsValid};
+ghost use Rattle.intaglio_core.specs.Bytes.{InternsBytes};
 ghost use Rattle.intaglio_core.specs.Change.{InternsForm, IsNotMemory};
 ghost use Rattle.intaglio_core.specs.Lookup.{FindsOthers, IsFound, IsStored, Keeps};
 ghost use Rattle.intaglio_packed.specs.Strings.{packed_key};
@@ -28,7 +29,9 @@ impl<'a, S: BuildHasher> TableOver<Texts, S> {
         ensures others { let k = packed_key (str_content_bytes content) in
             FindsOthers packed_key self.old.state k self.new.state }
         ensures refused { OnErr result (self.new.state.contents ≡ self.old.state.contents) }
-        ensures bytes { self.old.spare_bytes ≤ self.new.spare_bytes + length (str_content_bytes content) }
+        ensures bytes { let spelling = str_content_bytes content in
+            let interns = InternsBytes length packed_key (length spelling) (packed_key spelling) in
+            interns self.old.state self.old.spare_bytes result self.new.state self.new.spare_bytes }
         ensures none_needed { 0 < self.old.state.spare → length (str_content_bytes content) ≤ self.old.spare_bytes →
             IsNotMemory result }
         ensures hasher { self.new.hasher ≡ self.old.hasher }

@@ -7,4 +7,4 @@ use Rattle.intaglio_core.proofs.indexed_store.IndexedStore.get_or_intern.Goals a
 pub returns-clause-cost : goal.returns-clause-cost
 returns-clause-cost g c =
     let hash = hash_of g.S.BuildHasher g.S.Hasher.Hasher c.args.self.now.hasher in
-    mark-first (InternCost g.L.Content.Keyed.key hash c.args.self.now.state (g.Q.Keyed.key c.args.form.now) c.get_or_intern_hashed.result c.get_or_intern_hashed.new.self.state) (hashed (g.Q.Keyed.key c.args.form.now)) _ _ _ c.hash_by-hash.ensures.event c.get_or_intern_hashed.ensures.cost
+    mark-first (InternCost g.L.Content.Keyed.key hash c.args.self.now.state (g.Q.Keyed.key c.args.value) c.intern_hashed.result c.intern_hashed.new.self.state) (hashed (g.Q.Keyed.key c.args.value)) _ _ _ c.hash_by-hash.ensures.event c.intern_hashed.ensures.cost

@@ -8,13 +8,13 @@ use Rattle.intaglio_core.proofs.indexed_store.IndexedStore.take_back.Goals as go
 pub invariant_of-self : goal.invariant_of-self
 invariant_of-self g c =
     rw c.truncate.ensures.contents
-    (indexed-take g.L.Store.buckets_for g.L.Content.Keyed.key (hash_of g.S.BuildHasher g.S.Hasher.Hasher c.self.inside.hasher) (g.L.Store.contents c.self.inside.list) c.self.inside.index c.truncate-then-count-length-2.new.self c.self.inside.limit c.count-count.result c.self.invariant (omega (arith, c.len-length.ensures)) c.truncate-then-count-length-2.ensures.hashes c.truncate-then-count-length-2.ensures.count c.truncate-then-count-length-2.ensures.places c.truncate-then-count-length-2.ensures.room)
+    (indexed-take g.L.Store.buckets_for g.L.Content.Keyed.key (hash_of g.S.BuildHasher g.S.Hasher.Hasher c.self.inside.hasher) (g.L.Store.contents c.self.inside.list) c.self.inside.index c.cut.new.self c.self.inside.limit c.count-count.result c.self.invariant (omega (arith, c.len-length.ensures)) c.cut.ensures.hashes c.cut.ensures.count c.cut.ensures.places c.cut.ensures.room)
 
 pub returns-then-count-length-2-clause-valid : goal.returns-then-count-length-2-clause-valid
 returns-then-count-length-2-clause-valid g c =
-    indexed-valid g.L.Store.buckets_for g.L.Content.Keyed.key (hash_of g.S.BuildHasher g.S.Hasher.Hasher c.self.inside.hasher) (g.L.Store.contents c.truncate.new.self) c.truncate-then-count-length-2.new.self c.self.inside.limit (g.L.Store.most c.truncate.new.self)
+    indexed-valid g.L.Store.buckets_for g.L.Content.Keyed.key (hash_of g.S.BuildHasher g.S.Hasher.Hasher c.self.inside.hasher) (g.L.Store.contents c.truncate.new.self) c.cut.new.self c.self.inside.limit (g.L.Store.most c.truncate.new.self)
     (rw c.truncate.ensures.contents
-    (indexed-take g.L.Store.buckets_for g.L.Content.Keyed.key (hash_of g.S.BuildHasher g.S.Hasher.Hasher c.self.inside.hasher) (g.L.Store.contents c.self.inside.list) c.self.inside.index c.truncate-then-count-length-2.new.self c.self.inside.limit c.count-count.result c.self.invariant (omega (arith, c.len-length.ensures)) c.truncate-then-count-length-2.ensures.hashes c.truncate-then-count-length-2.ensures.count c.truncate-then-count-length-2.ensures.places c.truncate-then-count-length-2.ensures.room))
+    (indexed-take g.L.Store.buckets_for g.L.Content.Keyed.key (hash_of g.S.BuildHasher g.S.Hasher.Hasher c.self.inside.hasher) (g.L.Store.contents c.self.inside.list) c.self.inside.index c.cut.new.self c.self.inside.limit c.count-count.result c.self.invariant (omega (arith, c.len-length.ensures)) c.cut.ensures.hashes c.cut.ensures.count c.cut.ensures.places c.cut.ensures.room))
 
 pub returns-then-count-length-2-clause-kept : goal.returns-then-count-length-2-clause-kept
 returns-then-count-length-2-clause-kept g c =

@@ -1,0 +1,78 @@
+use Rattle.std.proofs.Common.{◌≡◌, ◌∙◌, ◌∷◌, ◌++◌, [], arith, append_assoc, append-nil, map, refl, sym, rules}
+use Rattle.std.specs.Vec.Iter.{into_iter_items}
+use Rattle.std.proofs.lemmas.Grind.{common_steps}
+use Rattle.intaglio_core.specs.declared.runs.Call.TheVariants.{Intern}
+use Rattle.intaglio_core.proofs.Growth.{Runs-hash, Runs-place, Runs-room}
+use Rattle.intaglio_core.proofs.Issue.{Runs-issue}
+use Rattle.intaglio_core.proofs.Room.{Runs-roomier}
+use Rattle.intaglio_core.specs.Run.{KeepsRoom}
+use Rattle.intaglio_core.proofs.Bytes.{All-next, StillRoom-start, StillRoom-push}
+use Rattle.intaglio_core.proofs.InOrder.{Adds-push}
+use Rattle.intaglio_core.proofs.runs.run.Goals as goal
+
+pub loop-call-init : goal.loop-call-init
+loop-call-init g c =
+    let all : into_iter_items c.into_iter-call-iterator.result ≡ c.args.calls.items = search rules in
+    record {
+      can = tt;
+      finite = tt;
+      ran = ([], sym (append-nil _), rw c.in_ok-replies.ensures.items (refl, refl));
+      same_hash = refl;
+      whole = all;
+      room = search rules;
+      bytes = λ keep. omega arith;
+      still = rw (all, c.in_ok-replies.ensures.items) (StillRoom-start g.T.Content.Keyed.key g.Q.Keyed.key g.T.Content.Content.spelling g.Q.AddedTo.adds g.Q.AddedTo.copies g.Q.AddedTo.needs g.Q.AddedTo.in_store (g.T.FormInterner.state c.args.table.now) (g.T.FormInterner.spare_bytes c.args.table.now) c.args.calls.items);
+    }
+
+pub loop-call-preserved : goal.loop-call-preserved
+loop-call-preserved g c = record {
+  can = tt;
+  finite = tt;
+  ran = rw c.push_reserved.ensures.items (Adds-push _ _ _ _ _ _ _ _ _ _ _ c.loop-call.invariant.ran (let spent = rw c.loop-call.invariant.same_hash at c.step.ensures.cost in (spent.0, spent.1, (c.step.ensures.step, spent.2, c.step.ensures.valid))));
+  same_hash = c.step.ensures.same_hash ∙ c.loop-call.invariant.same_hash;
+  whole = rw (append_assoc, ← c.in-Some.ensures.steps.0) c.loop-call.invariant.whole;
+  room = omega (arith, c.in-Some.ensures.steps);
+  bytes = λ keep. omega (arith, c.loop-call.invariant.bytes keep, c.step.ensures.bytes (All-next KeepsRoom _ _ _ _ _ c.loop-call.invariant.whole c.in-Some.ensures.steps.0 keep));
+  still = rw c.push_reserved.ensures.items (StillRoom-push g.T.Content.Keyed.key g.Q.Keyed.key g.T.Content.Content.spelling g.Q.AddedTo.adds g.Q.AddedTo.copies g.Q.AddedTo.needs g.Q.AddedTo.in_store (g.T.FormInterner.state c.args.table.now) (g.T.FormInterner.state c.loop-call.table) (g.T.FormInterner.state c.step.new.table) _ _ _ _ _ _ _ _ _ c.step.result c.loop-call.invariant.whole c.in-Some.ensures.steps.0 c.loop-call.invariant.still c.step.ensures.room c.step.ensures.step);
+}
+
+pub returns-clause-ok : goal.returns-clause-ok
+returns-clause-ok g c =
+    let all : c.loop-call.yielded ≡ c.args.calls.items = grind (arith, common_steps, c.in-None.ensures.steps, c.loop-call.invariant.whole) in
+    rw all at c.loop-call.invariant.ran
+
+pub returns-clause-issues : goal.returns-clause-issues
+returns-clause-issues g c = λ cs empty interns none.
+    let e : c.loop-call.yielded ≡ map Intern cs = grind (arith, common_steps, c.in-None.ensures.steps, c.loop-call.invariant.whole) in
+    let ran = c.loop-call.invariant.ran in
+    Runs-issue g.T.Content.Keyed.key g.Q.Keyed.key g.T.Content.Content.spelling g.Q.AddedTo.adds g.Q.AddedTo.copies g.met.Q.AddedTo.adds_one (g.T.FormInterner.hash c.args.table.now) _ _ cs _ ran.0 empty (rw e at ran.2) none
+
+pub returns-clause-hashes : goal.returns-clause-hashes
+returns-clause-hashes g c =
+    let ran = c.loop-call.invariant.ran in
+    let all : c.loop-call.yielded ≡ c.args.calls.items = grind (arith, common_steps, c.in-None.ensures.steps, c.loop-call.invariant.whole) in
+    (ran.0, ran.1, rw (← all) (Runs-hash g.T.Content.Keyed.key g.Q.Keyed.key g.T.Content.Content.spelling g.Q.AddedTo.adds g.Q.AddedTo.copies g.met.Q.AddedTo.adds_one (g.T.FormInterner.hash c.args.table.now) _ _ c.loop-call.yielded _ ran.0 ran.2))
+
+pub returns-clause-growth : goal.returns-clause-growth
+returns-clause-growth g c =
+    let ran = c.loop-call.invariant.ran in
+    let all : c.loop-call.yielded ≡ c.args.calls.items = grind (arith, common_steps, c.in-None.ensures.steps, c.loop-call.invariant.whole) in
+    (ran.0, ran.1, λ keep. Runs-place g.T.Content.Keyed.key g.Q.Keyed.key g.T.Content.Content.spelling g.Q.AddedTo.adds g.Q.AddedTo.copies g.met.Q.AddedTo.adds_one (g.T.FormInterner.hash c.args.table.now) _ _ c.loop-call.yielded _ ran.0 (rw all keep) ran.2)
+
+pub returns-clause-room : goal.returns-clause-room
+returns-clause-room g c =
+    let ran = c.loop-call.invariant.ran in
+    let all : c.loop-call.yielded ≡ c.args.calls.items = grind (arith, common_steps, c.in-None.ensures.steps, c.loop-call.invariant.whole) in
+    rw (← all) (Runs-room g.T.Content.Keyed.key g.Q.Keyed.key g.T.Content.Content.spelling g.Q.AddedTo.adds (g.T.FormInterner.hash c.args.table.now) g.Q.AddedTo.copies _ _ c.loop-call.yielded _ ran.0 ran.2)
+
+pub returns-clause-capacity : goal.returns-clause-capacity
+returns-clause-capacity g c =
+    let ran = c.loop-call.invariant.ran in
+    let all : c.loop-call.yielded ≡ c.args.calls.items = grind (arith, common_steps, c.in-None.ensures.steps, c.loop-call.invariant.whole) in
+    λ keep. Runs-roomier g.T.Content.Keyed.key g.Q.Keyed.key g.T.Content.Content.spelling g.Q.AddedTo.adds g.Q.AddedTo.copies g.met.Q.AddedTo.adds_one (g.T.FormInterner.hash c.args.table.now) _ _ c.loop-call.yielded _ ran.0 (rw all keep) ran.2
+
+pub returns-clause-bytes : goal.returns-clause-bytes
+returns-clause-bytes g c = c.loop-call.invariant.bytes
+
+pub returns-clause-byte_room : goal.returns-clause-byte_room
+returns-clause-byte_room g c = λ qs interns few there enough. (c.loop-call.invariant.still qs interns few there enough).0

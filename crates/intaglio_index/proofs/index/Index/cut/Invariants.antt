@@ -1,0 +1,14 @@
+use Rattle.std.proofs.Common.{◌≡◌, ◌≤◌, length, take}
+use Rattle.intaglio_index.proofs.index.Index.cut.Given as goal
+
+abbrev pub invariant-loop-self : goal.invariant-loop-self
+invariant-loop-self l = record {
+  hashes : l.self.hashes ≡ take (length l.self.hashes) l.fn.self.hashes;
+  enough : l.count ≤ length l.self.hashes;
+  count : l.self.count ≡ l.fn.self.count;
+  places : l.self.places ≡ l.fn.self.places;
+  room : l.self.room ≡ l.fn.self.room;
+}
+
+abbrev pub decreases-loop-self : goal.decreases-loop-self
+decreases-loop-self l = length l.self.hashes

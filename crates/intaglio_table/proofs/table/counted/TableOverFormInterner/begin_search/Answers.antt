@@ -1,4 +1,0 @@
-use Rattle.intaglio_table.proofs.table.counted.TableOverFormInterner.begin_search.Goals as goal
-
-pub returns : goal.returns
-returns g c = rw (← c.self.view_is) c.begin_search.ensures
