@@ -1,3 +1,4 @@
 -- What the contracts of this crate cite.
 pub mod Strings
+pub mod EndList
 pub mod Buckets

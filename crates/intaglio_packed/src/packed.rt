@@ -3,9 +3,12 @@ ghost use Rattle.std.specs.Prelude.{◌≡◌, ◌+◌, ◌<◌, ◌≤◌, [], 
 ghost use Rattle.std.specs.Prelude.{IfOk, IsOk, OnOk, OnErr, option_copied};
 ghost use Rattle.intaglio_packed.specs.Strings.{byte_room_of, HasRoom, KeepsRoom};
 
-use crate::iter::PackedIter;
+use crate::end_list::StringEnds;
 use std::alloc::{AllocError, Global};
 use std::marker::Model;
+
+// The most bytes that short ends reach.
+const SHORT_BYTES: usize = u32::MAX as usize;
 
 /// A list of strings of bytes. All bytes are in one buffer, so a string costs no allocation of its own.
 ///
@@ -13,11 +16,11 @@ use std::marker::Model;
 #[derive(Drop)]
 pub struct Packed {
     bytes: Vec<u8>,
-    ends: Vec<usize>,
+    ends: StringEnds,
 }
 
 impl Model for Packed {
-    ghost use Rattle.std.specs.Prelude.{◌-◌, length, vec_capacity};
+    ghost use Rattle.std.specs.Prelude.{◌-◌, ◌≤◌, length, min, vec_capacity};
     ghost use Rattle.intaglio_packed.specs.Strings.{Strings, strings_code, strings_from, AreEnds};
 
     ghost Value = { Strings };
@@ -25,12 +28,13 @@ impl Model for Packed {
     ghost coded = { strings_code };
 
     ghost view = { λ p. record {
-      list = strings_from 0 p.bytes.items p.ends.items;
-      most = vec_capacity p.ends;
-      spare_bytes = vec_capacity p.bytes - length p.bytes.items;
+      list = strings_from 0 p.bytes.items p.ends.list;
+      most = p.ends.most;
+      spare_bytes = min (vec_capacity p.bytes) p.ends.largest - length p.bytes.items;
     } };
 
-    ghost invariant = { λ p. AreEnds 0 (length p.bytes.items) p.ends.items };
+    ghost invariant = { λ p.
+        AreEnds 0 (length p.bytes.items) p.ends.list × (length p.bytes.items ≤ p.ends.largest) };
 }
 
 #[tactic(auto, using(crate::proofs::Ends::strings_length))]
@@ -41,7 +45,7 @@ impl Packed {
     {
         Packed {
             bytes: Vec::new(alloc),
-            ends: Vec::new(alloc),
+            ends: StringEnds::new(alloc),
         }
     }
 
@@ -55,8 +59,8 @@ impl Packed {
         ensures made { IfOk result (λ p. p ≡ record { list = []; most = strings; spare_bytes = bytes }) }
         ensures none_needed { strings ≡ 0 → bytes ≡ 0 → IsOk result }
     {
+        let ends = StringEnds::with_capacity(alloc, strings, bytes > SHORT_BYTES)?;
         let bytes = Vec::with_capacity(alloc, bytes)?;
-        let ends = Vec::with_capacity(alloc, strings)?;
         Ok(Packed { bytes, ends })
     }
 
@@ -104,34 +108,10 @@ impl Packed {
         requires { i < length self.now.list }
         ensures { slice_get self.now.list i ≡ Some result.now }
     {
-        // Read before the choice in `start_of`: the compiler then makes a shorter loop of many calls.
-        let end = self.ends[i];
-        let start = start_of(&self.ends, i);
+        // Read before the choice in `start`: the compiler then makes a shorter loop of many calls.
+        let end = self.ends.end(i);
+        let start = self.ends.start(i);
         part(&self.bytes, start, end)
-    }
-
-    /// The strings, in order.
-    pub fn iter(&self) -> PackedIter<'_>
-        ensures { result ≡ self.now.list }
-    {
-        PackedIter::of(&self.bytes, &self.ends)
-    }
-
-    /// Makes room for this many more strings of this many bytes together.
-    ///
-    /// # Errors
-    ///
-    /// [`AllocError`] if an allocation fails. Then the strings are unchanged, and there is no less room.
-    pub fn reserve(&mut self, strings: usize, bytes: usize) -> Result<(), AllocError>
-        ensures kept { KeepsRoom self.old self.new }
-        ensures strings { OnOk result (length self.new.list + strings ≤ self.new.most) }
-        ensures bytes { OnOk result (bytes ≤ self.new.spare_bytes) }
-        ensures none_needed { length self.old.list + strings ≤ self.old.most → bytes ≤ self.old.spare_bytes →
-            IsOk result }
-    {
-        self.bytes.reserve(bytes)?;
-        self.ends.reserve(strings)?;
-        Ok(())
     }
 
     /// Makes room for this many more bytes.
@@ -147,7 +127,25 @@ impl Packed {
         ensures err { OnErr result (self.new.spare_bytes ≡ self.old.spare_bytes) }
         ensures none_needed { bytes ≤ self.old.spare_bytes → IsOk result }
     {
-        self.bytes.reserve(bytes)
+        if bytes <= self.ends.largest() - self.bytes.len() {
+            return self.bytes.reserve(bytes);
+        }
+        self.reserve_with_long_ends(bytes)
+    }
+
+    // Makes room for more bytes than the ends can reach. Apart from `reserve_bytes`, so that that is short.
+    #[inline(never)]
+    fn reserve_with_long_ends(&mut self, bytes: usize) -> Result<(), AllocError>
+        requires { self.old.spare_bytes < bytes }
+        ensures list { self.new.list ≡ self.old.list }
+        ensures most { self.new.most ≡ self.old.most }
+        ensures bytes { OnOk result (bytes ≤ self.new.spare_bytes) }
+        ensures err { OnErr result (self.new.spare_bytes ≡ self.old.spare_bytes) }
+    {
+        let long = self.ends.to_long(*self.bytes.allocator())?;
+        self.bytes.reserve(bytes)?;
+        self.ends = long;
+        Ok(())
     }
 
     /// Makes room for this many more strings, not for their bytes.
@@ -177,21 +175,6 @@ impl Packed {
         self.ends.push_reserved(self.bytes.len());
     }
 
-    /// Adds a copy of a string.
-    ///
-    /// # Errors
-    ///
-    /// [`AllocError`] if an allocation fails. Then the strings are unchanged, and there is no less room.
-    pub fn push(&mut self, string: &[u8]) -> Result<(), AllocError>
-        ensures list { OnOk result (self.new.list ≡ self.old.list ++ string.now ∷ []) }
-        ensures err { OnErr result (KeepsRoom self.old self.new) }
-        ensures none_needed { HasRoom (length string.now) self.old → IsOk result }
-    {
-        self.reserve(1, string.len())?;
-        self.push_reserved(string);
-        Ok(())
-    }
-
     /// Drops all strings but the first `n`.
     pub fn truncate(&mut self, n: usize)
         ensures list { self.new.list ≡ take n self.old.list }
@@ -200,7 +183,7 @@ impl Packed {
         ensures byte_room { byte_room_of self.new ≡ byte_room_of self.old }
     {
         if n < self.ends.len() {
-            let end = start_of(&self.ends, n);
+            let end = self.ends.start(n);
             self.bytes.truncate(end);
             self.ends.truncate(n);
         }
@@ -241,22 +224,13 @@ impl Packed {
         ensures byte_room { self.new.spare_bytes ≡ byte_room_of self.old }
     {
         self.bytes.clear();
-        self.ends.clear();
+        self.ends.truncate(0);
     }
-}
-
-// Where a string begins.
-#[inline(always)]
-fn start_of(ends: &[usize], i: usize) -> usize
-    requires { i < length ends.now }
-    ensures { result ≡ get_or (0 ∷ ends.now) i 0 }
-{
-    if i == 0 { 0 } else { ends[i - 1] }
 }
 
 // A part of the bytes.
 #[inline(always)]
-pub(crate) fn part(bytes: &[u8], start: usize, end: usize) -> &[u8]
+fn part(bytes: &[u8], start: usize, end: usize) -> &[u8]
     requires order { start ≤ end }
     requires within { end ≤ length bytes.now }
     ensures { result.now ≡ slice_range bytes.now start end }
