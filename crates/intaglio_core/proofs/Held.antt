@@ -1,7 +1,6 @@
 -- What is held while contents are interned in order.
-use Rattle.std.proofs.Common.{◌≡◌, ℕ, zero, suc, ◌∙◌, sym, ◌≤◌, Bool, true, false, cond, List, [], ◌∷◌, ◌++◌, length, take, Some, is_some, length-append, append_assoc, append-nil, refl, ap, arith}
+use Rattle.std.proofs.Common.{◌≡◌, ℕ, zero, suc, ◌∙◌, sym, ◌≤◌, Bool, true, false, cond, List, [], ◌∷◌, ◌++◌, length, Some, is_some, length-append, append_assoc, append-nil, refl, ap, arith}
 use Rattle.std.specs.Prelude.{slice_get}
-use Rattle.std.proofs.Math.Seq.{take-append_seam}
 use Rattle.intaglio_content.specs.Key.{Key}
 use Rattle.intaglio_core.specs.State.{first}
 use Rattle.intaglio_core.specs.Issue.{issued, interned, issue_from, interned_all}

@@ -8,10 +8,10 @@ use Rattle.intaglio_content.specs.Key.{Key}
 use Rattle.intaglio_content.specs.Store.{IsAddedOne, IsMoved, IsPushed}
 use Rattle.intaglio_core.specs.State.{State, key_eq, first, IsValid}
 use Rattle.intaglio_core.specs.Change.{AddsNew, Interns, InternsValue, InternsForm, IsAppended, IsOutOfMemory, IsTruncated, Empties}
-use Rattle.intaglio_core.specs.Lookup.{IsFound, FindsNothing, FindsOthers, FindsInterned, IsStored, Keeps, KeepsBelow, FindsEach, StoresEach}
+use Rattle.intaglio_core.specs.Lookup.{IsFound, FindsNothing, FindsOthers, FindsInterned, IsStored, Keeps, KeepsBelow, FindsEach}
 use Rattle.intaglio_core.specs.Issue.{issued, interned, issue_from, interned_all}
 use Rattle.intaglio_core.proofs.First.{key_eq-decides, key_eq-unequal, first-append, first-some, some-below, or_at}
-use Rattle.intaglio_core.proofs.Held.{first-still, content-still, slice_get-front}
+use Rattle.intaglio_core.proofs.Held.{first-still, slice_get-front}
 use Rattle.intaglio_core.proofs.Issue.{Interns-ok}
 use Rattle.intaglio_symbol.specs.declared.error.InternError.{InternError}
 use Rattle.intaglio_symbol.specs.declared.error.InternError.TheVariants as intern_error

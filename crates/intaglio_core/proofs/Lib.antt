@@ -10,10 +10,10 @@ pub mod Room
 pub mod Rounded
 pub mod InOrder
 pub mod Held
+pub mod Groups
 pub mod Each
 pub mod Laws
 pub mod OnResult
 pub mod Alike
-pub mod Starts
 pub mod FewerBuckets
 pub mod Bytes

@@ -100,12 +100,6 @@ pub Adds-then : (P Q R : List Event → Type 0) (before between after : List Eve
 Adds-then P Q R before between after joins first_part later =
     (first_part.0 ++ later.0, rw (later.1, first_part.1, append_assoc) refl, joins first_part.0 later.0 first_part.2 later.2)
 
--- what three parts add, of which the first is known
-pub Adds-parts : (P Q R : List Event → Type 0) (known before between then after : List Event) → ((xs ys : List Event) → P xs → Q ys → R (known ++ xs ++ ys))
-    → between ≡ before ++ known → Adds between then P → Adds then after Q → Adds before after R
-Adds-parts P Q R known before between then after joins first_part next later =
-    (known ++ next.0 ++ later.0, rw (later.1, next.1, first_part) (simp append_assoc), joins next.0 later.0 next.2 later.2)
-
 pub mark-first : (P : List Event → Type 0) (m : Event) (before between after : List Event) → between ≡ before ++ m ∷ [] → Adds between after (λ cost. P (m ∷ cost)) → Adds before after P
 mark-first P m before between after first_mark later =
     (m ∷ later.0, rw (later.1, first_mark) (append_assoc before (m ∷ []) later.0), later.2)

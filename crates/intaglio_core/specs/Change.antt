@@ -1,5 +1,5 @@
 -- How calls change the state of a table.
-use Rattle.std.specs.Prelude.{◌≡◌, ◌≢◌, ◌⊎◌, ⊤, Bool, true, false, List, ℕ, ◌+◌, ◌*◌, ◌<◌, ◌≤◌, min, max, [], ◌∷◌, ◌++◌, length, take, Result, Ok, Err, MatchOption}
+use Rattle.std.specs.Prelude.{◌≡◌, ◌≢◌, ◌⊎◌, ⊤, Bool, true, false, List, ℕ, ◌+◌, ◌*◌, ◌<◌, ◌≤◌, min, max, [], length, take, Result, Ok, Err, MatchOption}
 use Rattle.intaglio_content.specs.Key.{Key}
 use Rattle.intaglio_content.specs.Store.{IsMoved, IsPushed}
 use Rattle.intaglio_core.specs.State.{State, first}

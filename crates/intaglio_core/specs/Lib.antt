@@ -11,5 +11,4 @@ pub mod Issue
 pub mod Pattern
 pub mod Indexed
 pub mod Batch
-pub mod PendingSearch
 pub mod Bytes

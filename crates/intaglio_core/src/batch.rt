@@ -1,37 +1,70 @@
-//! Batches: many contents or forms are interned at once.
+//! Batches: many contents or forms are looked up or interned at once.
 ghost use Rattle.std.specs.Prelude.{◌≡◌, ◌+◌, ◌<◌, ◌≤◌, false, length, map, sum_by, take};
-ghost use Rattle.std.specs.Prelude.{IfOk, IfErr, IfSome, OnOk, OnErr};
+ghost use Rattle.std.specs.Prelude.{IfOk, IfErr, OnOk, OnErr};
 ghost use Rattle.intaglio_core.specs.State.{first, IsValid};
-ghost use Rattle.intaglio_core.specs.Change.{InternsValue};
-ghost use Rattle.intaglio_core.specs.Lookup.{IsFound, Keeps, FindsEach, StoresEach, FindsEachKey, StoresEachKey};
-ghost use Rattle.intaglio_core.specs.Cost.{Costs, KnownInternCost};
+ghost use Rattle.intaglio_core.specs.Lookup.{Keeps, FindsEach, StoresEach, FindsEachKey, StoresEachKey};
+ghost use Rattle.intaglio_core.specs.Cost.{Costs};
 ghost use Rattle.intaglio_core.specs.Issue.{issue_from, interned_all};
-ghost use Rattle.intaglio_core.specs.Batch.{IfOverflow, StaysValid, InternsAll, RefusedCost};
-ghost use Rattle.intaglio_core.specs.Batch.{InternsEach, FailsEach};
+ghost use Rattle.intaglio_core.specs.Batch.{IfOverflow, StaysValid, ChecksAll, InternsAll, RefusedCost};
+ghost use Rattle.intaglio_core.specs.Batch.{FailsEach};
 ghost use Rattle.intaglio_content.specs.Key.{hash_of};
 ghost use Rattle.intaglio_content.specs.Store.{byte_room, IsMoved};
-ghost use Rattle.intaglio_core.specs.Bytes.{InternsBytes, KeepsBytes};
+ghost use Rattle.intaglio_core.specs.Bytes.{KeepsBytes};
 
-mod searches;
+mod ahead;
+mod values;
 
 use crate::indexed_store::Core;
 use crate::interner::FormInterner;
-use intaglio_content::{AddedTo, Content, CopiedTo, Sought, Work};
+use ahead::next_hash;
+pub use ahead::{GROUP, look_ahead, touch_all};
+use intaglio_content::{AddedTo, Content, CopiedTo, Sought, SoughtIn, Work};
 use intaglio_symbol::{InternError, Symbol};
-pub use searches::check_all;
-use searches::hash_forms;
-use std::alloc::Global;
+use std::alloc::{AllocError, Global};
+use std::collections::VecDeque;
 use std::hash::BuildHasher;
+use values::Queue;
 
-/// Interns a batch of contents, or of forms, all or none, and returns their symbols in the same order.
+/// Looks up a batch of forms, and returns what single look-ups return, in the same order.
 ///
-/// All are hashed, then all are looked up, and then those that weren't found are interned, so the
-/// cache misses of several look-ups overlap. That pays if the table is large and most of them are in it,
-/// with some dozens at a time. It allocates four temporary lists as long as the batch.
+/// In groups of [`GROUP`], all are hashed before the first is looked up, so the cache misses of several look-ups
+/// overlap. That pays if the table is large, with some dozens of forms at a time. It allocates the list that it
+/// returns, and nothing else.
 ///
 /// # Errors
 ///
-/// `Overflow` if the table can't hold them all, `Memory` if the allocation of a list, of a copy or of a
+/// [`AllocError`] if that list can't be allocated.
+pub fn check_all<T: FormInterner, Q: SoughtIn<T::Store>>(
+    alloc: Global,
+    table: &T,
+    forms: &[Q],
+    work: &mut Work,
+) -> Result<Vec<Option<Symbol>>, AllocError>
+    ensures symbols { let held = (T.state table.now).contents in
+        IfOk result (λ found. found.items ≡ map (λ q. first T.Content.key held (Q.key q)) forms.now) }
+    ensures cost { IfOk result (λ found. Costs work.old work.new
+        (ChecksAll T.Content.key Q.key (T.hash table.now) (T.state table.now) forms.now found.items)) }
+    ensures no_cost { OnErr result (work.new.events ≡ work.old.events) }
+{
+    let mut found = Vec::with_capacity(alloc, forms.len())?;
+    let mut hashes = [0; GROUP];
+    for place in 0..forms.len() {
+        let rest = &forms[place..];
+        let hash = next_hash(table, &rest, place, &mut hashes, work);
+        found.push_reserved(table.search_hashed(hash, &forms[place], work));
+    }
+    Ok(found)
+}
+
+/// Interns a batch of contents, or of forms, all or none, and returns their symbols in the same order.
+///
+/// In groups of [`GROUP`], all are hashed before the first is interned, so the cache misses of several look-ups
+/// overlap. That pays if the table is large and most of them are in it, with some dozens at a time. Beside what
+/// interning them one by one allocates, it allocates the list that it returns.
+///
+/// # Errors
+///
+/// `Overflow` if the table can't hold them all, `Memory` if the allocation of that list, of a copy or of a
 /// growth fails. Then the table has the same contents as before, no lower capacity and no less room for
 /// bytes, and the arguments are dropped.
 ///
@@ -49,7 +82,7 @@ pub fn intern_all<H, T: FormInterner, Q: AddedTo<T::Store, H>>(
     values: Vec<Q>,
     work: &mut Work,
 ) -> Result<Vec<Symbol>, InternError>
-    // As internings one by one, but all hashings come first, and then all look-ups.
+    // As internings one by one, but hashed ahead in groups.
     ensures ok { IfOk result (λ symbols. Costs work.old work.new (λ cost.
         InternsAll T.Content.key Q.key Q.adds Q.copies (T.hash table.old)
         (T.state table.old) values.items symbols.items cost (T.state table.new))) }
@@ -79,14 +112,7 @@ pub fn intern_all<H, T: FormInterner, Q: AddedTo<T::Store, H>>(
     ensures bytes { KeepsBytes T.Store.takes (sum_by Q.needs values.items) (T.state table.old).contents
         (T.spare_bytes table.old) result (T.state table.new).contents (T.spare_bytes table.new) }
 {
-    let mark = table.mark();
-    let hashes = hash_forms(alloc, table, &values, work)?;
-    let found = table.search_all(alloc, &values, &hashes, work)?;
-    let taken = intern_each(alloc, table, values, &hashes, &found, work);
-    if taken.is_err() {
-        let _ = table.take_back(mark);
-    }
-    taken
+    intern_values(alloc, table, VecDeque::from(values), work)
 }
 
 impl<C: Content + Sought<C> + Drop, S: BuildHasher> Core<C, S> {
@@ -100,7 +126,7 @@ impl<C: Content + Sought<C> + Drop, S: BuildHasher> Core<C, S> {
         contents: Vec<C>,
         work: &mut Work,
     ) -> Result<Vec<Symbol>, InternError>
-        // As internings one by one, but all hashings come first, and then all look-ups.
+        // As internings one by one, but hashed ahead in groups.
         ensures ok { IfOk result (λ symbols. Costs work.old work.new (λ cost.
             InternsAll C.key C.key IsMoved false (hash_of S.BuildHasher S.Hasher.Hasher self.old.hasher)
             self.old.state contents.items symbols.items cost self.new.state)) }
@@ -135,12 +161,12 @@ impl<C: Content + Sought<C> + Drop, S: BuildHasher> Core<C, S> {
 /// Interns a batch of forms, all or none, and returns their symbols in the same
 /// order. Only new forms are copied.
 ///
-/// All forms are hashed, then all are looked up, and then those that weren't found are interned, as by
-/// [`intern_all`](crate::intern_all). It allocates five temporary lists as long as the batch.
+/// They are hashed ahead in groups, as by [`intern_all`](crate::intern_all). Beside the copies and growths it
+/// allocates the list that it returns.
 ///
 /// # Errors
 ///
-/// `Overflow` if the table can't hold them all, `Memory` if the allocation of a list, of a copy or of a
+/// `Overflow` if the table can't hold them all, `Memory` if the allocation of that list, of a copy or of a
 /// growth fails. Then the table has the same contents as before, no lower capacity and no less room for
 /// bytes.
 pub fn get_or_intern_all<T: FormInterner, Q: CopiedTo<T::Store>>(
@@ -149,7 +175,7 @@ pub fn get_or_intern_all<T: FormInterner, Q: CopiedTo<T::Store>>(
     forms: &[Q],
     work: &mut Work,
 ) -> Result<Vec<Symbol>, InternError>
-    // As internings one by one, but all hashings come first, and then all look-ups.
+    // As internings one by one, but hashed ahead in groups.
     ensures ok { IfOk result (λ symbols. Costs work.old work.new (λ cost.
         InternsAll T.Content.key Q.key Q.adds Q.copies (T.hash table.old)
         (T.state table.old) forms.now symbols.items cost (T.state table.new))) }
@@ -180,71 +206,72 @@ pub fn get_or_intern_all<T: FormInterner, Q: CopiedTo<T::Store>>(
     ensures bytes { KeepsBytes T.Store.takes (sum_by Q.needs forms.now) (T.state table.old).contents
         (T.spare_bytes table.old) result (T.state table.new).contents (T.spare_bytes table.new) }
 {
-    // For the contract alone: what holds of every table holds if the list can't be allocated.
-    let _ = table.count();
-    let mut values = Vec::with_capacity(alloc, forms.len())?;
-    values.extend_from_slice(forms)?;
-    intern_all(alloc, table, values, work)
+    intern_values(alloc, table, forms, work)
 }
 
-// Interns values that were looked up. After an error, those before the failed one are stored.
-fn intern_each<H, T: FormInterner, Q: AddedTo<T::Store, H>>(
+// Interns values, all or none.
+fn intern_values<H, T: FormInterner, Q: AddedTo<T::Store, H>, V: Queue<Q>>(
     alloc: Global,
     table: &mut T,
-    values: Vec<Q>,
-    hashes: &[u64],
-    found: &[Option<Symbol>],
+    values: V,
+    work: &mut Work,
+) -> Result<Vec<Symbol>, InternError>
+    ensures ok { IfOk result (λ symbols. Costs work.old work.new (λ cost.
+        InternsAll T.Content.key Q.key Q.adds Q.copies (T.hash table.old)
+        (T.state table.old) (V.items values) symbols.items cost (T.state table.new))) }
+    ensures found { IfOk result (λ symbols.
+        FindsEachKey T.Content.key (T.state table.new) (map Q.key (V.items values)) symbols.items) }
+    ensures stored { IfOk result (λ symbols.
+        StoresEachKey T.Content.key (T.state table.new) (map Q.key (V.items values)) symbols.items) }
+    ensures kept { Keeps T.Content.key (T.state table.old) (T.state table.new) }
+    ensures refused { OnErr result ((T.state table.new).contents ≡ (T.state table.old).contents) }
+    ensures overflow { let held = map T.Content.key (T.state table.old).contents in
+        let all = interned_all (λ k. k) held (map Q.key (V.items values)) in
+        IfErr result (λ e. IfOverflow e ((T.state table.old).limit < length all)) }
+    ensures refused_cost { OnErr result (Costs work.old work.new
+        (RefusedCost T.Content.key Q.key Q.adds Q.copies (T.hash table.old) (T.state table.old)
+        (V.items values))) }
+    ensures table { StaysValid T.Content.key (T.hash table.old) (T.state table.old)
+        (T.hash table.new) (T.state table.new) }
+    ensures bytes { KeepsBytes T.Store.takes (sum_by Q.needs (V.items values)) (T.state table.old).contents
+        (T.spare_bytes table.old) result (T.state table.new).contents (T.spare_bytes table.new) }
+{
+    let mark = table.mark();
+    let taken = intern_each(alloc, table, values, work);
+    if taken.is_err() {
+        let _ = table.take_back(mark);
+    }
+    taken
+}
+
+// Interns values in order. After an error, those before the failed one are stored.
+fn intern_each<H, T: FormInterner, Q: AddedTo<T::Store, H>, V: Queue<Q>>(
+    alloc: Global,
+    table: &mut T,
+    mut values: V,
     work: &mut Work,
 ) -> Result<Vec<Symbol>, InternError>
     requires valid { IsValid T.Content.key (T.state table.old) }
-    requires hashes { hashes.now ≡ map (λ q. T.hash table.old (Q.key q)) values.items }
-    requires found { let held = (T.state table.old).contents in
-        found.now ≡ map (λ q. first T.Content.key held (Q.key q)) values.items }
     ensures ok { IfOk result (λ symbols. Costs work.old work.new (λ cost.
-        InternsEach T.Content.key Q.key Q.adds Q.copies (T.hash table.old) (T.state table.old)
-        values.items symbols.items cost (T.state table.new))) }
+        InternsAll T.Content.key Q.key Q.adds Q.copies (T.hash table.old) (T.state table.old)
+        (V.items values) symbols.items cost (T.state table.new))) }
     ensures stops { IfErr result (λ e. Costs work.old work.new (λ cost.
         FailsEach T.Content.key Q.key Q.adds Q.copies (T.hash table.old) (T.state table.old)
-        values.items e cost (T.state table.new))) }
+        (V.items values) e cost (T.state table.new))) }
     ensures begins { let held = (T.state table.old).contents in
         OnErr result (take (length held) (T.state table.new).contents ≡ held) }
     ensures table { StaysValid T.Content.key (T.hash table.old) (T.state table.old)
         (T.hash table.new) (T.state table.new) }
-    ensures taken { T.spare_bytes table.old ≤ T.spare_bytes table.new + sum_by Q.needs values.items }
+    ensures taken { T.spare_bytes table.old ≤ T.spare_bytes table.new + sum_by Q.needs (V.items values) }
     ensures room { byte_room T.Store.takes (T.state table.old).contents (T.spare_bytes table.old)
         ≤ byte_room T.Store.takes (T.state table.new).contents (T.spare_bytes table.new) }
 {
-    let mut symbols = Vec::with_capacity(alloc, values.len())?;
-    for value in values {
-        let place = symbols.len();
-        symbols.push_reserved(intern_one(table, hashes[place], found[place], value, work)?);
+    let count = values.count();
+    let mut symbols = Vec::with_capacity(alloc, count)?;
+    let mut hashes = [0; GROUP];
+    for place in 0..count {
+        let hash = next_hash(table, &values, place, &mut hashes, work);
+        symbols.push_reserved(table.intern_hashed(hash, values.take(), work)?);
     }
     Ok(symbols)
-}
-
-// Interns a value that was looked up.
-fn intern_one<H, T: FormInterner, Q: AddedTo<T::Store, H>>(
-    table: &mut T,
-    hash: u64,
-    found: Option<Symbol>,
-    value: Q,
-    work: &mut Work,
-) -> Result<Symbol, InternError>
-    requires valid { IsValid T.Content.key (T.state table.old) }
-    requires hash { hash ≡ T.hash table.old (Q.key value) }
-    requires found { IfSome found (IsFound T.Content.key (T.state table.old) (Q.key value)) }
-    ensures step { InternsValue T.Content.key (Q.adds value) Q.copies (T.state table.old) (Q.key value) result
-        (T.state table.new) }
-    ensures cost { let k = Q.key value in
-        Costs work.old work.new
-        (KnownInternCost T.Content.key (T.hash table.old) (T.state table.old) k result (T.state table.new)) }
-    ensures same_hash { T.hash table.new ≡ T.hash table.old }
-    ensures valid { IsValid T.Content.key (T.state table.new) }
-    ensures bytes { let interns = InternsBytes T.Store.takes T.Content.key (Q.needs value) (Q.key value) in
-        interns (T.state table.old) (T.spare_bytes table.old) result (T.state table.new) (T.spare_bytes table.new) }
-{
-    match found {
-        Some(symbol) => Ok(symbol),
-        None => table.intern_hashed(hash, value, work),
-    }
 }

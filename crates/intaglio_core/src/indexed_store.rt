@@ -1,13 +1,11 @@
 //! A store of contents with an index over it.
-ghost use Rattle.std.specs.Prelude.{◌≡◌, ◌+◌, ◌^◌, ◌<◌, ◌≤◌, ◌↔◌, ◌++◌, List, [], length};
+ghost use Rattle.std.specs.Prelude.{◌≡◌, ◌+◌, ◌^◌, ◌<◌, ◌≤◌, ◌↔◌, [], length};
 ghost use Rattle.std.specs.Prelude.{IfSome, IsTrue, OnOk, OnErr};
 ghost use Rattle.intaglio_content.specs.Key.{hash_of};
-ghost use Rattle.intaglio_content.specs.Work.{Event};
 ghost use Rattle.intaglio_symbol.specs.AllSymbols.{numbers_from};
 ghost use Rattle.intaglio_index.specs.Change.{KeepsPlaces};
 ghost use Rattle.intaglio_core.specs.State.{first, IsValid};
-ghost use Rattle.intaglio_core.specs.PendingSearch.{IsPendingSearch, IsPendingSince};
-ghost use Rattle.intaglio_core.specs.Cost.{Costs, Adds, SearchCost, KnownSearchCost, IsRecorded};
+ghost use Rattle.intaglio_core.specs.Cost.{Costs, SearchCost, KnownSearchCost, IsRecorded};
 ghost use Rattle.intaglio_core.specs.Indexed.{HasPlaces, FindsPlace, FindsNoPlace};
 
 mod capacity;
@@ -15,9 +13,7 @@ mod form_lookup;
 mod intern;
 mod make;
 mod owned;
-mod search_all;
 
-use crate::pending_search::PendingSearch;
 use intaglio_content::{SoughtIn, Store, Work};
 use intaglio_index::Index;
 use intaglio_symbol::{AllSymbols, Symbol};
@@ -159,91 +155,9 @@ impl<L: Store, S: BuildHasher> IndexedStore<L, S> {
         ensures recorded { Costs work.old work.new (IsRecorded (Q.key sought.now) result) }
         ensures valid { IsValid L.Content.key self.now.state }
     {
-        let candidate = self.index.find(hash, work);
-        self.search_from(candidate, sought, work)
-    }
-
-    // Finds the first content with this hash, which `end_search` compares. Its events are apart, since other
-    // searches may be begun before it is ended.
-    #[inline(always)]
-    fn begin_search(&self, hash: u64) -> PendingSearch
-        ensures { let of_key = hash_of S.BuildHasher S.Hasher.Hasher self.now.hasher in
-            IsPendingSearch L.buckets_for L.Content.key of_key self.now.state hash result }
-    {
-        let mut work = Work::new();
-        let candidate = self.index.find(hash, &mut work);
-        PendingSearch { candidate, work }
-    }
-
-    // The rest of a search that was begun apart. Records what was done for it before, too.
-    #[inline(always)]
-    fn end_search<Q: SoughtIn<L>>(
-        &self,
-        pending: &PendingSearch,
-        sought: &Q,
-        work: &mut Work,
-    ) -> Option<Symbol>
-        requires pending { let hash = hash_of S.BuildHasher S.Hasher.Hasher self.now.hasher in
-            IsPendingSearch L.buckets_for L.Content.key hash self.now.state (hash (Q.key sought.now)) pending.now }
-        ensures found { result ≡ first L.Content.key self.now.state.contents (Q.key sought.now) }
-        ensures events { (more : List Event) ×
-            (work.new.events ≡ work.old.events ++ pending.now.work.events ++ more) }
-        ensures cost { let hash = hash_of S.BuildHasher S.Hasher.Hasher self.now.hasher in
-            Costs work.old work.new (KnownSearchCost L.Content.key hash self.now.state (Q.key sought.now)) }
-        ensures recorded { Costs work.old work.new (IsRecorded (Q.key sought.now) result) }
-        ensures valid { IsValid L.Content.key self.now.state }
-    {
-        work.append(&pending.work);
-        self.search_from(pending.candidate, sought, work)
-    }
-
-    // Reads what a search by this hash will read: the index, and a byte of the content that it compares first.
-    #[inline(always)]
-    pub(crate) fn touch_hashed<Q: SoughtIn<L>>(&self, hash: u64, sought: &Q) -> u8 {
-        self.touch(&self.begin_search(hash), sought)
-    }
-
-    // Reads a byte of the content that a begun search compares first.
-    #[inline(always)]
-    fn touch<Q: SoughtIn<L>>(&self, pending: &PendingSearch, sought: &Q) -> u8 {
-        match pending.candidate {
-            Some(symbol) if self.contains(symbol) => {
-                sought.touch_at(&self.list, symbol.id() as usize)
-            }
-            _ => 0,
-        }
-    }
-
-    // The rest of a search, from the first content with the sought hash on. `start` in the clauses is the list
-    // of events at the search's begin.
-    #[inline(always)]
-    fn search_from<Q: SoughtIn<L>>(
-        &self,
-        candidate: Option<Symbol>,
-        sought: &Q,
-        work: &mut Work,
-    ) -> Option<Symbol>
-        requires pending { let hash = hash_of S.BuildHasher S.Hasher.Hasher self.now.hasher in
-            (start : List Event) ×
-            IsPendingSince L.buckets_for L.Content.key hash self.now.state (Q.key sought.now) start
-            work.old.events candidate }
-        ensures found { result ≡ first L.Content.key self.now.state.contents (Q.key sought.now) }
-        ensures events { (more : List Event) × (work.new.events ≡ work.old.events ++ more) }
-        ensures cost { let hash = hash_of S.BuildHasher S.Hasher.Hasher self.now.hasher in
-            let k = Q.key sought.now in
-            (start : List Event) →
-            IsPendingSince L.buckets_for L.Content.key hash self.now.state k start work.old.events candidate →
-            Adds start work.new.events (KnownSearchCost L.Content.key hash self.now.state k) }
-        ensures recorded { let hash = hash_of S.BuildHasher S.Hasher.Hasher self.now.hasher in
-            let k = Q.key sought.now in
-            (start : List Event) →
-            IsPendingSince L.buckets_for L.Content.key hash self.now.state k start work.old.events candidate →
-            Adds start work.new.events (IsRecorded k result) }
-        ensures valid { IsValid L.Content.key self.now.state }
-    {
         let index = &self.index;
         let list = &self.list;
-        let mut candidate = Some(candidate?);
+        let mut candidate = Some(index.find(hash, work)?);
         while let Some(symbol) = candidate {
             if sought.same_at(list, symbol.id() as usize, work) {
                 return Some(symbol);
@@ -251,6 +165,17 @@ impl<L: Store, S: BuildHasher> IndexedStore<L, S> {
             candidate = index.find_next(symbol, work);
         }
         None
+    }
+
+    // Reads what a search by this hash will read: the index, and a byte of the content that it compares first.
+    #[inline(always)]
+    pub(crate) fn touch_hashed<Q: SoughtIn<L>>(&self, hash: u64, sought: &Q) -> u8 {
+        match self.index.find(hash, &mut Work::new()) {
+            Some(symbol) if self.contains(symbol) => {
+                sought.touch_at(&self.list, symbol.id() as usize)
+            }
+            _ => 0,
+        }
     }
 }
 

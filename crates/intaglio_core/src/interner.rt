@@ -1,11 +1,10 @@
 //! What every symbol table does, for code that is generic over tables.
-ghost use Rattle.std.specs.Prelude.{◌≡◌, ℕ, ◌<◌, ◌≤◌, ◌++◌, ◌∷◌, List, [], length, map, slice_get, option_copied};
+ghost use Rattle.std.specs.Prelude.{◌≡◌, ℕ, ◌<◌, ◌≤◌, ◌++◌, ◌∷◌, List, [], length, slice_get, option_copied};
 ghost use Rattle.std.specs.Prelude.{IfOk, IfSome, OnOk, OnErr};
 ghost use Rattle.intaglio_content.specs.Key.{Key, hash_of};
 ghost use Rattle.intaglio_content.specs.Work.{Event, hashed};
 ghost use Rattle.intaglio_content.specs.Store.{byte_room};
 ghost use Rattle.intaglio_core.specs.State.{State, first, IsValid};
-ghost use Rattle.intaglio_core.specs.Batch.{SearchesForms};
 ghost use Rattle.intaglio_core.specs.Lookup.{IsFound, IsStored, Keeps, KeepsBelow, FindsOthers, FindsNothing};
 ghost use Rattle.intaglio_core.specs.Change.{Interns, InternsValue, IsNotMemory};
 ghost use Rattle.intaglio_core.specs.Change.{Reserves, Shrinks, TakesBack, Empties};
@@ -16,7 +15,6 @@ ghost use Rattle.intaglio_core.specs.Cost.{KnownInternCost, KnownSearchCost, IsR
 use crate::indexed_store::{Core, IndexedStore};
 use intaglio_content::{AddedTo, Content, Sought, SoughtIn, Store, Work};
 use intaglio_symbol::{InternError, Mark, RoomError, StaleMark, Symbol};
-use std::alloc::{AllocError, Global};
 use std::hash::BuildHasher;
 
 /// A symbol table, whatever its contents are kept in. A contract sees it as its state: the contents in the order
@@ -99,27 +97,6 @@ pub trait FormInterner {
     ///
     /// If this is called for several hashes before the first of them is searched, their cache misses overlap.
     fn touch_hashed<Q: SoughtIn<Self::Store>>(&self, known_hash: u64, sought: &Q) -> u8;
-
-    /// Looks up a batch of contents or forms whose hashes are known, and returns what
-    /// [`search_hashed`](FormInterner::search_hashed) returns for each, in the same order.
-    ///
-    /// # Errors
-    ///
-    /// [`AllocError`] if a list as long as the batch can't be allocated.
-    fn search_all<Q: SoughtIn<Self::Store>>(
-        &self,
-        alloc: Global,
-        forms: &[Q],
-        hashes: &[u64],
-        work: &mut Work,
-    ) -> Result<Vec<Option<Symbol>>, AllocError>
-        requires hashes { hashes.now ≡ map (λ q. hash self.now (Q.key q)) forms.now }
-        ensures symbols { let held = (state self.now).contents in
-            IfOk result (λ found.
-            found.items ≡ map (λ q. first Self.Content.key held (Q.key q)) forms.now) }
-        ensures cost { OnOk result (Costs work.old work.new
-            (SearchesForms Self.Content.key Q.key (hash self.now) (state self.now) forms.now)) }
-        ensures no_cost { OnErr result (work.new.events ≡ work.old.events) };
 
     /// The symbol of the content that is equal to this content or form, if there is one.
     fn search_counted<Q: SoughtIn<Self::Store>>(
@@ -272,16 +249,6 @@ where
 
     fn touch_hashed<Q: SoughtIn<L>>(&self, known_hash: u64, sought: &Q) -> u8 {
         IndexedStore::touch_hashed(self, known_hash, sought)
-    }
-
-    fn search_all<Q: SoughtIn<L>>(
-        &self,
-        alloc: Global,
-        forms: &[Q],
-        hashes: &[u64],
-        work: &mut Work,
-    ) -> Result<Vec<Option<Symbol>>, AllocError> {
-        IndexedStore::search_all(self, alloc, forms, hashes, work)
     }
 
     fn search_counted<Q: SoughtIn<L>>(&self, sought: &Q, work: &mut Work) -> Option<Symbol> {

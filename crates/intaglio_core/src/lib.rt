@@ -9,10 +9,9 @@
 mod batch;
 pub mod indexed_store;
 pub mod interner;
-mod pending_search;
 mod runs;
 
-pub use batch::{check_all, get_or_intern_all, intern_all};
+pub use batch::{GROUP, check_all, get_or_intern_all, intern_all, look_ahead, touch_all};
 pub use indexed_store::{Core, IndexedStore};
 pub use intaglio_content::{
     AddedTo, ByteStore, Bytewise, Content, Copied, CopiedTo, Formed, Forms, Keyed, Lends, LookedUp,
