@@ -14,6 +14,7 @@ pub mod laws;
 pub mod osstr;
 pub mod packed;
 pub mod path;
+mod table;
 mod text;
 
 pub use error::TableError;
@@ -24,6 +25,6 @@ pub use intaglio_core::{
     SoughtIn, Spelled, SpelledStore, StaleMark, Store, StoreForms, StorePairs, Symbol,
     SymbolOverflowError, ToContent, Work, check_all, get_or_intern_all, intern_all, run,
 };
-pub use intaglio_table::{Table, TableOver};
 pub use intaglio_text::StrContent;
+pub use table::{Table, TableOver};
 pub use text::{Iter, Strings, SymbolTable};

@@ -17,14 +17,14 @@ use std::hash::BuildHasher;
 impl<C: Content + Sought<C> + Drop, S: BuildHasher> Table<C, S> {
     /// Interns a batch of contents, all or none, and returns their symbols in the same order.
     ///
-    /// The symbols are those of internings one by one. Each content is hashed once. All are hashed and looked
-    /// up before the first is added, so the cache misses of several look-ups overlap: that pays if the table
-    /// is large and most contents are in it, with some dozens of contents at a time.
+    /// The symbols are those of internings one by one. Each content is hashed once. In groups of 64, all are
+    /// hashed before the first is interned, so the cache misses of several look-ups overlap: that pays if the
+    /// table is large and most contents are in it, with some dozens of contents at a time.
     ///
     /// # Errors
     ///
-    /// `Overflow` if the table can't hold them all; `Memory` if the allocation of a list as long as the
-    /// batch, or of a growth of the table, fails. After an error the contents of the table are unchanged and
+    /// `Overflow` if the table can't hold them all; `Memory` if the allocation of the list of symbols, or of a
+    /// growth of the table, fails. After an error the contents of the table are unchanged and
     /// its capacity isn't lower, and the arguments are dropped.
     ///
     /// ```
@@ -61,12 +61,12 @@ where
     /// Looks up a batch of forms, and returns what [`check_interned`](TableOver::check_interned) returns for
     /// each, in the same order.
     ///
-    /// Each form is hashed once. All are hashed before the first is looked up, so the cache misses of several
-    /// look-ups overlap: that pays if the table is large, with some dozens of forms at a time.
+    /// Each form is hashed once. In groups of 64, all are hashed before the first is looked up, so the cache
+    /// misses of several look-ups overlap: that pays if the table is large, with some dozens of forms at a time.
     ///
     /// # Errors
     ///
-    /// [`AllocError`] if the allocation of a list as long as the batch fails.
+    /// [`AllocError`] if the allocation of the list of symbols fails.
     ///
     /// ```
     /// # use intaglio::{StrContent, SymbolTable};
@@ -86,12 +86,12 @@ where
     /// order. Only new forms are copied.
     ///
     /// The symbols are those of [`get_or_intern`](TableOver::get_or_intern) called one by one. Each form is
-    /// hashed once; all are looked up before the first is added, as by [`intern_all`](TableOver::intern_all).
+    /// hashed once, ahead of its group, as by [`intern_all`](TableOver::intern_all).
     ///
     /// # Errors
     ///
-    /// `Overflow` if the table can't hold them all; `Memory` if the allocation of a list as long as the
-    /// batch, of a copy or of a growth of the table fails. After an error the contents of the table are
+    /// `Overflow` if the table can't hold them all; `Memory` if the allocation of the list of symbols, of a
+    /// copy or of a growth of the table fails. After an error the contents of the table are
     /// unchanged, its capacity isn't lower, and there is no less room for bytes.
     ///
     /// ```

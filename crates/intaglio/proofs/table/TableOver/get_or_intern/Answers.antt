@@ -1,5 +1,5 @@
 use Rattle.intaglio_core.proofs.Laws.{interns-form}
-use Rattle.intaglio_table.proofs.table.TableOver.get_or_intern.Goals as goal
+use Rattle.intaglio.proofs.table.TableOver.get_or_intern.Goals as goal
 
 pub returns-clause-step : goal.returns-clause-step
 returns-clause-step g c =

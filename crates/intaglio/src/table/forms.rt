@@ -1,10 +1,11 @@
 //! Interning by a borrowed form.
-ghost use Rattle.std.specs.Prelude.{◌≡◌, ◌<◌, ◌≤◌, IfOk, OnErr};
+ghost use Rattle.std.specs.Prelude.{◌≡◌, ◌<◌, ◌≤◌, ◌↔◌, None, IfOk, IsTrue, OnErr};
 ghost use Rattle.intaglio_content.specs.Key.{hash_of};
-ghost use Rattle.intaglio_core.specs.State.{IsValid};
+ghost use Rattle.intaglio_core.specs.State.{first, IsValid};
 ghost use Rattle.intaglio_core.specs.Cost.{Costs, KnownInternCost};
 ghost use Rattle.intaglio_core.specs.Bytes.{InternsBytes};
 ghost use Rattle.intaglio_core.specs.Change.{InternsValue, InternsForm, IsNotMemory};
+ghost use Rattle.intaglio.specs.Added.{symbol_of};
 ghost use Rattle.intaglio_core.specs.Lookup.{FindsInterned, FindsOthers, IsFound, IsStored, Keeps};
 
 use super::TableOver;
@@ -55,6 +56,40 @@ where
         ensures valid { IsValid L.Content.key self.new.state }
     {
         self.core.get_or_intern(form, &mut Work::new())
+    }
+
+    /// As [`get_or_intern`](TableOver::get_or_intern), and says whether the form was new.
+    ///
+    /// # Errors
+    ///
+    /// Those of [`get_or_intern`](TableOver::get_or_intern).
+    ///
+    /// ```
+    /// # use intaglio::SymbolTable;
+    /// let mut table = SymbolTable::new(rt.alloc())?;
+    /// let (first, was_new) = table.insert_full("abc")?;
+    /// assert!(rt; was_new);
+    /// let (again, was_new) = table.insert_full("abc")?;
+    /// assert!(rt; again == first && !was_new);
+    /// ```
+    #[inline(always)]
+    pub fn insert_full(&mut self, form: L::By) -> Result<(Symbol, bool), InternError>
+        ensures step { let interns = InternsForm L.Content.key L.Content.spelling self.old.state in
+            interns (L.By.key form) (L.By.form_spelling form) (symbol_of result) self.new.state }
+        ensures interned { let k = L.By.key form in
+            FindsInterned L.Content.key self.old.state k (symbol_of result) self.new.state }
+        ensures was_new { let old = first L.Content.key self.old.state.contents (L.By.key form) in
+            IfOk result (λ added. IsTrue added.1 ↔ (old ≡ None)) }
+        ensures bytes { let interns = InternsBytes L.takes L.Content.key (L.By.needs form) (L.By.key form) in
+            interns self.old.state self.old.spare_bytes (symbol_of result) self.new.state self.new.spare_bytes }
+        ensures none_needed { 0 < self.old.state.spare → L.By.in_store → L.By.needs form ≤ self.old.spare_bytes →
+            IsNotMemory (symbol_of result) }
+        ensures hasher { self.new.hasher ≡ self.old.hasher }
+        ensures valid { IsValid L.Content.key self.new.state }
+    {
+        let count = self.len();
+        let symbol = self.get_or_intern(form)?;
+        Ok((symbol, self.len() > count))
     }
 }
 
