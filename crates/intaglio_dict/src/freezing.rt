@@ -1,55 +1,75 @@
 //! The subcommand that writes a dictionary.
-use crate::input::{files, standard};
+use crate::input::{STANDARD_INPUT, lines, size_of};
 use crate::keys::keys_of;
+use crate::metered::Meter;
 use crate::noticing::Noticing;
+use crate::output::{Bytes, Content, are_one, refuse_input, write_to};
 use crate::progress::Shown;
-use crate::replacing::Place;
 use crate::report;
 use clap::ArgMatches;
 use intaglio_dictionary::error::FreezingError;
-use intaglio_dictionary::freezing::{freeze_lines, freeze_lines_with_default_keys};
+use intaglio_dictionary::freezing::{freeze_column, freeze_lines, freeze_lines_with_default_keys};
 use intaglio_frozen::{FreezeError, Kind};
 use intaglio_lines::error::StreamError;
 use std::hash::RandomState;
-use std::path::Path;
+use std::io;
+use std::io::Write;
 use std::random::RandomSource;
 use std::rt::Files;
-use std::{fs, io};
 
-// What the lines are frozen to: strings of a kind, under these keys, or under those that the library chooses.
-#[derive(Clone, Copy)]
-struct Wanted {
+// The dictionary of lines: strings of a kind, under these keys, or under those that the library chooses.
+#[derive(Drop)]
+struct Freezing<'a, R> {
     kind: Kind,
     keys: Option<(u64, u64)>,
+    names: &'a [&'a str],
+    input: &'a [u8],
+    // The output for the codes of the lines.
+    codes: Option<&'a str>,
+    shown: Shown<'a, R>,
 }
 
-/// Freezes the lines of files or of standard input, and returns the exit status.
-pub fn freeze<R: Files + RandomSource + Input + Eprint + AllocGlobal>(
-    rt: &R,
-    found: &ArgMatches<'_>,
-) -> u8 {
-    match freeze_found(rt, found) {
-        Ok(()) => 0,
-        Err(status) => status,
-    }
-}
-
-fn freeze_found<R: Files + RandomSource + Input + Eprint + AllocGlobal>(
+/// Freezes the lines of files or of standard input. Otherwise the exit status after a message.
+pub fn freeze<R: Files + RandomSource + Input + Print + Eprint + AllocGlobal>(
     rt: &R,
     found: &ArgMatches<'_>,
 ) -> Result<(), u8> {
     let (Some(name), Some(kind)) = (found.get_str("DICT"), kind_of(found)) else {
         return Err(2);
     };
+    let codes = found.get_str("CODES");
+    let names = found.get_strs("FILE").unwrap_or(STANDARD_INPUT);
+    if let Some(codes) = codes {
+        check_codes(rt, codes, name, names)?;
+    }
     let keys = keys_of(rt, found)?;
-    let input = match found.get_strs("FILE") {
-        Some(names) => files(rt, names)?,
-        None => standard(rt)?,
-    };
-    let mut shown = Shown::new(rt, found.get_flag("PROGRESS"));
+    let is_shown = found.get_flag("PROGRESS");
+    let mut meter = Meter::of(if is_shown { size_of(rt, names) } else { 0 });
+    let input = lines(rt, names, kind == Kind::Text, &mut meter)?;
+    let mut shown = Shown::new(rt, is_shown);
     shown.stage(input.len(), "bytes read");
-    let wanted = Wanted { kind, keys };
-    freeze_to(rt, &Place::of(rt, name)?, wanted, &input, &mut shown)
+    let mut freezing = Freezing {
+        kind,
+        keys,
+        names,
+        input: &input,
+        codes,
+        shown,
+    };
+    write_to(rt, name, names, &mut freezing)
+}
+
+// Refuses codes that are also the dictionary or an input: then the exit status after a message.
+fn check_codes<R: Files + Eprint>(
+    rt: &R,
+    codes: &str,
+    name: &str,
+    names: &[&str],
+) -> Result<(), u8> {
+    if are_one(rt, codes, name) {
+        return Err(report::one_output(rt));
+    }
+    refuse_input(rt, codes, names)
 }
 
 fn kind_of(found: &ArgMatches<'_>) -> Option<Kind> {
@@ -60,62 +80,75 @@ fn kind_of(found: &ArgMatches<'_>) -> Option<Kind> {
     }
 }
 
-// Writes the dictionary beside its place, and replaces what is there when it is whole.
-fn freeze_to<R: Files + RandomSource + Eprint + AllocGlobal>(
-    rt: &R,
-    place: &Place<'_>,
-    wanted: Wanted,
-    input: &[u8],
-    shown: &mut Shown<'_, R>,
-) -> Result<(), u8> {
-    let (path, file) = place.create_beside(rt)?;
-    let replaced = match write_table(rt, path.as_path(), file, wanted, input, shown) {
-        Ok(file) => place.replace(rt, path.as_path(), file),
-        Err(status) => Err(status),
-    };
-    if replaced.is_err() {
-        let _ = fs::remove_file(rt, path.as_path());
-    }
-    replaced
-}
-
-// Writes the dictionary to a file, and returns that. Otherwise the exit status after a message.
-fn write_table<R: Files + RandomSource + Eprint + AllocGlobal>(
-    rt: &R,
-    path: Path<'_>,
-    file: R::File,
-    wanted: Wanted,
-    input: &[u8],
-    shown: &mut Shown<'_, R>,
-) -> Result<R::File, u8> {
-    let Ok(builder) = RandomState::new(rt) else {
-        return Err(report::no_random_bytes(rt));
-    };
-    let (alloc, kind, mut output) = (rt.alloc(), wanted.kind, Noticing::new(file));
-    let written = match wanted.keys {
-        Some(keys) => freeze_lines(alloc, kind, keys, builder, input, &mut output, shown),
-        None => freeze_lines_with_default_keys(alloc, kind, builder, input, &mut output, shown),
-    };
-    let (file, error) = output.into_parts();
-    match written {
-        Ok(()) => Ok(file),
-        Err(refused) => Err(refusal(rt, path.as_str(), refused, error)),
+impl<R: Files + RandomSource + Print + Eprint + AllocGlobal> Content<R> for Freezing<'_, R> {
+    // The codes are written before the dictionary has its place: whoever sees that can read them.
+    fn write<W: Write>(&mut self, rt: &R, name: &str, output: &mut Noticing<W>) -> Result<(), u8> {
+        let Some(codes) = self.codes else {
+            return self.write_table(rt, name, output);
+        };
+        let mut bytes = Noticing::new(Vec::new(rt.alloc()));
+        self.write_column(rt, name, output, &mut bytes)?;
+        let bytes = bytes.into_stream();
+        write_to(rt, codes, self.names, &mut Bytes { bytes: &bytes })
     }
 }
 
-// The exit status after the dictionary wasn't written to its file.
-fn refusal<R: Eprint + AllocGlobal>(
+impl<R: Eprint> Freezing<'_, R> {
+    // Writes the dictionary.
+    fn write_table<Q: RandomSource + Eprint + AllocGlobal, W: Write>(
+        &mut self,
+        rt: &Q,
+        name: &str,
+        output: &mut Noticing<W>,
+    ) -> Result<(), u8> {
+        let Ok(builder) = RandomState::new(rt) else {
+            return Err(report::no_random_bytes(rt));
+        };
+        let (alloc, kind, input) = (rt.alloc(), self.kind, self.input);
+        let shown = &mut self.shown;
+        let written = match self.keys {
+            Some(keys) => freeze_lines(alloc, kind, keys, builder, input, output, shown),
+            None => freeze_lines_with_default_keys(alloc, kind, builder, input, output, shown),
+        };
+        match written {
+            Ok(()) => Ok(()),
+            Err(refused) => Err(refusal(rt, name, refused, output.error())),
+        }
+    }
+
+    // Writes the dictionary, and the codes to memory.
+    fn write_column<Q: RandomSource + Eprint + AllocGlobal, W: Write>(
+        &mut self,
+        rt: &Q,
+        name: &str,
+        output: &mut Noticing<W>,
+        codes: &mut Noticing<Vec<u8>>,
+    ) -> Result<(), u8> {
+        let Ok(builder) = RandomState::new(rt) else {
+            return Err(report::no_random_bytes(rt));
+        };
+        let (alloc, kind, keys, input) = (rt.alloc(), self.kind, self.keys, self.input);
+        let shown = &mut self.shown;
+        match freeze_column(alloc, kind, keys, builder, input, output, codes, shown) {
+            Ok(()) => Ok(()),
+            Err(_) if codes.error().is_some() => Err(report::out_of_memory(rt)),
+            Err(refused) => Err(refusal(rt, name, refused, output.error())),
+        }
+    }
+}
+
+/// The exit status after a dictionary wasn't written to its output.
+pub fn refusal<R: Eprint + AllocGlobal>(
     rt: &R,
-    path: &str,
+    name: &str,
     refused: FreezingError,
     error: Option<io::Error>,
 ) -> u8 {
-    match (refused, error) {
-        (FreezingError::Table(FreezeError::Memory), _) => report::out_of_memory(rt),
-        (FreezingError::Stream(StreamError::Memory), _) => report::out_of_memory(rt),
-        (FreezingError::Table(FreezeError::NoPlaces), _) => report::no_places(rt),
-        (FreezingError::Stream(_), Some(e)) => report::of_file(rt, path, e),
-        (FreezingError::Stream(failure), None) => report::failed(rt, path, failure),
+    match refused {
+        FreezingError::Table(FreezeError::Memory) => report::out_of_memory(rt),
+        FreezingError::Stream(StreamError::Memory) => report::out_of_memory(rt),
+        FreezingError::Table(FreezeError::NoPlaces) => report::no_places(rt),
+        FreezingError::Stream(_) => report::unwritten(rt, name, error),
         _ => report::of_input(rt, refused),
     }
 }

@@ -1,45 +1,89 @@
-//! Whole inputs.
-use crate::noticing::Noticing;
+//! Inputs, which are files or standard input.
+use crate::metered::{Meter, Metered};
 use crate::report;
-use crate::run::INPUT;
 use intaglio_lines::error::StreamError;
 use intaglio_lines::read::read_all;
 use std::alloc::AllocError;
-use std::fs;
 use std::io::Read;
 use std::rt::Files;
+use std::{fs, str};
 
-/// The bytes of a file, or the exit status after a message.
-pub fn file<R: Files + Eprint + AllocGlobal>(rt: &R, name: &str) -> Result<Vec<u8>, u8> {
+/// The name by which a file is standard input or standard output.
+pub const STANDARD: &str = "-";
+
+/// The inputs if none are named.
+pub const STANDARD_INPUT: &[&str] = &[STANDARD];
+
+/// What standard input is called in messages.
+pub const INPUT: &str = "standard input";
+
+/// What an input is called in messages.
+pub fn name_of<'a>(name: &'a str) -> &'a str {
+    if name == STANDARD { INPUT } else { name }
+}
+
+/// The path of an input.
+pub fn path_of<'a>(name: &'a str) -> &'a str {
+    if name == STANDARD { "/dev/stdin" } else { name }
+}
+
+/// How many bytes these inputs have together, or 0 if that isn't known: one of them isn't a regular file.
+pub fn size_of<R: Files>(rt: &R, names: &[&str]) -> u64 {
+    let mut size = 0u64;
+    for name in names {
+        match fs::metadata(rt, path_of(name)) {
+            Ok(found) if found.is_file() => size = size.saturating_add(found.len()),
+            _ => return 0,
+        }
+    }
+    size
+}
+
+/// The bytes of an input, or the exit status after a message.
+pub fn whole<R: Files + Input + Eprint + AllocGlobal>(
+    rt: &R,
+    name: &str,
+    meter: &mut Meter,
+) -> Result<Vec<u8>, u8> {
+    if name == STANDARD {
+        return read_to_end(rt, INPUT, rt.reader(), meter);
+    }
     match fs::open(rt, name) {
-        Ok(input) => whole(rt, name, input),
+        Ok(input) => read_to_end(rt, name, input, meter),
         Err(e) => Err(report::of_file(rt, name, e)),
     }
 }
 
-/// The bytes of standard input, or the exit status after a message.
-pub fn standard<R: Input + Eprint + AllocGlobal>(rt: &R) -> Result<Vec<u8>, u8> {
-    whole(rt, INPUT, rt.reader())
-}
-
-fn whole<R: Eprint + AllocGlobal, I: Read + Drop>(
+fn read_to_end<R: Eprint + AllocGlobal, I: Read + Drop>(
     rt: &R,
     name: &str,
     input: I,
+    meter: &mut Meter,
 ) -> Result<Vec<u8>, u8> {
-    let mut input = Noticing::new(input);
-    match read_all(rt.alloc(), &mut input) {
+    let mut input = Metered::new(rt, *meter, input);
+    let read = read_all(rt.alloc(), &mut input);
+    *meter = input.meter();
+    match read {
         Ok(bytes) => Ok(bytes),
         Err(StreamError::Memory) => Err(report::out_of_memory(rt)),
         Err(_) => Err(report::unread(rt, name, input.error())),
     }
 }
 
-/// The bytes of several files, or the exit status after a message. The last line of each is ended.
-pub fn files<R: Files + Eprint + AllocGlobal>(rt: &R, names: &[&str]) -> Result<Vec<u8>, u8> {
+/// The lines of several inputs, or the exit status after a message. The last line of each is ended, but for the
+/// last input's. If they must be texts, the message names the input and the line that isn't UTF-8.
+pub fn lines<R: Files + Input + Eprint + AllocGlobal>(
+    rt: &R,
+    names: &[&str],
+    are_texts: bool,
+    meter: &mut Meter,
+) -> Result<Vec<u8>, u8> {
     let mut bytes = Vec::new(rt.alloc());
     for name in names {
-        let more = file(rt, *name)?;
+        let more = whole(rt, name, meter)?;
+        if are_texts {
+            check_text(rt, name, &more)?;
+        }
         if bytes.is_empty() {
             bytes = more;
         } else if add(&mut bytes, &more).is_err() {
@@ -47,6 +91,24 @@ pub fn files<R: Files + Eprint + AllocGlobal>(rt: &R, names: &[&str]) -> Result<
         }
     }
     Ok(bytes)
+}
+
+/// Whether bytes are UTF-8: otherwise the exit status after a message that names the input and the line.
+pub fn check_text<R: Eprint>(rt: &R, name: &str, bytes: &[u8]) -> Result<(), u8> {
+    match str::from_utf8(bytes) {
+        Ok(_) => Ok(()),
+        Err(fault) => Err(report::line_not_utf8(
+            rt,
+            name_of(name),
+            line_at(bytes, fault.valid_up_to()),
+        )),
+    }
+}
+
+// The line of a position, counted from 1.
+fn line_at(bytes: &[u8], position: usize) -> usize {
+    let before = bytes.iter().take(position).filter(|b| **b == b'\n');
+    before.count().saturating_add(1)
 }
 
 // Ends the last line, and adds more bytes.

@@ -1,13 +1,19 @@
-//! Makes dictionaries, which are frozen tables in files, and looks up the lines of files in them.
+//! Makes dictionaries, which are frozen tables in files, looks up the lines of files in them, and translates
+//! columns of lines to codes and back.
 //!
 //! What is asked is read from the arguments, and answered by `intaglio_dictionary`.
 #![tactic(auto)]
 
+mod columns;
 mod command;
 mod freezing;
 mod input;
 mod keys;
+mod look_ups;
+mod merging;
+mod metered;
 mod noticing;
+mod output;
 mod progress;
 mod replacing;
 mod report;

@@ -1,8 +1,8 @@
-//! A stream that notices how a read or a write failed.
+//! An output that notices how a write failed.
 use std::io;
-use std::io::{Read, Write};
+use std::io::Write;
 
-/// Reads or writes through another stream, and keeps the last error.
+/// Writes through another stream, and keeps the last error.
 #[derive(Drop)]
 pub struct Noticing<S> {
     stream: S,
@@ -18,28 +18,14 @@ impl<S> Noticing<S> {
         }
     }
 
-    /// The stream, and the last error.
-    pub fn into_parts(self) -> (S, Option<io::Error>) {
-        (self.stream, self.error)
+    /// The stream.
+    pub fn into_stream(self) -> S {
+        self.stream
     }
 
     /// The last error.
     pub fn error(&self) -> Option<io::Error> {
         self.error
-    }
-}
-
-impl<R: Read> Read for Noticing<R> {
-    ghost remaining = { λ r. R.remaining r.stream };
-
-    fn read(&mut self, buf: &mut [u8]) -> io::Result<usize> {
-        match self.stream.read(buf) {
-            Ok(taken) => Ok(taken),
-            Err(error) => {
-                self.error = Some(error);
-                Err(error)
-            }
-        }
     }
 }
 

@@ -1,4 +1,4 @@
-//! How far `freeze` is, on standard error.
+//! How far `freeze` and `merge` are, on standard error.
 use intaglio_dictionary::progress::Progress;
 
 /// Shows each stage that is reached, if that is asked for. A line that can't be written is lost.
@@ -6,12 +6,22 @@ use intaglio_dictionary::progress::Progress;
 pub struct Shown<'a, R> {
     rt: &'a R,
     is_asked_for: bool,
+    distinct: usize,
 }
 
 impl<'a, R: Eprint> Shown<'a, R> {
     /// Nothing was shown yet.
     pub fn new(rt: &'a R, is_asked_for: bool) -> Shown<'a, R> {
-        Shown { rt, is_asked_for }
+        Shown {
+            rt,
+            is_asked_for,
+            distinct: 0,
+        }
+    }
+
+    /// How many distinct lines or strings were reported last.
+    pub fn distinct(&self) -> usize {
+        self.distinct
     }
 
     /// Shows a stage by a count.
@@ -24,6 +34,7 @@ impl<'a, R: Eprint> Shown<'a, R> {
 
 impl<R: Eprint> Progress for Shown<'_, R> {
     fn interned(&mut self, count: usize) {
+        self.distinct = count;
         self.stage(count, "distinct lines");
     }
 

@@ -5,6 +5,9 @@ use intaglio_lines::error::StreamError;
 use std::fmt::Display;
 use std::io;
 
+/// The status if nobody reads the output: as a shell has it for a program that the signal SIGPIPE ended.
+pub const UNREAD_OUTPUT: u8 = 141;
+
 /// Of an error that a file's name goes before. The number that the system gives the error is left out.
 pub fn of_file<R: Eprint + AllocGlobal>(rt: &R, name: &str, error: io::Error) -> u8 {
     if error.kind() == io::ErrorKind::OutOfMemory {
@@ -32,10 +35,48 @@ pub fn unread<R: Eprint + AllocGlobal>(rt: &R, name: &str, error: Option<io::Err
     }
 }
 
+/// Of an output that couldn't be written, by the last error. Nothing is said if nobody reads it.
+pub fn unwritten<R: Eprint + AllocGlobal>(rt: &R, name: &str, error: Option<io::Error>) -> u8 {
+    match error {
+        Some(error) if error.kind() == io::ErrorKind::BrokenPipe => UNREAD_OUTPUT,
+        Some(error) => of_file(rt, name, error),
+        None => failed(rt, name, StreamError::Write),
+    }
+}
+
 /// Of what is wrong with a file, or with one of the standard streams.
 pub fn failed<R: Eprint, D: Display + Drop>(rt: &R, name: &str, what: D) -> u8 {
     let _ = eprintln!(rt; "intaglio_dict: {name}: {what}");
     1
+}
+
+/// Of a line, counted from 1, that must be UTF-8.
+pub fn line_not_utf8<R: Eprint>(rt: &R, name: &str, line: usize) -> u8 {
+    let _ = eprintln!(rt; "intaglio_dict: {name}: line {line} is not UTF-8");
+    1
+}
+
+/// Of a line, counted from 1, that must be a symbol.
+pub fn not_a_symbol<R: Eprint>(rt: &R, name: &str, line: usize, typed: &str) -> u8 {
+    let _ = eprintln!(rt; "intaglio_dict: {name}: line {line} is no symbol: '{typed}'");
+    1
+}
+
+/// Of arguments by which one output would be both.
+pub fn one_output<R: Eprint>(rt: &R) -> u8 {
+    let _ = eprintln!(rt; "intaglio_dict: the codes and the dictionary can't be one output");
+    2
+}
+
+/// How many there are of something, in a summary.
+pub fn count<R: Eprint>(rt: &R, count: u64, what: &str) {
+    let _ = eprintln!(rt; "intaglio_dict: {count} {what}");
+}
+
+/// Of arguments by which standard input would be two inputs.
+pub fn read_twice<R: Eprint>(rt: &R) -> u8 {
+    let _ = eprintln!(rt; "intaglio_dict: standard input can be only one of the inputs");
+    2
 }
 
 /// Of what is wrong with the input as a whole.
@@ -91,8 +132,10 @@ pub fn usage<R: Print + Eprint>(rt: &R, error: clap::Error) -> u8 {
     if error.kind() == ErrorKind::OutOfMemory {
         return out_of_memory(rt);
     }
-    if error.print(rt).is_err() {
-        return 1;
+    match error.print(rt) {
+        Ok(()) => {}
+        Err(e) if e.kind() == io::ErrorKind::BrokenPipe => return UNREAD_OUTPUT,
+        Err(_) => return 1,
     }
     if error.use_stderr() { 2 } else { 0 }
 }

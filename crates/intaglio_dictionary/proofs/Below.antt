@@ -1,5 +1,5 @@
 -- Where no symbol is too large, all are small enough.
-use Rattle.std.proofs.Common.{◌≡◌, sym, refl, ℕ, ◌<◌, Bool, true, false, cond, nat_le, leb-false, List, [], ◌∷◌, Option, Some, None, All, arith}
+use Rattle.std.proofs.Common.{◌≡◌, sym, refl, ℕ, ◌<◌, Bool, true, false, cond, nat_le, leb-false, List, [], ◌∷◌, Some, None, All}
 use Rattle.std.specs.List.{find, AllByRecursion}
 use Rattle.std.proofs.lemmas.Option.{none-some}
 use Rattle.std.proofs.lemmas.List.Elements.{All-from_recursion}

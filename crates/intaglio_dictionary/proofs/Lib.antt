@@ -1,2 +1,6 @@
 pub mod Listed
 pub mod Below
+pub mod Found
+pub mod Translated
+pub mod Coded
+pub mod Cut

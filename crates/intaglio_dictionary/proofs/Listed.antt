@@ -1,5 +1,5 @@
 -- What is made of the items of a list, one after the other.
-use Rattle.std.proofs.Common.{◌≡◌, ◌∙◌, ℕ, ◌+◌, List, [], ◌∷◌, ◌++◌, take, Option, Some, refl, ap}
+use Rattle.std.proofs.Common.{◌≡◌, ◌∙◌, ℕ, ◌+◌, List, [], ◌∷◌, ◌++◌, take, Option, Some, refl, ap, sym}
 use Rattle.std.specs.List.{slice_get, flat_map, fold}
 use Rattle.std.specs.Io.KnownBytes.{Appends}
 use Rattle.std.proofs.lemmas.List.{append-nil}
@@ -15,10 +15,16 @@ module _ {X : Type 0} (xs : List X) (n : ℕ) (x : X) (at : slice_get xs n ≡ S
   pub fold-next : {B : Type 0} (f : B → X → B) (a : B) → fold f a (take (n + 1) xs) ≡ f (fold f a (take n xs)) x
   fold-next f a = rw (next, fold-append f a (take n xs) (x ∷ [])) refl
 
-  flat_map-next : (f : X → List ℕ) → flat_map f (take (n + 1) xs) ≡ flat_map f (take n xs) ++ f x
+  pub flat_map-next : (f : X → List ℕ) → flat_map f (take (n + 1) xs) ≡ flat_map f (take n xs) ++ f x
   flat_map-next f = rw (next, flat_map-append f (take n xs) (x ∷ [])) (ap (λ t. flat_map f (take n xs) ++ t) (append-nil (f x)))
 
   -- the lines so far, and that of one item more
   pub appends-next : (f : X → List ℕ) (old mid new : Option (List ℕ)) (line : List ℕ) → line ≡ f x
       → Appends old mid (flat_map f (take n xs)) → Appends mid new line → Appends old new (flat_map f (take (n + 1) xs))
   appends-next f old mid new line same before more = rw (flat_map-next f) (Appends-append old mid new _ _ before (rw same at more))
+
+  -- pieces of other items, which are the same so far, and one more
+  pub same-next : {Y : Type 0} (h : Y → List ℕ) (ys : List Y) (y : Y) (f : X → List ℕ) → flat_map h ys ≡ flat_map f (take n xs) → h y ≡ f x
+      → flat_map h (ys ++ y ∷ []) ≡ flat_map f (take (n + 1) xs)
+  same-next h ys y f before same =
+      flat_map-append h ys (y ∷ []) ∙ ap (λ t. flat_map h ys ++ t) (append-nil (h y)) ∙ rw (before, same) (sym (flat_map-next f))

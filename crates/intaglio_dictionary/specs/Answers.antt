@@ -1,9 +1,10 @@
 -- What is written of a dictionary.
-use Rattle.std.specs.Prelude.{◌≡◌, ℕ, ◌+◌, ◌<◌, List, [], ◌∷◌, length, map, max, find, nat_le, All, Option, None, Some}
-use Rattle.std.specs.List.{flat_map, fold}
+use Rattle.std.specs.Prelude.{◌≡◌, ⊤, ℕ, ◌+◌, ◌<◌, Bool, List, [], ◌∷◌, length, max, find, nat_le, slice_get, is_some, All, Option, None, Some, IfSome}
+use Rattle.std.specs.List.{flat_map, fold, list_all}
 use Rattle.intaglio_core.specs.State.{first}
 use Rattle.intaglio_lines.specs.Lines.{lines_of}
 use Rattle.intaglio_lines.specs.Output.{number_line}
+use Rattle.intaglio_lines.specs.Puts.{Writes}
 use Rattle.intaglio_lines.specs.StreamError.{IsWritingError}
 use Rattle.intaglio_dictionary.specs.declared.error.DictionaryError.{DictionaryError}
 use Rattle.intaglio_dictionary.specs.declared.error.DictionaryError.TheVariants.{NoString, Stream}
@@ -20,6 +21,24 @@ position_in strings line = first (λ w. w ∷ []) strings (line ∷ [])
 -- the symbols of the lines of an input
 abbrev pub answers : List (List ℕ) → List ℕ → List ℕ
 answers strings input = flat_map (λ line. answer_line (position_in strings line)) (lines_of input)
+
+-- what a look-up finds of a line is the symbol of an equal string, and in a whole dictionary the first one
+abbrev pub IsFound : List (List ℕ) → Type 0 → List ℕ → Option ℕ → Type 0
+IsFound strings IsWhole line found =
+    IfSome found (λ symbol. slice_get strings symbol ≡ Some line) × (IsWhole → found ≡ position_in strings line)
+
+-- these are found of these lines
+abbrev pub AreFound : List (List ℕ) → Type 0 → List (List ℕ) → List (Option ℕ) → Type 0
+AreFound strings IsWhole [] [] = ⊤
+AreFound strings IsWhole [] (found ∷ more) = ⊥
+AreFound strings IsWhole (line ∷ lines) [] = ⊥
+AreFound strings IsWhole (line ∷ lines) (found ∷ more) = IsFound strings IsWhole line found × AreFound strings IsWhole lines more
+
+-- what is found of the lines of an input is written, and whether something is found of each line
+abbrev pub WritesFound : {W : Type 0} → List (List ℕ) → Type 0 → Bool → (W → Option (List ℕ)) → W → W → List ℕ → Type 0
+WritesFound strings IsWhole all contents old new input =
+    (found : List (Option ℕ)) × AreFound strings IsWhole (lines_of input) found
+    × Writes contents old new (flat_map answer_line found) × (all ≡ list_all is_some found)
 
 -- each is the symbol of a string
 abbrev pub AreSymbols : List ℕ → List (List ℕ) → Type 0

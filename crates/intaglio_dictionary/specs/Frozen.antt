@@ -1,7 +1,7 @@
 -- What is written of the lines of an input, frozen.
 use Rattle.std.specs.Prelude.{ℕ, ⊤, List, [], ◌∷◌, Option, Some, None}
 use Rattle.std.specs.Str.{IsUtf8}
-use Rattle.intaglio_core.specs.Issue.{interned_all}
+use Rattle.intaglio_core.specs.Issue.{interned_all, issue}
 use Rattle.intaglio_lines.specs.Lines.{lines_of}
 use Rattle.intaglio_lines.specs.Puts.{Writes}
 use Rattle.intaglio_lines.specs.StreamError.{IsWritingError}
@@ -14,6 +14,10 @@ use Rattle.intaglio_dictionary.specs.declared.error.FreezingError.TheVariants.{N
 -- the distinct lines, in the order of their first occurrences
 abbrev pub distinct_lines : List ℕ → List (List ℕ)
 distinct_lines input = interned_all (λ w. w ∷ []) [] (lines_of input)
+
+-- the symbols of the lines among those
+abbrev pub line_symbols : List ℕ → List ℕ
+line_symbols input = issue (λ w. w ∷ []) (lines_of input)
 
 -- the input can be split into lines of this kind
 abbrev pub Allows : Kind → List ℕ → Type 0
@@ -35,3 +39,9 @@ abbrev pub IsRefusal : Kind → List ℕ → FreezingError → Type 0
 IsRefusal kind input NotUtf8 = ¬ (Allows kind input)
 IsRefusal kind input (Table error) = IsTableRefusal kind (distinct_lines input) error
 IsRefusal kind input (Stream failure) = IsWritingError failure
+
+-- when each error of a merge is returned
+abbrev pub IsMergingRefusal : Kind → List (List ℕ) → FreezingError → Type 0
+IsMergingRefusal kind strings NotUtf8 = ⊥
+IsMergingRefusal kind strings (Table error) = IsTableRefusal kind strings error
+IsMergingRefusal kind strings (Stream failure) = IsWritingError failure

@@ -1,38 +1,59 @@
-//! Writes the symbol of each line of an input.
-ghost use Rattle.std.specs.Prelude.{OnOk};
+//! Looks up the lines of an input, and writes what was found.
+ghost use Rattle.std.specs.Prelude.{OnOk, IfOk};
+ghost use Rattle.std.specs.List.{flat_map};
+ghost use Rattle.intaglio_lines.specs.Lines.{lines_of};
 ghost use Rattle.intaglio_lines.specs.Puts.{Puts};
-ghost use Rattle.intaglio_dictionary.specs.Answers.{answer_line, answers};
+ghost use Rattle.intaglio_dictionary.specs.Answers.{answer_line, AreFound};
 
-use intaglio_frozen::Frozen;
+use crate::dictionary::Dictionary;
 use intaglio_lines::lines::first_line;
 use intaglio_lines::write::{Output, make_room, put};
 use intaglio_symbol::Symbol;
+use std::alloc::{AllocError, Global};
 use std::io;
 use std::io::Write;
 
 // The length of the longest line of a number: ten digits and byte 10.
 const NUMBER_LINE: usize = 11;
 
-/// The output: for each line of the input its symbol, or a dash if the line isn't in the table.
-#[derive(Drop)]
-pub struct Answers<'a, 't> {
-    /// The table in which lines are looked up.
-    pub table: &'a Frozen<'t>,
-    /// The input.
-    pub input: &'a [u8],
+/// What is found of each line of an input.
+///
+/// # Errors
+///
+/// [`AllocError`] if the allocation of the list fails.
+pub(crate) fn look_up_lines<D: Dictionary>(
+    alloc: Global,
+    table: &D,
+    input: &[u8],
+) -> Result<Vec<Option<Symbol>>, AllocError>
+    ensures { IfOk result (λ found.
+        AreFound (D.strings table.now) (D.is_whole table.now) (lines_of input.now) found.items) }
+{
+    let mut found = Vec::new(alloc);
+    let mut rest = input;
+    while !rest.is_empty() {
+        let (line, after) = first_line(rest);
+        found.push(table.symbol(line))?;
+        rest = after;
+    }
+    Ok(found)
 }
 
-impl Output for Answers<'_, '_> {
-    ghost bytes = { λ output. answers output.table.now output.input.now };
+/// The output: the symbol of each line of an input, or a dash if none was found.
+#[derive(Drop)]
+pub struct Answers<'a> {
+    /// What was found of each line.
+    pub found: &'a [Option<Symbol>],
+}
+
+impl Output for Answers<'_> {
+    ghost bytes = { λ output. flat_map answer_line output.found.now };
 
     ghost is_ready = { λ _. Unit {0} };
 
     fn put_all<W: Write>(&self, block: &mut Vec<u8>, writer: &mut W) -> io::Result<()> {
-        let mut rest = self.input;
-        while !rest.is_empty() {
-            let (line, after) = first_line(rest);
-            put_answer(self.table.check_interned(line), block, writer)?;
-            rest = after;
+        for found in self.found {
+            put_answer(*found, block, writer)?;
         }
         Ok(())
     }

@@ -1,7 +1,7 @@
 //! Errors.
 ghost use Rattle.std.specs.Prelude.{◌≡◌};
 ghost use Rattle.intaglio_dictionary.specs.declared.error.DictionaryError.TheVariants.{Stream};
-ghost use Rattle.intaglio_dictionary.specs.declared.error.FreezingError.TheVariants.{Table};
+ghost use Rattle.intaglio_dictionary.specs.declared.error.FreezingError.TheVariants.{Table, Stream as FreezingStopped};
 
 use intaglio_frozen::FreezeError;
 use intaglio_lines::error::StreamError;
@@ -40,10 +40,35 @@ pub enum FreezingError {
     Stream(StreamError),
 }
 
+impl From<StreamError> for FreezingError {
+    ghost from_gives = { λ stopped error. error ≡ FreezingStopped stopped };
+
+    fn from(stopped: StreamError) -> FreezingError {
+        FreezingError::Stream(stopped)
+    }
+}
+
 impl From<FreezeError> for FreezingError {
     ghost from_gives = { λ refused error. error ≡ Table refused };
 
     fn from(refused: FreezeError) -> FreezingError {
         FreezingError::Table(refused)
     }
+}
+
+/// Why a column wasn't encoded, decoded or renumbered, or not all of it.
+#[derive(Clone, Copy, Debug, PartialEq, Eq, Error)]
+pub enum ColumnError {
+    /// The line with this number, counted from 1, isn't in the dictionary.
+    #[error("line {0} is not in the dictionary")]
+    NoSymbol(u64),
+    /// The code with this number, counted from 1, is no symbol.
+    #[error("code {0} is no symbol")]
+    NoString(u64),
+    /// The input ends within the code with this number, counted from 1.
+    #[error("code {0} is cut short")]
+    ShortCode(u64),
+    /// An allocation, a read or a write failed.
+    #[error(transparent)]
+    Stream(StreamError),
 }

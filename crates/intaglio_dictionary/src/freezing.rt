@@ -5,17 +5,21 @@ ghost use Rattle.intaglio_frozen.specs.declared.kind.Kind.{Kind};
 ghost use Rattle.intaglio_lines.specs.Puts.{Writes};
 ghost use Rattle.intaglio_lines.specs.declared.error.StreamError.TheVariants.{Write as WriteFailed};
 ghost use Rattle.intaglio_frozen.specs.Freezing.{HasDefaultKeys, HasKeys, IsRefusal as IsTableRefusal, IsTableOf};
-ghost use Rattle.intaglio_dictionary.specs.Frozen.{Allows, HasKeysFor, IsRefusal, WritesTable, distinct_lines};
+ghost use Rattle.intaglio_dictionary.specs.Columns.{encoded_column};
+ghost use Rattle.intaglio_dictionary.specs.Frozen.{Allows, HasKeysFor, IsRefusal, WritesTable, distinct_lines, line_symbols};
 ghost use Rattle.intaglio_dictionary.specs.declared.error.FreezingError.TheVariants.{NotUtf8, Stream};
 
+use crate::codes::Codes;
 use crate::error::FreezingError;
 use crate::progress::Progress;
+use intaglio::Table;
 use intaglio_bytes::bytes::BytesContent;
 use intaglio_encode::error::ToolError;
 use intaglio_encode::intern_lines::intern_lines;
 use intaglio_frozen::{FreezeError, Kind, StringList, freeze, freeze_with_default_keys};
 use intaglio_lines::error::StreamError;
-use intaglio_table::Table;
+use intaglio_lines::write::write_output;
+use intaglio_symbol::Symbol;
 use std::alloc::Global;
 use std::hash::BuildHasher;
 use std::io::Write;
@@ -73,6 +77,44 @@ pub fn freeze_lines_with_default_keys<S: BuildHasher + Drop, W: Write, P: Progre
     write_frozen(alloc, kind, None, builder, input, writer, progress)
 }
 
+/// As [`freeze_lines`], or, if no keys are given, as [`freeze_lines_with_default_keys`], and writes the code of each
+/// line to `codes`, as [`encode`](crate::columns::encode) would under the frozen table. The codes are written first.
+///
+/// # Errors
+///
+/// Those of [`freeze_lines`]; after each but `Write` nothing was written.
+pub fn freeze_column<S: BuildHasher + Drop, W: Write, V: Write, P: Progress>(
+    alloc: Global,
+    kind: Kind,
+    keys: Option<(u64, u64)>,
+    builder: S,
+    input: &[u8],
+    writer: &mut W,
+    codes: &mut V,
+    progress: &mut P,
+) -> Result<(), FreezingError>
+    ensures written { let lines = distinct_lines input.now in
+        OnOk result (WritesTable kind (HasKeysFor keys lines) lines W.contents writer.old writer.new) }
+    ensures codes { let column = encoded_column (distinct_lines input.now) input.now in
+        OnOk result (Writes V.contents codes.old codes.new column) }
+    ensures refuses { ¬ (Allows kind input.now) → result ≡ Err NotUtf8 }
+    ensures err { IfErr result (IsRefusal kind input.now) }
+    ensures nothing_written { IfErr result (λ e. e ≢ Stream WriteFailed → writer.new ≡ writer.old) }
+    ensures no_codes { IfErr result (λ e. e ≢ Stream WriteFailed → codes.new ≡ codes.old) }
+{
+    let allowed = is_allowed(kind, input);
+    if !allowed {
+        return Err(FreezingError::NotUtf8);
+    }
+    let (bytes, symbols) = frozen_column(alloc, kind, keys, builder, input, progress)?;
+    progress.frozen(bytes.len());
+    write_output(alloc, &Codes { codes: &symbols }, codes)?;
+    match write_whole(&bytes, writer) {
+        Ok(()) => Ok(()),
+        Err(_) => Err(FreezingError::Stream(StreamError::Write)),
+    }
+}
+
 // Writes a frozen table of the distinct lines, under these keys if they are given.
 fn write_frozen<S: BuildHasher + Drop, W: Write, P: Progress>(
     alloc: Global,
@@ -92,7 +134,7 @@ fn write_frozen<S: BuildHasher + Drop, W: Write, P: Progress>(
     if !is_allowed(kind, input) {
         return Err(FreezingError::NotUtf8);
     }
-    let bytes = frozen_lines(alloc, kind, keys, builder, input, progress)?;
+    let (bytes, _) = frozen_column(alloc, kind, keys, builder, input, progress)?;
     progress.frozen(bytes.len());
     match write_whole(&bytes, writer) {
         Ok(()) => Ok(()),
@@ -110,30 +152,31 @@ fn is_allowed(kind: Kind, input: &[u8]) -> bool
     }
 }
 
-// The bytes of a frozen table of the distinct lines.
-fn frozen_lines<S: BuildHasher + Drop, P: Progress>(
+// The bytes of a frozen table of the distinct lines, and the symbol of each line.
+fn frozen_column<S: BuildHasher + Drop, P: Progress>(
     alloc: Global,
     kind: Kind,
     keys: Option<(u64, u64)>,
     builder: S,
     input: &[u8],
     progress: &mut P,
-) -> Result<Vec<u8>, FreezingError>
-    ensures table { IfOk result (λ bytes. IsTableOf kind (distinct_lines input.now) bytes.items) }
-    ensures keyed { IfOk result (λ bytes. HasKeysFor keys (distinct_lines input.now) bytes.items) }
+) -> Result<(Vec<u8>, Vec<Symbol>), FreezingError>
+    ensures table { IfOk result (λ made. IsTableOf kind (distinct_lines input.now) made.0.items) }
+    ensures keyed { IfOk result (λ made. HasKeysFor keys (distinct_lines input.now) made.0.items) }
+    ensures symbols { IfOk result (λ made. made.1.items ≡ line_symbols input.now) }
     ensures err { IfErr result (IsRefusal kind input.now) }
 {
     match interned_lines(alloc, builder, input) {
-        Ok(table) => {
+        Ok((table, symbols)) => {
             progress.interned(table.len());
-            Ok(freeze_table(alloc, &table, kind, keys)?)
+            Ok((freeze_table(alloc, &table, kind, keys)?, symbols))
         }
         Err(refused) => Err(refused),
     }
 }
 
 // The bytes of a frozen table of these strings.
-fn freeze_table<L: StringList>(
+pub(crate) fn freeze_table<L: StringList>(
     alloc: Global,
     list: &L,
     kind: Kind,
@@ -149,20 +192,22 @@ fn freeze_table<L: StringList>(
     }
 }
 
-// A table of the distinct lines.
+// A table of the distinct lines, and the symbol of each line.
 fn interned_lines<S: BuildHasher + Drop>(
     alloc: Global,
     builder: S,
     input: &[u8],
-) -> Result<Table<BytesContent, S>, FreezingError>
-    ensures lines { IfOk result (λ table. map bytes_content_bytes table.state.contents ≡ distinct_lines input.now) }
+) -> Result<(Table<BytesContent, S>, Vec<Symbol>), FreezingError>
+    ensures lines { IfOk result (λ made.
+        map bytes_content_bytes made.0.state.contents ≡ distinct_lines input.now) }
+    ensures symbols { IfOk result (λ made. made.1.items ≡ line_symbols input.now) }
     ensures err { IfErr result (λ e. (kind : Kind) → IsRefusal kind input.now e) }
 {
     let Ok(mut table) = Table::<BytesContent, S>::with_hasher(alloc, builder) else {
         return Err(FreezingError::Stream(StreamError::Memory));
     };
     match intern_lines(alloc, &mut table, input) {
-        Ok(_) => Ok(table),
+        Ok(symbols) => Ok((table, symbols)),
         Err(ToolError::Overflow) => Err(FreezingError::Table(FreezeError::TooMany)),
         // Each line of bytes fits, and nothing is read or written.
         Err(_) => Err(FreezingError::Stream(StreamError::Memory)),
@@ -170,7 +215,7 @@ fn interned_lines<S: BuildHasher + Drop>(
 }
 
 // Writes all bytes, and flushes.
-fn write_whole<W: Write>(bytes: &[u8], writer: &mut W) -> io::Result<()>
+pub(crate) fn write_whole<W: Write>(bytes: &[u8], writer: &mut W) -> io::Result<()>
     ensures { OnOk result (Writes W.contents writer.old writer.new bytes.now) }
 {
     writer.write_all(bytes)?;

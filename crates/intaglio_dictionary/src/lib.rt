@@ -3,9 +3,14 @@
 #![tactic(auto)]
 
 pub mod answer;
+pub mod codes;
+pub mod columns;
+pub mod dictionary;
 pub mod error;
 pub mod freezing;
 pub mod look_up;
+pub mod merging;
 pub mod progress;
 pub mod size;
 pub mod strings;
+pub mod translate;

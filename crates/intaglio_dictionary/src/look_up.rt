@@ -1,18 +1,19 @@
 //! Look-ups in a dictionary, from bytes read to bytes written.
-ghost use Rattle.std.specs.Prelude.{◌≡◌, ◌≢◌, OnOk, IfErr, IfSome, find, nat_le};
-ghost use Rattle.std.specs.List.{flat_map};
+ghost use Rattle.std.specs.Prelude.{◌≡◌, ◌≢◌, OnOk, IfOk, IfErr, IfSome, find, is_some, nat_le};
+ghost use Rattle.std.specs.List.{flat_map, list_all};
 ghost use Rattle.std.specs.Io.KnownBytes.{IsAtEnd};
 ghost use Rattle.intaglio_lines.specs.Decoded.{decoded};
 ghost use Rattle.intaglio_lines.specs.Output.{spelling_line};
 ghost use Rattle.intaglio_lines.specs.Puts.{Writes};
 ghost use Rattle.intaglio_lines.specs.StreamError.{IsWritingError};
 ghost use Rattle.intaglio_lines.specs.declared.error.StreamError.TheVariants.{Write as WriteFailed};
-ghost use Rattle.intaglio_dictionary.specs.Answers.{answers, unknown, AreSymbols, Reports};
+ghost use Rattle.intaglio_dictionary.specs.Answers.{answers, unknown, AreSymbols, Reports, WritesFound};
 ghost use Rattle.intaglio_dictionary.specs.declared.error.DictionaryError.TheVariants.{Stream};
 
-use crate::answer::Answers;
+use crate::answer::{Answers, look_up_lines};
+use crate::dictionary::Dictionary;
 use crate::error::DictionaryError;
-use crate::strings::{Listing, Selection};
+use crate::strings::{Listing, Selection, strings_of};
 use intaglio_frozen::Frozen;
 use intaglio_lines::error::StreamError;
 use intaglio_lines::read::read_all;
@@ -21,30 +22,38 @@ use intaglio_symbol::Symbol;
 use std::alloc::Global;
 use std::io::{Read, Write};
 
-/// Looks up each line of an input, and writes its symbol, or a dash if it isn't in the table.
+/// Looks up each line of an input, and writes its symbol, or a dash if it isn't found. Returns whether each line
+/// was found.
 ///
 /// The whole input is read before anything is written.
 ///
 /// # Errors
 ///
 /// `Memory`, `Read` or `Write`. After each but `Write` nothing was written.
-pub fn find_lines<R: Read, W: Write>(
+pub fn find_lines<D: Dictionary, R: Read, W: Write>(
     alloc: Global,
-    table: &Frozen<'_>,
+    table: &D,
     reader: &mut R,
     writer: &mut W,
-) -> Result<(), StreamError>
-    ensures written { OnOk result (IfSome (R.remaining reader.old)
-        (λ input. Writes W.contents writer.old writer.new (answers table.now input))) }
+) -> Result<bool, StreamError>
+    ensures written { OnOk result (IfSome (R.remaining reader.old) (λ input. D.is_whole table.now
+        → Writes W.contents writer.old writer.new (answers (D.strings table.now) input))) }
+    ensures found { IfOk result (λ all. IfSome (R.remaining reader.old) (WritesFound
+        (D.strings table.now) (D.is_whole table.now) all W.contents writer.old writer.new)) }
     ensures all_read { OnOk result (IsAtEnd (R.remaining reader.new)) }
     ensures nothing_written { IfErr result (λ e. e ≢ WriteFailed → writer.new ≡ writer.old) }
 {
     let input = read_all(alloc, reader)?;
-    let output = Answers {
-        table,
-        input: &input,
-    };
-    write_output(alloc, &output, writer)
+    let found = look_up_lines(alloc, table, &input)?;
+    write_output(alloc, &Answers { found: &found }, writer)?;
+    Ok(are_all_there(&found))
+}
+
+// Whether something was found of each line.
+fn are_all_there(found: &[Option<Symbol>]) -> bool
+    ensures { result ≡ list_all is_some found.now }
+{
+    found.iter().all(|it| it.is_some())
 }
 
 /// Writes the string of each of these symbols, each on a line.
@@ -52,23 +61,26 @@ pub fn find_lines<R: Read, W: Write>(
 /// # Errors
 ///
 /// `NoString` for the first symbol that no string has, before anything is written; `Memory` or `Write`. After
-/// each but `Write` nothing was written.
-pub fn write_strings<W: Write>(
+/// each but `Write` nothing was written. If the dictionary isn't whole, `NoString` also for a symbol whose string
+/// isn't there.
+pub fn write_strings<D: Dictionary, W: Write>(
     alloc: Global,
-    table: &Frozen<'_>,
+    table: &D,
     symbols: &[Symbol],
     writer: &mut W,
 ) -> Result<(), DictionaryError>
     ensures written { OnOk result
-        (Writes W.contents writer.old writer.new (decoded symbols.now table.now)) }
-    ensures known { OnOk result (AreSymbols symbols.now table.now) }
-    ensures unknown { IfErr result (λ e. Reports e (unknown symbols.now table.now)) }
+        (Writes W.contents writer.old writer.new (decoded symbols.now (D.strings table.now))) }
+    ensures known { OnOk result (AreSymbols symbols.now (D.strings table.now)) }
+    ensures unknown { D.is_whole table.now
+        → IfErr result (λ e. Reports e (unknown symbols.now (D.strings table.now))) }
     ensures nothing_written { IfErr result (λ e. e ≢ Stream WriteFailed → writer.new ≡ writer.old) }
 {
     match first_from(symbols, table.len()) {
         Some(symbol) => Err(DictionaryError::NoString(symbol.id())),
         None => {
-            write_output(alloc, &Selection { table, symbols }, writer)?;
+            let strings = strings_of(alloc, table, symbols)?;
+            write_output(alloc, &Selection { strings: &strings }, writer)?;
             Ok(())
         }
     }

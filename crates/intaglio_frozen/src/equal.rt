@@ -4,11 +4,11 @@ ghost use Rattle.intaglio_frozen.specs.Freezing.{AreEqual, HasNoEqual};
 
 use crate::list::StringList;
 use crate::placing::Hashed;
+use intaglio::TableOver;
 use intaglio_content::same_bytes;
 use intaglio_hash::KeyedState;
 use intaglio_packed::Packed;
 use intaglio_symbol::InternError;
-use intaglio_table::TableOver;
 use std::alloc::Global;
 
 // How many symbols there are.

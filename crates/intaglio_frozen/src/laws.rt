@@ -4,8 +4,8 @@ ghost use Rattle.intaglio_core.specs.State.{first};
 ghost use Rattle.intaglio_frozen.specs.IsFrozen.{IsFrozen};
 ghost use Rattle.intaglio_frozen.specs.SameTable.{AreSameTable};
 
+use intaglio::Table;
 use intaglio_content::Content;
-use intaglio_table::Table;
 use std::hash::BuildHasher;
 
 /// A look-up in a table finds what a look-up in the list of its spellings finds, which is what a frozen table is,

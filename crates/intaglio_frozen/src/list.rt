@@ -5,10 +5,10 @@ ghost use Rattle.intaglio_frozen.specs.Fault.{IsNoText};
 ghost use Rattle.intaglio_frozen.specs.declared.kind.Kind.TheVariants.{Text};
 
 use crate::kind::Kind;
+use intaglio::{Table, TableOver};
 use intaglio_content::{Spelled, Store};
 use intaglio_packed::{Packed, Texts};
 use intaglio_symbol::Symbol;
-use intaglio_table::{Table, TableOver};
 use std::hash::BuildHasher;
 use std::str;
 

@@ -5,9 +5,9 @@ ghost use Rattle.intaglio_core.specs.Batch.{IfOverflow};
 
 use crate::frozen::Frozen;
 use crate::iter::FrozenStrings;
+use intaglio::TableOver;
 use intaglio_packed::Packed;
 use intaglio_symbol::InternError;
-use intaglio_table::TableOver;
 use std::alloc::{AllocError, Global};
 use std::hash::BuildHasher;
 

@@ -1,4 +1,4 @@
-use Rattle.std.proofs.Common.{◌≡◌, ◌∙◌, ◌+◌, sym, ap, length, max, rules, arith}
+use Rattle.std.proofs.Common.{◌∙◌, ◌+◌, sym, ap, length, max, rules, arith}
 use Rattle.std.specs.Option.{option_copied}
 use Rattle.intaglio_dictionary.proofs.Listed.{fold-next}
 use Rattle.intaglio_dictionary.proofs.size.size_of_strings.Goals as goal

@@ -1,0 +1,323 @@
+"""A reader and a writer of columns, which are codes and maps in files, written from docs/FROZEN.md alone; and what `intaglio_dict` makes of
+random columns, of damaged ones, and of devices and memory that fail.
+"""
+import itertools
+import os
+import random
+import struct
+import subprocess
+import tempfile
+from pathlib import Path
+
+from frozen_tables import BYTES, TEXT, freeze, is_text
+from programs import run
+
+NAME = "intaglio_dict"
+MISSING = 2**32 - 1
+PARTS = 10
+SIZES = (0, 1, 7, 300, 5_000, 100_000)
+
+
+class Damaged(ValueError):
+    """A column or a map isn't whole. It has the position, counted from 1, and what is wrong there."""
+
+
+# Columns in memory: lists of lines, of codes and of strings.
+
+
+def packed(codes):
+    """The bytes of codes, or of a map."""
+    return struct.pack(f"<{len(codes)}I", *codes)
+
+
+def unpacked(data):
+    """The codes in a file, or the entries of a map."""
+    if len(data) % 4:
+        raise Damaged(len(data) // 4 + 1, "is cut short")
+    return [code for (code,) in struct.iter_unpack("<I", data)]
+
+
+def lines_of(data):
+    lines = data.split(b"\n")
+    return lines[: -1 if lines[-1] == b"" else None]
+
+
+def ended(lines):
+    return b"".join(it + b"\n" for it in lines)
+
+
+def encoded(strings, lines, missing=False):
+    """The codes of lines, of which none may be missing unless that is allowed."""
+    symbols = {it: number for number, it in enumerate(strings)}
+    for place, line in enumerate(lines, 1):
+        if line not in symbols and not missing:
+            raise Damaged(place, "is not in the dictionary")
+    return [symbols.get(it, MISSING) for it in lines]
+
+
+def decoded(strings, codes, missing=None):
+    """The lines of codes; the missing ones are this text, if there is one."""
+    for place, code in enumerate(codes, 1):
+        if code >= len(strings) and (code != MISSING or missing is None):
+            raise Damaged(place, "is no symbol")
+    return [missing if it == MISSING else strings[it] for it in codes]
+
+
+def renumbered(numbers, codes):
+    """The codes under a map; missing ones stay so."""
+    for place, code in enumerate(codes, 1):
+        if code >= len(numbers) and code != MISSING:
+            raise Damaged(place, "is no symbol")
+    return [code if code == MISSING else numbers[code] for code in codes]
+
+
+def merged(dictionaries):
+    """The distinct strings of several lists in the order of their first occurrences, and a map for each list."""
+    symbols = {}
+    maps = [[symbols.setdefault(it, len(symbols)) for it in strings] for strings in dictionaries]
+    return [*symbols], maps
+
+
+# What the program makes of them.
+
+
+def read(name):
+    return Path(name).read_bytes()
+
+
+def left(folder):
+    """The new files that weren't renamed."""
+    return [it for it in os.listdir(folder) if it.endswith(".new")]
+
+
+def said(status, *lines, wrote=b""):
+    return (status, wrote, [f"{NAME}: {it}" for it in lines])
+
+
+DONE = said(0)
+
+
+def random_parts(chance, size):
+    """The lines of each part: some are in several parts, some are empty, and some parts have none."""
+    some = [chance.randbytes(chance.randrange(12)).replace(b"\n", b"") for _ in range(1 + size // 3)]
+    words = some if chance.randrange(2) else [b"w%d" % chance.randrange(size + 1) for _ in range(size)] + ["é".encode(), b""]
+    for _ in range(PARTS):
+        count = chance.choice((0, 1, size // 2, size))
+        yield [chance.choice(words) for _ in range(count)]
+
+
+def of_part(tool, part, lines, kind, folder):
+    """Yields what the program was asked of one part, and whether its answer is right."""
+    source, table, codes = (f"{folder}/{part}.{it}" for it in ("lines", "dict", "codes"))
+    data = ended(lines)
+    Path(source).write_bytes(data[: -1 if lines[-1:] not in ([], [b""]) else None])
+    strings = [*dict.fromkeys(lines)]
+    wanted = packed(encoded(strings, lines))
+    word = ("bytes", "text")[kind]
+    yield "freeze --codes", run([tool, "freeze", "--kind", word, "-o", table, "--codes", codes, source]) == DONE
+    yield "the dictionary", read(table) == freeze(strings, kind)
+    yield "the codes", read(codes) == wanted
+    yield "encode", run([tool, "encode", table, source]) == (0, wanted, [])
+    yield "encode -o", run([tool, "encode", table, "-o", f"{codes}.again"], data) == DONE and read(f"{codes}.again") == wanted
+    yield "decode", run([tool, "decode", table, codes]) == (0, data, [])
+    yield "decode standard input", run([tool, "decode", table], wanted) == (0, data, [])
+
+
+def of_column(tool, chance, size, folder):
+    """Yields what the program was asked of a column in parts: each is frozen and encoded, the dictionaries are merged, the codes renumbered."""
+    parts = [*random_parts(chance, size)]
+    kind = TEXT if all(is_text(it) for lines in parts for it in lines) and chance.randrange(2) else BYTES
+    for part, lines in enumerate(parts):
+        for what, is_right in of_part(tool, part, lines, kind, folder):
+            yield f"part {part}: {what}", is_right
+    tables, maps, whole = [f"{folder}/{it}.dict" for it in range(PARTS)], f"{folder}/maps", f"{folder}/whole"
+    yield "merge", run([tool, "merge", *tables, "-o", whole, "--maps", maps]) == DONE
+    strings, numbers = merged([*dict.fromkeys(lines)] for lines in parts)
+    yield "the merged dictionary", read(whole) == freeze(strings, kind)
+    yield "the maps", sorted(os.listdir(maps)) == sorted(f"{it}.map" for it in range(PARTS))
+    for part, lines in enumerate(parts):
+        yield f"map {part}", read(f"{maps}/{part}.map") == packed(numbers[part])
+        codes, again = f"{folder}/{part}.codes", f"{folder}/{part}.new-codes"
+        wanted = packed(renumbered(numbers[part], unpacked(read(codes))))
+        yield f"renumber {part}", run([tool, "renumber", f"{maps}/{part}.map", codes, "-o", again]) == DONE and read(again) == wanted
+        yield f"decode renumbered {part}", run([tool, "decode", whole, again]) == (0, ended(lines), [])
+    files = [f"{folder}/{it}.new-codes" for it in range(PARTS)]
+    every = [it for lines in parts for it in lines]
+    yield "decode all", run([tool, "decode", whole, *files]) == (0, ended(every), [])
+    sources = [f"{folder}/{it}.lines" for it in range(PARTS)]
+    yield "encode all", run([tool, "encode", whole, *sources]) == (0, b"".join(map(read, files)), [])
+    halves = [f"{folder}/half", f"{folder}/rest"]
+    merges = [([*tables[:5]], halves[0]), ([*tables[5:]], halves[1]), (halves, f"{folder}/nested")]
+    yield "merge, nested", all(run([tool, "merge", *some, "-o", out]) == DONE for some, out in merges) and read(f"{folder}/nested") == read(whole)
+    yield "no file is left", not left(folder) and not left(maps)
+
+
+# Damaged codes and maps, and missing lines.
+
+
+def faults(tool, folder):
+    table, codes, out = f"{folder}/table", f"{folder}/codes", f"{folder}/out"
+    strings = [b"a", b"", b"ccc"]
+    Path(table).write_bytes(freeze(strings))
+    for given, place in ((b"a\nx\n", 2), (b"x", 1), (b"a\n\nccc\ncc", 4), (b"aa\n", 1), (b"\n\n\nA\n", 4)):
+        fault = f"line {place} is not in the dictionary"
+        status, _, told = run([tool, "encode", table], given)
+        yield f"encode {given}", (status, told) == said(1, f"standard input: {fault}")[::2]
+        Path(codes).write_bytes(given)
+        Path(out).write_bytes(b"as it was")
+        yield f"encode -o {given}", run([tool, "encode", table, codes, "-o", out]) == said(1, f"{codes}: {fault}") and read(out) == b"as it was"
+        wanted = packed(encoded(strings, lines_of(given), True))
+        yield f"encode --missing {given}", run([tool, "encode", "--missing", table], given) == (0, wanted, [])
+        lines = [it if it in strings else b"?" for it in lines_of(given)]
+        yield f"decode --missing {given}", run([tool, "decode", "--missing", "?", table], wanted) == (0, ended(lines), [])
+        told = said(1, f"standard input: code {place} is no symbol")[::2]
+        yield f"decode {given}", run([tool, "decode", table], wanted)[::2] == told
+    for numbers, place in (([3], 1), ([0, 2, 1, 4], 4), ([2**31], 1), ([0, 2**32 - 2], 2)):
+        for command in (["decode", table], ["decode", "--missing", "?", table], ["renumber", f"{folder}/map"]):
+            Path(f"{folder}/map").write_bytes(packed([5, 4, 9]))
+            yield f"{command[0]} {numbers}", run([tool, *command], packed(numbers))[::2] == said(1, f"standard input: code {place} is no symbol")[::2]
+            Path(codes).write_bytes(packed(numbers))
+            wanted = said(1, f"{codes}: code {place} is no symbol")
+            yield f"{command[0]} -o {numbers}", run([tool, *command, codes, "-o", out]) == wanted and read(out) == b"as it was"
+    for cut in (1, 2, 3):
+        for count in (0, 1, 70_000):
+            given = packed([1] * count) + bytes(cut)
+            for command in (["decode", table], ["renumber", f"{folder}/map"]):
+                yield f"{command[0]}, cut", run([tool, *command], given)[::2] == said(1, f"standard input: code {count + 1} is cut short")[::2]
+        Path(f"{folder}/short").write_bytes(packed([0, 1]) + bytes(cut))
+        wanted = said(1, f"{folder}/short: not a map: its length is no multiple of 4")
+        yield "a cut map", run([tool, "renumber", f"{folder}/short"], packed([0])) == wanted
+    yield "missing stay missing", run([tool, "renumber", f"{folder}/map"], packed([0, MISSING, 2])) == (0, packed([5, MISSING, 9]), [])
+    yield "an empty map", run([tool, "renumber", "/dev/null"]) == DONE
+
+
+def requests(tool, folder):
+    """Arguments, streams and counts."""
+    tables, codes, out = [f"{folder}/one", f"{folder}/two"], f"{folder}/codes", f"{folder}/out"
+    for name, strings in zip(tables, ([b"a", b"b"], [b"b", b"c", b"a"])):
+        Path(name).write_bytes(freeze(strings))
+    Path(codes).write_bytes(packed([1, 0]))
+    numbers = packed([1, 2, 0])
+    Path(f"{folder}/map").write_bytes(numbers)
+    yield "merge -o -", run([tool, "merge", *tables, "-o", "-"]) == (0, freeze([b"a", b"b", b"c"]), [])
+    yield "merge -", run([tool, "merge", "-", tables[1], "-o", "-"], read(tables[0])) == (0, freeze([b"a", b"b", b"c"]), [])
+    yield "merge one", run([tool, "merge", tables[1], "-o", out, "--maps", f"{folder}/maps"]) == DONE and read(out) == read(tables[1])
+    yield "merge twice", run([tool, "merge", tables[1], tables[1], "-o", out, "--maps", f"{folder}/maps"]) == DONE
+    yield "the maps of equal ones", all(read(f"{folder}/maps/{it}.map") == packed([0, 1, 2]) for it in (0, 1))
+    yield "merge --keys", run([tool, "merge", *tables, "-o", "-", "--keys", "5,6"])[1] == freeze([b"a", b"b", b"c"], BYTES, 5, 6)
+    yield "encode - DICT", run([tool, "encode", tables[0], "-"], b"b\na") == (0, read(codes), [])
+    yield "decode, files", run([tool, "decode", tables[0], codes, "-", codes], packed([1])) == (0, b"b\na\nb\nb\na\n", [])
+    yield "encode, verbose", run([tool, "encode", "--verbose", tables[0]], b"b\na") == said(0, "2 lines encoded", wrote=read(codes))
+    yield "decode, verbose", run([tool, "decode", "--verbose", tables[0], codes, codes]) == said(0, "4 codes decoded", wrote=b"b\na\n" * 2)
+    yield "renumber, verbose", run([tool, "renumber", "--verbose", f"{folder}/map", codes]) == said(0, "2 codes renumbered", wrote=packed([2, 1]))
+    counted = said(0, "2 dictionaries merged", "5 strings merged", "3 distinct strings", wrote=freeze([b"a", b"b", b"c"]))
+    yield "merge, verbose", run([tool, "merge", "--verbose", *tables, "-o", "-"]) == counted
+    shown = [f"{it}0 % of 8 bytes read" for it in (10,)]
+    yield "progress", run([tool, "decode", "--progress", tables[0], codes]) == said(0, *shown, wrote=b"b\na\n")
+    for words, name in (
+        (["encode", tables[0], codes, "-o", codes], codes),
+        (["encode", tables[0], codes, "-o", tables[0]], tables[0]),
+        (["renumber", f"{folder}/map", codes, "-o", codes], codes),
+        (["renumber", f"{folder}/map", codes, "-o", f"{folder}/map"], f"{folder}/map"),
+        (["merge", *tables, "-o", tables[1]], tables[1]),
+        (["freeze", "-o", f"{folder}/new", "--codes", codes, codes], codes),
+    ):
+        before = {it: read(f"{folder}/{it}") for it in os.listdir(folder) if os.path.isfile(f"{folder}/{it}")}
+        yield f"{words[0]}: an output that is an input", run([tool, *words]) == said(1, f"{name}: the input is also the output")
+        yield f"{words[0]}: after that", before == {it: read(f"{folder}/{it}") for it in os.listdir(folder) if os.path.isfile(f"{folder}/{it}")}
+    twice = said(2, "standard input can be only one of the inputs")
+    for words in (["encode", "-"], ["decode", "-", codes, "-"], ["renumber", "-"], ["merge", "-", tables[0], "-", "-o", out]):
+        yield f"{words}", run([tool, *words], read(tables[0])) == twice
+    one = said(2, "the codes and the dictionary can't be one output")
+    for name, other in (("-", "-"), (f"{folder}/new", f"{folder}/new"), (tables[0], f"{folder}/./one")):
+        yield f"freeze, one output {other}", run([tool, "freeze", "-o", name, "--codes", other], b"a") == one
+    for words in (["encode"], ["decode"], ["renumber"], ["merge"], ["merge", tables[0]], ["encode", tables[0], "--no"]):
+        status, wrote, told = run([tool, *words])
+        yield f"{words}", (status, wrote, bool(told)) == (2, b"", True)
+
+
+# Failing devices, and no memory.
+
+
+def failing(tool, words, given, wanted, setting, library, folder):
+    """The N-th request for memory, read or write fails, for each N until none does: the program reports it, and leaves all files as they were."""
+    target = words[words.index("-o") + 1] if "-o" in words else "-"
+    for n in itertools.count(1):
+        if target != "-":
+            Path(target).write_bytes(b"as it was")
+        status, wrote, told = run([tool, *words], given, LD_PRELOAD=library, **{setting: str(n)})
+        if (status, wrote, told) == (0, wanted, []):
+            break
+        is_reported = told[-1:] and (told[-1] == f"{NAME}: out of memory" or told[-1].endswith(": Input/output error"))
+        is_kept = target == "-" or read(target) == b"as it was"
+        if status != 1 or not wanted.startswith(wrote) or not is_reported or not is_kept or left(folder):
+            yield f"{words}: {setting}={n}: {status}, {wrote}, {told}", False
+            return
+    yield f"{words}: {setting}: {n - 1} failed in turn", n > 1 or setting == "FAIL_WRITE" and not wanted
+
+
+def devices(tool, library, folder):
+    tables, codes, maps = [f"{folder}/one", f"{folder}/two"], f"{folder}/codes", f"{folder}/map"
+    for name, strings in zip(tables, ([b"a", b"b"], [b"b", b"c", b"a"])):
+        Path(name).write_bytes(freeze(strings))
+    Path(codes).write_bytes(packed([1, 0]))
+    Path(maps).write_bytes(packed([1, 2]))
+    commands = [
+        (["encode", tables[0]], b"b\na", packed([1, 0])),
+        (["decode", tables[0], codes], b"", b"b\na\n"),
+        (["renumber", maps, codes], b"", packed([2, 1])),
+        (["merge", *tables, "-o", "-"], b"", freeze([b"a", b"b", b"c"])),
+        (["merge", *tables, "-o", f"{folder}/out", "--maps", f"{folder}/maps"], b"", b""),
+        (["freeze", "-o", f"{folder}/new", "--codes", f"{folder}/new-codes"], b"b\na", b""),
+        (["freeze", "-o", f"{folder}/new", "--codes", "-"], b"b\na", packed([0, 1])),
+    ]
+    for words, given, wanted in commands:
+        yield f"{words}: one byte at a time", run([tool, *words], given, LD_PRELOAD=library, SHORT="1") == (0, wanted, [])
+        for setting in ("REFUSE", "FAIL_READ", "FAIL_WRITE"):
+            yield from failing(tool, words, given, wanted, setting, library, folder)
+        if wanted:
+            full = ["/bin/sh", "-c", 'exec "$0" "$@" > /dev/full', tool, *words]
+            yield f"{words}: a full device", run(full, given) == said(1, "standard output: No space left on device")
+            yield f"{words}: a closed pipe", unread([tool, *words], given) == (141, b"")
+    absent = said(1, f"{folder}/absent: No such file or directory")
+    for words in (["encode", tables[0]], ["decode", tables[0]], ["renumber", maps], ["merge", "-o", "-"], ["encode"], ["decode"], ["renumber"]):
+        yield f"{words}: a missing file", run([tool, *words, f"{folder}/absent"]) == absent
+
+
+def unread(command, given):
+    """How a command ends if nobody reads its output."""
+    reader, writer = os.pipe()
+    os.close(reader)
+    ran = subprocess.run(command, input=given, stdout=writer, stderr=subprocess.PIPE, timeout=60)
+    os.close(writer)
+    return ran.returncode, ran.stderr
+
+
+def example(tool, folder):
+    """The worked example, which compares what comes back itself."""
+    for lines in ([], [b"b", b"a", b"b"], [b"w%d" % (it * it % 97) for it in range(500)]):
+        Path(f"{folder}/lines").write_bytes(ended(lines))
+        status, wrote, _ = run(["examples/columns", f"{folder}/lines", "3"], DICT=tool, PATH=os.environ["PATH"])
+        yield f"{len(lines)} lines", (status, wrote.split(b"\n")[0]) == (0, b"strings %d" % len({*lines}))
+
+
+def cases(tool, library):
+    """Each case, as a function of a folder."""
+    for seed, size in enumerate(SIZES):
+        yield f"a column of {size} lines a part", lambda folder, seed=seed, size=size: of_column(tool, random.Random(seed), size, folder)
+    yield "faults", lambda folder: faults(tool, folder)
+    yield "requests", lambda folder: requests(tool, folder)
+    yield "devices", lambda folder: devices(tool, library, folder)
+    yield "examples/columns", lambda folder: example(tool, folder)
+
+
+def wrong_cases(tool, library):
+    """Yields what is wrong with the program."""
+    count = 0
+    for name, case in cases(tool, library):
+        with tempfile.TemporaryDirectory() as folder:
+            for what, is_right in case(os.path.realpath(folder)):
+                count += 1
+                if not is_right:
+                    yield f"{tool} {name}: {what}"
+    print(f"{tool}: {count} runs on columns", flush=True)

@@ -1,0 +1,23 @@
+-- What merging and renumbering keep.
+use Rattle.std.specs.Prelude.{◌≡◌, ℕ, ◌≤◌, List, ◌∷◌, ◌++◌, length}
+use Rattle.intaglio_core.specs.State.{Distinct}
+use Rattle.intaglio_columns.specs.Columns.{decode, missing, renumber, string_key, union, IsMap}
+
+-- renumbered codes have the strings that the codes had
+abbrev pub RenumberingKeepsStrings : Type 0
+RenumberingKeepsStrings = (old new : List (List ℕ)) (numbers codes : List ℕ) → IsMap old new numbers → length new ≤ missing
+    → decode new (renumber numbers codes) ≡ decode old codes
+
+-- a map that is renumbered is a map
+abbrev pub MapsCompose : Type 0
+MapsCompose = (old middle new : List (List ℕ)) (numbers later : List ℕ) → IsMap old middle numbers → IsMap middle new later → length new ≤ missing
+    → IsMap old new (renumber later numbers)
+
+-- only one map leads to strings of which no two are equal
+abbrev pub MapsAreUnique : Type 0
+MapsAreUnique = (old new : List (List ℕ)) (numbers others : List ℕ) → Distinct string_key new → IsMap old new numbers → IsMap old new others
+    → numbers ≡ others
+
+-- lists that are merged first, and then with others, have the union that they have at once
+abbrev pub MergingNests : Type 0
+MergingNests = (before nested after : List (List (List ℕ))) → union (before ++ union nested ∷ after) ≡ union (before ++ nested ++ after)

@@ -1,0 +1,15 @@
+//! Dictionary-encoded columns: frozen tables that are merged, and the maps that renumber codes.
+//!
+//! A column is a list of strings. It is kept as a dictionary, a frozen table of its distinct strings, and a list of
+//! codes, the symbols of its strings. Workers make a dictionary each, of their part of a column; the dictionaries
+//! are merged, and the codes of each part are renumbered by a map. [`laws`] says why that keeps the strings.
+#![tactic(auto)]
+
+mod absorbing;
+mod from_string;
+pub mod laws;
+mod merging;
+
+pub use absorbing::absorb;
+pub use from_string::{FromString, are_texts};
+pub use merging::{Merged, merge_tables};

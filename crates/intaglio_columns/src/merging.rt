@@ -1,0 +1,48 @@
+//! Merges lists of strings.
+ghost use Rattle.std.specs.Prelude.{◌≡◌, ◌<◌, ◌^◌, length, map, IfErr, IfOk};
+ghost use Rattle.intaglio_core.specs.Batch.{IfOverflow};
+ghost use Rattle.intaglio_columns.specs.Columns.{AreMaps, union};
+
+use crate::absorbing::absorb;
+use intaglio::TableOver;
+use intaglio_frozen::StringList;
+use intaglio_packed::Packed;
+use intaglio_symbol::{InternError, Symbol};
+use std::alloc::Global;
+use std::hash::BuildHasher;
+
+// How many symbols there are.
+const SYMBOLS: usize = 1 << 32;
+
+/// What lists of strings are merged to.
+#[derive(Drop)]
+pub struct Merged<S: BuildHasher> {
+    /// The distinct strings of all lists, in the order of their first occurrences. A table can be frozen.
+    pub table: TableOver<Packed, S>,
+    /// For each list the symbols of its strings in the table: the map by which its codes are renumbered.
+    pub maps: Vec<Vec<Symbol>>,
+}
+
+/// Merges lists of strings, such as frozen tables.
+///
+/// # Errors
+///
+/// `Overflow` if there are more than 2^32 distinct strings, `Memory` if an allocation fails.
+pub fn merge_tables<L: StringList, S: BuildHasher + Drop>(
+    alloc: Global,
+    lists: &[L],
+    builder: S,
+) -> Result<Merged<S>, InternError>
+    ensures union { IfOk result (λ merged. merged.table.state.contents ≡ union (map L.strings lists.now)) }
+    ensures maps { IfOk result (λ merged. AreMaps (map L.strings lists.now)
+        merged.table.state.contents (map (λ m. m.items) merged.maps.items)) }
+    ensures overflow { IfErr result (λ e. IfOverflow e (2 ^ 32 < length (union (map L.strings lists.now)))) }
+{
+    let mut table = TableOver::with_limit(alloc, SYMBOLS, builder).unwrap();
+    let mut maps = Vec::with_capacity(alloc, lists.len())?;
+    for i in 0..lists.len() {
+        let symbols = absorb(alloc, &mut table, &lists[i])?;
+        maps.push_reserved(symbols);
+    }
+    Ok(Merged { table, maps })
+}

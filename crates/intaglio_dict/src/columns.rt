@@ -1,0 +1,194 @@
+//! The subcommands that translate columns: lines to codes, codes to lines, and codes to other codes.
+use crate::input::{INPUT, STANDARD, STANDARD_INPUT, name_of, size_of, whole};
+use crate::metered::{Meter, Metered};
+use crate::noticing::Noticing;
+use crate::output::{Content, refuse_input, write_to};
+use crate::report;
+use crate::run::checked;
+use clap::ArgMatches;
+use intaglio_dictionary::codes::CodeMap;
+use intaglio_dictionary::columns::{decode, encode, renumber};
+use intaglio_dictionary::error::ColumnError;
+use intaglio_frozen::Frozen;
+use intaglio_lines::error::StreamError;
+use std::alloc::Global;
+use std::fs;
+use std::io::{Read, Write};
+use std::random::RandomSource;
+use std::rt::Files;
+
+// What is made of an input.
+#[derive(Drop)]
+enum Translation<'a, 't> {
+    // The code of each line, also of one that isn't in the dictionary if that is asked for.
+    Encode(&'a Frozen<'t>, bool),
+    // The line of each code, and this text for a line that wasn't in the dictionary.
+    Decode(&'a Frozen<'t>, Option<&'a [u8]>),
+    // The code at each code.
+    Renumber(&'a CodeMap<'t>),
+}
+
+impl Translation<'_, '_> {
+    // How many lines or codes were translated.
+    fn translate<I: Read, W: Write>(
+        &self,
+        alloc: Global,
+        input: &mut I,
+        output: &mut W,
+    ) -> Result<u64, ColumnError> {
+        match self {
+            Translation::Encode(table, missing) => encode(alloc, *table, *missing, input, output),
+            Translation::Decode(table, missing) => decode(alloc, *table, *missing, input, output),
+            Translation::Renumber(map) => renumber(alloc, *map, input, output),
+        }
+    }
+}
+
+// The translations of several inputs, one after the other.
+#[derive(Drop)]
+struct Column<'a, 't> {
+    translation: Translation<'a, 't>,
+    names: &'a [&'a str],
+    meter: Meter,
+    count: u64,
+}
+
+impl<R: Files + Input + Eprint + AllocGlobal> Content<R> for Column<'_, '_> {
+    fn write<W: Write>(&mut self, rt: &R, name: &str, output: &mut Noticing<W>) -> Result<(), u8> {
+        for input in self.names {
+            if *input == STANDARD {
+                self.add(rt, (INPUT, rt.reader()), name, output)?;
+            } else {
+                match fs::open(rt, *input) {
+                    Ok(file) => self.add(rt, (*input, file), name, output)?,
+                    Err(e) => return Err(report::of_file(rt, input, e)),
+                }
+            }
+        }
+        Ok(())
+    }
+}
+
+impl Column<'_, '_> {
+    // Translates one input.
+    fn add<R: Eprint + AllocGlobal, I: Read + Drop, W: Write>(
+        &mut self,
+        rt: &R,
+        input: (&str, I),
+        name: &str,
+        output: &mut Noticing<W>,
+    ) -> Result<(), u8> {
+        let (input_name, input) = input;
+        let mut input = Metered::new(rt, self.meter, input);
+        let translated = self.translation.translate(rt.alloc(), &mut input, output);
+        self.meter = input.meter();
+        match translated {
+            Ok(count) => {
+                self.count = self.count.saturating_add(count);
+                Ok(())
+            }
+            Err(ColumnError::Stream(StreamError::Memory)) => Err(report::out_of_memory(rt)),
+            Err(ColumnError::Stream(StreamError::Read)) => {
+                Err(report::unread(rt, input_name, input.error()))
+            }
+            Err(ColumnError::Stream(StreamError::Write)) => {
+                Err(report::unwritten(rt, name, output.error()))
+            }
+            Err(fault) => Err(report::failed(rt, input_name, fault)),
+        }
+    }
+}
+
+/// Writes the code of each line of the inputs. Otherwise the exit status after a message.
+pub fn encode_lines<R: Files + RandomSource + Input + Print + Eprint + AllocGlobal>(
+    rt: &R,
+    found: &ArgMatches<'_>,
+) -> Result<(), u8> {
+    let (name, bytes) = first_input(rt, found, "DICT", "FILE")?;
+    match checked(rt, name, &bytes) {
+        Ok(table) => {
+            let translation = Translation::Encode(&table, found.get_flag("MISSING"));
+            translate(rt, found, name, "FILE", translation, "lines encoded")
+        }
+        Err(status) => Err(status),
+    }
+}
+
+/// Writes the line of each code of the inputs. Otherwise the exit status after a message.
+pub fn decode_codes<R: Files + RandomSource + Input + Print + Eprint + AllocGlobal>(
+    rt: &R,
+    found: &ArgMatches<'_>,
+) -> Result<(), u8> {
+    let (name, bytes) = first_input(rt, found, "DICT", "CODES")?;
+    match checked(rt, name, &bytes) {
+        Ok(table) => {
+            let missing = found.get_str("TEXT").map(|text| text.as_bytes());
+            let translation = Translation::Decode(&table, missing);
+            translate(rt, found, name, "CODES", translation, "codes decoded")
+        }
+        Err(status) => Err(status),
+    }
+}
+
+/// Writes the code at each code of the inputs. Otherwise the exit status after a message.
+pub fn renumber_codes<R: Files + RandomSource + Input + Print + Eprint + AllocGlobal>(
+    rt: &R,
+    found: &ArgMatches<'_>,
+) -> Result<(), u8> {
+    let (name, bytes) = first_input(rt, found, "MAP", "CODES")?;
+    match CodeMap::of(&bytes) {
+        Some(map) => {
+            let translation = Translation::Renumber(&map);
+            translate(rt, found, name, "CODES", translation, "codes renumbered")
+        }
+        None => Err(report::failed(
+            rt,
+            name_of(name),
+            "not a map: its length is no multiple of 4",
+        )),
+    }
+}
+
+// The name and the bytes of the dictionary or map by which the inputs are translated.
+fn first_input<'a, R: Files + Input + Eprint + AllocGlobal>(
+    rt: &R,
+    found: &ArgMatches<'a>,
+    first: &str,
+    others: &str,
+) -> Result<(&'a str, Vec<u8>), u8> {
+    let Some(name) = found.get_str(first) else {
+        return Err(2);
+    };
+    let names = found.get_strs(others).unwrap_or(STANDARD_INPUT);
+    if name == STANDARD && names.contains(&STANDARD) {
+        return Err(report::read_twice(rt));
+    }
+    let bytes = whole(rt, name, &mut Meter::silent())?;
+    Ok((name, bytes))
+}
+
+// Writes what is made of the inputs.
+fn translate<R: Files + RandomSource + Input + Print + Eprint + AllocGlobal>(
+    rt: &R,
+    found: &ArgMatches<'_>,
+    first: &str,
+    others: &str,
+    translation: Translation<'_, '_>,
+    done: &str,
+) -> Result<(), u8> {
+    let names = found.get_strs(others).unwrap_or(STANDARD_INPUT);
+    let output = found.get_str("OUT").unwrap_or(STANDARD);
+    refuse_input(rt, output, &[first])?;
+    let is_shown = found.get_flag("PROGRESS");
+    let mut column = Column {
+        translation,
+        names,
+        meter: Meter::of(if is_shown { size_of(rt, names) } else { 0 }),
+        count: 0,
+    };
+    write_to(rt, output, names, &mut column)?;
+    if found.get_flag("VERBOSE") {
+        report::count(rt, column.count, done);
+    }
+    Ok(())
+}

@@ -1,0 +1,185 @@
+//! The subcommand that merges dictionaries.
+use crate::freezing::refusal;
+use crate::input::{STANDARD, size_of, whole};
+use crate::keys::keys_of;
+use crate::metered::Meter;
+use crate::noticing::Noticing;
+use crate::output::{Content, write_to};
+use crate::progress::Shown;
+use crate::report;
+use crate::run::checked;
+use clap::ArgMatches;
+use intaglio_dictionary::merging::{merge, write_codes};
+use intaglio_frozen::{Frozen, Header, Kind};
+use intaglio_lines::error::StreamError;
+use intaglio_symbol::Symbol;
+use std::fs;
+use std::hash::RandomState;
+use std::io::{ErrorKind, Write};
+use std::random::RandomSource;
+use std::rt::Files;
+
+// The dictionary of all strings of several, and the folder for their maps.
+#[derive(Drop)]
+struct Merging<'a, 't, R> {
+    tables: &'a [Frozen<'t>],
+    names: &'a [&'a str],
+    kind: Kind,
+    keys: Option<(u64, u64)>,
+    folder: Option<&'a str>,
+    // How many strings the dictionaries have together.
+    count: usize,
+    shown: Shown<'a, R>,
+}
+
+// The map of one dictionary.
+#[derive(Drop)]
+struct Map<'a> {
+    codes: &'a [Symbol],
+}
+
+impl<R: Eprint + AllocGlobal> Content<R> for Map<'_> {
+    fn write<W: Write>(&mut self, rt: &R, name: &str, output: &mut Noticing<W>) -> Result<(), u8> {
+        match write_codes(rt.alloc(), self.codes, output) {
+            Ok(()) => Ok(()),
+            Err(StreamError::Memory) => Err(report::out_of_memory(rt)),
+            Err(_) => Err(report::unwritten(rt, name, output.error())),
+        }
+    }
+}
+
+impl<R: Files + RandomSource + Print + Eprint + AllocGlobal> Content<R> for Merging<'_, '_, R> {
+    // The maps are written before the dictionary has its place: whoever sees that can read them.
+    fn write<W: Write>(&mut self, rt: &R, name: &str, output: &mut Noticing<W>) -> Result<(), u8> {
+        let Ok(builder) = RandomState::new(rt) else {
+            return Err(report::no_random_bytes(rt));
+        };
+        let (tables, kind, keys) = (self.tables, self.kind, self.keys);
+        match merge(
+            rt.alloc(),
+            tables,
+            kind,
+            keys,
+            builder,
+            output,
+            &mut self.shown,
+        ) {
+            Ok(maps) => {
+                self.count = maps
+                    .iter()
+                    .map(|map| map.len())
+                    .fold(0, |sum, n| sum.saturating_add(n));
+                self.write_maps(rt, &maps)
+            }
+            Err(refused) => Err(refusal(rt, name, refused, output.error())),
+        }
+    }
+}
+
+impl<R> Merging<'_, '_, R> {
+    // Writes the map of each dictionary to the folder, if one is given.
+    fn write_maps<Q: Files + RandomSource + Print + Eprint + AllocGlobal>(
+        &self,
+        rt: &Q,
+        maps: &[Vec<Symbol>],
+    ) -> Result<(), u8> {
+        let Some(folder) = self.folder else {
+            return Ok(());
+        };
+        make_folder(rt, folder)?;
+        for (number, codes) in maps.iter().enumerate() {
+            let Ok(path) = format!(in rt.alloc(); "{folder}/{number}.map") else {
+                return Err(report::out_of_memory(rt));
+            };
+            write_to(rt, path.as_str(), self.names, &mut Map { codes })?;
+        }
+        Ok(())
+    }
+}
+
+// Makes a folder if none is there.
+fn make_folder<R: Files + Eprint + AllocGlobal>(rt: &R, name: &str) -> Result<(), u8> {
+    match fs::create_dir(rt, name) {
+        Ok(()) => Ok(()),
+        Err(e) if e.kind() == ErrorKind::AlreadyExists => Ok(()),
+        Err(e) => Err(report::of_file(rt, name, e)),
+    }
+}
+
+/// Merges dictionaries. Otherwise the exit status after a message.
+pub fn merge_dictionaries<R: Files + RandomSource + Input + Print + Eprint + AllocGlobal>(
+    rt: &R,
+    found: &ArgMatches<'_>,
+) -> Result<(), u8> {
+    let (Some(names), Some(output)) = (found.get_strs("DICT"), found.get_str("OUT")) else {
+        return Err(2);
+    };
+    if names.iter().filter(|name| **name == STANDARD).count() > 1 {
+        return Err(report::read_twice(rt));
+    }
+    let keys = keys_of(rt, found)?;
+    let is_shown = found.get_flag("PROGRESS");
+    let all = whole_files(rt, names, is_shown)?;
+    let tables = tables_of(rt, names, &all)?;
+    let mut merging = Merging {
+        tables: &tables,
+        names,
+        kind: common_kind(&all),
+        keys,
+        folder: found.get_str("FOLDER"),
+        count: 0,
+        shown: Shown::new(rt, is_shown),
+    };
+    write_to(rt, output, names, &mut merging)?;
+    if found.get_flag("VERBOSE") {
+        report::count(rt, names.len() as u64, "dictionaries merged");
+        report::count(rt, merging.count as u64, "strings merged");
+        report::count(rt, merging.shown.distinct() as u64, "distinct strings");
+    }
+    Ok(())
+}
+
+// The bytes of all files.
+fn whole_files<R: Files + Input + Eprint + AllocGlobal>(
+    rt: &R,
+    names: &[&str],
+    is_shown: bool,
+) -> Result<Vec<Vec<u8>>, u8> {
+    let mut meter = Meter::of(if is_shown { size_of(rt, names) } else { 0 });
+    let mut all = Vec::new(rt.alloc());
+    for name in names {
+        if all.push(whole(rt, name, &mut meter)?).is_err() {
+            return Err(report::out_of_memory(rt));
+        }
+    }
+    Ok(all)
+}
+
+// The dictionaries in these files.
+fn tables_of<'a, R: Eprint + AllocGlobal>(
+    rt: &R,
+    names: &[&str],
+    all: &'a [Vec<u8>],
+) -> Result<Vec<Frozen<'a>>, u8> {
+    let mut tables = Vec::new(rt.alloc());
+    for (name, bytes) in names.iter().zip(all.iter()) {
+        match checked(rt, name, bytes) {
+            Ok(table) => {
+                if tables.push(table).is_err() {
+                    return Err(report::out_of_memory(rt));
+                }
+            }
+            Err(status) => return Err(status),
+        }
+    }
+    Ok(tables)
+}
+
+// Texts if all of the dictionaries are of texts.
+fn common_kind(all: &[Vec<u8>]) -> Kind {
+    let are_texts = all.iter().all(|bytes| match Header::read(bytes) {
+        Ok(header) => header.kind == Kind::Text,
+        Err(_) => false,
+    });
+    if are_texts { Kind::Text } else { Kind::Bytes }
+}

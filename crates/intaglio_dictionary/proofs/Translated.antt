@@ -1,0 +1,172 @@
+-- An input that is translated piece by piece.
+use Rattle.std.proofs.Common.{◌≡◌, ◌∙◌, sym, ap, refl, subst, ℕ, ◌+◌, ◌-◌, ◌^◌, min, eqb, Bool, true, false, Result, Ok, Err, IfOk, OnOk, List, [], ◌∷◌, ◌++◌, length, Option, None, Some, IfSome, length-append, append-nil, append_assoc, arith}
+use Rattle.std.specs.List.{flat_map}
+use Rattle.std.specs.Io.KnownBytes.{Appends, Consumes, IsAtEnd, Keeps, append_known}
+use Rattle.std.proofs.lemmas.Grind.{flat_map-append}
+use Rattle.std.proofs.lemmas.List.Elements.{All-nil, All-cons, All-append}
+use Rattle.intaglio_lines.proofs.Appended.{Appends-append}
+use Rattle.intaglio_dictionary.specs.Translation.{AllFit, HasTranslated, IsFailure, IsSplit, ReadsMore, ReportsMisfit, ReportsPiece, StartsWith, count_of, last_piece}
+use Rattle.intaglio_dictionary.specs.declared.translate.TranslateError.{TranslateError}
+use Rattle.intaglio_dictionary.specs.declared.translate.TranslateError.TheVariants.{Misfit, Stream}
+
+module _ (pieces : List ℕ → List (List ℕ)) where
+  split-none : (input : Option (List ℕ)) → IsSplit pieces input [] [] input
+  split-none None = tt
+  split-none (Some input) = refl
+
+  split-read : (input left later : Option (List ℕ)) (front : List (List ℕ)) (bytes read : List ℕ) → Consumes left later read → IsSplit pieces input front bytes left
+      → IsSplit pieces input front (bytes ++ read) later
+  split-read None left later front bytes read takes split = tt
+  split-read (Some input) None later front bytes read takes split = absurd split
+  split-read (Some input) (Some rest) None front bytes read takes split = absurd takes
+  split-read (Some input) (Some rest) (Some more) front bytes read takes split =
+      split ∙ ap (λ t. front ++ pieces (bytes ++ t)) takes ∙ ap (λ t. front ++ pieces t) (sym (append_assoc bytes read more))
+
+  split-next : (input left : Option (List ℕ)) (front : List (List ℕ)) (bytes piece rest : List ℕ) → StartsWith pieces bytes (piece ∷ []) rest → IsSplit pieces input front bytes left
+      → IsSplit pieces input (front ++ piece ∷ []) rest left
+  split-next None left front bytes piece rest first split = tt
+  split-next (Some input) None front bytes piece rest first split = absurd split
+  split-next (Some input) (Some left) front bytes piece rest first split =
+      split ∙ ap (λ t. front ++ t) (first left) ∙ sym (append_assoc front (piece ∷ []) (pieces (rest ++ left)))
+
+  -- where nothing is left, the bytes have the last pieces
+  split-end : (input left : Option (List ℕ)) (front : List (List ℕ)) (bytes : List ℕ) → IsAtEnd left → IsSplit pieces input front bytes left
+      → IfSome input (λ input. pieces input ≡ front ++ pieces bytes)
+  split-end None left front bytes end split = tt
+  split-end (Some input) None front bytes end split = absurd split
+  split-end (Some input) (Some left) front bytes end split =
+      split ∙ ap (λ t. front ++ pieces (bytes ++ t)) end ∙ ap (λ t. front ++ pieces t) (append-nil bytes)
+
+  split-last : (input left : Option (List ℕ)) (front : List (List ℕ)) (piece : List ℕ) → pieces [] ≡ [] → pieces piece ≡ piece ∷ [] → IsAtEnd left → IsSplit pieces input front piece left
+      → IsSplit pieces input (front ++ piece ∷ []) [] left
+  split-last None left front piece none one end split = tt
+  split-last (Some input) None front piece none one end split = absurd split
+  split-last (Some input) (Some left) front piece none one end split =
+      split-end (Some input) (Some left) front piece end split ∙ ap (λ t. front ++ t) one ∙ sym (append-nil (front ++ piece ∷ []))
+      ∙ ap (λ t. (front ++ piece ∷ []) ++ t) (sym (ap pieces end ∙ none))
+
+  module _ (fits : List ℕ → Bool) (translated : List ℕ → List ℕ) where
+    abbrev Done : Option (List ℕ) → Option (List ℕ) → Option (List ℕ) → List ℕ → Option (List ℕ) → ℕ → Type 0
+    Done = HasTranslated pieces fits translated
+
+    -- nothing was read
+    pub none-translated : (input old : Option (List ℕ)) → Appends old old [] → Done input old old [] input 0
+    none-translated input old same = record {
+      front = [];
+      split = split-none input;
+      fit = All-nil (λ x. fits x ≡ true);
+      put = same;
+      counted = refl;
+    }
+
+    -- more was read
+    pub read-more : (input old new left later : Option (List ℕ)) (bytes read : List ℕ) (count : ℕ) → Consumes left later read → Done input old new bytes left count
+        → Done input old new (bytes ++ read) later count
+    read-more input old new left later bytes read count takes done =
+        record { front = done.front; split = split-read input left later done.front bytes read takes done.split; fit = done.fit; put = done.put; counted = done.counted }
+
+    pub reads-more : (input old new left later : Option (List ℕ)) (before after : List ℕ) (count : ℕ) → ReadsMore left later before after → Done input old new before left count
+        → Done input old new after later count
+    reads-more input old new left later before after count reads done =
+        subst (λ t. Done input old new t later count) (sym reads.1) (read-more input old new left later before reads.0 count reads.2 done)
+
+    -- a piece more is translated, behind which the rest is
+    behind : (input old mid new left : Option (List ℕ)) (front : List (List ℕ)) (piece rest : List ℕ) (number count : ℕ) → IsSplit pieces input (front ++ piece ∷ []) rest left
+        → AllFit fits front → Appends old mid (flat_map translated front) → number ≡ count_of front
+        → fits piece ≡ true → Appends mid new (translated piece) → count ≡ min (number + 1) (2 ^ 64 - 1) → Done input old new rest left count
+    behind input old mid new left front piece rest number count split fit put at fits-piece more next = record {
+      front = front ++ piece ∷ [];
+      split = split;
+      fit = All-append (λ x. fits x ≡ true) front (piece ∷ []) fit (All-cons (λ x. fits x ≡ true) piece [] fits-piece (All-nil (λ x. fits x ≡ true)));
+      put = rw (flat_map-append translated front (piece ∷ []), append-nil (translated piece)) (Appends-append old mid new (flat_map translated front) (translated piece) put more);
+      counted = omega (arith, next, at, length-append front (piece ∷ []));
+    }
+
+    pub next-translated : (input old mid new left : Option (List ℕ)) (bytes piece rest : List ℕ) (number count : ℕ) → StartsWith pieces bytes (piece ∷ []) rest
+        → fits piece ≡ true → Appends mid new (translated piece) → count ≡ min (number + 1) (2 ^ 64 - 1) → Done input old mid bytes left number → Done input old new rest left count
+    next-translated input old mid new left bytes piece rest number count first fit more next done =
+        behind input old mid new left done.front piece rest number count (split-next input left done.front bytes piece rest first done.split) done.fit done.put done.counted fit more next
+
+    pub last-translated : (input old mid new left : Option (List ℕ)) (piece : List ℕ) (number count : ℕ) → pieces [] ≡ [] → pieces piece ≡ piece ∷ [] → IsAtEnd left
+        → fits piece ≡ true → Appends mid new (translated piece) → count ≡ min (number + 1) (2 ^ 64 - 1) → Done input old mid piece left number → Done input old new [] left count
+    last-translated input old mid new left piece number count none one end fit more next done =
+        behind input old mid new left done.front piece [] number count (split-last input left done.front piece none one end done.split) done.fit done.put done.counted fit more next
+
+    -- a piece that can't be translated is the first
+    misfit-at : (input : Option (List ℕ)) (front : List (List ℕ)) (piece : List ℕ) (number : ℕ) (e : TranslateError) → AllFit fits front → number ≡ count_of front → ReportsPiece fits e piece number
+        → IfSome input (λ input. (after : List (List ℕ)) × (pieces input ≡ front ++ piece ∷ after)) → IfSome input (λ input. ReportsMisfit fits e (pieces input))
+    misfit-at None front piece number e fit at reports parts = tt
+    misfit-at (Some input) front piece number (Misfit position size) fit at reports parts = record {
+      before = front;
+      misfit = piece;
+      after = parts.0;
+      parts = parts.1;
+      fit = fit;
+      unfit = reports.0;
+      place = reports.1 ∙ at;
+      long = reports.2;
+    }
+    misfit-at (Some input) front piece number (Stream failure) fit at reports parts = tt
+
+    pub failure-reports : (input : Option (List ℕ)) (e : TranslateError) → IsFailure e → IfSome input (λ input. ReportsMisfit fits e (pieces input))
+    failure-reports None e fails = tt
+    failure-reports (Some input) (Misfit position size) fails = absurd fails
+    failure-reports (Some input) (Stream failure) fails = tt
+
+    parts-next : (input left : Option (List ℕ)) (front : List (List ℕ)) (bytes piece rest : List ℕ) → StartsWith pieces bytes (piece ∷ []) rest → IsSplit pieces input front bytes left
+        → IfSome input (λ input. (after : List (List ℕ)) × (pieces input ≡ front ++ piece ∷ after))
+    parts-next None left front bytes piece rest first split = tt
+    parts-next (Some input) None front bytes piece rest first split = absurd split
+    parts-next (Some input) (Some left) front bytes piece rest first split = (pieces (rest ++ left), split ∙ ap (λ t. front ++ t) (first left))
+
+    pub next-misfit : (input old mid left : Option (List ℕ)) (bytes piece rest : List ℕ) (number : ℕ) (e : TranslateError) → StartsWith pieces bytes (piece ∷ []) rest
+        → ReportsPiece fits e piece number → Done input old mid bytes left number → IfSome input (λ input. ReportsMisfit fits e (pieces input))
+    next-misfit input old mid left bytes piece rest number e first reports done =
+        misfit-at input done.front piece number e done.fit done.counted reports (parts-next input left done.front bytes piece rest first done.split)
+
+    parts-last : (input : Option (List ℕ)) (front : List (List ℕ)) (piece : List ℕ) → pieces piece ≡ piece ∷ [] → IfSome input (λ input. pieces input ≡ front ++ pieces piece)
+        → IfSome input (λ input. (after : List (List ℕ)) × (pieces input ≡ front ++ piece ∷ after))
+    parts-last None front piece one all = tt
+    parts-last (Some input) front piece one all = ([], all ∙ ap (λ t. front ++ t) one)
+
+    pub last-misfit : (input old mid left : Option (List ℕ)) (piece : List ℕ) (number : ℕ) (e : TranslateError) → pieces piece ≡ piece ∷ [] → IsAtEnd left
+        → ReportsPiece fits e piece number → Done input old mid piece left number → IfSome input (λ input. ReportsMisfit fits e (pieces input))
+    last-misfit input old mid left piece number e one end reports done =
+        misfit-at input done.front piece number e done.fit done.counted reports (parts-last input done.front piece one (split-end input left done.front piece end done.split))
+
+    -- at the end all pieces are translated
+    all-pieces : (input : Option (List ℕ)) (front : List (List ℕ)) → pieces [] ≡ [] → IfSome input (λ input. pieces input ≡ front ++ pieces []) → IfSome input (λ input. pieces input ≡ front)
+    all-pieces None front none all = tt
+    all-pieces (Some input) front none all = all ∙ ap (λ t. front ++ t) none ∙ append-nil front
+
+    if-all : (input : Option (List ℕ)) (front : List (List ℕ)) (P : List (List ℕ) → Type 0) → IfSome input (λ input. pieces input ≡ front) → P front → IfSome input (λ input. P (pieces input))
+    if-all None front P all holds = tt
+    if-all (Some input) front P all holds = subst P (sym all) holds
+
+    pub all-translated : (input old new left : Option (List ℕ)) (count : ℕ) (P : List (List ℕ) → Type 0) → pieces [] ≡ [] → IsAtEnd left → (done : Done input old new [] left count)
+        → P done.front → IfSome input (λ input. P (pieces input))
+    all-translated input old new left count P none end done holds =
+        if-all input done.front P (all-pieces input done.front none (split-end input left done.front [] end done.split)) holds
+
+-- bytes that may be empty are a piece where they aren't
+pub one-piece : (bytes : List ℕ) (b : Bool) → b ≡ eqb (length bytes) 0 → b ≡ false → last_piece bytes ≡ bytes ∷ []
+one-piece [] b is unlike = cc
+one-piece (x ∷ bytes) b is unlike = refl
+
+-- what follows of a value
+pub of-ok : {V E Q R : Type 0} (P S : V → Type 0) (r : Result V E) → OnOk r Q → OnOk r R → IfOk r P → ((v : V) → Q → R → P v → S v) → IfOk r S
+of-ok P S (Ok v) q r p f = f v q r p
+of-ok P S (Err e) q r p f = tt
+
+-- a block that was put and is written is written
+pub written-out : (old mid new : Option (List ℕ)) (block bytes : List ℕ) → Appends (append_known old []) (append_known mid block) bytes → Appends mid new block → Appends old new bytes
+written-out None mid new block bytes put out = tt
+written-out (Some x) None new block bytes put out = absurd put
+written-out (Some x) (Some y) None block bytes put out = absurd out
+written-out (Some x) (Some y) (Some z) block bytes put out = out ∙ put ∙ ap (λ t. t ++ bytes) (append-nil x)
+
+-- a read that gave nothing
+pub none-read : (old new : Option (List ℕ)) → Keeps old new → Consumes old new []
+none-read None new keeps = tt
+none-read (Some x) None keeps = absurd keeps
+none-read (Some x) (Some y) keeps = sym keeps

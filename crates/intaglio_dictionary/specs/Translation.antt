@@ -1,0 +1,70 @@
+-- An input that is translated piece by piece.
+use Rattle.std.specs.Prelude.{◌≡◌, ℕ, ◌-◌, ◌^◌, min, Bool, true, false, List, [], ◌∷◌, ◌++◌, length, Option, None, Some, All}
+use Rattle.std.specs.List.{flat_map}
+use Rattle.std.specs.Io.KnownBytes.{Appends, Consumes}
+use Rattle.intaglio_dictionary.specs.declared.translate.TranslateError.{TranslateError}
+use Rattle.intaglio_dictionary.specs.declared.translate.TranslateError.TheVariants.{Misfit, Stream}
+
+-- the pieces of bytes that are at most one piece
+abbrev pub last_piece : List ℕ → List (List ℕ)
+last_piece [] = []
+last_piece (b ∷ bs) = (b ∷ bs) ∷ []
+
+-- a count, which stops at the largest `u64`
+abbrev pub count_of : List (List ℕ) → ℕ
+count_of xs = min (length xs) (2 ^ 64 - 1)
+
+module _ (pieces : List ℕ → List (List ℕ)) where
+  -- whatever follows the bytes, their pieces begin with these, and the others are those of the rest
+  abbrev pub StartsWith : List ℕ → List (List ℕ) → List ℕ → Type 0
+  StartsWith bytes front rest = (more : List ℕ) → pieces (bytes ++ more) ≡ front ++ pieces (rest ++ more)
+
+  -- the pieces of an input are these, and then those of bytes that were read and of what is left to be read
+  abbrev pub IsSplit : Option (List ℕ) → List (List ℕ) → List ℕ → Option (List ℕ) → Type 0
+  IsSplit None front bytes left = Unit {0}
+  IsSplit (Some input) front bytes None = ⊥
+  IsSplit (Some input) front bytes (Some left) = pieces input ≡ front ++ pieces (bytes ++ left)
+
+module _ (fits : List ℕ → Bool) where
+  -- each piece can be translated
+  abbrev pub AllFit : List (List ℕ) → Type 0
+  AllFit xs = All (λ x. fits x ≡ true) xs
+
+  -- the first piece that can't be translated has this position, counted from 0, and this size
+  pub record IsFirstMisfit (xs : List (List ℕ)) (position size : ℕ) : Type 0 where
+    pub before : List (List ℕ)
+    pub misfit : List ℕ
+    pub after : List (List ℕ)
+    pub parts : xs ≡ before ++ misfit ∷ after
+    pub fit : AllFit before
+    pub unfit : fits misfit ≡ false
+    pub place : position ≡ count_of before
+    pub long : size ≡ length misfit
+
+  -- the error reports the first piece that can't be translated, or that an allocation, a read or a write failed
+  abbrev pub ReportsMisfit : TranslateError → List (List ℕ) → Type 0
+  ReportsMisfit (Misfit position size) xs = IsFirstMisfit xs position size
+  ReportsMisfit (Stream failure) xs = Unit {0}
+
+  -- the same of one piece, at this position
+  abbrev pub ReportsPiece : TranslateError → List ℕ → ℕ → Type 0
+  ReportsPiece (Misfit position size) piece number = (fits piece ≡ false) × (position ≡ number) × (size ≡ length piece)
+  ReportsPiece (Stream failure) piece number = Unit {0}
+
+-- some bytes more were read
+abbrev pub ReadsMore : Option (List ℕ) → Option (List ℕ) → List ℕ → List ℕ → Type 0
+ReadsMore old new before after = (read : List ℕ) × (after ≡ before ++ read) × Consumes old new read
+
+-- an allocation, a read or a write failed
+abbrev pub IsFailure : TranslateError → Type 0
+IsFailure (Misfit position size) = ⊥
+IsFailure (Stream failure) = Unit {0}
+
+-- of an input, the pieces before bytes that were read were translated, so many, and of the input this is left
+pub record HasTranslated (pieces : List ℕ → List (List ℕ)) (fits : List ℕ → Bool) (translated : List ℕ → List ℕ)
+    (input old new : Option (List ℕ)) (bytes : List ℕ) (left : Option (List ℕ)) (count : ℕ) : Type 0 where
+  pub front : List (List ℕ)
+  pub split : IsSplit pieces input front bytes left
+  pub fit : AllFit fits front
+  pub put : Appends old new (flat_map translated front)
+  pub counted : count ≡ count_of front

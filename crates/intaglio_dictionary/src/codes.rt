@@ -1,0 +1,127 @@
+//! Codes in bytes, and maps of codes.
+ghost use Rattle.std.specs.Prelude.{◌≡◌, ◌==◌, ◌%◌, ◌<◌, ◌≤◌, [], ◌∷◌, drop, is_some, length, slice_get, take, IfSome, None, OnOk};
+ghost use Rattle.std.specs.List.{flat_map};
+ghost use Rattle.intaglio_lines.specs.Puts.{Puts};
+ghost use Rattle.intaglio_dictionary.specs.Columns.{code_bytes, code_of, code_pieces, codes_of};
+ghost use Rattle.intaglio_dictionary.specs.Translation.{StartsWith, last_piece};
+
+use intaglio_lines::write::{Output, put};
+use intaglio_symbol::Symbol;
+use std::io;
+use std::io::Write;
+use std::marker::Model;
+
+// How many bytes a code has.
+pub(crate) const CODE: usize = 4;
+
+/// The code of a line that a dictionary doesn't have. No frozen table has that many strings.
+pub const MISSING: u32 = u32::MAX;
+
+/// A map from the codes of one dictionary to those of another, in the bytes of a file: the new code of each old
+/// one, in order. A contract sees the new codes.
+#[derive(Drop)]
+pub struct CodeMap<'a> {
+    bytes: &'a [u8],
+}
+
+impl<'a> Model for CodeMap<'a> {
+    ghost use Rattle.std.specs.Prelude.{◌≡◌, ◌*◌, ℕ, List, length};
+    ghost use Rattle.intaglio_dictionary.specs.Columns.{codes_of};
+
+    ghost Value = { List ℕ };
+
+    ghost view = { λ m. codes_of m.bytes.now };
+
+    ghost invariant = { λ m. length m.bytes.now ≡ 4 * length (codes_of m.bytes.now) };
+}
+
+impl<'a> CodeMap<'a> {
+    /// The map in these bytes, if their number is a multiple of 4.
+    pub fn of(bytes: &'a [u8]) -> Option<CodeMap<'a>>
+        ensures codes { IfSome result (λ m. m ≡ codes_of bytes.now) }
+        ensures whole { is_some result ≡ (length bytes.now % 4 == 0) }
+    {
+        if bytes.len() % CODE != 0 {
+            return None;
+        }
+        Some(CodeMap { bytes })
+    }
+
+    /// How many codes it has.
+    pub fn len(&self) -> usize
+        ensures { result ≡ length self.now }
+    {
+        self.bytes.len() / CODE
+    }
+
+    /// The new code of an old one.
+    #[inline]
+    pub fn get(&self, code: u32) -> Option<u32>
+        ensures { result ≡ slice_get self.now code }
+    {
+        if code as usize >= self.len() {
+            return None;
+        }
+        let at = CODE * code as usize;
+        Some(u32::from_le_bytes([
+            self.bytes[at],
+            self.bytes[at + 1],
+            self.bytes[at + 2],
+            self.bytes[at + 3],
+        ]))
+    }
+}
+
+/// Codes as an output.
+#[derive(Drop)]
+pub struct Codes<'a> {
+    /// The codes.
+    pub codes: &'a [Symbol],
+}
+
+impl Output for Codes<'_> {
+    ghost bytes = { λ output. flat_map code_bytes output.codes.now };
+
+    ghost is_ready = { λ _. Unit {0} };
+
+    fn put_all<W: Write>(&self, block: &mut Vec<u8>, writer: &mut W) -> io::Result<()> {
+        for code in self.codes {
+            put_code(code.id(), block, writer)?;
+        }
+        Ok(())
+    }
+}
+
+// Writes a code.
+pub(crate) fn put_code<W: Write>(code: u32, block: &mut Vec<u8>, writer: &mut W) -> io::Result<()>
+    ensures { OnOk result (Puts W.contents writer.old block.old writer.new block.new (code_bytes code)) }
+{
+    put(&code.to_le_bytes(), block, writer)
+}
+
+// The code of bytes, if they are four.
+#[inline]
+pub(crate) fn code_of(bytes: &[u8]) -> Option<u32>
+    ensures value { IfSome result (λ code. code ≡ code_of bytes.now) }
+    ensures four { is_some result ≡ (length bytes.now == 4) }
+{
+    if bytes.len() != CODE {
+        return None;
+    }
+    Some(u32::from_le_bytes([bytes[0], bytes[1], bytes[2], bytes[3]]))
+}
+
+// Where the first code of the bytes ends.
+pub(crate) fn first_code(bytes: &[u8]) -> Option<(usize, usize)>
+    ensures whole { IfSome result (λ cut.
+        StartsWith code_pieces bytes.now (take cut.0 bytes.now ∷ []) (drop cut.1 bytes.now)) }
+    ensures order { IfSome result (λ cut. cut.0 ≤ cut.1) }
+    ensures some { IfSome result (λ cut. 0 < cut.1) }
+    ensures within { IfSome result (λ cut. cut.1 ≤ length bytes.now) }
+    ensures none { result ≡ None → code_pieces bytes.now ≡ last_piece bytes.now }
+{
+    if bytes.len() < CODE {
+        return None;
+    }
+    Some((CODE, CODE))
+}

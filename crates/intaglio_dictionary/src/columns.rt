@@ -1,0 +1,311 @@
+//! Columns in files: encodes lines, decodes codes, and renumbers them.
+ghost use Rattle.std.specs.Prelude.{◌≡◌, ◌==◌, ◌&&◌, ◌||◌, ◌<◌, ◌≤◌, ℕ, List, Bool, [], ◌∷◌, false, drop, get_or, is_some, length, option_map, position, slice_get, take, unwrap_or, IfErr, IfOk, IfSome, None, OnOk};
+ghost use Rattle.std.proofs.Common.{refl};
+ghost use Rattle.std.specs.Io.KnownBytes.{IsAtEnd};
+ghost use Rattle.intaglio_lines.specs.Lines.{lines_of};
+ghost use Rattle.intaglio_lines.specs.Puts.{Writes};
+ghost use Rattle.intaglio_columns.specs.Columns.{missing};
+ghost use Rattle.intaglio_dictionary.specs.Columns.{DecodesAsBefore, DecodesToInput, ReportsCode, ReportsLine, code_bytes, code_in, code_pieces, decoded_column, encoded_column, has_code, has_number, has_string, line_of, renumbered_code, renumbered_column};
+ghost use Rattle.intaglio_dictionary.specs.Translation.{AllFit, ReportsMisfit, StartsWith, count_of, last_piece};
+
+use crate::codes::{CODE, CodeMap, MISSING, code_of, first_code, put_code};
+use crate::error::ColumnError;
+use crate::translate::{TranslateError, Translator, translate};
+use intaglio_frozen::Frozen;
+use intaglio_lines::write::put_line;
+use intaglio_symbol::Symbol;
+use std::alloc::Global;
+use std::io;
+use std::io::{Read, Write};
+
+// Lines to codes.
+#[derive(Drop)]
+pub struct Encoding<'a, 't> {
+    table: &'a Frozen<'t>,
+    missing: bool,
+}
+
+impl Translator for Encoding<'_, '_> {
+    ghost pieces = { lines_of };
+
+    ghost fits = { λ encoding line. has_code encoding.table.now encoding.missing line };
+
+    ghost translated = { λ encoding line. code_bytes (code_in encoding.table.now line) };
+
+    ghost no_pieces = { refl };
+
+    fn first(bytes: &[u8]) -> Option<(usize, usize)> {
+        first_whole_line(bytes)
+    }
+
+    fn put<W: Write>(&self, line: &[u8], block: &mut Vec<u8>, writer: &mut W) -> io::Result<bool> {
+        let code = match self.table.check_interned(line) {
+            Some(symbol) => symbol.id(),
+            None => {
+                if !self.missing {
+                    return Ok(false);
+                }
+                MISSING
+            }
+        };
+        put_code(code, block, writer)?;
+        Ok(true)
+    }
+}
+
+// Codes to lines.
+#[derive(Drop)]
+pub struct Decoding<'a, 't> {
+    table: &'a Frozen<'t>,
+    text: Option<&'a [u8]>,
+}
+
+impl Translator for Decoding<'_, '_> {
+    ghost pieces = { code_pieces };
+
+    ghost fits = { λ decoding piece. has_string decoding.table.now (option_map (λ t. t.now) decoding.text) piece };
+
+    ghost translated = { λ decoding piece. line_of decoding.table.now (option_map (λ t. t.now) decoding.text) piece };
+
+    ghost no_pieces = { refl };
+
+    fn first(bytes: &[u8]) -> Option<(usize, usize)> {
+        first_code(bytes)
+    }
+
+    fn put<W: Write>(&self, piece: &[u8], block: &mut Vec<u8>, writer: &mut W) -> io::Result<bool> {
+        let Some(code) = code_of(piece) else {
+            return Ok(false);
+        };
+        let Some(string) = self.string_of(code) else {
+            return Ok(false);
+        };
+        put_line(string, block, writer)?;
+        Ok(true)
+    }
+}
+
+impl<'a> Decoding<'a, '_> {
+    // The string of a code, or the text of the missing code.
+    fn string_of(&self, code: u32) -> Option<&'a [u8]>
+        ensures found { let text = option_map (λ t. t.now) self.now.text in
+            let strings = self.now.table.now in
+            is_some result ≡ (is_some (slice_get strings code) || (is_some text && (code == missing))) }
+        ensures string { let text = option_map (λ t. t.now) self.now.text in
+            let strings = self.now.table.now in
+            IfSome result (λ s. s.now ≡ unwrap_or (slice_get strings code) (unwrap_or text [])) }
+    {
+        match self.table.get(Symbol::new(code)) {
+            Some(string) => Some(string),
+            None => { if code == MISSING { self.text } else { None } }
+        }
+    }
+}
+
+// Codes to codes.
+#[derive(Drop)]
+pub struct Renumbering<'a, 'm> {
+    map: &'a CodeMap<'m>,
+}
+
+impl Translator for Renumbering<'_, '_> {
+    ghost pieces = { code_pieces };
+
+    ghost fits = { λ renumbering piece. has_number renumbering.map.now piece };
+
+    ghost translated = { λ renumbering piece. renumbered_code renumbering.map.now piece };
+
+    ghost no_pieces = { refl };
+
+    fn first(bytes: &[u8]) -> Option<(usize, usize)> {
+        first_code(bytes)
+    }
+
+    fn put<W: Write>(&self, piece: &[u8], block: &mut Vec<u8>, writer: &mut W) -> io::Result<bool> {
+        let Some(code) = code_of(piece) else {
+            return Ok(false);
+        };
+        let Some(number) = self.number_of(code) else {
+            return Ok(false);
+        };
+        put_code(number, block, writer)?;
+        Ok(true)
+    }
+}
+
+impl Renumbering<'_, '_> {
+    // The new code of an old one, or the missing code of itself.
+    fn number_of(&self, code: u32) -> Option<u32>
+        ensures found { let numbers = self.now.map.now in
+            is_some result ≡ (is_some (slice_get numbers code) || (code == missing)) }
+        ensures number { IfSome result (λ n. n ≡ get_or self.now.map.now code missing) }
+    {
+        match self.map.get(code) {
+            Some(number) => Some(number),
+            None => { if code == MISSING { Some(MISSING) } else { None } }
+        }
+    }
+}
+
+// Where the first line of the bytes ends, and where the next begins.
+fn first_whole_line(bytes: &[u8]) -> Option<(usize, usize)>
+    ensures whole { IfSome result (λ cut.
+        StartsWith lines_of bytes.now (take cut.0 bytes.now ∷ []) (drop cut.1 bytes.now)) }
+    ensures order { IfSome result (λ cut. cut.0 ≤ cut.1) }
+    ensures some { IfSome result (λ cut. 0 < cut.1) }
+    ensures within { IfSome result (λ cut. cut.1 ≤ length bytes.now) }
+    ensures none { result ≡ None → lines_of bytes.now ≡ last_piece bytes.now }
+{
+    match end_of_line(bytes) {
+        Some(end) => Some((end, end + 1)),
+        None => None,
+    }
+}
+
+// The position of the first byte 10.
+fn end_of_line(bytes: &[u8]) -> Option<usize>
+    ensures place { result ≡ position (λ b. b == 10) bytes.now }
+    ensures bound { IfSome result (λ end. end < length bytes.now) }
+{
+    bytes.iter().position(|b| *b == b'\n')
+}
+
+/// Writes the code of each line of an input, the symbol of its string, and returns how many lines there are, or
+/// `u64::MAX` if there are more. If `missing` is true, the code of a line that isn't in the table is [`MISSING`].
+///
+/// The input is read in blocks of 64 KiB, and only a line that isn't read to its end is kept.
+///
+/// # Errors
+///
+/// `NoSymbol` for the first line that isn't in the table, unless `missing` is true; `Memory`, `Read` or `Write`.
+/// Some codes may be written then.
+pub fn encode<R: Read, W: Write>(
+    alloc: Global,
+    table: &Frozen<'_>,
+    missing: bool,
+    reader: &mut R,
+    writer: &mut W,
+) -> Result<u64, ColumnError>
+    ensures written { OnOk result (IfSome (R.remaining reader.old)
+        (λ input. Writes W.contents writer.old writer.new (encoded_column table.now input))) }
+    ensures known { OnOk result (IfSome (R.remaining reader.old)
+        (λ input. AllFit (has_code table.now missing) (lines_of input))) }
+    ensures count { IfOk result (λ count. IfSome (R.remaining reader.old)
+        (λ input. count ≡ count_of (lines_of input))) }
+    ensures all_read { OnOk result (IsAtEnd (R.remaining reader.new)) }
+    ensures unknown { IfErr result (λ e. IfSome (R.remaining reader.old)
+        (λ input. ReportsLine (has_code table.now missing) e (lines_of input))) }
+
+    // What is written is decoded to the input, its last line ended.
+    ensures decodes { missing ≡ false → OnOk result (IfSome (R.remaining reader.old)
+        (λ input. DecodesToInput table.now input)) }
+{
+    // The number of strings is at most 2^32.
+    let _count = table.len();
+    match translate(alloc, &Encoding { table, missing }, reader, writer) {
+        Ok(count) => Ok(count),
+        Err(stopped) => Err(line_error(stopped)),
+    }
+}
+
+/// Writes the string of each code of an input, each on a line, and returns how many codes there are, or `u64::MAX`
+/// if there are more. If `missing` is a text, it is what [`MISSING`] stands for.
+///
+/// The input is read in blocks of 64 KiB.
+///
+/// # Errors
+///
+/// `NoString` for the first code that no string has, `ShortCode` if the input ends within a code; `Memory`, `Read`
+/// or `Write`. Some lines may be written then.
+pub fn decode<R: Read, W: Write>(
+    alloc: Global,
+    table: &Frozen<'_>,
+    missing: Option<&[u8]>,
+    reader: &mut R,
+    writer: &mut W,
+) -> Result<u64, ColumnError>
+    ensures written { let text = option_map (λ t. t.now) missing.entry in
+        OnOk result (IfSome (R.remaining reader.old)
+        (λ input. Writes W.contents writer.old writer.new (decoded_column table.now text input))) }
+    ensures known { let text = option_map (λ t. t.now) missing.entry in
+        OnOk result (IfSome (R.remaining reader.old)
+        (λ input. AllFit (has_string table.now text) (code_pieces input))) }
+    ensures count { IfOk result (λ count. IfSome (R.remaining reader.old)
+        (λ input. count ≡ count_of (code_pieces input))) }
+    ensures all_read { OnOk result (IsAtEnd (R.remaining reader.new)) }
+    ensures unknown { let text = option_map (λ t. t.now) missing.entry in
+        IfErr result (λ e. IfSome (R.remaining reader.old)
+        (λ input. ReportsCode (has_string table.now text) e (code_pieces input))) }
+{
+    let decoding = Decoding {
+        table,
+        text: missing,
+    };
+    match translate(alloc, &decoding, reader, writer) {
+        Ok(count) => Ok(count),
+        Err(stopped) => Err(code_error(stopped)),
+    }
+}
+
+/// Writes for each code of an input its new code by a map, and returns how many codes there are, or `u64::MAX` if
+/// there are more. [`MISSING`] stays as it is.
+///
+/// The input is read in blocks of 64 KiB.
+///
+/// # Errors
+///
+/// `NoString` for the first code that isn't in the map, `ShortCode` if the input ends within a code; `Memory`,
+/// `Read` or `Write`. Some codes may be written then.
+pub fn renumber<R: Read, W: Write>(
+    alloc: Global,
+    map: &CodeMap<'_>,
+    reader: &mut R,
+    writer: &mut W,
+) -> Result<u64, ColumnError>
+    ensures written { OnOk result (IfSome (R.remaining reader.old)
+        (λ input. Writes W.contents writer.old writer.new (renumbered_column map.now input))) }
+    ensures known { OnOk result (IfSome (R.remaining reader.old)
+        (λ input. AllFit (has_number map.now) (code_pieces input))) }
+    ensures count { IfOk result (λ count. IfSome (R.remaining reader.old)
+        (λ input. count ≡ count_of (code_pieces input))) }
+    ensures all_read { OnOk result (IsAtEnd (R.remaining reader.new)) }
+    ensures unknown { IfErr result (λ e. IfSome (R.remaining reader.old)
+        (λ input. ReportsCode (has_number map.now) e (code_pieces input))) }
+
+    // What is written is decoded under the new dictionary as the input is under the old one.
+    ensures decodes { OnOk result (IfSome (R.remaining reader.old) (λ input. DecodesAsBefore map.now input)) }
+{
+    match translate(alloc, &Renumbering { map }, reader, writer) {
+        Ok(count) => Ok(count),
+        Err(stopped) => Err(code_error(stopped)),
+    }
+}
+
+// Why lines weren't translated.
+fn line_error(stopped: TranslateError) -> ColumnError
+    ensures { (fits : List ℕ → Bool) (lines : List (List ℕ)) →
+        ReportsMisfit fits stopped lines → ReportsLine fits result lines }
+{
+    match stopped {
+        TranslateError::Misfit(position, _) => ColumnError::NoSymbol(position.saturating_add(1)),
+        TranslateError::Stream(failure) => ColumnError::Stream(failure),
+    }
+}
+
+// Why codes weren't translated.
+fn code_error(stopped: TranslateError) -> ColumnError
+    ensures { (fits : List ℕ → Bool) (codes : List (List ℕ)) →
+        ReportsMisfit fits stopped codes → ReportsCode fits result codes }
+{
+    match stopped {
+        TranslateError::Misfit(position, size) => {
+            let number = position.saturating_add(1);
+            if size < CODE {
+                ColumnError::ShortCode(number)
+            } else {
+                ColumnError::NoString(number)
+            }
+        }
+        TranslateError::Stream(failure) => ColumnError::Stream(failure),
+    }
+}

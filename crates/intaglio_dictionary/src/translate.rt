@@ -1,0 +1,268 @@
+//! Translates an input piece by piece, in blocks.
+ghost use Rattle.std.specs.Prelude.{◌≡◌, ◌+◌, ◌-◌, ◌^◌, ◌<◌, ◌≤◌, [], ◌∷◌, ℕ, List, Bool, false, true, Ok, Option, None, drop, length, min, take, IfErr, IfOk, IfSome, OnOk};
+ghost use Rattle.std.specs.List.{flat_map};
+ghost use Rattle.std.specs.Io.KnownBytes.{IsAtEnd};
+ghost use Rattle.intaglio_lines.specs.Puts.{Puts, Writes, held};
+ghost use Rattle.intaglio_lines.specs.declared.error.StreamError.TheVariants.{Memory};
+ghost use Rattle.intaglio_dictionary.specs.Translation.{AllFit, HasTranslated, IsFailure, ReadsMore, ReportsMisfit, ReportsPiece, StartsWith, count_of, last_piece};
+ghost use Rattle.intaglio_dictionary.specs.declared.translate.TranslateError.TheVariants.{Stream};
+
+use intaglio_lines::error::StreamError;
+use std::alloc::{AllocError, Global};
+use std::io;
+use std::io::{ErrorKind, Read, Write};
+
+// How many bytes a read may return, and how many are buffered before they are written.
+const BLOCK: usize = 64 * 1024;
+
+/// Why an input wasn't translated.
+#[derive(Clone, Copy, Debug, PartialEq, Eq)]
+pub enum TranslateError {
+    /// The piece at this position, counted from 0, which has this many bytes, can't be translated.
+    Misfit(u64, usize),
+    /// An allocation, a read or a write failed.
+    Stream(StreamError),
+}
+
+impl From<AllocError> for TranslateError {
+    ghost from_gives = { λ _ error. error ≡ Stream Memory };
+
+    fn from(_error: AllocError) -> TranslateError {
+        TranslateError::Stream(StreamError::Memory)
+    }
+}
+
+/// How the pieces of an input, such as lines or codes, are translated.
+pub trait Translator {
+    ghost pieces: { List ℕ → List (List ℕ) };
+
+    // whether a piece can be translated, and what it is translated to
+    ghost fits: { Self → List ℕ → Bool };
+
+    ghost translated: { Self → List ℕ → List ℕ };
+
+    ghost no_pieces: { pieces [] ≡ [] };
+
+    /// Where the first piece of the bytes ends, whatever may follow them, and where the rest begins. If there is
+    /// none, the bytes are a part of a piece, or the last piece of an input.
+    fn first(bytes: &[u8]) -> Option<(usize, usize)>
+        ensures whole { IfSome result (λ cut.
+            StartsWith pieces bytes.now (take cut.0 bytes.now ∷ []) (drop cut.1 bytes.now)) }
+        ensures order { IfSome result (λ cut. cut.0 ≤ cut.1) }
+        ensures some { IfSome result (λ cut. 0 < cut.1) }
+        ensures within { IfSome result (λ cut. cut.1 ≤ length bytes.now) }
+        ensures none { result ≡ None → pieces bytes.now ≡ last_piece bytes.now };
+
+    /// Writes what a piece is translated to, and returns whether it can be translated.
+    fn put<W: Write>(&self, piece: &[u8], block: &mut Vec<u8>, writer: &mut W) -> io::Result<bool>
+        ensures fits { IfOk result (λ fit. fit ≡ fits self.now piece.now) }
+        ensures put { result ≡ Ok true →
+            Puts W.contents writer.old block.old writer.new block.new (translated self.now piece.now) };
+}
+
+/// Reads an input to its end, writes what its pieces are translated to, and returns how many there are, or
+/// `u64::MAX` if there are more.
+///
+/// The input is read in blocks of 64 KiB, and what is written is buffered in one; a part of a piece is kept until
+/// the piece is whole. When an error is returned, some pieces may be written.
+///
+/// # Errors
+///
+/// `Misfit` for the first piece that can't be translated, `Memory`, `Read` or `Write`.
+pub fn translate<T: Translator, R: Read, W: Write>(
+    alloc: Global,
+    translator: &T,
+    reader: &mut R,
+    writer: &mut W,
+) -> Result<u64, TranslateError>
+    ensures written { let translated = flat_map (T.translated translator.now) in
+        OnOk result (IfSome (R.remaining reader.old)
+        (λ input. Writes W.contents writer.old writer.new (translated (T.pieces input)))) }
+    ensures fit { OnOk result (IfSome (R.remaining reader.old)
+        (λ input. AllFit (T.fits translator.now) (T.pieces input))) }
+    ensures count { IfOk result (λ count. IfSome (R.remaining reader.old)
+        (λ input. count ≡ count_of (T.pieces input))) }
+    ensures all_read { OnOk result (IsAtEnd (R.remaining reader.new)) }
+    ensures misfit { IfErr result (λ e. IfSome (R.remaining reader.old)
+        (λ input. ReportsMisfit (T.fits translator.now) e (T.pieces input))) }
+{
+    let mut block = Vec::with_capacity(alloc, BLOCK)?;
+    let (last, count) = translate_whole(alloc, translator, reader, &mut block, writer)?;
+    let count = translate_last(translator, &last, count, &mut block, writer)?;
+    match write_out(&block, writer) {
+        Ok(()) => Ok(count),
+        Err(_) => Err(TranslateError::Stream(StreamError::Write)),
+    }
+}
+
+// Reads an input to its end, translates its pieces but for a last one that may go on, and returns that and how
+// many were translated.
+fn translate_whole<T: Translator, R: Read, W: Write>(
+    alloc: Global,
+    translator: &T,
+    reader: &mut R,
+    block: &mut Vec<u8>,
+    writer: &mut W,
+) -> Result<(Vec<u8>, u64), TranslateError>
+    ensures ok { IfOk result (λ end. HasTranslated T.pieces (T.fits translator.now) (T.translated translator.now)
+        (R.remaining reader.old) (held W.contents writer.old block.old) (held W.contents writer.new block.new)
+        end.0.items (R.remaining reader.new) end.1) }
+    ensures last { IfOk result (λ end. T.pieces end.0.items ≡ last_piece end.0.items) }
+    ensures all_read { OnOk result (IsAtEnd (R.remaining reader.new)) }
+    ensures misfit { IfErr result (λ e. IfSome (R.remaining reader.old)
+        (λ input. ReportsMisfit (T.fits translator.now) e (T.pieces input))) }
+{
+    let mut bytes = Vec::new(alloc);
+    let mut count = 0;
+    for _ in 0..u64::MAX {
+        let more = read_more(reader, &mut bytes)?;
+        if !more {
+            return Ok((bytes, count));
+        }
+        count = translate_front(translator, &mut bytes, count, block, writer)?;
+    }
+    Err(TranslateError::Stream(StreamError::Read))
+}
+
+// Reads some bytes more, which are appended, and returns whether there may be others. An interrupted read gives
+// none.
+fn read_more<R: Read>(reader: &mut R, bytes: &mut Vec<u8>) -> Result<bool, TranslateError>
+    ensures read { OnOk result
+        (ReadsMore (R.remaining reader.old) (R.remaining reader.new) bytes.old.items bytes.new.items) }
+    ensures same { IfOk result (λ more. more ≡ false → bytes.new.items ≡ bytes.old.items) }
+    ensures end { IfOk result (λ more. more ≡ false → IsAtEnd (R.remaining reader.new)) }
+    ensures err { IfErr result IsFailure }
+{
+    let mut block = [0u8; BLOCK];
+    bytes.reserve(BLOCK)?;
+    match reader.read(&mut block) {
+        Ok(0) => Ok(false),
+        Ok(n) => {
+            bytes.extend_from_slice(&block[..n]).unwrap();
+            Ok(true)
+        }
+        Err(e) => {
+            if e.kind() == ErrorKind::Interrupted {
+                Ok(true)
+            } else {
+                Err(TranslateError::Stream(StreamError::Read))
+            }
+        }
+    }
+}
+
+// Translates the pieces at the front of the bytes, which are removed, and returns how many were translated with
+// those before them.
+fn translate_front<T: Translator, W: Write>(
+    translator: &T,
+    bytes: &mut Vec<u8>,
+    number: u64,
+    block: &mut Vec<u8>,
+    writer: &mut W,
+) -> Result<u64, TranslateError>
+    ensures ok { let Before = HasTranslated T.pieces (T.fits translator.now) (T.translated translator.now) in
+        IfOk result (λ count. (input old left : Option (List ℕ)) →
+        Before input old (held W.contents writer.old block.old) bytes.old.items left number →
+        Before input old (held W.contents writer.new block.new) bytes.new.items left count) }
+    ensures last { OnOk result (T.pieces bytes.new.items ≡ last_piece bytes.new.items) }
+    ensures misfit { let Before = HasTranslated T.pieces (T.fits translator.now) (T.translated translator.now) in
+        IfErr result (λ e. (input old left : Option (List ℕ)) →
+        Before input old (held W.contents writer.old block.old) bytes.old.items left number →
+        IfSome input (λ input. ReportsMisfit (T.fits translator.now) e (T.pieces input))) }
+{
+    let (size, count) = translate_pieces(translator, bytes, number, block, writer)?;
+    drop_front(bytes, size);
+    Ok(count)
+}
+
+// Translates the pieces at the front of the bytes, and returns where the rest begins and how many were translated
+// with those before them.
+fn translate_pieces<T: Translator, W: Write>(
+    translator: &T,
+    bytes: &[u8],
+    number: u64,
+    block: &mut Vec<u8>,
+    writer: &mut W,
+) -> Result<(usize, u64), TranslateError>
+    ensures ok { let Before = HasTranslated T.pieces (T.fits translator.now) (T.translated translator.now) in
+        IfOk result (λ end. (input old left : Option (List ℕ)) →
+        Before input old (held W.contents writer.old block.old) bytes.now left number →
+        Before input old (held W.contents writer.new block.new) (drop end.0 bytes.now) left end.1) }
+    ensures within { IfOk result (λ end. end.0 ≤ length bytes.now) }
+    ensures last { IfOk result (λ end. T.pieces (drop end.0 bytes.now) ≡ last_piece (drop end.0 bytes.now)) }
+    ensures misfit { let Before = HasTranslated T.pieces (T.fits translator.now) (T.translated translator.now) in
+        IfErr result (λ e. (input old left : Option (List ℕ)) →
+        Before input old (held W.contents writer.old block.old) bytes.now left number →
+        IfSome input (λ input. ReportsMisfit (T.fits translator.now) e (T.pieces input))) }
+{
+    let mut at = 0;
+    let mut count = number;
+    while let Some((size, next)) = T::first(&bytes[at..]) {
+        count = put_piece(translator, &bytes[at..][..size], count, block, writer)?;
+        at += next;
+    }
+    Ok((at, count))
+}
+
+// Translates the last piece of an input, if there is one, and returns how many were translated with those before.
+fn translate_last<T: Translator, W: Write>(
+    translator: &T,
+    last: &[u8],
+    number: u64,
+    block: &mut Vec<u8>,
+    writer: &mut W,
+) -> Result<u64, TranslateError>
+    requires { T.pieces last.now ≡ last_piece last.now }
+    ensures ok { let Before = HasTranslated T.pieces (T.fits translator.now) (T.translated translator.now) in
+        IfOk result (λ count. (input old left : Option (List ℕ)) → IsAtEnd left →
+        Before input old (held W.contents writer.old block.old) last.now left number →
+        Before input old (held W.contents writer.new block.new) [] left count) }
+    ensures misfit { let Before = HasTranslated T.pieces (T.fits translator.now) (T.translated translator.now) in
+        IfErr result (λ e. (input old left : Option (List ℕ)) → IsAtEnd left →
+        Before input old (held W.contents writer.old block.old) last.now left number →
+        IfSome input (λ input. ReportsMisfit (T.fits translator.now) e (T.pieces input))) }
+{
+    if last.is_empty() {
+        return Ok(number);
+    }
+    put_piece(translator, last, number, block, writer)
+}
+
+// Translates a piece, before which there are so many, and returns how many there are with it.
+fn put_piece<T: Translator, W: Write>(
+    translator: &T,
+    piece: &[u8],
+    number: u64,
+    block: &mut Vec<u8>,
+    writer: &mut W,
+) -> Result<u64, TranslateError>
+    ensures fits { OnOk result (T.fits translator.now piece.now ≡ true) }
+    ensures put { let translated = T.translated translator.now piece.now in
+        OnOk result (Puts W.contents writer.old block.old writer.new block.new translated) }
+    ensures count { IfOk result (λ count. count ≡ min (number + 1) (2 ^ 64 - 1)) }
+    ensures misfit { IfErr result (λ e. ReportsPiece (T.fits translator.now) e piece.now number) }
+{
+    match translator.put(piece, block, writer) {
+        Ok(true) => Ok(number.saturating_add(1)),
+        Ok(false) => Err(TranslateError::Misfit(number, piece.len())),
+        Err(_) => Err(TranslateError::Stream(StreamError::Write)),
+    }
+}
+
+// Writes what a block holds, and flushes.
+fn write_out<W: Write>(block: &[u8], writer: &mut W) -> io::Result<()>
+    ensures { OnOk result (Writes W.contents writer.old writer.new block.now) }
+{
+    writer.write_all(block)?;
+    writer.flush()
+}
+
+// Removes the first bytes.
+fn drop_front(bytes: &mut Vec<u8>, size: usize)
+    requires { size ≤ length bytes.old.items }
+    ensures { bytes.new.items ≡ drop size bytes.old.items }
+{
+    let count = bytes.len() - size;
+    bytes.copy_within(size.., 0);
+    bytes.truncate(count);
+}
