@@ -1,6 +1,6 @@
 /* Reads a frozen table in a file, whose strings come on standard input, each on a line: string i is at symbol i. A table of these strings
  * must be frozen to the same bytes, under the keys 3 and 4. Then cuts the file at each length and changes each byte, and writes the code
- * of each: no call may read outside the bytes. */
+ * of each, and the numbers of the strings in it: no call may read outside the bytes. */
 #define _POSIX_C_SOURCE 200809L
 #include "intaglio.h"
 #include <fcntl.h>
@@ -86,15 +86,19 @@ static void pass_null(const uint8_t *bytes, size_t len) {
     (void)intaglio_frozen_find(bytes, len, NULL, 0, &symbol);
 }
 
-/* Reads bytes that may be no table, and writes the code of them. What is found is what was sought. */
+/* Reads bytes that may be no table, and writes the code of them, the code of looking up all strings, and their numbers. What is found is what was
+ * sought. */
 static void read_any(const uint8_t *bytes, size_t len) {
     uint32_t symbol;
     intaglio_spelling out;
-    printf("%u\n", intaglio_frozen_check(bytes, len));
+    printf("%u", intaglio_frozen_check(bytes, len));
     size_t some = intaglio_frozen_len(bytes, len) < count ? intaglio_frozen_len(bytes, len) : count;
     for (size_t i = 0; i < some; i++) (void)intaglio_frozen_get(bytes, len, (uint32_t)i, &out);
     (void)intaglio_frozen_is_text(bytes, len);
-    (void)!intaglio_frozen_find_all(bytes, len, text, ends[count - 1], ends, count, symbols, count);
+    memset(symbols, 7, sizeof symbols[0] * count);
+    printf(" %u", intaglio_frozen_find_all(bytes, len, text, ends[count - 1], ends, count, symbols, count));
+    for (size_t i = 0; i < count; i++) printf(" %llu", (unsigned long long)symbols[i]);
+    printf("\n");
     for (size_t i = 0; i < count; i++) {
         const uint8_t *string = text + start_of(i);
         size_t size = ends[i] - start_of(i);

@@ -1,0 +1,175 @@
+-- What a change of a table is to the bytes of its contents.
+use Rattle.std.proofs.Common.{◌≡◌, ℕ, ◌+◌, ◌<◌, ◌≤◌, inl, inr, Bool, true, false, List, [], ◌∷◌, ◌++◌, map, refl, sym, ap, subst, ◌∙◌, arith}
+use Rattle.std.specs.Prelude.{max, ◌↔◌, option_map, slice_get, Option, Some, None, MatchOption, Result, Ok, Err}
+use Rattle.std.specs.List.{take-map}
+use Rattle.std.proofs.lemmas.List.{length-map, map-append}
+use Rattle.std.proofs.lemmas.Option.{slice_get-map}
+use Rattle.intaglio_content.specs.Key.{Key}
+use Rattle.intaglio_content.specs.Store.{IsMoved, IsPushed}
+use Rattle.intaglio_core.specs.State.{State, Table, first, first_of}
+use Rattle.intaglio_core.specs.Change.{AddsNew, InternsValue, IsOutOfMemory, IsRefused, Reserves, Shrinks, TakesBack}
+use Rattle.intaglio_symbol.specs.declared.error.InternError.{InternError}
+use Rattle.intaglio_symbol.specs.declared.error.InternError.TheVariants.{Overflow, Memory}
+use Rattle.intaglio_symbol.specs.declared.error.RoomError.{RoomError}
+use Rattle.intaglio_symbol.specs.declared.error.RoomError.TheVariants as room_error
+use Rattle.intaglio_symbol.specs.declared.error.StaleMark.{StaleMark}
+use Rattle.intaglio_c.specs.Kinds.{fault, key}
+use Rattle.intaglio_c.specs.Answers.{symbol_answer}
+use Rattle.intaglio_c.specs.Seen.{Seen, as_bytes, seen_as, seen_of, position, look_up, unless, IsChangedBy}
+use Rattle.intaglio_c.specs.Steps.{InternsBy, InternsNew}
+use Rattle.intaglio_hash.specs.declared.state.KeyedState.{KeyedState}
+use Rattle.intaglio_c.specs.declared.kind.Kind.{Kind}
+use Rattle.intaglio_c.specs.declared.refusal.Refusal.{Refusal}
+
+-- bytes that the kind doesn't take
+pub refused_bytes : (copies : Kind → Bool) (t : Seen) (b : List ℕ) (r : Refusal) (result : Result ℕ Refusal) → fault t.kind b ≡ Some r → result ≡ Err r → IsChangedBy t t (λ _ s'. InternsBy (copies t.kind) b t.state (look_up t b) result s')
+refused_bytes copies t b r result fault_is err = record {
+  kind = refl;
+  hasher = refl;
+  step = subst (λ (f : Option Refusal). InternsBy (copies t.kind) b t.state (unless f (position t b)) result t.state) (sym fault_is) (err, refl);
+}
+
+-- a table whose state alone changed, as it is seen
+pub changed : {C : Type 0} (old : Seen) (kind : Kind) (bytes : C → List ℕ) (s s' : State C) (h h' : KeyedState) (Step : State (List ℕ) → State (List ℕ) → Type 0)
+    → old ≡ seen_of kind bytes s h → h' ≡ h → Step (as_bytes bytes s) (as_bytes bytes s')
+    → IsChangedBy old (seen_of kind bytes s' h') Step
+changed old kind bytes s s' h h' Step is same step =
+    subst (λ (x : Seen). IsChangedBy x (seen_of kind bytes s' h') Step) (sym is) (record { kind = refl; hasher = same; step = step })
+
+module _ {C : Type 0} (bytes : C → List ℕ) where
+  -- a rollback
+  pub taken_back : (old new : State C) (n : ℕ) (result : Result (Unit {0}) StaleMark) → TakesBack old n result new → TakesBack (as_bytes bytes old) n result (as_bytes bytes new)
+  taken_back old new n (Ok done) cut =
+      let count = length-map old.contents bytes in let left = length-map new.contents bytes in record {
+        within = subst (λ (m : ℕ). n ≤ m) (sym count) cut.within;
+        all = λ e. ap (as_bytes bytes) (cut.all (e ∙ count));
+        contents = ap (map bytes) cut.contents ∙ sym (take-map bytes n old.contents);
+        spare = omega (arith, count, left, cut.spare);
+        buckets = cut.buckets;
+        limit = cut.limit;
+      }
+  taken_back old new n (Err stale) kept = (subst (λ (m : ℕ). m < n) (sym (length-map old.contents bytes)) kept.0, ap (as_bytes bytes) kept.1)
+
+  -- a reservation
+  pub reserved : (old new : State C) (n : ℕ) (result : Result (Unit {0}) RoomError) → Reserves old n result new → Reserves (as_bytes bytes old) n result (as_bytes bytes new)
+  reserved old new n (Ok done) made =
+      let count = length-map old.contents bytes in record {
+        within_limit = subst (λ (m : ℕ). m + n ≤ old.limit) (sym count) made.within_limit;
+        enough = λ e. ap (as_bytes bytes) (made.enough e);
+        contents = ap (map bytes) made.contents;
+        spare = made.spare;
+        buckets = λ e. made.buckets (subst (λ (m : ℕ). m + n ≤ old.buckets) count e);
+        limit = made.limit;
+      }
+  reserved old new n (Err room_error.CapacityOverflow) kept = (subst (λ (m : ℕ). old.limit < m + n) (sym (length-map old.contents bytes)) kept.0, ap (as_bytes bytes) kept.1)
+  reserved old new n (Err (room_error.Memory _)) failed = record {
+    within_limit = subst (λ (m : ℕ). m + n ≤ old.limit) (sym (length-map old.contents bytes)) failed.within_limit;
+    missing = failed.missing;
+    contents = ap (map bytes) failed.contents;
+    spare = failed.spare;
+    buckets = failed.buckets;
+    limit = failed.limit;
+  }
+
+  -- a shrink
+  pub shrunk : (old new : State C) (n : ℕ) (result : Result (Unit {0}) RoomError) → Shrinks old n result new → Shrinks (as_bytes bytes old) n result (as_bytes bytes new)
+  shrunk old new n (Ok done) made =
+      let count = length-map old.contents bytes in let left = length-map new.contents bytes in record {
+        small = λ e. ap (as_bytes bytes) (made.small (subst (λ (m : ℕ). m + old.spare ≤ n) count e));
+        contents = ap (map bytes) made.contents;
+        buckets = λ e. made.buckets (subst (λ (m : ℕ). n < m + old.spare) count e) ∙ ap (λ (m : ℕ). max m n) (sym count);
+        spare = λ e. ap (λ (m : ℕ). m + new.spare) left ∙ made.spare (subst (λ (m : ℕ). n < m + old.spare) count e) ∙ ap (λ (m : ℕ). max m n) (sym count);
+        limit = made.limit;
+      }
+  shrunk old new n (Err room_error.CapacityOverflow) never = never
+  shrunk old new n (Err (room_error.Memory _)) kept = (subst (λ (m : ℕ). n < m + old.spare) (sym (length-map old.contents bytes)) kept.0, ap (as_bytes bytes) kept.1)
+
+  -- an interning of what isn't stored
+  refused : (old new : State C) → IsRefused old new → IsRefused (as_bytes bytes old) (as_bytes bytes new)
+  refused old new refusal = record {
+    below_limit = subst (λ (m : ℕ). m < old.limit) (sym (length-map old.contents bytes)) refusal.below_limit;
+    no_room = refusal.no_room;
+    contents = ap (map bytes) refusal.contents;
+    spare = refusal.spare;
+    buckets = refusal.buckets;
+    limit = refusal.limit;
+  }
+
+  out_of_memory : (copies : Bool) (old new : State C) → IsOutOfMemory copies old new → IsOutOfMemory copies (as_bytes bytes old) (as_bytes bytes new)
+  out_of_memory false old new refusal = refused old new refusal
+  out_of_memory true old new (inl before) = inl (record { below_limit = subst (λ (m : ℕ). m < old.limit) (sym (length-map old.contents bytes)) before.below_limit; same = ap (as_bytes bytes) before.same })
+  out_of_memory true old new (inr refusal) = inr (refused old new refusal)
+
+  -- a list becomes one whose bytes are those before, with these behind them
+  abbrev pub Adds : (List C → List C → Type 0) → List C → List ℕ → Type 0
+  Adds adds cs b = (cs' : List C) → adds cs cs' → map bytes cs' ≡ map bytes cs ++ b ∷ []
+
+  added : (adds : List C → List C → Type 0) (copies : Bool) (old new : State C) (b : List ℕ) (result : Result ℕ InternError) → Adds adds old.contents b → AddsNew adds copies old result new
+      → InternsNew copies b (as_bytes bytes old) (symbol_answer result) (as_bytes bytes new)
+  added adds copies old new b (Ok symbol) grows taken =
+      let count = length-map old.contents bytes in record {
+        below_limit = subst (λ (m : ℕ). m < old.limit) (sym count) taken.below_limit;
+        position = taken.position ∙ sym count;
+        contents = grows new.contents taken.contents;
+        spare = taken.spare;
+        growth = λ grown. (count ∙ (taken.growth grown).0, (taken.growth grown).1);
+        limit = taken.limit;
+      }
+  added adds copies old new b (Err (Overflow full)) grows kept = (length-map old.contents bytes ∙ kept.0, ap (as_bytes bytes) kept.1)
+  added adds copies old new b (Err (Memory e)) grows failed = out_of_memory copies old new failed
+
+  -- by the result of the look-up
+  by_look_up : (adds : List C → List C → Type 0) (copies : Bool) (o : Option ℕ) (old new : State C) (b : List ℕ) (result : Result ℕ InternError)
+      → Adds adds old.contents b → MatchOption o (AddsNew adds copies old result new) (λ i. (result ≡ Ok i) × (new ≡ old))
+      → InternsBy copies b (as_bytes bytes old) (Ok o) (symbol_answer result) (as_bytes bytes new)
+  by_look_up adds copies None old new b result grows step = added adds copies old new b result grows step
+  by_look_up adds copies (Some i) old new b result grows step = (ap symbol_answer step.0, ap (as_bytes bytes) step.1)
+
+  -- a content that is moved in, and one that a form is copied to
+  pub moved : (c : C) (cs : List C) (b : List ℕ) → bytes c ≡ b → Adds (IsMoved c) cs b
+  moved c cs b is cs' grown = ap (map bytes) grown ∙ map-append bytes cs (c ∷ []) ∙ ap (λ (x : List ℕ). map bytes cs ++ x ∷ []) is
+
+  pub pushed : (content_key : C → Key) (k : Key) (w : List ℕ) (cs : List C) (b : List ℕ) → w ≡ b → Adds (IsPushed content_key bytes k w) cs b
+  pushed content_key k w cs b is cs' one = moved one.copy cs b (one.same_spelling ∙ is) cs' one.added
+
+module _ {C : Type 0} (kind : Kind) (bytes : C → List ℕ) where
+  -- the bytes of a symbol
+  pub stored : (old : Seen) (held : State C) (h : KeyedState) (i : ℕ) (o : Option (List ℕ)) → old ≡ seen_of kind bytes held h → o ≡ option_map bytes (slice_get held.contents i) → o ≡ slice_get old.state.contents i
+  stored old held h i o is found = subst (λ (x : Seen). o ≡ slice_get x.state.contents i) (sym is) (found ∙ sym (slice_get-map bytes held.contents i))
+
+-- whether a size is too large, by the result
+module _ {X Y E P : Type 0} where
+  pub too_large_not : (x : X) (y : Y) {e : E} → ((Ok x ≡ Err e) ↔ P) → (Ok y ≡ Err e) ↔ P
+  too_large_not x y over = (λ q. absurd (cc), λ p. absurd (let q = over.1 p in cc))
+
+  pub too_large : (r : Result Y E) (s : Result X E) (d e : E) → r ≡ Err d → s ≡ Err d → ((s ≡ Err e) ↔ P) → (r ≡ Err e) ↔ P
+  too_large r s d e err was over = (λ q. over.0 (let f : d ≡ e = cc in was ∙ ap Err f), λ p. let q = over.1 p in cc)
+
+-- a kind whose contents have their bytes' keys
+module _ {C : Type 0} (kind : Kind) (bytes : C → List ℕ) (content_key : C → Key) (same : (c : C) → content_key c ≡ key kind (bytes c)) where
+  keys : (cs : List C) → map content_key cs ≡ map (key kind) (map bytes cs)
+  keys [] = refl
+  keys (c ∷ cs) = λ i. same c i ∷ keys cs i
+
+  place : (cs : List C) (b : List ℕ) (k : Key) → k ≡ key kind b → first content_key cs k ≡ first (key kind) (map bytes cs) (key kind b)
+  place cs b k spelled = ap (λ (ks : List Key). first_of ks k) (keys cs) ∙ ap (first (key kind) (map bytes cs)) spelled
+
+  -- a look-up
+  pub found : (old : Seen) (held : State C) (h : KeyedState) (b : List ℕ) (sought : Key) (result : Option ℕ) → old ≡ seen_of kind bytes held h → fault old.kind b ≡ None → sought ≡ key kind b → result ≡ first content_key held.contents sought
+      → Ok result ≡ look_up old b
+  found old held h b sought result is allowed spelled answer =
+      let faultless : fault kind b ≡ None = subst (λ (x : Seen). fault x.kind b ≡ None) is allowed in
+      subst (λ (x : Seen). Ok result ≡ look_up x b) (sym is) (rw faultless (ap Ok (answer ∙ place held.contents b sought spelled)))
+
+  -- an interning
+  pub interned : (copies : Kind → Bool) (adds : List C → List C → Type 0) (old : Seen) (held : State C) (h : KeyedState) (t' : Table C KeyedState) (b : List ℕ) (k : Key) (result : Result ℕ InternError) (answer : Result ℕ Refusal)
+      → old ≡ seen_of kind bytes held h → t'.hasher ≡ h → fault old.kind b ≡ None → k ≡ key kind b → Adds bytes adds held.contents b → InternsValue content_key adds (copies kind) held k result t'.state → answer ≡ symbol_answer result
+      → IsChangedBy old (seen_as kind bytes t') (λ _ s'. InternsBy (copies old.kind) b old.state (look_up old b) answer s')
+  interned copies adds old held h t' b k result answer is hasher allowed spelled grows step answered =
+      let s = as_bytes bytes held in let s' = as_bytes bytes t'.state in let given = symbol_answer result in
+      let looked_up = by_look_up bytes adds (copies kind) (first content_key held.contents k) held t'.state b result grows step in
+      let found = subst (λ (o : Option ℕ). InternsBy (copies kind) b s (Ok o) given s') (place held.contents b k spelled) looked_up in
+      let tested = subst (λ (f : Option Refusal). InternsBy (copies kind) b s (unless f (position (seen_of kind bytes held h) b)) given s') (sym (subst (λ (x : Seen). fault x.kind b ≡ None) is allowed)) found in
+      subst (λ (a : Result ℕ Refusal). IsChangedBy old (seen_as kind bytes t') (λ _ x. InternsBy (copies old.kind) b old.state (look_up old b) a x)) (sym answered)
+      (changed old kind bytes held t'.state h t'.hasher (λ _ x. InternsBy (copies old.kind) b old.state (look_up old b) given x) is hasher
+      (subst (λ (x : Seen). InternsBy (copies x.kind) b x.state (look_up x b) given s') (sym is) tested))

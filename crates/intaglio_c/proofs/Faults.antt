@@ -1,0 +1,119 @@
+-- Which bytes a kind doesn't take.
+use Rattle.std.proofs.Common.{◌∙◌, Bool, ◌≡◌, ℕ, zero, suc, ◌+◌, ◌-◌, ◌<◌, true, false, List, [], ◌∷◌, ◌++◌, length, take, refl, sym, ap, arith, cond, inl, inr, ◌⊎◌}
+use Rattle.std.specs.Prelude.{if◌then◌else◌, Option, Some, None, Result, Ok, Err, ◌==◌, IsUtf8, is_some}
+use Rattle.std.specs.Str.{is_utf8}
+use Rattle.std.proofs.lemmas.Bool.{eqb-true, eq-eqb, ne_eqb}
+use Rattle.std.proofs.lemmas.Option.{none-some}
+use Rattle.std.proofs.lemmas.Str.{IsUtf8-from_is_utf8, is_utf8-from_IsUtf8}
+use Rattle.intaglio_core.specs.Change.{TakesBack}
+use Rattle.intaglio_core.specs.Issue.{interned, interned_all}
+use Rattle.intaglio_core.specs.State.{State, first}
+use Rattle.intaglio_cstr.specs.Zeros.{EndsAtFirstZero, first_zero}
+use Rattle.intaglio_symbol.specs.declared.error.StaleMark.{StaleMark}
+use Rattle.intaglio_c.specs.Batches.{Either, InternsAll, InternsOr, IsRolledBack, is_batch, pieces}
+use Rattle.intaglio_c.specs.Kinds.{earlier, fault, first_fault, key, utf8_fault, zero_fault, zero_fault_at}
+use Rattle.intaglio_c.specs.declared.kind.Kind.{Kind}
+use Rattle.intaglio_c.specs.declared.refusal.Refusal.{Refusal}
+use Rattle.intaglio_c.specs.declared.refusal.Refusal.TheVariants.{BadEnds, Full, NoMemory, NotUtf8, InnerZero, MissingZero}
+use Rattle.intaglio_c.specs.Seen.{IsFaultless, Seen, look_up, position, unless}
+use Rattle.intaglio_c.specs.Steps.{InternsBy}
+
+-- texts
+abbrev utf8_fault_by : Bool → Option Refusal
+utf8_fault_by valid = if valid then None else Some NotUtf8
+
+pub good_text : (bs : List ℕ) → IsUtf8 bs → utf8_fault bs ≡ None
+good_text bs good = ap utf8_fault_by (is_utf8-from_IsUtf8 bs good)
+
+pub bad_text : (bs : List ℕ) → ¬ (IsUtf8 bs) → utf8_fault bs ≡ Some NotUtf8
+bad_text bs bad = elim (is_utf8 bs) as (λ b. is_utf8 bs ≡ b → utf8_fault bs ≡ Some NotUtf8) [ true ↦ λ e. absurd (bad (IsUtf8-from_is_utf8 bs e)) | false ↦ λ e. ap utf8_fault_by e ] refl
+
+pub is_text : (bs : List ℕ) → utf8_fault bs ≡ None → IsUtf8 bs
+is_text bs none = elim (is_utf8 bs) as (λ b. is_utf8 bs ≡ b → IsUtf8 bs) [ true ↦ λ e. IsUtf8-from_is_utf8 bs e | false ↦ λ e. absurd (none-some NotUtf8 (sym none ∙ ap utf8_fault_by e)) ] refl
+
+-- C strings
+pub good_c_string : (bs : List ℕ) → EndsAtFirstZero bs → zero_fault bs ≡ None
+good_c_string bs ends = rw (ends, eq-eqb (length bs - 1) (length bs - 1) refl) refl
+
+pub inner_zero : (bs : List ℕ) (place : ℕ) → first_zero bs ≡ Some place → place + 1 < length bs → zero_fault bs ≡ Some InnerZero
+inner_zero bs place first inner = rw (first, ne_eqb place (length bs - 1) (λ e. omega (arith, e, inner))) refl
+
+pub missing_zero : (bs : List ℕ) → first_zero bs ≡ None → zero_fault bs ≡ Some MissingZero
+missing_zero bs none = rw none refl
+
+ends : (n : ℕ) (first : Option ℕ) → zero_fault_at n first ≡ None → first ≡ Some (n - 1)
+ends n None fault = absurd (none-some MissingZero (sym fault))
+ends n (Some place) fault = elim (place == n - 1) as (λ b. (place == n - 1) ≡ b → Some place ≡ Some (n - 1)) [ true ↦ λ e. ap Some (eqb-true place (n - 1) e) | false ↦ λ e. absurd (none-some InnerZero (sym (rw e at fault))) ] refl
+
+pub is_c_string : (bs : List ℕ) → zero_fault bs ≡ None → EndsAtFirstZero bs
+is_c_string bs none = ends (length bs) (first_zero bs) none
+
+-- lists of strings
+earlier-assoc : (a b c : Option Refusal) → earlier (earlier a b) c ≡ earlier a (earlier b c)
+earlier-assoc None b c = refl
+earlier-assoc (Some r) b c = refl
+
+pub first_fault-append : (k : Kind) (xs ys : List (List ℕ)) → first_fault k (xs ++ ys) ≡ earlier (first_fault k xs) (first_fault k ys)
+first_fault-append k [] ys = refl
+first_fault-append k (x ∷ xs) ys = ap (earlier (fault k x)) (first_fault-append k xs ys) ∙ sym (earlier-assoc (fault k x) (first_fault k xs) (first_fault k ys))
+
+pub one_more : (k : Kind) (xs : List (List ℕ)) (x : List ℕ) → first_fault k xs ≡ None → fault k x ≡ None → first_fault k (xs ++ x ∷ []) ≡ None
+one_more k xs x none last = first_fault-append k xs (x ∷ []) ∙ (λ i. earlier (none i) (earlier (last i) None))
+
+pub neither : (a b : Option Refusal) → earlier a b ≡ None → (a ≡ None) × (b ≡ None)
+neither None b none = (refl, none)
+neither (Some r) b some = absurd (none-some r (sym some))
+
+pub first_ones : (k : Kind) (n : ℕ) (xs : List (List ℕ)) → first_fault k xs ≡ None → first_fault k (take n xs) ≡ None
+first_ones k zero xs none = refl
+first_ones k (suc n) [] none = refl
+first_ones k (suc n) (x ∷ xs) none = let both = neither (fault k x) (first_fault k xs) none in λ i. earlier (both.0 i) (first_ones k n xs both.1 i)
+
+pub all_interned : (k : Kind) (xs strings : List (List ℕ)) → first_fault k xs ≡ None → first_fault k strings ≡ None → first_fault k (interned_all (key k) xs strings) ≡ None
+all_interned k xs [] none more = none
+all_interned k xs (s ∷ strings) none more =
+    let both = neither (fault k s) (first_fault k strings) more in
+    all_interned k (interned (key k) xs s) strings (by_known (is_some (first (key k) xs (key k s))) both.0) both.1
+  where
+    by_known : (known : Bool) → fault k s ≡ None → first_fault k (cond known xs (xs ++ s ∷ [])) ≡ None
+    by_known true last = none
+    by_known false last = one_more k xs s none last
+
+-- what an interning leaves
+after : (f : Option Refusal) (o : Option ℕ) (copies : Bool) (b : List ℕ) (s s' : State (List ℕ)) (result : Result ℕ Refusal) → InternsBy copies b s (unless f o) result s'
+    → (s'.contents ≡ s.contents) ⊎ ((f ≡ None) × (s'.contents ≡ s.contents ++ b ∷ []))
+after None None copies b s s' (Ok i) taken = inr (refl, taken.contents)
+after None None copies b s s' (Err Full) full = inl (ap (λ (x : State (List ℕ)). x.contents) full.1)
+after None None false b s s' (Err NoMemory) kept = inl kept.contents
+after None None true b s s' (Err NoMemory) (inl kept) = inl (ap (λ (x : State (List ℕ)). x.contents) kept.same)
+after None None true b s s' (Err NoMemory) (inr kept) = inl kept.contents
+after None None copies b s s' (Err _) never = absurd never
+after None (Some i) copies b s s' result known = inl (ap (λ (x : State (List ℕ)). x.contents) known.1)
+after (Some r) o copies b s s' result refused = inl (ap (λ (x : State (List ℕ)). x.contents) refused.1)
+
+-- a table that changes, all of whose strings are what its kind takes
+module _ (t t' : Seen) (same_kind : t'.kind ≡ t.kind) (faultless : IsFaultless t) where
+  pub with_contents : (xs : List (List ℕ)) → t'.state.contents ≡ xs → first_fault t.kind xs ≡ None → IsFaultless t'
+  with_contents xs are none = (λ i. first_fault (same_kind i) (are i)) ∙ none
+
+  pub with_interned : (copies : Bool) (b : List ℕ) (result : Result ℕ Refusal) → InternsBy copies b t.state (look_up t b) result t'.state → IsFaultless t'
+  with_interned copies b result step = by_case (after (fault t.kind b) (position t b) copies b t.state t'.state result step)
+    where
+      by_case : (t'.state.contents ≡ t.state.contents) ⊎ ((fault t.kind b ≡ None) × (t'.state.contents ≡ t.state.contents ++ b ∷ [])) → IsFaultless t'
+      by_case (inl same) = with_contents _ same faultless
+      by_case (inr more) = with_contents _ more.1 (one_more t.kind t.state.contents b faultless more.0)
+
+  pub with_first_ones : (n : ℕ) (result : Result (Unit {0}) StaleMark) → TakesBack t.state n result t'.state → IsFaultless t'
+  with_first_ones n (Ok done) cut = with_contents _ cut.contents (first_ones t.kind n t.state.contents faultless)
+  with_first_ones n (Err stale) kept = with_contents _ (ap (λ (x : State (List ℕ)). x.contents) kept.1) faultless
+
+  pub with_batch : (bytes ends places symbols : List ℕ) (result : Result (Unit {0}) Refusal) → InternsAll bytes ends places symbols t result t'.state → IsFaultless t'
+  with_batch bytes ends places symbols result step = by_ends (is_batch bytes ends (length places)) step
+    where
+      by_result : (r : Result (Unit {0}) Refusal) → InternsOr IsRolledBack (pieces bytes 0 ends) symbols t r t'.state → IsFaultless t'
+      by_result (Ok done) all = with_contents _ all.contents (all_interned t.kind t.state.contents (pieces bytes 0 ends) faultless all.faultless)
+      by_result (Err refusal) stopped = with_contents _ stopped.1.contents faultless
+
+      by_ends : (good : Bool) → Either good (InternsOr IsRolledBack (pieces bytes 0 ends) symbols t result t'.state) ((result ≡ Err BadEnds) × (t'.state ≡ t.state)) → IsFaultless t'
+      by_ends true some = by_result result some
+      by_ends false kept = with_contents _ (ap (λ (x : State (List ℕ)). x.contents) kept.1) faultless

@@ -1,0 +1,14 @@
+-- Without a table, and what the strings are with those of a batch.
+use Rattle.std.proofs.Common.{rules, ap, sym, ◌∙◌, Err}
+use Rattle.intaglio_c.specs.declared.refusal.Refusal.TheVariants.{NoTable}
+use Rattle.intaglio_c.specs.Seen.{IsFaultless, fault_in, seen}
+use Rattle.intaglio_c.proofs.Faults.{with_batch}
+use Rattle.intaglio_c.proofs.exports.batches.intaglio_intern_all.Goals as goal
+
+pub returns-then-not-handle : goal.returns-then-not-handle
+returns-then-not-handle c = record { step = (Err NoTable, search rules, search rules) }
+
+pub invariant_of-handle-clause-faultless : goal.invariant_of-handle-clause-faultless
+invariant_of-handle-clause-faultless c =
+    let before : IsFaultless (seen c.table_mut-table.result.now) = ap fault_in (sym c.table_mut-table.ensures.value) ∙ c.args.handle.now.faultless in
+    with_batch (seen c.table_mut-table.result.now) (seen c.intern_all.new.self) c.intern_all.ensures.step.kind before c.args.bytes.now c.args.ends.now c.args.symbols.now c.intern_all.new.symbols c.intern_all.result c.intern_all.ensures.step.step

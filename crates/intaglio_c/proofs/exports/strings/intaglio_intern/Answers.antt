@@ -1,0 +1,14 @@
+-- Without a table, and what the strings are with a new one.
+use Rattle.std.proofs.Common.{rules, ap, sym, ◌∙◌, true, Err}
+use Rattle.intaglio_c.specs.declared.refusal.Refusal.TheVariants.{NoTable}
+use Rattle.intaglio_c.specs.Seen.{IsFaultless, fault_in, seen}
+use Rattle.intaglio_c.proofs.Faults.{with_interned}
+use Rattle.intaglio_c.proofs.exports.strings.intaglio_intern.Goals as goal
+
+pub returns-then-not-handle : goal.returns-then-not-handle
+returns-then-not-handle c = record { step = (Err NoTable, search rules, search rules, search rules) }
+
+pub invariant_of-handle-clause-faultless : goal.invariant_of-handle-clause-faultless
+invariant_of-handle-clause-faultless c =
+    let before : IsFaultless (seen c.table_mut-table.result.now) = ap fault_in (sym c.table_mut-table.ensures.value) ∙ c.args.handle.now.faultless in
+    with_interned (seen c.table_mut-table.result.now) (seen c.intern.new.self) c.intern.ensures.step.kind before true c.args.bytes.now c.intern.result c.intern.ensures.step.step

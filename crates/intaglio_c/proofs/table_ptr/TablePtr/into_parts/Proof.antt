@@ -1,0 +1,66 @@
+-- The parts of the box that a pointer was made of.
+use mathlib.Core.Path.{◌≡◌, refl, sym}
+use mathlib.Core.List.{List, [], ◌∷◌, ◌++◌}
+use mir.Val.{Val}
+use base.Fml.{ftrue}
+use prog.Wp.{WpFn}
+use types.Kit.{‵, raw, ◌⊛◌, prop, ◌$◌, ◌∵◌, !, qed, done, move, keep, split, join, fsplit, fjoin, regoal, rewrite, suffices}
+use types.Run.{enter, stop, fld, of_opd, no_more, and_then, returns}
+use types.ByLocal.{alloc_all, pass_all, free_all, look_at, get, get_in, sets}
+use types.Part.{agg, sub, whole}
+use contract.Monad.{fact}
+use contract.Running.{tables}
+use denote.RawPtr.{rawptr_Lawful}
+use denote.Signature.{plain}
+use denote.Steps.{nothing, heard}
+use denote.Triple.Walked.{Stays, walk_of, says, stay_dropped, ends_at}
+use Rattle.std.below.core.proofs.alloc.Calls.{Goes-blank}
+use Rattle.std.proofs.raw_atomic.Walks.{proved_at}
+use Rattle.std.specs.Prelude.{IsSomeAnd, ⊤}
+use Rattle.std.specs.contracts.alloc.Global.{the_row as allocator}
+use Rattle.std.proofs.alloc.Global.TheLaws.{the_row_laws}
+use Rattle.std.specs.contracts.impls.GlobalAllocator.TheImpl.{ghosts}
+use Rattle.std.specs.declared.option.Option.{Option}
+use Rattle.std.specs.declared.option.Option.TheVariants.{None, Some}
+use Rattle.intaglio_c.specs.Owned.{ptr_owns}
+use Rattle.intaglio_c.proofs.Walks.{word, word_fits, pair_out, pair_in}
+use Rattle.intaglio_c.specs.contracts.any_table.AnyTable.{the_row as any_table}
+use Rattle.intaglio_c.specs.contracts.box_parts.BoxParts.{the_row as parts_of}
+use Rattle.intaglio_c.specs.contracts.table_ptr.TablePtr.{the_row as table_ptr}
+use Rattle.intaglio_c.specs.contracts.table_ptr.TablePtr.into_parts as f
+use Rattle.intaglio_c.proofs.table_ptr.TablePtr.into_parts.Statement.{statement}
+use Rattle.intaglio_c.proofs.table_ptr.TablePtr.into_parts.Code as code
+
+abbrev stayed : Stays f.ended.signature.params f.ended.kept
+stayed = (stay_dropped _ f.ended.kept.0, tt)
+
+-- the value that is there
+there : {X : Type 0} (o : Option X) → IsSomeAnd o (λ _. ⊤) → (x : X) × (o ≡ Some x)
+there None h = absurd h
+there (Some x) h = (x, refl)
+
+pub into_parts_spec : {M : Type 1} → statement M
+into_parts_spec 𝓤 𝓛 𝓜 𝓡 wired =
+    let c = f.clauses 𝓛 𝓜.mem 𝓡.returns in let W = walk_of 𝓛 f.ended stayed c in let 𝓣 = tables 𝓤 𝓛.H 𝓜 𝓡 𝓡.env in
+    let parts = parts_of any_table allocator ghosts in
+    proved_at 𝓛 f.ended stayed c 𝓜 𝓡 (Goes-blank 𝓛 0 (plain (λ _. table_ptr)) f.ended.kept.0 (λ κs x w. tt), tt)
+    f.Key.name code.function (code.unfolded 𝓤 𝓛.H 𝓜 𝓡 wired) (λ y are.
+    let p = y.0.3.0.ptr in let a = y.0.3.0.alloc in let o = y.0.3.0.table in let vs = y.0.4.0 in
+    qed 𝓛 ((‵ ftrue ⊛ (‵ (table_ptr.own_val y.0.3.0 vs) ⊛ ‵ ftrue)) ∷ raw (fact 𝓤 (IsSomeAnd o (λ _. ⊤))) ∷ []) ∵
+    move ! (1 ∷ []) $ heard ! _ (λ some. let x = (there o some).0 in let is_x = (there o some).1 in
+    let made : parts.Denot = record { ptr = p; alloc = a; value = x } in
+    split ! $ move ! (1 ∷ []) $ split ! $ keep ! (0 ∷ []) $ fsplit ! $
+    pair_out ! allocator the_row_laws p a vs (λ h is fits. let typed = word_fits allocator 𝓛 p h fits in
+    rewrite ! 1 (λ (v : Option any_table.Denot). ‵ (ptr_owns a p v)) is_x refl $
+    -- [the allocator; the value behind the pointer, and the right to free it]
+    regoal ! (λ (us : List Val). prop (WpFn 𝓤 𝓛.H 𝓣.C 𝓣.Λ code.function (us ++ []) (W.post y))) is refl $
+    enter ! _ _ _ _ _ $ alloc_all ! (λ l. pass_all ! refl (typed, tt) $
+    sets ! (of_opd ! (get_in ! (fld ! refl (stop !)) (sub ! 0 refl (whole !)))) refl ((rawptr_Lawful 𝓛).typed p _ refl).0 $
+    sets ! (of_opd ! (get_in ! (fld ! refl (stop !)) (sub ! 1 refl (whole !)))) refl fits $
+    sets ! (of_opd ! (get ! refl)) refl ((rawptr_Lawful 𝓛).typed p _ refl).0 $
+    sets ! (agg ! (and_then ! (get ! refl) (and_then ! (get ! refl) (no_more !)))) refl typed $
+    returns ! (look_at ! 0 refl) $ free_all ! refl $
+    pair_in ! allocator p a h $ fjoin ! $
+    -- [the result]
+    suffices ! _ (ends_at 𝓛 f.ended stayed c y (word p h) made (tt, tt) (tt, tt)) $ says ! (sym is_x) $
+    nothing ! $ nothing ! $ join ! $ nothing ! $ done !))))

@@ -1,0 +1,122 @@
+-- Batches: many strings in one list of bytes, with the end of each.
+use Rattle.std.specs.Prelude.{◌≡◌, ℕ, ◌+◌, ◌-◌, ◌^◌, ◌<◌, ◌≤◌, ◌==◌, Bool, true, false, if◌then◌else◌, nat_lt, List, [], ◌∷◌, ◌++◌, length, map, take, drop, slice_get, Option, Some, None, option_map, option_and_then, MatchOption, IsSomeAnd, Result, Ok, Err}
+use Rattle.std.specs.List.{concat}
+use Rattle.intaglio_core.specs.Issue.{issue_from, interned_all}
+use Rattle.intaglio_core.specs.State.{State}
+use Rattle.intaglio_c.specs.Handles.{found, table_of}
+use Rattle.intaglio_c.specs.Kinds.{first_fault, key}
+use Rattle.intaglio_c.specs.Seen.{Seen, look_up}
+use Rattle.intaglio_c.specs.Steps.{Interns}
+use Rattle.intaglio_c.specs.declared.handle.Handle.{Handle}
+use Rattle.intaglio_c.specs.declared.refusal.Refusal.{Refusal}
+use Rattle.intaglio_c.specs.declared.refusal.Refusal.TheVariants.{NoTable, BadEnds, NoSymbol, NoSpace}
+
+-- the strings of a batch, from a position in its bytes on
+abbrev pub pieces : List ℕ → ℕ → List ℕ → List (List ℕ)
+pieces bytes start [] = []
+pieces bytes start (end ∷ ends) = take (end - start) (drop start bytes) ∷ pieces bytes end ends
+
+-- whether the ends don't decrease, from a position on, and stay within this many bytes
+abbrev pub are_ends : ℕ → ℕ → List ℕ → Bool
+are_ends size start [] = true
+are_ends size start (end ∷ ends) = if nat_lt end start then false else if nat_lt size end then false else are_ends size end ends
+
+-- whether bytes and ends are a batch, with as many strings as there are places for symbols
+abbrev pub is_batch : List ℕ → List ℕ → ℕ → Bool
+is_batch bytes ends places = if places == length ends then are_ends (length bytes) 0 ends else false
+
+-- the first if the condition is true, and otherwise the second
+abbrev pub Either : Bool → Type 0 → Type 0 → Type 0
+Either true Then Else = Then
+Either false Then Else = Else
+
+-- all strings are interned, in order
+pub record AreInterned (t : Seen) (strings : List (List ℕ)) (issued : List ℕ) (new : State (List ℕ)) : Type 0 where
+  pub faultless : first_fault t.kind strings ≡ None
+  pub symbols : issued ≡ issue_from (key t.kind) t.state.contents strings
+  pub contents : new.contents ≡ interned_all (key t.kind) t.state.contents strings
+  pub capacity : length t.state.contents + t.state.spare ≤ length new.contents + new.spare
+  pub limit : new.limit ≡ t.state.limit
+
+-- the strings are as before, and the capacity isn't lower
+pub record IsRolledBack (old new : State (List ℕ)) : Type 0 where
+  pub contents : new.contents ≡ old.contents
+  pub capacity : length old.contents + old.spare ≤ length new.contents + new.spare
+  pub limit : new.limit ≡ old.limit
+
+-- the first strings are as before, and the capacity isn't lower
+pub record IsBegun (old new : State (List ℕ)) : Type 0 where
+  pub within : length old.contents ≤ length new.contents
+  pub contents : take (length old.contents) new.contents ≡ old.contents
+  pub capacity : length old.contents + old.spare ≤ length new.contents + new.spare
+  pub limit : new.limit ≡ old.limit
+
+-- the strings before one are interned, and the call that interns this one alone then returns the error
+pub record StopsAt (t : Seen) (strings : List (List ℕ)) (refusal : Refusal) : Type 0 where
+  pub before : List (List ℕ)
+  pub string : List ℕ
+  pub behind : List (List ℕ)
+  pub are : strings ≡ before ++ string ∷ behind
+  pub faultless : first_fault t.kind before ≡ None
+  pub reached : State (List ℕ)
+  pub contents : reached.contents ≡ interned_all (key t.kind) t.state.contents before
+  pub limit : reached.limit ≡ t.state.limit
+  pub left : State (List ℕ)
+  pub alone : Interns string (record { kind = t.kind; state = reached; hasher = t.hasher }) (Err refusal) left
+
+-- all strings are interned, or Left holds after the error of the first one that can't be
+abbrev pub InternsOr : (State (List ℕ) → State (List ℕ) → Type 0) → List (List ℕ) → List ℕ → Seen → Result (Unit {0}) Refusal → State (List ℕ) → Type 0
+InternsOr Left strings symbols t (Ok _) s' = AreInterned t strings symbols s'
+InternsOr Left strings symbols t (Err refusal) s' = StopsAt t strings refusal × Left t.state s'
+
+-- a batch is interned, all or none
+abbrev pub InternsAll : List ℕ → List ℕ → List ℕ → List ℕ → Seen → Result (Unit {0}) Refusal → State (List ℕ) → Type 0
+InternsAll bytes ends places symbols t result s' =
+    Either (is_batch bytes ends (length places)) (InternsOr IsRolledBack (pieces bytes 0 ends) symbols t result s') ((result ≡ Err BadEnds) × (s' ≡ t.state))
+
+-- what is written for a string: its symbol, or 2^64 - 1, which is no symbol's number
+abbrev pub or_absent : Option ℕ → ℕ
+or_absent None = 2 ^ 64 - 1
+or_absent (Some symbol) = symbol
+
+abbrev pub found_all : Seen → List (List ℕ) → List ℕ
+found_all t strings = map (λ string. or_absent (found (look_up t string))) strings
+
+-- a batch is looked up
+abbrev pub FindsAll : List ℕ → List ℕ → List ℕ → List ℕ → Handle → Result (Unit {0}) Refusal → Type 0
+FindsAll bytes ends places symbols handle result =
+    MatchOption (table_of handle) ((result ≡ Err NoTable) × (symbols ≡ places))
+    (λ t. Either (is_batch bytes ends (length places)) ((result ≡ Ok tt) × (symbols ≡ found_all t (pieces bytes 0 ends))) ((result ≡ Err BadEnds) × (symbols ≡ places)))
+
+-- the strings of symbols, if each symbol has one
+abbrev pub all_stored : List (List ℕ) → List ℕ → Option (List (List ℕ))
+all_stored contents [] = Some []
+all_stored contents (symbol ∷ symbols) = option_and_then (λ string. option_map (λ strings. string ∷ strings) (all_stored contents symbols)) (slice_get contents symbol)
+
+-- the ends of concatenated strings, from a position on
+abbrev pub ends_from : ℕ → List (List ℕ) → List ℕ
+ends_from start [] = []
+ends_from start (string ∷ strings) = (start + length string) ∷ ends_from (start + length string) strings
+
+-- the concatenated strings are copied to the start of a buffer, and the end of each is written
+pub record AreCopied (strings : List (List ℕ)) (old new written : List ℕ) : Type 0 where
+  pub within : length (concat strings) ≤ length old
+  pub buffer : new ≡ concat strings ++ drop (length (concat strings)) old
+  pub ends : written ≡ ends_from 0 strings
+
+-- there is a number of symbols whose strings, those of the first ones, are longer than a buffer
+abbrev pub DoNotFit : List (List ℕ) → List ℕ → List ℕ → Type 0
+DoNotFit contents symbols buffer = (n : ℕ) × (strings : List (List ℕ)) × (all_stored contents (take n symbols) ≡ Some strings) × (length buffer < length (concat strings))
+
+-- the strings of symbols are copied
+abbrev pub CopiesEach : List (List ℕ) → List ℕ → List ℕ → Result (Unit {0}) Refusal → List ℕ → List ℕ → Type 0
+CopiesEach contents symbols buffer (Ok _) buffer' ends = IsSomeAnd (all_stored contents symbols) (λ strings. AreCopied strings buffer buffer' ends)
+CopiesEach contents symbols buffer (Err NoSymbol) buffer' ends = all_stored contents symbols ≡ None
+CopiesEach contents symbols buffer (Err NoSpace) buffer' ends = DoNotFit contents symbols buffer
+CopiesEach contents symbols buffer (Err _) buffer' ends = ⊥
+
+-- the same, with a place for the end of each
+abbrev pub CopiesAll : List ℕ → List ℕ → List ℕ → List ℕ → List ℕ → Handle → Result (Unit {0}) Refusal → Type 0
+CopiesAll symbols buffer places buffer' ends handle result =
+    MatchOption (table_of handle) ((result ≡ Err NoTable) × (buffer' ≡ buffer) × (ends ≡ places))
+    (λ t. Either (length places == length symbols) (CopiesEach t.state.contents symbols buffer result buffer' ends) ((result ≡ Err BadEnds) × (buffer' ≡ buffer) × (ends ≡ places)))

@@ -1,0 +1,109 @@
+-- What C sees of a frozen table, which is its bytes.
+use Rattle.std.specs.Prelude.{◌≡◌, ◌⊎◌, ⊤, ℕ, ◌<◌, ◌≤◌, true, false, List, [], ◌∷◌, length, map, slice_get, Option, Some, None, MatchOption, MatchResult, Result, Ok, Err}
+use Rattle.intaglio_core.specs.State.{first}
+use Rattle.intaglio_frozen.specs.Fault.{IsFault}
+use Rattle.intaglio_frozen.specs.Freezing.{HasKeys, IsRefusal, IsTableOf}
+use Rattle.intaglio_frozen.specs.IsFrozen.{HasSections, IsFrozen}
+use Rattle.intaglio_frozen.specs.Layout.{strings}
+use Rattle.intaglio_frozen.specs.declared.error.FreezeError.{FreezeError}
+use Rattle.intaglio_frozen.specs.declared.error.FreezeError.TheVariants as error
+use Rattle.intaglio_frozen.specs.declared.error.FrozenError.{FrozenError}
+use Rattle.intaglio_frozen.specs.declared.error.FrozenError.TheVariants as fault
+use Rattle.intaglio_frozen.specs.declared.kind.Kind.{Kind as FrozenKind}
+use Rattle.intaglio_frozen.specs.declared.kind.Kind.TheVariants as frozen
+use Rattle.intaglio_c.specs.Batches.{Either, is_batch, or_absent, pieces}
+use Rattle.intaglio_c.specs.Handles.{filled, table_of}
+use Rattle.intaglio_c.specs.Kinds.{rule_of}
+use Rattle.intaglio_c.specs.Seen.{Seen}
+use Rattle.intaglio_c.specs.declared.handle.Handle.{Handle}
+use Rattle.intaglio_c.specs.declared.kind.Rule.{Rule}
+use Rattle.intaglio_c.specs.declared.kind.Rule.TheVariants as rule
+use Rattle.intaglio_c.specs.declared.refusal.Refusal.{Refusal}
+use Rattle.intaglio_c.specs.declared.refusal.Refusal.TheVariants.{NoTable, NoMemory, NotUtf8, BadEnds, NoSpace, NoKind, NotFrozen, OtherVersion, Reserved, TooMany, Truncated, TextEnds, Unused, NotFound, TooLong, Equal, NoPlaces}
+
+-- the error for C of what is wrong with bytes
+abbrev pub frozen_refusal : FrozenError → Refusal
+frozen_refusal fault.Magic = NotFrozen
+frozen_refusal fault.Version = OtherVersion
+frozen_refusal fault.Kind = NoKind
+frozen_refusal fault.Reserved = Reserved
+frozen_refusal fault.TooMany = TooMany
+frozen_refusal fault.Truncated = Truncated
+frozen_refusal fault.Ends = TextEnds
+frozen_refusal fault.Unused = Unused
+frozen_refusal (fault.NotFound _) = NotFound
+frozen_refusal (fault.NotUtf8 _) = NotUtf8
+
+-- the bytes have a fault, of which this is the error
+abbrev pub IsRefused : List ℕ → Refusal → Type 0
+IsRefused bs refusal = (fault : FrozenError) × (refusal ≡ frozen_refusal fault) × IsFault bs fault
+
+-- bytes are checked: they are a frozen table, or what is wrong with them is returned
+abbrev pub Checks : List ℕ → Result (Unit {0}) Refusal → Type 0
+Checks bs result = MatchResult result (λ _. IsFrozen bs) (IsRefused bs)
+
+-- the first position of a string
+abbrev pub position_in : List (List ℕ) → List ℕ → Option ℕ
+position_in list w = first (λ s. s ∷ []) list (w ∷ [])
+
+-- what is written for the strings of a batch
+abbrev pub positions : List (List ℕ) → List (List ℕ) → List ℕ
+positions list ws = map (λ w. or_absent (position_in list w)) ws
+
+-- a batch is looked up in a list of strings
+abbrev pub FindsEach : List (List ℕ) → List ℕ → List ℕ → List ℕ → List ℕ → Result (Unit {0}) Refusal → Type 0
+FindsEach list batch ends places symbols result =
+    Either (is_batch batch ends (length places)) ((result ≡ Ok tt) × (symbols ≡ positions list (pieces batch 0 ends))) ((result ≡ Err BadEnds) × (symbols ≡ places))
+
+-- what is written for a string that is looked up in bytes that may be no frozen table: that it isn't found, or a symbol that has it
+abbrev pub IsEqualOrAbsent : List (List ℕ) → List ℕ → ℕ → Type 0
+IsEqualOrAbsent list w n = (n ≡ or_absent None) ⊎ (slice_get list n ≡ Some w)
+
+-- the same for each string of a batch
+abbrev pub AreEqualOrAbsent : List (List ℕ) → List (List ℕ) → List ℕ → Type 0
+AreEqualOrAbsent list [] [] = ⊤
+AreEqualOrAbsent list (w ∷ ws) (n ∷ ns) = IsEqualOrAbsent list w n × AreEqualOrAbsent list ws ns
+AreEqualOrAbsent list _ _ = ⊥
+
+-- a batch is looked up in bytes with the sections of a frozen table, and otherwise nothing is written
+abbrev pub FindsEachTrusted : List ℕ → List ℕ → List ℕ → List ℕ → List ℕ → Result (Unit {0}) Refusal → Type 0
+FindsEachTrusted bs batch ends places symbols (Ok _) = HasSections bs × (is_batch batch ends (length places) ≡ true) × AreEqualOrAbsent (strings bs) (pieces batch 0 ends) symbols
+FindsEachTrusted bs batch ends places symbols (Err BadEnds) = HasSections bs × (is_batch batch ends (length places) ≡ false) × (symbols ≡ places)
+FindsEachTrusted bs batch ends places symbols (Err refusal) = (¬ HasSections bs) × IsRefused bs refusal × (symbols ≡ places)
+
+-- the error for C of an error of freezing
+abbrev pub freeze_refusal : FreezeError → Refusal
+freeze_refusal error.TooMany = TooMany
+freeze_refusal error.TooLong = TooLong
+freeze_refusal (error.Equal _ _) = Equal
+freeze_refusal (error.NotUtf8 _) = NotUtf8
+freeze_refusal error.NoPlaces = NoPlaces
+freeze_refusal error.Memory = NoMemory
+
+-- what strings of a rule are in a frozen table
+abbrev pub frozen_kind : Rule → FrozenKind
+frozen_kind rule.Bytes = frozen.Bytes
+frozen_kind rule.Text = frozen.Text
+frozen_kind rule.CStr = frozen.Bytes
+
+-- bytes are a frozen table of the strings of a table, as C sees them, each at its symbol, under these keys or the next ones
+pub record IsFrozenOf (t : Seen) (keys : ℕ × ℕ) (bs : List ℕ) : Type 0 where
+  pub table : IsTableOf (frozen_kind (rule_of t.kind)) t.state.contents bs
+  pub keyed : HasKeys keys.0 keys.1 bs
+
+-- the number of the bytes is written, and they are copied to the start of a buffer if it has space for them
+pub record IsWrittenTo (t : Seen) (keys : ℕ × ℕ) (old new : List ℕ) (size : ℕ) (bs : List ℕ) : Type 0 where
+  pub bytes : IsFrozenOf t keys bs
+  pub len : size ≡ length bs
+  pub buffer : new ≡ filled old (Some bs)
+
+-- a table is frozen under keys, by the result
+abbrev pub Freezes : ℕ × ℕ → List ℕ → List ℕ → ℕ → ℕ → Seen → Result (Unit {0}) Refusal → Type 0
+Freezes keys buffer buffer' len len' t (Ok _) = (bs : List ℕ) × IsWrittenTo t keys buffer buffer' len' bs × (length bs ≤ length buffer)
+Freezes keys buffer buffer' len len' t (Err NoSpace) = (bs : List ℕ) × IsWrittenTo t keys buffer buffer' len' bs × (length buffer < length bs)
+Freezes keys buffer buffer' len len' t (Err refusal) = (error : FreezeError) × (refusal ≡ freeze_refusal error) × IsRefusal (frozen_kind (rule_of t.kind)) t.state.contents error × (buffer' ≡ buffer) × (len' ≡ len)
+
+-- the same of the table that a handle holds
+abbrev pub FreezesHeld : Handle → ℕ × ℕ → List ℕ → List ℕ → ℕ → ℕ → Result (Unit {0}) Refusal → Type 0
+FreezesHeld handle keys buffer buffer' len len' result =
+    MatchOption (table_of handle) ((result ≡ Err NoTable) × (buffer' ≡ buffer) × (len' ≡ len)) (λ t. Freezes keys buffer buffer' len len' t result)

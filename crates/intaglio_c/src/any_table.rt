@@ -1,0 +1,25 @@
+//! A table of any of the kinds.
+use crate::kind::Rule;
+use intaglio::{Table, TableOver};
+use intaglio_bytes::bytes::BytesContent;
+use intaglio_hash::KeyedState;
+use intaglio_packed::Packed;
+use intaglio_path::PathContent;
+
+mod ahead;
+pub(crate) mod batches;
+mod bytes;
+pub(crate) mod constructors;
+pub(crate) mod freeze;
+mod size;
+
+/// A table of one of the kinds. Its strings are bytes that were checked by its rule when they came in.
+#[derive(Drop)]
+pub enum AnyTable {
+    /// Each string is in a place of its own.
+    Owned(Rule, Table<BytesContent, KeyedState>),
+    /// Paths.
+    Path(Table<PathContent, KeyedState>),
+    /// All strings are in one buffer.
+    Packed(Rule, TableOver<Packed, KeyedState>),
+}

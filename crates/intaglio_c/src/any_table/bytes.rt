@@ -1,0 +1,143 @@
+//! Strings as their bytes.
+ghost use Rattle.std.specs.Prelude.{◌≡◌, [], ◌∷◌, None, Some, IfOk, IfErr, slice_get};
+ghost use Rattle.std.specs.Option.{option_map};
+ghost use Rattle.intaglio_path.specs.Components.{components};
+ghost use Rattle.intaglio_c.specs.Hashes.{IsHash, keyed_hash};
+ghost use Rattle.intaglio_c.specs.Kinds.{fault, utf8_fault};
+ghost use Rattle.intaglio_c.specs.Seen.{TakesStep, contents_of, look_up, seen};
+ghost use Rattle.intaglio_c.specs.Steps.{Interns, InternsStatic};
+
+use super::AnyTable;
+use crate::checks::text_of;
+use crate::codes::symbol_answer;
+use crate::refusal::Refusal;
+use intaglio_bytes::bytes::BytesContent;
+use intaglio_core::{FormInterner, Sought, Symbol, Work};
+use intaglio_hash::KeyedState;
+use intaglio_path::{Path, PathContent};
+
+// The hash of a key that is these bytes.
+fn hash_bytes(keys: &KeyedState, bytes: &[u8]) -> u64
+    ensures hash { result ≡ keyed_hash keys.now (bytes.now ∷ []) }
+{
+    Sought::<BytesContent>::hash_with(&bytes, keys, &mut Work::new())
+}
+
+// The hash of a path with these bytes, or 0 if they aren't a text.
+fn hash_path(keys: &KeyedState, bytes: &[u8]) -> u64
+    ensures hash { utf8_fault bytes.now ≡ None → result ≡ keyed_hash keys.now (components bytes.now) }
+{
+    match text_of(bytes) {
+        Ok(text) => Sought::<PathContent>::hash_with(&Path::new(text), keys, &mut Work::new()),
+        Err(_) => 0,
+    }
+}
+
+// The text with bytes that were checked.
+#[tactic(auto, using(crate::proofs::Faults::is_text))]
+#[inline(always)]
+fn text_in(bytes: &[u8]) -> &str
+    requires text { utf8_fault bytes.now ≡ None }
+    ensures text { result.now ≡ bytes.now }
+{
+    unsafe { str::from_utf8_unchecked(bytes) }
+}
+
+// All that a call from C needs is inlined into it, so that it has one frame.
+impl AnyTable {
+    // The bytes of a symbol's string.
+    #[inline(always)]
+    pub(crate) fn bytes_at(&self, symbol: Symbol) -> Option<&[u8]>
+        ensures bytes { option_map (λ bytes. bytes.now) result ≡ slice_get (contents_of self.now) symbol }
+    {
+        match self {
+            AnyTable::Owned(_, table) => table.get(symbol),
+            AnyTable::Path(table) => Some(table.get(symbol)?.as_str().as_bytes()),
+            AnyTable::Packed(_, table) => table.get(symbol),
+        }
+    }
+
+    // The hash of the string with these bytes, or any number if the table doesn't take them.
+    #[inline(always)]
+    pub(crate) fn hash(&self, bytes: &[u8]) -> u64
+        ensures hash { IsHash (seen self.now).kind (seen self.now).hasher bytes.now result }
+    {
+        match self {
+            AnyTable::Owned(_, table) => hash_bytes(table.hasher(), bytes),
+            AnyTable::Path(table) => hash_path(table.hasher(), bytes),
+            AnyTable::Packed(_, table) => hash_bytes(table.hasher(), bytes),
+        }
+    }
+
+    // Reads what a look-up by this hash will read: the index, and a byte of the string that it compares first.
+    // The byte itself means nothing.
+    #[inline(always)]
+    pub(super) fn touch(&self, hash: u64) -> u8 {
+        match self {
+            AnyTable::Owned(_, table) => table.touch_hashed(hash, &"".as_bytes()),
+            AnyTable::Path(table) => table.touch_hashed(hash, &Path::new("")),
+            AnyTable::Packed(_, table) => table.touch_hashed(hash, &"".as_bytes()),
+        }
+    }
+
+    // Checks that the bytes are what the table takes.
+    #[inline(always)]
+    fn check(&self, bytes: &[u8]) -> Result<(), Refusal>
+        ensures faultless { IfOk result (λ _. fault (seen self.now).kind bytes.now ≡ None) }
+        ensures err { IfErr result (λ refusal. fault (seen self.now).kind bytes.now ≡ Some refusal) }
+    {
+        self.rule().check(bytes)
+    }
+
+    // The symbol of the string that is equal to these bytes, whose hash is known, if there is one.
+    #[inline(always)]
+    pub(crate) fn find(&self, hash: u64, bytes: &[u8]) -> Result<Option<Symbol>, Refusal>
+        requires hash { IsHash (seen self.now).kind (seen self.now).hasher bytes.now hash }
+        ensures found { result ≡ look_up (seen self.now) bytes.now }
+    {
+        self.check(bytes)?;
+        let work = &mut Work::new();
+        match self {
+            AnyTable::Owned(_, table) => Ok(table.search_hashed(hash, &bytes, work)),
+            AnyTable::Path(table) => Ok(table.search_hashed(
+                hash,
+                &Path::new(text_in(bytes)),
+                work,
+            )),
+            AnyTable::Packed(_, table) => Ok(table.search_hashed(hash, &bytes, work)),
+        }
+    }
+
+    // Interns these bytes, whose hash is known. They are copied if they are new.
+    #[inline(always)]
+    pub(crate) fn intern(&mut self, hash: u64, bytes: &[u8]) -> Result<Symbol, Refusal>
+        requires hash { IsHash (seen self.old).kind (seen self.old).hasher bytes.now hash }
+        ensures step { TakesStep self.old self.new result (Interns bytes.now) }
+    {
+        self.check(bytes)?;
+        let work = &mut Work::new();
+        match self {
+            AnyTable::Owned(_, table) => symbol_answer(table.intern_hashed(hash, bytes, work)),
+            AnyTable::Path(table) => symbol_answer(table.intern_hashed(
+                hash,
+                Path::new(text_in(bytes)),
+                work,
+            )),
+            AnyTable::Packed(_, table) => symbol_answer(table.intern_hashed(hash, bytes, work)),
+        }
+    }
+
+    // Interns bytes that never change, without a copy unless the table is packed.
+    pub(crate) fn intern_static(&mut self, bytes: &'static [u8]) -> Result<Symbol, Refusal>
+        ensures step { TakesStep self.old self.new result (InternsStatic bytes.now) }
+    {
+        self.check(bytes)?;
+        match self {
+            AnyTable::Owned(_, table) => symbol_answer(table.intern(BytesContent::Borrowed(bytes))),
+            AnyTable::Path(table) => {
+                symbol_answer(table.intern(PathContent::Borrowed(text_in(bytes))))
+            }
+            AnyTable::Packed(_, table) => symbol_answer(table.get_or_intern(bytes)),
+        }
+    }
+}

@@ -1,0 +1,208 @@
+//! Frozen tables, which are their bytes.
+//!
+//! But for the call that makes one there is no handle. Each call reads the header again, and nothing outside the
+//! bytes, whatever they are.
+ghost use Rattle.std.specs.Prelude.{◌≡◌, ◌↔◌, true, false, length, slice_get, IsTrue, Some};
+ghost use Rattle.std.specs.Option.{option_map};
+ghost use Rattle.intaglio_frozen.specs.IsFrozen.{HasHeader, HasSections, IsFrozen, text_kind};
+ghost use Rattle.intaglio_frozen.specs.Layout.{kind, strings};
+ghost use Rattle.intaglio_c.specs.Answers.{IsCodeOf, given};
+ghost use Rattle.intaglio_c.specs.Batches.{is_batch, or_absent, pieces};
+ghost use Rattle.intaglio_c.specs.Frozen.{AreEqualOrAbsent, Checks, FindsEach, FindsEachTrusted, FreezesHeld};
+ghost use Rattle.intaglio_c.specs.Frozen.{IsEqualOrAbsent, position_in, positions};
+ghost use Rattle.intaglio_c.specs.Handles.{Keeps};
+
+use crate::any_table::batches::is_batch;
+use crate::codes::code;
+use crate::handle::Handle;
+use crate::refusal::Refusal;
+use crate::spelling::{Spelling, fill};
+use intaglio_core::Symbol;
+use intaglio_frozen::{Frozen, Header, Kind, TrustedFrozen};
+use std::alloc::Global;
+
+// Writes a frozen table of the contents.
+fn freeze(
+    alloc: Global,
+    handle: &mut Handle,
+    key0: u64,
+    key1: u64,
+    buffer: &mut [u8],
+    len: &mut usize,
+) -> Result<(), Refusal>
+    ensures frozen { FreezesHeld handle.old (key0, key1) buffer.old buffer.new len.old len.new result }
+    ensures kept { Keeps handle.old handle.new }
+{
+    let table = table_of!(handle, Err(Refusal::NoTable));
+    match table.freeze(alloc, key0, key1) {
+        Ok(bytes) => {
+            *len = bytes.len();
+            fill(buffer, &bytes);
+            if buffer.len() < bytes.len() {
+                Err(Refusal::NoSpace)
+            } else {
+                Ok(())
+            }
+        }
+        Err(error) => Err(Refusal::from(error)),
+    }
+}
+
+/// Writes how many bytes a frozen table of the contents has, and copies them to the start of a buffer that has space
+/// for them. Its keys are these, or one of the seven pairs after them.
+/// Fails with `NoTable`; `NoSpace` if the buffer is too short, with the number written; `TooMany`, `TooLong`,
+/// `NoPlaces` and `NoMemory`.
+#[unsafe(no_mangle)]
+pub extern "C" fn intaglio_freeze(
+    alloc: Global,
+    handle: &mut Handle,
+    key0: u64,
+    key1: u64,
+    buffer: &mut [u8],
+    len: &mut usize,
+) -> u32
+    ensures frozen { IsCodeOf result
+        (FreezesHeld handle.old (key0, key1) buffer.old buffer.new len.old len.new) }
+    ensures kept { Keeps handle.old handle.new }
+{
+    code(freeze(alloc, handle, key0, key1, buffer, len))
+}
+
+/// Checks that these bytes are a frozen table. Reads all of them.
+/// Fails with what is wrong with the bytes.
+#[unsafe(no_mangle)]
+pub extern "C" fn intaglio_frozen_check(bytes: &[u8]) -> u32
+    ensures checked { IsCodeOf result (Checks bytes.now) }
+    ensures only { IsFrozen bytes.now → result ≡ 0 }
+{
+    match Frozen::open(bytes) {
+        Ok(_) => code(Ok(())),
+        Err(fault) => code(Err(Refusal::from(fault))),
+    }
+}
+
+/// Returns whether a string is found in the bytes of a frozen table, and writes its symbol if it is.
+#[unsafe(no_mangle)]
+pub extern "C" fn intaglio_frozen_find(bytes: &[u8], string: &[u8], symbol: &mut u32) -> bool
+    ensures found { IsTrue result → slice_get (strings bytes.now) symbol.new ≡ Some string.now }
+    ensures frozen { IsFrozen bytes.now
+        → given result symbol.new ≡ position_in (strings bytes.now) string.now }
+    ensures unwritten { result ≡ false → symbol.new ≡ symbol.old }
+{
+    let Ok(table) = TrustedFrozen::open(bytes) else {
+        return false;
+    };
+    match table.check_interned(string) {
+        Some(known) => {
+            *symbol = known.id();
+            true
+        }
+        None => false,
+    }
+}
+
+// Looks up a batch of strings.
+fn find_all(bytes: &[u8], batch: &[u8], ends: &[usize], symbols: &mut [u64]) -> Result<(), Refusal>
+    ensures found { FindsEachTrusted bytes.now batch.now ends.now symbols.old symbols.new result }
+    ensures frozen { IsFrozen bytes.now
+        → FindsEach (strings bytes.now) batch.now ends.now symbols.old symbols.new result }
+{
+    let table = match TrustedFrozen::open(bytes) {
+        Ok(table) => table,
+        Err(fault) => return Err(Refusal::from(fault)),
+    };
+    if !is_batch(batch, ends, symbols.len()) {
+        return Err(Refusal::BadEnds);
+    }
+    find_each(&table, batch, ends, symbols);
+    Ok(())
+}
+
+/// Looks up a batch of strings in the bytes of a frozen table, and writes the symbol of each, or 2^64 - 1 if it isn't
+/// found. Fails with `BadEnds`, and with what is wrong with the header; then nothing is written.
+#[unsafe(no_mangle)]
+pub extern "C" fn intaglio_frozen_find_all(
+    bytes: &[u8],
+    batch: &[u8],
+    ends: &[usize],
+    symbols: &mut [u64],
+) -> u32
+    ensures found { IsCodeOf result (FindsEachTrusted bytes.now batch.now ends.now symbols.old symbols.new) }
+    ensures frozen { IsFrozen bytes.now → IsCodeOf result
+        (FindsEach (strings bytes.now) batch.now ends.now symbols.old symbols.new) }
+{
+    code(find_all(bytes, batch, ends, symbols))
+}
+
+// The number that is written for a string.
+fn number_in(table: &TrustedFrozen<'_>, string: &[u8]) -> u64
+    ensures found { IsEqualOrAbsent (strings table.now) string.now result }
+    ensures frozen { IsFrozen table.now
+        → result ≡ or_absent (position_in (strings table.now) string.now) }
+{
+    match table.check_interned(string) {
+        Some(symbol) => symbol.id() as u64,
+        None => u64::MAX,
+    }
+}
+
+// Looks up the strings of a batch.
+fn find_each(table: &TrustedFrozen<'_>, batch: &[u8], ends: &[usize], symbols: &mut [u64])
+    requires batch { is_batch batch.now ends.now (length symbols.old) ≡ true }
+    ensures found { AreEqualOrAbsent (strings table.now) (pieces batch.now 0 ends.now) symbols.new }
+    ensures frozen { IsFrozen table.now
+        → symbols.new ≡ positions (strings table.now) (pieces batch.now 0 ends.now) }
+{
+    let mut start = 0;
+    for (i, &end) in ends.iter().enumerate() {
+        symbols[i] = number_in(table, &batch[start..end]);
+        start = end;
+    }
+}
+
+/// Writes where the string of a symbol is in the bytes of a frozen table, if there is one, and returns whether there
+/// is.
+#[unsafe(no_mangle)]
+pub extern "C" fn intaglio_frozen_get(bytes: &[u8], symbol: u32, out: &mut Spelling) -> bool
+    ensures found { IsTrue result
+        → option_map length (slice_get (strings bytes.now) symbol) ≡ Some out.new.len }
+    ensures frozen { IsFrozen bytes.now
+        → given result out.new.len ≡ option_map length (slice_get (strings bytes.now) symbol) }
+    ensures unwritten { result ≡ false → out.new ≡ out.old }
+{
+    let Ok(table) = TrustedFrozen::open(bytes) else {
+        return false;
+    };
+    match table.get(Symbol::new(symbol)) {
+        Some(string) => {
+            *out = Spelling::of(string);
+            true
+        }
+        None => false,
+    }
+}
+
+/// The number of strings of a frozen table, or 0 if the bytes have no header or are shorter than it requires.
+#[unsafe(no_mangle)]
+pub extern "C" fn intaglio_frozen_len(bytes: &[u8]) -> usize
+    ensures count { HasSections bytes.now → result ≡ length (strings bytes.now) }
+    ensures none { ¬ HasSections bytes.now → result ≡ 0 }
+    ensures frozen { IsFrozen bytes.now → result ≡ length (strings bytes.now) }
+{
+    match TrustedFrozen::open(bytes) {
+        Ok(table) => table.len(),
+        Err(_) => 0,
+    }
+}
+
+/// Returns whether the kind of a frozen table is text, or false if the bytes have no header.
+#[unsafe(no_mangle)]
+pub extern "C" fn intaglio_frozen_is_text(bytes: &[u8]) -> bool
+    ensures kind { HasHeader bytes.now → IsTrue result ↔ (kind bytes.now ≡ text_kind) }
+    ensures none { ¬ HasHeader bytes.now → result ≡ false }
+{
+    match Header::read(bytes) {
+        Ok(header) => header.kind == Kind::Text,
+        Err(_) => false,
+    }
+}

@@ -1,0 +1,45 @@
+//! How C gets a content's bytes: their place, or a copy.
+ghost use Rattle.std.specs.Prelude.{◌≡◌, Some, length};
+ghost use Rattle.intaglio_c.specs.Handles.{filled};
+
+use std::ptr::from_ref;
+
+// What the pointer of no bytes leads to. C may pass it on, since it isn't null.
+const NO_BYTES: &'static u8 = &0;
+
+/// Bytes, as a pointer and a length. If the length is 0, the pointer leads to a byte of no string.
+#[repr(C)]
+#[derive(Drop)]
+pub struct Spelling {
+    /// The address of the first byte.
+    pub at: *const u8,
+    /// How many bytes there are.
+    pub len: usize,
+}
+
+impl Spelling {
+    pub(crate) fn of(bytes: &[u8]) -> Spelling
+        ensures len { result.len ≡ length bytes.now }
+    {
+        if bytes.is_empty() {
+            return Spelling {
+                at: from_ref(NO_BYTES),
+                len: 0,
+            };
+        }
+        Spelling {
+            at: from_ref(&bytes[0]),
+            len: bytes.len(),
+        }
+    }
+}
+
+// Copies bytes to the start of a buffer that has space for them.
+pub(crate) fn fill(buffer: &mut [u8], bytes: &[u8])
+    ensures copied { buffer.new ≡ filled buffer.old (Some bytes.now) }
+{
+    if buffer.len() < bytes.len() {
+        return;
+    }
+    buffer[..bytes.len()].copy_from_slice(bytes);
+}

@@ -1,6 +1,0 @@
--- What the proofs share.
-pub mod AsBytes
-pub mod Faults
-pub mod Batches
-pub mod Hashes
-pub mod Walks
