@@ -113,7 +113,7 @@ def conditions(top, ends=False):
         f"- made by `bench/{Path(sys.argv[0]).name}` on {date.today()}, of {commit(top)}",
         f"- {run(['rt', 'version'], top)}",
         f"- {run(['rustc', '--version'], top)}, opt-level 3, one codegen unit, link-time optimisation, {PROCESSOR}",
-        f"- {processor()}, {os.cpu_count()} processors",
+        f"- {processor()}, {os.cpu_count()} processors; huge pages: {huge_pages()}",
         f"- load averages at the start: {load}",
     ]
 
@@ -123,6 +123,12 @@ def commit(top):
     git = ["git", "-C", str(top), "describe", "--always", "--dirty"]
     done = subprocess.run(git, capture_output=True, text=True)
     return f"commit {done.stdout.strip()}" if done.returncode == 0 else "no commit"
+
+
+def huge_pages():
+    """For which memory the kernel gives huge pages: what stands in brackets is so."""
+    path = Path("/sys/kernel/mm/transparent_hugepage/enabled")
+    return path.read_text().strip() if path.exists() else "none"
 
 
 def processor():

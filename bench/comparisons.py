@@ -98,6 +98,22 @@ HASHINGS = {
 }
 
 
+# Sizes at which a table is also measured with huge pages, and the word before the names of its operations then.
+HUGE_SIZES, HUGE = [100_000, 1_000_000], "huge "
+
+
+def huge_sides():
+    """The tables that are measured with huge pages too: the Rust crate's and ours."""
+    fold = COMPARISONS["fold"]
+    return [fold.base, *fold.sides[:2]]
+
+
+def huge_runs_of(sizes):
+    """The runs with huge pages, of tables that begin with no capacity."""
+    fold = COMPARISONS["fold"]
+    return [fold.run(side, "grown", size) for size in sizes if size in HUGE_SIZES for side in huge_sides()]
+
+
 def copies_of(sizes, has_rivals):
     """The runs that take one borrowed word a call, once."""
     batches = [side.table for comparison in COMPARISONS.values() for side in comparison.batches()]

@@ -4,13 +4,16 @@ import os
 import subprocess
 import sys
 
-from comparisons import CAPACITIES, COMPARISONS, HASHINGS, OURS, RIVALS, Run, copies_of, runs_of
+from comparisons import CAPACITIES, COMPARISONS, HASHINGS, HUGE, OURS, RIVALS, Run, copies_of, huge_runs_of, runs_of
 
 # How many tables a process fills one after the other, so that each process takes long enough.
-FILLS = {1_000: 70, 10_000: 8, 100_000: 6, 1_000_000: 2, 4_000_000: 1}
-# How many processes a turn starts, one where nothing is said. A process over 10,000 words is fast or slow from its start,
+FILLS = {1_000: 20, 10_000: 3, 100_000: 6, 1_000_000: 2, 4_000_000: 1}
+# How many processes a turn starts, one where nothing is said. A process over few words is fast or slow from its start,
 # whichever the table: hits of the Rust crate were seen to take 30 ns in one and 84 ns in another.
-PROCESSES = {1_000: 3, 10_000: 8}
+PROCESSES = {1_000: 10, 10_000: 20}
+# Both programs allocate by glibc's `malloc`, which asks the kernel for huge pages of what it maps if this is set. It gains
+# nothing where /sys/kernel/mm/transparent_hugepage/enabled says `never`, or `always`, by which all memory has them.
+HUGE_PAGES = {"GLIBC_TUNABLES": "glibc.malloc.hugetlb=1"}
 
 
 def measure(programs, sizes, turns, has_rivals):
@@ -18,21 +21,22 @@ def measure(programs, sizes, turns, has_rivals):
     runs = [("time", run) for run in runs_of(sizes, has_rivals)]
     runs += [("copy", run) for run in copies_of(sizes, has_rivals)]
     runs += [("hash", run) for run in HASHINGS.values()]
+    runs = [(task, run, "", {}) for task, run in runs] + [("time", run, HUGE, HUGE_PAGES) for run in huge_runs_of(sizes)]
     rows, sums, load = [], {}, 0.0
     for turn in range(1, turns + 1):
-        for task, run in runs:
-            print(f"turn {turn} of {turns}: {task} {' '.join(map(str, run))}", file=sys.stderr)
-            for operation, nanoseconds in least_times(programs, task, run, sums).items():
-                rows.append([turn, *run, operation, nanoseconds])
+        for task, run, word, settings in runs:
+            print(f"turn {turn} of {turns}: {word}{task} {' '.join(map(str, run))}", file=sys.stderr)
+            for operation, nanoseconds in least_times(programs, task, run, sums, settings).items():
+                rows.append([turn, *run, word + operation, nanoseconds])
             load = max(load, os.getloadavg()[0])
     return rows, load
 
 
-def least_times(programs, task, run, sums):
+def least_times(programs, task, run, sums, settings):
     """The least nanoseconds for each operation. The sum that an operation finds must be the same wherever it is run."""
     least = {}
     words = [*command(programs, task, run), FILLS[run.size]]
-    for line in "".join(output(words) for _ in range(PROCESSES.get(run.size, 1))).splitlines():
+    for line in "".join(output(words, settings) for _ in range(PROCESSES.get(run.size, 1))).splitlines():
         operation, _, nanoseconds, found = line.split()
         least[operation] = min(float(nanoseconds), least.get(operation, float("inf")))
         # Hashes differ under random keys.
@@ -77,8 +81,8 @@ def resident(programs, run):
     return {name: int(status[line].split()[0]) * 1024 for name, line in held.items()} | {"text": text}
 
 
-def output(words):
-    """What a program prints, run before others where this user may ask for that."""
+def output(words, settings=None):
+    """What a program prints, run with these settings, before others where this user may ask for that."""
     first = ["nice", "-n", "-5"] if os.geteuid() == 0 else []
     command = first + [str(word) for word in words]
-    return subprocess.run(command, stdout=subprocess.PIPE, text=True, check=True).stdout
+    return subprocess.run(command, env=os.environ | (settings or {}), stdout=subprocess.PIPE, text=True, check=True).stdout

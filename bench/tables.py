@@ -14,7 +14,7 @@ sys.dont_write_bytecode = True
 sys.path.append(str(Path(__file__).resolve().parent.parent / "checks"))
 
 import arguments  # noqa: E402
-from comparisons import CAPACITIES, COMPARISONS, HASHINGS, Run  # noqa: E402
+from comparisons import CAPACITIES, COMPARISONS, HASHINGS, HUGE, Run, huge_sides  # noqa: E402
 
 OPERATIONS = {
     "new": "intern new owned words",
@@ -24,6 +24,7 @@ OPERATIONS = {
     "again": "intern owned words again, random order",
     "miss": "look-up misses",
     "get": "get by symbol, random order",
+    "read": "get by symbol and read a byte, random order",
     "iterate": "iterate",
     "clear": "clear",
     "refill": "fill again after clear",
@@ -71,7 +72,7 @@ def page(times):
     for comparison in COMPARISONS.values():
         for capacity in CAPACITIES:
             parts += batch_table(times, comparison, capacity, sizes)
-    return "\n".join(parts + hash_table(times) + memory_table(times))
+    return "\n".join(parts + huge_table(times, sizes) + hash_table(times) + memory_table(times))
 
 
 def single_table(times, comparison, capacity, sizes):
@@ -111,6 +112,19 @@ def batch_cell(times, comparison, place, operation):
         return ""
     rust, own = [ratio(batch, other) for other in single]
     return f"**{rust}** / {own}"
+
+
+def huge_table(times, sizes):
+    """What huge pages bring: ratios of a table's times with them and without."""
+    sides = [(side.name, COMPARISONS["fold"].run(side, "grown", 0)) for side in huge_sides()]
+    held = [size for size in sizes if all((run._replace(size=size), HUGE + "new") in times for _, run in sides)]
+    said = " / ".join(name for name, _ in sides) + ", each with huge pages over the same without"
+    lines = ["## Huge pages: FoldHasher's hashes, grown", "", said, "", *head(held)] if held else []
+    for operation, name in OPERATIONS.items() if held else []:
+        runs = [[run._replace(size=size) for _, run in sides] for size in held]
+        if (runs[0][0], HUGE + operation) in times:
+            lines.append(row(name, [" / ".join(ratio(times[run, HUGE + operation], times[run, operation]) for run in some) for some in runs]))
+    return [*lines, ""] if held else []
 
 
 def hash_table(times):

@@ -1,6 +1,6 @@
 //! One turn: each operation once, on a table that is empty at first.
 
-use crate::operations::{clear, get, hash, intern, intern_forms, iterate, look_up};
+use crate::operations::{clear, get, hash, intern, intern_forms, iterate, look_up, read};
 use crate::plan::{Plan, Task};
 use crate::table::Table;
 use crate::words::{numbers, shuffle, word, words};
@@ -22,6 +22,7 @@ pub fn turn<T: Table>(table: &mut T, plan: Plan) {
     let absent = words(&numbers(plan.size, plan.size));
     measure(plan, "miss", || look_up(table, &absent));
     measure(plan, "get", || get(table, &shuffled));
+    measure(plan, "read", || read(table, &shuffled));
     measure(plan, "iterate", || iterate(table));
     measure(plan, "clear", || clear(table));
     measure(plan, "refill", || intern(table, absent));

@@ -132,6 +132,20 @@ pub fn get<T: WordTable>(table: &T, numbers: &[u32]) -> u64 {
     sum
 }
 
+/// Adds up the first bytes of the texts of these symbols.
+#[inline(never)]
+pub fn read<T: WordTable>(table: &T, numbers: &[u32]) -> u64 {
+    let mut sum = 0u64;
+    for number in numbers {
+        if let Some(text) = table.text(Symbol::new(*number)) {
+            if let Some(byte) = text.as_bytes().first() {
+                sum = sum.wrapping_add(*byte as u64);
+            }
+        }
+    }
+    sum
+}
+
 /// Adds up the numbers of all symbols and the lengths of all texts.
 #[inline(never)]
 pub fn iterate<T: WordTable>(table: &T) -> u64 {

@@ -2,7 +2,7 @@
 
 use crate::operations::{
     clear, get, get_or_intern, get_or_intern_batches, hash, intern, intern_batches, iterate,
-    look_up, look_up_batches,
+    look_up, look_up_batches, read,
 };
 use crate::plan::{Calls, Plan, Task};
 use crate::table::WordTable;
@@ -24,6 +24,7 @@ enum Operation<'a> {
     LookUp(&'a [String]),
     LookUpBatches(&'a [String]),
     Get(&'a [u32]),
+    Read(&'a [u32]),
     Iterate,
     Clear,
 }
@@ -39,6 +40,7 @@ impl<'a> Operation<'a> {
             Operation::LookUp(words) => Ok(look_up(table, words)),
             Operation::LookUpBatches(words) => Ok(look_up_batches(alloc, table, words)?),
             Operation::Get(numbers) => Ok(get(table, numbers)),
+            Operation::Read(numbers) => Ok(read(table, numbers)),
             Operation::Iterate => Ok(iterate(table)),
             Operation::Clear => Ok(clear(table)),
         }
@@ -79,6 +81,7 @@ fn single_calls<R: Print + Clock + AllocGlobal, T: WordTable>(
     let absent = other_words(alloc, plan)?;
     measure(rt, table, plan, "miss", Operation::LookUp(&absent))?;
     measure(rt, table, plan, "get", Operation::Get(&shuffled))?;
+    measure(rt, table, plan, "read", Operation::Read(&shuffled))?;
     measure(rt, table, plan, "iterate", Operation::Iterate)?;
     measure(rt, table, plan, "clear", Operation::Clear)?;
     measure(rt, table, plan, "refill", Operation::Intern(absent))

@@ -2,6 +2,7 @@
 ghost use Rattle.std.specs.Prelude.{None, slice_get, unwrap_or};
 ghost use Rattle.std.specs.Option.{option_or};
 
+use intaglio_hash::FixedState;
 use std::cell::Cell;
 use std::hash::{BuildHasher, BuildHasherDefault, FoldHasher, Hash, Hasher, RandomState};
 
@@ -22,6 +23,8 @@ pub trait HasherCount: BuildHasher + Drop {
 }
 
 impl HasherCount for BuildHasherDefault<FoldHasher> {}
+
+impl HasherCount for FixedState {}
 
 impl HasherCount for RandomState {}
 

@@ -2,7 +2,9 @@
 use super::contents::Shown;
 use super::printed::{reply_text, spelled, symbols_text};
 use crate::replies::interned;
-use intaglio::{Formed, LookedUp, Reply, Sought, Symbol, Table};
+use intaglio::{
+    Content, Formed, Lends, LookedUp, LookedUpIn, Reply, Sought, SoughtIn, Symbol, Table, TableOver,
+};
 use std::alloc::{AllocError, Global};
 use std::process::Abort;
 use test_hashers::builders::HasherCount;
@@ -24,7 +26,7 @@ pub enum Ask {
     Contains(Symbol),
     /// `get`.
     Get(Symbol),
-    /// `table[symbol]`, if the symbol was issued.
+    /// `table[symbol]`, if the symbol was issued; in one buffer `get`.
     Index(Symbol),
 }
 
@@ -41,7 +43,7 @@ fn only<T: Drop>(rt: &impl Abort, mut forms: Vec<T>) -> T {
     forms.pop().expect(rt, "no form")
 }
 
-/// What the table returns for a call by these forms.
+/// What a table of owned contents returns for a call by these forms.
 pub fn answer<'a, C: Formed<'a> + LookedUp<'a> + Sought<C> + Drop, S: HasherCount>(
     rt: &impl Abort,
     alloc: Global,
@@ -52,6 +54,25 @@ pub fn answer<'a, C: Formed<'a> + LookedUp<'a> + Sought<C> + Drop, S: HasherCoun
 where
     C::Form: Shown,
 {
+    match ask {
+        Ask::Index(symbol) => reply_text(rt, alloc, &index(alloc, table, symbol)),
+        _ => answer_by_forms(rt, alloc, table, forms, ask),
+    }
+}
+
+/// What any table returns for a call by these forms.
+pub fn answer_by_forms<'a, L: Lends<'a> + LookedUpIn<'a>, S: HasherCount>(
+    rt: &impl Abort,
+    alloc: Global,
+    table: &'a mut TableOver<L, S>,
+    forms: Vec<<L as LookedUpIn<'a>>::By>,
+    ask: Ask,
+) -> String
+where
+    L::Content: Content + SoughtIn<L> + Drop,
+    L::Prepared: Drop,
+    L::Form: Shown,
+{
     let reply = match ask {
         Ask::GetOrInternAll => return symbols_text(rt, alloc, table.get_or_intern_all(&forms)),
         Ask::CheckAll => return found(rt, alloc, table.check_all(&forms)),
@@ -59,8 +80,7 @@ where
         Ask::CheckInterned => Reply::Symbol(table.check_interned(only(rt, forms))),
         Ask::IsInterned => Reply::Bool(table.is_interned(only(rt, forms))),
         Ask::Contains(symbol) => Reply::Bool(table.contains(symbol)),
-        Ask::Get(symbol) => stored(alloc, table, symbol),
-        Ask::Index(symbol) => index(alloc, table, symbol),
+        Ask::Get(symbol) | Ask::Index(symbol) => spelled(alloc, table.get(symbol)),
     };
     reply_text(rt, alloc, &reply)
 }
@@ -73,17 +93,6 @@ fn found(
 ) -> String {
     let symbols = symbols.expect(rt, "memory");
     format!(in alloc; "{symbols:?}").expect(rt, "memory")
-}
-
-fn stored<'a, C: Formed<'a>, S: HasherCount>(
-    alloc: Global,
-    table: &'a Table<C, S>,
-    symbol: Symbol,
-) -> Reply
-where
-    C::Form: Shown,
-{
-    spelled(alloc, table.get(symbol))
 }
 
 fn index<'a, C: Formed<'a>, S: HasherCount>(

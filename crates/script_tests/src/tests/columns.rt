@@ -1,31 +1,54 @@
-//! Scripts whose calls one call of `run` makes, on tables of each kind.
+//! Scripts whose calls one call of `run` makes: by owned contents on a core and on tables of each kind, and by
+//! borrowed texts.
 use super::contents::TestContent;
-use super::each::{Trial, on_each, on_paths};
-use super::runs::runs;
-use super::table::{Make, make_table};
+use super::runs::{calls_by_contents, calls_by_texts, runs};
+use super::table::{Made, Make, Owned};
+use intaglio::bstr::BStrContent;
+use intaglio::bytes::BytesContent;
+use intaglio::cstr::CStrContent;
+use intaglio::osstr::OsStrContent;
+use intaglio::path::PathContent;
+use intaglio::{Copied, Core, Moved, StrContent, packed};
 use std::alloc::Global;
 use std::process::Abort;
+use test_hashers::builders::Fold;
 
-// A script whose calls are made in one run, on a table with this limit.
-#[derive(Clone, Copy)]
-struct Run {
-    limit: usize,
-    script: &'static str,
+// On a table with this limit.
+fn runs_on<C: TestContent>(rt: &impl Abort, alloc: Global, limit: usize, script: &'static str) {
+    let mut table = Owned::<C>::make(alloc, Make::Limited(limit)).expect(rt, "no table");
+    let calls = calls_by_contents::<C>(rt, alloc, script);
+    runs::<Moved, _, _>(rt, alloc, &mut table, calls, script);
 }
 
-impl Trial for Run {
-    fn try_on<C: TestContent, R: Abort>(&self, rt: &R, alloc: Global) {
-        let table = make_table::<C>(alloc, Make::Limited(self.limit)).expect(rt, "no table");
-        runs(rt, alloc, table, self.script);
-    }
+fn runs_on_a_core(rt: &impl Abort, alloc: Global, limit: usize, script: &'static str) {
+    let made: Result<Core<StrContent, Fold>, _> = Core::with_limit(alloc, limit, Fold::new());
+    let calls = calls_by_contents::<StrContent>(rt, alloc, script);
+    runs::<Moved, _, _>(rt, alloc, &mut made.expect(rt, "no table"), calls, script);
+}
+
+fn runs_by_texts(rt: &impl Abort, alloc: Global, limit: usize, script: &'static str) {
+    let how = Make::Limited(limit);
+    let mut owned = Owned::<StrContent>::make(alloc, how).expect(rt, "no table");
+    let calls = calls_by_texts(rt, alloc, script);
+    runs::<Copied, _, _>(rt, alloc, &mut owned, calls, script);
+    let mut packed = packed::SymbolTable::make(alloc, how).expect(rt, "no table");
+    let calls = calls_by_texts(rt, alloc, script);
+    runs::<Copied, _, _>(rt, alloc, &mut packed, calls, script);
 }
 
 fn runs_on_each(rt: &impl Abort, alloc: Global, limit: usize, script: &'static str) {
-    on_each(rt, alloc, &Run { limit, script });
+    runs_on::<StrContent>(rt, alloc, limit, script);
+    runs_on::<OsStrContent>(rt, alloc, limit, script);
+    runs_on::<BytesContent>(rt, alloc, limit, script);
+    runs_on::<BStrContent>(rt, alloc, limit, script);
+    runs_on::<CStrContent>(rt, alloc, limit, script);
+    runs_on::<PathContent>(rt, alloc, limit, script);
+    runs_on_a_core(rt, alloc, limit, script);
+    runs_by_texts(rt, alloc, limit, script);
 }
 
 #[test]
-fn twelve_calls_have_twelve_replies_on_each_table(rt: HostRuntime) {
+fn twelve_calls_have_twelve_replies(rt: HostRuntime) {
     runs_on_each(
         &rt,
         rt.alloc(),
@@ -123,13 +146,5 @@ fn equal_patterns_are_issued_equal_symbols(rt: HostRuntime) {
     runs_on_each(&rt, rt.alloc(), 4294967296, left);
     runs_on_each(&rt, rt.alloc(), 4294967296, right);
     let paths = "intern x/y > 0\nintern x > 1\nintern x//y > 0";
-    let limit = 4294967296;
-    on_paths(
-        &rt,
-        rt.alloc(),
-        &Run {
-            limit,
-            script: paths,
-        },
-    );
+    runs_on::<PathContent>(&rt, rt.alloc(), 4294967296, paths);
 }

@@ -21,6 +21,11 @@ pub trait TestContent: Spelled + Sought<Self> + Drop {
     /// A borrowed content. A zero follows its spelling.
     fn borrowed(ended: &'static str) -> Option<Self>;
 
+    /// Whether it is compared as a path.
+    fn are_paths() -> bool {
+        false
+    }
+
     /// Looks its borrowed form up, as `get_interned`.
     fn pair_in<S: HasherCount>(&self, alloc: Global, table: &Table<Self, S>) -> Reply;
 
@@ -233,6 +238,10 @@ impl TestContent for CStrContent {
 }
 
 impl TestContent for PathContent {
+    fn are_paths() -> bool {
+        true
+    }
+
     fn owned(alloc: Global, spelling: &[u8]) -> Option<PathContent> {
         Some(PathContent::from(text_of(alloc, spelling)?))
     }

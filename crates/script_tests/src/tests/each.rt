@@ -1,42 +1,65 @@
-//! What is run on tables of each of the six kinds: scripts, steps on iterators, and more.
+//! What is run on tables of each kind: scripts, steps on iterators, and more.
 use super::assertions::same;
 use super::calls::Ask;
-use super::contents::TestContent;
 use super::loops::{gives, interns, keeps};
 use super::printed::reply_text;
 use super::script::{Line, plays, same_text, way};
 use super::steps::{Steps, walks};
-use super::table::{Make, Table, make_table};
+use super::table::{Made, Make, Owned, Table};
 use crate::replies::roomy;
 use intaglio::bstr::BStrContent;
 use intaglio::bytes::BytesContent;
 use intaglio::cstr::CStrContent;
 use intaglio::osstr::OsStrContent;
 use intaglio::path::PathContent;
-use intaglio::{AllSymbols, StrContent};
+use intaglio::{AllSymbols, StrContent, packed};
 use std::alloc::Global;
 use std::process::Abort;
 use test_hashers::builders::{Counted, hash_of};
 
 /// What can be tried on tables of any kind.
 pub trait Trial {
-    /// Tries it on tables of this kind of content, which it makes.
-    fn try_on<C: TestContent, R: Abort>(&self, rt: &R, alloc: Global);
+    /// Tries it on tables of this kind, which it makes.
+    fn try_on<T: Made, R: Abort>(&self, rt: &R, alloc: Global);
 }
 
 /// Runs the trial on tables of each kind.
 pub fn on_each<Q: Trial>(rt: &impl Abort, alloc: Global, trial: &Q) {
-    trial.try_on::<StrContent, _>(rt, alloc);
-    trial.try_on::<OsStrContent, _>(rt, alloc);
-    trial.try_on::<BytesContent, _>(rt, alloc);
-    trial.try_on::<BStrContent, _>(rt, alloc);
-    trial.try_on::<CStrContent, _>(rt, alloc);
-    trial.try_on::<PathContent, _>(rt, alloc);
+    on_owned(rt, alloc, trial);
+    on_packed(rt, alloc, trial);
+}
+
+/// Runs the trial on tables of each kind of owned contents.
+pub fn on_owned<Q: Trial>(rt: &impl Abort, alloc: Global, trial: &Q) {
+    trial.try_on::<Owned<StrContent>, _>(rt, alloc);
+    trial.try_on::<Owned<OsStrContent>, _>(rt, alloc);
+    trial.try_on::<Owned<BytesContent>, _>(rt, alloc);
+    trial.try_on::<Owned<BStrContent>, _>(rt, alloc);
+    trial.try_on::<Owned<CStrContent>, _>(rt, alloc);
+    trial.try_on::<Owned<PathContent>, _>(rt, alloc);
+}
+
+/// Runs the trial on tables in one buffer.
+pub fn on_packed<Q: Trial>(rt: &impl Abort, alloc: Global, trial: &Q) {
+    trial.try_on::<packed::SymbolTable, _>(rt, alloc);
+    trial.try_on::<packed::bytes::SymbolTable, _>(rt, alloc);
+}
+
+/// Runs the trial on tables of bytes.
+pub fn on_bytes<Q: Trial>(rt: &impl Abort, alloc: Global, trial: &Q) {
+    trial.try_on::<Owned<BytesContent>, _>(rt, alloc);
+    trial.try_on::<Owned<BStrContent>, _>(rt, alloc);
+    trial.try_on::<packed::bytes::SymbolTable, _>(rt, alloc);
+}
+
+/// Runs the trial on tables of C strings.
+pub fn on_c_strings<Q: Trial>(rt: &impl Abort, alloc: Global, trial: &Q) {
+    trial.try_on::<Owned<CStrContent>, _>(rt, alloc);
 }
 
 /// Runs the trial on tables of paths.
 pub fn on_paths<Q: Trial>(rt: &impl Abort, alloc: Global, trial: &Q) {
-    trial.try_on::<PathContent, _>(rt, alloc);
+    trial.try_on::<Owned<PathContent>, _>(rt, alloc);
 }
 
 /// A script, with one part for each table: how it is made, and the calls on it.
@@ -44,17 +67,17 @@ pub fn on_paths<Q: Trial>(rt: &impl Abort, alloc: Global, trial: &Q) {
 pub struct Script(pub &'static str);
 
 impl Trial for Script {
-    fn try_on<C: TestContent, R: Abort>(&self, rt: &R, alloc: Global) {
+    fn try_on<T: Made, R: Abort>(&self, rt: &R, alloc: Global) {
         for part in self.0.split("\n\n") {
-            plays_part::<C>(rt, alloc, part);
+            plays_part::<T>(rt, alloc, part);
         }
     }
 }
 
-fn plays_part<C: TestContent>(rt: &impl Abort, alloc: Global, part: &'static str) {
+fn plays_part<T: Made>(rt: &impl Abort, alloc: Global, part: &'static str) {
     let (first, rest) = part.split_once('\n').unwrap_or((part, ""));
     let line = Line::of(first).expect(rt, first);
-    match make_table::<C>(alloc, way(rt, line).expect(rt, first)) {
+    match T::make(alloc, way(rt, line).expect(rt, first)) {
         Ok(mut table) => {
             same_text(rt, "done", line.wanted, first);
             plays(rt, alloc, &mut table, rest);
@@ -74,8 +97,8 @@ pub struct Walked {
 }
 
 impl Trial for Walked {
-    fn try_on<C: TestContent, R: Abort>(&self, rt: &R, alloc: Global) {
-        let mut table = make_table::<C>(alloc, Make::New).expect(rt, "no table");
+    fn try_on<T: Made, R: Abort>(&self, rt: &R, alloc: Global) {
+        let mut table = T::make(alloc, Make::New).expect(rt, "no table");
         plays(rt, alloc, &mut table, self.words);
         walks(rt, alloc, table.symbols(), self.steps.symbols);
         table.go(rt, alloc, self.steps);
@@ -87,9 +110,9 @@ impl Trial for Walked {
 pub struct RunOut;
 
 impl Trial for RunOut {
-    fn try_on<C: TestContent, R: Abort>(&self, rt: &R, alloc: Global) {
-        let empty = make_table::<C>(alloc, Make::New).expect(rt, "no table");
-        let mut one = make_table::<C>(alloc, Make::New).expect(rt, "no table");
+    fn try_on<T: Made, R: Abort>(&self, rt: &R, alloc: Global) {
+        let empty = T::make(alloc, Make::New).expect(rt, "no table");
+        let mut one = T::make(alloc, Make::New).expect(rt, "no table");
         interns(rt, alloc, &mut one, b"a", 0);
         run_out(rt, one.symbols(), empty.symbols());
     }
@@ -106,8 +129,8 @@ fn run_out(rt: &impl Abort, mut one: AllSymbols<'_>, empty: AllSymbols<'_>) {
 pub struct Kept<'a>(pub &'a [u8]);
 
 impl<'a> Trial for Kept<'a> {
-    fn try_on<C: TestContent, R: Abort>(&self, rt: &R, alloc: Global) {
-        let mut table = make_table::<C>(alloc, Make::New).expect(rt, "no table");
+    fn try_on<T: Made, R: Abort>(&self, rt: &R, alloc: Global) {
+        let mut table = T::make(alloc, Make::New).expect(rt, "no table");
         gives(rt, alloc, &mut table, self.0, Ask::IsInterned, "false");
         keeps(rt, alloc, &mut table, self.0, 0);
         keeps(rt, alloc, &mut table, self.0, 0);
@@ -124,14 +147,9 @@ pub struct Hashed {
 }
 
 impl Trial for Hashed {
-    fn try_on<C: TestContent, R: Abort>(&self, rt: &R, alloc: Global) {
+    fn try_on<T: Made, R: Abort>(&self, rt: &R, alloc: Global) {
         let hasher = Counted::new(self.fixed);
-        let made = intaglio::Table::<C, Counted>::with_capacity_and_hasher(
-            alloc,
-            self.capacity,
-            hasher,
-        );
-        let mut table = made.expect(rt, "no table");
+        let mut table = T::make_counting(alloc, self.capacity, hasher).expect(rt, "no table");
         plays(rt, alloc, &mut table, self.script);
     }
 }

@@ -44,21 +44,6 @@ check 2000 > none",
 }
 
 #[test]
-fn two_thousand_first_bytes_on_each_table(rt: HostRuntime) {
-    on_each(
-        &rt,
-        rt.alloc(),
-        &Hashed {
-            capacity: 0,
-            fixed: None,
-            script: "intern_numbers 2000 > done
-check_numbers 2000 > done
-check 2000 > none",
-        },
-    );
-}
-
-#[test]
 fn a_cut_unlinks_each_symbol_of_a_bucket(rt: HostRuntime) {
     on_each(
         &rt,

@@ -1,5 +1,5 @@
 //! The iterators of tables of each kind, from both ends.
-use super::each::{RunOut, Walked, on_each};
+use super::each::{RunOut, Walked, on_each, on_owned, on_packed};
 use super::steps::Steps;
 
 const BOTH_ENDS: Steps = Steps {
@@ -23,7 +23,7 @@ fn iterators_go_from_both_ends(rt: HostRuntime) {
 intern xyz > 1
 intern 123 > 2
 intern 789 > 3";
-    on_each(
+    on_owned(
         &rt,
         rt.alloc(),
         &Walked {
@@ -33,13 +33,23 @@ intern 789 > 3";
     );
 }
 
-const TURNS: Steps = Steps {
-    symbols: "next_back > 2
+#[test]
+fn ends_are_taken_in_turn(rt: HostRuntime) {
+    let words = "intern a > 0
+intern b > 1
+intern c > 2";
+    on_owned(
+        &rt,
+        rt.alloc(),
+        &Walked {
+            words,
+            steps: Steps {
+                symbols: "next_back > 2
 next > 0
 next > 1
 next > none
 next_back > none",
-    contents: "len > 3
+                contents: "len > 3
 next_back > c
 len > 2
 size_hint > (2, Some(2))
@@ -47,24 +57,12 @@ next > a
 next > b
 next > none
 next_back > none",
-    pairs: "next > 0 a
+                pairs: "next > 0 a
 size_hint > (2, Some(2))
 next > 1 b
 next > 2 c
 next > none",
-};
-
-#[test]
-fn ends_are_taken_in_turn(rt: HostRuntime) {
-    let words = "intern a > 0
-intern b > 1
-intern c > 2";
-    on_each(
-        &rt,
-        rt.alloc(),
-        &Walked {
-            words,
-            steps: TURNS,
+            },
         },
     );
 }
@@ -81,7 +79,7 @@ next > none",
 
 #[test]
 fn nothing_comes_of_an_empty_table(rt: HostRuntime) {
-    on_each(
+    on_owned(
         &rt,
         rt.alloc(),
         &Walked {
@@ -94,4 +92,38 @@ fn nothing_comes_of_an_empty_table(rt: HostRuntime) {
 #[test]
 fn run_out_symbols_are_those_of_an_empty_table(rt: HostRuntime) {
     on_each(&rt, rt.alloc(), &RunOut);
+}
+
+const FORWARDS: Steps = Steps {
+    symbols: "next_back > 2
+next > 0",
+    contents: "size_hint > (3, Some(3))
+next > abc
+next > x
+size_hint > (1, Some(1))
+next > xy
+next > none
+size_hint > (0, Some(0))
+next > none",
+    pairs: "size_hint > (3, Some(3))
+next > 0 abc
+next > 1 x
+size_hint > (1, Some(1))
+next > 2 xy
+next > none
+next > none",
+};
+
+#[test]
+fn a_packed_table_yields_its_texts(rt: HostRuntime) {
+    on_packed(
+        &rt,
+        rt.alloc(),
+        &Walked {
+            words: "intern abc > 0
+intern x > 1
+intern xy > 2",
+            steps: FORWARDS,
+        },
+    );
 }

@@ -1,8 +1,6 @@
 //! What only some kinds of content have: spellings of equal paths, zero bytes, and bytes that aren't UTF-8.
 use super::assertions::same;
-use super::each::{Kept, Script, Trial, on_each, on_paths};
-use intaglio::bstr::BStrContent;
-use intaglio::bytes::BytesContent;
+use super::each::{Kept, Script, on_bytes, on_c_strings, on_each, on_paths};
 use intaglio::cstr;
 use intaglio::cstr::{CStr, CStrContent};
 use std::alloc::Global;
@@ -107,11 +105,6 @@ intern > 1
 intern \0\0 > 2
 intern \0 > 0";
 
-fn on_bytes<Q: Trial>(rt: &impl Abort, alloc: Global, trial: &Q) {
-    trial.try_on::<BytesContent, _>(rt, alloc);
-    trial.try_on::<BStrContent, _>(rt, alloc);
-}
-
 #[test]
 fn zeros_are_bytes(rt: HostRuntime) {
     on_bytes(&rt, rt.alloc(), &Script(ZEROS));
@@ -122,7 +115,7 @@ fn bytes_that_are_no_text_are_kept(rt: HostRuntime) {
     on_bytes(&rt, rt.alloc(), &Kept(b"\x00"));
     on_bytes(&rt, rt.alloc(), &Kept(b"\xff"));
     on_bytes(&rt, rt.alloc(), &Kept(b"\x00\xff\x00"));
-    Kept(b"\xff").try_on::<CStrContent, _>(&rt, rt.alloc());
+    on_c_strings(&rt, rt.alloc(), &Kept(b"\xff"));
 }
 
 #[test]

@@ -1,23 +1,23 @@
 //! Makes the calls of a script by one call of `run`.
-use super::contents::{TestContent, borrowed_content, content};
+use super::contents::{TestContent, content};
 use super::printed::reply_text;
 use super::script::{Line, same_text, size, symbol};
-use intaglio::{Call, Mark, Moved, Reply, Table, Work, run};
+use intaglio::{AddedTo, Call, FormInterner, Mark, Reply, SpelledStore, Work, run};
 use std::alloc::Global;
-use std::hash::BuildHasher;
 use std::process::Abort;
 
 /// Makes the calls of a script in one run.
-pub fn runs<C: TestContent, S: BuildHasher + Drop>(
+pub fn runs<H, T: FormInterner, Q: AddedTo<T::Store, H>>(
     rt: &impl Abort,
     alloc: Global,
-    mut table: Table<C, S>,
+    table: &mut T,
+    calls: Vec<Call<Q>>,
     script: &'static str,
-) {
-    let calls = calls_of::<C>(rt, alloc, script);
-    let replies = run::<Moved, _, _>(alloc, &mut table, calls, &mut Work::new()).expect(
-        rt, "memory",
-    );
+)
+where
+    T::Store: SpelledStore,
+{
+    let replies = run::<H, _, _>(alloc, table, calls, &mut Work::new()).expect(rt, "memory");
     agree(rt, alloc, script, replies.as_slice());
 }
 
@@ -30,23 +30,51 @@ fn agree(rt: &impl Abort, alloc: Global, script: &'static str, replies: &[Reply]
     }
 }
 
-fn calls_of<C: TestContent>(rt: &impl Abort, alloc: Global, script: &'static str) -> Vec<Call<C>> {
+/// The calls of a script, by owned contents.
+pub fn calls_by_contents<C: TestContent>(
+    rt: &impl Abort,
+    alloc: Global,
+    script: &'static str,
+) -> Vec<Call<C>> {
     let mut calls = Vec::new(alloc);
     for text in script.lines() {
         let line = Line::of(text).expect(rt, text);
-        let call = call_of(rt, alloc, line).expect(rt, text);
-        calls.push(call).expect(rt, "memory");
+        push_call(
+            rt,
+            &mut calls,
+            line,
+            content(rt, alloc, line.word.as_bytes()),
+        );
     }
     calls
 }
 
-fn call_of<C: TestContent>(rt: &impl Abort, alloc: Global, line: Line) -> Option<Call<C>> {
+/// The calls of a script, by borrowed texts.
+pub fn calls_by_texts(
+    rt: &impl Abort,
+    alloc: Global,
+    script: &'static str,
+) -> Vec<Call<&'static str>> {
+    let mut calls = Vec::new(alloc);
+    for text in script.lines() {
+        let line = Line::of(text).expect(rt, text);
+        push_call(rt, &mut calls, line, line.word);
+    }
+    calls
+}
+
+// Adds the call of a line, by what stands for its word.
+fn push_call<Q: Drop>(rt: &impl Abort, calls: &mut Vec<Call<Q>>, line: Line, value: Q) {
+    let call = call_of(rt, line, value).expect(rt, line.name);
+    calls.push(call).expect(rt, "memory");
+}
+
+fn call_of<Q: Drop>(rt: &impl Abort, line: Line, value: Q) -> Option<Call<Q>> {
     match line.name {
-        "intern" => Some(Call::Intern(content(rt, alloc, line.word.as_bytes()))),
-        "lend" => Some(Call::Intern(borrowed_content(rt, line.word))),
-        "check" => Some(Call::Check(content(rt, alloc, line.word.as_bytes()))),
-        "get_interned" => Some(Call::GetInterned(content(rt, alloc, line.word.as_bytes()))),
-        "is_interned" => Some(Call::IsInterned(content(rt, alloc, line.word.as_bytes()))),
+        "intern" => Some(Call::Intern(value)),
+        "check" => Some(Call::Check(value)),
+        "get_interned" => Some(Call::GetInterned(value)),
+        "is_interned" => Some(Call::IsInterned(value)),
         "contains" => Some(Call::Contains(symbol(rt, line.word))),
         "get" => Some(Call::Get(symbol(rt, line.word))),
         "reserve" => Some(Call::Reserve(size(rt, line.word))),

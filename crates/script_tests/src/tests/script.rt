@@ -62,8 +62,13 @@ pub fn plays<T: Table>(rt: &impl Abort, alloc: Global, table: &mut T, script: &'
     }
 }
 
-// What the table returns for one call.
-fn answers<T: Table>(rt: &impl Abort, alloc: Global, table: &mut T, line: Line) -> Option<String> {
+/// What the table returns for one call, if there is a call of this name.
+pub fn answers<T: Table>(
+    rt: &impl Abort,
+    alloc: Global,
+    table: &mut T,
+    line: Line,
+) -> Option<String> {
     if let Some(reply) = replies(rt, alloc, table, line) {
         return Some(reply_text(rt, alloc, &reply));
     }
@@ -131,7 +136,7 @@ fn ask(rt: &impl Abort, line: Line) -> Option<Ask> {
 fn batches<T: Table>(rt: &impl Abort, alloc: Global, table: &mut T, line: Line) -> Option<String> {
     let words = contents(rt, alloc, line.word);
     match line.name {
-        "intern_all" => Some(symbols_text(rt, alloc, table.put_all(words))),
+        "intern_all" => Some(symbols_text(rt, alloc, table.put_all(alloc, words))),
         "intaglio::intern_all" => Some(symbols_text(rt, alloc, table.put_counted(alloc, words))),
         "get_or_intern_all" => Some(table.ask(rt, alloc, &words, Ask::GetOrInternAll)),
         "check_all" => Some(table.ask(rt, alloc, &words, Ask::CheckAll)),

@@ -2,7 +2,9 @@
 use super::contents::Shown;
 use super::printed::{number, numbered, text};
 use super::script::same_text;
-use intaglio::{AllSymbols, Formed, Forms, Pairs, Symbol, Table};
+use intaglio::{
+    AllSymbols, Content, Formed, Forms, Lends, Pairs, StoreForms, StorePairs, Symbol, Table,
+};
 use std::alloc::Global;
 use std::process::Abort;
 use test_hashers::builders::HasherCount;
@@ -107,6 +109,34 @@ where
 impl<'a, C: Formed<'a>> Walk for Pairs<'a, C>
 where
     C::Form: Shown,
+{
+    fn step<R: Abort>(&mut self, rt: &R, alloc: Global, name: &str) -> Option<String> {
+        match name {
+            "next" => Some(pair_said(rt, alloc, self.next())),
+            "size_hint" => Some(hint_said(rt, alloc, self.size_hint())),
+            _ => None,
+        }
+    }
+}
+
+impl<'a, L: Lends<'a>> Walk for StoreForms<'a, L>
+where
+    L::Content: Content,
+    L::Form: Shown,
+{
+    fn step<R: Abort>(&mut self, rt: &R, alloc: Global, name: &str) -> Option<String> {
+        match name {
+            "next" => Some(form_said(rt, alloc, self.next())),
+            "size_hint" => Some(hint_said(rt, alloc, self.size_hint())),
+            _ => None,
+        }
+    }
+}
+
+impl<'a, L: Lends<'a>> Walk for StorePairs<'a, L>
+where
+    L::Content: Content,
+    L::Form: Shown,
 {
     fn step<R: Abort>(&mut self, rt: &R, alloc: Global, name: &str) -> Option<String> {
         match name {

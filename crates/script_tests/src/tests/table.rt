@@ -3,10 +3,12 @@ use super::calls::Ask;
 use super::contents::TestContent;
 use super::steps::Steps;
 use crate::replies::{interned, roomy, taken};
-use intaglio::{AllSymbols, InternError, Mark, Reply, RoomError, Symbol, Work, intern_all};
+use intaglio::{
+    AllSymbols, InternError, Mark, Reply, RoomError, Store, Symbol, TableOver, Work, intern_all,
+};
 use std::alloc::Global;
 use std::process::Abort;
-use test_hashers::builders::{Fold, HasherCount};
+use test_hashers::builders::{Counted, Fold, HasherCount};
 
 /// How a table is made.
 #[derive(Clone, Copy)]
@@ -60,10 +62,14 @@ pub trait Table: Drop {
     /// As `intern`.
     fn put(&mut self, content: Self::Kind) -> Reply;
 
-    /// As `intern_all`.
-    fn put_all(&mut self, contents: Vec<Self::Kind>) -> Result<Vec<Symbol>, InternError>;
+    /// As `intern_all`, or in one buffer as `get_or_intern_all`.
+    fn put_all(
+        &mut self,
+        alloc: Global,
+        contents: Vec<Self::Kind>,
+    ) -> Result<Vec<Symbol>, InternError>;
 
-    /// By the function `intern_all`.
+    /// By the function `intern_all`, or in one buffer by `get_or_intern_all`.
     fn put_counted(
         &mut self,
         alloc: Global,
@@ -96,7 +102,8 @@ impl<C: TestContent, S: HasherCount> Table for intaglio::Table<C, S> {
         interned(self.intern(content))
     }
 
-    fn put_all(&mut self, contents: Vec<C>) -> Result<Vec<Symbol>, InternError> {
+    fn put_all(&mut self, alloc: Global, contents: Vec<C>) -> Result<Vec<Symbol>, InternError> {
+        let _ = alloc;
         self.intern_all(contents)
     }
 
@@ -113,28 +120,11 @@ impl<C: TestContent, S: HasherCount> Table for intaglio::Table<C, S> {
     }
 
     fn update(&mut self, update: Update) -> Reply {
-        match update {
-            Update::Reserve(additional) => roomy(self.reserve(additional)),
-            Update::TryReserve(additional) => roomy(self.try_reserve(additional)),
-            Update::ShrinkTo(capacity) => roomy(self.shrink_to(capacity)),
-            Update::ShrinkToFit => roomy(self.shrink_to_fit()),
-            Update::Clear => {
-                self.clear();
-                Reply::Done
-            }
-            Update::TakeBack(mark) => taken(self.take_back(mark)),
-        }
+        updated(self, update)
     }
 
     fn counts(&self) -> Counts {
-        Counts {
-            len: self.len(),
-            is_empty: self.is_empty(),
-            capacity: self.capacity(),
-            limit: self.limit(),
-            mark: self.mark(),
-            hashers: self.hasher().made(),
-        }
+        counts_of(self)
     }
 
     fn symbols(&self) -> AllSymbols<'_> {
@@ -146,20 +136,77 @@ impl<C: TestContent, S: HasherCount> Table for intaglio::Table<C, S> {
     }
 }
 
-/// Makes a table with std's builder of fixed seed.
-pub fn make_table<C: TestContent>(
-    alloc: Global,
-    how: Make,
-) -> Result<intaglio::Table<C, Fold>, RoomError> {
-    match how {
-        Make::New => intaglio::Table::new(alloc),
-        Make::Rounded(capacity) => intaglio::Table::with_capacity(alloc, capacity),
-        Make::Usual => intaglio::Table::with_hasher(alloc, Fold::new()),
-        Make::Exact(capacity) => intaglio::Table::with_capacity_and_hasher(
-            alloc,
-            capacity,
-            Fold::new(),
-        ),
-        Make::Limited(limit) => intaglio::Table::with_limit(alloc, limit, Fold::new()),
+/// Makes a call that changes a table.
+pub fn updated<L: Store, S: HasherCount>(table: &mut TableOver<L, S>, update: Update) -> Reply
+where
+    L::Content: Drop,
+{
+    match update {
+        Update::Reserve(additional) => roomy(table.reserve(additional)),
+        Update::TryReserve(additional) => roomy(table.try_reserve(additional)),
+        Update::ShrinkTo(capacity) => roomy(table.shrink_to(capacity)),
+        Update::ShrinkToFit => roomy(table.shrink_to_fit()),
+        Update::Clear => {
+            table.clear();
+            Reply::Done
+        }
+        Update::TakeBack(mark) => taken(table.take_back(mark)),
+    }
+}
+
+/// The numbers of a table.
+pub fn counts_of<L: Store, S: HasherCount>(table: &TableOver<L, S>) -> Counts {
+    Counts {
+        len: table.len(),
+        is_empty: table.is_empty(),
+        capacity: table.capacity(),
+        limit: table.limit(),
+        mark: table.mark(),
+        hashers: table.hasher().made(),
+    }
+}
+
+/// A table with the hash builder that it has by default.
+pub trait Made: Table {
+    /// The same table with counted hashers.
+    type Counting: Table;
+
+    /// Makes it.
+    fn make(alloc: Global, how: Make) -> Result<Self, RoomError>;
+
+    /// Makes one of this capacity, with counted hashers.
+    fn make_counting(
+        alloc: Global,
+        capacity: usize,
+        hasher: Counted,
+    ) -> Result<Self::Counting, RoomError>;
+}
+
+/// A table of owned contents.
+pub type Owned<C> = intaglio::Table<C, Fold>;
+
+impl<C: TestContent> Made for Owned<C> {
+    type Counting = intaglio::Table<C, Counted>;
+
+    fn make(alloc: Global, how: Make) -> Result<Self, RoomError> {
+        match how {
+            Make::New => intaglio::Table::new(alloc),
+            Make::Rounded(capacity) => intaglio::Table::with_capacity(alloc, capacity),
+            Make::Usual => intaglio::Table::with_hasher(alloc, Fold::new()),
+            Make::Exact(capacity) => intaglio::Table::with_capacity_and_hasher(
+                alloc,
+                capacity,
+                Fold::new(),
+            ),
+            Make::Limited(limit) => intaglio::Table::with_limit(alloc, limit, Fold::new()),
+        }
+    }
+
+    fn make_counting(
+        alloc: Global,
+        capacity: usize,
+        hasher: Counted,
+    ) -> Result<intaglio::Table<C, Counted>, RoomError> {
+        intaglio::Table::with_capacity_and_hasher(alloc, capacity, hasher)
     }
 }

@@ -46,34 +46,48 @@ fn finds(rt: &impl Abort, index: &Index, count: u32, hash: u64, wanted: &[u32])
     assert!(rt; next.is_none());
 }
 
-// Asserts that a walk meets symbols of these hashes, in as many buckets, in this order.
-fn fills<Rt: Abort + AllocGlobal>(rt: &Rt, hashes: &[u64], hash: u64, wanted: &[u32])
-    requires { length hashes.now ≤ 5 }
+// Hashes, a hash, and the symbols that are met or found by it in an index of the hashes, in order.
+type Row = (&'static [u64], u64, &'static [u32]);
+
+// How many hashes there are.
+fn count(rt: &impl Abort, hashes: &[u64]) -> u32
+    ensures { result ≡ length hashes.now }
 {
-    let index = filled(rt, hashes);
-    meets(rt, &index, hashes.len() as u32, hash, wanted);
+    u32::try_from(hashes.len()).expect(rt, "too many")
 }
+
+static MET: [Row; 4] = [
+    (&[3, 8, 13, 18, 23], 28, &[0, 1, 2, 3, 4]),
+    (&[23, 18, 13, 8, 3], 28, &[4, 3, 2, 1, 0]),
+    (&[13, 3, 23, 8, 13], 28, &[1, 3, 4, 0, 2]),
+    (&[13, 3, 23, 8, 13], 2, &[]),
+];
 
 #[test]
 fn one_bucket_is_in_order(rt: HostRuntime) {
-    fills(&rt, &[3, 8, 13, 18, 23], 28, &[0, 1, 2, 3, 4]);
-    fills(&rt, &[23, 18, 13, 8, 3], 28, &[4, 3, 2, 1, 0]);
-    fills(&rt, &[13, 3, 23, 8, 13], 28, &[1, 3, 4, 0, 2]);
-    fills(&rt, &[13, 3, 23, 8, 13], 2, &[]);
+    for (hashes, hash, wanted) in MET {
+        let count = count(&rt, hashes);
+        meets(&rt, &filled(&rt, hashes), count, hash, wanted);
+    }
 }
+
+static FOUND: [Row; 8] = [
+    (&[13, 3, 23, 8, 13], 3, &[1]),
+    (&[13, 3, 23, 8, 13], 13, &[4, 0]),
+    (&[13, 3, 23, 8, 13], 23, &[2]),
+    (&[13, 3, 23, 8, 13], 18, &[]),
+    (&[32, 16, 48, 16], 16, &[3, 1]),
+    (&[32, 16, 48, 16], 48, &[2]),
+    (&[32, 16, 48, 16], 64, &[]),
+    (&[32, 16, 48, 16], 17, &[]),
+];
 
 #[test]
 fn a_search_finds_the_symbols_of_its_hash(rt: HostRuntime) {
-    let index = filled(&rt, &[13, 3, 23, 8, 13]);
-    finds(&rt, &index, 5, 3, &[1]);
-    finds(&rt, &index, 5, 13, &[4, 0]);
-    finds(&rt, &index, 5, 23, &[2]);
-    finds(&rt, &index, 5, 18, &[]);
-    let index = filled(&rt, &[32, 16, 48, 16]);
-    finds(&rt, &index, 4, 16, &[3, 1]);
-    finds(&rt, &index, 4, 48, &[2]);
-    finds(&rt, &index, 4, 64, &[]);
-    finds(&rt, &index, 4, 17, &[]);
+    for (hashes, hash, wanted) in FOUND {
+        let count = count(&rt, hashes);
+        finds(&rt, &filled(&rt, hashes), count, hash, wanted);
+    }
 }
 
 #[test]

@@ -127,20 +127,6 @@ fn letters() -> [StrContent; 3] {
 }
 
 #[test]
-fn forms_come_from_both_ends(rt: HostRuntime) {
-    let contents = letters();
-    let mut forms = Forms::of(&contents);
-    same(&rt, forms.len(), 3);
-    same(&rt, forms.next_back(), Some("c"));
-    same(&rt, (forms.len(), forms.size_hint()), (2, (2, Some(2))));
-    same(&rt, forms.next(), Some("a"));
-    same(&rt, forms.next(), Some("b"));
-    same(&rt, forms.next(), None);
-    same(&rt, forms.next_back(), None);
-    same(&rt, forms.next(), None);
-}
-
-#[test]
 fn forms_are_skipped_counted_and_cloned(rt: HostRuntime) {
     let contents = letters();
     let forms = Forms::of(&contents);
@@ -149,18 +135,6 @@ fn forms_are_skipped_counted_and_cloned(rt: HostRuntime) {
     same(&rt, copy_of(&rt, &forms).nth_back(3), None);
     same(&rt, copy_of(&rt, &forms).count(), 3);
     same(&rt, forms.last(), Some("c"));
-}
-
-#[test]
-fn pairs_come_with_their_symbols(rt: HostRuntime) {
-    let contents = letters();
-    let mut pairs = Pairs::of(&contents, &contents);
-    assert_eq!(&rt; pairs.next(), Some((Symbol::new(0), "a")));
-    same(&rt, pairs.size_hint(), (2, Some(2)));
-    assert_eq!(&rt; pairs.next(), Some((Symbol::new(1), "b")));
-    assert_eq!(&rt; pairs.next(), Some((Symbol::new(2), "c")));
-    holds(&rt, pairs.next().is_none());
-    holds(&rt, pairs.next().is_none());
 }
 
 #[test]
@@ -173,16 +147,13 @@ fn pairs_are_skipped_counted_and_cloned(rt: HostRuntime) -> Result<(), Fail> {
     Ok(())
 }
 
-fn table_of(rt: &impl Abort, alloc: Global, texts: &'static str) -> SymbolTable {
-    let mut table = SymbolTable::new(alloc).expect(rt, "no table");
-    for text in texts.split(' ') {
-        table.intern(StrContent::from(text)).expect(rt, "no symbol");
-    }
-    table
-}
-
 #[test]
 fn the_pairs_of_a_table_are_counted(rt: HostRuntime) {
-    let table = table_of(&rt, rt.alloc(), "abc xyz 123 789");
+    let mut table = SymbolTable::new(rt.alloc()).expect(&rt, "no table");
+    for text in "abc xyz 123 789".split(' ') {
+        table
+            .intern(StrContent::from(text))
+            .expect(&rt, "no symbol");
+    }
     same(&rt, table.iter().count(), 4);
 }

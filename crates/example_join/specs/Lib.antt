@@ -1,2 +1,0 @@
--- What the contracts of the join cite.
-pub mod Texts

@@ -1,2 +1,0 @@
--- What the contract of the linter cites.
-pub mod Repeat

@@ -1,0 +1,3 @@
+pub mod AtSymbols
+pub mod Repeats
+pub mod SameText

@@ -1,0 +1,9 @@
+-- There is a count for each symbol.
+use Rattle.std.proofs.Common.{◌≡◌, length}
+use Rattle.example_records.proofs.words.count_words.Given as goal
+
+abbrev pub invariant-loop-word : goal.invariant-loop-word
+invariant-loop-word l =
+    (goal.iterator-loop-word).can_next l.word-iterator ×
+    (goal.iterator-loop-word).is_finite l.word-iterator ×
+    (length l.counts.items ≡ length l.texts.state.contents)

@@ -1,0 +1,4 @@
+-- What the contracts of these programs cite.
+pub mod Counts
+pub mod Repeat
+pub mod Texts

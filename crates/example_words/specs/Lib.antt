@@ -1,2 +1,0 @@
--- What the contracts of the counts cite.
-pub mod Counts
