@@ -111,14 +111,7 @@ impl StringEnds {
         requires { i ≤ length self.now.list }
         ensures { result ≡ get_or (0 ∷ self.now.list) i 0 }
     {
-        if i == 0 {
-            return 0;
-        }
-        if self.is_long {
-            self.long[i - 1]
-        } else {
-            self.short[i - 1] as usize
-        }
+        if i == 0 { 0 } else { self.end(i - 1) }
     }
 
     /// Where a string that is there ends.
@@ -128,10 +121,9 @@ impl StringEnds {
         ensures { result ≡ get_or self.now.list i 0 }
     {
         if self.is_long {
-            self.long[i]
-        } else {
-            self.short[i] as usize
+            return long_end(&self.long, i);
         }
+        self.short[i] as usize
     }
 
     /// Makes room for this many more ends.
@@ -215,4 +207,14 @@ impl StringEnds {
         }
         Ok(ends)
     }
+}
+
+// A long end. Apart, so that the code that reads a short one is short.
+#[cold]
+#[inline(never)]
+fn long_end(ends: &[usize], i: usize) -> usize
+    requires { i < length ends.now }
+    ensures { result ≡ get_or ends.now i 0 }
+{
+    ends[i]
 }

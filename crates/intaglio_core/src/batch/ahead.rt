@@ -10,8 +10,12 @@ use intaglio_content::{SoughtIn, Work};
 /// How many values of a batch are hashed before the first of them is looked up.
 pub const GROUP: usize = 64;
 
+// From how many contents on it pays to read ahead. A smaller table stays in a processor's nearer caches.
+const READ_AHEAD_FROM: usize = 1 << 12;
+
 /// Hashes the first contents or forms, one for each place of `hashes`, and reads what look-ups by the first
-/// [`GROUP`] of these hashes will read, so that the cache misses of these look-ups overlap. Allocates nothing.
+/// [`GROUP`] of these hashes will read, so that the cache misses of these look-ups overlap. Of a table of fewer
+/// than 2^12 contents, which stays in the caches, nothing is read. Allocates nothing.
 pub fn look_ahead<T: FormInterner, Q: SoughtIn<T::Store>>(
     table: &T,
     forms: &[Q],
@@ -47,7 +51,7 @@ fn look_ahead_in<T: FormInterner, Q: SoughtIn<T::Store>, V: Values<Q>>(
 {
     hash_each(table, values, hashes, work);
     let count = hashes.len().min(values.count());
-    if count > 0 {
+    if count > 0 && table.count() >= READ_AHEAD_FROM {
         touch_all(table, &hashes[..count], values.at(0));
     }
 }
