@@ -2,8 +2,8 @@
 //!
 //! [`SymbolTable`] interns texts. The modules [`bytes`], [`bstr`], [`cstr`], [`osstr`] and [`path`] have
 //! a table each, for bytes, byte strings, C strings, platform strings and paths. Each is a [`Table`] of
-//! one kind of content. [`packed`] has tables of texts and of bytes in one buffer. It is proved that a table
-//! behaves as a plain list of distinct contents, whose symbols are their positions.
+//! one kind of content. [`packed`] has tables in one buffer, of each kind but C strings. It is proved that a
+//! table behaves as a plain list of distinct contents, whose symbols are their positions.
 #![tactic(auto)]
 
 pub mod bstr;

@@ -1,19 +1,24 @@
-//! Tables whose contents are in one buffer: of texts here, of bytes in [`bytes`].
+//! Tables whose contents are in one buffer: of texts here, of the other kinds in [`bytes`], [`bstr`], [`osstr`]
+//! and [`path`].
 //!
 //! They have the calls of the other tables that take or give a borrowed string, with the same contracts, and
 //! they take less memory, since a string has no allocation of its own. Each new string is copied. By default
 //! they hash with `intaglio_hash::FixedState`, which has the other tables' hashes and is faster.
 use crate::{StoreForms, StorePairs, TableOver};
+pub use intaglio_content::{Packable, Packed, PackedForm, PackedKind, PackedOwned, Spelling};
 use intaglio_hash::FixedState;
-pub use intaglio_packed::{Packed, Spelling, Texts};
+pub use intaglio_text::StrKind;
 
+pub mod bstr;
 pub mod bytes;
+pub mod osstr;
+pub mod path;
 
 /// The texts of a table, in the order of their symbols.
-pub type Strings<'a> = StoreForms<'a, Texts>;
+pub type Strings<'a> = StoreForms<'a, Packed<StrKind>>;
 
 /// The symbols and texts of a table, in order.
-pub type Iter<'a> = StorePairs<'a, Texts>;
+pub type Iter<'a> = StorePairs<'a, Packed<StrKind>>;
 
 /// A table of distinct texts in one buffer, each with a [`Symbol`](crate::Symbol).
 /// Its calls are those of [`TableOver`].
@@ -27,4 +32,4 @@ pub type Iter<'a> = StorePairs<'a, Texts>;
 /// assert!(rt; table.get(symbol) == Some("abc"));
 /// assert!(rt; table.check_interned("abc") == Some(symbol));
 /// ```
-pub type SymbolTable<S = FixedState> = TableOver<Texts, S>;
+pub type SymbolTable<S = FixedState> = TableOver<Packed<StrKind>, S>;

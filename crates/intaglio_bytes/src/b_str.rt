@@ -1,4 +1,4 @@
 //! The byte strings of the crate `bstr`: bytes that are text by convention.
 mod content;
 
-pub use content::BStrContent;
+pub use content::{BStrContent, BStrKind};

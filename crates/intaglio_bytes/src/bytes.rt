@@ -1,4 +1,4 @@
 //! Plain bytes.
 mod content;
 
-pub use content::BytesContent;
+pub use content::{BytesContent, BytesKind};

@@ -3,9 +3,9 @@
 //! - [`Keyed`], [`Content`], [`Spelled`], [`Formed`], [`LookedUp`], [`Sought`], [`ToContent`]: contents and forms.
 //! - [`Store`], [`ByteStore`], [`SoughtIn`], [`AddedTo`], [`CopiedTo`], [`Lends`], [`LookedUpIn`], [`SpelledStore`]:
 //!   where contents are kept.
+//! - [`Packed`]: spellings of a [`PackedKind`] in one buffer.
 //! - [`Forms`], [`Pairs`], [`StoreForms`], [`StorePairs`]: iterators; [`Texts`] and the like mark the six kinds.
-//! - [`Work`] records, for contracts alone, what a call did.
-//! - [`Bytewise`], [`feed_item`]: for kinds that are compared by their bytes.
+//! - [`Work`]: what a call did, for contracts. [`Bytewise`], [`feed_item`]: kinds compared by bytes.
 #![tactic(auto)]
 
 mod bytewise;
@@ -13,8 +13,12 @@ mod content;
 mod feed;
 mod forms;
 mod kinds;
+mod packed;
+mod packed_kind;
+mod packed_store;
 mod pairs;
 mod same;
+mod spelling;
 mod store;
 mod store_forms;
 mod vec_store;
@@ -25,8 +29,11 @@ pub use content::{Content, Formed, Keyed, LookedUp, Sought, Spelled, ToContent};
 pub use feed::feed_item;
 pub use forms::Forms;
 pub use kinds::{BStrings, Bytestrings, CStrings, OsStrings, Paths, Texts};
+pub use packed::Packed;
+pub use packed_kind::{Packable, PackedForm, PackedKind, PackedOwned};
 pub use pairs::Pairs;
 pub use same::same_bytes;
+pub use spelling::Spelling;
 pub use store::{
     AddedTo, ByteStore, Copied, CopiedTo, Lends, LookedUpIn, Moved, SoughtIn, SpelledStore, Store,
 };

@@ -2,7 +2,6 @@
 use Rattle.std.proofs.Common.{sym, ◌≡◌, ℕ, ◌+◌, ◌-◌, ◌<◌, ◌≤◌, suc, zero, List, [], ◌∷◌, ◌++◌, length, take, drop, get_or, slice_get, slice_range, Some, refl, ap, ◌∙◌, arith, length-drop, take_all, length-take-le, sum_by}
 use Rattle.std.proofs.lemmas.List.{drop_all, take-append-le, drop-append-le, drop-take, take-take}
 use Rattle.std.proofs.lemmas.List.Sums.{sum_by-cons}
-use Rattle.intaglio_content.specs.Store.{byte_room}
 use Rattle.intaglio_packed.specs.Strings.{strings_from, AreEnds}
 
 -- the first end is within the bytes
@@ -95,7 +94,7 @@ sum-lengths at bytes (e ∷ es) h =
 
 -- the room for bytes in total is the buffer's capacity
 pub byte_room-is : (capacity : ℕ) (bytes es : List ℕ) → AreEnds 0 (length bytes) es → length bytes ≤ capacity
-    → byte_room length (strings_from 0 bytes es) (capacity - length bytes) ≡ capacity
+    → sum_by length (strings_from 0 bytes es) + (capacity - length bytes) ≡ capacity
 byte_room-is capacity bytes es h within = omega (arith, sum-lengths 0 bytes es h)
 
 -- with no strings there are no bytes

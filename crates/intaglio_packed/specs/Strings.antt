@@ -1,7 +1,5 @@
 -- What a contract sees of a list of strings in one buffer.
-use Rattle.std.specs.Prelude.{◌≡◌, ℕ, ◌<◌, ◌≤◌, List, [], ◌∷◌, length, refl, slice_range}
-use Rattle.intaglio_content.specs.Key.{Key}
-use Rattle.intaglio_content.specs.Store.{byte_room}
+use Rattle.std.specs.Prelude.{◌≡◌, ℕ, ◌+◌, ◌<◌, ◌≤◌, List, [], ◌∷◌, length, refl, slice_range, sum_by}
 use Rattle.std.specs.Coded.{Coded, code_by, coded×, coded_ℕ, coded_list}
 
 -- the strings, for how many there is room in total, and the room for further bytes
@@ -20,10 +18,6 @@ strings_code =
     (λ p. record { list = p.0; most = p.1.0; spare_bytes = p.1.1 })
     (λ _. refl)
 
--- the key of a string in a packed table: the string alone
-abbrev pub packed_key : List ℕ → Key
-packed_key w = w ∷ []
-
 -- the strings between a beginning and the ends, which follow each other in the bytes
 abbrev pub strings_from : ℕ → List ℕ → List ℕ → List (List ℕ)
 strings_from at bytes [] = []
@@ -39,12 +33,6 @@ pub record HasRoom (n : ℕ) (v : Strings) : Type 0 where
   pub string : length v.list < v.most
   pub bytes : n ≤ v.spare_bytes
 
--- the strings stay, and there is no less room
-pub record KeepsRoom (old new : Strings) : Type 0 where
-  pub list : new.list ≡ old.list
-  pub most : old.most ≤ new.most
-  pub spare_bytes : old.spare_bytes ≤ new.spare_bytes
-
 -- the room for bytes in total: that of the strings, and what is spare
 abbrev pub byte_room_of : Strings → ℕ
-byte_room_of v = byte_room length v.list v.spare_bytes
+byte_room_of v = sum_by length v.list + v.spare_bytes

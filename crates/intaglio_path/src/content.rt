@@ -1,14 +1,18 @@
 //! Paths as contents.
-ghost use Rattle.std.specs.Prelude.{◌≡◌, refl};
+ghost use Rattle.std.specs.Prelude.{◌≡◌, refl, IsUtf8};
 ghost use Rattle.intaglio_path.specs.Components.{components};
 ghost use Rattle.intaglio_path.specs.Path.{path_text};
 ghost use Rattle.intaglio_path.specs.PathContent.{path_content_bytes};
 ghost use Rattle.intaglio_path.specs.declared.content.PathContent.TheVariants.{Borrowed, Owned};
 
 use crate::path::Path;
-use intaglio_content::{Content, Formed, Keyed, LookedUp, Paths, Sought, Spelled, ToContent, Work};
+use intaglio_content::{
+    Content, Formed, Keyed, LookedUp, Packable, PackedForm, PackedKind, PackedOwned, Paths, Sought,
+    Spelled, ToContent, Work,
+};
 use std::alloc::{AllocError, Global};
 use std::hash::{BuildHasher, Hash, Hasher};
+use std::str;
 
 /// A path that a table stores. Its spelling is the UTF-8 bytes of its text, and its key is their components.
 ///
@@ -134,4 +138,66 @@ impl<'a> ToContent<PathContent> for Path<'a> {
     }
 
     ghost key_of_form = { λ _. refl };
+}
+
+/// The kind of paths that are packed.
+pub struct PathKind;
+
+impl PackedKind for PathKind {
+    ghost key_of = { components };
+
+    ghost is_spelling = { IsUtf8 };
+
+    fn feed_spelling<H: Hasher>(spelling: &[u8], hasher: &mut H) {
+        path_of(spelling).hash(hasher);
+    }
+
+    #[tactic(auto, using(crate::specs::Components::same_components_decides))]
+    fn same_spellings(a: &[u8], b: &[u8]) -> bool {
+        path_of(a) == path_of(b)
+    }
+}
+
+impl Packable<PathKind> for PathContent {
+    ghost packed_spelling = { path_content_bytes };
+
+    #[inline(always)]
+    fn packed_bytes(&self) -> &[u8] {
+        self.form().as_str().as_bytes()
+    }
+
+    ghost key_of_packed = { λ _. refl };
+}
+
+impl<'a> Packable<PathKind> for Path<'a> {
+    ghost packed_spelling = { path_text };
+
+    #[inline(always)]
+    fn packed_bytes(&self) -> &[u8] {
+        self.as_str().as_bytes()
+    }
+
+    ghost key_of_packed = { λ _. refl };
+}
+
+impl PackedOwned for PathKind {
+    type Owned = PathContent;
+}
+
+impl<'a> PackedForm<'a> for PathKind {
+    type Form = Path<'a>;
+
+    #[inline(always)]
+    fn form_of(spelling: &'a [u8]) -> Path<'a> {
+        path_of(spelling)
+    }
+}
+
+// The path whose text has these bytes.
+#[inline(always)]
+fn path_of(spelling: &[u8]) -> Path<'_>
+    requires { IsUtf8 spelling.now }
+    ensures { path_text result ≡ spelling.now }
+{
+    Path::new(unsafe { str::from_utf8_unchecked(spelling) })
 }

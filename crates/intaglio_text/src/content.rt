@@ -1,10 +1,15 @@
 //! Texts as contents.
-ghost use Rattle.std.specs.Prelude.{◌≡◌, [], ◌∷◌, refl};
+ghost use Rattle.std.specs.Prelude.{◌≡◌, [], ◌∷◌, refl, IsUtf8};
 ghost use Rattle.intaglio_text.specs.StrContent.{str_content_bytes};
 ghost use Rattle.intaglio_text.specs.declared.content.StrContent.TheVariants.{Borrowed, Owned};
 
-use intaglio_content::{Bytewise, Content, Formed, Keyed, LookedUp, Spelled, Texts, ToContent};
+use intaglio_content::{
+    Bytewise, Content, Formed, Keyed, LookedUp, Packable, PackedForm, PackedKind, PackedOwned,
+    Spelled, Texts, ToContent, feed_item, same_bytes,
+};
 use std::alloc::{AllocError, Global};
+use std::hash::Hasher;
+use std::str;
 
 /// A text that a table stores. Its spelling is its UTF-8 bytes, and its key is that one item.
 ///
@@ -98,4 +103,58 @@ impl ToContent<StrContent> for &str {
     }
 
     ghost key_of_form = { λ _. refl };
+}
+
+/// The kind of texts that are packed.
+pub struct StrKind;
+
+impl PackedKind for StrKind {
+    ghost key_of = { λ bytes. bytes ∷ [] };
+
+    ghost is_spelling = { IsUtf8 };
+
+    #[inline(always)]
+    fn feed_spelling<H: Hasher>(spelling: &[u8], hasher: &mut H) {
+        feed_item(spelling, hasher);
+    }
+
+    #[inline(always)]
+    fn same_spellings(a: &[u8], b: &[u8]) -> bool {
+        same_bytes(a, b)
+    }
+}
+
+impl Packable<StrKind> for StrContent {
+    ghost packed_spelling = { str_content_bytes };
+
+    #[inline(always)]
+    fn packed_bytes(&self) -> &[u8] {
+        self.form().as_bytes()
+    }
+
+    ghost key_of_packed = { λ _. refl };
+}
+
+impl Packable<StrKind> for &str {
+    ghost packed_spelling = { λ text. text.now };
+
+    #[inline(always)]
+    fn packed_bytes(&self) -> &[u8] {
+        self.as_bytes()
+    }
+
+    ghost key_of_packed = { λ _. refl };
+}
+
+impl PackedOwned for StrKind {
+    type Owned = StrContent;
+}
+
+impl<'a> PackedForm<'a> for StrKind {
+    type Form = &'a str;
+
+    #[inline(always)]
+    fn form_of(spelling: &'a [u8]) -> &'a str {
+        unsafe { str::from_utf8_unchecked(spelling) }
+    }
 }

@@ -2,9 +2,9 @@
 ghost use Rattle.std.specs.Prelude.{◌≡◌, ◌≤◌, length, map, sum_by, IsOk, OnErr, OnOk};
 ghost use Rattle.intaglio_core.specs.State.{IsValid};
 
-mod bytes;
+mod contents;
 mod making;
-mod texts;
+mod names;
 
 use super::TableOver;
 use intaglio_core::{ByteStore, Content};

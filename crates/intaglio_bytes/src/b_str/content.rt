@@ -1,12 +1,16 @@
 //! Byte strings of the crate `bstr` as contents.
-ghost use Rattle.std.specs.Prelude.{◌≡◌, [], ◌∷◌, refl};
+ghost use Rattle.std.specs.Prelude.{◌≡◌, [], ◌∷◌, refl, ⊤};
 ghost use Rattle.bstr.specs.BStr.{bstr_bytes};
 ghost use Rattle.intaglio_bytes.specs.BStrContent.{bstr_content_bytes};
 ghost use Rattle.intaglio_bytes.specs.declared.b_str.content.BStrContent.TheVariants.{Borrowed, Owned};
 
 use bstr::{BStr, BString};
-use intaglio_content::{BStrings, Bytewise, Content, Formed, Keyed, LookedUp, Spelled, ToContent};
+use intaglio_content::{
+    BStrings, Bytewise, Content, Formed, Keyed, LookedUp, Packable, PackedForm, PackedKind,
+    PackedOwned, Spelled, ToContent, feed_item, same_bytes,
+};
 use std::alloc::{AllocError, Global};
+use std::hash::Hasher;
 
 /// A byte string that a table stores. Its spelling is its bytes, and its key is that one item.
 ///
@@ -103,4 +107,58 @@ impl<'a> ToContent<BStrContent> for BStr<'a> {
     }
 
     ghost key_of_form = { λ _. refl };
+}
+
+/// The kind of byte strings that are packed.
+pub struct BStrKind;
+
+impl PackedKind for BStrKind {
+    ghost key_of = { λ bytes. bytes ∷ [] };
+
+    ghost is_spelling = { λ _. ⊤ };
+
+    #[inline(always)]
+    fn feed_spelling<H: Hasher>(spelling: &[u8], hasher: &mut H) {
+        feed_item(spelling, hasher);
+    }
+
+    #[inline(always)]
+    fn same_spellings(a: &[u8], b: &[u8]) -> bool {
+        same_bytes(a, b)
+    }
+}
+
+impl Packable<BStrKind> for BStrContent {
+    ghost packed_spelling = { bstr_content_bytes };
+
+    #[inline(always)]
+    fn packed_bytes(&self) -> &[u8] {
+        self.form().as_bytes()
+    }
+
+    ghost key_of_packed = { λ _. refl };
+}
+
+impl<'a> Packable<BStrKind> for BStr<'a> {
+    ghost packed_spelling = { bstr_bytes };
+
+    #[inline(always)]
+    fn packed_bytes(&self) -> &[u8] {
+        self.as_bytes()
+    }
+
+    ghost key_of_packed = { λ _. refl };
+}
+
+impl PackedOwned for BStrKind {
+    type Owned = BStrContent;
+}
+
+impl<'a> PackedForm<'a> for BStrKind {
+    type Form = BStr<'a>;
+
+    #[inline(always)]
+    fn form_of(spelling: &'a [u8]) -> BStr<'a> {
+        BStr::new(spelling)
+    }
 }

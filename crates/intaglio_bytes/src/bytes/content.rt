@@ -1,12 +1,14 @@
 //! Byte strings as contents.
-ghost use Rattle.std.specs.Prelude.{◌≡◌, [], ◌∷◌, refl};
+ghost use Rattle.std.specs.Prelude.{◌≡◌, [], ◌∷◌, refl, ⊤};
 ghost use Rattle.intaglio_bytes.specs.BytesContent.{bytes_content_bytes};
 ghost use Rattle.intaglio_bytes.specs.declared.bytes.content.BytesContent.TheVariants.{Borrowed, Owned};
 
 use intaglio_content::{
-    Bytestrings, Bytewise, Content, Formed, Keyed, LookedUp, Spelled, ToContent,
+    Bytestrings, Bytewise, Content, Formed, Keyed, LookedUp, Packable, PackedForm, PackedKind,
+    PackedOwned, Spelled, ToContent, feed_item, same_bytes,
 };
 use std::alloc::{AllocError, Global};
+use std::hash::Hasher;
 
 /// A byte string that a table stores. Its spelling is its bytes, and its key is that one item.
 ///
@@ -100,4 +102,58 @@ impl ToContent<BytesContent> for &[u8] {
     }
 
     ghost key_of_form = { λ _. refl };
+}
+
+/// The kind of byte strings that are packed.
+pub struct BytesKind;
+
+impl PackedKind for BytesKind {
+    ghost key_of = { λ bytes. bytes ∷ [] };
+
+    ghost is_spelling = { λ _. ⊤ };
+
+    #[inline(always)]
+    fn feed_spelling<H: Hasher>(spelling: &[u8], hasher: &mut H) {
+        feed_item(spelling, hasher);
+    }
+
+    #[inline(always)]
+    fn same_spellings(a: &[u8], b: &[u8]) -> bool {
+        same_bytes(a, b)
+    }
+}
+
+impl Packable<BytesKind> for BytesContent {
+    ghost packed_spelling = { bytes_content_bytes };
+
+    #[inline(always)]
+    fn packed_bytes(&self) -> &[u8] {
+        self.form()
+    }
+
+    ghost key_of_packed = { λ _. refl };
+}
+
+impl Packable<BytesKind> for &[u8] {
+    ghost packed_spelling = { λ bytes. bytes.now };
+
+    #[inline(always)]
+    fn packed_bytes(&self) -> &[u8] {
+        *self
+    }
+
+    ghost key_of_packed = { λ _. refl };
+}
+
+impl PackedOwned for BytesKind {
+    type Owned = BytesContent;
+}
+
+impl<'a> PackedForm<'a> for BytesKind {
+    type Form = &'a [u8];
+
+    #[inline(always)]
+    fn form_of(spelling: &'a [u8]) -> &'a [u8] {
+        spelling
+    }
 }

@@ -1,10 +1,15 @@
 //! Platform strings, which are UTF-8 texts here, as contents.
-ghost use Rattle.std.specs.Prelude.{◌≡◌, [], ◌∷◌, refl};
+ghost use Rattle.std.specs.Prelude.{◌≡◌, [], ◌∷◌, refl, IsUtf8};
 ghost use Rattle.intaglio_text.specs.OsStrContent.{os_str_content_bytes};
 ghost use Rattle.intaglio_text.specs.declared.osstr.content.OsStrContent.TheVariants.{Borrowed, Owned};
 
-use intaglio_content::{Bytewise, Content, Formed, Keyed, LookedUp, OsStrings, Spelled, ToContent};
+use intaglio_content::{
+    Bytewise, Content, Formed, Keyed, LookedUp, OsStrings, Packable, PackedForm, PackedKind,
+    PackedOwned, Spelled, ToContent, feed_item, same_bytes,
+};
 use std::alloc::{AllocError, Global};
+use std::hash::Hasher;
+use std::str;
 
 /// A platform string that a table stores: a UTF-8 text. Its spelling is its
 /// bytes, and its key is that one item.
@@ -99,4 +104,58 @@ impl ToContent<OsStrContent> for &str {
     }
 
     ghost key_of_form = { λ _. refl };
+}
+
+/// The kind of platform strings that are packed.
+pub struct OsStrKind;
+
+impl PackedKind for OsStrKind {
+    ghost key_of = { λ bytes. bytes ∷ [] };
+
+    ghost is_spelling = { IsUtf8 };
+
+    #[inline(always)]
+    fn feed_spelling<H: Hasher>(spelling: &[u8], hasher: &mut H) {
+        feed_item(spelling, hasher);
+    }
+
+    #[inline(always)]
+    fn same_spellings(a: &[u8], b: &[u8]) -> bool {
+        same_bytes(a, b)
+    }
+}
+
+impl Packable<OsStrKind> for OsStrContent {
+    ghost packed_spelling = { os_str_content_bytes };
+
+    #[inline(always)]
+    fn packed_bytes(&self) -> &[u8] {
+        self.form().as_bytes()
+    }
+
+    ghost key_of_packed = { λ _. refl };
+}
+
+impl Packable<OsStrKind> for &str {
+    ghost packed_spelling = { λ text. text.now };
+
+    #[inline(always)]
+    fn packed_bytes(&self) -> &[u8] {
+        self.as_bytes()
+    }
+
+    ghost key_of_packed = { λ _. refl };
+}
+
+impl PackedOwned for OsStrKind {
+    type Owned = OsStrContent;
+}
+
+impl<'a> PackedForm<'a> for OsStrKind {
+    type Form = &'a str;
+
+    #[inline(always)]
+    fn form_of(spelling: &'a [u8]) -> &'a str {
+        unsafe { str::from_utf8_unchecked(spelling) }
+    }
 }

@@ -1,0 +1,68 @@
+//! Owned contents that are interned into one buffer, and iterators over what is there.
+ghost use Rattle.std.specs.Prelude.{◌≡◌, ◌<◌, ◌≤◌, ◌^◌, length, IfOk, OnErr};
+ghost use Rattle.intaglio_core.specs.State.{pairs_of, IsValid};
+ghost use Rattle.intaglio_core.specs.Bytes.{InternsBytes};
+ghost use Rattle.intaglio_core.specs.Change.{InternsForm, IsNotMemory};
+ghost use Rattle.intaglio_core.specs.Lookup.{FindsOthers, IsFound, IsStored, Keeps};
+
+use crate::table::TableOver;
+use intaglio_content::{Packed, PackedForm, PackedOwned};
+use intaglio_core::{InternError, StorePairs, Symbol, Work};
+use std::hash::BuildHasher;
+
+impl<K: PackedOwned, S: BuildHasher> TableOver<Packed<K>, S> {
+    /// Interns the content: returns the symbol of an equal one, or else copies it into the buffer. Then it is
+    /// dropped. [`get_or_intern`](TableOver::get_or_intern) does the same with a borrowed one.
+    ///
+    /// # Errors
+    ///
+    /// Those of [`get_or_intern`](TableOver::get_or_intern).
+    pub fn intern(&mut self, content: K::Owned) -> Result<Symbol, InternError>
+        ensures step { let interns = InternsForm K.key_of (λ w. w) self.old.state (K.Owned.key content) in
+            interns (K.Owned.packed_spelling content) result self.new.state }
+        ensures found { IfOk result (IsFound K.key_of self.new.state (K.Owned.key content)) }
+        ensures stored { IfOk result (IsStored K.key_of self.new.state (K.Owned.key content)) }
+        ensures kept { Keeps K.key_of self.old.state self.new.state }
+        ensures others { FindsOthers K.key_of self.old.state (K.Owned.key content) self.new.state }
+        ensures refused { OnErr result (self.new.state.contents ≡ self.old.state.contents) }
+        ensures bytes { let interns = InternsBytes length K.key_of (length (K.Owned.packed_spelling content)) in
+            interns (K.Owned.key content) self.old.state self.old.spare_bytes result self.new.state self.new.spare_bytes }
+        ensures none_needed { 0 < self.old.state.spare → length (K.Owned.packed_spelling content) ≤ self.old.spare_bytes →
+            IsNotMemory result }
+        ensures hasher { self.new.hasher ≡ self.old.hasher }
+        ensures valid { IsValid K.key_of self.new.state }
+    {
+        self.core.get_or_intern(content, &mut Work::new())
+    }
+}
+
+impl<'a, K: PackedForm<'a>, S: BuildHasher> TableOver<Packed<K>, S> {
+    /// All symbols with their contents, in order.
+    ///
+    /// ```
+    /// # use intaglio::packed::SymbolTable;
+    /// # let mut table = SymbolTable::new(rt.alloc())?;
+    /// # let _symbol = table.get_or_intern("abc")?;
+    /// for (symbol, text) in table.iter() {
+    ///     assert!(rt; table.get(symbol) == Some(text));
+    /// }
+    /// ```
+    pub fn iter(&'a self) -> StorePairs<'a, Packed<K>>
+        ensures all { result ≡ pairs_of (λ w. w) self.now.state }
+        ensures bound { length result ≤ 2 ^ 32 }
+    {
+        StorePairs::of(self.core.store())
+    }
+}
+
+impl<'a, K: PackedForm<'a>, S: BuildHasher> IntoIterator for &'a TableOver<Packed<K>, S> {
+    type Item = (Symbol, K::Form);
+
+    type IntoIter = StorePairs<'a, Packed<K>>;
+
+    ghost into_iter_gives = { λ table pairs. pairs ≡ pairs_of (λ w. w) table.now.state };
+
+    fn into_iter(self) -> StorePairs<'a, Packed<K>> {
+        self.iter()
+    }
+}

@@ -1,0 +1,243 @@
+//! A list of strings in one buffer of bytes, with a list of their ends.
+ghost use Rattle.std.specs.Prelude.{◌≡◌, ◌+◌, ◌<◌, ◌≤◌, [], ◌∷◌, ◌++◌, length, max, min, sum_by, take, slice_get, slice_range, get_or, Some};
+ghost use Rattle.std.specs.Prelude.{IfOk, IsOk, OnOk, OnErr, option_copied};
+ghost use Rattle.intaglio_packed.specs.Strings.{byte_room_of, HasRoom};
+
+use crate::end_list::StringEnds;
+use std::alloc::{AllocError, Global};
+use std::marker::Model;
+
+// The most bytes that short ends reach.
+const SHORT_BYTES: usize = u32::MAX as usize;
+
+/// A list of strings of bytes. All bytes are in one buffer, so a string costs no allocation of its own.
+///
+/// A contract sees the list of the strings, and the room for further strings and for further bytes.
+#[derive(Drop)]
+pub struct StringBuffer {
+    bytes: Vec<u8>,
+    ends: StringEnds,
+}
+
+impl Model for StringBuffer {
+    ghost use Rattle.std.specs.Prelude.{◌-◌, ◌≤◌, length, min, vec_capacity};
+    ghost use Rattle.intaglio_packed.specs.Strings.{Strings, strings_code, strings_from, AreEnds};
+
+    ghost Value = { Strings };
+
+    ghost coded = { strings_code };
+
+    ghost view = { λ p. record {
+      list = strings_from 0 p.bytes.items p.ends.list;
+      most = p.ends.most;
+      spare_bytes = min (vec_capacity p.bytes) p.ends.largest - length p.bytes.items;
+    } };
+
+    ghost invariant = { λ p.
+        AreEnds 0 (length p.bytes.items) p.ends.list × (length p.bytes.items ≤ p.ends.largest) };
+}
+
+#[tactic(auto, using(crate::proofs::Ends::strings_length))]
+impl StringBuffer {
+    /// An empty list, which allocates nothing.
+    pub fn new(alloc: Global) -> StringBuffer
+        ensures { result ≡ record { list = []; most = 0; spare_bytes = 0 } }
+    {
+        StringBuffer {
+            bytes: Vec::new(alloc),
+            ends: StringEnds::new(alloc),
+        }
+    }
+
+    /// An empty list with room for this many strings of this many bytes together. Where a number is 0,
+    /// nothing is allocated for it.
+    ///
+    /// # Errors
+    ///
+    /// [`AllocError`] if an allocation fails.
+    pub fn with_capacity(
+        alloc: Global,
+        strings: usize,
+        bytes: usize,
+    ) -> Result<StringBuffer, AllocError>
+        ensures made { IfOk result (λ p. p ≡ record { list = []; most = strings; spare_bytes = bytes }) }
+        ensures none_needed { strings ≡ 0 → bytes ≡ 0 → IsOk result }
+    {
+        let ends = StringEnds::with_capacity(alloc, strings, bytes > SHORT_BYTES)?;
+        let bytes = Vec::with_capacity(alloc, bytes)?;
+        Ok(StringBuffer { bytes, ends })
+    }
+
+    /// The allocator of the list.
+    pub fn alloc(&self) -> Global {
+        *self.bytes.allocator()
+    }
+
+    /// The number of strings.
+    pub fn len(&self) -> usize
+        ensures { result ≡ length self.now.list }
+    {
+        self.ends.len()
+    }
+
+    /// How many strings there is room for in total.
+    pub fn capacity(&self) -> usize
+        ensures room { result ≡ self.now.most }
+        ensures within { length self.now.list ≤ result }
+    {
+        self.ends.capacity()
+    }
+
+    /// The number of bytes of all strings together.
+    pub fn byte_count(&self) -> usize
+        ensures { result ≡ sum_by length self.now.list }
+    {
+        self.bytes.len()
+    }
+
+    /// A string.
+    pub fn get(&self, i: usize) -> Option<&[u8]>
+        ensures { option_copied result ≡ slice_get self.now.list i }
+    {
+        if i < self.ends.len() {
+            Some(self.string(i))
+        } else {
+            None
+        }
+    }
+
+    /// A string that is there.
+    #[inline(always)]
+    pub fn string(&self, i: usize) -> &[u8]
+        requires { i < length self.now.list }
+        ensures { slice_get self.now.list i ≡ Some result.now }
+    {
+        // Read before the choice in `start`: the compiler then makes a shorter loop of many calls.
+        let end = self.ends.end(i);
+        let start = self.ends.start(i);
+        part(&self.bytes, start, end)
+    }
+
+    /// Makes room for this many more bytes.
+    ///
+    /// # Errors
+    ///
+    /// [`AllocError`] if the allocation fails. Then nothing has changed.
+    pub fn reserve_bytes(&mut self, bytes: usize) -> Result<(), AllocError>
+        ensures list { self.new.list ≡ self.old.list }
+        ensures most { self.new.most ≡ self.old.most }
+        ensures spare_bytes { self.old.spare_bytes ≤ self.new.spare_bytes }
+        ensures bytes { OnOk result (bytes ≤ self.new.spare_bytes) }
+        ensures err { OnErr result (self.new.spare_bytes ≡ self.old.spare_bytes) }
+        ensures none_needed { bytes ≤ self.old.spare_bytes → IsOk result }
+    {
+        if bytes <= self.ends.largest() - self.bytes.len() {
+            return self.bytes.reserve(bytes);
+        }
+        self.reserve_with_long_ends(bytes)
+    }
+
+    // Makes room for more bytes than the ends can reach. Apart from `reserve_bytes`, so that that is short.
+    #[inline(never)]
+    fn reserve_with_long_ends(&mut self, bytes: usize) -> Result<(), AllocError>
+        requires { self.old.spare_bytes < bytes }
+        ensures list { self.new.list ≡ self.old.list }
+        ensures most { self.new.most ≡ self.old.most }
+        ensures bytes { OnOk result (bytes ≤ self.new.spare_bytes) }
+        ensures err { OnErr result (self.new.spare_bytes ≡ self.old.spare_bytes) }
+    {
+        let long = self.ends.to_long(*self.bytes.allocator())?;
+        self.bytes.reserve(bytes)?;
+        self.ends = long;
+        Ok(())
+    }
+
+    /// Makes room for this many more strings, not for their bytes.
+    ///
+    /// # Errors
+    ///
+    /// [`AllocError`] if the allocation fails. Then nothing has changed.
+    pub fn reserve_strings(&mut self, strings: usize) -> Result<(), AllocError>
+        ensures list { self.new.list ≡ self.old.list }
+        ensures most { self.old.most ≤ self.new.most }
+        ensures spare_bytes { self.new.spare_bytes ≡ self.old.spare_bytes }
+        ensures strings { OnOk result (length self.new.list + strings ≤ self.new.most) }
+        ensures err { OnErr result (self.new.most ≡ self.old.most) }
+        ensures none_needed { length self.old.list + strings ≤ self.old.most → IsOk result }
+    {
+        self.ends.reserve(strings)
+    }
+
+    /// Adds a string, for which there is room.
+    pub fn push_reserved(&mut self, string: &[u8])
+        requires { HasRoom (length string.now) self.old }
+        ensures list { self.new.list ≡ self.old.list ++ string.now ∷ [] }
+        ensures most { self.new.most ≡ self.old.most }
+        ensures spare_bytes { self.old.spare_bytes ≤ self.new.spare_bytes + length string.now }
+    {
+        self.bytes.extend_from_slice(string).unwrap();
+        self.ends.push_reserved(self.bytes.len());
+    }
+
+    /// Drops all strings but the first `n`.
+    pub fn truncate(&mut self, n: usize)
+        ensures list { self.new.list ≡ take n self.old.list }
+        ensures most { self.new.most ≡ self.old.most }
+        ensures spare_bytes { self.old.spare_bytes ≤ self.new.spare_bytes }
+        ensures byte_room { byte_room_of self.new ≡ byte_room_of self.old }
+    {
+        if n < self.ends.len() {
+            let end = self.ends.start(n);
+            self.bytes.truncate(end);
+            self.ends.truncate(n);
+        }
+    }
+
+    /// Shrinks the room to `min_capacity` strings, or to those that there are if they are more, and the room for
+    /// bytes to those that there are.
+    ///
+    /// # Errors
+    ///
+    /// [`AllocError`] if an allocation fails. Then there is more room left, as before at most.
+    pub fn shrink_to(&mut self, min_capacity: usize) -> Result<(), AllocError>
+        ensures list { self.new.list ≡ self.old.list }
+        ensures most { min min_capacity self.old.most ≤ self.new.most }
+        ensures no_more { self.new.most ≤ self.old.most }
+        ensures no_more_bytes { self.new.spare_bytes ≤ self.old.spare_bytes }
+        ensures shrunk { OnOk result (self.new.most ≤ max (length self.old.list) min_capacity) }
+        ensures shrunk_bytes { OnOk result (self.new.spare_bytes ≡ 0) }
+        ensures frees { length self.old.list ≡ 0 → min_capacity ≡ 0 → self.new.most ≡ 0 }
+        ensures frees_bytes { length self.old.list ≡ 0 → self.new.spare_bytes ≡ 0 }
+    {
+        self.bytes.shrink_to_fit();
+        self.ends.shrink_to(min_capacity);
+        // Std's shrinks don't report a failed allocation.
+        let exact = self.bytes.capacity() == self.bytes.len();
+        if exact && self.ends.capacity() <= self.ends.len().max(min_capacity) {
+            Ok(())
+        } else {
+            Err(AllocError)
+        }
+    }
+
+    /// Drops all strings.
+    pub fn clear(&mut self)
+        ensures list { self.new.list ≡ [] }
+        ensures most { self.new.most ≡ self.old.most }
+        ensures spare_bytes { self.old.spare_bytes ≤ self.new.spare_bytes }
+        ensures byte_room { self.new.spare_bytes ≡ byte_room_of self.old }
+    {
+        self.bytes.clear();
+        self.ends.truncate(0);
+    }
+}
+
+// A part of the bytes.
+#[inline(always)]
+fn part(bytes: &[u8], start: usize, end: usize) -> &[u8]
+    requires order { start ≤ end }
+    requires within { end ≤ length bytes.now }
+    ensures { result.now ≡ slice_range bytes.now start end }
+{
+    &bytes[start..end]
+}
