@@ -6,24 +6,23 @@ ghost use Rattle.intaglio_core.specs.Lookup.{Keeps};
 ghost use Rattle.intaglio_columns.specs.Columns.{AreAccepted, AreKeys, IsMap};
 
 use crate::from_string::FromString;
-use intaglio_core::{Content, FormInterner, InternError, Store, Symbol, Work, get_or_intern_all};
+use intaglio_core::{
+    Content, FormInterner, GROUP, InternError, Store, Symbol, Work, get_or_intern_all,
+};
 use intaglio_frozen::StringList;
 use std::alloc::{AllocError, Global};
-
-// How many strings are interned as a batch, so that the cache misses of their look-ups overlap.
-const GROUP: usize = 64;
 
 /// Interns all strings of a list, such as a frozen table, all or none, and returns the symbol of each: the map by
 /// which codes of the list become codes of the table.
 ///
 /// Earlier symbols keep their strings, and what is new comes in the list's order. The strings are read where they
-/// are, and only new ones are copied. It allocates the list of symbols, and for each group of 64 strings some
-/// lists of this length.
+/// are, and only new ones are copied. It allocates the list of symbols, and for each group of [`GROUP`] strings a list
+/// of their forms and one of their symbols.
 ///
 /// # Errors
 ///
 /// `Overflow` if the table can't hold them all, `Memory` if an allocation fails. Then the contents of the table are
-/// unchanged, and its capacity isn't lower.
+/// unchanged, and its capacity isn't lower. How much room for bytes is left, also after a success, no clause says.
 pub fn absorb<'s, L: StringList, T: FormInterner>(
     alloc: Global,
     table: &mut T,

@@ -1,11 +1,10 @@
 //! Strings of a list as forms that are interned.
-ghost use Rattle.std.specs.Prelude.{◌≡◌, List, ℕ, IsTrue, IsUtf8};
+ghost use Rattle.std.specs.Prelude.{◌≡◌, ◌↔◌, List, ℕ, IsTrue, IsUtf8};
 ghost use Rattle.intaglio_frozen.specs.IsFrozen.{AreTexts};
 
 use intaglio_bytes::bytes::BytesContent;
-use intaglio_content::{Content, CopiedTo, Store};
+use intaglio_content::{Content, CopiedTo, Packed, PackedForm, Spelling, Store};
 use intaglio_frozen::StringList;
-use intaglio_packed::{Packed, Spelling, Texts};
 use intaglio_text::StrContent;
 use std::str;
 
@@ -26,23 +25,13 @@ where
         ensures { Self.Form.form_spelling result ≡ string.now };
 }
 
-impl<'s> FromString<'s, Packed> for Spelling {
-    type Form = &'s [u8];
+impl<'s, K: PackedForm<'s>> FromString<'s, Packed<K>> for Spelling<K> {
+    type Form = K::Form;
 
-    ghost accepts = { λ _. Unit {0} };
+    ghost accepts = { λ string. K.is_spelling string };
 
-    fn from_string(string: &'s [u8]) -> &'s [u8] {
-        string
-    }
-}
-
-impl<'s> FromString<'s, Texts> for Spelling {
-    type Form = &'s str;
-
-    ghost accepts = { IsUtf8 };
-
-    fn from_string(string: &'s [u8]) -> &'s str {
-        str::from_utf8(string).unwrap()
+    fn from_string(string: &'s [u8]) -> K::Form {
+        K::form_of(string)
     }
 }
 
@@ -68,7 +57,7 @@ impl<'s> FromString<'s, Vec<StrContent>> for StrContent {
 
 /// Whether each string of a list is UTF-8, so that a table of texts can [`absorb`](crate::absorb) them.
 pub fn are_texts<L: StringList>(list: &L) -> bool
-    ensures { IsTrue result → AreTexts (L.strings list.now) }
+    ensures { IsTrue result ↔ AreTexts (L.strings list.now) }
 {
     for i in 0..list.len() {
         if let Err(_) = str::from_utf8(list.string(i)) {

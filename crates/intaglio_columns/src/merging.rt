@@ -5,8 +5,9 @@ ghost use Rattle.intaglio_columns.specs.Columns.{AreMaps, union};
 
 use crate::absorbing::absorb;
 use intaglio::TableOver;
+use intaglio_bytes::bytes::BytesKind;
+use intaglio_content::Packed;
 use intaglio_frozen::StringList;
-use intaglio_packed::Packed;
 use intaglio_symbol::{InternError, Symbol};
 use std::alloc::Global;
 use std::hash::BuildHasher;
@@ -18,7 +19,7 @@ const SYMBOLS: usize = 1 << 32;
 #[derive(Drop)]
 pub struct Merged<S: BuildHasher> {
     /// The distinct strings of all lists, in the order of their first occurrences. A table can be frozen.
-    pub table: TableOver<Packed, S>,
+    pub table: TableOver<Packed<BytesKind>, S>,
     /// For each list the symbols of its strings in the table: the map by which its codes are renumbered.
     pub maps: Vec<Vec<Symbol>>,
 }

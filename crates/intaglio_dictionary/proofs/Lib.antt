@@ -1,4 +1,5 @@
 pub mod Listed
+pub mod Grouped
 pub mod Below
 pub mod Found
 pub mod Translated

@@ -9,7 +9,7 @@ use Rattle.intaglio_lines.proofs.Appended.{Appends-append}
 
 module _ {X : Type 0} (xs : List X) (n : ℕ) (x : X) (at : slice_get xs n ≡ Some x) where
   -- the items so far, and the next one
-  next : take (n + 1) xs ≡ take n xs ++ x ∷ []
+  pub next : take (n + 1) xs ≡ take n xs ++ x ∷ []
   next = (take_at_read xs n x (slice_get_within xs n x at)).1 ∙ ap (λ t. take n xs ++ t ∷ []) (get_or_from_slice_get xs n x x at)
 
   pub fold-next : {B : Type 0} (f : B → X → B) (a : B) → fold f a (take (n + 1) xs) ≡ f (fold f a (take n xs)) x

@@ -5,7 +5,7 @@ use Rattle.std.specs.Io.KnownBytes.{Appends, Consumes, IsAtEnd, Keeps, append_kn
 use Rattle.std.proofs.lemmas.Grind.{flat_map-append}
 use Rattle.std.proofs.lemmas.List.Elements.{All-nil, All-cons, All-append}
 use Rattle.intaglio_lines.proofs.Appended.{Appends-append}
-use Rattle.intaglio_dictionary.specs.Translation.{AllFit, HasTranslated, IsFailure, IsSplit, ReadsMore, ReportsMisfit, ReportsPiece, StartsWith, count_of, last_piece}
+use Rattle.intaglio_dictionary.specs.Translation.{AllFit, HasTranslated, IsFailure, IsSplit, ReadsMore, ReportsAmong, ReportsMisfit, ReportsPiece, StartsWith, count_of, last_piece}
 use Rattle.intaglio_dictionary.specs.declared.translate.TranslateError.{TranslateError}
 use Rattle.intaglio_dictionary.specs.declared.translate.TranslateError.TheVariants.{Misfit, Stream}
 
@@ -22,12 +22,12 @@ module _ (pieces : List ℕ → List (List ℕ)) where
   split-read (Some input) (Some rest) (Some more) front bytes read takes split =
       split ∙ ap (λ t. front ++ pieces (bytes ++ t)) takes ∙ ap (λ t. front ++ pieces t) (sym (append_assoc bytes read more))
 
-  split-next : (input left : Option (List ℕ)) (front : List (List ℕ)) (bytes piece rest : List ℕ) → StartsWith pieces bytes (piece ∷ []) rest → IsSplit pieces input front bytes left
-      → IsSplit pieces input (front ++ piece ∷ []) rest left
-  split-next None left front bytes piece rest first split = tt
-  split-next (Some input) None front bytes piece rest first split = absurd split
-  split-next (Some input) (Some left) front bytes piece rest first split =
-      split ∙ ap (λ t. front ++ t) (first left) ∙ sym (append_assoc front (piece ∷ []) (pieces (rest ++ left)))
+  split-next : (input left : Option (List ℕ)) (front : List (List ℕ)) (bytes : List ℕ) (ps : List (List ℕ)) (rest : List ℕ) → StartsWith pieces bytes ps rest → IsSplit pieces input front bytes left
+      → IsSplit pieces input (front ++ ps) rest left
+  split-next None left front bytes ps rest first split = tt
+  split-next (Some input) None front bytes ps rest first split = absurd split
+  split-next (Some input) (Some left) front bytes ps rest first split =
+      split ∙ ap (λ t. front ++ t) (first left) ∙ sym (append_assoc front ps (pieces (rest ++ left)))
 
   -- where nothing is left, the bytes have the last pieces
   split-end : (input left : Option (List ℕ)) (front : List (List ℕ)) (bytes : List ℕ) → IsAtEnd left → IsSplit pieces input front bytes left
@@ -70,27 +70,40 @@ module _ (pieces : List ℕ → List (List ℕ)) where
     reads-more input old new left later before after count reads done =
         subst (λ t. Done input old new t later count) (sym reads.1) (read-more input old new left later before reads.0 count reads.2 done)
 
-    -- a piece more is translated, behind which the rest is
-    behind : (input old mid new left : Option (List ℕ)) (front : List (List ℕ)) (piece rest : List ℕ) (number count : ℕ) → IsSplit pieces input (front ++ piece ∷ []) rest left
+    -- pieces more are translated, behind which the rest is
+    behind : (input old mid new left : Option (List ℕ)) (front ps : List (List ℕ)) (rest : List ℕ) (number count : ℕ) → IsSplit pieces input (front ++ ps) rest left
         → AllFit fits front → Appends old mid (flat_map translated front) → number ≡ count_of front
-        → fits piece ≡ true → Appends mid new (translated piece) → count ≡ min (number + 1) (2 ^ 64 - 1) → Done input old new rest left count
-    behind input old mid new left front piece rest number count split fit put at fits-piece more next = record {
-      front = front ++ piece ∷ [];
+        → AllFit fits ps → Appends mid new (flat_map translated ps) → count ≡ min (number + length ps) (2 ^ 64 - 1) → Done input old new rest left count
+    behind input old mid new left front ps rest number count split fit put at fits-ps more next = record {
+      front = front ++ ps;
       split = split;
-      fit = All-append (λ x. fits x ≡ true) front (piece ∷ []) fit (All-cons (λ x. fits x ≡ true) piece [] fits-piece (All-nil (λ x. fits x ≡ true)));
-      put = rw (flat_map-append translated front (piece ∷ []), append-nil (translated piece)) (Appends-append old mid new (flat_map translated front) (translated piece) put more);
-      counted = omega (arith, next, at, length-append front (piece ∷ []));
+      fit = All-append (λ x. fits x ≡ true) front ps fit fits-ps;
+      put = rw (flat_map-append translated front ps) (Appends-append old mid new (flat_map translated front) (flat_map translated ps) put more);
+      counted = omega (arith, next, at, length-append front ps);
     }
+
+    -- of one piece
+    one-fit : (piece : List ℕ) → fits piece ≡ true → AllFit fits (piece ∷ [])
+    one-fit piece fit = All-cons (λ x. fits x ≡ true) piece [] fit (All-nil (λ x. fits x ≡ true))
+
+    one-put : (mid new : Option (List ℕ)) (piece : List ℕ) → Appends mid new (translated piece) → Appends mid new (flat_map translated (piece ∷ []))
+    one-put mid new piece more = rw (append-nil (translated piece)) more
+
+    pub group-translated : (input old mid new left : Option (List ℕ)) (bytes : List ℕ) (ps : List (List ℕ)) (rest : List ℕ) (number count : ℕ) → StartsWith pieces bytes ps rest
+        → AllFit fits ps → Appends mid new (flat_map translated ps) → count ≡ min (number + length ps) (2 ^ 64 - 1) → Done input old mid bytes left number → Done input old new rest left count
+    group-translated input old mid new left bytes ps rest number count first fit more next done =
+        behind input old mid new left done.front ps rest number count (split-next input left done.front bytes ps rest first done.split) done.fit done.put done.counted fit more next
 
     pub next-translated : (input old mid new left : Option (List ℕ)) (bytes piece rest : List ℕ) (number count : ℕ) → StartsWith pieces bytes (piece ∷ []) rest
         → fits piece ≡ true → Appends mid new (translated piece) → count ≡ min (number + 1) (2 ^ 64 - 1) → Done input old mid bytes left number → Done input old new rest left count
     next-translated input old mid new left bytes piece rest number count first fit more next done =
-        behind input old mid new left done.front piece rest number count (split-next input left done.front bytes piece rest first done.split) done.fit done.put done.counted fit more next
+        group-translated input old mid new left bytes (piece ∷ []) rest number count first (one-fit piece fit) (one-put mid new piece more) next done
 
     pub last-translated : (input old mid new left : Option (List ℕ)) (piece : List ℕ) (number count : ℕ) → pieces [] ≡ [] → pieces piece ≡ piece ∷ [] → IsAtEnd left
         → fits piece ≡ true → Appends mid new (translated piece) → count ≡ min (number + 1) (2 ^ 64 - 1) → Done input old mid piece left number → Done input old new [] left count
     last-translated input old mid new left piece number count none one end fit more next done =
-        behind input old mid new left done.front piece [] number count (split-last input left done.front piece none one end done.split) done.fit done.put done.counted fit more next
+        behind input old mid new left done.front (piece ∷ []) [] number count (split-last input left done.front piece none one end done.split) done.fit done.put done.counted
+        (one-fit piece fit) (one-put mid new piece more) next
 
     -- a piece that can't be translated is the first
     misfit-at : (input : Option (List ℕ)) (front : List (List ℕ)) (piece : List ℕ) (number : ℕ) (e : TranslateError) → AllFit fits front → number ≡ count_of front → ReportsPiece fits e piece number
@@ -123,6 +136,20 @@ module _ (pieces : List ℕ → List (List ℕ)) where
         → ReportsPiece fits e piece number → Done input old mid bytes left number → IfSome input (λ input. ReportsMisfit fits e (pieces input))
     next-misfit input old mid left bytes piece rest number e first reports done =
         misfit-at input done.front piece number e done.fit done.counted reports (parts-next input left done.front bytes piece rest first done.split)
+
+    -- the first of some pieces that can't be translated, whatever pieces fit before these and follow them
+    among-others : (input left : Option (List ℕ)) (front : List (List ℕ)) (bytes : List ℕ) (ps : List (List ℕ)) (rest : List ℕ) (e : TranslateError) → StartsWith pieces bytes ps rest
+        → IsSplit pieces input front bytes left → ((more : List (List ℕ)) → ReportsMisfit fits e (front ++ (ps ++ more))) → IfSome input (λ input. ReportsMisfit fits e (pieces input))
+    among-others None left front bytes ps rest e first split reports = tt
+    among-others (Some input) None front bytes ps rest e first split reports = absurd split
+    among-others (Some input) (Some left) front bytes ps rest e first split reports =
+        let parts : pieces input ≡ front ++ (ps ++ pieces (rest ++ left)) = split ∙ ap (λ t. front ++ t) (first left) in
+        subst (ReportsMisfit fits e) (sym parts) (reports (pieces (rest ++ left)))
+
+    pub group-misfit : (input old mid left : Option (List ℕ)) (bytes : List ℕ) (ps : List (List ℕ)) (rest : List ℕ) (number : ℕ) (e : TranslateError) → StartsWith pieces bytes ps rest
+        → ReportsAmong fits e ps number → Done input old mid bytes left number → IfSome input (λ input. ReportsMisfit fits e (pieces input))
+    group-misfit input old mid left bytes ps rest number e first reports done =
+        among-others input left done.front bytes ps rest e first done.split (λ more. reports done.front more done.fit done.counted)
 
     parts-last : (input : Option (List ℕ)) (front : List (List ℕ)) (piece : List ℕ) → pieces piece ≡ piece ∷ [] → IfSome input (λ input. pieces input ≡ front ++ pieces piece)
         → IfSome input (λ input. (after : List (List ℕ)) × (pieces input ≡ front ++ piece ∷ after))

@@ -37,9 +37,12 @@ has_code strings with_missing line = with_missing || is_some (position_in string
 abbrev pub code_in : List (List ℕ) → List ℕ → ℕ
 code_in strings line = unwrap_or (position_in strings line) missing
 
--- the codes of the lines of an input
+-- the code of a line, in bytes, and those of the lines of an input
+abbrev pub encoded_line : List (List ℕ) → List ℕ → List ℕ
+encoded_line strings line = code_bytes (code_in strings line)
+
 abbrev pub encoded_column : List (List ℕ) → List ℕ → List ℕ
-encoded_column strings input = flat_map (λ line. code_bytes (code_in strings line)) (lines_of input)
+encoded_column strings input = flat_map (encoded_line strings) (lines_of input)
 
 -- whether four bytes are the code of a string, or the missing code where that has a text
 abbrev pub has_string : List (List ℕ) → Option (List ℕ) → List ℕ → Bool

@@ -1,5 +1,5 @@
 -- An input that is translated piece by piece.
-use Rattle.std.specs.Prelude.{◌≡◌, ℕ, ◌-◌, ◌^◌, min, Bool, true, false, List, [], ◌∷◌, ◌++◌, length, Option, None, Some, All}
+use Rattle.std.specs.Prelude.{◌≡◌, ℕ, ◌-◌, ◌^◌, min, Bool, true, false, List, [], ◌∷◌, ◌++◌, length, Option, None, Some, IfSome, All}
 use Rattle.std.specs.List.{flat_map}
 use Rattle.std.specs.Io.KnownBytes.{Appends, Consumes}
 use Rattle.intaglio_dictionary.specs.declared.translate.TranslateError.{TranslateError}
@@ -68,3 +68,18 @@ pub record HasTranslated (pieces : List ℕ → List (List ℕ)) (fits : List �
   pub fit : AllFit fits front
   pub put : Appends old new (flat_map translated front)
   pub counted : count ≡ count_of front
+
+module _ (pieces : List ℕ → List (List ℕ)) (fits : List ℕ → Bool) (translated : List ℕ → List ℕ) where
+  -- whatever came before: these bytes were translated up to a rest
+  abbrev pub GoesOn : Option (List ℕ) → List ℕ → ℕ → Option (List ℕ) → List ℕ → ℕ → Type 0
+  GoesOn mid bytes number new rest count = (input old left : Option (List ℕ)) → HasTranslated pieces fits translated input old mid bytes left number
+      → HasTranslated pieces fits translated input old new rest left count
+
+  -- whatever came before: these bytes have the piece that is reported
+  abbrev pub StopsIn : Option (List ℕ) → List ℕ → ℕ → TranslateError → Type 0
+  StopsIn mid bytes number e = (input old left : Option (List ℕ)) → HasTranslated pieces fits translated input old mid bytes left number
+      → IfSome input (λ input. ReportsMisfit fits e (pieces input))
+
+-- whatever pieces fit before these and follow them: the error reports the first that can't be translated
+abbrev pub ReportsAmong : (List ℕ → Bool) → TranslateError → List (List ℕ) → ℕ → Type 0
+ReportsAmong fits e xs number = (front more : List (List ℕ)) → AllFit fits front → number ≡ count_of front → ReportsMisfit fits e (front ++ (xs ++ more))

@@ -1,57 +1,23 @@
 //! Columns in files: encodes lines, decodes codes, and renumbers them.
-ghost use Rattle.std.specs.Prelude.{◌≡◌, ◌==◌, ◌&&◌, ◌||◌, ◌<◌, ◌≤◌, ℕ, List, Bool, [], ◌∷◌, false, drop, get_or, is_some, length, option_map, position, slice_get, take, unwrap_or, IfErr, IfOk, IfSome, None, OnOk};
+ghost use Rattle.std.specs.Prelude.{◌≡◌, ◌==◌, ◌&&◌, ◌||◌, ℕ, List, Bool, [], false, get_or, is_some, option_map, slice_get, unwrap_or, IfErr, IfOk, IfSome, OnOk};
 ghost use Rattle.std.proofs.Common.{refl};
 ghost use Rattle.std.specs.Io.KnownBytes.{IsAtEnd};
 ghost use Rattle.intaglio_lines.specs.Lines.{lines_of};
 ghost use Rattle.intaglio_lines.specs.Puts.{Writes};
 ghost use Rattle.intaglio_columns.specs.Columns.{missing};
-ghost use Rattle.intaglio_dictionary.specs.Columns.{DecodesAsBefore, DecodesToInput, ReportsCode, ReportsLine, code_bytes, code_in, code_pieces, decoded_column, encoded_column, has_code, has_number, has_string, line_of, renumbered_code, renumbered_column};
-ghost use Rattle.intaglio_dictionary.specs.Translation.{AllFit, ReportsMisfit, StartsWith, count_of, last_piece};
+ghost use Rattle.intaglio_dictionary.specs.Columns.{DecodesAsBefore, DecodesToInput, ReportsCode, ReportsLine, code_pieces, decoded_column, encoded_column, has_code, has_number, has_string, line_of, renumbered_code, renumbered_column};
+ghost use Rattle.intaglio_dictionary.specs.Translation.{AllFit, ReportsMisfit, count_of};
 
 use crate::codes::{CODE, CodeMap, MISSING, code_of, first_code, put_code};
+use crate::encoding::Encoding;
 use crate::error::ColumnError;
-use crate::translate::{TranslateError, Translator, translate};
+use crate::translate::{FrontTranslator, TranslateError, Translator, translate, translate_pieces};
 use intaglio_frozen::Frozen;
 use intaglio_lines::write::put_line;
 use intaglio_symbol::Symbol;
 use std::alloc::Global;
 use std::io;
 use std::io::{Read, Write};
-
-// Lines to codes.
-#[derive(Drop)]
-pub struct Encoding<'a, 't> {
-    table: &'a Frozen<'t>,
-    missing: bool,
-}
-
-impl Translator for Encoding<'_, '_> {
-    ghost pieces = { lines_of };
-
-    ghost fits = { λ encoding line. has_code encoding.table.now encoding.missing line };
-
-    ghost translated = { λ encoding line. code_bytes (code_in encoding.table.now line) };
-
-    ghost no_pieces = { refl };
-
-    fn first(bytes: &[u8]) -> Option<(usize, usize)> {
-        first_whole_line(bytes)
-    }
-
-    fn put<W: Write>(&self, line: &[u8], block: &mut Vec<u8>, writer: &mut W) -> io::Result<bool> {
-        let code = match self.table.check_interned(line) {
-            Some(symbol) => symbol.id(),
-            None => {
-                if !self.missing {
-                    return Ok(false);
-                }
-                MISSING
-            }
-        };
-        put_code(code, block, writer)?;
-        Ok(true)
-    }
-}
 
 // Codes to lines.
 #[derive(Drop)]
@@ -82,6 +48,19 @@ impl Translator for Decoding<'_, '_> {
         };
         put_line(string, block, writer)?;
         Ok(true)
+    }
+}
+
+impl FrontTranslator for Decoding<'_, '_> {
+    fn put_front<W: Write>(
+        &self,
+        _alloc: Global,
+        bytes: &[u8],
+        number: u64,
+        block: &mut Vec<u8>,
+        writer: &mut W,
+    ) -> Result<(usize, u64), TranslateError> {
+        translate_pieces(self, bytes, number, block, writer)
     }
 }
 
@@ -133,6 +112,19 @@ impl Translator for Renumbering<'_, '_> {
     }
 }
 
+impl FrontTranslator for Renumbering<'_, '_> {
+    fn put_front<W: Write>(
+        &self,
+        _alloc: Global,
+        bytes: &[u8],
+        number: u64,
+        block: &mut Vec<u8>,
+        writer: &mut W,
+    ) -> Result<(usize, u64), TranslateError> {
+        translate_pieces(self, bytes, number, block, writer)
+    }
+}
+
 impl Renumbering<'_, '_> {
     // The new code of an old one, or the missing code of itself.
     fn number_of(&self, code: u32) -> Option<u32>
@@ -147,33 +139,12 @@ impl Renumbering<'_, '_> {
     }
 }
 
-// Where the first line of the bytes ends, and where the next begins.
-fn first_whole_line(bytes: &[u8]) -> Option<(usize, usize)>
-    ensures whole { IfSome result (λ cut.
-        StartsWith lines_of bytes.now (take cut.0 bytes.now ∷ []) (drop cut.1 bytes.now)) }
-    ensures order { IfSome result (λ cut. cut.0 ≤ cut.1) }
-    ensures some { IfSome result (λ cut. 0 < cut.1) }
-    ensures within { IfSome result (λ cut. cut.1 ≤ length bytes.now) }
-    ensures none { result ≡ None → lines_of bytes.now ≡ last_piece bytes.now }
-{
-    match end_of_line(bytes) {
-        Some(end) => Some((end, end + 1)),
-        None => None,
-    }
-}
-
-// The position of the first byte 10.
-fn end_of_line(bytes: &[u8]) -> Option<usize>
-    ensures place { result ≡ position (λ b. b == 10) bytes.now }
-    ensures bound { IfSome result (λ end. end < length bytes.now) }
-{
-    bytes.iter().position(|b| *b == b'\n')
-}
-
 /// Writes the code of each line of an input, the symbol of its string, and returns how many lines there are, or
 /// `u64::MAX` if there are more. If `missing` is true, the code of a line that isn't in the table is [`MISSING`].
 ///
-/// The input is read in blocks of 64 KiB, and only a line that isn't read to its end is kept.
+/// The input is read in blocks of 64 KiB, and only a line that isn't read to its end is kept. Lines are looked up in
+/// groups of 64, so that the cache misses of their look-ups overlap; for each group a list of its lines and one of
+/// their symbols are allocated.
 ///
 /// # Errors
 ///

@@ -6,6 +6,7 @@ pub mod answer;
 pub mod codes;
 pub mod columns;
 pub mod dictionary;
+mod encoding;
 pub mod error;
 pub mod freezing;
 pub mod look_up;

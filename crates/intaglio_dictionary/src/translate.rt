@@ -4,7 +4,7 @@ ghost use Rattle.std.specs.List.{flat_map};
 ghost use Rattle.std.specs.Io.KnownBytes.{IsAtEnd};
 ghost use Rattle.intaglio_lines.specs.Puts.{Puts, Writes, held};
 ghost use Rattle.intaglio_lines.specs.declared.error.StreamError.TheVariants.{Memory};
-ghost use Rattle.intaglio_dictionary.specs.Translation.{AllFit, HasTranslated, IsFailure, ReadsMore, ReportsMisfit, ReportsPiece, StartsWith, count_of, last_piece};
+ghost use Rattle.intaglio_dictionary.specs.Translation.{AllFit, GoesOn, HasTranslated, IsFailure, ReadsMore, ReportsMisfit, ReportsPiece, StartsWith, StopsIn, count_of, last_piece};
 ghost use Rattle.intaglio_dictionary.specs.declared.translate.TranslateError.TheVariants.{Stream};
 
 use intaglio_lines::error::StreamError;
@@ -60,6 +60,32 @@ pub trait Translator {
             Puts W.contents writer.old block.old writer.new block.new (translated self.now piece.now) };
 }
 
+/// How the pieces at the front of bytes are translated: one by one, as by [`translate_pieces`], or in groups.
+pub trait FrontTranslator: Translator {
+    /// Writes what the pieces at the front of the bytes are translated to, but for a last one that may go on. Returns
+    /// where that begins, and how many were translated with those before.
+    ///
+    /// # Errors
+    ///
+    /// Those of [`translate`].
+    fn put_front<W: Write>(
+        &self,
+        alloc: Global,
+        bytes: &[u8],
+        number: u64,
+        block: &mut Vec<u8>,
+        writer: &mut W,
+    ) -> Result<(usize, u64), TranslateError>
+        ensures ok { let On = GoesOn Self.pieces (Self.fits self.now) (Self.translated self.now) in
+            IfOk result (λ end. On (held W.contents writer.old block.old) bytes.now number
+            (held W.contents writer.new block.new) (drop end.0 bytes.now) end.1) }
+        ensures within { IfOk result (λ end. end.0 ≤ length bytes.now) }
+        ensures last { IfOk result
+            (λ end. Self.pieces (drop end.0 bytes.now) ≡ last_piece (drop end.0 bytes.now)) }
+        ensures misfit { let Stops = StopsIn Self.pieces (Self.fits self.now) (Self.translated self.now) in
+            IfErr result (Stops (held W.contents writer.old block.old) bytes.now number) };
+}
+
 /// Reads an input to its end, writes what its pieces are translated to, and returns how many there are, or
 /// `u64::MAX` if there are more.
 ///
@@ -69,7 +95,7 @@ pub trait Translator {
 /// # Errors
 ///
 /// `Misfit` for the first piece that can't be translated, `Memory`, `Read` or `Write`.
-pub fn translate<T: Translator, R: Read, W: Write>(
+pub fn translate<T: FrontTranslator, R: Read, W: Write>(
     alloc: Global,
     translator: &T,
     reader: &mut R,
@@ -97,7 +123,7 @@ pub fn translate<T: Translator, R: Read, W: Write>(
 
 // Reads an input to its end, translates its pieces but for a last one that may go on, and returns that and how
 // many were translated.
-fn translate_whole<T: Translator, R: Read, W: Write>(
+fn translate_whole<T: FrontTranslator, R: Read, W: Write>(
     alloc: Global,
     translator: &T,
     reader: &mut R,
@@ -119,7 +145,7 @@ fn translate_whole<T: Translator, R: Read, W: Write>(
         if !more {
             return Ok((bytes, count));
         }
-        count = translate_front(translator, &mut bytes, count, block, writer)?;
+        count = translate_front(alloc, translator, &mut bytes, count, block, writer)?;
     }
     Err(TranslateError::Stream(StreamError::Read))
 }
@@ -153,47 +179,45 @@ fn read_more<R: Read>(reader: &mut R, bytes: &mut Vec<u8>) -> Result<bool, Trans
 
 // Translates the pieces at the front of the bytes, which are removed, and returns how many were translated with
 // those before them.
-fn translate_front<T: Translator, W: Write>(
+fn translate_front<T: FrontTranslator, W: Write>(
+    alloc: Global,
     translator: &T,
     bytes: &mut Vec<u8>,
     number: u64,
     block: &mut Vec<u8>,
     writer: &mut W,
 ) -> Result<u64, TranslateError>
-    ensures ok { let Before = HasTranslated T.pieces (T.fits translator.now) (T.translated translator.now) in
-        IfOk result (λ count. (input old left : Option (List ℕ)) →
-        Before input old (held W.contents writer.old block.old) bytes.old.items left number →
-        Before input old (held W.contents writer.new block.new) bytes.new.items left count) }
+    ensures ok { let On = GoesOn T.pieces (T.fits translator.now) (T.translated translator.now) in
+        IfOk result (λ count. On (held W.contents writer.old block.old) bytes.old.items number
+        (held W.contents writer.new block.new) bytes.new.items count) }
     ensures last { OnOk result (T.pieces bytes.new.items ≡ last_piece bytes.new.items) }
-    ensures misfit { let Before = HasTranslated T.pieces (T.fits translator.now) (T.translated translator.now) in
-        IfErr result (λ e. (input old left : Option (List ℕ)) →
-        Before input old (held W.contents writer.old block.old) bytes.old.items left number →
-        IfSome input (λ input. ReportsMisfit (T.fits translator.now) e (T.pieces input))) }
+    ensures misfit { let Stops = StopsIn T.pieces (T.fits translator.now) (T.translated translator.now) in
+        IfErr result (Stops (held W.contents writer.old block.old) bytes.old.items number) }
 {
-    let (size, count) = translate_pieces(translator, bytes, number, block, writer)?;
+    let (size, count) = translator.put_front(alloc, bytes, number, block, writer)?;
     drop_front(bytes, size);
     Ok(count)
 }
 
-// Translates the pieces at the front of the bytes, and returns where the rest begins and how many were translated
-// with those before them.
-fn translate_pieces<T: Translator, W: Write>(
+/// Translates the pieces at the front of the bytes one by one, as [`FrontTranslator::put_front`] says.
+///
+/// # Errors
+///
+/// `Misfit` or `Write`.
+pub fn translate_pieces<T: Translator, W: Write>(
     translator: &T,
     bytes: &[u8],
     number: u64,
     block: &mut Vec<u8>,
     writer: &mut W,
 ) -> Result<(usize, u64), TranslateError>
-    ensures ok { let Before = HasTranslated T.pieces (T.fits translator.now) (T.translated translator.now) in
-        IfOk result (λ end. (input old left : Option (List ℕ)) →
-        Before input old (held W.contents writer.old block.old) bytes.now left number →
-        Before input old (held W.contents writer.new block.new) (drop end.0 bytes.now) left end.1) }
+    ensures ok { let On = GoesOn T.pieces (T.fits translator.now) (T.translated translator.now) in
+        IfOk result (λ end. On (held W.contents writer.old block.old) bytes.now number
+        (held W.contents writer.new block.new) (drop end.0 bytes.now) end.1) }
     ensures within { IfOk result (λ end. end.0 ≤ length bytes.now) }
     ensures last { IfOk result (λ end. T.pieces (drop end.0 bytes.now) ≡ last_piece (drop end.0 bytes.now)) }
-    ensures misfit { let Before = HasTranslated T.pieces (T.fits translator.now) (T.translated translator.now) in
-        IfErr result (λ e. (input old left : Option (List ℕ)) →
-        Before input old (held W.contents writer.old block.old) bytes.now left number →
-        IfSome input (λ input. ReportsMisfit (T.fits translator.now) e (T.pieces input))) }
+    ensures misfit { let Stops = StopsIn T.pieces (T.fits translator.now) (T.translated translator.now) in
+        IfErr result (Stops (held W.contents writer.old block.old) bytes.now number) }
 {
     let mut at = 0;
     let mut count = number;

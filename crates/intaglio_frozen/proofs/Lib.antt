@@ -2,6 +2,7 @@
 pub mod Ends
 pub mod Places
 pub mod Found
+pub mod Batched
 pub mod Texts
 pub mod Checked
 pub mod Left

@@ -1,5 +1,5 @@
 -- What a look-up finds in the bytes of a frozen table. There is one place for each string.
-use Rattle.std.specs.Prelude.{◌≡◌, ℕ, ◌*◌, ◌/◌, ◌%◌, ◌^◌, ◌==◌, cond, List, slice_get, Option, Some, None, bit_xor}
+use Rattle.std.specs.Prelude.{◌≡◌, ℕ, ◌*◌, ◌/◌, ◌%◌, ◌^◌, ◌==◌, cond, List, slice_get, Option, Some, None, MatchOption, bit_xor}
 use Rattle.std.specs.Str.{bytes_eq}
 use Rattle.std.specs.Hash.DefaultHasher.{with_keys, write, finish}
 use Rattle.intaglio_frozen.specs.Layout.{key0, key1, places, groups, symbol_of, tag_of, pilot_of, strings}
@@ -32,6 +32,10 @@ find_at bs p tag w = cond (tag_of bs p == tag) (if_same (slice_get (strings bs) 
 -- what a look-up of a string finds
 unfoldable pub find : List ℕ → List ℕ → Option ℕ
 find bs w = find_at bs (place bs (hash bs w)) (hash bs w % 256) w
+
+-- this is the only symbol that a look-up of a string may find, or none if it finds none
+abbrev pub IsCandidate : List ℕ → List ℕ → Option ℕ → Type 0
+IsCandidate bs w found = MatchOption found (find bs w ≡ None) (λ s. find bs w ≡ if_same (slice_get (strings bs) s) s w)
 
 -- each string is found at its position
 abbrev pub FindsAll : List ℕ → Type 0

@@ -1,7 +1,7 @@
 //! Bytes whose strings can be read.
 ghost use Rattle.std.specs.Prelude.{◌≡◌, false, ◌↔◌, ◌^◌, ◌<◌, ◌≤◌, IsTrue, length, slice_get, Some, IfOk, IfErr, IsOk};
 ghost use Rattle.intaglio_frozen.specs.Layout.{kind, strings};
-ghost use Rattle.intaglio_frozen.specs.LookUp.{find};
+ghost use Rattle.intaglio_frozen.specs.LookUp.{find, hash};
 ghost use Rattle.intaglio_frozen.specs.IsFrozen.{number_of, HasUnused, IsBlock, AreTexts};
 ghost use Rattle.intaglio_frozen.specs.Checked.{IsHashAt, IsFoundAt};
 ghost use Rattle.intaglio_frozen.specs.Fault.{IsFault};
@@ -13,11 +13,25 @@ use crate::kind::Kind;
 use crate::layout::Layout;
 use crate::list::StringList;
 use intaglio_content::same_bytes;
+use intaglio_symbol::Symbol;
 use std::marker::Model;
 
-/// Bytes whose strings can be read. A contract sees the bytes.
+/// Bytes with the header of a frozen table, whose strings fill their text. A contract sees the bytes.
+///
+/// Its strings can be read in order. Whether each is found at its symbol, and whether those of a table of texts are
+/// UTF-8, only [`Frozen::open`](crate::Frozen::open) checks.
+///
+/// ```
+/// # use intaglio::{StrContent, SymbolTable};
+/// # use intaglio_frozen::{Block, Kind, StringList, freeze};
+/// # let mut words = SymbolTable::new(rt.alloc())?;
+/// # let _symbol = words.intern(StrContent::from("abc"))?;
+/// let bytes = freeze(rt.alloc(), &words, Kind::Text, 1, 2)?;
+/// let block = Block::read(&bytes)?;
+/// assert!(rt; StringList::len(&block) == 1);
+/// ```
 #[derive(Drop)]
-pub(crate) struct Block<'a> {
+pub struct Block<'a> {
     layout: Layout<'a>,
 }
 
@@ -33,8 +47,12 @@ impl<'a> Model for Block<'a> {
 }
 
 impl<'a> Block<'a> {
-    // Reads the header, and checks that the strings fill the text.
-    pub(crate) fn read(bytes: &'a [u8]) -> Result<Block<'a>, FrozenError>
+    /// Reads the header, and checks that the strings fill the text. Of each string only its end is read.
+    ///
+    /// # Errors
+    ///
+    /// What is wrong with the header, `Truncated` or `Ends`.
+    pub fn read(bytes: &'a [u8]) -> Result<Block<'a>, FrozenError>
         ensures read { IfOk result (λ b. b ≡ bytes.now) }
         ensures block { IfOk result (λ b. IsBlock bytes.now) }
         ensures only { IsBlock bytes.now → IsOk result }
@@ -114,17 +132,40 @@ impl<'a> Block<'a> {
         self.layout.is_at(hash, i)
     }
 
+    // The hash of a string that is sought.
+    #[inline(always)]
+    pub(crate) fn hash_sought(&self, string: &[u8]) -> u64
+        ensures { result ≡ hash self.now string.now }
+    {
+        self.layout.hash(string)
+    }
+
     // What a look-up finds.
     #[inline(always)]
-    pub(crate) fn find(&self, string: &[u8]) -> Option<u32>
+    pub(crate) fn find(&self, string: &[u8]) -> Option<Symbol>
         ensures { result ≡ find self.now string.now }
     {
-        let symbol = self.layout.candidate(string)?;
+        self.find_hashed(self.hash_sought(string), string)
+    }
+
+    // The same by the string's hash.
+    #[inline(always)]
+    pub(crate) fn find_hashed(&self, hashed: u64, string: &[u8]) -> Option<Symbol>
+        requires { hashed ≡ hash self.now string.now }
+        ensures { result ≡ find self.now string.now }
+    {
+        let symbol = self.layout.candidate(hashed)?;
         if same_bytes(self.string(symbol as usize), string) {
-            Some(symbol)
+            Some(Symbol::new(symbol))
         } else {
             None
         }
+    }
+
+    // Reads what a look-up by this hash will read.
+    #[inline(always)]
+    pub(crate) fn touch(&self, hashed: u64) -> u8 {
+        self.layout.touch(hashed)
     }
 }
 

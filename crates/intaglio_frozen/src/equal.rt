@@ -4,10 +4,9 @@ ghost use Rattle.intaglio_frozen.specs.Freezing.{AreEqual, HasNoEqual};
 
 use crate::list::StringList;
 use crate::placing::Hashed;
-use intaglio::TableOver;
+use intaglio::packed::bytes::SymbolTable;
 use intaglio_content::same_bytes;
 use intaglio_hash::KeyedState;
-use intaglio_packed::Packed;
 use intaglio_symbol::InternError;
 use std::alloc::Global;
 
@@ -50,7 +49,7 @@ pub(crate) fn equal_strings<L: StringList>(
         (λ pair. AreEqual (L.strings list.now) pair.0 pair.1)) }
 {
     let keys = KeyedState::with_keys(0, 0);
-    let mut table = TableOver::<Packed, KeyedState>::with_limit(alloc, SYMBOLS, keys).unwrap();
+    let mut table = SymbolTable::<KeyedState>::with_limit(alloc, SYMBOLS, keys).unwrap();
     for i in 0..list.len() {
         let symbol = table.get_or_intern(list.string(i))?;
         if (symbol.id() as usize) < i {

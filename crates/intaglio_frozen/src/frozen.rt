@@ -6,6 +6,7 @@ ghost use Rattle.intaglio_frozen.specs.Layout.{strings};
 ghost use Rattle.intaglio_frozen.specs.IsFrozen.{IsFrozen};
 ghost use Rattle.intaglio_frozen.specs.Fault.{IsFault};
 
+use crate::batch::find_all;
 use crate::block::Block;
 use crate::checking::{first_no_text, first_not_found};
 use crate::error::FrozenError;
@@ -136,10 +137,7 @@ impl<'a> Frozen<'a> {
         ensures value { result ≡ first (λ w. w ∷ []) self.now (string.now ∷ []) }
         ensures distinct { AreDistinct (map (λ w. w ∷ []) self.now) }
     {
-        match self.block.find(string) {
-            Some(number) => Some(Symbol::new(number)),
-            None => None,
-        }
+        self.block.find(string)
     }
 
     /// Whether a string is in the table.
@@ -151,6 +149,9 @@ impl<'a> Frozen<'a> {
     }
 
     /// The symbol of each string of a batch, where it is in the table.
+    ///
+    /// In groups of 64, all are hashed before the first is looked up, so the cache misses of several look-ups overlap.
+    /// That pays if the table is large. It allocates the list that it returns, and nothing else.
     ///
     /// # Errors
     ///
@@ -175,11 +176,7 @@ impl<'a> Frozen<'a> {
         ensures { IfOk result (λ found. found.items
             ≡ map (λ w. first (λ w. w ∷ []) self.now (w.now ∷ [])) strings.now) }
     {
-        let mut found = Vec::with_capacity(alloc, strings.len())?;
-        for i in 0..strings.len() {
-            found.push_reserved(self.check_interned(strings[i]));
-        }
-        Ok(found)
+        find_all(alloc, &self.block, strings)
     }
 }
 

@@ -1,8 +1,8 @@
 //! Bytes whose header and sections can be read.
-ghost use Rattle.std.specs.Prelude.{◌≡◌, ◌≢◌, ℕ, List, false, ◌↔◌, ◌+◌, ◌-◌, ◌*◌, ◌^◌, ◌<◌, ◌≤◌, ◌∷◌, IsTrue, length, drop, get_or, slice_get, slice_range, option_copied, None, Some, IfOk, IfErr, IfSome, IsOk, MatchOption};
+ghost use Rattle.std.specs.Prelude.{◌≡◌, ◌≢◌, ℕ, List, false, ◌↔◌, ◌+◌, ◌-◌, ◌*◌, ◌^◌, ◌<◌, ◌≤◌, ◌∷◌, IsTrue, length, drop, get_or, slice_get, slice_range, option_copied, Some, IfOk, IfErr, IfSome, IsOk};
 ghost use Rattle.intaglio_frozen.specs.Strings.{AreEnds};
 ghost use Rattle.intaglio_frozen.specs.Layout.{kind, numbers_at, text_at, ends, strings, places};
-ghost use Rattle.intaglio_frozen.specs.LookUp.{hash, place, if_same, find};
+ghost use Rattle.intaglio_frozen.specs.LookUp.{hash, place, find, IsCandidate};
 ghost use Rattle.intaglio_frozen.specs.IsFrozen.{number_of, HasSections, HasUnused, IsBlock, AreTexts};
 ghost use Rattle.intaglio_frozen.specs.Checked.{IsHashAt, IsFoundAt, AreCharEnds};
 ghost use Rattle.intaglio_frozen.specs.Fault.{IsFault};
@@ -174,16 +174,14 @@ impl<'a> Layout<'a> {
         FrozenStrings::of(self.bytes, self.text, self.ends_at, self.count)
     }
 
-    // The only symbol that a string can have: that of its place, if the place has its tag.
+    // The only symbol that a string with this hash can have: that of its place, if the place has its tag.
     #[inline(always)]
-    pub(crate) fn candidate(&self, string: &[u8]) -> Option<u32>
-        ensures found { MatchOption result (find self.now string.now ≡ None)
-            (λ s. find self.now string.now ≡ if_same (slice_get (strings self.now) s) s string.now) }
+    pub(crate) fn candidate(&self, hashed: u64) -> Option<u32>
+        ensures found { (w : List ℕ) → hashed ≡ hash self.now w → IsCandidate self.now w result }
         ensures below { IfSome result (λ s. s < length (strings self.now)) }
     {
-        let hash = self.hash(string);
-        let place = self.place(hash);
-        if self.bytes[self.tags_at + place] != (hash % 256) as u8 {
+        let place = self.place(hashed);
+        if self.bytes[self.tags_at + place] != (hashed % 256) as u8 {
             return None;
         }
         let symbol = read_u32(self.bytes, HEADER + 4 * place);
@@ -191,6 +189,18 @@ impl<'a> Layout<'a> {
             return None;
         }
         Some(symbol)
+    }
+
+    // Reads what a look-up by this hash will read, and returns the first byte of the string that it will compare.
+    #[inline(always)]
+    pub(crate) fn touch(&self, hashed: u64) -> u8 {
+        let Some(symbol) = self.candidate(hashed) else {
+            return 0;
+        };
+        match self.text.get(self.start_of(symbol as usize)) {
+            Some(byte) => *byte,
+            None => 0,
+        }
     }
 
     // Whether the string of a symbol is found at it, by the string's hash. No string is compared: what has the

@@ -1,6 +1,7 @@
 //! Frozen tables: a symbol table as one block of bytes, such as a mapped file.
 #![tactic(auto)]
 
+mod batch;
 mod block;
 mod checking;
 mod drawing;
@@ -19,6 +20,7 @@ mod placing;
 mod thawing;
 mod trusted;
 
+pub use block::Block;
 pub use error::{FreezeError, FrozenError};
 pub use freezing::{freeze, freeze_with_default_keys};
 pub use frozen::Frozen;

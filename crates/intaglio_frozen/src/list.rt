@@ -6,8 +6,8 @@ ghost use Rattle.intaglio_frozen.specs.declared.kind.Kind.TheVariants.{Text};
 
 use crate::kind::Kind;
 use intaglio::{Table, TableOver};
-use intaglio_content::{Spelled, Store};
-use intaglio_packed::{Packed, Texts};
+use intaglio_content::{Packed, PackedKind, Spelled};
+use intaglio_core::FormInterner;
 use intaglio_symbol::Symbol;
 use std::hash::BuildHasher;
 use std::str;
@@ -26,31 +26,17 @@ pub trait StringList {
         ensures { slice_get (strings self.now) i ≡ Some result.now };
 }
 
-impl StringList for Packed {
+impl<K: PackedKind> StringList for Packed<K> {
     ghost strings = { λ list. list.list };
 
     #[inline(always)]
     fn len(&self) -> usize {
-        Packed::len(self)
+        self.strings().len()
     }
 
     #[inline(always)]
     fn string(&self, i: usize) -> &[u8] {
         Packed::string(self, i)
-    }
-}
-
-impl StringList for Texts {
-    ghost strings = { λ list. list.list };
-
-    #[inline(always)]
-    fn len(&self) -> usize {
-        Store::len(self)
-    }
-
-    #[inline(always)]
-    fn string(&self, i: usize) -> &[u8] {
-        self.text(i).as_bytes()
     }
 }
 
@@ -70,7 +56,7 @@ impl<C: Spelled, S: BuildHasher> StringList for Table<C, S> {
     }
 }
 
-impl<S: BuildHasher> StringList for TableOver<Packed, S> {
+impl<K: PackedKind, S: BuildHasher> StringList for TableOver<Packed<K>, S> {
     ghost strings = { λ table. table.state.contents };
 
     #[inline(always)]
@@ -80,25 +66,7 @@ impl<S: BuildHasher> StringList for TableOver<Packed, S> {
 
     #[inline(always)]
     fn string(&self, i: usize) -> &[u8] {
-        // The number of contents is at most 2^32.
-        let _count = TableOver::len(self);
-        self.get(Symbol::new(i as u32)).unwrap()
-    }
-}
-
-impl<S: BuildHasher> StringList for TableOver<Texts, S> {
-    ghost strings = { λ table. table.state.contents };
-
-    #[inline(always)]
-    fn len(&self) -> usize {
-        TableOver::len(self)
-    }
-
-    #[inline(always)]
-    fn string(&self, i: usize) -> &[u8] {
-        // The number of contents is at most 2^32.
-        let _count = TableOver::len(self);
-        self.get(Symbol::new(i as u32)).unwrap().as_bytes()
+        FormInterner::store(self).string(i)
     }
 }
 

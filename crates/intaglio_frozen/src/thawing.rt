@@ -6,7 +6,8 @@ ghost use Rattle.intaglio_core.specs.Batch.{IfOverflow};
 use crate::frozen::Frozen;
 use crate::iter::FrozenStrings;
 use intaglio::TableOver;
-use intaglio_packed::Packed;
+use intaglio_bytes::bytes::BytesKind;
+use intaglio_content::Packed;
 use intaglio_symbol::InternError;
 use std::alloc::{AllocError, Global};
 use std::hash::BuildHasher;
@@ -36,7 +37,7 @@ impl<'a> Frozen<'a> {
         &self,
         alloc: Global,
         hasher: S,
-    ) -> Result<TableOver<Packed, S>, InternError>
+    ) -> Result<TableOver<Packed<BytesKind>, S>, InternError>
         ensures strings { IfOk result (λ thawed. thawed.state.contents ≡ self.now) }
         ensures limit { IfOk result (λ thawed. thawed.state.limit ≡ 2 ^ 32) }
         ensures hash { let hash = hash_of S.BuildHasher S.Hasher.Hasher in

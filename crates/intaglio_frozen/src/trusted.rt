@@ -2,6 +2,7 @@
 ghost use Rattle.std.specs.Prelude.{◌≡◌, ◌^◌, ◌≤◌, length, slice_get, [], ◌∷◌, IfOk, IfErr, IfSome, IsOk, Some, option_copied};
 ghost use Rattle.intaglio_core.specs.State.{first};
 ghost use Rattle.intaglio_frozen.specs.Layout.{strings};
+ghost use Rattle.intaglio_frozen.specs.LookUp.{hash};
 ghost use Rattle.intaglio_frozen.specs.IsFrozen.{HasSections, IsFrozen};
 ghost use Rattle.intaglio_frozen.specs.Fault.{IsFault};
 
@@ -83,7 +84,34 @@ impl<'a> TrustedFrozen<'a> {
         ensures found { IfSome result (λ s. slice_get (strings self.now) s ≡ Some string.now) }
         ensures frozen { IsFrozen self.now → result ≡ first (λ w. w ∷ []) (strings self.now) (string.now ∷ []) }
     {
-        let symbol = self.layout.candidate(string)?;
+        self.check_hashed(self.hash(string), string)
+    }
+
+    /// The hash of a string under the keys of the table. For batches of a caller's own: the hashes of some dozens of
+    /// strings, then [`touch_hashed`](TrustedFrozen::touch_hashed) of each, then
+    /// [`check_hashed`](TrustedFrozen::check_hashed) of each.
+    #[inline]
+    pub fn hash(&self, string: &[u8]) -> u64
+        ensures { result ≡ hash self.now string.now }
+    {
+        self.layout.hash(string)
+    }
+
+    /// Reads what a look-up by this hash will read, so that the cache misses of several look-ups overlap. The byte
+    /// is one of those that were read, or 0; a caller who keeps it keeps the compiler from leaving out the reads.
+    #[inline]
+    pub fn touch_hashed(&self, hashed: u64) -> u8 {
+        self.layout.touch(hashed)
+    }
+
+    /// As [`check_interned`](TrustedFrozen::check_interned), by the string's hash.
+    #[inline]
+    pub fn check_hashed(&self, hashed: u64, string: &[u8]) -> Option<Symbol>
+        requires { hashed ≡ hash self.now string.now }
+        ensures found { IfSome result (λ s. slice_get (strings self.now) s ≡ Some string.now) }
+        ensures frozen { IsFrozen self.now → result ≡ first (λ w. w ∷ []) (strings self.now) (string.now ∷ []) }
+    {
+        let symbol = self.layout.candidate(hashed)?;
         let stored = self.layout.checked_string(symbol as usize)?;
         if same_bytes(stored, string) {
             Some(Symbol::new(symbol))

@@ -1,6 +1,6 @@
 use Rattle.std.proofs.Common.{◌∙◌, sym}
 use Rattle.intaglio_dictionary.proofs.Cut.{line-last, line-starts}
-use Rattle.intaglio_dictionary.proofs.columns.first_whole_line.Goals as goal
+use Rattle.intaglio_dictionary.proofs.encoding.first_whole_line.Goals as goal
 
 pub returns-in-Some-clause-whole : goal.returns-in-Some-clause-whole
 returns-in-Some-clause-whole c = line-starts c.args.bytes.now c.in-Some.end (sym c.end_of_line.ensures.place ∙ c.in-Some.is)

@@ -1,0 +1,75 @@
+//! Batches of look-ups: before the first string of a group is looked up, all of the group are hashed, and what
+//! their look-ups will read is read. So the cache misses of these look-ups overlap.
+ghost use Rattle.std.specs.Prelude.{◌≡◌, ◌+◌, [], ◌∷◌, ◌<◌, IfOk, drop, length, map, take};
+ghost use Rattle.intaglio_frozen.specs.LookUp.{find, hash};
+ghost use Rattle.intaglio_frozen.specs.Batch.{AreHashed};
+
+use crate::block::Block;
+use intaglio_core::GROUP;
+use intaglio_symbol::Symbol;
+use std::alloc::{AllocError, Global};
+
+// What a look-up of each string finds.
+pub(crate) fn find_all(
+    alloc: Global,
+    block: &Block<'_>,
+    strings: &[&[u8]],
+) -> Result<Vec<Option<Symbol>>, AllocError>
+    ensures { IfOk result (λ found. found.items ≡ map (λ s. find block.now s.now) strings.now) }
+{
+    let mut found = Vec::with_capacity(alloc, strings.len())?;
+    let mut hashes = [0; GROUP];
+    for place in 0..strings.len() {
+        let hash = next_hash(block, &strings[place..], place, &mut hashes);
+        found.push_reserved(block.find_hashed(hash, strings[place]));
+    }
+    Ok(found)
+}
+
+// The hash of the first of these strings, which are those of a batch from this place on. Looks ahead where a group
+// begins, and otherwise reads what was hashed there.
+#[inline(always)]
+fn next_hash(block: &Block<'_>, strings: &[&[u8]], place: usize, hashes: &mut [u64]) -> u64
+    requires some { 0 < length strings.now }
+    requires group { length hashes.old ≡ 64 }
+    requires known { AreHashed (λ s. hash block.now s.now) place strings.now hashes.old }
+    ensures hash { map (λ s. hash block.now s.now) (take 1 strings.now) ≡ result ∷ [] }
+    ensures known { AreHashed (λ s. hash block.now s.now) (place + 1) (drop 1 strings.now) hashes.new }
+    ensures group { length hashes.new ≡ 64 }
+{
+    let at = place % GROUP;
+    if at == 0 {
+        look_ahead(block, strings, hashes);
+    }
+    hashes[at]
+}
+
+// Hashes the first strings, one for each place of `hashes`, and reads what their look-ups will read.
+fn look_ahead(block: &Block<'_>, strings: &[&[u8]], hashes: &mut [u64])
+    ensures hashes { take (length strings.now) hashes.new
+        ≡ map (λ s. hash block.now s.now) (take (length hashes.old) strings.now) }
+    ensures places { length hashes.new ≡ length hashes.old }
+{
+    let count = hashes.len().min(strings.len());
+    hash_each(block, strings, hashes);
+    touch_each(block, &hashes[..count], &mut [0; GROUP]);
+}
+
+// Hashes the first strings, one for each place.
+fn hash_each(block: &Block<'_>, strings: &[&[u8]], hashes: &mut [u64])
+    ensures hashes { take (length strings.now) hashes.new
+        ≡ map (λ s. hash block.now s.now) (take (length hashes.old) strings.now) }
+    ensures places { length hashes.new ≡ length hashes.old }
+{
+    for place in 0..hashes.len().min(strings.len()) {
+        hashes[place] = block.hash_sought(strings[place]);
+    }
+}
+
+// The bytes that are read are written, and the call isn't inlined, so that the compiler can't leave out the reads.
+#[inline(never)]
+fn touch_each(block: &Block<'_>, hashes: &[u64], touched: &mut [u8]) {
+    for place in 0..hashes.len().min(touched.len()) {
+        touched[place] = block.touch(hashes[place]);
+    }
+}
