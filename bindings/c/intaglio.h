@@ -254,6 +254,14 @@ size_t intaglio_frozen_len(const uint8_t *bytes, size_t len);
  * nothing is then written. */
 INTAGLIO_MUST_USE intaglio_code intaglio_freeze(const intaglio_table *table, uint64_t key0, uint64_t key1, uint8_t *buffer, size_t size, size_t *len);
 
+/* Interns all strings of a frozen table in its order, all or none, and stores the symbol of each: string i of the frozen table is then that
+ * of symbols[i], so codes of the frozen table become codes of the table. `symbols_count` must equal frozen_len. The error is that of the
+ * first string, in order, that can't be interned after those before it. The bytes needn't be checked: if they aren't a frozen table, but have
+ * its header and their strings fill the text, these strings are interned.
+ * Errors: NO_TABLE, BAD_ENDS, FULL, NO_MEMORY, NOT_UTF8, INNER_ZERO, MISSING_ZERO, and those of frozen_check that a header or the ends can
+ * have. The contents of `symbols` are then unspecified. */
+INTAGLIO_MUST_USE intaglio_code intaglio_absorb(intaglio_table *table, const uint8_t *frozen, size_t len, uint32_t *symbols, size_t symbols_count);
+
 /* Returns how many bytes a frozen table of the strings has, or of an empty one if there is no table. It reads the length of each string. No contract
  * covers this function, but freeze returns NO_SPACE if the number is too small. */
 static inline size_t intaglio_frozen_size(const intaglio_table *table) {
@@ -289,7 +297,8 @@ bool intaglio_frozen_is_text(const uint8_t *bytes, size_t len);
     INTAGLIO_MUST_USE static inline intaglio_code intaglio_##NAME##_intern_all(intaglio_##NAME *table, const uint8_t *bytes, size_t len, const size_t *ends, size_t count, uint32_t *symbols, size_t symbols_count) { return intaglio_intern_all(&table->table, bytes, len, ends, count, symbols, symbols_count); } \
     INTAGLIO_MUST_USE static inline intaglio_code intaglio_##NAME##_check_all(const intaglio_##NAME *table, const uint8_t *bytes, size_t len, const size_t *ends, size_t count, uint64_t *symbols, size_t symbols_count) { return intaglio_check_all(&table->table, bytes, len, ends, count, symbols, symbols_count); } \
     INTAGLIO_MUST_USE static inline intaglio_code intaglio_##NAME##_copy_all(const intaglio_##NAME *table, const uint32_t *symbols, size_t count, uint8_t *buffer, size_t size, size_t *ends, size_t ends_count) { return intaglio_copy_all(&table->table, symbols, count, buffer, size, ends, ends_count); } \
-    INTAGLIO_MUST_USE static inline intaglio_code intaglio_##NAME##_freeze(const intaglio_##NAME *table, uint64_t key0, uint64_t key1, uint8_t *buffer, size_t size, size_t *len) { return intaglio_freeze(&table->table, key0, key1, buffer, size, len); }
+    INTAGLIO_MUST_USE static inline intaglio_code intaglio_##NAME##_freeze(const intaglio_##NAME *table, uint64_t key0, uint64_t key1, uint8_t *buffer, size_t size, size_t *len) { return intaglio_freeze(&table->table, key0, key1, buffer, size, len); } \
+    INTAGLIO_MUST_USE static inline intaglio_code intaglio_##NAME##_absorb(intaglio_##NAME *table, const uint8_t *frozen, size_t len, uint32_t *symbols, size_t symbols_count) { return intaglio_absorb(&table->table, frozen, len, symbols, symbols_count); }
 
 INTAGLIO_KIND(text, INTAGLIO_TEXT)
 INTAGLIO_KIND(bytes, INTAGLIO_BYTES)

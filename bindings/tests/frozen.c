@@ -75,6 +75,35 @@ static void freeze(const uint8_t *bytes, size_t len, uint32_t kind) {
     free(made);
 }
 
+/* String i of a frozen table is at map[i]. */
+static void is_map(intaglio_table *table, const uint8_t *bytes, size_t len, const uint32_t *map) {
+    intaglio_spelling from, to;
+    for (size_t i = 0; i < intaglio_frozen_len(bytes, len); i++)
+        WANT(intaglio_frozen_get(bytes, len, (uint32_t)i, &from) && intaglio_get(table, map[i], &to) && from.len == to.len && memcmp(from.at, to.at, to.len) == 0);
+}
+
+/* A table takes in all strings, in their order behind those that it has, or none. */
+static void absorb(const uint8_t *bytes, size_t len, uint32_t kind) {
+    intaglio_table table = INTAGLIO_TABLE_NONE;
+    uint32_t *map = (uint32_t *)malloc(sizeof *map * count);
+    WANT(map && intaglio_absorb(&table, bytes, len, map, count) == INTAGLIO_NO_TABLE);
+    WANT(intaglio_with_limit(&table, kind, count, 1, 2) == INTAGLIO_DONE);
+    WANT(intaglio_intern(&table, text + start_of(1), ends[1] - start_of(1), map) == INTAGLIO_DONE && map[0] == 0);
+    WANT(intaglio_absorb(&table, bytes, len, map, count - 1) == INTAGLIO_BAD_ENDS && intaglio_absorb(&table, bytes, len - 1, map, count) != INTAGLIO_DONE);
+    WANT(intaglio_len(&table) == 1);
+    for (int again = 0; again < 2; again++) {
+        WANT(intaglio_absorb(&table, bytes, len, map, count) == INTAGLIO_DONE && intaglio_len(&table) == count);
+        for (size_t i = 0; i < count; i++) WANT(map[i] == (i == 0 ? 1 : i == 1 ? 0 : i));
+        is_map(&table, bytes, len, map);
+    }
+    WANT(intaglio_with_limit(&table, kind, count - 1, 1, 2) == INTAGLIO_DONE);
+    WANT(intaglio_absorb(&table, bytes, len, map, count) == INTAGLIO_FULL && intaglio_len(&table) == 0);
+    WANT(intaglio_new(&table, INTAGLIO_CSTR, 1, 2) == INTAGLIO_DONE);
+    WANT(intaglio_absorb(&table, bytes, len, map, count) == INTAGLIO_MISSING_ZERO && intaglio_len(&table) == 0);
+    intaglio_free(&table);
+    free(map);
+}
+
 /* A pointer with a count of 0 may be null. */
 static void pass_null(const uint8_t *bytes, size_t len) {
     uint32_t symbol = 7;
@@ -83,7 +112,23 @@ static void pass_null(const uint8_t *bytes, size_t len) {
     WANT(!intaglio_frozen_get(NULL, 0, 0, &out) && !intaglio_frozen_find(NULL, 0, NULL, 0, &symbol) && out.len == 7 && symbol == 7);
     WANT(intaglio_frozen_find_all(NULL, 0, NULL, 0, NULL, 0, NULL, 0) == INTAGLIO_NOT_FROZEN);
     WANT(intaglio_frozen_find_all(bytes, len, NULL, 0, NULL, 0, NULL, 0) == INTAGLIO_DONE);
+    intaglio_table table = INTAGLIO_TABLE_NONE;
+    WANT(intaglio_new(&table, INTAGLIO_BYTES, 1, 2) == INTAGLIO_DONE && intaglio_absorb(&table, NULL, 0, NULL, 0) == INTAGLIO_NOT_FROZEN);
+    intaglio_free(&table);
     (void)intaglio_frozen_find(bytes, len, NULL, 0, &symbol);
+}
+
+/* Bytes that may be no table: all of their strings are taken in, or none. */
+static void absorb_any(const uint8_t *bytes, size_t len) {
+    intaglio_table table = INTAGLIO_TABLE_NONE;
+    size_t held = intaglio_frozen_len(bytes, len);
+    uint32_t *map = (uint32_t *)malloc(sizeof *map * (held + 1));
+    WANT(map && intaglio_with_capacity(&table, INTAGLIO_PACKED_BYTES, 0, 1, 2) == INTAGLIO_DONE);
+    if (intaglio_absorb(&table, bytes, len, map, held) == INTAGLIO_DONE) is_map(&table, bytes, len, map);
+    else WANT(intaglio_len(&table) == 0);
+    WANT(intaglio_frozen_check(bytes, len) != INTAGLIO_DONE || intaglio_len(&table) == held);
+    intaglio_free(&table);
+    free(map);
 }
 
 /* Reads bytes that may be no table, and writes the code of them, the code of looking up all strings, and their numbers. What is found is what was
@@ -99,6 +144,7 @@ static void read_any(const uint8_t *bytes, size_t len) {
     printf(" %u", intaglio_frozen_find_all(bytes, len, text, ends[count - 1], ends, count, symbols, count));
     for (size_t i = 0; i < count; i++) printf(" %llu", (unsigned long long)symbols[i]);
     printf("\n");
+    absorb_any(bytes, len);
     for (size_t i = 0; i < count; i++) {
         const uint8_t *string = text + start_of(i);
         size_t size = ends[i] - start_of(i);
@@ -120,6 +166,7 @@ int main(int argc, char **argv) {
     WANT(intaglio_frozen_is_text(bytes, len) == (strcmp(argv[2], "text") == 0));
     pass_null(bytes, len);
     freeze(bytes, len, strcmp(argv[2], "text") == 0 ? INTAGLIO_TEXT : INTAGLIO_BYTES);
+    absorb(bytes, len, strcmp(argv[2], "text") == 0 ? INTAGLIO_TEXT : INTAGLIO_PACKED_BYTES);
     for (size_t cut = 0; cut < len; cut++) {
         /* (an allocation of its own, so that a read behind it is seen) */
         uint8_t *front = (uint8_t *)malloc(cut ? cut : 1);

@@ -112,6 +112,15 @@ static void run(uint32_t kind, long nth) {
         before = refused;
     }
     WANT(intaglio_frozen_check(frozen, size) == INTAGLIO_DONE && intaglio_frozen_len(frozen, size) == 14);
+    WANT(intaglio_take_back(&table, 5) == INTAGLIO_DONE);
+    uint32_t map[14];
+    before = refused;
+    while (!done(intaglio_absorb(&table, frozen, size, map, 14), before, nth)) {
+        holds(&table, 5, nth);
+        before = refused;
+    }
+    for (uint32_t i = 0; i < 14; i++) WANT(map[i] == i);
+    holds(&table, 14, nth);
     intaglio_free(&table);
 }
 

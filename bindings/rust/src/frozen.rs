@@ -112,6 +112,49 @@ impl fmt::Display for FreezeError {
 
 impl Error for FreezeError {}
 
+/// Why the strings of a frozen table weren't interned. The strings of the table are unchanged.
+#[derive(Debug, Clone, Copy, PartialEq, Eq, Hash)]
+#[non_exhaustive]
+pub enum AbsorbError {
+    /// A string is new, and the table holds as many as its limit.
+    Full,
+    /// Out of memory.
+    NoMemory,
+    /// A string isn't UTF-8, and the table is one of texts or of paths.
+    NotUtf8,
+    /// A string isn't a C string with its zero, and the table is one of C strings.
+    NotCString,
+    /// The bytes are no frozen table. They weren't checked when it was opened.
+    NotFrozen(FrozenError),
+}
+
+impl AbsorbError {
+    // The error of a code.
+    pub(crate) fn of(code: u32) -> AbsorbError {
+        match code {
+            2 => AbsorbError::Full,
+            3 => AbsorbError::NoMemory,
+            6 => AbsorbError::NotUtf8,
+            7 | 8 => AbsorbError::NotCString,
+            _ => AbsorbError::NotFrozen(FrozenError::check(code).expect_err("the code of an error")),
+        }
+    }
+}
+
+impl fmt::Display for AbsorbError {
+    fn fmt(&self, f: &mut fmt::Formatter<'_>) -> fmt::Result {
+        match self {
+            AbsorbError::Full => f.write_str("the table is full"),
+            AbsorbError::NoMemory => f.write_str("out of memory"),
+            AbsorbError::NotUtf8 => f.write_str("a string of the frozen table isn't UTF-8"),
+            AbsorbError::NotCString => f.write_str("a string of the frozen table isn't a C string"),
+            AbsorbError::NotFrozen(fault) => fault.fmt(f),
+        }
+    }
+}
+
+impl Error for AbsorbError {}
+
 /// A read-only symbol table over bytes.
 ///
 /// ```
@@ -149,6 +192,10 @@ impl<'a> Frozen<'a> {
     #[must_use]
     pub fn open_trusted(bytes: &'a [u8]) -> Self {
         Frozen { raw: RawFrozen::new(bytes) }
+    }
+
+    pub(crate) fn raw(&self) -> RawFrozen<'a> {
+        self.raw
     }
 
     /// The bytes.

@@ -14,6 +14,7 @@ use core::fmt::{self, Debug};
 use core::marker::PhantomData;
 use core::ptr::null_mut;
 use std::ffi::OsStr;
+use std::os::unix::ffi::OsStrExt;
 
 use crate::refusal::Refusal;
 
@@ -46,6 +47,7 @@ unsafe extern "C" {
     fn intaglio_take_back(table: *mut RawHandle, mark: usize) -> u32;
     fn intaglio_intern_all(table: *mut RawHandle, bytes: *const u8, len: usize, ends: *const usize, count: usize, symbols: *mut u32, symbols_count: usize) -> u32;
     fn intaglio_check_all(table: *mut RawHandle, bytes: *const u8, len: usize, ends: *const usize, count: usize, symbols: *mut u64, symbols_count: usize) -> u32;
+    fn intaglio_absorb(table: *mut RawHandle, frozen: *const u8, len: usize, symbols: *mut u32, symbols_count: usize) -> u32;
     fn intaglio_freeze(table: *mut RawHandle, key0: u64, key1: u64, buffer: *mut u8, size: usize, len: *mut usize) -> u32;
     fn intaglio_frozen_check(bytes: *const u8, len: usize) -> u32;
     fn intaglio_frozen_find(bytes: *const u8, len: usize, string: *const u8, string_len: usize, symbol: *mut u32) -> bool;
@@ -205,8 +207,7 @@ impl Kind for Path {
     }
 
     unsafe fn content(bytes: &[u8]) -> &std::path::Path {
-        // SAFETY: As in `Osstr`.
-        std::path::Path::new(unsafe { OsStr::from_encoded_bytes_unchecked(bytes) })
+        std::path::Path::new(OsStr::from_bytes(bytes))
     }
 }
 
@@ -226,9 +227,7 @@ impl Kind for Osstr {
     }
 
     unsafe fn content(bytes: &[u8]) -> &OsStr {
-        // SAFETY: The bytes are those that `bytes` of this kind took from an `OsStr`: a kind is a type, so no other kind's get
-        // into the table.
-        unsafe { OsStr::from_encoded_bytes_unchecked(bytes) }
+        OsStr::from_bytes(bytes)
     }
 }
 
@@ -420,6 +419,16 @@ impl<K: Kind> RawTable<K> {
         });
         assert!(code == 0, "the ends ascend, and there is a place for each symbol");
         symbols.into_iter().map(|symbol| u32::try_from(symbol).ok()).collect()
+    }
+
+    /// Interns all strings of a frozen table, or returns the error's code.
+    pub fn absorb(&mut self, frozen: RawFrozen<'_>) -> Result<Vec<u32>, u32> {
+        let mut symbols = vec![0; frozen.len()];
+        // SAFETY: As in `intern`. `symbols` is a vector of its own.
+        let code = unsafe {
+            intaglio_absorb(&mut self.handle, frozen.bytes.as_ptr(), frozen.bytes.len(), symbols.as_mut_ptr(), symbols.len())
+        };
+        if code == 0 { Ok(symbols) } else { Err(code) }
     }
 
     // Freezes the table into a buffer of this size. Returns the code, and how many bytes there are.

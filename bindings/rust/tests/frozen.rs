@@ -1,7 +1,7 @@
 //! Frozen tables. The bytes were written by `checks/frozen_tables.py`, from `docs/FROZEN.md` alone.
 use std::thread;
 
-use intaglio_proved::frozen::{Frozen, FrozenError};
+use intaglio_proved::frozen::{AbsorbError, Frozen, FrozenError};
 use intaglio_proved::{Symbol, SymbolTable, bytes, cstr};
 
 /// The texts "a", "bc" and "", under the keys 1 and 2.
@@ -82,6 +82,32 @@ fn a_table_is_frozen_to_the_bytes_of_the_writer_in_python() {
     table.intern_all(["a", "bc", ""]).unwrap();
     assert_eq!(table.freeze((1, 2)).unwrap(), TEXTS);
     assert_eq!(table.strings().collect::<Vec<_>>(), ["a", "bc", ""]);
+}
+
+#[test]
+fn a_table_interns_the_strings_of_a_frozen_one() {
+    let frozen = Frozen::open(&TEXTS).unwrap();
+    let mut table = SymbolTable::new();
+    table.intern("bc").unwrap();
+    assert_eq!(table.absorb(&frozen).unwrap(), [1, 0, 2].map(Symbol::new));
+    assert_eq!(table.strings().collect::<Vec<_>>(), ["bc", "a", ""]);
+    assert_eq!(table.absorb(&frozen).unwrap(), [1, 0, 2].map(Symbol::new));
+    let nothing = Frozen::open_trusted(b"");
+    assert_eq!(table.absorb(&nothing), Err(AbsorbError::NotFrozen(FrozenError::NotFrozen)));
+    assert_eq!(table.len(), 3);
+}
+
+#[test]
+fn a_table_interns_all_strings_of_a_frozen_one_or_none() {
+    let frozen = Frozen::open(&TEXTS).unwrap();
+    let mut small = SymbolTable::with_limit(2).unwrap();
+    assert_eq!(small.absorb(&frozen), Err(AbsorbError::Full));
+    assert!(small.is_empty());
+    assert_eq!(cstr::SymbolTable::new().absorb(&frozen), Err(AbsorbError::NotCString));
+    let mut others = bytes::SymbolTable::new();
+    others.intern(b"\xff".to_vec()).unwrap();
+    let data = others.freeze((0, 0)).unwrap();
+    assert_eq!(SymbolTable::new().absorb(&Frozen::open(&data).unwrap()), Err(AbsorbError::NotUtf8));
 }
 
 #[test]

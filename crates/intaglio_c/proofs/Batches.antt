@@ -1,59 +1,31 @@
 -- Batches, one string at a time.
-use Rattle.std.proofs.Common.{◌≡◌, ℕ, zero, suc, ◌+◌, ◌-◌, ◌<◌, ◌≤◌, Bool, true, false, cond, inl, inr, List, [], ◌∷◌, ◌++◌, length, take, drop, refl, sym, ap, subst, ◌∙◌, le_refl, arith, length-append, append_assoc, append-nil}
-use Rattle.std.specs.Prelude.{if◌then◌else◌, Option, Some, None, Result, Ok, Err, is_some, unwrap_or, slice_get, option_map, option_and_then}
+use Rattle.std.proofs.Common.{◌≡◌, ℕ, zero, suc, ◌+◌, ◌-◌, ◌<◌, ◌≤◌, Bool, true, false, cond, inl, inr, List, [], ◌∷◌, ◌++◌, length, map, take, drop, refl, sym, ap, subst, ◌∙◌, le_refl, arith, length-append, append_assoc, append-nil}
+use Rattle.std.specs.Prelude.{Option, Some, None, Result, Ok, Err, is_some, unwrap_or, slice_get, option_map, option_and_then}
 use Rattle.std.specs.List.{concat}
 use Rattle.std.proofs.Math.ListN.{get_or, set}
-use Rattle.std.proofs.Math.Seq.{take-append_seam, take-length}
-use Rattle.std.proofs.lemmas.List.{take-take, take_more, take_more_set, take_at, take-append-drop, drop_more, drop_at, drop-drop, at_drop_more, length-drop}
+use Rattle.std.proofs.Math.Seq.{take-length}
+use Rattle.std.proofs.lemmas.List.{take-append-le, take_all, take_more, take_more_set, take_at, take-append-drop, drop_more, drop_at, drop-drop, length-drop, map_push}
 use Rattle.std.proofs.lemmas.List.Folds.{concat-append}
+use Rattle.std.proofs.lemmas.Option.{slice_get_within}
 use borrow.Rule.Slice.PartMut.{put_mid}
 use Rattle.std.proofs.lemmas.Result.{IfOk-at_ok, IfErr-at_err}
-use Rattle.intaglio_core.proofs.Held.{interned_all-append, issue_from-append}
-use Rattle.intaglio_core.specs.Change.{IsAppended, TakesBack}
+use Rattle.intaglio_core.proofs.Laws.{interned_all-found}
+use Rattle.intaglio_core.proofs.Held.{interned_all-append, interned_all-longer, issue_from-append}
+use Rattle.intaglio_core.specs.Change.{IsAppended}
 use Rattle.intaglio_core.specs.Issue.{issued, interned, interned_all, issue_from}
-use Rattle.intaglio_core.specs.State.{State}
-use Rattle.intaglio_symbol.specs.declared.error.StaleMark.{StaleMark}
-use Rattle.intaglio_c.specs.Batches.{all_stored, ends_from, are_ends, pieces, AreInterned, IsBegun, IsRolledBack, InternsOr, StopsAt, DoNotFit}
+use Rattle.intaglio_core.specs.State.{State, first}
+use Rattle.intaglio_c.specs.Batches.{all_stored, ends_from, found_all, or_absent, AreInterned, IsBegun, IsRolledBack, InternsOr, DoNotFit}
 use Rattle.intaglio_c.proofs.Faults.{one_more}
+use Rattle.intaglio_c.proofs.Pieces.{drop_there, take_there}
+use Rattle.intaglio_c.specs.Handles.{found}
 use Rattle.intaglio_c.specs.Kinds.{fault, first_fault, key}
-use Rattle.intaglio_c.specs.Seen.{Seen, position, unless, IsChangedBy}
+use Rattle.intaglio_c.specs.Seen.{Seen, look_up, position, unless, IsChangedBy}
 use Rattle.intaglio_c.specs.Steps.{Interns, InternsBy}
 use Rattle.intaglio_c.specs.declared.kind.Kind.{Kind}
 use Rattle.intaglio_c.specs.declared.refusal.Refusal.{Refusal}
 use Rattle.intaglio_c.specs.declared.refusal.Refusal.TheVariants as refusal
 
--- the ends that are left ascend too
-last-of : (b c x : Bool) → (if b then false else if c then false else x) ≡ true → x ≡ true
-last-of true c true h = refl
-last-of true c false h = h
-last-of false true true h = refl
-last-of false true false h = h
-last-of false false x h = h
-
-pub ends_more : (size start : ℕ) (ends : List ℕ) (i : ℕ) → i < length ends → are_ends size start (drop i ends) ≡ true → are_ends size (get_or ends i 0) (drop (i + 1) ends) ≡ true
-ends_more size start ends i inside h = last-of _ _ _ (sym (at_drop_more (are_ends size start) ends i 0 inside) ∙ h)
-
--- what stands before it is kept
-begun-same : (s s' : State (List ℕ)) → s' ≡ s → IsBegun s s'
-begun-same s s' same =
-    subst (λ (x : State (List ℕ)). IsBegun s x) (sym same) (record { within = le_refl _; contents = take-length s.contents; capacity = le_refl _; limit = refl })
-
-begun-grown : (s s' : State (List ℕ)) (string : List ℕ) → s'.contents ≡ s.contents ++ string ∷ [] → length s.contents + s.spare ≤ length s'.contents + s'.spare → s'.limit ≡ s.limit → IsBegun s s'
-begun-grown s s' string grown capacity limit = record {
-  within = omega (arith, ap length grown, length-append s.contents (string ∷ []));
-  contents = ap (take (length s.contents)) grown ∙ take-append_seam s.contents (string ∷ []);
-  capacity = capacity;
-  limit = limit;
-}
-
-begun-then : (a b c : State (List ℕ)) → IsBegun a b → IsBegun b c → IsBegun a c
-begun-then a b c first second = record {
-  within = omega (arith, first.within, second.within);
-  contents = sym (take-take (length a.contents) (length b.contents) c.contents first.within) ∙ ap (take (length a.contents)) second.contents ∙ first.contents;
-  capacity = omega (arith, first.capacity, second.capacity);
-  limit = second.limit ∙ first.limit;
-}
-
+-- the capacity after one interning
 taken-capacity : (s s' : State (List ℕ)) (string : List ℕ) (symbol : ℕ) → IsAppended s string symbol s' → length s.contents + s.spare ≤ length s'.contents + s'.spare
 taken-capacity s s' string symbol taken = by_room s.spare refl
   where
@@ -64,116 +36,116 @@ taken-capacity s s' string symbol taken = by_room s.spare refl
     by_room zero e = omega (arith, count, e)
     by_room (suc n) e = omega (arith, count, (taken.spare (omega (arith, e))).0)
 
+same-capacity : (s s' : State (List ℕ)) → s' ≡ s → length s.contents + s.spare ≤ length s'.contents + s'.spare
+same-capacity s s' same = subst (λ (x : State (List ℕ)). length s.contents + s.spare ≤ length x.contents + x.spare) (sym same) (le_refl _)
+
 -- one interning of a batch
 accepted-by : (fault : Option Refusal) (o : Option ℕ) (s s' : State (List ℕ)) (string : List ℕ) (symbol : ℕ) → InternsBy true string s (unless fault o) (Ok symbol) s'
-    → (fault ≡ None) × (symbol ≡ unwrap_or o (length s.contents)) × (s'.contents ≡ cond (is_some o) s.contents (s.contents ++ string ∷ [])) × IsBegun s s'
-accepted-by None None s s' string symbol taken = (refl, taken.position, taken.contents, begun-grown s s' string taken.contents (taken-capacity s s' string symbol taken) taken.limit)
-accepted-by None (Some i) s s' string symbol known = (refl, IfOk-at_ok (λ n. symbol ≡ n) known.0 refl, ap (λ (x : State (List ℕ)). x.contents) known.1, begun-same s s' known.1)
+    → (fault ≡ None) × (symbol ≡ unwrap_or o (length s.contents)) × (s'.contents ≡ cond (is_some o) s.contents (s.contents ++ string ∷ [])) × (length s.contents + s.spare ≤ length s'.contents + s'.spare) × (s'.limit ≡ s.limit)
+accepted-by None None s s' string symbol taken = (refl, taken.position, taken.contents, taken-capacity s s' string symbol taken, taken.limit)
+accepted-by None (Some i) s s' string symbol known = (refl, IfOk-at_ok (λ n. symbol ≡ n) known.0 refl, ap (λ (x : State (List ℕ)). x.contents) known.1, same-capacity s s' known.1, ap (λ (x : State (List ℕ)). x.limit) known.1)
 accepted-by (Some r) o s s' string symbol refused = absurd (IfErr-at_err (λ _. ⊥) refused.0 tt)
 
--- an interning that fails keeps what stands before it
-kept-by : (f : Option Refusal) (o : Option ℕ) (s s' : State (List ℕ)) (string : List ℕ) (r : Refusal) → InternsBy true string s (unless f o) (Err r) s' → IsBegun s s'
-kept-by None None s s' string refusal.Full full = begun-same s s' full.1
-kept-by None None s s' string refusal.NoMemory (inl kept) = begun-same s s' kept.same
-kept-by None None s s' string refusal.NoMemory (inr kept) = record {
-  within = omega (arith, ap length kept.contents);
-  contents = ap (take (length s.contents)) kept.contents ∙ take-length s.contents;
-  capacity = omega (arith, ap length kept.contents, kept.spare);
-  limit = kept.limit;
-}
+-- one that fails
+unchanged : (s s' : State (List ℕ)) → s' ≡ s → IsRolledBack s s'
+unchanged s s' same = record { contents = ap (λ (x : State (List ℕ)). x.contents) same; capacity = same-capacity s s' same; limit = ap (λ (x : State (List ℕ)). x.limit) same }
+
+kept-by : (f : Option Refusal) (o : Option ℕ) (s s' : State (List ℕ)) (string : List ℕ) (r : Refusal) → InternsBy true string s (unless f o) (Err r) s' → IsRolledBack s s'
+kept-by None None s s' string refusal.Full full = unchanged s s' full.1
+kept-by None None s s' string refusal.NoMemory (inl kept) = unchanged s s' kept.same
+kept-by None None s s' string refusal.NoMemory (inr kept) = record { contents = kept.contents; capacity = omega (arith, ap length kept.contents, kept.spare); limit = kept.limit }
 kept-by None None s s' string _ never = absurd never
-kept-by None (Some i) s s' string r known = begun-same s s' known.1
-kept-by (Some f) o s s' string r refused = begun-same s s' refused.1
+kept-by None (Some i) s s' string r known = unchanged s s' known.1
+kept-by (Some f) o s s' string r refused = unchanged s s' refused.1
+
+-- what is held stays in front of what is interned
+front : (kind : Kind) (n : ℕ) (held strings : List (List ℕ)) → n ≤ length held → take n (interned_all (key kind) held strings) ≡ take n held
+front kind n held [] within = refl
+front kind n held (string ∷ strings) within =
+    let one = by_known (is_some (first (key kind) held (key kind string))) in
+    front kind n (interned (key kind) held string) strings one.0 ∙ one.1
+  where
+    by_known : (b : Bool) → (n ≤ length (cond b held (held ++ string ∷ []))) × (take n (cond b held (held ++ string ∷ [])) ≡ take n held)
+    by_known true = (within, refl)
+    by_known false = (omega (arith, within, length-append held (string ∷ [])), take-append-le n held (string ∷ []) within)
+
+begun : (t : Seen) (strings : List (List ℕ)) (symbols : List ℕ) (s s' : State (List ℕ)) → AreInterned t strings symbols s → IsRolledBack s s' → IsBegun t.state s'
+begun t strings symbols s s' all kept =
+    let held = t.state.contents in
+    let are : s'.contents ≡ interned_all (key t.kind) held strings = kept.contents ∙ all.contents in record {
+      within = omega (arith, ap length are, interned_all-longer (key t.kind) held strings);
+      contents = ap (take (length held)) kept.contents ∙ all.kept;
+      capacity = omega (arith, all.capacity, kept.capacity);
+      limit = kept.limit ∙ all.limit;
+    }
 
 module _ (t0 : Seen) (strings : List (List ℕ)) where
-  -- a batch on its way: the strings before these are interned, and their symbols are written
-  pub record IsAt (t : Seen) (left : List (List ℕ)) (given : List ℕ) : Type 0 where
-    pub kind : t.kind ≡ t0.kind
-    pub hasher : t.hasher ≡ t0.hasher
-    pub before : List (List ℕ)
-    pub are : before ++ left ≡ strings
-    pub faultless : first_fault t0.kind before ≡ None
-    pub symbols : given ≡ issue_from (key t0.kind) t0.state.contents before
-    pub contents : t.state.contents ≡ interned_all (key t0.kind) t0.state.contents before
-    pub begun : IsBegun t0.state t.state
+  -- the first strings are interned
+  abbrev pub Begins : Seen → ℕ → List ℕ → Type 0
+  Begins t n issued = IsChangedBy t0 t (λ _ s'. AreInterned t0 (take n strings) issued s')
 
-  pub begin : IsAt t0 strings []
-  begin = record { kind = refl; hasher = refl; before = []; are = refl; faultless = refl; symbols = refl; contents = refl; begun = begun-same t0.state t0.state refl }
-
-  pub turn : (t t' : Seen) (string : List ℕ) (left : List (List ℕ)) (given : List ℕ) (symbol : ℕ) → IsAt t (string ∷ left) given → IsChangedBy t t' (λ _ s'. Interns string t (Ok symbol) s') → IsAt t' left (given ++ symbol ∷ [])
-  turn t t' string left given symbol at step =
-      let k = key t0.kind in let one = string ∷ [] in let ok = accepted-by (fault t.kind string) (position t string) t.state t'.state string symbol step.step in
-      let none : fault t0.kind string ≡ None = subst (λ (x : Kind). fault x string ≡ None) at.kind ok.0 in
-      let issue : symbol ≡ issued k t.state.contents string = subst (λ (x : Kind). symbol ≡ issued (key x) t.state.contents string) at.kind ok.1 in
-      let grown : t'.state.contents ≡ interned k t.state.contents string = subst (λ (x : Kind). t'.state.contents ≡ interned (key x) t.state.contents string) at.kind ok.2 in record {
-        kind = step.kind ∙ at.kind;
-        hasher = step.hasher ∙ at.hasher;
-        before = at.before ++ one;
-        are = append_assoc at.before one left ∙ at.are;
-        faultless = one_more t0.kind at.before string at.faultless none;
-        symbols = (λ i. at.symbols i ++ (issue ∙ ap (λ (cs : List (List ℕ)). issued k cs string) at.contents) i ∷ []) ∙ sym (issue_from-append k t0.state.contents at.before one);
-        contents = grown ∙ ap (λ (cs : List (List ℕ)). interned k cs string) at.contents ∙ sym (interned_all-append k t0.state.contents at.before one);
-        begun = begun-then t0.state t.state t'.state at.begun ok.3;
+  pub turned : (t t' : Seen) (symbols : List ℕ) (i symbol : ℕ) (string : List ℕ) (result : Result ℕ Refusal) → slice_get strings i ≡ Some string → length symbols ≡ length strings → Begins t i (take i symbols)
+      → result ≡ Ok symbol → IsChangedBy t t' (λ _ s'. Interns string t result s')
+      → Begins t' (i + 1) (take (i + 1) (set symbols i symbol))
+  turned t t' symbols i symbol string result there places begins ok step =
+      let k = key t0.kind in let held = t0.state.contents in let one = string ∷ [] in let all = begins.step in
+      let more = take_there strings i string there in
+      let taken = accepted-by (fault t.kind string) (position t string) t.state t'.state string symbol (subst (λ (r : Result ℕ Refusal). Interns string t r t'.state) ok step.step) in
+      let none : fault t0.kind string ≡ None = subst (λ (x : Kind). fault x string ≡ None) begins.kind taken.0 in
+      let issue : symbol ≡ issued k t.state.contents string = subst (λ (x : Kind). symbol ≡ issued (key x) t.state.contents string) begins.kind taken.1 in
+      let grown : t'.state.contents ≡ interned k t.state.contents string = subst (λ (x : Kind). t'.state.contents ≡ interned (key x) t.state.contents string) begins.kind taken.2 in
+      let given : take (i + 1) (set symbols i symbol) ≡ issue_from k held (take (i + 1) strings) =
+      take_more_set symbols i symbol (omega (arith, slice_get_within strings i string there, places)) ∙ (λ j. all.symbols j ++ (issue ∙ ap (λ (cs : List (List ℕ)). issued k cs string) all.contents) j ∷ [])
+      ∙ sym (issue_from-append k held (take i strings) one) ∙ ap (issue_from k held) (sym more) in
+      let after : t'.state.contents ≡ interned_all k held (take (i + 1) strings) =
+      grown ∙ ap (λ (cs : List (List ℕ)). interned k cs string) all.contents ∙ sym (interned_all-append k held (take i strings) one) ∙ ap (interned_all k held) (sym more) in record {
+        kind = step.kind ∙ begins.kind;
+        hasher = step.hasher ∙ begins.hasher;
+        step = record {
+          faultless = ap (first_fault t0.kind) more ∙ one_more t0.kind (take i strings) string all.faultless none;
+          symbols = given;
+          contents = after;
+          found = interned_all-found k t0.state t'.state (take (i + 1) strings) _ given after;
+          kept = ap (take (length held)) after ∙ front t0.kind (length held) held (take (i + 1) strings) (le_refl _) ∙ take-length held;
+          capacity = omega (arith, all.capacity, taken.3);
+          limit = taken.4 ∙ all.limit;
+        };
       }
 
-  -- the same in the loop, at the string that ends here
-  pub turned : (t t' : Seen) (bytes ends symbols : List ℕ) (start i symbol : ℕ) (result : Result ℕ Refusal) → i < length ends → length symbols ≡ length ends → IsAt t (pieces bytes start (drop i ends)) (take i symbols)
-      → result ≡ Ok symbol → IsChangedBy t t' (λ _ s'. Interns (take (get_or ends i 0 - start) (drop start bytes)) t result s')
-      → IsAt t' (pieces bytes (get_or ends i 0) (drop (i + 1) ends)) (take (i + 1) (set symbols i symbol))
-  turned t t' bytes ends symbols start i symbol result inside places at ok step =
-      let end = get_or ends i 0 in let string = take (end - start) (drop start bytes) in let left = pieces bytes end (drop (i + 1) ends) in
-      subst (λ (given : List ℕ). IsAt t' left given) (sym (take_more_set symbols i symbol (omega (arith, inside, places))))
-      (turn t t' string left (take i symbols) symbol
-      (subst (λ (ls : List (List ℕ)). IsAt t ls (take i symbols)) (at_drop_more (pieces bytes start) ends i 0 inside) at)
-      (subst (λ (r : Result ℕ Refusal). IsChangedBy t t' (λ _ s'. Interns string t r s')) ok step))
-
-  pub finished : (t : Seen) (given : List ℕ) → IsAt t [] given → AreInterned t0 strings given t.state
-  finished t given at =
-      let all : at.before ≡ strings = sym (append-nil at.before) ∙ at.are in record {
-        faultless = ap (first_fault t0.kind) (sym all) ∙ at.faultless;
-        symbols = at.symbols ∙ ap (issue_from (key t0.kind) t0.state.contents) all;
-        contents = at.contents ∙ ap (interned_all (key t0.kind) t0.state.contents) all;
-        capacity = at.begun.capacity;
-        limit = at.begun.limit;
+  pub stopped : (t t' : Seen) (issued symbols : List ℕ) (i : ℕ) (string : List ℕ) (refusal : Refusal) (result : Result ℕ Refusal) → slice_get strings i ≡ Some string → Begins t i issued
+      → result ≡ Err refusal → IsChangedBy t t' (λ _ s'. Interns string t result s')
+      → IsChangedBy t0 t' (λ _ s'. InternsOr IsBegun strings symbols t0 (Err refusal) s')
+  stopped t t' issued symbols i string refusal result there begins err step =
+      let failed : Interns string t (Err refusal) t'.state = subst (λ (r : Result ℕ Refusal). Interns string t r t'.state) err step.step in record {
+        kind = step.kind ∙ begins.kind;
+        hasher = step.hasher ∙ begins.hasher;
+        step = (
+          record {
+            before = take i strings;
+            string = string;
+            behind = drop (i + 1) strings;
+            are = sym (take-append-drop i strings) ∙ ap (λ (x : List (List ℕ)). take i strings ++ x) (drop_there strings i string there);
+            faultless = begins.step.faultless;
+            reached = t.state;
+            contents = begins.step.contents;
+            limit = begins.step.limit;
+            left = t'.state;
+            alone = subst (λ (x : Kind). Interns string (record { kind = x; state = t.state; hasher = t0.hasher }) (Err refusal) t'.state) begins.kind failed;
+          },
+          begun t0 (take i strings) issued t.state t'.state begins.step (kept-by (fault t.kind string) (position t string) t.state t'.state string refusal failed),
+        );
       }
 
-  pub refused : (t t' : Seen) (string : List ℕ) (left : List (List ℕ)) (given symbols : List ℕ) (r : Refusal) → IsAt t (string ∷ left) given → IsChangedBy t t' (λ _ s'. Interns string t (Err r) s')
-      → InternsOr IsBegun strings symbols t0 (Err r) t'.state
-  refused t t' string left given symbols r at step = (stops, begun-then t0.state t.state t'.state at.begun (kept-by (fault t.kind string) (position t string) t.state t'.state string r step.step))
-    where
-      stops : StopsAt t0 strings r
-      stops = record {
-        before = at.before;
-        string = string;
-        behind = left;
-        are = sym at.are;
-        faultless = at.faultless;
-        reached = t.state;
-        contents = at.contents;
-        limit = at.begun.limit;
-        left = t'.state;
-        alone = subst (λ (x : Kind). Interns string (record { kind = x; state = t.state; hasher = t0.hasher }) (Err r) t'.state) at.kind step.step;
-      }
+  pub finished : (t : Seen) (symbols : List ℕ) (i : ℕ) → length strings ≤ i → length symbols ≡ length strings → Begins t i (take i symbols) → IsChangedBy t0 t (λ _ s'. InternsOr IsBegun strings symbols t0 (Ok tt) s')
+  finished t symbols i end places all =
+      subst (λ (ws : List (List ℕ)). IsChangedBy t0 t (λ _ s'. AreInterned t0 ws symbols s')) (take_all i strings end)
+      (subst (λ (ns : List ℕ). IsChangedBy t0 t (λ _ s'. AreInterned t0 (take i strings) ns s')) (take_all i symbols (omega (arith, end, places))) all)
 
-  pub stopped : (t t' : Seen) (bytes ends symbols written : List ℕ) (start i : ℕ) (refusal : Refusal) (result : Result ℕ Refusal) → i < length ends → IsAt t (pieces bytes start (drop i ends)) (take i symbols)
-      → result ≡ Err refusal → IsChangedBy t t' (λ _ s'. Interns (take (get_or ends i 0 - start) (drop start bytes)) t result s')
-      → IsChangedBy t0 t' (λ _ s'. InternsOr IsBegun strings written t0 (Err refusal) s')
-  stopped t t' bytes ends symbols written start i refusal result inside at err step =
-      let end = get_or ends i 0 in let string = take (end - start) (drop start bytes) in let left = pieces bytes end (drop (i + 1) ends) in
-      let here = subst (λ (ls : List (List ℕ)). IsAt t ls (take i symbols)) (at_drop_more (pieces bytes start) ends i 0 inside) at in record {
-        kind = step.kind ∙ at.kind;
-        hasher = step.hasher ∙ at.hasher;
-        step = refused t t' string left (take i symbols) written refusal here (subst (λ (r : Result ℕ Refusal). IsChangedBy t t' (λ _ s'. Interns string t r s')) err step);
-      }
-
--- after a refusal the strings that came before it are dropped
-pub rolled_back : (s0 s1 s2 : State (List ℕ)) (result : Result (Unit {0}) StaleMark) → IsBegun s0 s1 → TakesBack s1 (length s0.contents) result s2 → IsRolledBack s0 s2
-rolled_back s0 s1 s2 (Ok done) begun cut = record { contents = cut.contents ∙ begun.contents; capacity = omega (arith, cut.spare, begun.capacity); limit = cut.limit ∙ begun.limit }
-rolled_back s0 s1 s2 (Err stale) begun kept = absurd (omega (arith, kept.0, begun.within))
-
-pub none_left : (t : Seen) (strings : List (List ℕ)) (symbols : List ℕ) (s1 s2 : State (List ℕ)) (r : Refusal) → (IsBegun t.state s1 → IsRolledBack t.state s2) → InternsOr IsBegun strings symbols t (Err r) s1
-    → InternsOr IsRolledBack strings symbols t (Err r) s2
-none_left t strings symbols s1 s2 r rolled why = (why.0, rolled why.1)
+-- one string more is looked up
+pub found_more : (t : Seen) (strings : List (List ℕ)) (symbols : List ℕ) (i n : ℕ) (string : List ℕ) → slice_get strings i ≡ Some string → i < length symbols → n ≡ or_absent (found (look_up t string))
+    → take i symbols ≡ found_all t (take i strings) → take (i + 1) (set symbols i n) ≡ found_all t (take (i + 1) strings)
+found_more t strings symbols i n string there inside is before =
+    take_more_set symbols i n inside ∙ (λ j. before j ++ is j ∷ []) ∙ sym (map_push (λ (w : List ℕ). or_absent (found (look_up t w))) (take i strings) string) ∙ ap (found_all t) (sym (take_there strings i string there))
 
 -- the strings of symbols
 map-then : {X Y Z : Type 0} (f : Y → Z) (g : X → Y) (o : Option X) → option_map f (option_map g o) ≡ option_map (λ x. f (g x)) o

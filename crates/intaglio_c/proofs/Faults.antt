@@ -2,15 +2,17 @@
 use Rattle.std.proofs.Common.{◌∙◌, Bool, ◌≡◌, ℕ, zero, suc, ◌+◌, ◌-◌, ◌<◌, true, false, List, [], ◌∷◌, ◌++◌, length, take, refl, sym, ap, arith, cond, inl, inr, ◌⊎◌}
 use Rattle.std.specs.Prelude.{if◌then◌else◌, Option, Some, None, Result, Ok, Err, ◌==◌, IsUtf8, is_some}
 use Rattle.std.specs.Str.{is_utf8}
-use Rattle.std.proofs.lemmas.Bool.{eqb-true, eq-eqb, ne_eqb}
+use Rattle.std.proofs.lemmas.Bool.{eqb-true}
 use Rattle.std.proofs.lemmas.Option.{none-some}
 use Rattle.std.proofs.lemmas.Str.{IsUtf8-from_is_utf8, is_utf8-from_IsUtf8}
 use Rattle.intaglio_core.specs.Change.{TakesBack}
 use Rattle.intaglio_core.specs.Issue.{interned, interned_all}
 use Rattle.intaglio_core.specs.State.{State, first}
+use Rattle.intaglio_frozen.specs.Layout.{strings}
 use Rattle.intaglio_cstr.specs.Zeros.{EndsAtFirstZero, first_zero}
 use Rattle.intaglio_symbol.specs.declared.error.StaleMark.{StaleMark}
-use Rattle.intaglio_c.specs.Batches.{Either, InternsAll, InternsOr, IsRolledBack, is_batch, pieces}
+use Rattle.intaglio_c.specs.Batches.{Either, InternsOr, IsRolledBack}
+use Rattle.intaglio_c.specs.Frozen.{Absorbs}
 use Rattle.intaglio_c.specs.Kinds.{earlier, fault, first_fault, key, utf8_fault, zero_fault, zero_fault_at}
 use Rattle.intaglio_c.specs.declared.kind.Kind.{Kind}
 use Rattle.intaglio_c.specs.declared.refusal.Refusal.{Refusal}
@@ -32,15 +34,6 @@ pub is_text : (bs : List ℕ) → utf8_fault bs ≡ None → IsUtf8 bs
 is_text bs none = elim (is_utf8 bs) as (λ b. is_utf8 bs ≡ b → IsUtf8 bs) [ true ↦ λ e. IsUtf8-from_is_utf8 bs e | false ↦ λ e. absurd (none-some NotUtf8 (sym none ∙ ap utf8_fault_by e)) ] refl
 
 -- C strings
-pub good_c_string : (bs : List ℕ) → EndsAtFirstZero bs → zero_fault bs ≡ None
-good_c_string bs ends = rw (ends, eq-eqb (length bs - 1) (length bs - 1) refl) refl
-
-pub inner_zero : (bs : List ℕ) (place : ℕ) → first_zero bs ≡ Some place → place + 1 < length bs → zero_fault bs ≡ Some InnerZero
-inner_zero bs place first inner = rw (first, ne_eqb place (length bs - 1) (λ e. omega (arith, e, inner))) refl
-
-pub missing_zero : (bs : List ℕ) → first_zero bs ≡ None → zero_fault bs ≡ Some MissingZero
-missing_zero bs none = rw none refl
-
 ends : (n : ℕ) (first : Option ℕ) → zero_fault_at n first ≡ None → first ≡ Some (n - 1)
 ends n None fault = absurd (none-some MissingZero (sym fault))
 ends n (Some place) fault = elim (place == n - 1) as (λ b. (place == n - 1) ≡ b → Some place ≡ Some (n - 1)) [ true ↦ λ e. ap Some (eqb-true place (n - 1) e) | false ↦ λ e. absurd (none-some InnerZero (sym (rw e at fault))) ] refl
@@ -96,6 +89,9 @@ module _ (t t' : Seen) (same_kind : t'.kind ≡ t.kind) (faultless : IsFaultless
   pub with_contents : (xs : List (List ℕ)) → t'.state.contents ≡ xs → first_fault t.kind xs ≡ None → IsFaultless t'
   with_contents xs are none = (λ i. first_fault (same_kind i) (are i)) ∙ none
 
+  with_same : t'.state ≡ t.state → IsFaultless t'
+  with_same same = with_contents _ (ap (λ (x : State (List ℕ)). x.contents) same) faultless
+
   pub with_interned : (copies : Bool) (b : List ℕ) (result : Result ℕ Refusal) → InternsBy copies b t.state (look_up t b) result t'.state → IsFaultless t'
   with_interned copies b result step = by_case (after (fault t.kind b) (position t b) copies b t.state t'.state result step)
     where
@@ -105,15 +101,18 @@ module _ (t t' : Seen) (same_kind : t'.kind ≡ t.kind) (faultless : IsFaultless
 
   pub with_first_ones : (n : ℕ) (result : Result (Unit {0}) StaleMark) → TakesBack t.state n result t'.state → IsFaultless t'
   with_first_ones n (Ok done) cut = with_contents _ cut.contents (first_ones t.kind n t.state.contents faultless)
-  with_first_ones n (Err stale) kept = with_contents _ (ap (λ (x : State (List ℕ)). x.contents) kept.1) faultless
+  with_first_ones n (Err stale) kept = with_same kept.1
 
-  pub with_batch : (bytes ends places symbols : List ℕ) (result : Result (Unit {0}) Refusal) → InternsAll bytes ends places symbols t result t'.state → IsFaultless t'
-  with_batch bytes ends places symbols result step = by_ends (is_batch bytes ends (length places)) step
-    where
-      by_result : (r : Result (Unit {0}) Refusal) → InternsOr IsRolledBack (pieces bytes 0 ends) symbols t r t'.state → IsFaultless t'
-      by_result (Ok done) all = with_contents _ all.contents (all_interned t.kind t.state.contents (pieces bytes 0 ends) faultless all.faultless)
-      by_result (Err refusal) stopped = with_contents _ stopped.1.contents faultless
+  pub with_strings : (strings : List (List ℕ)) (symbols : List ℕ) (result : Result (Unit {0}) Refusal) → InternsOr IsRolledBack strings symbols t result t'.state → IsFaultless t'
+  with_strings strings symbols (Ok done) all = with_contents _ all.contents (all_interned t.kind t.state.contents strings faultless all.faultless)
+  with_strings strings symbols (Err refusal) stopped = with_contents _ stopped.1.contents faultless
 
-      by_ends : (good : Bool) → Either good (InternsOr IsRolledBack (pieces bytes 0 ends) symbols t result t'.state) ((result ≡ Err BadEnds) × (t'.state ≡ t.state)) → IsFaultless t'
-      by_ends true some = by_result result some
-      by_ends false kept = with_contents _ (ap (λ (x : State (List ℕ)). x.contents) kept.1) faultless
+  -- the strings that are interned are as many as the places, or there is nothing to do
+  pub with_either : (good : Bool) (strings : List (List ℕ)) (symbols : List ℕ) (result : Result (Unit {0}) Refusal)
+      → Either good (InternsOr IsRolledBack strings symbols t result t'.state) ((result ≡ Err BadEnds) × (t'.state ≡ t.state)) → IsFaultless t'
+  with_either true strings symbols result some = with_strings strings symbols result some
+  with_either false strings symbols result kept = with_same kept.1
+
+  pub with_frozen : (bs places symbols : List ℕ) (result : Result (Unit {0}) Refusal) → Absorbs bs places symbols t result t'.state → IsFaultless t'
+  with_frozen bs places symbols result (inl some) = with_either (length places == length (strings bs)) (strings bs) symbols result some.1
+  with_frozen bs places symbols result (inr none) = with_same none.2

@@ -4,4 +4,5 @@ pub mod Faults
 pub mod Batches
 pub mod CStrings
 pub mod Hashes
+pub mod Pieces
 pub mod Walks

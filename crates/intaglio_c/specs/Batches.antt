@@ -1,40 +1,30 @@
--- Batches: many strings in one list of bytes, with the end of each.
+-- Batches: what becomes of many strings.
 use Rattle.std.specs.Prelude.{◌≡◌, ℕ, ◌+◌, ◌-◌, ◌^◌, ◌<◌, ◌≤◌, ◌==◌, Bool, true, false, if◌then◌else◌, nat_lt, List, [], ◌∷◌, ◌++◌, length, map, take, drop, slice_get, Option, Some, None, option_map, option_and_then, MatchOption, IsSomeAnd, Result, Ok, Err}
 use Rattle.std.specs.List.{concat}
 use Rattle.intaglio_core.specs.Issue.{issue_from, interned_all}
+use Rattle.intaglio_core.specs.Lookup.{FindsEach}
 use Rattle.intaglio_core.specs.State.{State}
 use Rattle.intaglio_c.specs.Handles.{found, table_of}
 use Rattle.intaglio_c.specs.Kinds.{first_fault, key}
+use Rattle.intaglio_c.specs.Pieces.{is_batch, pieces}
 use Rattle.intaglio_c.specs.Seen.{Seen, look_up}
 use Rattle.intaglio_c.specs.Steps.{Interns}
 use Rattle.intaglio_c.specs.declared.handle.Handle.{Handle}
 use Rattle.intaglio_c.specs.declared.refusal.Refusal.{Refusal}
 use Rattle.intaglio_c.specs.declared.refusal.Refusal.TheVariants.{NoTable, BadEnds, NoSymbol, NoSpace}
 
--- the strings of a batch, from a position in its bytes on
-abbrev pub pieces : List ℕ → ℕ → List ℕ → List (List ℕ)
-pieces bytes start [] = []
-pieces bytes start (end ∷ ends) = take (end - start) (drop start bytes) ∷ pieces bytes end ends
-
--- whether the ends don't decrease, from a position on, and stay within this many bytes
-abbrev pub are_ends : ℕ → ℕ → List ℕ → Bool
-are_ends size start [] = true
-are_ends size start (end ∷ ends) = if nat_lt end start then false else if nat_lt size end then false else are_ends size end ends
-
--- whether bytes and ends are a batch, with as many strings as there are places for symbols
-abbrev pub is_batch : List ℕ → List ℕ → ℕ → Bool
-is_batch bytes ends places = if places == length ends then are_ends (length bytes) 0 ends else false
-
 -- the first if the condition is true, and otherwise the second
 abbrev pub Either : Bool → Type 0 → Type 0 → Type 0
 Either true Then Else = Then
 Either false Then Else = Else
 
--- all strings are interned, in order
+-- all strings are interned, in order: each is found at its symbol, behind what was there
 pub record AreInterned (t : Seen) (strings : List (List ℕ)) (issued : List ℕ) (new : State (List ℕ)) : Type 0 where
   pub faultless : first_fault t.kind strings ≡ None
   pub symbols : issued ≡ issue_from (key t.kind) t.state.contents strings
   pub contents : new.contents ≡ interned_all (key t.kind) t.state.contents strings
+  pub found : FindsEach (key t.kind) new strings issued
+  pub kept : take (length t.state.contents) new.contents ≡ t.state.contents
   pub capacity : length t.state.contents + t.state.spare ≤ length new.contents + new.spare
   pub limit : new.limit ≡ t.state.limit
 

@@ -1,9 +1,9 @@
 -- What C sees of a frozen table, which is its bytes.
-use Rattle.std.specs.Prelude.{◌≡◌, ◌⊎◌, ⊤, ℕ, ◌<◌, ◌≤◌, true, false, List, [], ◌∷◌, length, map, slice_get, Option, Some, None, MatchOption, MatchResult, Result, Ok, Err}
-use Rattle.intaglio_core.specs.State.{first}
+use Rattle.std.specs.Prelude.{◌≡◌, ◌⊎◌, ⊤, ℕ, ◌<◌, ◌≤◌, true, false, List, [], ◌∷◌, length, map, slice_get, Option, Some, None, MatchOption, MatchResult, IsErrAnd, Result, Ok, Err, ◌==◌}
+use Rattle.intaglio_core.specs.State.{State, first}
 use Rattle.intaglio_frozen.specs.Fault.{IsFault}
 use Rattle.intaglio_frozen.specs.Freezing.{HasKeys, IsRefusal, IsTableOf}
-use Rattle.intaglio_frozen.specs.IsFrozen.{HasSections, IsFrozen}
+use Rattle.intaglio_frozen.specs.IsFrozen.{HasSections, IsBlock, IsFrozen}
 use Rattle.intaglio_frozen.specs.Layout.{strings}
 use Rattle.intaglio_frozen.specs.declared.error.FreezeError.{FreezeError}
 use Rattle.intaglio_frozen.specs.declared.error.FreezeError.TheVariants as error
@@ -11,9 +11,10 @@ use Rattle.intaglio_frozen.specs.declared.error.FrozenError.{FrozenError}
 use Rattle.intaglio_frozen.specs.declared.error.FrozenError.TheVariants as fault
 use Rattle.intaglio_frozen.specs.declared.kind.Kind.{Kind as FrozenKind}
 use Rattle.intaglio_frozen.specs.declared.kind.Kind.TheVariants as frozen
-use Rattle.intaglio_c.specs.Batches.{Either, is_batch, or_absent, pieces}
+use Rattle.intaglio_c.specs.Batches.{Either, InternsOr, IsRolledBack, or_absent}
 use Rattle.intaglio_c.specs.Handles.{filled, table_of}
 use Rattle.intaglio_c.specs.Kinds.{rule_of}
+use Rattle.intaglio_c.specs.Pieces.{is_batch, pieces}
 use Rattle.intaglio_c.specs.Seen.{Seen}
 use Rattle.intaglio_c.specs.declared.handle.Handle.{Handle}
 use Rattle.intaglio_c.specs.declared.kind.Rule.{Rule}
@@ -70,6 +71,13 @@ abbrev pub FindsEachTrusted : List ℕ → List ℕ → List ℕ → List ℕ �
 FindsEachTrusted bs batch ends places symbols (Ok _) = HasSections bs × (is_batch batch ends (length places) ≡ true) × AreEqualOrAbsent (strings bs) (pieces batch 0 ends) symbols
 FindsEachTrusted bs batch ends places symbols (Err BadEnds) = HasSections bs × (is_batch batch ends (length places) ≡ false) × (symbols ≡ places)
 FindsEachTrusted bs batch ends places symbols (Err refusal) = (¬ HasSections bs) × IsRefused bs refusal × (symbols ≡ places)
+
+-- all strings of a frozen table are interned, all or none, as are those of any bytes with its header whose strings fill
+-- their text; other bytes are refused
+abbrev pub Absorbs : List ℕ → List ℕ → List ℕ → Seen → Result (Unit {0}) Refusal → State (List ℕ) → Type 0
+Absorbs bs places symbols t result s' =
+    (IsBlock bs × Either (length places == length (strings bs)) (InternsOr IsRolledBack (strings bs) symbols t result s') ((result ≡ Err BadEnds) × (s' ≡ t.state)))
+    ⊎ ((¬ IsBlock bs) × IsErrAnd result (IsRefused bs) × (s' ≡ t.state))
 
 -- the error for C of an error of freezing
 abbrev pub freeze_refusal : FreezeError → Refusal

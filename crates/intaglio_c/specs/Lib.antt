@@ -7,6 +7,7 @@ pub mod Hashes
 pub mod Kinds
 pub mod Lent
 pub mod Owned
+pub mod Pieces
 pub mod Seen
 pub mod Sizes
 pub mod Steps

@@ -1,13 +1,13 @@
 //! A table of any of the kinds.
 use crate::kind::Rule;
 use intaglio::{Table, TableOver};
-use intaglio_bytes::bytes::BytesContent;
+use intaglio_bytes::bytes::{BytesContent, BytesKind};
+use intaglio_content::Packed;
 use intaglio_hash::KeyedState;
-use intaglio_packed::Packed;
 use intaglio_path::PathContent;
 
 mod ahead;
-pub(crate) mod batches;
+mod batches;
 mod bytes;
 pub(crate) mod constructors;
 pub(crate) mod freeze;
@@ -21,5 +21,5 @@ pub enum AnyTable {
     /// Paths.
     Path(Table<PathContent, KeyedState>),
     /// All strings are in one buffer.
-    Packed(Rule, TableOver<Packed, KeyedState>),
+    Packed(Rule, TableOver<Packed<BytesKind>, KeyedState>),
 }

@@ -7,6 +7,7 @@
 #![tactic(auto)]
 
 mod any_table;
+mod batch;
 mod box_parts;
 mod checks;
 mod codes;

@@ -1,37 +1,15 @@
 //! Batches of strings.
-ghost use Rattle.std.specs.Prelude.{◌≡◌, true, length};
-ghost use Rattle.intaglio_c.specs.Batches.{CopiesEach, InternsAll, InternsOr, IsBegun, are_ends, found_all, is_batch, or_absent, pieces};
+ghost use Rattle.std.specs.Prelude.{◌≡◌, length};
+ghost use Rattle.intaglio_c.specs.Batches.{CopiesEach, InternsAll, InternsOr, IsBegun, IsRolledBack, found_all, or_absent};
+ghost use Rattle.intaglio_c.specs.Frozen.{Absorbs};
 ghost use Rattle.intaglio_c.specs.Handles.{found};
 ghost use Rattle.intaglio_c.specs.Seen.{TakesStep, contents_of, seen};
 
 use super::AnyTable;
-use super::ahead::GROUP;
+use crate::batch::{Batch, is_batch};
 use crate::refusal::Refusal;
-use intaglio_core::{Mark, Symbol};
-
-// Whether the ends don't decrease, and stay within this many bytes.
-fn are_ends(size: usize, ends: &[usize]) -> bool
-    ensures ends { result ≡ are_ends size 0 ends.now }
-{
-    let mut start = 0;
-    for &end in ends {
-        if end < start {
-            return false;
-        }
-        if size < end {
-            return false;
-        }
-        start = end;
-    }
-    true
-}
-
-// Whether bytes and ends are a batch, with this many places for its symbols.
-pub(crate) fn is_batch(bytes: &[u8], ends: &[usize], places: usize) -> bool
-    ensures batch { result ≡ is_batch bytes.now ends.now places }
-{
-    places == ends.len() && are_ends(bytes.len(), ends)
-}
+use intaglio_core::{GROUP, Mark, Symbol};
+use intaglio_frozen::{Block, StringList};
 
 // The number that is written for a look-up.
 fn or_absent(answer: Result<Option<Symbol>, Refusal>) -> u64
@@ -44,30 +22,36 @@ fn or_absent(answer: Result<Option<Symbol>, Refusal>) -> u64
 }
 
 impl AnyTable {
-    // Interns the strings of a batch in order, up to the first that fails.
-    fn intern_each(
-        &mut self,
-        bytes: &[u8],
-        ends: &[usize],
-        symbols: &mut [u32],
-    ) -> Result<(), Refusal>
-        requires batch { is_batch bytes.now ends.now (length symbols.old) ≡ true }
-        ensures step { TakesStep self.old self.new result
-            (InternsOr IsBegun (pieces bytes.now 0 ends.now) symbols.new) }
+    // Interns strings in order, up to the first that fails.
+    fn intern_each<L: StringList>(&mut self, list: &L, symbols: &mut [u32]) -> Result<(), Refusal>
+        requires places { length symbols.old ≡ length (L.strings list.now) }
+        ensures step { TakesStep self.old self.new result (InternsOr IsBegun (L.strings list.now) symbols.new) }
     {
         let mut hashes = [0u64; GROUP];
         let mut used = GROUP;
-        let mut start = 0;
-        for (i, &end) in ends.iter().enumerate() {
-            used = self.look_ahead(bytes, start, ends.split_at(i).1, &mut hashes, used);
-            match self.intern(hashes[used], &bytes[start..end]) {
+        for i in 0..symbols.len() {
+            used = self.look_ahead(list, i, &mut hashes, used);
+            match self.intern(Some(hashes[used]), list.string(i)) {
                 Ok(symbol) => symbols[i] = symbol.id(),
                 Err(refusal) => return Err(refusal),
             }
             used += 1;
-            start = end;
         }
         Ok(())
+    }
+
+    // Interns strings, all or none.
+    fn intern_list<L: StringList>(&mut self, list: &L, symbols: &mut [u32]) -> Result<(), Refusal>
+        requires places { length symbols.old ≡ length (L.strings list.now) }
+        ensures step { TakesStep self.old self.new result
+            (InternsOr IsRolledBack (L.strings list.now) symbols.new) }
+    {
+        let mark = Mark::new(self.len());
+        let answer = self.intern_each(list, symbols);
+        if answer.is_err() {
+            let _ = self.take_back(mark);
+        }
+        answer
     }
 
     // Interns the strings of a batch, all or none.
@@ -83,27 +67,34 @@ impl AnyTable {
         if !is_batch(bytes, ends, symbols.len()) {
             return Err(Refusal::BadEnds);
         }
-        let mark = Mark::new(self.len());
-        let answer = self.intern_each(bytes, ends, symbols);
-        if answer.is_err() {
-            let _ = self.take_back(mark);
-        }
-        answer
+        self.intern_list(&Batch { bytes, ends }, symbols)
     }
 
-    // Looks up the strings of a batch.
-    pub(crate) fn find_each(&self, bytes: &[u8], ends: &[usize], symbols: &mut [u64])
-        requires batch { is_batch bytes.now ends.now (length symbols.old) ≡ true }
-        ensures found { symbols.new ≡ found_all (seen self.now) (pieces bytes.now 0 ends.now) }
+    // Interns all strings of a frozen table, or none.
+    pub(crate) fn absorb(&mut self, frozen: &[u8], symbols: &mut [u32]) -> Result<(), Refusal>
+        ensures step { TakesStep self.old self.new result (Absorbs frozen.now symbols.old symbols.new) }
+    {
+        let block = match Block::read(frozen) {
+            Ok(block) => block,
+            Err(fault) => return Err(Refusal::from(fault)),
+        };
+        if symbols.len() != StringList::len(&block) {
+            return Err(Refusal::BadEnds);
+        }
+        self.intern_list(&block, symbols)
+    }
+
+    // Looks up strings.
+    pub(crate) fn find_each<L: StringList>(&self, list: &L, symbols: &mut [u64])
+        requires places { length symbols.old ≡ length (L.strings list.now) }
+        ensures found { symbols.new ≡ found_all (seen self.now) (L.strings list.now) }
     {
         let mut hashes = [0u64; GROUP];
         let mut used = GROUP;
-        let mut start = 0;
-        for (i, &end) in ends.iter().enumerate() {
-            used = self.look_ahead(bytes, start, ends.split_at(i).1, &mut hashes, used);
-            symbols[i] = or_absent(self.find(hashes[used], &bytes[start..end]));
+        for i in 0..symbols.len() {
+            used = self.look_ahead(list, i, &mut hashes, used);
+            symbols[i] = or_absent(self.find(Some(hashes[used]), list.string(i)));
             used += 1;
-            start = end;
         }
     }
 

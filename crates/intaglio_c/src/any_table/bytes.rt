@@ -1,5 +1,5 @@
 //! Strings as their bytes.
-ghost use Rattle.std.specs.Prelude.{◌≡◌, [], ◌∷◌, None, Some, IfOk, IfErr, slice_get};
+ghost use Rattle.std.specs.Prelude.{◌≡◌, [], ◌∷◌, None, Some, IfOk, IfErr, IfSome, slice_get};
 ghost use Rattle.std.specs.Option.{option_map};
 ghost use Rattle.intaglio_path.specs.Components.{components};
 ghost use Rattle.intaglio_c.specs.Hashes.{IsHash, keyed_hash};
@@ -23,14 +23,11 @@ fn hash_bytes(keys: &KeyedState, bytes: &[u8]) -> u64
     Sought::<BytesContent>::hash_with(&bytes, keys, &mut Work::new())
 }
 
-// The hash of a path with these bytes, or 0 if they aren't a text.
-fn hash_path(keys: &KeyedState, bytes: &[u8]) -> u64
-    ensures hash { utf8_fault bytes.now ≡ None → result ≡ keyed_hash keys.now (components bytes.now) }
+// The hash of a path.
+fn hash_path(keys: &KeyedState, text: &str) -> u64
+    ensures hash { result ≡ keyed_hash keys.now (components text.now) }
 {
-    match text_of(bytes) {
-        Ok(text) => Sought::<PathContent>::hash_with(&Path::new(text), keys, &mut Work::new()),
-        Err(_) => 0,
-    }
+    Sought::<PathContent>::hash_with(&Path::new(text), keys, &mut Work::new())
 }
 
 // The text with bytes that were checked.
@@ -59,24 +56,32 @@ impl AnyTable {
 
     // The hash of the string with these bytes, or any number if the table doesn't take them.
     #[inline(always)]
-    pub(crate) fn hash(&self, bytes: &[u8]) -> u64
+    pub(super) fn hash(&self, bytes: &[u8]) -> u64
         ensures hash { IsHash (seen self.now).kind (seen self.now).hasher bytes.now result }
     {
         match self {
             AnyTable::Owned(_, table) => hash_bytes(table.hasher(), bytes),
-            AnyTable::Path(table) => hash_path(table.hasher(), bytes),
+            AnyTable::Path(table) => match text_of(bytes) {
+                Ok(text) => hash_path(table.hasher(), text),
+                Err(_) => 0,
+            },
             AnyTable::Packed(_, table) => hash_bytes(table.hasher(), bytes),
         }
     }
 
-    // Reads what a look-up by this hash will read: the index, and a byte of the string that it compares first.
-    // The byte itself means nothing.
+    // The known hash of a string that the table takes, or what it is. A path isn't tested again.
     #[inline(always)]
-    pub(super) fn touch(&self, hash: u64) -> u8 {
+    fn hash_or(&self, known: Option<u64>, bytes: &[u8]) -> u64
+        requires known { IfSome known (IsHash (seen self.now).kind (seen self.now).hasher bytes.now) }
+        requires faultless { fault (seen self.now).kind bytes.now ≡ None }
+        ensures hash { IsHash (seen self.now).kind (seen self.now).hasher bytes.now result }
+    {
+        if let Some(hash) = known {
+            return hash;
+        }
         match self {
-            AnyTable::Owned(_, table) => table.touch_hashed(hash, &"".as_bytes()),
-            AnyTable::Path(table) => table.touch_hashed(hash, &Path::new("")),
-            AnyTable::Packed(_, table) => table.touch_hashed(hash, &"".as_bytes()),
+            AnyTable::Path(table) => hash_path(table.hasher(), text_in(bytes)),
+            _ => self.hash(bytes),
         }
     }
 
@@ -89,13 +94,14 @@ impl AnyTable {
         self.rule().check(bytes)
     }
 
-    // The symbol of the string that is equal to these bytes, whose hash is known, if there is one.
+    // The symbol of the string that is equal to these bytes, whose hash may be known, if there is one.
     #[inline(always)]
-    pub(crate) fn find(&self, hash: u64, bytes: &[u8]) -> Result<Option<Symbol>, Refusal>
-        requires hash { IsHash (seen self.now).kind (seen self.now).hasher bytes.now hash }
+    pub(crate) fn find(&self, known: Option<u64>, bytes: &[u8]) -> Result<Option<Symbol>, Refusal>
+        requires known { IfSome known (IsHash (seen self.now).kind (seen self.now).hasher bytes.now) }
         ensures found { result ≡ look_up (seen self.now) bytes.now }
     {
         self.check(bytes)?;
+        let hash = self.hash_or(known, bytes);
         let work = &mut Work::new();
         match self {
             AnyTable::Owned(_, table) => Ok(table.search_hashed(hash, &bytes, work)),
@@ -108,13 +114,14 @@ impl AnyTable {
         }
     }
 
-    // Interns these bytes, whose hash is known. They are copied if they are new.
+    // Interns these bytes, whose hash may be known. They are copied if they are new.
     #[inline(always)]
-    pub(crate) fn intern(&mut self, hash: u64, bytes: &[u8]) -> Result<Symbol, Refusal>
-        requires hash { IsHash (seen self.old).kind (seen self.old).hasher bytes.now hash }
+    pub(crate) fn intern(&mut self, known: Option<u64>, bytes: &[u8]) -> Result<Symbol, Refusal>
+        requires known { IfSome known (IsHash (seen self.old).kind (seen self.old).hasher bytes.now) }
         ensures step { TakesStep self.old self.new result (Interns bytes.now) }
     {
         self.check(bytes)?;
+        let hash = self.hash_or(known, bytes);
         let work = &mut Work::new();
         match self {
             AnyTable::Owned(_, table) => symbol_answer(table.intern_hashed(hash, bytes, work)),

@@ -3,7 +3,7 @@ ghost use Rattle.intaglio_c.specs.Answers.{IsCodeOf};
 ghost use Rattle.intaglio_c.specs.Batches.{CopiesAll, FindsAll, InternsAll};
 ghost use Rattle.intaglio_c.specs.Handles.{ChangesWithCode, Keeps};
 
-use crate::any_table::batches::is_batch;
+use crate::batch::{Batch, is_batch};
 use crate::codes::code;
 use crate::handle::Handle;
 use crate::refusal::Refusal;
@@ -38,7 +38,7 @@ fn find_all(
     if !is_batch(bytes, ends, symbols.len()) {
         return Err(Refusal::BadEnds);
     }
-    table.find_each(bytes, ends, symbols);
+    table.find_each(&Batch { bytes, ends }, symbols);
     Ok(())
 }
 

@@ -7,12 +7,13 @@ ghost use Rattle.std.specs.Option.{option_map};
 ghost use Rattle.intaglio_frozen.specs.IsFrozen.{HasHeader, HasSections, IsFrozen, text_kind};
 ghost use Rattle.intaglio_frozen.specs.Layout.{kind, strings};
 ghost use Rattle.intaglio_c.specs.Answers.{IsCodeOf, given};
-ghost use Rattle.intaglio_c.specs.Batches.{is_batch, or_absent, pieces};
-ghost use Rattle.intaglio_c.specs.Frozen.{AreEqualOrAbsent, Checks, FindsEach, FindsEachTrusted, FreezesHeld};
+ghost use Rattle.intaglio_c.specs.Batches.{or_absent};
+ghost use Rattle.intaglio_c.specs.Pieces.{is_batch, pieces};
+ghost use Rattle.intaglio_c.specs.Frozen.{Absorbs, AreEqualOrAbsent, Checks, FindsEach, FindsEachTrusted, FreezesHeld};
 ghost use Rattle.intaglio_c.specs.Frozen.{IsEqualOrAbsent, position_in, positions};
-ghost use Rattle.intaglio_c.specs.Handles.{Keeps};
+ghost use Rattle.intaglio_c.specs.Handles.{ChangesWithCode, Keeps};
 
-use crate::any_table::batches::is_batch;
+use crate::batch::is_batch;
 use crate::codes::code;
 use crate::handle::Handle;
 use crate::refusal::Refusal;
@@ -66,6 +67,19 @@ pub extern "C" fn intaglio_freeze(
     ensures kept { Keeps handle.old handle.new }
 {
     code(freeze(alloc, handle, key0, key1, buffer, len))
+}
+
+/// Interns all strings of a frozen table, all or none, in its order, and writes the symbol of each.
+/// Any bytes with its header, whose strings fill their text, are taken as one.
+/// Fails with `NoTable`, what is wrong with the header or the ends, `BadEnds` if there isn't a place for the symbol of
+/// each string, and the errors of interning one; then the contents are unchanged.
+#[unsafe(no_mangle)]
+pub extern "C" fn intaglio_absorb(handle: &mut Handle, bytes: &[u8], symbols: &mut [u32]) -> u32
+    ensures step { ChangesWithCode handle.old handle.new result
+        (Absorbs bytes.now symbols.old symbols.new) }
+{
+    let table = table_of!(handle, code(Err(Refusal::NoTable)));
+    code(table.absorb(bytes, symbols))
 }
 
 /// Checks that these bytes are a frozen table. Reads all of them.

@@ -19,7 +19,7 @@ pub extern "C" fn intaglio_intern(handle: &mut Handle, bytes: &[u8], symbol: &mu
     ensures step { ChangesWithSymbol handle.old handle.new result symbol.old symbol.new (Interns bytes.now) }
 {
     let table = table_of!(handle, symbol_code(Err(Refusal::NoTable), symbol));
-    symbol_code(table.intern(table.hash(bytes), bytes), symbol)
+    symbol_code(table.intern(None, bytes), symbol)
 }
 
 /// Interns these bytes, which must never change, and writes their symbol. They aren't copied, unless the table is packed.
@@ -49,7 +49,7 @@ pub extern "C" fn intaglio_check_interned(
     ensures kept { Keeps handle.old handle.new }
 {
     let table = table_of!(handle, false);
-    match table.find(table.hash(bytes), bytes) {
+    match table.find(None, bytes) {
         Ok(Some(known)) => {
             *symbol = known.id();
             true

@@ -1,11 +1,18 @@
 -- All places have their hash.
-use Rattle.std.proofs.Common.{arith}
-use Rattle.intaglio_c.specs.Batches.{pieces}
+use Rattle.std.proofs.Common.{rules, drop, length, length-drop, arith}
 use Rattle.intaglio_c.specs.Seen.{seen}
-use Rattle.intaglio_c.proofs.Hashes.{all_hashed, stops}
+use Rattle.intaglio_c.proofs.Hashes.{all_hashed, hashed_more, stops}
 use Rattle.intaglio_c.proofs.any_table.AnyTable.hash_group.Goals as goal
 
+pub loop-i-preserved : goal.loop-i-preserved
+loop-i-preserved g c = record {
+  places = search rules;
+  so_far = hashed_more (seen c.args.self.now).kind (seen c.args.self.now).hasher (g.L.StringList.strings c.args.list.now) c.loop-i.hashes c.args.place c.loop-i.i c.hash.result c.string.result.now c.string.ensures
+      (omega (arith, c.loop-i-test.true, c.min-count.ensures, c.loop-i.invariant.places)) c.hash.ensures.hash c.loop-i.invariant.so_far;
+}
+
 pub returns-clause-hashes : goal.returns-clause-hashes
-returns-clause-hashes c =
-    all_hashed (seen c.args.self.now).kind (seen c.args.self.now).hasher (pieces c.args.bytes.now c.args.start c.args.ends.now) c.args.bytes.now c.args.ends.now c.loop-i.hashes c.loop-i.begin c.loop-i.i
-    (stops c.args.ends.now c.loop-i.hashes c.loop-i.i (λ less. omega (arith, less, c.min-i-end.ensures, c.loop-i-test.false, c.loop-i.invariant.places))) c.loop-i.invariant.so_far
+returns-clause-hashes g c =
+    let strings = g.L.StringList.strings c.args.list.now in let all = drop c.args.place strings in
+    all_hashed (seen c.args.self.now).kind (seen c.args.self.now).hasher all c.loop-i.hashes c.loop-i.i
+    (stops (length all) (length c.loop-i.hashes) c.loop-i.i (λ less. omega (arith, less, length-drop c.args.place strings, c.len.ensures, c.min-count.ensures, c.loop-i-test.false, c.loop-i.invariant.places))) c.loop-i.invariant.so_far

@@ -1,15 +1,13 @@
-use Rattle.std.proofs.Common.{◌≡◌, true, length, take, drop}
-use Rattle.intaglio_c.specs.Batches.{are_ends, pieces}
+use Rattle.std.proofs.Common.{◌≡◌, length, take, drop}
 use Rattle.intaglio_c.specs.Hashes.{AreHashes}
 use Rattle.intaglio_c.specs.Seen.{seen}
-use Rattle.intaglio_c.proofs.Batches.{IsAt}
+use Rattle.intaglio_c.proofs.Batches.{Begins}
 use Rattle.intaglio_c.proofs.any_table.AnyTable.intern_each.Given as goal
 
 abbrev pub invariant-loop-i : goal.invariant-loop-i
-invariant-loop-i l = record {
-  ends : are_ends (length l.bytes) l.start (drop l.i l.ends) ≡ true;
-  places : length l.symbols ≡ length l.ends;
+invariant-loop-i g l = record {
+  places : length l.symbols ≡ length (g.L.StringList.strings l.list);
   room : length l.hashes ≡ 64;
-  ahead : AreHashes (seen l.self).kind (seen l.self).hasher (pieces l.bytes l.start (drop l.i l.ends)) (drop l.used l.hashes);
-  at : IsAt (seen l.initial.self) (pieces l.bytes 0 l.ends) (seen l.self) (pieces l.bytes l.start (drop l.i l.ends)) (take l.i l.symbols);
+  ahead : AreHashes (seen l.self).kind (seen l.self).hasher (drop l.i (g.L.StringList.strings l.list)) (drop l.used l.hashes);
+  begins : Begins (seen l.initial.self) (g.L.StringList.strings l.list) (seen l.self) l.i (take l.i l.symbols);
 }

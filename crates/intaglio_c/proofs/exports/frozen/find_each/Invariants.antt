@@ -1,7 +1,7 @@
 use Rattle.std.proofs.Common.{◌≡◌, ◌++◌, ℕ, List, true, length, take, drop}
 use Rattle.intaglio_frozen.specs.IsFrozen.{IsFrozen}
 use Rattle.intaglio_frozen.specs.Layout.{strings}
-use Rattle.intaglio_c.specs.Batches.{are_ends, pieces}
+use Rattle.intaglio_c.specs.Pieces.{are_ends, pieces}
 use Rattle.intaglio_c.specs.Frozen.{AreEqualOrAbsent, positions}
 use Rattle.intaglio_c.proofs.exports.frozen.find_each.Given as goal
 

@@ -1,6 +1,6 @@
 use Rattle.std.proofs.Common.{◌≡◌, drop}
-use Rattle.intaglio_c.specs.Batches.{are_ends}
-use Rattle.intaglio_c.proofs.any_table.batches.are_ends.Given as goal
+use Rattle.intaglio_c.specs.Pieces.{are_ends}
+use Rattle.intaglio_c.proofs.batch.are_ends.Given as goal
 
 abbrev pub invariant-loop-end : goal.invariant-loop-end
 invariant-loop-end l = are_ends l.size l.start (drop l.end-index l.ends) ≡ are_ends l.size 0 l.ends

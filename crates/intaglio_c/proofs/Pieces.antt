@@ -1,0 +1,49 @@
+-- The strings of a list, and of a batch, by their position.
+use Rattle.std.proofs.Common.{◌≡◌, ℕ, zero, suc, ◌+◌, ◌-◌, ◌<◌, ◌≤◌, Bool, true, false, List, [], ◌∷◌, ◌++◌, length, take, drop, refl, sym, ap, ◌∙◌, arith}
+use Rattle.std.specs.Prelude.{if◌then◌else◌, nat_lt, Some, slice_get, ◌==◌}
+use Rattle.std.proofs.Math.ListN.{get_or}
+use Rattle.std.proofs.lemmas.Bool.{eqb-true, ltb-false}
+use Rattle.std.proofs.lemmas.List.{drop_more, take_more}
+use Rattle.std.proofs.lemmas.Option.{get_or_from_slice_get, slice_get_within}
+use Rattle.intaglio_c.specs.Pieces.{are_ends, is_batch, pieces}
+
+module _ {X : Type 0} (xs : List X) (i : ℕ) (x : X) (there : slice_get xs i ≡ Some x) where
+  pub drop_there : drop i xs ≡ x ∷ drop (i + 1) xs
+  drop_there = drop_more xs i x (slice_get_within xs i x there) ∙ ap (λ y. y ∷ drop (i + 1) xs) (get_or_from_slice_get xs i x x there)
+
+  pub take_there : take (i + 1) xs ≡ take i xs ++ x ∷ []
+  take_there = take_more xs i x (slice_get_within xs i x there) ∙ ap (λ y. take i xs ++ y ∷ []) (get_or_from_slice_get xs i x x there)
+
+-- the strings of a batch
+pub pieces_length : (bytes : List ℕ) (start : ℕ) (ends : List ℕ) → length (pieces bytes start ends) ≡ length ends
+pieces_length bytes start [] = refl
+pieces_length bytes start (end ∷ ends) = ap suc (pieces_length bytes end ends)
+
+pub piece : (bytes : List ℕ) (start : ℕ) (ends : List ℕ) (i : ℕ) → i < length ends
+    → slice_get (pieces bytes start ends) i ≡ Some (take (get_or ends i 0 - get_or (start ∷ ends) i 0) (drop (get_or (start ∷ ends) i 0) bytes))
+piece bytes start [] i inside = absurd (omega (arith, inside))
+piece bytes start (end ∷ ends) zero inside = refl
+piece bytes start (end ∷ ends) (suc i) inside = piece bytes end ends i (omega (arith, inside))
+
+-- its ends
+ascends : (size start end : ℕ) (rest b c : Bool) → nat_lt end start ≡ b → nat_lt size end ≡ c → (if b then false else if c then false else rest) ≡ true → (start ≤ end) × (end ≤ size) × (rest ≡ true)
+ascends size start end rest true c is also good = absurd (let differs : false ≡ true = good in cc)
+ascends size start end rest false true is also good = absurd (let differs : false ≡ true = good in cc)
+ascends size start end rest false false is also good = (ltb-false end start is, ltb-false size end also, good)
+
+pub in_order : (size start : ℕ) (ends : List ℕ) (i : ℕ) → are_ends size start ends ≡ true → i < length ends → (get_or (start ∷ ends) i 0 ≤ get_or ends i 0) × (get_or ends i 0 ≤ size)
+in_order size start [] i good inside = absurd (omega (arith, inside))
+in_order size start (end ∷ ends) zero good inside =
+    let first = ascends size start end (are_ends size end ends) (nat_lt end start) (nat_lt size end) refl refl good in
+    (first.0, first.1)
+in_order size start (end ∷ ends) (suc i) good inside =
+    let first = ascends size start end (are_ends size end ends) (nat_lt end start) (nat_lt size end) refl refl good in
+    in_order size end ends i first.2 (omega (arith, inside))
+
+-- a batch has a place for the symbol of each string
+pub batch_places : (bytes ends : List ℕ) (places : ℕ) → is_batch bytes ends places ≡ true → places ≡ length (pieces bytes 0 ends)
+batch_places bytes ends places good = by (places == length ends) refl good
+  where
+    by : (b : Bool) → (places == length ends) ≡ b → (if b then are_ends (length bytes) 0 ends else false) ≡ true → places ≡ length (pieces bytes 0 ends)
+    by true same good = eqb-true places (length ends) same ∙ sym (pieces_length bytes 0 ends)
+    by false same good = absurd (let differs : false ≡ true = good in cc)
