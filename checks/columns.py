@@ -4,18 +4,23 @@ random columns, of damaged ones, and of devices and memory that fail.
 import itertools
 import os
 import random
+import re
+import shutil
 import struct
 import subprocess
 import tempfile
 from pathlib import Path
 
-from frozen_tables import BYTES, TEXT, freeze, is_text
+from frozen_tables import BYTES, TEXT, freeze
 from programs import run
 
 NAME = "intaglio_dict"
 MISSING = 2**32 - 1
 PARTS = 10
-SIZES = (0, 1, 7, 300, 5_000, 100_000)
+# How many lines a column has in all, and at most how many distinct ones are drawn for it.
+SIZES = (0, 1, 7, 300, 5_000, 100_000, 1_000_000)
+DISTINCT = 10_000
+DAMAGED = 150
 
 
 class Damaged(ValueError):
@@ -82,7 +87,8 @@ def merged(dictionaries):
 
 
 def read(name):
-    return Path(name).read_bytes()
+    """The bytes of a file, or others than any that is wanted if it isn't there."""
+    return Path(name).read_bytes() if os.path.exists(name) else b"there is no file"
 
 
 def left(folder):
@@ -95,15 +101,20 @@ def said(status, *lines, wrote=b""):
 
 
 DONE = said(0)
+WAS = b"as it was"
+# What is said where a request for memory, a read or a write fails.
+FAILURES = {"REFUSE": "out of memory", "FAIL_READ": "Input/output error", "FAIL_WRITE": "Input/output error", "FULL": "No space left on device"}
 
 
-def random_parts(chance, size):
-    """The lines of each part: some are in several parts, some are empty, and some parts have none."""
-    some = [chance.randbytes(chance.randrange(12)).replace(b"\n", b"") for _ in range(1 + size // 3)]
-    words = some if chance.randrange(2) else [b"w%d" % chance.randrange(size + 1) for _ in range(size)] + ["é".encode(), b""]
-    for _ in range(PARTS):
-        count = chance.choice((0, 1, size // 2, size))
-        yield [chance.choice(words) for _ in range(count)]
+def random_parts(chance, size, kind=BYTES):
+    """The lines of each part of a column of so many: lines are in several parts, some are empty, and some parts have none."""
+    count = min(1 + size // 3, DISTINCT)
+    texts = [f"{chance.choice(('w', 'é', '漢字 '))}{chance.randrange(size + 1)}".encode() for _ in range(count)]
+    words = [*texts, b""] if kind == TEXT else [*(chance.randbytes(chance.randrange(12)).replace(b"\n", b"") for _ in range(count)), b"", b"\xff"]
+    # (each of the seven places at which it is cut may be drawn several times)
+    places = [chance.randrange(size + 1) for _ in range(7)]
+    cuts = [0, *sorted(chance.choices(places, k=PARTS - 1)), size]
+    return [chance.choices(words, k=end - start) for start, end in itertools.pairwise(cuts)]
 
 
 def of_part(tool, part, lines, kind, folder):
@@ -123,10 +134,21 @@ def of_part(tool, part, lines, kind, folder):
     yield "decode standard input", run([tool, "decode", table], wanted) == (0, data, [])
 
 
-def of_column(tool, chance, size, folder):
+def of_missing(tool, strings, lines, folder):
+    """Yields what the program was asked of lines and the dictionary of others."""
+    table, source, codes = f"{folder}/0.dict", f"{folder}/others", f"{folder}/others.codes"
+    Path(source).write_bytes(ended(lines))
+    wanted = encoded(strings, lines, True)
+    yield "encode --missing", run([tool, "encode", "--missing", table, source, "-o", codes]) == DONE and read(codes) == packed(wanted)
+    yield "decode --missing", run([tool, "decode", "--missing", "none", table, codes]) == (0, ended(decoded(strings, wanted, b"none")), [])
+    place = next((it for it, code in enumerate(wanted, 1) if code == MISSING), 0)
+    said_of = said(1, f"{source}: line {place} is not in the dictionary") if place else DONE
+    yield "encode", run([tool, "encode", table, source])[::2] == said_of[::2]
+
+
+def of_column(tool, chance, size, kind, folder):
     """Yields what the program was asked of a column in parts: each is frozen and encoded, the dictionaries are merged, the codes renumbered."""
-    parts = [*random_parts(chance, size)]
-    kind = TEXT if all(is_text(it) for lines in parts for it in lines) and chance.randrange(2) else BYTES
+    parts = random_parts(chance, size, kind)
     for part, lines in enumerate(parts):
         for what, is_right in of_part(tool, part, lines, kind, folder):
             yield f"part {part}: {what}", is_right
@@ -138,7 +160,7 @@ def of_column(tool, chance, size, folder):
     for part, lines in enumerate(parts):
         yield f"map {part}", read(f"{maps}/{part}.map") == packed(numbers[part])
         codes, again = f"{folder}/{part}.codes", f"{folder}/{part}.new-codes"
-        wanted = packed(renumbered(numbers[part], unpacked(read(codes))))
+        wanted = packed(renumbered(numbers[part], encoded([*dict.fromkeys(lines)], lines)))
         yield f"renumber {part}", run([tool, "renumber", f"{maps}/{part}.map", codes, "-o", again]) == DONE and read(again) == wanted
         yield f"decode renumbered {part}", run([tool, "decode", whole, again]) == (0, ended(lines), [])
     files = [f"{folder}/{it}.new-codes" for it in range(PARTS)]
@@ -148,6 +170,7 @@ def of_column(tool, chance, size, folder):
     yield "encode all", run([tool, "encode", whole, *sources]) == (0, b"".join(map(read, files)), [])
     halves = [f"{folder}/half", f"{folder}/rest"]
     merges = [([*tables[:5]], halves[0]), ([*tables[5:]], halves[1]), (halves, f"{folder}/nested")]
+    yield from of_missing(tool, [*dict.fromkeys(parts[0])], parts[-1] + [b"none of them"], folder)
     yield "merge, nested", all(run([tool, "merge", *some, "-o", out]) == DONE for some, out in merges) and read(f"{folder}/nested") == read(whole)
     yield "no file is left", not left(folder) and not left(maps)
 
@@ -191,6 +214,52 @@ def faults(tool, folder):
     yield "an empty map", run([tool, "renumber", "/dev/null"]) == DONE
 
 
+def damage(data, chance):
+    """Bytes that were changed, cut or added to, or none of it."""
+    data = bytearray(data)
+    for _ in range(chance.randrange(3)):
+        at = chance.randrange(len(data) + 1)
+        data[at : at + chance.randrange(3)] = chance.randbytes(chance.choice((0, 1, 2, 4)))
+    return bytes(data)
+
+
+def translated(translate, data):
+    """What the codes before the first fault become, and the fault, if there is one."""
+    codes, fault = unpacked(data[: len(data) // 4 * 4]), None
+    try:
+        unpacked(data)
+    except Damaged as found:
+        fault = found
+    try:
+        return translate(codes), fault
+    except Damaged as found:
+        return translate(codes[: found.args[0] - 1]), found
+
+
+def damages(tool, chance, folder):
+    """Codes and maps of random bytes: what the program writes, and the first code at which it stops, are what the reader here finds."""
+    table, numbers, strings = f"{folder}/table", f"{folder}/map", [b"%d" % it for it in range(200)]
+    Path(table).write_bytes(freeze(strings))
+    for turn in range(DAMAGED):
+        changed = damage(packed(chance.choices(range(2**32), k=200)), chance)
+        data = damage(packed(chance.choices([*range(200), MISSING][: 200 + turn % 2], k=chance.choice((0, 1, 50, 20_000)))), chance)
+        Path(numbers).write_bytes(changed)
+        asked = [
+            (["decode", table], lambda codes: ended(decoded(strings, codes))),
+            (["decode", "--missing", "?", table], lambda codes: ended(decoded(strings, codes, b"?"))),
+            (["renumber", numbers], lambda codes: packed(renumbered(unpacked(changed), codes))),
+        ]
+        for words, translate in asked:
+            status, wrote, told = run([tool, *words], data)
+            if words[0] == "renumber" and len(changed) % 4:
+                yield f"{words}, damaged", (status, wrote, told) == said(1, f"{numbers}: not a map: its length is no multiple of 4")
+                continue
+            wanted, fault = translated(translate, data)
+            message = [f"{NAME}: standard input: code {fault.args[0]} {fault.args[1]}"] if fault else []
+            is_right = wanted.startswith(wrote) if fault else wrote == wanted
+            yield f"{words}, damaged: {data[:400].hex()}", (status, told) == (int(bool(fault)), message) and is_right
+
+
 def requests(tool, folder):
     """Arguments, streams and counts."""
     tables, codes, out = [f"{folder}/one", f"{folder}/two"], f"{folder}/codes", f"{folder}/out"
@@ -231,6 +300,8 @@ def requests(tool, folder):
     one = said(2, "the codes and the dictionary can't be one output")
     for name, other in (("-", "-"), (f"{folder}/new", f"{folder}/new"), (tables[0], f"{folder}/./one")):
         yield f"freeze, one output {other}", run([tool, "freeze", "-o", name, "--codes", other], b"a") == one
+    for text in ("\n", "a\nb", "a\n"):
+        yield f"decode --missing {text!r}", run([tool, "decode", "--missing", text, tables[0]]) == said(2, "the text after --missing has a line end")
     for words in (["encode"], ["decode"], ["renumber"], ["merge"], ["merge", tables[0]], ["encode", tables[0], "--no"]):
         status, wrote, told = run([tool, *words])
         yield f"{words}", (status, wrote, bool(told)) == (2, b"", True)
@@ -239,21 +310,33 @@ def requests(tool, folder):
 # Failing devices, and no memory.
 
 
-def failing(tool, words, given, wanted, setting, library, folder):
-    """The N-th request for memory, read or write fails, for each N until none does: the program reports it, and leaves all files as they were."""
+def put(files):
+    """Writes what was there before to files, those whose folder is there."""
+    for name in files:
+        if os.path.isdir(os.path.dirname(name)):
+            Path(name).write_bytes(WAS)
+
+
+def are_kept(files, target):
+    """Whether the target is as it was, and each other file is so, or whole."""
+    is_there = [it for it in files if os.path.exists(it)]
+    return all(read(it) == WAS or it != target and read(it) == files[it] for it in is_there)
+
+
+def failing(tool, words, given, wanted, files, setting, library, folder):
+    """The N-th request for memory, read or write fails, for each N until none does: the program reports it, and leaves its output as it was,
+    and each of the files beside it as it was or whole."""
     target = words[words.index("-o") + 1] if "-o" in words else "-"
     for n in itertools.count(1):
-        if target != "-":
-            Path(target).write_bytes(b"as it was")
+        put(files)
         status, wrote, told = run([tool, *words], given, LD_PRELOAD=library, **{setting: str(n)})
-        if (status, wrote, told) == (0, wanted, []):
+        if (status, wrote, told) == (0, wanted, []) and all(read(it) == files[it] for it in files):
             break
-        is_reported = told[-1:] and (told[-1] == f"{NAME}: out of memory" or told[-1].endswith(": Input/output error"))
-        is_kept = target == "-" or read(target) == b"as it was"
-        if status != 1 or not wanted.startswith(wrote) or not is_reported or not is_kept or left(folder):
+        is_reported = told[-1:] and told[-1].startswith(NAME) and told[-1].endswith(f": {FAILURES[setting]}")
+        if status != 1 or not wanted.startswith(wrote) or not is_reported or not are_kept(files, target) or left(folder):
             yield f"{words}: {setting}={n}: {status}, {wrote}, {told}", False
             return
-    yield f"{words}: {setting}: {n - 1} failed in turn", n > 1 or setting == "FAIL_WRITE" and not wanted
+    yield f"{words}: {setting}: {n - 1} failed in turn", n > 1
 
 
 def devices(tool, library, folder):
@@ -262,23 +345,33 @@ def devices(tool, library, folder):
         Path(name).write_bytes(freeze(strings))
     Path(codes).write_bytes(packed([1, 0]))
     Path(maps).write_bytes(packed([1, 2]))
+    out, both = f"{folder}/out", freeze([b"a", b"b", b"c"])
+    of_merging = {f"{folder}/maps/0.map": packed([0, 1]), f"{folder}/maps/1.map": packed([1, 2, 0])}
+    new, new_codes = {out: freeze([b"b", b"a"])}, {f"{folder}/new-codes": packed([0, 1])}
     commands = [
-        (["encode", tables[0]], b"b\na", packed([1, 0])),
-        (["decode", tables[0], codes], b"", b"b\na\n"),
-        (["renumber", maps, codes], b"", packed([2, 1])),
-        (["merge", *tables, "-o", "-"], b"", freeze([b"a", b"b", b"c"])),
-        (["merge", *tables, "-o", f"{folder}/out", "--maps", f"{folder}/maps"], b"", b""),
-        (["freeze", "-o", f"{folder}/new", "--codes", f"{folder}/new-codes"], b"b\na", b""),
-        (["freeze", "-o", f"{folder}/new", "--codes", "-"], b"b\na", packed([0, 1])),
+        (["encode", tables[0]], b"b\na", packed([1, 0]), {}),
+        (["decode", tables[0], codes], b"", b"b\na\n", {}),
+        (["renumber", maps, codes], b"", packed([2, 1]), {}),
+        (["merge", *tables, "-o", "-"], b"", both, {}),
+        (["encode", tables[0], "-o", out], b"b\na", b"", {out: packed([1, 0])}),
+        (["decode", tables[0], codes, "-o", out], b"", b"", {out: b"b\na\n"}),
+        (["renumber", maps, codes, "-o", out], b"", b"", {out: packed([2, 1])}),
+        (["merge", *tables, "-o", out, "--maps", f"{folder}/maps"], b"", b"", {out: both, **of_merging}),
+        (["freeze", "-o", out, "--codes", f"{folder}/new-codes"], b"b\na", b"", {**new, **new_codes}),
+        (["freeze", "-o", out, "--codes", "-"], b"b\na", packed([0, 1]), new),
     ]
-    for words, given, wanted in commands:
+    for words, given, wanted, files in commands:
         yield f"{words}: one byte at a time", run([tool, *words], given, LD_PRELOAD=library, SHORT="1") == (0, wanted, [])
-        for setting in ("REFUSE", "FAIL_READ", "FAIL_WRITE"):
-            yield from failing(tool, words, given, wanted, setting, library, folder)
+        for setting in ("REFUSE", "FAIL_READ", *["FAIL_WRITE"] * bool(wanted), *["FULL"] * bool(files)):
+            yield from failing(tool, words, given, wanted, files, setting, library, folder)
         if wanted:
-            full = ["/bin/sh", "-c", 'exec "$0" "$@" > /dev/full', tool, *words]
-            yield f"{words}: a full device", run(full, given) == said(1, "standard output: No space left on device")
+            for stream, what in (("/dev/full", "No space left on device"), ("&-", "Bad file descriptor")):
+                shell = ["/bin/sh", "-c", f'exec "$0" "$@" >{stream}', tool, *words]
+                yield f"{words}: output to {stream}", run(shell, given) == said(1, f"standard output: {what}")
             yield f"{words}: a closed pipe", unread([tool, *words], given) == (141, b"")
+        if given:
+            shell = ["/bin/sh", "-c", 'exec "$0" "$@" <&-', tool, *words]
+            yield f"{words}: a closed input", run(shell)[::2] == said(1, "standard input: Bad file descriptor")[::2]
     absent = said(1, f"{folder}/absent: No such file or directory")
     for words in (["encode", tables[0]], ["decode", tables[0]], ["renumber", maps], ["merge", "-o", "-"], ["encode"], ["decode"], ["renumber"]):
         yield f"{words}: a missing file", run([tool, *words, f"{folder}/absent"]) == absent
@@ -301,23 +394,49 @@ def example(tool, folder):
         yield f"{len(lines)} lines", (status, wrote.split(b"\n")[0]) == (0, b"strings %d" % len({*lines}))
 
 
+def made(tool, folder):
+    """The rules of docs/COLUMNS.md by `make -j`: what they write is what the reader here has, and after a change of one part too."""
+    if not shutil.which("make"):
+        print("left out: make isn't there")
+        return
+    rules = re.search(r"```make\n(.*?)```", Path("docs/COLUMNS.md").read_text(encoding="utf-8"), re.S)[1]
+    Path(f"{folder}/Makefile").write_text(rules)
+    parts = [[b"a", b"b", b"a"], [b"c", b"b"], [], [b"", b"a"]]
+    for changed, lines in ((None, None), (1, [b"d", b"a", b"d"])):
+        if lines:
+            parts[changed] = lines
+        for part, each in enumerate(parts):
+            if changed in (None, part):
+                Path(f"{folder}/{part}.lines").write_bytes(ended(each))
+        ran = subprocess.run(["make", "-s", "-j4", "-C", folder, f"DICT={tool}"], capture_output=True, timeout=60)
+        strings, maps = merged([*dict.fromkeys(it)] for it in parts)
+        codes = [packed(renumbered(numbers, encoded([*dict.fromkeys(it)], it))) for it, numbers in zip(parts, maps)]
+        yield f"make: {ran.stderr.decode()}", ran.returncode == 0 and read(f"{folder}/whole.dict") == freeze(strings)
+        yield "what make wrote", [read(f"{folder}/{it}.whole") for it in range(4)] == codes
+
+
 def cases(tool, library):
     """Each case, as a function of a folder."""
-    for seed, size in enumerate(SIZES):
-        yield f"a column of {size} lines a part", lambda folder, seed=seed, size=size: of_column(tool, random.Random(seed), size, folder)
+    for size, (kind, word) in itertools.product(SIZES, ((BYTES, "bytes"), (TEXT, "texts"))):
+        yield f"a column of {size} lines, {word}", lambda folder, size=size, kind=kind: of_column(tool, random.Random(size), size, kind, folder)
     yield "faults", lambda folder: faults(tool, folder)
+    yield "damaged codes and maps", lambda folder: damages(tool, random.Random(1), folder)
     yield "requests", lambda folder: requests(tool, folder)
     yield "devices", lambda folder: devices(tool, library, folder)
     yield "examples/columns", lambda folder: example(tool, folder)
+    yield "docs/COLUMNS.md", lambda folder: made(tool, folder)
 
 
-def wrong_cases(tool, library):
+def tried(tool, library, number):
+    """How many runs a case made, and what is wrong."""
+    name, case = [*cases(tool, library)][number]
+    with tempfile.TemporaryDirectory() as folder:
+        found = [*case(os.path.realpath(folder))]
+    return len(found), [f"{tool} {name}: {what}" for what, is_right in found if not is_right]
+
+
+def wrong_cases(tool, library, pool):
     """Yields what is wrong with the program."""
-    count = 0
-    for name, case in cases(tool, library):
-        with tempfile.TemporaryDirectory() as folder:
-            for what, is_right in case(os.path.realpath(folder)):
-                count += 1
-                if not is_right:
-                    yield f"{tool} {name}: {what}"
-    print(f"{tool}: {count} runs on columns", flush=True)
+    tasks = [pool.submit(tried, tool, library, number) for number, _ in enumerate(cases(tool, library))]
+    print(f"{tool}: {sum(it.result()[0] for it in tasks)} runs on columns", flush=True)
+    yield from (line for it in tasks for line in it.result()[1])

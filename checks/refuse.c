@@ -4,6 +4,7 @@
 //   REFUSE_SHOW=1   each request gets a line on standard error, not the refused ones alone
 //   FAIL_READ=N     the N-th read fails
 //   FAIL_WRITE=N    the N-th write to standard output fails
+//   FULL=N          the N-th write to what is no standard stream fails, as on a full device
 //   SHORT=1         a read or a write to standard output moves one byte
 //   SAME_RANDOM=1   random bytes are zero, but for the first, which counts the calls from 0
 // No header is needed, so any C compiler will do.
@@ -19,9 +20,9 @@ int snprintf(char *, size_t, const char *, ...);
 long syscall(long, ...);
 int *__errno_location(void);
 
-enum { ENOMEM = 12, EIO = 5, READ = 0, WRITE = 1, GETRANDOM = 318 };
+enum { ENOMEM = 12, EIO = 5, ENOSPC = 28, READ = 0, WRITE = 1, GETRANDOM = 318 };
 
-static long requests, reads, writes, draws;
+static long requests, reads, writes, stores, draws;
 
 static long number(const char *name) {
     const char *text = getenv(name);
@@ -56,6 +57,7 @@ ssize_t read(int file, void *bytes, size_t size) {
 }
 
 ssize_t write(int file, const void *bytes, size_t size) {
+    if (file > 2 && ++stores == number("FULL") && fails(ENOSPC)) return -1;
     if (file != 1) return syscall(WRITE, file, bytes, size);
     if (++writes == number("FAIL_WRITE") && fails(EIO)) return -1;
     return syscall(WRITE, file, bytes, number("SHORT") && size ? 1 : size);

@@ -4,7 +4,7 @@ from collections.abc import Sequence
 from pathlib import Path, PurePath
 from tempfile import TemporaryDirectory
 
-from intaglio import BytesTable, Frozen, NoSymbol, PathTable, Refused, SymbolTable
+from intaglio import MISSING, BytesTable, Frozen, Missing, NoSymbol, PathTable, Refused, SymbolTable, merge, renumber
 
 
 def first(strings: Sequence[str]) -> str:
@@ -32,11 +32,28 @@ with TemporaryDirectory() as folder:
     symbols_there: list[int | None] = frozen.find_all(["b", "c"])
     last: str = frozen[-1]
     assert (symbols_there, last, first(frozen), list(frozen.items())) == ([1, None], "b", "a", [(0, "a"), (1, "b")])
+    bytes_of: bytes = SymbolTable(["b", "c"]).freeze(keys=(1, 2))
+    in_memory: Frozen[str] = Frozen.from_bytes(bytes_of, trusted=True)
+    codes: "array[int]" = frozen.encode(["b", "x"], missing=MISSING)
+    strings: list[str] = frozen.decode(codes[:1])
+    with_none: list[str | None] = frozen.decode(codes, missing=None)
+    written: int = frozen.encode_into(iter(["b", "a"]), codes)
+    merged, maps = merge([path, frozen, in_memory], Path(folder) / "merged", keys=(1, 2))
+    again: "array[int]" = renumber(codes, maps[2])
+    mapped: "array[int]" = SymbolTable().absorb(frozen)
+    assert (strings, with_none, written, list(codes), len(merged), list(again), list(mapped)) == (["b"], ["b", None], 2, [1, 0], 3, [2, 1], [0, 1])
+    assert merged.to_bytes() == (Path(folder) / "merged").read_bytes()
+    merged.close()
     frozen.close()
 
 paths = PathTable([PurePath("a"), "a/."])
 data: bytes = BytesTable([b"a", bytearray(b"b"), memoryview(b"c")])[2]
 assert (len(paths), paths[0], data) == (1, "a", b"c")
+try:
+    in_memory.encode(["no"])
+except Missing as missing:
+    position: int = missing.position
+    assert (position, missing.string) == (0, "no")
 try:
     SymbolTable().get_all([1])
 except NoSymbol as error:

@@ -16,6 +16,7 @@ its strings, each at its symbol: table[-1] is the last, and table[1:3] a list. `
 intern_all, check_all and get_all make one call for many strings; intern_into and check_into write the symbols to a buffer.
 
 A table can be copied and pickled. table.freeze(path) writes the strings to a file, and Frozen(path) maps it: a read-only sequence of them, each at its symbol.
+Frozen.encode and Frozen.decode turn a column of strings into codes and back, merge makes one Frozen of several, and renumber turns codes of each into its own.
 
 A call that fails raises a subclass of Refused, named after the reason, and leaves the strings unchanged.
 
@@ -24,15 +25,15 @@ thread sees a part of it. An interpreter without that lock can't import the modu
 """
 from collections.abc import Sequence
 
-from intaglio._table import BytesTable, ByteStringTable, CStringTable, OsStringTable, PathTable, SymbolTable, Table, __version__
+from intaglio._table import MISSING, BytesTable, ByteStringTable, CStringTable, OsStringTable, PathTable, SymbolTable, Table, __version__, renumber
 from intaglio.errors import (
-    REFUSALS, BadEnds, Equal, Full, InnerZero, MissingZero, NoKind, NoMemory, NoPlaces, NoSpace, NoSymbol, NotFound, NotFrozen, NotUtf8, NoTable, OtherVersion,
+    REFUSALS, BadEnds, Equal, Full, InnerZero, Missing, MissingZero, NoKind, NoMemory, NoPlaces, NoSpace, NoSymbol, NotFound, NotFrozen, NotUtf8, NoTable, OtherVersion,
     Refused, Reserved, Stale, TextEnds, TooLarge, TooLong, TooMany, Truncated, Unused,
 )
-from intaglio.frozen import Frozen
+from intaglio.frozen import Frozen, merge
 
 __all__ = [
-    "SymbolTable", "BytesTable", "CStringTable", "PathTable", "OsStringTable", "ByteStringTable", "Table", "ABSENT", "Frozen",
+    "SymbolTable", "BytesTable", "CStringTable", "PathTable", "OsStringTable", "ByteStringTable", "Table", "ABSENT", "Frozen", "merge", "renumber", "MISSING", "Missing",
     "Refused", "NoTable", "Full", "NoMemory", "TooLarge", "Stale", "NotUtf8", "InnerZero", "MissingZero", "BadEnds", "NoSymbol", "NoSpace", "NoKind",
     "NotFrozen", "OtherVersion", "Reserved", "TooMany", "Truncated", "TextEnds", "Unused", "NotFound", "TooLong", "Equal", "NoPlaces",
     "REFUSALS", "__version__",

@@ -65,9 +65,10 @@ class BadEnds(Refused, ValueError):
 
 
 class NoSymbol(Refused, IndexError):
-    """The table has no such symbol."""
+    """The table has no such symbol. For a code of a column it has the position of the first such code."""
 
     code = 10
+    position: int | None = None
 
 
 class NoSpace(Refused, ValueError):
@@ -148,9 +149,27 @@ class NoPlaces(Refused, ValueError):
     code = 23
 
 
+class Missing(KeyError):
+    """A string that is to be encoded isn't in the frozen table: the first such string, and its position."""
+
+    def __init__(self, string: str | bytes, position: int) -> None:
+        super().__init__(string, position)
+        self.string, self.position = string, position
+
+    def __str__(self) -> str:
+        return f"{self.string!r} at position {self.position} is not in the table"
+
+
 REFUSALS: dict[int, type[Refused]] = {refusal.code: refusal for refusal in Refused.__subclasses__()}
 
 
 def refusal(code: int) -> Refused:
     """The error of a code of the library."""
     return REFUSALS[code]()
+
+
+def no_symbol(code: int, position: int) -> NoSymbol:
+    """The error of a code of a column."""
+    error = NoSymbol(f"code {code} at position {position} is no symbol")
+    error.position = position
+    return error

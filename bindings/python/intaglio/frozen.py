@@ -9,11 +9,15 @@ import os
 import stat
 from collections.abc import Sequence
 
-from intaglio._table import frozen_check, frozen_find, frozen_find_all, frozen_get, frozen_is_text, frozen_len
+from intaglio._table import (
+    BytesTable, SymbolTable, frozen_check, frozen_decode, frozen_encode, frozen_encode_into, frozen_find, frozen_find_all, frozen_get, frozen_is_text, frozen_len,
+)
 from intaglio.errors import NoSymbol
 
 # How many names are drawn for a new file.
 MAX_NAMES = 100
+# What is passed if nothing stands in for a missing string.
+NOTHING = object()
 
 
 def mode_at(path):
@@ -83,13 +87,31 @@ class Frozen(Sequence):
     returns strings (`get`, `[]`, iterating, `items`) may raise UnicodeDecodeError, or have no string at a symbol below the length.
     The file must not be made shorter while it is mapped.
 
+    A column of strings is stored as its codes, the symbol of each string in 4 bytes:
+
+    >>> words = Frozen.from_bytes(SymbolTable(["to", "be", "or"]).freeze())
+    >>> codes = words.encode(["be", "to", "be"])
+    >>> codes, words.decode(codes)
+    (array('I', [1, 0, 1]), ['be', 'to', 'be'])
+
     Raises NotFrozen, OtherVersion, NoKind, Reserved, TooMany, Truncated, TextEnds, Unused, NotFound, NotUtf8, OSError.
     """
 
     def __init__(self, path, *, trusted=False):
         with open(path, "rb") as file:
             # (an empty file can't be mapped)
-            self._data = mmap.mmap(file.fileno(), 0, access=mmap.ACCESS_READ) if file.seek(0, 2) else b""
+            self._open(mmap.mmap(file.fileno(), 0, access=mmap.ACCESS_READ) if file.seek(0, 2) else memoryview(b""), trusted)
+
+    @classmethod
+    def from_bytes(cls, data, *, trusted=False):
+        """A table over its bytes in memory, as freeze and to_bytes return them: any buffer, which must not change. Raises what Frozen raises."""
+        frozen = cls.__new__(cls)
+        frozen._open(memoryview(data).cast("B"), trusted)
+        return frozen
+
+    # Takes the bytes, and closes what holds them if they are no frozen table.
+    def _open(self, data, trusted):
+        self._data = data
         try:
             if not trusted:
                 frozen_check(self._data)
@@ -111,6 +133,39 @@ class Frozen(Sequence):
         """The symbol of each string, or None."""
         return frozen_find_all(self._data, strings)
 
+    def encode(self, strings, /, *, missing=None):
+        """The codes of strings, which are their symbols, as an array('I').
+
+        A string that isn't in the table has the code `missing`, such as MISSING; without it raises Missing, a KeyError with the first
+        such string and its position.
+
+        >>> words = Frozen.from_bytes(SymbolTable(["to", "be"]).freeze())
+        >>> words.encode(["be", "or"], missing=MISSING)
+        array('I', [1, 4294967295])
+        >>> words.encode(["be", "or"])
+        Traceback (most recent call last):
+        intaglio.errors.Missing: 'or' at position 1 is not in the table
+        """
+        return frozen_encode(self._data, strings, missing)
+
+    def encode_into(self, strings, out, /, *, missing=None):
+        """Writes the codes of strings to the start of a buffer of unsigned integers of 4 bytes, such as an array('I') or a numpy array of
+        uint32, and returns how many there are. Raises what encode raises, and NoSpace if the buffer is too short; it is then unchanged.
+        """
+        return frozen_encode_into(self._data, strings, out, missing)
+
+    def decode(self, codes, /, *, missing=NOTHING):
+        """A list of the strings of codes: any buffer of unsigned integers of 4 bytes, such as an array('I') or a numpy array of uint32.
+
+        `missing` is what the list has for the code MISSING. Raises NoSymbol, an IndexError, with the position of the first code that is
+        no symbol, and UnicodeDecodeError if the file is trusted, of texts, and damaged.
+
+        >>> words = Frozen.from_bytes(SymbolTable(["to", "be"]).freeze())
+        >>> words.decode(words.encode(["be", "or"], missing=MISSING), missing=None)
+        ['be', None]
+        """
+        return frozen_decode(self._data, codes) if missing is NOTHING else frozen_decode(self._data, codes, missing)
+
     def get(self, symbol, default=None, /):
         """The string of a symbol, or the default if there is none. Raises UnicodeDecodeError if the file is trusted, of texts, and damaged."""
         string = frozen_get(self._data, symbol)
@@ -131,10 +186,16 @@ class Frozen(Sequence):
         """The symbols with their strings, in order."""
         return enumerate(self)
 
+    def to_bytes(self):
+        """The bytes of the table, which from_bytes takes, and which a file of it has."""
+        return bytes(self._data)
+
     def close(self):
         """Unmaps the file. Calls that read it then raise ValueError."""
         if isinstance(self._data, mmap.mmap):
             self._data.close()
+        else:
+            self._data.release()
 
     # The symbol of any object: one of another type is in no table.
     def _symbol(self, string):
@@ -169,3 +230,40 @@ class Frozen(Sequence):
 
     def __repr__(self):
         return f"<{type(self).__name__} of {self._len}>"
+
+
+def are_texts(table):
+    """Whether a frozen table, or that of a path, is of texts."""
+    if isinstance(table, Frozen):
+        return table.is_text
+    with Frozen(table, trusted=True) as frozen:
+        return frozen.is_text
+
+
+def absorbed(merged, table):
+    """The map of a frozen table, or of that of a path, into a table."""
+    if isinstance(table, Frozen):
+        return merged.absorb(table)
+    with Frozen(table) as frozen:
+        return merged.absorb(frozen)
+
+
+def merge(tables, /, out=None, *, keys=(0, 0)):
+    """Merges frozen tables. Returns a Frozen of all their strings in the order of their first occurrences, and a list with a map for each
+    table: an array('I') with the new symbol of each of its strings, by which renumber turns codes of that table into codes of the new one.
+
+    Each of the tables is a Frozen or a path. The new one is written to the path `out`, as Table.freeze does, or else held in memory. It is of
+    texts if all are. Raises what Frozen, Table.absorb and Table.freeze raise.
+
+    >>> one, two = (Frozen.from_bytes(SymbolTable(words).freeze()) for words in (["to", "be"], ["or", "to"]))
+    >>> both, maps = merge([one, two])
+    >>> list(both), maps
+    (['to', 'be', 'or'], [array('I', [0, 1]), array('I', [2, 0])])
+    >>> both.decode(renumber(two.encode(["to", "or"]), maps[1]))
+    ['to', 'or']
+    """
+    tables = list(tables)
+    with (SymbolTable if all(map(are_texts, tables)) else BytesTable)() as merged:
+        maps = [absorbed(merged, table) for table in tables]
+        frozen = merged.freeze(out, keys=keys)
+    return Frozen(out) if out is not None else Frozen.from_bytes(frozen, trusted=True), maps

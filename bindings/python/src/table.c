@@ -7,6 +7,7 @@
  */
 #define PY_SSIZE_T_CLEAN
 #include <Python.h>
+#include <stdarg.h>
 #include <stddef.h>
 #include <structmember.h>
 #include <unistd.h>
@@ -26,6 +27,9 @@ enum {
     FREEZINGS = 8
 };
 
+/* The code of a string that isn't in a frozen table. */
+#define MISSING UINT32_MAX
+
 typedef struct {
     PyObject_HEAD
     intaglio_table handle;
@@ -35,15 +39,25 @@ typedef struct {
     PyObject *weak;
 } Table;
 
-/* Raises the exception of an error code. */
-static PyObject *refused(uint32_t code) {
+/* Raises the exception that a function of intaglio.errors returns for arguments of this format. */
+static PyObject *raise_by(const char *name, const char *format, ...) {
+    va_list given;
+    va_start(given, format);
     PyObject *errors = PyImport_ImportModule("intaglio.errors");
-    PyObject *error = errors ? PyObject_CallMethod(errors, "refusal", "I", (unsigned int)code) : NULL;
+    PyObject *make = errors ? PyObject_GetAttrString(errors, name) : NULL;
+    PyObject *arguments = make ? Py_VaBuildValue(format, given) : NULL;
+    PyObject *error = arguments ? PyObject_CallObject(make, arguments) : NULL;
     if (error) PyErr_SetObject((PyObject *)Py_TYPE(error), error);
+    va_end(given);
     Py_XDECREF(error);
+    Py_XDECREF(arguments);
+    Py_XDECREF(make);
     Py_XDECREF(errors);
     return NULL;
 }
+
+/* Raises the exception of an error code. */
+static PyObject *refused(uint32_t code) { return raise_by("refusal", "(I)", (unsigned int)code); }
 
 static PyObject *done_or_refused(uint32_t code) {
     if (code) return refused(code);
@@ -52,33 +66,31 @@ static PyObject *done_or_refused(uint32_t code) {
 
 /* Contents */
 
-static bool has_texts(const Table *self) {
-    return self->kind == INTAGLIO_PACKED_TEXT || self->kind == INTAGLIO_PATH || self->kind == INTAGLIO_OSSTR;
-}
+static bool has_texts(uint32_t kind) { return kind == INTAGLIO_PACKED_TEXT || kind == INTAGLIO_PATH || kind == INTAGLIO_OSSTR; }
 
 /* Whether `spell` takes the object as it is. */
-static bool is_native(const Table *self, PyObject *content) {
-    return has_texts(self) ? PyUnicode_Check(content) : PyBytes_Check(content);
+static bool is_native(uint32_t kind, PyObject *content) {
+    return has_texts(kind) ? PyUnicode_Check(content) : PyBytes_Check(content);
 }
 
 /* The content as an object that `spell` takes, or null and TypeError. May run code of Python's. */
-static PyObject *native(const Table *self, PyObject *content) {
-    if (is_native(self, content)) return Py_NewRef(content);
-    if (self->kind == INTAGLIO_PATH) {
+static PyObject *native(uint32_t kind, PyObject *content) {
+    if (is_native(kind, content)) return Py_NewRef(content);
+    if (kind == INTAGLIO_PATH) {
         PyObject *path = PyOS_FSPath(content);
         if (!path || PyUnicode_Check(path)) return path;
         Py_DECREF(path);
     }
-    if (!has_texts(self) && (PyByteArray_Check(content) || PyMemoryView_Check(content))) return PyBytes_FromObject(content);
-    return PyErr_Format(PyExc_TypeError, "%s, not %.200s", has_texts(self) ? "a string" : "bytes", Py_TYPE(content)->tp_name);
+    if (!has_texts(kind) && (PyByteArray_Check(content) || PyMemoryView_Check(content))) return PyBytes_FromObject(content);
+    return PyErr_Format(PyExc_TypeError, "%s, not %.200s", has_texts(kind) ? "a string" : "bytes", Py_TYPE(content)->tp_name);
 }
 
 /* The bytes of a native content, which stay with it, or null and an exception: UnicodeEncodeError, MemoryError. */
-static const uint8_t *spell(const Table *self, PyObject *content, size_t *len) {
+static const uint8_t *spell(uint32_t kind, PyObject *content, size_t *len) {
     Py_ssize_t size;
-    if (!has_texts(self)) {
+    if (!has_texts(kind)) {
         /* A bytes object has a zero behind its bytes, which a C string includes. */
-        *len = (size_t)PyBytes_GET_SIZE(content) + (self->kind == INTAGLIO_CSTR);
+        *len = (size_t)PyBytes_GET_SIZE(content) + (kind == INTAGLIO_CSTR);
         return (const uint8_t *)PyBytes_AS_STRING(content);
     }
     if (PyUnicode_IS_COMPACT_ASCII(content)) {
@@ -117,7 +129,7 @@ static bool is_absent(void) {
 /* Looks a native content up. Returns 1 and its symbol, 0 if it isn't in the table, or -1 and an exception. */
 static inline int find_native(Table *self, PyObject *content, uint32_t *symbol) {
     size_t len;
-    const uint8_t *at = spell(self, content, &len);
+    const uint8_t *at = spell(self->kind, content, &len);
     if (at) return intaglio_check_interned(&self->handle, at, len, symbol);
     return is_absent() ? 0 : -1;
 }
@@ -125,8 +137,8 @@ static inline int find_native(Table *self, PyObject *content, uint32_t *symbol) 
 /* The same for any content. A native one needs no reference beside the caller's, since no code of Python's runs meanwhile; to count
  * one would write to the object. */
 static int find(Table *self, PyObject *content, uint32_t *symbol) {
-    if (is_native(self, content)) return find_native(self, content, symbol);
-    PyObject *own = native(self, content);
+    if (is_native(self->kind, content)) return find_native(self, content, symbol);
+    PyObject *own = native(self->kind, content);
     int found = own ? find_native(self, own, symbol) : -1;
     Py_XDECREF(own);
     return found;
@@ -145,7 +157,7 @@ static int lookup(Table *self, uint32_t symbol, PyObject **content) {
         }
         intaglio_copy(&self->handle, symbol, at, len, &len);
     }
-    *content = has_texts(self) ? PyUnicode_DecodeUTF8((const char *)at, (Py_ssize_t)len, NULL)
+    *content = has_texts(self->kind) ? PyUnicode_DecodeUTF8((const char *)at, (Py_ssize_t)len, NULL)
                                : PyBytes_FromStringAndSize((const char *)at, (Py_ssize_t)(len - (self->kind == INTAGLIO_CSTR)));
     if (at != near) PyMem_Free(at);
     return *content ? 1 : -1;
@@ -204,8 +216,9 @@ static int read_keys(PyObject *passed, uint64_t keys[2]) {
 
 /* Batches */
 
-/* A list or tuple of contents, and a number for each: symbols of 4 bytes, or of 8 where a content may be absent. */
+/* A list or tuple of contents of a kind, and a number for each, of 4 bytes or of 8. */
 typedef struct {
+    uint32_t kind;
     PyObject *items;
     Py_ssize_t count;
     void *numbers;
@@ -213,7 +226,8 @@ typedef struct {
 
 /* What became of a batch: done; an exception; contents that aren't native, or that have no UTF-8. */
 typedef enum { DONE, FAILED, NOT_NATIVE, NOT_SPELLED } Outcome;
-typedef Outcome (*Each)(Table *, Batch *);
+/* What is done with each content of a batch, by a table or a frozen one. */
+typedef Outcome (*Each)(void *, Batch *);
 
 /* Some strings of a batch, one behind the other, and the end of each. */
 typedef struct {
@@ -228,7 +242,8 @@ static void close_batch(Batch *batch) {
     batch->numbers = NULL;
 }
 
-static int open_batch(Batch *batch, PyObject *contents) {
+static int open_batch(Batch *batch, uint32_t kind, PyObject *contents) {
+    batch->kind = kind;
     batch->numbers = NULL;
     batch->items = PySequence_Fast(contents, "an iterable of strings");
     if (!batch->items) return -1;
@@ -241,14 +256,14 @@ static int open_batch(Batch *batch, PyObject *contents) {
 }
 
 /* Gives the batch a list of its own, in which each content is native. */
-static int convert_batch(Table *self, Batch *batch) {
+static int convert_batch(Batch *batch) {
     PyObject *own = PySequence_List(batch->items);
     close_batch(batch);
     for (Py_ssize_t i = 0; own && i < PyList_GET_SIZE(own); i++) {
-        PyObject *item = native(self, PyList_GET_ITEM(own, i));
+        PyObject *item = native(batch->kind, PyList_GET_ITEM(own, i));
         if (!item || PyList_SetItem(own, i, item) < 0) Py_CLEAR(own);
     }
-    int status = own ? open_batch(batch, own) : -1;
+    int status = own ? open_batch(batch, batch->kind, own) : -1;
     Py_XDECREF(own);
     return status;
 }
@@ -261,10 +276,10 @@ static int check_count(const Batch *batch, Py_ssize_t most) {
 
 /* Opens the batch, which may have so many contents at most, and does something with each. If some aren't native, it begins again with
  * a list in which all are: that is rarer than one more pass over the objects would be dear. */
-static int run_batch(Table *self, Batch *batch, PyObject *contents, Each each, Py_ssize_t most) {
-    if (open_batch(batch, contents) < 0) return -1;
-    Outcome outcome = check_count(batch, most) == 0 ? each(self, batch) : FAILED;
-    if (outcome == NOT_NATIVE) outcome = convert_batch(self, batch) == 0 && check_count(batch, most) == 0 ? each(self, batch) : FAILED;
+static int run_batch(void *of, uint32_t kind, Batch *batch, PyObject *contents, Each each, Py_ssize_t most) {
+    if (open_batch(batch, kind, contents) < 0) return -1;
+    Outcome outcome = check_count(batch, most) == 0 ? each(of, batch) : FAILED;
+    if (outcome == NOT_NATIVE) outcome = convert_batch(batch) == 0 && check_count(batch, most) == 0 ? each(of, batch) : FAILED;
     if (outcome == DONE) return 0;
     close_batch(batch);
     return -1;
@@ -280,15 +295,15 @@ static inline void fetch(PyObject **items, Py_ssize_t i, Py_ssize_t count) {
 /* Joins the strings of the contents from one on, as many as the group has places and room for; a string that is too long for it is
  * a group of its own, and isn't copied. The library looks the strings of a call up together, which is faster. If the group ends before
  * a content that isn't native or not spelled, that is returned, in the last case with an exception. */
-static Outcome join(const Table *self, const Batch *batch, Py_ssize_t first, Group *group) {
+static Outcome join(const Batch *batch, Py_ssize_t first, Group *group) {
     PyObject **items = PySequence_Fast_ITEMS(batch->items);
     group->at = group->bytes;
     group->count = group->len = 0;
     for (Py_ssize_t i = first; i < batch->count && group->count < GROUP; i++) {
         size_t len;
         fetch(items, i, batch->count);
-        if (!is_native(self, items[i])) return NOT_NATIVE;
-        const uint8_t *at = spell(self, items[i], &len);
+        if (!is_native(batch->kind, items[i])) return NOT_NATIVE;
+        const uint8_t *at = spell(batch->kind, items[i], &len);
         if (!at) return NOT_SPELLED;
         if (len <= GROUP_BYTES - group->len) memcpy(group->bytes + group->len, at, len);
         else if (group->count == 0) group->at = at;
@@ -319,8 +334,8 @@ static inline Outcome do_singly(Table *self, const Batch *batch, Py_ssize_t firs
         size_t len;
         Py_ssize_t i = first + (Py_ssize_t)group->count;
         fetch(items, i, batch->count);
-        if (!is_native(self, items[i])) return NOT_NATIVE;
-        const uint8_t *at = spell(self, items[i], &len);
+        if (!is_native(batch->kind, items[i])) return NOT_NATIVE;
+        const uint8_t *at = spell(batch->kind, items[i], &len);
         if (!at) return NOT_SPELLED;
         *code = single(self, at, len, batch->numbers, i);
         if (*code) break;
@@ -338,14 +353,14 @@ static Outcome find_singly(Table *self, const Batch *batch, Py_ssize_t first, Gr
 
 /* The same in one call of the library. */
 static Outcome intern_group(Table *self, const Batch *batch, Py_ssize_t first, Group *group, uint32_t *code) {
-    Outcome outcome = join(self, batch, first, group);
+    Outcome outcome = join(batch, first, group);
     uint32_t *symbols = (uint32_t *)batch->numbers + first;
     if (group->count) *code = intaglio_intern_all(&self->handle, group->at, group->len, group->ends, group->count, symbols, group->count);
     return outcome;
 }
 
 static Outcome find_group(Table *self, const Batch *batch, Py_ssize_t first, Group *group, uint32_t *code) {
-    Outcome outcome = join(self, batch, first, group);
+    Outcome outcome = join(batch, first, group);
     uint64_t *found = (uint64_t *)batch->numbers + first;
     *code = intaglio_check_all(&self->handle, group->at, group->len, group->ends, group->count, found, group->count);
     return outcome;
@@ -359,7 +374,8 @@ static bool are_most_absent(const uint64_t *found, size_t count) {
 
 /* Interns all contents or none. After a group in which most were new, the next is interned one by one: a string that isn't there needs few
  * cache lines, so that a group gains less than it costs. The collector is off, since it may run code of Python's, and with it other threads. */
-static Outcome intern_each(Table *self, Batch *batch) {
+static Outcome intern_each(void *of, Batch *batch) {
+    Table *self = of;
     uint32_t code = INTAGLIO_DONE;
     Outcome outcome = DONE;
     Group group;
@@ -386,7 +402,8 @@ static Outcome intern_each(Table *self, Batch *batch) {
 }
 
 /* Looks each content up. After a group in which most were absent, the next is looked up one by one, as in intern_each. */
-static Outcome find_each(Table *self, Batch *batch) {
+static Outcome find_each(void *of, Batch *batch) {
+    Table *self = of;
     uint64_t *found = batch->numbers;
     uint32_t code = INTAGLIO_DONE;
     Outcome outcome = DONE;
@@ -431,17 +448,32 @@ static PyObject *list_found(const Batch *batch) {
     return list;
 }
 
-static PyObject *list_batch(Table *self, PyObject *contents, Each each, PyObject *(*listed)(const Batch *)) {
+/* An array('I') of numbers, or null and an exception. */
+static PyObject *array_of(const uint32_t *numbers, size_t count) {
+    PyObject *module = PyImport_ImportModule("array");
+    PyObject *array = module ? PyObject_CallMethod(module, "array", "s", "I") : NULL;
+    PyObject *view = array ? PyMemoryView_FromMemory((char *)numbers, (Py_ssize_t)(count * sizeof *numbers), PyBUF_READ) : NULL;
+    PyObject *none = view ? PyObject_CallMethod(array, "frombytes", "O", view) : NULL;
+    if (!none) Py_CLEAR(array);
+    Py_XDECREF(none);
+    Py_XDECREF(view);
+    Py_XDECREF(module);
+    return array;
+}
+
+static PyObject *array_batch(const Batch *batch) { return array_of(batch->numbers, (size_t)batch->count); }
+
+static PyObject *list_batch(void *of, uint32_t kind, PyObject *contents, Each each, PyObject *(*listed)(const Batch *)) {
     Batch batch;
-    if (run_batch(self, &batch, contents, each, PY_SSIZE_T_MAX) < 0) return NULL;
+    if (run_batch(of, kind, &batch, contents, each, PY_SSIZE_T_MAX) < 0) return NULL;
     PyObject *list = listed(&batch);
     close_batch(&batch);
     return list;
 }
 
-/* Borrows a writable buffer whose items are integers of one of these formats and of this size. */
-static int borrow(PyObject *out, Py_buffer *view, const char *formats, Py_ssize_t size) {
-    if (PyObject_GetBuffer(out, view, PyBUF_WRITABLE | PyBUF_FORMAT | PyBUF_C_CONTIGUOUS) < 0) return -1;
+/* Borrows a buffer whose items are integers of one of these formats and of this size. */
+static int borrow(PyObject *buffer, Py_buffer *view, int flags, const char *formats, Py_ssize_t size) {
+    if (PyObject_GetBuffer(buffer, view, flags | PyBUF_FORMAT) < 0) return -1;
     const char *format = view->format ? view->format : "B";
     if (format[0] == '@' || format[0] == '=' || format[0] == '<') format++;
     if (view->itemsize == size && format[0] && !format[1] && strchr(formats, format[0])) return 0;
@@ -450,16 +482,17 @@ static int borrow(PyObject *out, Py_buffer *view, const char *formats, Py_ssize_
     return -1;
 }
 
+static PyObject *wrong_count(Py_ssize_t count) { return PyErr_Format(PyExc_TypeError, "takes the contents and a buffer (%zd given)", count); }
+
 /* Writes the numbers of a batch to a buffer, and returns how many there are. The buffer is borrowed before the first content is
  * interned, so that nothing is interned if it is too short. */
-static PyObject *write_batch(Table *self, PyObject *const *args, Py_ssize_t count, Each each, const char *formats, size_t size) {
-    if (count != 2) return PyErr_Format(PyExc_TypeError, "takes the contents and a buffer (%zd given)", count);
+static PyObject *write_batch(void *of, uint32_t kind, PyObject *contents, PyObject *out, Each each, const char *formats, size_t size) {
     Py_buffer view;
     Batch batch;
-    PyObject *written = NULL, *items = PySequence_Fast(args[0], "an iterable of strings");
+    PyObject *written = NULL, *items = PySequence_Fast(contents, "an iterable of strings");
     if (!items) return NULL;
-    if (borrow(args[1], &view, formats, (Py_ssize_t)size) == 0) {
-        if (run_batch(self, &batch, items, each, view.len / (Py_ssize_t)size) == 0) {
+    if (borrow(out, &view, PyBUF_WRITABLE | PyBUF_C_CONTIGUOUS, formats, (Py_ssize_t)size) == 0) {
+        if (run_batch(of, kind, &batch, items, each, view.len / (Py_ssize_t)size) == 0) {
             memcpy(view.buf, batch.numbers, (size_t)batch.count * size);
             written = PyLong_FromSsize_t(batch.count);
             close_batch(&batch);
@@ -476,7 +509,7 @@ static PyObject *write_batch(Table *self, PyObject *const *args, Py_ssize_t coun
 static inline PyObject *intern_native(Table *self, PyObject *content) {
     size_t len;
     uint32_t symbol;
-    const uint8_t *at = spell(self, content, &len);
+    const uint8_t *at = spell(self->kind, content, &len);
     if (!at) return not_spelled();
     uint32_t code = intaglio_intern(&self->handle, at, len, &symbol);
     return code ? refused(code) : PyLong_FromUnsignedLong(symbol);
@@ -485,8 +518,8 @@ static inline PyObject *intern_native(Table *self, PyObject *content) {
 PyDoc_STRVAR(intern_doc, "intern($self, content, /)\n--\n\n"
 "The symbol of the string, which is stored if it is new. Raises Full, NoMemory, NotUtf8, InnerZero, NoTable.");
 static PyObject *table_intern(Table *self, PyObject *content) {
-    if (is_native(self, content)) return intern_native(self, content);
-    PyObject *own = native(self, content);
+    if (is_native(self->kind, content)) return intern_native(self, content);
+    PyObject *own = native(self->kind, content);
     PyObject *symbol = own ? intern_native(self, own) : NULL;
     Py_XDECREF(own);
     return symbol;
@@ -505,23 +538,29 @@ static PyObject *table_check_interned(Table *self, PyObject *content) {
 
 PyDoc_STRVAR(intern_all_doc, "intern_all($self, contents, /)\n--\n\n"
 "Interns all strings or none, and returns their symbols. Raises what intern raises.");
-static PyObject *table_intern_all(Table *self, PyObject *contents) { return list_batch(self, contents, intern_each, list_symbols); }
+static PyObject *table_intern_all(Table *self, PyObject *contents) { return list_batch(self, self->kind, contents, intern_each, list_symbols); }
 
 PyDoc_STRVAR(check_all_doc, "check_all($self, contents, /)\n--\n\n"
 "The symbols of the strings, with None for those that aren't in the table. Raises NoTable.");
-static PyObject *table_check_all(Table *self, PyObject *contents) { return list_batch(self, contents, find_each, list_found); }
+static PyObject *table_check_all(Table *self, PyObject *contents) { return list_batch(self, self->kind, contents, find_each, list_found); }
 
 PyDoc_STRVAR(intern_into_doc, "intern_into($self, contents, out, /)\n--\n\n"
 "Interns all strings or none, writes their symbols to the start of a buffer of unsigned integers of 4 bytes, such as array('I')\n"
 "or a numpy array of uint32, and returns how many there are. Raises what intern raises, and NoSpace if the buffer is too short.\n"
 "The buffer is unchanged if it raises.");
-static PyObject *table_intern_into(Table *self, PyObject *const *args, Py_ssize_t count) { return write_batch(self, args, count, intern_each, "IL", sizeof(uint32_t)); }
+static PyObject *table_intern_into(Table *self, PyObject *const *args, Py_ssize_t count) {
+    if (count != 2) return wrong_count(count);
+    return write_batch(self, self->kind, args[0], args[1], intern_each, "IL", sizeof(uint32_t));
+}
 
 PyDoc_STRVAR(check_into_doc, "check_into($self, contents, out, /)\n--\n\n"
 "Writes the symbols of the strings to the start of a buffer of integers of 8 bytes, such as array('q') or a numpy array of int64,\n"
 "with ABSENT for those that aren't in the table (-1; 2**64 - 1 in an unsigned buffer), and returns how many there are. Raises\n"
 "NoSpace if the buffer is too short, NoTable. The buffer is unchanged if it raises.");
-static PyObject *table_check_into(Table *self, PyObject *const *args, Py_ssize_t count) { return write_batch(self, args, count, find_each, "qQlL", sizeof(uint64_t)); }
+static PyObject *table_check_into(Table *self, PyObject *const *args, Py_ssize_t count) {
+    if (count != 2) return wrong_count(count);
+    return write_batch(self, self->kind, args[0], args[1], find_each, "qQlL", sizeof(uint64_t));
+}
 
 PyDoc_STRVAR(get_doc, "get($self, symbol, default=None, /)\n--\n\n"
 "The string of a symbol, or the default if there is none.");
@@ -657,25 +696,68 @@ static PyObject *freeze(Table *self, const uint64_t keys[2], uint32_t *code) {
     return bytes;
 }
 
-PyDoc_STRVAR(freeze_doc, "freeze($self, path, /, *, keys=(0, 0))\n--\n\n"
-"Writes the strings, each at its symbol, to a file with a frozen table, which Frozen reads. The keys are those of its hash function,\n"
+PyDoc_STRVAR(freeze_doc, "freeze($self, path=None, /, *, keys=(0, 0))\n--\n\n"
+"Writes the strings, each at its symbol, to a file with a frozen table, which Frozen reads; without a path returns its bytes. The keys are those of its hash function,\n"
 "or, if a string gets no place under them, the first is one of the seven after it: the same strings and keys give the same bytes.\n"
 "All is written to a new file in the same folder, synced, and renamed: so several processes may freeze to one file. It keeps its mode,\n"
 "a symbolic link is followed, and what is no regular file isn't replaced. The strings of a CStringTable end with a zero there.\n"
 "Raises TooMany, TooLong, NoPlaces, NoMemory, NoTable, OSError.");
 static PyObject *table_freeze(Table *self, PyObject *args, PyObject *named) {
     static char *names[] = {"", "keys", NULL};
-    PyObject *path, *passed = NULL, *written = NULL;
+    PyObject *path = Py_None, *passed = NULL, *written = NULL;
     uint64_t keys[2] = {0, 0};
     uint32_t code = INTAGLIO_DONE;
-    if (!PyArg_ParseTupleAndKeywords(args, named, "O|$O:freeze", names, &path, &passed) || (passed && read_keys(passed, keys) < 0)) return NULL;
+    if (!PyArg_ParseTupleAndKeywords(args, named, "|O$O:freeze", names, &path, &passed) || (passed && read_keys(passed, keys) < 0)) return NULL;
     PyObject *bytes = freeze(self, keys, &code);
     if (!bytes) return code ? refused(code) : NULL;
+    if (path == Py_None) return bytes;
     PyObject *module = PyImport_ImportModule("intaglio.frozen");
     if (module) written = PyObject_CallMethod(module, "replace", "OO", path, bytes);
     Py_XDECREF(module);
     Py_DECREF(bytes);
     return written;
+}
+
+/* What a Frozen holds its bytes by, or null and TypeError. */
+static PyObject *bytes_of_frozen(PyObject *frozen) {
+    PyObject *module = PyImport_ImportModule("intaglio.frozen"), *data = NULL;
+    PyObject *type = module ? PyObject_GetAttrString(module, "Frozen") : NULL;
+    int is_one = type ? PyObject_IsInstance(frozen, type) : -1;
+    if (is_one == 0) PyErr_Format(PyExc_TypeError, "a Frozen, not %.200s", Py_TYPE(frozen)->tp_name);
+    if (is_one == 1) data = PyObject_GetAttrString(frozen, "_data");
+    Py_XDECREF(type);
+    Py_XDECREF(module);
+    return data;
+}
+
+/* Interns all strings of frozen bytes or none, and returns their symbols. */
+static PyObject *absorb(Table *self, const Py_buffer *view) {
+    size_t count = intaglio_frozen_len(view->buf, (size_t)view->len);
+    uint32_t *symbols = PyMem_Malloc((count + 1) * sizeof *symbols);
+    if (!symbols) return PyErr_NoMemory();
+    uint32_t code = intaglio_absorb(&self->handle, view->buf, (size_t)view->len, symbols, count);
+    PyObject *array = code ? refused(code) : array_of(symbols, count);
+    PyMem_Free(symbols);
+    return array;
+}
+
+PyDoc_STRVAR(absorb_doc, "absorb($self, frozen, /)\n--\n\n"
+"Interns all strings of a Frozen in their order, or none, and returns their symbols: a map by which renumber turns codes of the\n"
+"frozen table into symbols of this one. Raises what intern raises, and what is wrong with the header or the ends of a trusted file.\n\n"
+">>> table = SymbolTable([\"b\"])\n"
+">>> table.absorb(Frozen.from_bytes(SymbolTable([\"a\", \"b\"]).freeze()))\n"
+"array('I', [1, 0])\n"
+">>> list(table)\n"
+"['b', 'a']");
+static PyObject *table_absorb(Table *self, PyObject *frozen) {
+    Py_buffer view;
+    PyObject *symbols = NULL, *data = bytes_of_frozen(frozen);
+    if (data && PyObject_GetBuffer(data, &view, PyBUF_SIMPLE) == 0) {
+        symbols = absorb(self, &view);
+        PyBuffer_Release(&view);
+    }
+    Py_XDECREF(data);
+    return symbols;
 }
 
 static PyObject *table_enter(PyObject *self, PyObject *Py_UNUSED(none)) { return Py_NewRef(self); }
@@ -745,7 +827,7 @@ static int table_init(Table *self, PyObject *args, PyObject *named) {
     uint32_t code = make(self, limit != Py_None, size, keys);
     Batch batch;
     if (code) refused(code);
-    if (code || (contents && run_batch(self, &batch, contents, intern_each, PY_SSIZE_T_MAX) < 0)) return -1;
+    if (code || (contents && run_batch(self, self->kind, &batch, contents, intern_each, PY_SSIZE_T_MAX) < 0)) return -1;
     if (contents) close_batch(&batch);
     return 0;
 }
@@ -767,7 +849,7 @@ static uint32_t thaw_each(Table *self, const uint8_t *bytes, size_t size) {
 /* Puts the strings of a frozen table into a table without strings. The bytes may come from anywhere, so they are checked. */
 static uint32_t thaw_into(Table *self, const uint8_t *bytes, size_t size, size_t limit, const uint64_t keys[2]) {
     uint32_t code = intaglio_frozen_check(bytes, size);
-    if (!code && intaglio_frozen_is_text(bytes, size) != has_texts(self)) code = INTAGLIO_NO_KIND;
+    if (!code && intaglio_frozen_is_text(bytes, size) != has_texts(self->kind)) code = INTAGLIO_NO_KIND;
     if (!code) code = make(self, limit != 0, limit ? limit : intaglio_frozen_len(bytes, size), keys);
     return code ? code : thaw_each(self, bytes, size);
 }
@@ -831,6 +913,7 @@ static PyMethodDef methods[] = {
     {"reserve", (PyCFunction)table_reserve, METH_O, reserve_doc},
     {"shrink_to", FAST(table_shrink_to), METH_FASTCALL, shrink_to_doc},
     {"freeze", FAST(table_freeze), METH_VARARGS | METH_KEYWORDS, freeze_doc},
+    {"absorb", (PyCFunction)table_absorb, METH_O, absorb_doc},
     {"close", (PyCFunction)table_close, METH_NOARGS, close_doc},
     {"__enter__", table_enter, METH_NOARGS, NULL},
     {"__exit__", (PyCFunction)table_exit, METH_VARARGS, NULL},
@@ -880,31 +963,9 @@ KIND(bstr, INTAGLIO_BSTR, "ByteStringTable", "A table of bytes that are text by 
 /* Borrows the bytes of a table. */
 static int borrow_frozen(PyObject *data, Py_buffer *view) { return PyObject_GetBuffer(data, view, PyBUF_SIMPLE); }
 
-/* The bytes of a string, which stay with it, or null and an exception: TypeError, UnicodeEncodeError, MemoryError. */
-static const uint8_t *spell_frozen(bool is_text, PyObject *string, size_t *len) {
-    Py_ssize_t size;
-    if (is_text && PyUnicode_Check(string)) {
-        const char *text = PyUnicode_AsUTF8AndSize(string, &size);
-        *len = (size_t)size;
-        return (const uint8_t *)text;
-    }
-    if (!is_text && PyBytes_Check(string)) {
-        *len = (size_t)PyBytes_GET_SIZE(string);
-        return (const uint8_t *)PyBytes_AS_STRING(string);
-    }
-    PyErr_Format(PyExc_TypeError, "%s, not %.200s", is_text ? "a string" : "bytes", Py_TYPE(string)->tp_name);
-    return NULL;
-}
-
-/* The symbol of a string or None, or null and an exception. */
-static PyObject *find_frozen(const Py_buffer *view, bool is_text, PyObject *string) {
-    size_t len;
-    uint32_t symbol;
-    const uint8_t *at = spell_frozen(is_text, string, &len);
-    if (at && intaglio_frozen_find(view->buf, (size_t)view->len, at, len, &symbol)) return PyLong_FromUnsignedLong(symbol);
-    if (!at && !PyErr_ExceptionMatches(PyExc_UnicodeEncodeError)) return NULL;
-    PyErr_Clear();
-    Py_RETURN_NONE;
+/* The kind of table that takes the strings of a frozen one. */
+static uint32_t kind_of(const Py_buffer *view) {
+    return intaglio_frozen_is_text(view->buf, (size_t)view->len) ? INTAGLIO_PACKED_TEXT : INTAGLIO_PACKED_BYTES;
 }
 
 PyDoc_STRVAR(frozen_check_doc, "frozen_check(data, /)\n--\n\nRaises what is wrong with bytes that are no frozen table.");
@@ -934,48 +995,249 @@ static PyObject *frozen_is_text(PyObject *Py_UNUSED(module), PyObject *data) {
     return PyBool_FromLong(is_text);
 }
 
+/* The symbol of a native string or None, or null and an exception. */
+static PyObject *find_in(const Py_buffer *view, uint32_t kind, PyObject *string) {
+    size_t len;
+    uint32_t symbol;
+    const uint8_t *at = spell(kind, string, &len);
+    if (at && intaglio_frozen_find(view->buf, (size_t)view->len, at, len, &symbol)) return PyLong_FromUnsignedLong(symbol);
+    if (!at && !is_absent()) return NULL;
+    Py_RETURN_NONE;
+}
+
 PyDoc_STRVAR(frozen_find_doc, "frozen_find(data, string, /)\n--\n\nThe symbol of a string, or None.");
 static PyObject *frozen_find(PyObject *Py_UNUSED(module), PyObject *const *args, Py_ssize_t count) {
     Py_buffer view;
     if (count != 2) return PyErr_Format(PyExc_TypeError, "takes the bytes and a string (%zd given)", count);
     if (borrow_frozen(args[0], &view) < 0) return NULL;
-    PyObject *found = find_frozen(&view, intaglio_frozen_is_text(view.buf, (size_t)view.len), args[1]);
+    uint32_t kind = kind_of(&view);
+    PyObject *own = native(kind, args[1]), *found = own ? find_in(&view, kind, own) : NULL;
+    Py_XDECREF(own);
     PyBuffer_Release(&view);
     return found;
+}
+
+/* Looks each string up. The numbers are codes: symbols, which are below 2^31 here, or MISSING. */
+static Outcome find_each_frozen(void *of, Batch *batch) {
+    const Py_buffer *view = of;
+    uint32_t *codes = batch->numbers, code = INTAGLIO_DONE;
+    uint64_t found[GROUP] = {0};
+    Outcome outcome = DONE;
+    Group group;
+    int collects = PyGC_Disable();
+    for (Py_ssize_t i = 0; outcome == DONE && !code && i < batch->count;) {
+        outcome = join(batch, i, &group);
+        code = intaglio_frozen_find_all(view->buf, (size_t)view->len, group.at, group.len, group.ends, group.count, found, group.count);
+        for (size_t j = 0; j < group.count; j++) codes[i++] = found[j] == INTAGLIO_ABSENT ? MISSING : (uint32_t)found[j];
+        if (outcome != NOT_SPELLED) continue;
+        outcome = is_absent() ? DONE : FAILED;
+        codes[i++] = MISSING;
+    }
+    if (collects) PyGC_Enable();
+    if (code) refused(code);
+    return code ? FAILED : outcome;
+}
+
+/* A list of the batch's codes, with None for those that are missing. */
+static PyObject *list_codes(const Batch *batch) {
+    const uint32_t *codes = batch->numbers;
+    PyObject *list = PyList_New(batch->count);
+    for (Py_ssize_t i = 0; list && i < batch->count; i++) {
+        PyObject *number = codes[i] == MISSING ? Py_NewRef(Py_None) : PyLong_FromUnsignedLong(codes[i]);
+        if (number) PyList_SET_ITEM(list, i, number);
+        else Py_CLEAR(list);
+    }
+    return list;
 }
 
 PyDoc_STRVAR(frozen_find_all_doc, "frozen_find_all(data, strings, /)\n--\n\nThe symbol of each string, or None.");
 static PyObject *frozen_find_all(PyObject *Py_UNUSED(module), PyObject *const *args, Py_ssize_t count) {
     Py_buffer view;
     if (count != 2) return PyErr_Format(PyExc_TypeError, "takes the bytes and strings (%zd given)", count);
-    PyObject *strings = PySequence_Tuple(args[1]);
-    if (!strings || borrow_frozen(args[0], &view) < 0) {
-        Py_XDECREF(strings);
-        return NULL;
-    }
-    bool is_text = intaglio_frozen_is_text(view.buf, (size_t)view.len);
-    PyObject *list = PyList_New(PyTuple_GET_SIZE(strings));
-    for (Py_ssize_t i = 0; list && i < PyTuple_GET_SIZE(strings); i++) {
-        PyObject *found = find_frozen(&view, is_text, PyTuple_GET_ITEM(strings, i));
-        if (found) PyList_SET_ITEM(list, i, found);
-        else Py_CLEAR(list);
-    }
+    if (borrow_frozen(args[0], &view) < 0) return NULL;
+    PyObject *list = list_batch(&view, kind_of(&view), args[1], find_each_frozen, list_codes);
     PyBuffer_Release(&view);
-    Py_DECREF(strings);
     return list;
+}
+
+/* Columns: codes of frozen tables. */
+
+/* What strings are encoded by: a frozen table, and the code of a string that isn't there, if it is to have one. */
+typedef struct {
+    Py_buffer view;
+    bool has_missing;
+    uint32_t missing;
+} Encoder;
+
+/* Borrows a frozen table. A code for what is missing is None or an integer of 4 bytes. */
+static int open_encoder(Encoder *encoder, PyObject *data, PyObject *missing) {
+    encoder->has_missing = missing != Py_None;
+    Py_ssize_t number = encoder->has_missing ? PyNumber_AsSsize_t(missing, PyExc_OverflowError) : 0;
+    if (number == -1 && PyErr_Occurred()) return -1;
+    if (number < 0 || number > (Py_ssize_t)UINT32_MAX) {
+        PyErr_SetString(PyExc_OverflowError, "the code of a missing string is from 0 to 2**32 - 1");
+        return -1;
+    }
+    encoder->missing = (uint32_t)number;
+    return borrow_frozen(data, &encoder->view);
+}
+
+static Outcome encode_each(void *of, Batch *batch) {
+    Encoder *encoder = of;
+    uint32_t *codes = batch->numbers;
+    Outcome outcome = find_each_frozen(&encoder->view, batch);
+    if (outcome != DONE || (encoder->has_missing && encoder->missing == MISSING)) return outcome;
+    for (Py_ssize_t i = 0; i < batch->count; i++) {
+        if (codes[i] != MISSING) continue;
+        if (!encoder->has_missing) {
+            raise_by("Missing", "(Nn)", Py_NewRef(PySequence_Fast_GET_ITEM(batch->items, i)), i);
+            return FAILED;
+        }
+        codes[i] = encoder->missing;
+    }
+    return DONE;
+}
+
+PyDoc_STRVAR(frozen_encode_doc, "frozen_encode(data, strings, missing, /)\n--\n\nAn array('I') of the code of each string.");
+static PyObject *frozen_encode(PyObject *Py_UNUSED(module), PyObject *const *args, Py_ssize_t count) {
+    Encoder encoder;
+    if (count != 3) return PyErr_Format(PyExc_TypeError, "takes the bytes, strings and a code (%zd given)", count);
+    if (open_encoder(&encoder, args[0], args[2]) < 0) return NULL;
+    PyObject *codes = list_batch(&encoder, kind_of(&encoder.view), args[1], encode_each, array_batch);
+    PyBuffer_Release(&encoder.view);
+    return codes;
+}
+
+PyDoc_STRVAR(frozen_encode_into_doc, "frozen_encode_into(data, strings, out, missing, /)\n--\n\nWrites the code of each string to a buffer.");
+static PyObject *frozen_encode_into(PyObject *Py_UNUSED(module), PyObject *const *args, Py_ssize_t count) {
+    Encoder encoder;
+    if (count != 4) return PyErr_Format(PyExc_TypeError, "takes the bytes, strings, a buffer and a code (%zd given)", count);
+    if (open_encoder(&encoder, args[0], args[3]) < 0) return NULL;
+    PyObject *written = write_batch(&encoder, kind_of(&encoder.view), args[1], args[2], encode_each, "IL", sizeof(uint32_t));
+    PyBuffer_Release(&encoder.view);
+    return written;
+}
+
+/* Codes in a buffer of unsigned integers of 4 bytes, or a copy of them if they aren't aligned and one behind the other. */
+typedef struct {
+    Py_buffer view;
+    const uint32_t *at;
+    size_t count;
+    uint32_t *own;
+} Codes;
+
+static void close_codes(Codes *codes) {
+    PyMem_Free(codes->own);
+    PyBuffer_Release(&codes->view);
+}
+
+static int open_codes(Codes *codes, PyObject *buffer) {
+    Py_buffer *view = &codes->view;
+    if (borrow(buffer, view, PyBUF_STRIDES, "IL", sizeof(uint32_t)) < 0) return -1;
+    codes->own = NULL;
+    codes->at = view->buf;
+    codes->count = (size_t)view->len / sizeof(uint32_t);
+    if (PyBuffer_IsContiguous(view, 'C') && (uintptr_t)view->buf % sizeof(uint32_t) == 0) return 0;
+    codes->at = codes->own = PyMem_Malloc((size_t)view->len + 1);
+    if (codes->own && PyBuffer_ToContiguous(codes->own, view, view->len, 'C') == 0) return 0;
+    if (!codes->own) PyErr_NoMemory();
+    close_codes(codes);
+    return -1;
+}
+
+/* One code, which is read once: a thread that doesn't hold the interpreter's lock may write to the buffer. */
+static inline uint32_t code_at(const Codes *codes, size_t i) { return __atomic_load_n(codes->at + i, __ATOMIC_RELAXED); }
+
+/* The string of a symbol; the default if there is none; or null, with an exception if the string is no text. */
+static PyObject *string_of(const Py_buffer *view, bool is_text, uint32_t symbol, PyObject *none) {
+    intaglio_spelling out;
+    if (!intaglio_frozen_get(view->buf, (size_t)view->len, symbol, &out)) return Py_XNewRef(none);
+    return is_text ? PyUnicode_DecodeUTF8((const char *)out.at, (Py_ssize_t)out.len, NULL) : PyBytes_FromStringAndSize((const char *)out.at, (Py_ssize_t)out.len);
+}
+
+/* A list of the strings of codes, with `missing` for MISSING unless that is null. If there are as many codes as symbols, the object of each
+ * string is made once, and found again by its symbol. */
+static PyObject *decode(const Py_buffer *view, const Codes *codes, PyObject *missing) {
+    size_t len = intaglio_frozen_len(view->buf, (size_t)view->len);
+    bool is_text = intaglio_frozen_is_text(view->buf, (size_t)view->len);
+    PyObject *list = PyList_New((Py_ssize_t)codes->count), **made = len <= codes->count ? PyMem_Calloc(len + 1, sizeof *made) : NULL;
+    for (size_t i = 0; list && i < codes->count; i++) {
+        uint32_t code = code_at(codes, i);
+        PyObject *known = made && code < len ? made[code] : NULL;
+        PyObject *string = known ? Py_NewRef(known) : string_of(view, is_text, code, code == MISSING ? missing : NULL);
+        if (!string && !PyErr_Occurred()) raise_by("no_symbol", "(In)", (unsigned int)code, (Py_ssize_t)i);
+        if (!string) {
+            Py_CLEAR(list);
+            break;
+        }
+        if (made && code < len) made[code] = string;
+        PyList_SET_ITEM(list, (Py_ssize_t)i, string);
+    }
+    PyMem_Free(made);
+    return list;
+}
+
+PyDoc_STRVAR(frozen_decode_doc, "frozen_decode(data, codes, missing=.., /)\n--\n\nThe string of each code.");
+static PyObject *frozen_decode(PyObject *Py_UNUSED(module), PyObject *const *args, Py_ssize_t count) {
+    Py_buffer view;
+    Codes codes;
+    PyObject *list = NULL;
+    if (count != 2 && count != 3) return PyErr_Format(PyExc_TypeError, "takes the bytes, codes and a string (%zd given)", count);
+    if (open_codes(&codes, args[1]) < 0) return NULL;
+    if (borrow_frozen(args[0], &view) == 0) {
+        list = decode(&view, &codes, count == 3 ? args[2] : NULL);
+        PyBuffer_Release(&view);
+    }
+    close_codes(&codes);
+    return list;
+}
+
+/* An array('I') of the entry of a map for each code. MISSING stays. */
+static PyObject *renumber_by(const Codes *numbers, const Codes *codes) {
+    uint32_t *renumbered = PyMem_Malloc((codes->count + 1) * sizeof *renumbered);
+    if (!renumbered) return PyErr_NoMemory();
+    PyObject *array = NULL;
+    size_t i = 0;
+    for (; i < codes->count; i++) {
+        uint32_t code = code_at(codes, i);
+        if (code >= numbers->count && code != MISSING) {
+            raise_by("no_symbol", "(In)", (unsigned int)code, (Py_ssize_t)i);
+            break;
+        }
+        renumbered[i] = code == MISSING ? MISSING : code_at(numbers, code);
+    }
+    if (i == codes->count) array = array_of(renumbered, i);
+    PyMem_Free(renumbered);
+    return array;
+}
+
+PyDoc_STRVAR(renumber_doc, "renumber(codes, numbers, /)\n--\n\n"
+"An array('I') of codes under a map, such as those that merge and Table.absorb return: the entry of the map at each code. MISSING\n"
+"stays. Both are buffers of unsigned integers of 4 bytes. Raises NoSymbol, with the position, for a code that the map has no entry for.\n\n"
+">>> from array import array\n"
+">>> renumber(array(\"I\", [0, 2, MISSING]), array(\"I\", [5, 6, 7]))\n"
+"array('I', [5, 7, 4294967295])");
+static PyObject *renumber(PyObject *Py_UNUSED(module), PyObject *const *args, Py_ssize_t count) {
+    Codes codes, numbers;
+    PyObject *array = NULL;
+    if (count != 2) return PyErr_Format(PyExc_TypeError, "takes codes and a map (%zd given)", count);
+    if (open_codes(&codes, args[0]) < 0) return NULL;
+    if (open_codes(&numbers, args[1]) == 0) {
+        array = renumber_by(&numbers, &codes);
+        close_codes(&numbers);
+    }
+    close_codes(&codes);
+    return array;
 }
 
 PyDoc_STRVAR(frozen_get_doc, "frozen_get(data, symbol, /)\n--\n\nThe string of a symbol, or None if there is none.");
 static PyObject *frozen_get(PyObject *Py_UNUSED(module), PyObject *const *args, Py_ssize_t count) {
     Py_buffer view;
-    intaglio_spelling out;
-    PyObject *string = NULL;
     if (count != 2) return PyErr_Format(PyExc_TypeError, "takes the bytes and a symbol (%zd given)", count);
     Py_ssize_t symbol = read_symbol(args[1]);
     if ((symbol < 0 && PyErr_Occurred()) || borrow_frozen(args[0], &view) < 0) return NULL;
-    if (symbol < 0 || symbol > (Py_ssize_t)UINT32_MAX || !intaglio_frozen_get(view.buf, (size_t)view.len, (uint32_t)symbol, &out)) string = Py_NewRef(Py_None);
-    else if (intaglio_frozen_is_text(view.buf, (size_t)view.len)) string = PyUnicode_DecodeUTF8((const char *)out.at, (Py_ssize_t)out.len, NULL);
-    else string = PyBytes_FromStringAndSize((const char *)out.at, (Py_ssize_t)out.len);
+    bool is_text = intaglio_frozen_is_text(view.buf, (size_t)view.len), is_one = 0 <= symbol && symbol <= (Py_ssize_t)UINT32_MAX;
+    PyObject *string = is_one ? string_of(&view, is_text, (uint32_t)symbol, Py_None) : Py_NewRef(Py_None);
     PyBuffer_Release(&view);
     return string;
 }
@@ -987,6 +1249,10 @@ static PyMethodDef functions[] = {
     {"frozen_find", FAST(frozen_find), METH_FASTCALL, frozen_find_doc},
     {"frozen_find_all", FAST(frozen_find_all), METH_FASTCALL, frozen_find_all_doc},
     {"frozen_get", FAST(frozen_get), METH_FASTCALL, frozen_get_doc},
+    {"frozen_encode", FAST(frozen_encode), METH_FASTCALL, frozen_encode_doc},
+    {"frozen_encode_into", FAST(frozen_encode_into), METH_FASTCALL, frozen_encode_into_doc},
+    {"frozen_decode", FAST(frozen_decode), METH_FASTCALL, frozen_decode_doc},
+    {"renumber", FAST(renumber), METH_FASTCALL, renumber_doc},
     {"thaw", thaw, METH_VARARGS, thaw_doc},
     {NULL, NULL, 0, NULL},
 };
@@ -1010,6 +1276,10 @@ static int execute(PyObject *module) {
     return -1;
 #endif
     if (PyModule_AddStringConstant(module, "__version__", VERSION) < 0) return -1;
+    PyObject *missing = PyLong_FromUnsignedLong(MISSING);
+    int status = PyModule_AddObjectRef(module, "MISSING", missing);
+    Py_XDECREF(missing);
+    if (status < 0) return -1;
     return add_types(module);
 }
 

@@ -1,0 +1,309 @@
+"""Columns from Python: strings to codes and back, merged dictionaries, beside plain lists and dicts. With numpy, if it is there."""
+import pickle
+import random
+import struct
+import sys
+import tempfile
+import unittest
+from array import array
+from pathlib import Path
+
+sys.dont_write_bytecode = True
+sys.path.insert(0, str(Path(__file__).resolve().parent.parent.parent / "checks"))
+import columns
+import frozen_tables
+import intaglio
+from intaglio import MISSING, BytesTable, Frozen, SymbolTable, merge, renumber
+
+try:
+    import numpy
+except ImportError:
+    numpy = None
+
+WORDS = ["to", "be", "", "é", "a word that is longer than the others" * 9]
+ROUNDS = 300
+
+
+def frozen_of(strings, is_text=None):
+    """A table of these strings in memory, by the writer in Python."""
+    is_text = all(isinstance(it, str) for it in strings) if is_text is None else is_text
+    kind = frozen_tables.TEXT if is_text else frozen_tables.BYTES
+    return Frozen.from_bytes(frozen_tables.freeze([it.encode() if is_text else it for it in strings], kind, 1, 2))
+
+
+class Encoding(unittest.TestCase):
+    def test_strings_are_encoded_to_their_symbols_and_back(self):
+        for strings in (WORDS, [it.encode() for it in WORDS] + [b"\xff"], [], ["x"], [str(it) for it in range(10_000)]):
+            words, column = frozen_of(strings), [*strings, *reversed(strings), *strings[:1]]
+            codes = words.encode(column)
+            self.assertEqual((codes.typecode, list(codes)), ("I", [strings.index(it) for it in column] if len(strings) < 100 else [*range(10_000), *reversed(range(10_000)), 0]))
+            self.assertEqual(words.decode(codes), column)
+            self.assertEqual(words.encode(iter(column)), codes)
+            self.assertEqual(words.encode(tuple(column)), codes)
+
+    def test_the_first_missing_string_is_named_with_its_position(self):
+        words, many = frozen_of(WORDS), ["to"] * 1000
+        for column, string, position in ((["no"], "no", 0), ([*many, "x", "y"], "x", 1000), (["be", "\ud800"], "\ud800", 1)):
+            with self.assertRaises(KeyError) as raised:
+                words.encode(column)
+            error = raised.exception
+            self.assertEqual((type(error), error.string, error.position), (intaglio.Missing, string, position))
+            self.assertEqual(str(error), f"{string!r} at position {position} is not in the table")
+            again = pickle.loads(pickle.dumps(error))
+            self.assertEqual((type(again), str(again)), (intaglio.Missing, str(error)))
+
+    def test_a_missing_string_has_the_code_that_is_asked_for(self):
+        words, column = frozen_of(WORDS), ["to", "no", "\ud800", "é"]
+        for missing in (MISSING, 0, 7, True, 2**31):
+            self.assertEqual(list(words.encode(column, missing=missing)), [0, missing, missing, 3])
+        for missing in (-1, 2**32, 2**64):
+            with self.assertRaises(OverflowError):
+                words.encode(column, missing=missing)
+        for missing in ("0", 1.0):
+            with self.assertRaises(TypeError):
+                words.encode(column, missing=missing)
+        codes = words.encode(column, missing=MISSING)
+        for missing in (None, "?", b"", 0):
+            self.assertEqual(words.decode(codes, missing=missing), ["to", missing, missing, "é"])
+
+    def test_other_objects_are_no_strings(self):
+        texts, data = frozen_of(WORDS), frozen_of([b"a", b"\xff"])
+        for words, other in ((texts, b"to"), (texts, None), (texts, 7), (data, "a"), (data, None)):
+            for call in (words.encode, words.find_all):
+                with self.assertRaises(TypeError):
+                    call([words[0], other])
+            with self.assertRaises(TypeError):
+                words.check_interned(other)
+        for call in (texts.encode, texts.find_all):
+            with self.assertRaises(TypeError):
+                call(7)
+            with self.assertRaises(ZeroDivisionError):
+                call("to" if it else 1 // 0 for it in (1, 0))
+        self.assertEqual(list(data.encode([bytearray(b"\xff"), b"a", memoryview(b"a")])), [1, 0, 0])
+
+    def test_codes_go_to_a_buffer(self):
+        words, out = frozen_of(WORDS), array("I", [9] * 4)
+        self.assertEqual((words.encode_into(iter(["be", "é", "to"]), out), list(out)), (3, [1, 3, 0, 9]))
+        with self.assertRaises(intaglio.Missing):
+            words.encode_into(["to", "no"], out)
+        with self.assertRaises(intaglio.NoSpace):
+            words.encode_into(["to"] * 5, out)
+        for other in (array("H", [0] * 9), array("i", [0] * 9), array("Q", [0] * 9), array("f", [0] * 9), bytearray(99), [0] * 9, None):
+            with self.assertRaises(TypeError):
+                words.encode_into(["to"], other)
+        with self.assertRaises(BufferError):
+            words.encode_into(["to"], memoryview(out).toreadonly())
+        self.assertEqual(list(out), [1, 3, 0, 9])
+        self.assertEqual((words.encode_into(["to", "no"], out, missing=MISSING), list(out)), (2, [0, MISSING, 0, 9]))
+
+    def test_a_code_that_is_no_symbol_is_named_with_its_position(self):
+        words, many = frozen_of(WORDS), [0] * 1000
+        for codes, code, position in (([5], 5, 0), ([*many, 4, MISSING], MISSING, 1001), ([0, 2**31, 7], 2**31, 1)):
+            for call in (words.decode, lambda it: renumber(it, array("I", range(5)))):
+                if call is not words.decode and code == MISSING:
+                    continue
+                with self.assertRaises(IndexError) as raised:
+                    call(array("I", codes))
+                error = pickle.loads(pickle.dumps(raised.exception))
+                wanted = (intaglio.NoSymbol, position, f"code {code} at position {position} is no symbol")
+                self.assertEqual((type(error), error.position, str(error)), wanted)
+        with self.assertRaises(intaglio.NoSymbol):
+            words.decode(array("I", [5]), missing=None)
+        self.assertIsNone(intaglio.NoSymbol().position)
+
+    def test_codes_are_read_from_any_buffer_of_their_type(self):
+        words, codes = frozen_of(WORDS), array("I", [1, 0, 3, 1])
+        data = codes.tobytes()
+        odd = memoryview(b"x" + data)[1:].cast("I")
+        for given in (codes, memoryview(codes), memoryview(data).cast("I"), odd, memoryview(data).cast("I", (2, 2))):
+            self.assertEqual(words.decode(given), ["be", "to", "é", "be"])
+            self.assertEqual(list(renumber(given, array("I", [7, 8, 9, 5]))), [8, 7, 5, 8])
+            self.assertEqual(list(renumber(array("I", [3, 0]), given)), [1, 1])
+        self.assertEqual(words.decode(memoryview(codes)[::-2]), ["be", "to"])
+        for other in (data, bytearray(data), array("i", [1]), array("H", [1]), array("Q", [1]), array("f", [1]), [1], 1, None):
+            for call in (words.decode, lambda it: renumber(it, codes), lambda it: renumber(codes, it)):
+                with self.assertRaises(TypeError):
+                    call(other)
+        self.assertEqual((words.decode(array("I")), list(renumber(array("I"), codes))), ([], []))
+        self.assertEqual(list(renumber(array("I", [MISSING, 2, MISSING]), codes)), [MISSING, 3, MISSING])
+
+    def test_equal_codes_share_their_string(self):
+        words = frozen_of(["ab", "cd"])
+        first, second, third = words.decode(array("I", [1, 0, 1]))
+        self.assertTrue(first is third and first is not second)
+
+    def test_a_closed_table_encodes_nothing(self):
+        words = frozen_of(WORDS)
+        words.close()
+        words.close()
+        for call in (lambda: words.encode(["to"]), lambda: words.decode(array("I", [0])), lambda: words[0], words.to_bytes, lambda: SymbolTable().absorb(words)):
+            with self.assertRaises(ValueError):
+                call()
+
+    def test_trusted_texts_that_are_damaged_are_not_decoded(self):
+        data = frozen_tables.freeze([b"a", b"bc"], frozen_tables.TEXT)
+        words = Frozen.from_bytes(data[:-1] + b"\xff", trusted=True)
+        with self.assertRaises(UnicodeDecodeError):
+            words.decode(array("I", [0, 1]))
+        at = frozen_tables.Sections(2).ends
+        words = Frozen.from_bytes(data[:at] + b"\x07" + data[at + 1:], trusted=True)
+        with self.assertRaises(intaglio.NoSymbol):
+            words.decode(array("I", [1]))
+
+    def test_damaged_codes_and_maps(self):
+        """What other bytes a file of codes has is told as the reader in Python tells it."""
+        chance, words, numbers = random.Random(3), frozen_of([str(it) for it in range(40)]), array("I", range(7, 47))
+        for _ in range(ROUNDS):
+            data = bytearray(struct.pack("<60I", *(chance.randrange(40) for _ in range(60))))
+            for _ in range(chance.randrange(3)):
+                data[chance.randrange(len(data))] = chance.randrange(256)
+            codes = array("I", bytes(data))
+            for call, other in ((words.decode, lambda: columns.decoded(list(words), list(codes))), (lambda it: list(renumber(it, numbers)), lambda: columns.renumbered(list(numbers), list(codes)))):
+                try:
+                    wanted = other()
+                except columns.Damaged as fault:
+                    with self.assertRaises(intaglio.NoSymbol) as raised:
+                        call(codes)
+                    self.assertEqual(raised.exception.position, fault.args[0] - 1)
+                else:
+                    self.assertEqual(call(codes), wanted)
+
+
+class Merging(unittest.TestCase):
+    def setUp(self):
+        folder = tempfile.TemporaryDirectory()
+        self.addCleanup(folder.cleanup)
+        self.folder = Path(folder.name)
+
+    def test_bytes_in_memory(self):
+        table = SymbolTable(WORDS)
+        table.freeze(self.folder / "words", keys=(1, 2))
+        data = (self.folder / "words").read_bytes()
+        self.assertEqual((table.freeze(keys=(1, 2)), table.freeze(None, keys=(1, 2)), table.freeze()[:8]), (data, data, b"INTAGLIO"))
+        for given in (data, bytearray(data), memoryview(data), array("B", data)):
+            with Frozen.from_bytes(given) as words:
+                self.assertEqual((list(words), words.to_bytes(), words.is_text), (WORDS, data, True))
+        with Frozen(self.folder / "words") as words:
+            self.assertEqual(words.to_bytes(), data)
+        for wrong, error in ((b"", intaglio.NotFrozen), (data[:-1], intaglio.TextEnds), (data[:30], intaglio.Truncated), ("text", TypeError)):
+            with self.assertRaises(error):
+                Frozen.from_bytes(wrong)
+
+    def test_a_table_absorbs_a_frozen_one(self):
+        table = SymbolTable(["or", "be"])
+        self.assertEqual(table.absorb(frozen_of(["to", "be", "é"])), array("I", [2, 1, 3]))
+        self.assertEqual(list(table), ["or", "be", "to", "é"])
+        self.assertEqual((list(table.absorb(frozen_of([]))), len(table)), ([], 4))
+        data = BytesTable()
+        self.assertEqual((list(data.absorb(frozen_of(["é"]))), list(data)), ([0], ["é".encode()]))
+        paths = intaglio.PathTable(["a//b"])
+        self.assertEqual(list(paths.absorb(frozen_of(["a/b", "c", "a/./b"]))), [0, 1, 0])
+
+    def test_a_table_absorbs_all_or_nothing(self):
+        for table, frozen, error in (
+            (SymbolTable(["a"], limit=2), frozen_of(["b", "a", "c"]), intaglio.Full), (SymbolTable(["a"]), frozen_of([b"b", b"\xff"]), intaglio.NotUtf8),
+            (intaglio.CStringTable([b"a"]), frozen_of([b"b\0", b"c"]), intaglio.MissingZero), (SymbolTable(["a"]), frozen_of([]).to_bytes(), TypeError), (SymbolTable(["a"]), None, TypeError),
+        ):
+            before = list(table)
+            with self.assertRaises(error):
+                table.absorb(frozen)
+            self.assertEqual(list(table), before)
+        table.close()
+        with self.assertRaises(intaglio.NoTable):
+            table.absorb(frozen_of(["a"]))
+
+    def test_tables_are_merged(self):
+        one, two = frozen_of(["to", "be"]), self.folder / "two"
+        SymbolTable(["or", "to"]).freeze(two)
+        for given, strings, wanted in (([one, two], ["to", "be", "or"], [[0, 1], [2, 0]]), ([two], ["or", "to"], [[0, 1]]), ([two, str(two)], ["or", "to"], [[0, 1]] * 2), ([], [], [])):
+            words, maps = merge(iter(given))
+            self.assertEqual((list(words), [list(it) for it in maps], words.is_text), (strings, wanted, True))
+            out = self.folder / "out"
+            words, maps = merge(given, out, keys=(5, 6))
+            self.assertEqual((list(words), [list(it) for it in maps]), (strings, wanted))
+            self.assertEqual(out.read_bytes(), frozen_tables.freeze([it.encode() for it in strings], frozen_tables.TEXT, 5, 6))
+            words.close()
+        self.assertEqual(list(one), ["to", "be"])
+
+    def test_texts_and_bytes_are_merged_to_bytes(self):
+        words, maps = merge([frozen_of(["é", "a"]), frozen_of([b"\xff", "é".encode()])])
+        self.assertEqual((list(words), [list(it) for it in maps], words.is_text), (["é".encode(), b"a", b"\xff"], [[0, 1], [2, 0]], False))
+
+    def test_what_is_not_merged_leaves_the_file(self):
+        one, out = self.folder / "one", self.folder / "out"
+        one.write_bytes(b"INTAGLIO")
+        out.write_bytes(b"as it was")
+        for given, error in (([frozen_of(["a"]), one], intaglio.Truncated), ([frozen_of(["a"]), self.folder / "no"], FileNotFoundError), ([7.5], TypeError)):
+            with self.assertRaises(error):
+                merge(given, out)
+        self.assertEqual((out.read_bytes(), sorted(it.name for it in self.folder.iterdir())), (b"as it was", ["one", "out"]))
+
+    def test_many_tables_need_few_descriptors(self):
+        names = [self.folder / str(it) for it in range(1200)]
+        for number, name in enumerate(names):
+            name.write_bytes(frozen_tables.freeze([b"%d" % number, b"all"]))
+        words, maps = merge(names)
+        self.assertEqual((len(words), [list(it) for it in maps[:2]], list(maps[-1])), (1201, [[0, 1], [2, 1]], [1200, 1]))
+
+    def test_random_columns_agree_with_a_dict(self):
+        chance = random.Random(9)
+        for size in (0, 1, 7, 300, 5_000, 100_000):
+            for are_texts in (True, False):
+                parts = columns.random_parts(chance, size, frozen_tables.TEXT if are_texts else frozen_tables.BYTES)
+                if are_texts:
+                    parts = [[it.decode() for it in lines] for lines in parts]
+                frozen = [frozen_of([*dict.fromkeys(lines)], are_texts) for lines in parts]
+                codes = [words.encode(lines) for words, lines in zip(frozen, parts)]
+                whole, maps = merge(frozen)
+                symbols = {}
+                wanted = [array("I", [symbols.setdefault(it, len(symbols)) for it in words]) for words in frozen]
+                self.assertEqual((list(whole), maps), ([*symbols], wanted))
+                for lines, each, numbers in zip(parts, codes, maps):
+                    again = renumber(each, numbers)
+                    self.assertEqual(list(again), [symbols[it] for it in lines])
+                    self.assertEqual((whole.decode(again), whole.encode(lines)), (lines, again))
+                for words, numbers in zip(frozen, maps):
+                    self.assertEqual(whole.decode(renumber(array("I", range(len(words))), numbers)), list(words))
+
+
+@unittest.skipUnless(numpy, "numpy isn't there")
+class WithNumpy(unittest.TestCase):
+    def test_arrays_go_in_and_out(self):
+        words = frozen_of(WORDS)
+        column = numpy.array(["é", "to", "", "to"])
+        codes = numpy.full(6, 9, numpy.uint32)
+        self.assertEqual((words.encode_into(column, codes), codes.tolist()), (4, [3, 0, 2, 0, 9, 9]))
+        self.assertEqual(words.encode(column.astype(object)).tolist(), [3, 0, 2, 0])
+        self.assertEqual(words.decode(codes[:4]), ["é", "to", "", "to"])
+        self.assertEqual(words.decode(codes[:4][::-2]), ["to", "to"])
+        self.assertEqual(words.decode(codes[:4].reshape(2, 2)), words.decode(codes[:4]))
+        self.assertEqual(words.encode_into(["be"], codes[2:]), 1)
+        self.assertEqual(codes.tolist(), [3, 0, 1, 0, 9, 9])
+        numbers = numpy.arange(10, 15, dtype=numpy.uint32)
+        self.assertEqual(renumber(codes[:4], numbers).tolist(), numbers[codes[:4]].tolist())
+        self.assertEqual(numpy.asarray(words.encode(["be", "to"])).dtype, numpy.uint32)
+
+    def test_other_arrays_are_refused(self):
+        words = frozen_of(WORDS)
+        for kind in ("i4", "u8", "u2", "f4", ">u4", "S4"):
+            for call in (words.decode, lambda it: words.encode_into(["to"], it)):
+                with self.assertRaises(TypeError):
+                    call(numpy.zeros(3, kind))
+        with self.assertRaises(ValueError):
+            words.encode_into(["to"], numpy.zeros(6, "u4")[::2])
+
+    def test_random_columns(self):
+        chance = random.Random(5)
+        strings = [f"{it * it}" for it in range(1000)]
+        words = frozen_of(strings)
+        for size in (0, 1, 100, 100_000):
+            codes = numpy.array([chance.randrange(1000) for _ in range(size)], numpy.uint32)
+            column = words.decode(codes)
+            self.assertEqual(column, [strings[it] for it in codes.tolist()])
+            out = numpy.empty(size, numpy.uint32)
+            self.assertEqual(words.encode_into(column, out), size)
+            self.assertTrue((out == codes).all())
+
+
+if __name__ == "__main__":
+    unittest.main()
