@@ -119,10 +119,13 @@ pub fn decode_codes<R: Files + RandomSource + Input + Print + Eprint + AllocGlob
     rt: &R,
     found: &ArgMatches<'_>,
 ) -> Result<(), u8> {
+    let missing = found.get_str("TEXT").map(|text| text.as_bytes());
+    if missing.is_some_and(|text| text.contains(&b'\n')) {
+        return Err(report::line_end(rt));
+    }
     let (name, bytes) = first_input(rt, found, "DICT", "CODES")?;
     match checked(rt, name, &bytes) {
         Ok(table) => {
-            let missing = found.get_str("TEXT").map(|text| text.as_bytes());
             let translation = Translation::Decode(&table, missing);
             translate(rt, found, name, "CODES", translation, "codes decoded")
         }

@@ -1,30 +1,218 @@
-//! The arguments.
+//! The arguments: a row for each subcommand, with a row for each of its arguments.
 use clap::{Arg, ArgAction, Command};
 use std::alloc::{AllocError, Global};
-
-const DICT: &str = "a dictionary";
-
-const KINDS: &[&str] = &["bytes", "text"];
-
-const FILES: &str = "files of lines; without any, standard input";
-
-const CODES: &str = "files of codes; without any, standard input";
-
-const PROGRESS: &str = "shows on standard error how far it is, and of how much where that is known";
-
-const RANDOM_KEYS: &str = "draws the keys at random, for lines that were chosen to have no places";
-
-const TRUSTED: &str = "checks the dictionary's header alone, for one that was checked before";
-
-const VERBOSE: &str = "shows on standard error how many there were";
 
 const NOTES: &str = "A file that is called - is standard input, or as the output standard output.
 
 The status is 0 if all went well, 1 after an error, 2 after wrong arguments, and 141 if nobody reads the output.
 That of find is 1 if some lines aren't in the dictionary, and 2 after an error.";
 
+// What an argument takes.
+#[derive(Clone, Copy)]
+enum Takes {
+    // Nothing: it is this option, given or not.
+    Flag(&'static str),
+    // One value, after this option.
+    Value(&'static str),
+    // One value, after -o or --output, and whether it is required.
+    Output(bool),
+    // One value, by its position.
+    One,
+    // One or more values, by their position, and whether they are required.
+    Many(bool),
+    // One or more numbers, by their position.
+    Numbers,
+    // What lines are.
+    Kind,
+    // The keys of the hash.
+    Keys,
+}
+
+// The name of an argument, what it takes, and its help.
+type Argument = (&'static str, Takes, &'static str);
+
+// The name of a subcommand, what it does, and its arguments.
+type Subcommand = (&'static str, &'static str, &'static [Argument]);
+
+const KINDS: &[&str] = &["bytes", "text"];
+
+const DICT: Argument = ("DICT", Takes::One, "a dictionary");
+
+const DICTS: Argument = ("DICT", Takes::Many(true), "dictionaries");
+
+const FILES: Argument = (
+    "FILE",
+    Takes::Many(false),
+    "files of lines; without any, standard input",
+);
+
+const CODES: Argument = (
+    "CODES",
+    Takes::Many(false),
+    "files of codes; without any, standard input",
+);
+
+const OUT: &str = "the output, which is replaced when the new one is whole; - is standard output";
+
+const OUTPUT: Argument = ("OUT", Takes::Output(false), OUT);
+
+const KEYS: Argument = (
+    "KEYS",
+    Takes::Keys,
+    "the keys of the hash, two numbers below 2^64; without, the lines alone decide",
+);
+
+const RANDOM_KEYS: Argument = (
+    "RANDOM_KEYS",
+    Takes::Flag("random-keys"),
+    "draws the keys at random, for lines that were chosen to have no places",
+);
+
+const PROGRESS: Argument = (
+    "PROGRESS",
+    Takes::Flag("progress"),
+    "shows on standard error how far it is, and of how much where that is known",
+);
+
+const TRUSTED: Argument = (
+    "TRUSTED",
+    Takes::Flag("trusted"),
+    "checks the dictionary's header alone, for one that was checked before",
+);
+
+const VERBOSE: Argument = (
+    "VERBOSE",
+    Takes::Flag("verbose"),
+    "shows on standard error how many there were",
+);
+
+static SUBCOMMANDS: [Subcommand; 10] = [
+    (
+        "freeze",
+        "Writes a dictionary of the distinct lines, numbered from 0 in the order of their first occurrences",
+        &[
+            ("KIND", Takes::Kind, "what lines are: any bytes, or UTF-8"),
+            (
+                "DICT",
+                Takes::Output(true),
+                "the dictionary, which is replaced when the new one is whole; - is standard output",
+            ),
+            (
+                "CODES",
+                Takes::Value("codes"),
+                "also writes the code of each line, as encode does",
+            ),
+            KEYS,
+            RANDOM_KEYS,
+            PROGRESS,
+            FILES,
+        ],
+    ),
+    (
+        "find",
+        "Writes the symbol of each line, or - if the line isn't in the dictionary",
+        &[TRUSTED, DICT, FILES],
+    ),
+    (
+        "get",
+        "Writes the string of each symbol, a line each",
+        &[
+            TRUSTED,
+            DICT,
+            (
+                "NUMBER",
+                Takes::Numbers,
+                "symbols; without any, the lines of standard input",
+            ),
+        ],
+    ),
+    (
+        "list",
+        "Writes all strings in the order of their symbols, a line each",
+        &[DICT],
+    ),
+    (
+        "encode",
+        "Writes the code of each line, which is its symbol in four bytes, the lowest first",
+        &[
+            (
+                "MISSING",
+                Takes::Flag("missing"),
+                "writes 4294967295 for a line that isn't in the dictionary",
+            ),
+            OUTPUT,
+            PROGRESS,
+            VERBOSE,
+            DICT,
+            FILES,
+        ],
+    ),
+    (
+        "decode",
+        "Writes the line of each code",
+        &[
+            (
+                "TEXT",
+                Takes::Value("missing"),
+                "the line of the code 4294967295, without a line end",
+            ),
+            OUTPUT,
+            PROGRESS,
+            VERBOSE,
+            DICT,
+            CODES,
+        ],
+    ),
+    (
+        "merge",
+        "Writes a dictionary of the strings of all dictionaries, in the order of their first occurrences",
+        &[
+            ("OUT", Takes::Output(true), OUT),
+            (
+                "FOLDER",
+                Takes::Value("maps"),
+                "also writes the new symbols of each dictionary, to 0.map, 1.map and so on in this folder",
+            ),
+            KEYS,
+            RANDOM_KEYS,
+            PROGRESS,
+            VERBOSE,
+            DICTS,
+        ],
+    ),
+    (
+        "renumber",
+        "Writes the code that a map has for each code",
+        &[
+            OUTPUT,
+            PROGRESS,
+            VERBOSE,
+            ("MAP", Takes::One, "a map that merge wrote"),
+            CODES,
+        ],
+    ),
+    (
+        "check",
+        "Checks dictionaries, and says what is wrong with each file that isn't one",
+        &[DICTS],
+    ),
+    (
+        "stat",
+        "Writes how many strings there are, the bytes of the file, and the longest string's",
+        &[DICT],
+    ),
+];
+
 /// What the program takes.
 pub fn command<'a>(alloc: Global) -> Result<Command<'a>, AllocError> {
+    let mut command = program(alloc);
+    for row in SUBCOMMANDS {
+        command = command.subcommand(subcommand(alloc, row)?)?;
+    }
+    Ok(command)
+}
+
+fn program<'a>(alloc: Global) -> Command<'a> {
     Command::new(alloc, "intaglio_dict")
         .version("3.0.0")
         .about(
@@ -33,176 +221,50 @@ pub fn command<'a>(alloc: Global) -> Result<Command<'a>, AllocError> {
         .after_help(NOTES)
         .subcommand_required(true)
         .arg_required_else_help(true)
-        .subcommand(freeze(alloc)?)?
-        .subcommand(find(alloc)?)?
-        .subcommand(get(alloc)?)?
-        .subcommand(list(alloc)?)?
-        .subcommand(encode(alloc)?)?
-        .subcommand(decode(alloc)?)?
-        .subcommand(merge(alloc)?)?
-        .subcommand(renumber(alloc)?)?
-        .subcommand(check(alloc)?)?
-        .subcommand(stat(alloc)?)
 }
 
-fn freeze<'a>(alloc: Global) -> Result<Command<'a>, AllocError> {
-    Command::new(alloc, "freeze")
-        .about(
-            "Writes a dictionary of the distinct lines, numbered from 0 in the order of their first occurrences",
-        )
-        .arg(
-            Arg::new(alloc, "KIND")
-                .long("kind")
-                .value_parser(KINDS)
-                .default_value("bytes")
-                .help("what lines are: any bytes, or UTF-8"),
-        )?
-        .arg(
-            Arg::new(alloc, "DICT")
-                .short('o')
-                .long("output")
-                .required(true)
-                .help(
-                    "the dictionary, which is replaced when the new one is whole; - is standard output",
-                ),
-        )?
-        .arg(
-            Arg::new(alloc, "CODES")
-                .long("codes")
-                .help("also writes the code of each line, as encode does"),
-        )?
-        .arg(keys(alloc)?)?
-        .arg(flag(alloc, "RANDOM_KEYS", "random-keys", RANDOM_KEYS))?
-        .arg(flag(alloc, "PROGRESS", "progress", PROGRESS))?
-        .arg(many(alloc, "FILE", FILES))
+fn subcommand<'a>(alloc: Global, row: Subcommand) -> Result<Command<'a>, AllocError> {
+    let mut command = Command::new(alloc, row.0).about(row.1);
+    for argument in row.2 {
+        command = command.arg(argument_of(alloc, *argument)?)?;
+    }
+    Ok(command)
 }
 
-fn encode<'a>(alloc: Global) -> Result<Command<'a>, AllocError> {
-    Command::new(alloc, "encode")
-        .about("Writes the code of each line, which is its symbol in four bytes, the lowest first")
-        .arg(flag(
-            alloc,
-            "MISSING",
-            "missing",
-            "writes 4294967295 for a line that isn't in the dictionary",
-        ))?
-        .arg(output(alloc))?
-        .arg(flag(alloc, "PROGRESS", "progress", PROGRESS))?
-        .arg(flag(alloc, "VERBOSE", "verbose", VERBOSE))?
-        .arg(one(alloc, "DICT", DICT))?
-        .arg(many(alloc, "FILE", FILES))
+fn argument_of<'a>(alloc: Global, row: Argument) -> Result<Arg<'a>, AllocError> {
+    let argument = Arg::new(alloc, row.0).help(row.2);
+    match row.1 {
+        Takes::Flag(option) => Ok(argument.long(option).action(ArgAction::SetTrue)),
+        Takes::Value(option) => Ok(argument.long(option)),
+        Takes::Output(is_required) => Ok(output(argument).required(is_required)),
+        Takes::One => Ok(argument.required(true)),
+        Takes::Many(is_required) => Ok(many(argument).required(is_required)),
+        Takes::Numbers => Ok(many(argument).value_parser(clap::value_parser!(u32))),
+        Takes::Kind => Ok(kind(argument)),
+        Takes::Keys => without_random_keys(keys(argument)),
+    }
 }
 
-fn decode<'a>(alloc: Global) -> Result<Command<'a>, AllocError> {
-    Command::new(alloc, "decode")
-        .about("Writes the line of each code")
-        .arg(
-            Arg::new(alloc, "TEXT")
-                .long("missing")
-                .help("the line of the code 4294967295"),
-        )?
-        .arg(output(alloc))?
-        .arg(flag(alloc, "PROGRESS", "progress", PROGRESS))?
-        .arg(flag(alloc, "VERBOSE", "verbose", VERBOSE))?
-        .arg(one(alloc, "DICT", DICT))?
-        .arg(many(alloc, "CODES", CODES))
+fn output<'a>(argument: Arg<'a>) -> Arg<'a> {
+    argument.short('o').long("output")
 }
 
-fn merge<'a>(alloc: Global) -> Result<Command<'a>, AllocError> {
-    Command::new(alloc, "merge")
-        .about(
-            "Writes a dictionary of the strings of all dictionaries, in the order of their first occurrences",
-        )
-        .arg(output(alloc).required(true))?
-        .arg(
-            Arg::new(alloc, "FOLDER").long("maps").help(
-                "also writes the new symbols of each dictionary, to 0.map, 1.map and so on in this folder",
-            ),
-        )?
-        .arg(keys(alloc)?)?
-        .arg(flag(alloc, "RANDOM_KEYS", "random-keys", RANDOM_KEYS))?
-        .arg(flag(alloc, "PROGRESS", "progress", PROGRESS))?
-        .arg(flag(alloc, "VERBOSE", "verbose", VERBOSE))?
-        .arg(many(alloc, "DICT", "dictionaries").required(true))
+fn many<'a>(argument: Arg<'a>) -> Arg<'a> {
+    argument.num_args(1..).action(ArgAction::Append)
 }
 
-fn renumber<'a>(alloc: Global) -> Result<Command<'a>, AllocError> {
-    Command::new(alloc, "renumber")
-        .about("Writes the code that a map has for each code")
-        .arg(output(alloc))?
-        .arg(flag(alloc, "PROGRESS", "progress", PROGRESS))?
-        .arg(flag(alloc, "VERBOSE", "verbose", VERBOSE))?
-        .arg(one(alloc, "MAP", "a map that merge wrote"))?
-        .arg(many(alloc, "CODES", CODES))
+fn kind<'a>(argument: Arg<'a>) -> Arg<'a> {
+    argument
+        .long("kind")
+        .value_parser(KINDS)
+        .default_value("bytes")
 }
 
-fn keys<'a>(alloc: Global) -> Result<Arg<'a>, AllocError> {
-    Arg::new(alloc, "KEYS")
-        .long("keys")
-        .value_name("K0,K1")
-        .help("the keys of the hash, two numbers below 2^64; without, the lines alone decide")
-        .conflicts_with("RANDOM_KEYS")
+fn keys<'a>(argument: Arg<'a>) -> Arg<'a> {
+    argument.long("keys").value_name("K0,K1")
 }
 
-fn find<'a>(alloc: Global) -> Result<Command<'a>, AllocError> {
-    Command::new(alloc, "find")
-        .about("Writes the symbol of each line, or - if the line isn't in the dictionary")
-        .arg(flag(alloc, "TRUSTED", "trusted", TRUSTED))?
-        .arg(one(alloc, "DICT", DICT))?
-        .arg(many(alloc, "FILE", FILES))
-}
-
-fn get<'a>(alloc: Global) -> Result<Command<'a>, AllocError> {
-    Command::new(alloc, "get")
-        .about("Writes the string of each symbol, a line each")
-        .arg(flag(alloc, "TRUSTED", "trusted", TRUSTED))?
-        .arg(one(alloc, "DICT", DICT))?
-        .arg(many(
-            alloc,
-            "NUMBER",
-            "symbols; without any, the lines of standard input",
-        )
-        .value_parser(clap::value_parser!(u32)))
-}
-
-fn list<'a>(alloc: Global) -> Result<Command<'a>, AllocError> {
-    Command::new(alloc, "list")
-        .about("Writes all strings in the order of their symbols, a line each")
-        .arg(one(alloc, "DICT", DICT))
-}
-
-fn check<'a>(alloc: Global) -> Result<Command<'a>, AllocError> {
-    Command::new(alloc, "check")
-        .about("Checks dictionaries, and says what is wrong with each file that isn't one")
-        .arg(many(alloc, "DICT", "dictionaries").required(true))
-}
-
-fn stat<'a>(alloc: Global) -> Result<Command<'a>, AllocError> {
-    Command::new(alloc, "stat")
-        .about("Writes how many strings there are, the bytes of the file, and the longest string's")
-        .arg(one(alloc, "DICT", DICT))
-}
-
-fn output<'a>(alloc: Global) -> Arg<'a> {
-    Arg::new(alloc, "OUT").short('o').long("output").help(
-        "the output, which is replaced when the new one is whole; - is standard output",
-    )
-}
-
-fn flag<'a>(alloc: Global, name: &'a str, long: &'a str, help: &'a str) -> Arg<'a> {
-    Arg::new(alloc, name)
-        .long(long)
-        .action(ArgAction::SetTrue)
-        .help(help)
-}
-
-fn one<'a>(alloc: Global, name: &'a str, help: &'a str) -> Arg<'a> {
-    Arg::new(alloc, name).required(true).help(help)
-}
-
-fn many<'a>(alloc: Global, name: &'a str, help: &'a str) -> Arg<'a> {
-    Arg::new(alloc, name)
-        .num_args(1..)
-        .action(ArgAction::Append)
-        .help(help)
+// A function of its own: over arguments that are known, the proof of this one call takes minutes.
+fn without_random_keys<'a>(argument: Arg<'a>) -> Result<Arg<'a>, AllocError> {
+    argument.conflicts_with("RANDOM_KEYS")
 }

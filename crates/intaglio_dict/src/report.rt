@@ -64,7 +64,13 @@ pub fn not_a_symbol<R: Eprint>(rt: &R, name: &str, line: usize, typed: &str) -> 
 
 /// Of arguments by which one output would be both.
 pub fn one_output<R: Eprint>(rt: &R) -> u8 {
-    let _ = eprintln!(rt; "intaglio_dict: the codes and the dictionary can't be one output");
+    say(rt, "the codes and the dictionary can't be one output");
+    2
+}
+
+/// Of a text for missing lines that would be several lines.
+pub fn line_end<R: Eprint>(rt: &R) -> u8 {
+    say(rt, "the text after --missing has a line end");
     2
 }
 
@@ -75,14 +81,18 @@ pub fn count<R: Eprint>(rt: &R, count: u64, what: &str) {
 
 /// Of arguments by which standard input would be two inputs.
 pub fn read_twice<R: Eprint>(rt: &R) -> u8 {
-    let _ = eprintln!(rt; "intaglio_dict: standard input can be only one of the inputs");
+    say(rt, "standard input can be only one of the inputs");
     2
 }
 
 /// Of what is wrong with the input as a whole.
 pub fn of_input<R: Eprint, D: Display + Drop>(rt: &R, what: D) -> u8 {
-    let _ = eprintln!(rt; "intaglio_dict: {what}");
+    say(rt, what);
     1
+}
+
+fn say<R: Eprint, D: Display + Drop>(rt: &R, what: D) {
+    let _ = eprintln!(rt; "intaglio_dict: {what}");
 }
 
 /// Of lines that have no frozen table under the keys that were tried.
@@ -96,14 +106,12 @@ pub fn no_places<R: Eprint>(rt: &R) -> u8 {
 
 /// Of random bytes, which the system doesn't give.
 pub fn no_random_bytes<R: Eprint>(rt: &R) -> u8 {
-    let _ = eprintln!(rt; "intaglio_dict: no random bytes");
-    1
+    of_input(rt, "no random bytes")
 }
 
 /// Of memory.
 pub fn out_of_memory<R: Eprint>(rt: &R) -> u8 {
-    let _ = eprintln!(rt; "intaglio_dict: out of memory");
-    1
+    of_input(rt, "out of memory")
 }
 
 /// Of an argument that isn't UTF-8. Number 0 is the program's name.
@@ -115,7 +123,7 @@ pub fn not_utf8<R: Eprint>(rt: &R, number: usize, argument: &[u8]) -> u8 {
 
 /// Of an argument that isn't UTF-8, and is too long to be shown.
 pub fn long_not_utf8<R: Eprint>(rt: &R) -> u8 {
-    let _ = eprintln!(rt; "intaglio_dict: a long argument isn't UTF-8");
+    say(rt, "a long argument isn't UTF-8");
     2
 }
 

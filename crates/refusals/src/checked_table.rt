@@ -1,10 +1,11 @@
 //! A table, and the list with which its results are compared.
-use crate::change::{Ask, Change, own};
+use crate::change::{Ask, own};
 use crate::contents::Contents;
 use crate::fault::Fault;
-use crate::kinds::{Constructor, FixedTable, Stored, make_table};
-use intaglio::{Call, FormInterner, Interner, Reply, Symbol, Work, run};
+use crate::kinds::{FixedTable, Stored};
+use intaglio::{FormInterner, Interner, Reply, Symbol, Work, run};
 use std::alloc::Global;
+use test_hashers::tables::{Make, Update, make_table};
 
 /// How the calls are made.
 #[derive(Clone, Copy)]
@@ -48,7 +49,7 @@ impl<C: Stored> CheckedTable<C> {
         let held = Vec::with_capacity(rt.alloc(), COUNT as usize)?;
         let contents = Contents::<C>::make(rt.alloc(), COUNT)?;
         tell(rt, "table", 0);
-        match make_table::<C>(rt.alloc(), Constructor::WithCapacityAndHasher(0)) {
+        match make_table::<C>(rt.alloc(), Make::Exact(0)) {
             Ok(table) => Ok(CheckedTable {
                 table,
                 contents,
@@ -112,12 +113,12 @@ impl<C: Stored> CheckedTable<C> {
     }
 
     /// Makes a call that returns nothing.
-    pub fn change(&mut self, rt: &(impl Eprint + AllocGlobal), change: Change) -> bool {
-        let reply = self.make(rt, Ask::Change(change), Ask::Change(change));
-        match change {
-            Change::Reserve(_) | Change::ShrinkTo(_) | Change::ShrinkToFit => {}
-            Change::Clear => self.held.clear(),
-            Change::TakeBack(count) => self.held.truncate(count),
+    pub fn change(&mut self, rt: &(impl Eprint + AllocGlobal), update: Update) -> bool {
+        let reply = self.make(rt, Ask::Update(update), Ask::Update(update));
+        match update {
+            Update::Clear => self.held.clear(),
+            Update::TakeBack(count) => self.held.truncate(count),
+            _ => {}
         }
         is_done(reply) && self.compare()
     }
@@ -161,18 +162,17 @@ impl<C: Stored> CheckedTable<C> {
     fn reply(&mut self, alloc: Global, ask: Ask<C>) -> Reply {
         match self.style {
             CallStyle::Own => own(&mut self.table, ask),
-            CallStyle::Replies => self.replied(alloc, ask.call()),
+            CallStyle::Replies => self.replied(alloc, ask),
         }
     }
 
-    // The reply of a run of this call alone. If the replies can't be allocated, no call was made. If there is
-    // no list for the call, it returns a reply that no call makes.
-    fn replied(&mut self, alloc: Global, call: Call<C>) -> Reply {
-        let mut calls = self.contents.lists.pop().unwrap_or(Vec::new(alloc));
-        match calls.push(call) {
-            Ok(()) => {}
-            Err(_) => return Reply::Stale,
-        }
+    // The reply of a run of this call alone. If the list of calls or that of replies can't be allocated, no call
+    // was made.
+    fn replied(&mut self, alloc: Global, ask: Ask<C>) -> Reply {
+        let Ok(mut calls) = Vec::with_capacity(alloc, 1) else {
+            return Reply::NoMemory;
+        };
+        calls.push_reserved(ask.call());
         match run(alloc, &mut self.table, calls, &mut Work::new()) {
             Ok(mut replies) => replies.pop().unwrap_or(Reply::Stale),
             Err(_) => Reply::NoMemory,

@@ -1,10 +1,11 @@
 //! Tables and C strings, with failing allocations.
 use crate::checked_table::tell;
 use crate::fault::Fault;
-use crate::kinds::{Constructor, Stored, make_table};
+use crate::kinds::Stored;
 use intaglio::cstr::{CString, CStringError};
 use intaglio::{Call, Moved, RoomError, Work, run};
 use std::alloc::{AllocError, Global};
+use test_hashers::tables::{Make, make_table};
 
 // One more than the most contents that a table can hold.
 const TOO_MANY: usize = 4294967297;
@@ -42,24 +43,24 @@ pub fn make_all<C: Stored>(rt: &(impl Eprint + AllocGlobal)) -> Result<(), Fault
 }
 
 fn make_tables<C: Stored>(rt: &(impl Eprint + AllocGlobal)) -> Result<(), Fault> {
-    make::<C>(rt, Constructor::New, 1, 4096)?;
-    make::<C>(rt, Constructor::WithCapacity(5), 2, 8)?;
-    make::<C>(rt, Constructor::WithHasher, 3, 4096)?;
-    make::<C>(rt, Constructor::WithCapacityAndHasher(10), 4, 10)
+    make::<C>(rt, Make::New, 1, 4096)?;
+    make::<C>(rt, Make::Rounded(5), 2, 8)?;
+    make::<C>(rt, Make::Usual, 3, 4096)?;
+    make::<C>(rt, Make::Exact(10), 4, 10)
 }
 
 fn make<C: Stored>(
     rt: &(impl Eprint + AllocGlobal),
-    constructor: Constructor,
+    how: Make,
     number: u32,
     capacity: usize,
 ) -> Result<(), Fault> {
     tell(rt, "make", number);
-    let mut made = table_made::<C>(rt.alloc(), constructor, capacity);
+    let mut made = table_made::<C>(rt.alloc(), how, capacity);
     if made.is_refused() {
         tell(rt, "refused", number);
         tell(rt, "make", number);
-        made = table_made::<C>(rt.alloc(), constructor, capacity);
+        made = table_made::<C>(rt.alloc(), how, capacity);
     }
     if made.is_right() {
         Ok(())
@@ -69,8 +70,8 @@ fn make<C: Stored>(
 }
 
 // Makes an empty table, which should have that capacity.
-fn table_made<C: Stored>(alloc: Global, constructor: Constructor, capacity: usize) -> Outcome {
-    match make_table::<C>(alloc, constructor) {
+fn table_made<C: Stored>(alloc: Global, how: Make, capacity: usize) -> Outcome {
+    match make_table::<C>(alloc, how) {
         Ok(table) if table.is_empty() && table.capacity() == capacity => Outcome::Right,
         Ok(_) => Outcome::Wrong,
         Err(RoomError::Memory(_)) => Outcome::NoMemory,
@@ -80,19 +81,19 @@ fn table_made<C: Stored>(alloc: Global, constructor: Constructor, capacity: usiz
 
 /// Calls what allocates nothing: constructors of tables of capacity 0, and those that fail because of a size.
 pub fn make_without_memory<C: Stored>(alloc: Global) -> bool {
-    is_empty::<C>(alloc, Constructor::WithCapacity(0))
-        && is_empty::<C>(alloc, Constructor::WithCapacityAndHasher(0))
-        && is_empty::<C>(alloc, Constructor::WithLimit(1))
-        && is_empty::<C>(alloc, Constructor::WithLimit(TOO_MANY - 1))
-        && table_made::<C>(alloc, Constructor::WithCapacity(TOO_MANY), 0).is_too_large()
-        && table_made::<C>(alloc, Constructor::WithCapacityAndHasher(TOO_MANY), 0).is_too_large()
-        && table_made::<C>(alloc, Constructor::WithLimit(TOO_MANY), 0).is_too_large()
-        && table_made::<C>(alloc, Constructor::WithLimit(0), 0).is_too_large()
+    is_empty::<C>(alloc, Make::Rounded(0))
+        && is_empty::<C>(alloc, Make::Exact(0))
+        && is_empty::<C>(alloc, Make::Limited(1))
+        && is_empty::<C>(alloc, Make::Limited(TOO_MANY - 1))
+        && table_made::<C>(alloc, Make::Rounded(TOO_MANY), 0).is_too_large()
+        && table_made::<C>(alloc, Make::Exact(TOO_MANY), 0).is_too_large()
+        && table_made::<C>(alloc, Make::Limited(TOO_MANY), 0).is_too_large()
+        && table_made::<C>(alloc, Make::Limited(0), 0).is_too_large()
 }
 
 // Whether the constructor makes an empty table of capacity 0, on which a run of no calls succeeds.
-fn is_empty<C: Stored>(alloc: Global, constructor: Constructor) -> bool {
-    match make_table::<C>(alloc, constructor) {
+fn is_empty<C: Stored>(alloc: Global, how: Make) -> bool {
+    match make_table::<C>(alloc, how) {
         Ok(mut table) => {
             table.is_empty()
                 && table.capacity() == 0

@@ -1,9 +1,8 @@
 //! The contents of a run, all made before the table.
 use crate::kinds::Stored;
-use intaglio::Call;
 use std::alloc::{AllocError, Global};
 
-/// Decimal numbers as texts and as contents, and lists for calls.
+/// Decimal numbers as texts and as contents.
 #[derive(Drop)]
 pub struct Contents<C: Stored> {
     /// The numbers' digits.
@@ -14,11 +13,7 @@ pub struct Contents<C: Stored> {
     pub fresh: Vec<(C, C)>,
     /// Two more of each, in the same order, for look-ups that take a content.
     pub asked: Vec<(C, C)>,
-    /// Empty lists, each with capacity for one call.
-    pub lists: Vec<Vec<Call<C>>>,
 }
-
-const LISTS: usize = 200;
 
 impl<C: Stored> Contents<C> {
     /// The contents of the numbers below `count`.
@@ -28,7 +23,6 @@ impl<C: Stored> Contents<C> {
             sought: Vec::new(alloc),
             fresh: Vec::new(alloc),
             asked: Vec::new(alloc),
-            lists: make_lists(alloc)?,
         };
         contents.fill(alloc, count)?;
         contents.fresh.reverse();
@@ -57,18 +51,11 @@ fn text_of(alloc: Global, number: u32) -> Result<String, AllocError> {
 }
 
 fn content_of<C: Stored>(alloc: Global, number: u32) -> Result<C, AllocError> {
-    C::of_text(alloc, text_of(alloc, number)?)
+    let text = text_of(alloc, number)?;
+    C::owned(alloc, text.as_bytes()).ok_or(AllocError)
 }
 
 fn two_of<C: Stored>(alloc: Global, number: u32) -> Result<(C, C), AllocError> {
     let first = content_of::<C>(alloc, number)?;
     Ok((first, content_of::<C>(alloc, number)?))
-}
-
-fn make_lists<C: Drop>(alloc: Global) -> Result<Vec<Vec<Call<C>>>, AllocError> {
-    let mut lists = Vec::new(alloc);
-    for _ in 0..LISTS {
-        lists.push(Vec::with_capacity(alloc, 1)?)?;
-    }
-    Ok(lists)
 }

@@ -3,37 +3,12 @@ use crate::checked_table::tell;
 use crate::fault::Fault;
 use intaglio::{InternError, Mark, StrContent, Symbol, SymbolTable};
 use std::alloc::Global;
-use std::hash::{BuildHasher, Hasher};
+use std::hash::BuildHasher;
+use test_hashers::builders::Counted;
 
 const NEW: [&str; 10] = ["b", "c", "d", "e", "f", "g", "h", "i", "j", "k"];
 
 const EQUAL: [&str; 10] = ["e0", "e1", "e2", "e3", "e4", "e5", "e6", "e7", "e8", "e9"];
-
-// A hasher that finishes with 7, and its builder.
-#[derive(Clone, Copy)]
-struct Constant;
-
-impl Hasher for Constant {
-    ghost write = { λ state _. state };
-
-    ghost finish = { λ _. 7 };
-
-    fn finish(&self) -> u64 {
-        7
-    }
-
-    fn write(&mut self, _bytes: &[u8]) {}
-}
-
-impl BuildHasher for Constant {
-    type Hasher = Constant;
-
-    ghost build_hasher = { λ builder. builder };
-
-    fn build_hasher(&self) -> Constant {
-        *self
-    }
-}
 
 /// Interns a text into a table of capacity 0, and again if that failed: the table is then empty.
 pub fn intern_first(rt: &(impl Eprint + AllocGlobal)) -> Result<(), Fault> {
@@ -78,14 +53,14 @@ pub fn without_memory(rt: &(impl Eprint + AllocGlobal)) -> Result<(), Fault> {
 struct Tables {
     roomy: SymbolTable,
     usual: SymbolTable,
-    equal: SymbolTable<Constant>,
+    equal: SymbolTable<Counted>,
 }
 
 impl Tables {
     fn make(alloc: Global) -> Result<Tables, Fault> {
         let roomy = made(SymbolTable::with_capacity(alloc, 1))?;
         let usual = made(SymbolTable::new(alloc))?;
-        let equal = made(SymbolTable::with_hasher(alloc, Constant))?;
+        let equal = made(SymbolTable::with_hasher(alloc, Counted::new(Some(7))))?;
         Ok(Tables {
             roomy,
             usual,

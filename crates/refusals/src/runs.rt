@@ -1,9 +1,9 @@
 //! The runs.
-use crate::change::Change;
 use crate::checked_table::{CallStyle, CheckedTable, tell};
 use crate::constructors::make_without_memory;
 use crate::fault::Fault;
 use crate::kinds::Stored;
+use test_hashers::tables::Update;
 
 /// Which calls are made.
 #[derive(Clone, Copy)]
@@ -27,7 +27,7 @@ pub fn watch<C: Stored>(
         Calls::Plain => fill(rt, &mut checked, style) && make_calls(rt, &mut checked),
         Calls::Cut => {
             fill(rt, &mut checked, style)
-                && checked.change(rt, Change::TakeBack(10))
+                && checked.change(rt, Update::TakeBack(10))
                 && make_calls(rt, &mut checked)
         }
         Calls::NoMemory => no_memory(rt, &mut checked),
@@ -46,25 +46,25 @@ fn fill<C: Stored>(
 
 // A reservation for forty more, twenty more contents, two shrinks, and five contents after a clear.
 fn make_calls<C: Stored>(rt: &(impl Eprint + AllocGlobal), checked: &mut CheckedTable<C>) -> bool {
-    checked.change(rt, Change::Reserve(40))
+    checked.change(rt, Update::Reserve(40))
         && checked.intern_more(rt, 20)
-        && checked.change(rt, Change::ShrinkTo(41))
-        && checked.change(rt, Change::ShrinkToFit)
-        && checked.change(rt, Change::Clear)
+        && checked.change(rt, Update::ShrinkTo(41))
+        && checked.change(rt, Update::ShrinkToFit)
+        && checked.change(rt, Update::Clear)
         && checked.intern_more(rt, 5)
 }
 
 // From the line `none` on nothing is allocated: contents into spare capacity, look-ups, a rollback, a clear,
 // a reservation of what is there already, empty tables, and calls that fail because of a size.
 fn no_memory<C: Stored>(rt: &(impl Eprint + AllocGlobal), checked: &mut CheckedTable<C>) -> bool {
-    let is_granted = checked.intern_more(rt, 5) && checked.change(rt, Change::Reserve(10));
+    let is_granted = checked.intern_more(rt, 5) && checked.change(rt, Update::Reserve(10));
     tell(rt, "none", 0);
     is_granted
         && checked.intern_more(rt, 10)
-        && checked.change(rt, Change::TakeBack(4))
+        && checked.change(rt, Update::TakeBack(4))
         && checked.intern_more(rt, 3)
-        && checked.change(rt, Change::Clear)
-        && checked.change(rt, Change::Reserve(15))
+        && checked.change(rt, Update::Clear)
+        && checked.change(rt, Update::Reserve(15))
         && checked.intern_more(rt, 15)
         && make_without_memory::<C>(rt.alloc())
 }

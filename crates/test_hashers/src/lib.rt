@@ -1,6 +1,9 @@
-//! Hash builders for tests: they have known hashes, count the hashers that they made, or expect certain
-//! writes.
+//! What tests of tables share: hash builders with known hashes, that count the hashers that they made or expect
+//! certain writes; contents made from their spellings; tables, the calls that change them, and their replies.
 #![tactic(auto)]
 
 pub mod builders;
+pub mod contents;
 pub mod expected_writes;
+pub mod replies;
+pub mod tables;

@@ -8,6 +8,7 @@ mod comparisons;
 mod components;
 mod conversions;
 mod core_calls;
+mod counting;
 mod errors;
 mod feeds;
 mod forms;

@@ -4,23 +4,17 @@ use super::printed::paired;
 use super::steps::{Steps, walk_pairs, walks};
 use intaglio::bstr::BStrContent;
 use intaglio::bytes::BytesContent;
-use intaglio::cstr::{CStr, CStrContent, CString};
+use intaglio::cstr::{CStr, CStrContent};
 use intaglio::osstr::OsStrContent;
 use intaglio::path::{Path, PathContent};
-use intaglio::{Formed, Reply, Sought, Spelled, StrContent, Table};
+use intaglio::{Formed, Reply, StrContent, Table};
 use std::alloc::Global;
 use std::process::Abort;
-use std::str;
 use test_hashers::builders::HasherCount;
+use test_hashers::contents::OfSpelling;
 
-/// A content that can be made from any spelling of its kind, and what differs between tables of the kinds.
-pub trait TestContent: Spelled + Sought<Self> + Drop {
-    /// An owned content.
-    fn owned(alloc: Global, spelling: &[u8]) -> Option<Self>;
-
-    /// A borrowed content. A zero follows its spelling.
-    fn borrowed(ended: &'static str) -> Option<Self>;
-
+/// What differs between tables of the kinds.
+pub trait TestContent: OfSpelling {
     /// Whether it is compared as a path.
     fn are_paths() -> bool {
         false
@@ -47,19 +41,7 @@ pub trait TestContent: Spelled + Sought<Self> + Drop {
     );
 }
 
-fn text_of(alloc: Global, spelling: &[u8]) -> Option<String> {
-    str::from_utf8(spelling).ok()?.to_string(alloc).ok()
-}
-
 impl TestContent for StrContent {
-    fn owned(alloc: Global, spelling: &[u8]) -> Option<StrContent> {
-        Some(StrContent::from(text_of(alloc, spelling)?))
-    }
-
-    fn borrowed(ended: &'static str) -> Option<StrContent> {
-        Some(StrContent::from(ended.strip_suffix('\0')?))
-    }
-
     fn pair_in<S: HasherCount>(&self, alloc: Global, table: &Table<StrContent, S>) -> Reply {
         match table.get_interned(self.form()) {
             None => Reply::Pair(None),
@@ -89,14 +71,6 @@ impl TestContent for StrContent {
 }
 
 impl TestContent for OsStrContent {
-    fn owned(alloc: Global, spelling: &[u8]) -> Option<OsStrContent> {
-        Some(OsStrContent::from(text_of(alloc, spelling)?))
-    }
-
-    fn borrowed(ended: &'static str) -> Option<OsStrContent> {
-        Some(OsStrContent::from(ended.strip_suffix('\0')?))
-    }
-
     fn pair_in<S: HasherCount>(&self, alloc: Global, table: &Table<OsStrContent, S>) -> Reply {
         match table.get_interned(self.form()) {
             None => Reply::Pair(None),
@@ -126,14 +100,6 @@ impl TestContent for OsStrContent {
 }
 
 impl TestContent for BytesContent {
-    fn owned(alloc: Global, spelling: &[u8]) -> Option<BytesContent> {
-        Some(BytesContent::from(spelling.to_vec(alloc).ok()?))
-    }
-
-    fn borrowed(ended: &'static str) -> Option<BytesContent> {
-        Some(BytesContent::from(ended.strip_suffix('\0')?.as_bytes()))
-    }
-
     fn pair_in<S: HasherCount>(&self, alloc: Global, table: &Table<BytesContent, S>) -> Reply {
         match table.get_interned(self.form()) {
             None => Reply::Pair(None),
@@ -163,14 +129,6 @@ impl TestContent for BytesContent {
 }
 
 impl TestContent for BStrContent {
-    fn owned(alloc: Global, spelling: &[u8]) -> Option<BStrContent> {
-        Some(BStrContent::Owned(spelling.to_vec(alloc).ok()?.into()))
-    }
-
-    fn borrowed(ended: &'static str) -> Option<BStrContent> {
-        Some(BStrContent::Borrowed(ended.strip_suffix('\0')?.into()))
-    }
-
     fn pair_in<S: HasherCount>(&self, alloc: Global, table: &Table<BStrContent, S>) -> Reply {
         match table.get_interned(self.form()) {
             None => Reply::Pair(None),
@@ -200,15 +158,6 @@ impl TestContent for BStrContent {
 }
 
 impl TestContent for CStrContent {
-    fn owned(alloc: Global, spelling: &[u8]) -> Option<CStrContent> {
-        let bytes = spelling.to_vec(alloc).ok()?;
-        Some(CStrContent::from(CString::new(alloc, bytes).ok()?))
-    }
-
-    fn borrowed(ended: &'static str) -> Option<CStrContent> {
-        Some(CStrContent::from(CStr::from_bytes_with_nul(ended.as_bytes()).ok()?))
-    }
-
     fn pair_in<S: HasherCount>(&self, alloc: Global, table: &Table<CStrContent, S>) -> Reply {
         match table.get_interned(self.form()) {
             None => Reply::Pair(None),
@@ -240,14 +189,6 @@ impl TestContent for CStrContent {
 impl TestContent for PathContent {
     fn are_paths() -> bool {
         true
-    }
-
-    fn owned(alloc: Global, spelling: &[u8]) -> Option<PathContent> {
-        Some(PathContent::from(text_of(alloc, spelling)?))
-    }
-
-    fn borrowed(ended: &'static str) -> Option<PathContent> {
-        Some(PathContent::from(ended.strip_suffix('\0')?))
     }
 
     fn pair_in<S: HasherCount>(&self, alloc: Global, table: &Table<PathContent, S>) -> Reply {

@@ -12,7 +12,7 @@ use intaglio::bytes::BytesContent;
 use intaglio::cstr::CStrContent;
 use intaglio::osstr::OsStrContent;
 use intaglio::path::PathContent;
-use intaglio::{AllSymbols, StrContent, packed};
+use intaglio::{AllSymbols, StrContent, Symbol, packed};
 use std::alloc::Global;
 use std::process::Abort;
 use test_hashers::builders::{Counted, hash_of};
@@ -42,7 +42,10 @@ pub fn on_owned<Q: Trial>(rt: &impl Abort, alloc: Global, trial: &Q) {
 /// Runs the trial on tables in one buffer.
 pub fn on_packed<Q: Trial>(rt: &impl Abort, alloc: Global, trial: &Q) {
     trial.try_on::<packed::SymbolTable, _>(rt, alloc);
+    trial.try_on::<packed::osstr::SymbolTable, _>(rt, alloc);
     trial.try_on::<packed::bytes::SymbolTable, _>(rt, alloc);
+    trial.try_on::<packed::bstr::SymbolTable, _>(rt, alloc);
+    trial.try_on::<packed::path::SymbolTable, _>(rt, alloc);
 }
 
 /// Runs the trial on tables of bytes.
@@ -50,6 +53,7 @@ pub fn on_bytes<Q: Trial>(rt: &impl Abort, alloc: Global, trial: &Q) {
     trial.try_on::<Owned<BytesContent>, _>(rt, alloc);
     trial.try_on::<Owned<BStrContent>, _>(rt, alloc);
     trial.try_on::<packed::bytes::SymbolTable, _>(rt, alloc);
+    trial.try_on::<packed::bstr::SymbolTable, _>(rt, alloc);
 }
 
 /// Runs the trial on tables of C strings.
@@ -60,6 +64,7 @@ pub fn on_c_strings<Q: Trial>(rt: &impl Abort, alloc: Global, trial: &Q) {
 /// Runs the trial on tables of paths.
 pub fn on_paths<Q: Trial>(rt: &impl Abort, alloc: Global, trial: &Q) {
     trial.try_on::<Owned<PathContent>, _>(rt, alloc);
+    trial.try_on::<packed::path::SymbolTable, _>(rt, alloc);
 }
 
 /// A script, with one part for each table: how it is made, and the calls on it.
@@ -119,21 +124,24 @@ impl Trial for RunOut {
 }
 
 fn run_out(rt: &impl Abort, mut one: AllSymbols<'_>, empty: AllSymbols<'_>) {
-    same(rt, one.next().is_some(), true);
+    same(rt, one == empty, false);
+    same(rt, one.next(), Some(Symbol::new(0)));
     same(rt, one == empty, true);
     same(rt, hash_of(one), hash_of(empty));
 }
 
-/// A content, in a new table.
+/// Contents, no two of which are equal, in a new table.
 #[derive(Clone, Copy)]
-pub struct Kept<'a>(pub &'a [u8]);
+pub struct Kept<'a>(pub &'a [&'a [u8]]);
 
 impl<'a> Trial for Kept<'a> {
     fn try_on<T: Made, R: Abort>(&self, rt: &R, alloc: Global) {
         let mut table = T::make(alloc, Make::New).expect(rt, "no table");
-        gives(rt, alloc, &mut table, self.0, Ask::IsInterned, "false");
-        keeps(rt, alloc, &mut table, self.0, 0);
-        keeps(rt, alloc, &mut table, self.0, 0);
+        for (wanted, content) in (0..u32::MAX).zip(self.0.iter()) {
+            gives(rt, alloc, &mut table, content, Ask::IsInterned, "false");
+            keeps(rt, alloc, &mut table, content, wanted);
+            keeps(rt, alloc, &mut table, content, wanted);
+        }
     }
 }
 

@@ -44,8 +44,10 @@ intern c > 2";
         &Walked {
             words,
             steps: Steps {
-                symbols: "next_back > 2
+                symbols: "size_hint > (3, Some(3))
+next_back > 2
 next > 0
+size_hint > (1, Some(1))
 next > 1
 next > none
 next_back > none",
@@ -69,7 +71,8 @@ next > none",
 
 const NOTHING: Steps = Steps {
     symbols: "size_hint > (0, Some(0))
-next > none",
+next > none
+next_back > none",
     contents: "len > 0
 next > none
 next_back > none",

@@ -1,8 +1,9 @@
 //! What only some kinds of content have: spellings of equal paths, zero bytes, and bytes that aren't UTF-8.
 use super::assertions::same;
+use super::contents::{borrowed_content, content};
 use super::each::{Kept, Script, on_bytes, on_c_strings, on_each, on_paths};
 use intaglio::cstr;
-use intaglio::cstr::{CStr, CStrContent};
+use intaglio::cstr::CStrContent;
 use std::alloc::Global;
 use std::process::Abort;
 
@@ -112,36 +113,32 @@ fn zeros_are_bytes(rt: HostRuntime) {
 
 #[test]
 fn bytes_that_are_no_text_are_kept(rt: HostRuntime) {
-    on_bytes(&rt, rt.alloc(), &Kept(b"\x00"));
-    on_bytes(&rt, rt.alloc(), &Kept(b"\xff"));
-    on_bytes(&rt, rt.alloc(), &Kept(b"\x00\xff\x00"));
-    on_c_strings(&rt, rt.alloc(), &Kept(b"\xff"));
+    let bytes: [&[u8]; 5] = [b"\x00", b"\xff", b"\x00\xff", b"\x00\xfe", b"\x00\xff\x00"];
+    on_bytes(&rt, rt.alloc(), &Kept(&bytes));
+    on_c_strings(&rt, rt.alloc(), &Kept(&[b"\xff"]));
 }
 
 #[test]
 fn each_content_of_the_list_is_kept(rt: HostRuntime) {
     let long = Vec::from_elem(rt.alloc(), b'x', 4096).expect(&rt, "memory");
-    on_each(&rt, rt.alloc(), &Kept(b""));
-    on_each(&rt, rt.alloc(), &Kept(b"a"));
-    on_each(&rt, rt.alloc(), &Kept(b"abc"));
-    on_each(&rt, rt.alloc(), &Kept(b"a/b"));
-    on_each(&rt, rt.alloc(), &Kept(b"a//b"));
-    on_each(&rt, rt.alloc(), &Kept(b"\xc3\xa4"));
-    on_each(&rt, rt.alloc(), &Kept(long.as_slice()));
+    let long = [long.as_slice()];
+    on_each(&rt, rt.alloc(), &Kept(&long));
+    let short: [&[u8]; 5] = [b"", b"a", b"abc", b"a/b", b"\xc3\xa4"];
+    on_each(&rt, rt.alloc(), &Kept(&short));
+    on_each(&rt, rt.alloc(), &Kept(&[b"a//b"]));
 }
 
 // Asserts that a table returns the bytes of a C string and the zero after them.
-fn keeps_the_zero(rt: &impl Abort, alloc: Global, ended: &'static [u8]) {
+fn keeps_the_zero(rt: &impl Abort, alloc: Global, content: CStrContent, ended: &[u8]) {
     let mut table = cstr::SymbolTable::new(alloc).expect(rt, "no table");
-    let text = CStr::from_bytes_with_nul(ended).expect(rt, "no C string");
-    let symbol = table
-        .intern(CStrContent::from(text))
-        .expect(rt, "no symbol");
+    let symbol = table.intern(content).expect(rt, "no symbol");
     let stored = table.get(symbol).expect(rt, "no content");
     same(rt, stored.to_bytes_with_nul(), ended);
 }
 
 #[test]
 fn a_zero_ends_a_c_string(rt: HostRuntime) {
-    keeps_the_zero(&rt, rt.alloc(), b"abc\x00");
+    let alloc = rt.alloc();
+    keeps_the_zero(&rt, alloc, borrowed_content(&rt, "abc\0"), b"abc\x00");
+    keeps_the_zero(&rt, alloc, content(&rt, alloc, b"abc"), b"abc\x00");
 }

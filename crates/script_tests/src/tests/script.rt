@@ -5,7 +5,7 @@ use super::loops::{checks_numbers, finds_numbers, interns_numbers, keeps_numbers
 use super::printed::{reply_text, symbols_text};
 use super::table::{Counts, Make, Table, Update};
 use crate::replies::counted;
-use intaglio::{Mark, Reply, Symbol};
+use intaglio::{Reply, Symbol};
 use std::alloc::Global;
 use std::process::Abort;
 
@@ -102,7 +102,7 @@ fn update(rt: &impl Abort, line: Line) -> Option<Update> {
         "shrink_to" => Some(Update::ShrinkTo(size(rt, line.word))),
         "shrink_to_fit" => Some(Update::ShrinkToFit),
         "clear" => Some(Update::Clear),
-        "take_back" => Some(Update::TakeBack(Mark::new(size(rt, line.word)))),
+        "take_back" => Some(Update::TakeBack(size(rt, line.word))),
         _ => None,
     }
 }

@@ -2,45 +2,15 @@
 use super::calls::Ask;
 use super::contents::TestContent;
 use super::steps::Steps;
-use crate::replies::{interned, roomy, taken};
+use crate::replies::interned;
 use intaglio::{
     AllSymbols, InternError, Mark, Reply, RoomError, Store, Symbol, TableOver, Work, intern_all,
 };
 use std::alloc::Global;
 use std::process::Abort;
 use test_hashers::builders::{Counted, Fold, HasherCount};
-
-/// How a table is made.
-#[derive(Clone, Copy)]
-pub enum Make {
-    /// By `new`.
-    New,
-    /// By `with_capacity`.
-    Rounded(usize),
-    /// By `with_hasher`.
-    Usual,
-    /// By `with_capacity_and_hasher`.
-    Exact(usize),
-    /// By `with_limit`.
-    Limited(usize),
-}
-
-/// A call that changes a table, other than an interning.
-#[derive(Clone, Copy)]
-pub enum Update {
-    /// `reserve`.
-    Reserve(usize),
-    /// `try_reserve`.
-    TryReserve(usize),
-    /// `shrink_to`.
-    ShrinkTo(usize),
-    /// `shrink_to_fit`.
-    ShrinkToFit,
-    /// `clear`.
-    Clear,
-    /// `take_back`.
-    TakeBack(Mark),
-}
+use test_hashers::tables::make_table;
+pub use test_hashers::tables::{Make, Update, updated};
 
 /// The numbers of a table.
 #[derive(Drop)]
@@ -136,24 +106,6 @@ impl<C: TestContent, S: HasherCount> Table for intaglio::Table<C, S> {
     }
 }
 
-/// Makes a call that changes a table.
-pub fn updated<L: Store, S: HasherCount>(table: &mut TableOver<L, S>, update: Update) -> Reply
-where
-    L::Content: Drop,
-{
-    match update {
-        Update::Reserve(additional) => roomy(table.reserve(additional)),
-        Update::TryReserve(additional) => roomy(table.try_reserve(additional)),
-        Update::ShrinkTo(capacity) => roomy(table.shrink_to(capacity)),
-        Update::ShrinkToFit => roomy(table.shrink_to_fit()),
-        Update::Clear => {
-            table.clear();
-            Reply::Done
-        }
-        Update::TakeBack(mark) => taken(table.take_back(mark)),
-    }
-}
-
 /// The numbers of a table.
 pub fn counts_of<L: Store, S: HasherCount>(table: &TableOver<L, S>) -> Counts {
     Counts {
@@ -189,17 +141,7 @@ impl<C: TestContent> Made for Owned<C> {
     type Counting = intaglio::Table<C, Counted>;
 
     fn make(alloc: Global, how: Make) -> Result<Self, RoomError> {
-        match how {
-            Make::New => intaglio::Table::new(alloc),
-            Make::Rounded(capacity) => intaglio::Table::with_capacity(alloc, capacity),
-            Make::Usual => intaglio::Table::with_hasher(alloc, Fold::new()),
-            Make::Exact(capacity) => intaglio::Table::with_capacity_and_hasher(
-                alloc,
-                capacity,
-                Fold::new(),
-            ),
-            Make::Limited(limit) => intaglio::Table::with_limit(alloc, limit, Fold::new()),
-        }
+        make_table(alloc, how)
     }
 
     fn make_counting(

@@ -1,22 +1,9 @@
 //! Which symbols a bucket of an index contains, and in which order, after places, rollbacks, shrinks and growth.
-ghost use Rattle.std.specs.Prelude.{◌≡◌, ◌^◌, ◌≤◌, length};
+ghost use Rattle.std.specs.Prelude.{◌≡◌, ◌≤◌, length};
 
 use super::assertions::same;
 use intaglio::{Index, Symbol, Work};
 use std::process::Abort;
-
-// An index with symbols of these hashes, and as many buckets.
-fn filled<Rt: Abort + AllocGlobal>(rt: &Rt, hashes: &[u64]) -> Index
-    requires { length hashes.now ≤ 2 ^ 32 }
-    ensures { length result.hashes ≡ length hashes.now }
-{
-    let mut work = Work::new();
-    let mut index = Index::with_buckets(rt.alloc(), hashes.len()).expect(rt, "no memory");
-    for (i, hash) in hashes.iter().enumerate() {
-        index.place(*hash, Symbol::new(i as u32), &mut work);
-    }
-    index
-}
 
 // Asserts that a walk of the hash's bucket meets these symbols in this order, and no others.
 fn meets(rt: &impl Abort, index: &Index, count: u32, hash: u64, wanted: &[u32])
@@ -44,127 +31,6 @@ fn finds(rt: &impl Abort, index: &Index, count: u32, hash: u64, wanted: &[u32])
         next = index.find_next(symbol, &mut work);
     }
     assert!(rt; next.is_none());
-}
-
-// Hashes, a hash, and the symbols that are met or found by it in an index of the hashes, in order.
-type Row = (&'static [u64], u64, &'static [u32]);
-
-// How many hashes there are.
-fn count(rt: &impl Abort, hashes: &[u64]) -> u32
-    ensures { result ≡ length hashes.now }
-{
-    u32::try_from(hashes.len()).expect(rt, "too many")
-}
-
-static MET: [Row; 4] = [
-    (&[3, 8, 13, 18, 23], 28, &[0, 1, 2, 3, 4]),
-    (&[23, 18, 13, 8, 3], 28, &[4, 3, 2, 1, 0]),
-    (&[13, 3, 23, 8, 13], 28, &[1, 3, 4, 0, 2]),
-    (&[13, 3, 23, 8, 13], 2, &[]),
-];
-
-#[test]
-fn one_bucket_is_in_order(rt: HostRuntime) {
-    for (hashes, hash, wanted) in MET {
-        let count = count(&rt, hashes);
-        meets(&rt, &filled(&rt, hashes), count, hash, wanted);
-    }
-}
-
-static FOUND: [Row; 8] = [
-    (&[13, 3, 23, 8, 13], 3, &[1]),
-    (&[13, 3, 23, 8, 13], 13, &[4, 0]),
-    (&[13, 3, 23, 8, 13], 23, &[2]),
-    (&[13, 3, 23, 8, 13], 18, &[]),
-    (&[32, 16, 48, 16], 16, &[3, 1]),
-    (&[32, 16, 48, 16], 48, &[2]),
-    (&[32, 16, 48, 16], 64, &[]),
-    (&[32, 16, 48, 16], 17, &[]),
-];
-
-#[test]
-fn a_search_finds_the_symbols_of_its_hash(rt: HostRuntime) {
-    for (hashes, hash, wanted) in FOUND {
-        let count = count(&rt, hashes);
-        finds(&rt, &filled(&rt, hashes), count, hash, wanted);
-    }
-}
-
-#[test]
-fn a_cut_leaves_the_first_symbols(rt: HostRuntime) {
-    let mut index = filled(&rt, &[13, 3, 23, 8, 13]);
-    index.cut(5);
-    meets(&rt, &index, 5, 3, &[1, 3, 4, 0, 2]);
-    index.cut(3);
-    meets(&rt, &index, 3, 3, &[1, 0, 2]);
-    index.cut(0);
-    meets(&rt, &index, 0, 3, &[]);
-    same(&rt, (index.bucket_count(), index.room()), (5, 5));
-}
-
-#[test]
-fn a_cleared_index_takes_symbols_again(rt: HostRuntime) {
-    let mut work = Work::new();
-    let mut index = filled(&rt, &[13, 3, 23]);
-    index.clear();
-    meets(&rt, &index, 0, 1, &[]);
-    index.place(7, Symbol::new(0), &mut work);
-    index.place(4, Symbol::new(1), &mut work);
-    meets(&rt, &index, 2, 1, &[1, 0]);
-    meets(&rt, &index, 2, 3, &[]);
-}
-
-#[test]
-fn a_shrink_keeps_symbols(rt: HostRuntime) {
-    let mut work = Work::new();
-    let mut index = filled(&rt, &[13, 3, 23, 8, 14]);
-    index.cut(3);
-    index.rebuild(3, 3, &mut work).expect(&rt, "no memory");
-    same(&rt, (index.bucket_count(), index.room()), (3, 3));
-    meets(&rt, &index, 3, 0, &[1]);
-    meets(&rt, &index, 3, 1, &[0]);
-    meets(&rt, &index, 3, 2, &[2]);
-}
-
-#[test]
-fn sparse_buckets_split_those_of_one_bucket_each(rt: HostRuntime) {
-    let mut work = Work::new();
-    let mut index = Index::with_sparse_buckets(rt.alloc(), 3, 6).expect(&rt, "no memory");
-    same(&rt, (index.bucket_count(), index.places()), (6, 3));
-    same(&rt, index.room(), 3);
-    index.place(7, Symbol::new(0), &mut work);
-    index.place(4, Symbol::new(1), &mut work);
-    index.place(1, Symbol::new(2), &mut work);
-    meets(&rt, &index, 3, 1, &[2, 0]);
-    meets(&rt, &index, 3, 4, &[1]);
-    index.rebuild(3, 3, &mut work).expect(&rt, "no memory");
-    same(&rt, (index.bucket_count(), index.places()), (3, 3));
-    meets(&rt, &index, 3, 1, &[2, 1, 0]);
-    index
-        .reserve_sparse(4, 8, &mut work)
-        .expect(&rt, "no memory");
-    same(&rt, (index.bucket_count(), index.places()), (8, 4));
-    same(&rt, index.room(), 4);
-    meets(&rt, &index, 3, 1, &[2]);
-    meets(&rt, &index, 3, 4, &[1]);
-    meets(&rt, &index, 3, 7, &[0]);
-}
-
-#[test]
-fn a_reservation_makes_buckets_only_if_there_are_fewer(rt: HostRuntime) {
-    let mut work = Work::new();
-    let mut index = Index::with_sparse_buckets(rt.alloc(), 2, 6).expect(&rt, "no memory");
-    index.place(7, Symbol::new(0), &mut work);
-    index.place(4, Symbol::new(1), &mut work);
-    index.reserve(1, &mut work).expect(&rt, "no memory");
-    same(&rt, (index.bucket_count(), index.places()), (6, 2));
-    index.reserve(6, &mut work).expect(&rt, "no memory");
-    same(&rt, (index.bucket_count(), index.places()), (6, 6));
-    meets(&rt, &index, 2, 1, &[0]);
-    index.reserve(7, &mut work).expect(&rt, "no memory");
-    same(&rt, (index.bucket_count(), index.places()), (7, 7));
-    meets(&rt, &index, 2, 0, &[0]);
-    meets(&rt, &index, 2, 4, &[1]);
 }
 
 // A hash for each number, spread over the buckets.
@@ -223,16 +89,273 @@ fn grow<Rt: Abort>(rt: &Rt, index: &mut Index, from: u32, to: u32)
     stands(rt, index, to);
 }
 
+// A step on an index, or what is seen of it.
+#[derive(Clone, Copy)]
+enum Step {
+    // Places the next symbols by these hashes.
+    Place(&'static [u64]),
+    // Leaves so many symbols.
+    Cut(u32),
+    Clear,
+    // Makes as many buckets as symbols.
+    Rebuild(u32),
+    Reserve(usize),
+    // Reserves for so many symbols so many buckets.
+    ReserveSparse(usize, usize),
+    // Makes room for so many symbols, and places them.
+    Grow(u32),
+    // The buckets, how many symbols they were made for, and the room.
+    Counts(usize, usize, usize),
+    // The symbols that a walk of the hash's bucket meets.
+    Meets(u64, &'static [u32]),
+    // Those that a search for the hash finds.
+    Finds(u64, &'static [u32]),
+}
+
+// Makes the step on an index of so many symbols, and returns how many there are then.
+fn make_step<Rt: Abort>(rt: &Rt, index: &mut Index, count: u32, step: Step) -> u32
+    requires { length index.old.hashes ≡ count }
+    ensures { length index.new.hashes ≡ result }
+{
+    match step {
+        Step::Place(hashes) => place_all(rt, index, count, hashes),
+        Step::Cut(left) => cut(rt, index, count, left),
+        Step::Clear => {
+            index.clear();
+            0
+        }
+        Step::Grow(to) => {
+            assert!(rt; count <= to);
+            grow(rt, index, count, to);
+            to
+        }
+        Step::Counts(buckets, places, room) => {
+            let counts = (index.bucket_count(), index.places(), index.room());
+            same(rt, counts, (buckets, places, room));
+            count
+        }
+        Step::Meets(hash, wanted) => {
+            meets(rt, index, count, hash, wanted);
+            count
+        }
+        Step::Finds(hash, wanted) => {
+            finds(rt, index, count, hash, wanted);
+            count
+        }
+        _ => {
+            make_buckets(rt, index, count, step);
+            count
+        }
+    }
+}
+
+fn place<Rt: Abort>(rt: &Rt, index: &mut Index, count: u32, hash: u64) -> u32
+    requires { length index.old.hashes ≡ count }
+    ensures { length index.new.hashes ≡ result }
+{
+    assert!(rt; (count as usize) < index.room());
+    index.place(hash, Symbol::new(count), &mut Work::new());
+    count.checked_add(1).expect(rt, "too many")
+}
+
+fn place_all<Rt: Abort>(rt: &Rt, index: &mut Index, count: u32, hashes: &[u64]) -> u32
+    requires { length index.old.hashes ≡ count }
+    ensures { length index.new.hashes ≡ result }
+{
+    let mut count = count;
+    for hash in hashes {
+        count = place(rt, index, count, *hash);
+    }
+    count
+}
+
+fn cut<Rt: Abort>(rt: &Rt, index: &mut Index, count: u32, left: u32) -> u32
+    requires { length index.old.hashes ≡ count }
+    ensures { length index.new.hashes ≡ result }
+{
+    assert!(rt; left <= count);
+    index.cut(left as usize);
+    left
+}
+
+// Makes a step that changes the buckets alone.
+fn make_buckets<Rt: Abort>(rt: &Rt, index: &mut Index, count: u32, step: Step)
+    requires { length index.old.hashes ≡ count }
+    ensures { length index.new.hashes ≡ count }
+{
+    let mut work = Work::new();
+    let made = match step {
+        Step::Rebuild(buckets) => {
+            assert!(rt; count <= buckets);
+            index.rebuild(buckets as usize, buckets as usize, &mut work)
+        }
+        Step::ReserveSparse(places, buckets) => {
+            assert!(rt; places <= buckets);
+            index.reserve_sparse(places, buckets, &mut work)
+        }
+        Step::Reserve(places) => index.reserve(places, &mut work),
+        _ => Ok(()),
+    };
+    made.expect(rt, "no memory");
+}
+
+fn plays<Rt: Abort>(rt: &Rt, index: &mut Index, steps: &[Step])
+    requires { length index.old.hashes ≡ 0 }
+{
+    let mut count = 0;
+    for step in steps {
+        count = make_step(rt, index, count, *step);
+    }
+}
+
+// Makes the steps on an index with so many buckets, for as many symbols.
+fn plays_on<Rt: Abort + AllocGlobal>(rt: &Rt, buckets: usize, steps: &[Step]) {
+    let mut index = Index::with_buckets(rt.alloc(), buckets).expect(rt, "no memory");
+    plays(rt, &mut index, steps);
+}
+
+// The same with more buckets than places.
+fn plays_on_sparse<Rt: Abort + AllocGlobal>(rt: &Rt, places: usize, steps: &[Step]) {
+    assert!(rt; places <= 6);
+    let mut index = Index::with_sparse_buckets(rt.alloc(), places, 6).expect(rt, "no memory");
+    plays(rt, &mut index, steps);
+}
+
+static ORDERED: [Step; 9] = [
+    Step::Place(&[3, 8, 13, 18, 23]),
+    Step::Meets(28, &[0, 1, 2, 3, 4]),
+    Step::Clear,
+    Step::Place(&[23, 18, 13, 8, 3]),
+    Step::Meets(28, &[4, 3, 2, 1, 0]),
+    Step::Clear,
+    Step::Place(&[13, 3, 23, 8, 13]),
+    Step::Meets(28, &[1, 3, 4, 0, 2]),
+    Step::Meets(2, &[]),
+];
+
+#[test]
+fn one_bucket_is_in_order(rt: HostRuntime) {
+    plays_on(&rt, 5, &ORDERED);
+}
+
+static SEARCHED: [Step; 5] = [
+    Step::Place(&[13, 3, 23, 8, 13]),
+    Step::Finds(3, &[1]),
+    Step::Finds(13, &[4, 0]),
+    Step::Finds(23, &[2]),
+    Step::Finds(18, &[]),
+];
+
+static SEARCHED_BY_MASK: [Step; 5] = [
+    Step::Place(&[32, 16, 48, 16]),
+    Step::Finds(16, &[3, 1]),
+    Step::Finds(48, &[2]),
+    Step::Finds(64, &[]),
+    Step::Finds(17, &[]),
+];
+
+#[test]
+fn a_search_finds_the_symbols_of_its_hash(rt: HostRuntime) {
+    plays_on(&rt, 5, &SEARCHED);
+    plays_on(&rt, 4, &SEARCHED_BY_MASK);
+}
+
+static CUT: [Step; 8] = [
+    Step::Place(&[13, 3, 23, 8, 13]),
+    Step::Cut(5),
+    Step::Meets(3, &[1, 3, 4, 0, 2]),
+    Step::Cut(3),
+    Step::Meets(3, &[1, 0, 2]),
+    Step::Cut(0),
+    Step::Meets(3, &[]),
+    Step::Counts(5, 5, 5),
+];
+
+#[test]
+fn a_cut_leaves_the_first_symbols(rt: HostRuntime) {
+    plays_on(&rt, 5, &CUT);
+}
+
+static CLEARED: [Step; 6] = [
+    Step::Place(&[13, 3, 23]),
+    Step::Clear,
+    Step::Meets(1, &[]),
+    Step::Place(&[7, 4]),
+    Step::Meets(1, &[1, 0]),
+    Step::Meets(3, &[]),
+];
+
+#[test]
+fn a_cleared_index_takes_symbols_again(rt: HostRuntime) {
+    plays_on(&rt, 3, &CLEARED);
+}
+
+static SHRUNK: [Step; 7] = [
+    Step::Place(&[13, 3, 23, 8, 14]),
+    Step::Cut(3),
+    Step::Rebuild(3),
+    Step::Counts(3, 3, 3),
+    Step::Meets(0, &[1]),
+    Step::Meets(1, &[0]),
+    Step::Meets(2, &[2]),
+];
+
+#[test]
+fn a_shrink_keeps_symbols(rt: HostRuntime) {
+    plays_on(&rt, 5, &SHRUNK);
+}
+
+static SPLIT: [Step; 12] = [
+    Step::Counts(6, 3, 3),
+    Step::Place(&[7, 4, 1]),
+    Step::Meets(1, &[2, 0]),
+    Step::Meets(4, &[1]),
+    Step::Rebuild(3),
+    Step::Counts(3, 3, 3),
+    Step::Meets(1, &[2, 1, 0]),
+    Step::ReserveSparse(4, 8),
+    Step::Counts(8, 4, 4),
+    Step::Meets(1, &[2]),
+    Step::Meets(4, &[1]),
+    Step::Meets(7, &[0]),
+];
+
+#[test]
+fn sparse_buckets_split_those_of_one_bucket_each(rt: HostRuntime) {
+    plays_on_sparse(&rt, 3, &SPLIT);
+}
+
+static RESERVED: [Step; 10] = [
+    Step::Place(&[7, 4]),
+    Step::Reserve(1),
+    Step::Counts(6, 2, 2),
+    Step::Reserve(6),
+    Step::Counts(6, 6, 6),
+    Step::Meets(1, &[0]),
+    Step::Reserve(7),
+    Step::Counts(7, 7, 7),
+    Step::Meets(0, &[0]),
+    Step::Meets(4, &[1]),
+];
+
+#[test]
+fn a_reservation_makes_buckets_only_if_there_are_fewer(rt: HostRuntime) {
+    plays_on_sparse(&rt, 2, &RESERVED);
+}
+
+static GROWN: [Step; 9] = [
+    Step::Counts(0, 0, 0),
+    Step::Meets(3, &[]),
+    Step::Grow(4),
+    Step::Grow(8),
+    Step::Grow(16),
+    Step::Grow(32),
+    Step::Grow(64),
+    Step::Grow(128),
+    Step::Counts(128, 128, 128),
+];
+
 #[test]
 fn growth_keeps_symbols_in_their_buckets(rt: HostRuntime) {
-    let mut index = Index::with_buckets(rt.alloc(), 0).expect(&rt, "no memory");
-    same(&rt, (index.bucket_count(), index.room()), (0, 0));
-    meets(&rt, &index, 0, 3, &[]);
-    grow(&rt, &mut index, 0, 4);
-    grow(&rt, &mut index, 4, 8);
-    grow(&rt, &mut index, 8, 16);
-    grow(&rt, &mut index, 16, 32);
-    grow(&rt, &mut index, 32, 64);
-    grow(&rt, &mut index, 64, 128);
-    same(&rt, (index.bucket_count(), index.room()), (128, 128));
+    plays_on(&rt, 0, &GROWN);
 }

@@ -49,29 +49,29 @@ fn agrees(
     );
 }
 
+// Bytes, what `from_bytes_with_nul` returns, and what `new` does.
+type Vector = (
+    &'static [u8],
+    Result<&'static [u8], CStrError>,
+    Result<&'static [u8], usize>,
+);
+
+static VECTORS: [Vector; 8] = [
+    (b"", MISSING, Ok(b"\x00")),
+    (b"\x00", Ok(b""), Err(0)),
+    (b"a", MISSING, Ok(b"a\x00")),
+    (b"a\x00", Ok(b"a"), Err(1)),
+    (b"a\x00b", Err(CStrError::InnerZero(1)), Err(1)),
+    (b"a\x00b\x00", Err(CStrError::InnerZero(1)), Err(1)),
+    (b"\x00\x00", Err(CStrError::InnerZero(0)), Err(0)),
+    (b"\xff\x00", Ok(b"\xff"), Err(1)),
+];
+
 #[test]
 fn constructors_agree_with_the_vectors(rt: HostRuntime) {
-    let alloc = rt.alloc();
-    agrees(&rt, alloc, b"", MISSING, Ok(b"\x00"));
-    agrees(&rt, alloc, b"\x00", Ok(b""), Err(0));
-    agrees(&rt, alloc, b"a", MISSING, Ok(b"a\x00"));
-    agrees(&rt, alloc, b"a\x00", Ok(b"a"), Err(1));
-    agrees(&rt, alloc, b"a\x00b", Err(CStrError::InnerZero(1)), Err(1));
-    agrees(
-        &rt,
-        alloc,
-        b"a\x00b\x00",
-        Err(CStrError::InnerZero(1)),
-        Err(1),
-    );
-    agrees(
-        &rt,
-        alloc,
-        b"\x00\x00",
-        Err(CStrError::InnerZero(0)),
-        Err(0),
-    );
-    agrees(&rt, alloc, b"\xff\x00", Ok(b"\xff"), Err(1));
+    for (bytes, read, made) in VECTORS {
+        agrees(&rt, rt.alloc(), bytes, read, made);
+    }
     holds(&rt, reads(b"abc", MISSING));
 }
 

@@ -74,19 +74,41 @@ fn a_frozen_table_is_thawed(rt: HostRuntime) {
     same(&rt, thawed.get_or_intern(b"new"), Ok(Symbol::new(3)));
 }
 
+// Asserts which strings the first symbols have.
+fn gets(rt: &impl Abort, table: &TrustedFrozen<'_>, wanted: &[Option<&'static [u8]>]) {
+    for (number, string) in (0..u32::MAX).zip(wanted.iter()) {
+        same(rt, table.get(Symbol::new(number)), *string);
+    }
+}
+
+// Asserts by which symbols strings are found.
+fn finds(rt: &impl Abort, table: &TrustedFrozen<'_>, wanted: &[(&'static [u8], Option<u32>)]) {
+    for (string, number) in wanted {
+        let found = table.check_interned(string);
+        same(rt, found.map(|symbol| symbol.id()), *number);
+    }
+}
+
+static STRINGS: [Option<&[u8]>; 4] = [Some(b"abc"), Some(b""), Some(b"xy"), None];
+
+static SYMBOLS: [(&[u8], Option<u32>); 4] = [
+    (b"abc", Some(0)),
+    (b"", Some(1)),
+    (b"xy", Some(2)),
+    (b"x", None),
+];
+
 #[test]
 fn trusted_bytes_are_looked_up(rt: HostRuntime) {
     let table = trusted(&rt, &TABLE);
     same(&rt, table.len(), 3);
-    same(&rt, table.get(Symbol::new(0)), Some(b"abc".as_slice()));
-    same(&rt, table.get(Symbol::new(1)), Some(b"".as_slice()));
-    same(&rt, table.get(Symbol::new(2)), Some(b"xy".as_slice()));
-    same(&rt, table.get(Symbol::new(3)), None);
-    same(&rt, table.check_interned(b"abc"), Some(Symbol::new(0)));
-    same(&rt, table.check_interned(b""), Some(Symbol::new(1)));
-    same(&rt, table.check_interned(b"xy"), Some(Symbol::new(2)));
-    same(&rt, table.check_interned(b"x"), None);
+    gets(&rt, &table, &STRINGS);
+    finds(&rt, &table, &SYMBOLS);
 }
+
+static STRINGS_LEFT: [Option<&[u8]>; 3] = [None, None, Some(b"xy")];
+
+static SYMBOLS_LEFT: [(&[u8], Option<u32>); 3] = [(b"abc", None), (b"", None), (b"xy", Some(2))];
 
 #[test]
 fn trusted_bytes_with_wrong_ends_are_read_within_the_text(rt: HostRuntime) {
@@ -94,12 +116,8 @@ fn trusted_bytes_with_wrong_ends_are_read_within_the_text(rt: HostRuntime) {
     bytes[FIRST_END] = 9;
     same(&rt, Frozen::open(&bytes).err(), Some(FrozenError::Ends));
     let table = trusted(&rt, &bytes);
-    same(&rt, table.get(Symbol::new(0)), None);
-    same(&rt, table.get(Symbol::new(1)), None);
-    same(&rt, table.get(Symbol::new(2)), Some(b"xy".as_slice()));
-    same(&rt, table.check_interned(b"abc"), None);
-    same(&rt, table.check_interned(b""), None);
-    same(&rt, table.check_interned(b"xy"), Some(Symbol::new(2)));
+    gets(&rt, &table, &STRINGS_LEFT);
+    finds(&rt, &table, &SYMBOLS_LEFT);
 }
 
 #[test]

@@ -2,7 +2,7 @@
 use super::assertions::{holds, same};
 use intaglio::Symbol;
 use intaglio::packed::SymbolTable;
-use intaglio_packed::{Packed, StringEnds};
+use intaglio_packed::{StringBuffer, StringEnds};
 use test_hashers::builders::Fold;
 
 #[test]
@@ -24,7 +24,7 @@ fn a_packed_table_has_room_and_gives_it_up(rt: HostRuntime) {
 
 #[test]
 fn a_packed_list_gives_up_its_room(rt: HostRuntime) {
-    let mut list = Packed::with_capacity(rt.alloc(), 5, 100).expect(&rt, "memory");
+    let mut list = StringBuffer::with_capacity(rt.alloc(), 5, 100).expect(&rt, "memory");
     list.push_reserved(b"abc");
     same(&rt, list.shrink_to(2), Ok(()));
     same(&rt, list.capacity(), 2);

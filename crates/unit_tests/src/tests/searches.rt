@@ -1,6 +1,6 @@
 //! How many contents a search compares, and how often it hashes, if many hashes are equal or share a bucket.
 use super::assertions::same;
-use crate::counting::Counting;
+use super::counting::Counting;
 use intaglio::{Core, Symbol, Work};
 use std::alloc::Global;
 use std::fmt::Write;
@@ -9,8 +9,10 @@ use test_hashers::builders::{Counted, HasherCount};
 use test_hashers::expected_writes::ExpectedWrites;
 
 // Texts, many of which share a bucket, and what their searches do.
-#[derive(Drop)]
+#[derive(Clone, Copy)]
 struct Row<'a> {
+    // The hash of each text, if it isn't its first byte.
+    hash: Option<u64>,
     capacity: usize,
     // The texts to intern, separated by spaces.
     texts: &'a str,
@@ -107,9 +109,9 @@ fn tells_apart(rt: &impl Abort, alloc: Global, builder: impl HasherCount, row: &
     finds(rt, alloc, &table, row);
 }
 
-#[test]
-fn five_equal_hashes_are_told_apart(rt: HostRuntime) {
-    let row = Row {
+static ROWS: [Row<'static>; 4] = [
+    Row {
+        hash: Some(7),
         capacity: 4096,
         texts: "e0 e1 e2 e3 e4",
         count: 5,
@@ -117,13 +119,9 @@ fn five_equal_hashes_are_told_apart(rt: HostRuntime) {
         equal: "zz",
         other: "",
         hashers: Some(6),
-    };
-    tells_apart(&rt, rt.alloc(), Counted::new(Some(7)), &row);
-}
-
-#[test]
-fn unequal_hashes_of_one_bucket_are_not_compared(rt: HostRuntime) {
-    let row = Row {
+    },
+    Row {
+        hash: None,
         capacity: 8,
         texts: "a b i",
         count: 3,
@@ -131,13 +129,9 @@ fn unequal_hashes_of_one_bucket_are_not_compared(rt: HostRuntime) {
         equal: "",
         other: "q",
         hashers: Some(4),
-    };
-    tells_apart(&rt, rt.alloc(), Counted::new(None), &row);
-}
-
-#[test]
-fn four_hashes_of_one_bucket_are_told_apart(rt: HostRuntime) {
-    let row = Row {
+    },
+    Row {
+        hash: None,
         capacity: 8,
         texts: "a i q y",
         count: 4,
@@ -145,13 +139,9 @@ fn four_hashes_of_one_bucket_are_told_apart(rt: HostRuntime) {
         equal: "",
         other: "b",
         hashers: Some(5),
-    };
-    tells_apart(&rt, rt.alloc(), Counted::new(None), &row);
-}
-
-#[test]
-fn equal_hashes_alone_are_compared(rt: HostRuntime) {
-    let row = Row {
+    },
+    Row {
+        hash: None,
         capacity: 8,
         texts: "aa ab ac",
         count: 3,
@@ -159,13 +149,20 @@ fn equal_hashes_alone_are_compared(rt: HostRuntime) {
         equal: "ad",
         other: "i\nY",
         hashers: Some(6),
-    };
-    tells_apart(&rt, rt.alloc(), Counted::new(None), &row);
+    },
+];
+
+#[test]
+fn equal_hashes_alone_are_compared(rt: HostRuntime) {
+    for row in ROWS {
+        tells_apart(&rt, rt.alloc(), Counted::new(row.hash), &row);
+    }
 }
 
 #[test]
 fn a_text_feeds_its_bytes_and_an_end(rt: HostRuntime) {
     let row = Row {
+        hash: None,
         capacity: 1,
         texts: "abc xyz",
         count: 2,
@@ -183,12 +180,13 @@ fn a_text_feeds_its_bytes_and_an_end(rt: HostRuntime) {
 }
 
 // Interns the decimal texts of the numbers below two thousand, and finds them.
-fn tells_two_thousand_apart(rt: &impl Abort, alloc: Global, builder: Counted) {
+fn tells_two_thousand_apart(rt: &impl Abort, alloc: Global, hash: Option<u64>) {
     let mut texts = "0".to_string(alloc).expect(rt, "memory");
     for number in 1..2000u32 {
         write!(texts, " {number}").expect(rt, "memory");
     }
     let row = Row {
+        hash,
         capacity: 0,
         texts: texts.as_str(),
         count: 2000,
@@ -197,15 +195,15 @@ fn tells_two_thousand_apart(rt: &impl Abort, alloc: Global, builder: Counted) {
         other: "",
         hashers: Some(2001),
     };
-    tells_apart(rt, alloc, builder, &row);
+    tells_apart(rt, alloc, Counted::new(hash), &row);
 }
 
 #[test]
 fn two_thousand_equal_hashes_are_told_apart(rt: HostRuntime) {
-    tells_two_thousand_apart(&rt, rt.alloc(), Counted::new(Some(7)));
+    tells_two_thousand_apart(&rt, rt.alloc(), Some(7));
 }
 
 #[test]
 fn two_thousand_first_bytes_are_told_apart(rt: HostRuntime) {
-    tells_two_thousand_apart(&rt, rt.alloc(), Counted::new(None));
+    tells_two_thousand_apart(&rt, rt.alloc(), None);
 }

@@ -1,51 +1,13 @@
-//! The iterator over the symbols of a table, from both ends.
+//! What the iterator over the symbols of a table has beside the steps that the scripts make.
 use super::assertions::{copy_of, holds, same};
 use intaglio::{AllSymbols, Symbol};
 use test_hashers::builders::hash_of;
-
-#[test]
-fn ends_taken_in_turn(rt: HostRuntime) {
-    let mut all = AllSymbols::over(&(), 3);
-    same(&rt, all.size_hint(), (3, Some(3)));
-    same(&rt, all.next_back(), Some(Symbol::new(2)));
-    same(&rt, all.next(), Some(Symbol::new(0)));
-    same(&rt, all.size_hint(), (1, Some(1)));
-    same(&rt, all.next(), Some(Symbol::new(1)));
-    same(&rt, all.next(), None);
-    same(&rt, all.next_back(), None);
-}
-
-#[test]
-fn some_are_skipped_from_the_back(rt: HostRuntime) {
-    let mut all = AllSymbols::over(&(), 4);
-    same(&rt, all.next(), Some(Symbol::new(0)));
-    same(&rt, all.nth_back(2), Some(Symbol::new(1)));
-    same(&rt, all.next(), None);
-}
-
-#[test]
-fn none_come_of_an_empty_table(rt: HostRuntime) {
-    let mut all = AllSymbols::over(&(), 0);
-    same(&rt, all.size_hint(), (0, Some(0)));
-    same(&rt, all.next(), None);
-    same(&rt, all.next_back(), None);
-}
 
 #[test]
 fn the_last_symbol_of_a_full_table(rt: HostRuntime) {
     let mut all = AllSymbols::over(&(), 4294967296);
     same(&rt, all.size_hint(), (4294967296, Some(4294967296)));
     same(&rt, all.next_back(), Some(Symbol::new(4294967295)));
-}
-
-#[test]
-fn run_out_ones_are_equal_and_hash_alike(rt: HostRuntime) {
-    let mut one = AllSymbols::over(&(), 1);
-    let none = AllSymbols::over(&(), 0);
-    holds(&rt, one != none);
-    same(&rt, one.next(), Some(Symbol::new(0)));
-    holds(&rt, one == none);
-    same(&rt, hash_of(one), hash_of(none));
 }
 
 #[test]

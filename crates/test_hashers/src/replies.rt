@@ -1,4 +1,4 @@
-//! Results of calls as replies.
+//! Results of calls as the replies of a run.
 ghost use Rattle.std.specs.Prelude.{◌≡◌, Some, OnOk, IfOk};
 ghost use Rattle.intaglio_core.specs.declared.runs.Reply.TheVariants.{Symbol as SymbolReply, Done};
 
