@@ -1,12 +1,11 @@
 -- What filters tell of the hashes that were placed.
-use Rattle.std.proofs.Common.{◌≡◌, ◌≢◌, ℕ, zero, suc, replicate, ◌<◌, ◌/◌, ◌%◌, ◌^◌, List, [], ◌∷◌, ◌++◌, length, get_or, set, take, drop, refl, ◌∙◌, arith, inl, inr, None, subst, ap}
-use Rattle.std.specs.List.{AllByRecursion}
+use Rattle.std.proofs.Common.{◌≡◌, ◌≢◌, ℕ, zero, suc, replicate, ◌<◌, ◌/◌, ◌%◌, ◌^◌, List, [], ◌∷◌, ◌++◌, length, get_or, set, take, drop, refl, ◌∙◌, arith, inl, inr, ap}
 use Rattle.std.proofs.lemmas.Bool.Decides.{eqb_tells}
 use Rattle.std.proofs.lemmas.List.{get_or-set_same, get_or-set_other, get_or_default, length-set, take-append-drop}
 use Rattle.std.specs.Int.{bit_at}
 use Rattle.std.proofs.lemmas.Nat.Bits.{bit_at-zero}
 use Rattle.std.proofs.lemmas.List.Elements.{recursion_from_All, All-from_recursion}
-use Rattle.intaglio_index.specs.Placed.{Placed, chain, chain_from, head_of, symbols_of}
+use Rattle.intaglio_index.specs.Placed.{chain_from, symbols_of}
 use Rattle.intaglio_index.specs.Filter.{IsMarked, IsFiltered}
 use Rattle.intaglio_index.proofs.ChainLemmas.{Each-weaker, Each-left, Each-append, chain-complete}
 
@@ -38,16 +37,6 @@ filtered-take filters count hashes n filtered = record {
   marks = Each-left (λ hash. IsMarked (get_or filters (hash % count) 0) hash) (take n hashes) (drop n hashes) (rw (take-append-drop n hashes) filtered.marks);
 }
 
--- a hash whose bit is not set was not placed
-pub not_marked : (filters : List ℕ) (count : ℕ) (hashes : List ℕ) (hash : ℕ) → IsFiltered filters count hashes → (IsMarked (get_or filters (hash % count) 0) hash → ⊥) →
-    AllByRecursion (λ placed. placed ≢ hash) hashes
-not_marked filters count hashes hash filtered unset =
-    Each-weaker _ _ (λ placed m e. unset (subst (λ p. IsMarked (get_or filters (p % count) 0) p) e m)) hashes filtered.marks
-
-pub nil_head : (es : List (ℕ × ℕ)) → None ≡ head_of es → es ≡ []
-nil_head [] e = refl
-nil_head (x ∷ xs) e = cc
-
 -- a filter whose bucket is empty needs no bit
 pub filtered_vacated : (filters : List ℕ) (count : ℕ) (hashes : List ℕ) (k : ℕ) → IsFiltered filters count hashes → chain_from count k 0 [] hashes ≡ [] → IsFiltered (set filters k 0) count hashes
 filtered_vacated filters count hashes k filtered none =
@@ -66,17 +55,6 @@ filtered_vacated filters count hashes k filtered none =
 -- a filter with a bit is not 0
 pub marked_some : (filter hash : ℕ) → IsMarked filter hash → filter ≡ 0 → ⊥
 marked_some filter hash m none = (let zero_bit : bit_at 0 (hash / 2 ^ 61) ≡ 0 = bit_at-zero (hash / 2 ^ 61) in let one : bit_at 0 (hash / 2 ^ 61) ≡ 1 = rw none at m in omega arith)
-
--- nor was one whose bucket is empty
-pub not_in_empty : (v : Placed) (hash : ℕ) → None ≡ head_of (chain v (hash % v.count)) → AllByRecursion (λ placed. placed ≢ hash) v.hashes
-unfolding chain
-not_in_empty v hash none =
-    let empty : chain_from v.count (hash % v.count) 0 [] v.hashes ≡ [] = nil_head _ none in
-    recursion_from_All (λ placed. placed ≢ hash) v.hashes (λ i d l e.
-    (let at : get_or v.hashes i 0 ≡ hash = get_or_default v.hashes i 0 d l ∙ e in
-    let found = chain-complete v.count (hash % v.count) v.hashes i l (rw at refl) in
-    let within : found.0 < length (symbols_of (chain_from v.count (hash % v.count) 0 [] v.hashes)) = found.1 in
-    absurd (omega (arith, rw empty at within))))
 
 zero_at : (n b : ℕ) → ◌≡◌ {A = ℕ} (get_or (replicate n 0) b 0) 0
 zero_at zero b = refl

@@ -6,12 +6,12 @@ use Rattle.std.proofs.lemmas.Bool.{eqb-false, cases_lt, true≢false, false≢tr
 use Rattle.std.proofs.lemmas.Bool.Decides.{eqb_tells}
 use Rattle.std.proofs.lemmas.List.{get_or-set_same, get_or-set_other, length-set, set-get_or, map-append, get_or_read}
 use Rattle.intaglio_index.specs.declared.index.head.Head.{Head}
-use Rattle.intaglio_index.specs.Links.{IsThread, entry_of, next_of}
+use Rattle.intaglio_index.specs.Links.{IsThread, next_of}
 use Rattle.intaglio_index.specs.Placed.{Placed, chain, IsEntry, chain_from, first_symbol_of, symbols_of, insert_sorted, BeginsAtOrAbove, IsPredecessor}
 use Rattle.intaglio_index.specs.Heads.{IsWord, IsHead, IsHeaded}
 use Rattle.intaglio_index.proofs.ChainLemmas.{put_some, insert_sorted-between, chain_grows, chain_stays, Each-right, Each-weaker, InOrder, chain-in_order, chain-entries}
 use Rattle.intaglio_index.proofs.WalkLemmas.{distinct}
-use Rattle.intaglio_index.proofs.Words.{block_below, below_block, word_same, word_moved}
+use Rattle.intaglio_index.proofs.Words.{block_below, below_block, word_same}
 
 abbrev pub no_head : Head
 no_head = record { first = 0; second = 0 }
@@ -22,10 +22,6 @@ neither f g = (λ a. absurd (f a), λ b. absurd (g b))
 pub nil_leader : (es : List (ℕ × ℕ)) → None ≡ first_symbol_of es → es ≡ []
 nil_leader [] e = refl
 nil_leader (x ∷ xs) e = cc
-
-pub some_leader : (es : List (ℕ × ℕ)) (s : ℕ) → Some s ≡ first_symbol_of es → (e : ℕ × ℕ) × (rest : List (ℕ × ℕ)) × (es ≡ e ∷ rest) × (s ≡ e.0)
-some_leader [] s e = cc
-some_leader (x ∷ xs) s e = (x, xs, refl, cc)
 
 pub led_some : (es : List (ℕ × ℕ)) (s : ℕ) → Some s ≡ first_symbol_of es → es ≡ [] → ⊥
 led_some [] s e none = (let never = e in cc)
@@ -189,36 +185,6 @@ module _ (hashes links : List ℕ) (s : ℕ) where
       let some : next_of links s ≡ Some f.0 = ap (next_of links) same ∙ t.path.1.0 in
       let number : next ≡ f.0 = cc in
       omega (arith, number, t.read.1.0.0)
-
-  hash_same : (x : ℕ × ℕ) → s ≡ x.0 → get_or hashes x.0 0 ≡ x.1 → (entry_of hashes s).1 ≡ x.1
-  hash_same x same read = ap (λ n. get_or hashes n 0) same ∙ read
-
-  pub head_of_one : (size : ℕ) (some : 0 < size) (first : ℕ) (path : List (ℕ × ℕ)) → IsThread hashes links (Some s) path → next_of links s ≡ None → IsWord size (entry_of hashes s) first →
-      IsHead size (record { first = first; second = first }) path
-  head_of_one size some first [] t e w = tt
-  head_of_one size some first (x ∷ []) t e w =
-      let same : s ≡ x.0 = (let q = t.path.0 in cc) in
-      let word : IsWord size x first = word_moved size some (entry_of hashes s) x first same (hash_same x same t.read.0.1) w in
-      (word, word)
-  head_of_one size some first (x ∷ f ∷ fs) t e w =
-      let same : s ≡ x.0 = (let q = t.path.0 in cc) in
-      let next : next_of links s ≡ Some f.0 = ap (next_of links) same ∙ t.path.1.0 in
-      cc
-
-  pub head_of_two : (size : ℕ) (some : 0 < size) (first second next : ℕ) (path : List (ℕ × ℕ)) → IsThread hashes links (Some s) path → next_of links s ≡ Some next →
-      IsWord size (entry_of hashes s) first → IsWord size (entry_of hashes next) second → IsHead size (record { first = first; second = second }) path
-  head_of_two size some first second next [] t e w v = tt
-  head_of_two size some first second next (x ∷ []) t e w v =
-      let same : s ≡ x.0 = (let q = t.path.0 in cc) in
-      let none : next_of links s ≡ None = ap (next_of links) same ∙ t.path.1 in
-      cc
-  head_of_two size some first second next (x ∷ f ∷ fs) t e w v =
-      let same : s ≡ x.0 = (let q = t.path.0 in cc) in
-      let is : next_of links s ≡ Some f.0 = ap (next_of links) same ∙ t.path.1.0 in
-      let number : next ≡ f.0 = cc in (
-        word_moved size some (entry_of hashes s) x first same (hash_same x same t.read.0.1) w,
-        word_moved size some (entry_of hashes next) f second number (ap (λ n. get_or hashes n 0) number ∙ t.read.1.0.1) v,
-      )
 
 -- a bucket with a symbol, and its head
 pub record IsOccupied (v : Placed) (k size : ℕ) (head : Head) : Type 0 where

@@ -94,10 +94,6 @@ module _ (size : ℕ) (some : 0 < size) where
   pub word_is : (h s : ℕ) → s < size → IsWord size (s, h) (h / size * size + s)
   word_is h s l = (div-mul-add (h / size) size s l, mod-mul-add (h / size) size s l)
 
-  -- a word is one of each entry with the same symbol and hash
-  pub word_moved : (a b : ℕ × ℕ) (word : ℕ) → a.0 ≡ b.0 → a.1 ≡ b.1 → IsWord size a word → IsWord size b word
-  word_moved a b word p q w = (w.0 ∙ ap (λ n. n / size) q, w.1 ∙ p)
-
   -- a word is told by its entry
   pub word_same : (e : ℕ × ℕ) (a b : ℕ) → IsWord size e a → IsWord size e b → a ≡ b
   word_same e a b p q =
