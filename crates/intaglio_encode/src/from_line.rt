@@ -54,7 +54,7 @@ impl<'a> FromLine<'a, Vec<StrContent>> for StrContent {
     ghost allows_nothing = { IsUtf8-nil };
 
     fn from_line(line: &'a [u8]) -> Option<&'a str> {
-        Some(str::from_utf8(line).unwrap())
+        Some(unsafe { str::from_utf8_unchecked(line) })
     }
 }
 
@@ -70,7 +70,7 @@ impl<'a> FromLine<'a, Vec<OsStrContent>> for OsStrContent {
     ghost allows_nothing = { IsUtf8-nil };
 
     fn from_line(line: &'a [u8]) -> Option<&'a str> {
-        Some(str::from_utf8(line).unwrap())
+        Some(unsafe { str::from_utf8_unchecked(line) })
     }
 }
 
@@ -86,7 +86,7 @@ impl<'a> FromLine<'a, Vec<PathContent>> for PathContent {
     ghost allows_nothing = { IsUtf8-nil };
 
     fn from_line(line: &'a [u8]) -> Option<Path<'a>> {
-        Some(Path::new(str::from_utf8(line).unwrap()))
+        Some(Path::new(unsafe { str::from_utf8_unchecked(line) }))
     }
 }
 
