@@ -3,13 +3,14 @@
 use Rattle.std.proofs.Common.{◌≡◌, ◌≢◌, ◌∙◌, ap, refl, sym, arith, ℕ, zero, suc, ◌+◌, ◌<◌, Bool, true, false, cond, List, [], ◌∷◌, ◌++◌, length, map, take, get_or, length-append, Option, Some, None, option_map, is_some, MatchOption, Result, Ok}
 use Rattle.std.specs.Prelude.{slice_get, ◌↔◌, IsTrue, Contains, AllPairs}
 use Rattle.std.proofs.lemmas.List.{length-map, map-append}
+use Rattle.std.proofs.lemmas.Option.{same_Some}
 use Rattle.intaglio_content.specs.Key.{Key}
 use Rattle.intaglio_symbol.specs.declared.error.InternError.{InternError}
 use Rattle.intaglio_core.specs.State.{State, key_eq, first_of, first, IsValid}
 use Rattle.intaglio_core.specs.Change.{Empties, IsAppended, Interns, IsCopyAppended, InternsForm}
 use Rattle.intaglio_core.specs.Lookup.{IsFound, FindsNothing, IsStored, Keeps}
 use Rattle.intaglio_core.specs.Issue.{issue_from, interned_all}
-use Rattle.intaglio_core.proofs.First.{key_eq-decides}
+use Rattle.intaglio_core.proofs.First.{key_eq-decides, some-below}
 use Rattle.intaglio_core.proofs.Laws as below
 use Rattle.intaglio.specs.Grows.{Grows, GrowsByForm}
 
@@ -49,7 +50,7 @@ module _ {C : Type 0} (key : C → Key) where
 
   -- a symbol that is found is below the number of contents
   pub found_below : (s : State C) (k : Key) (i : ℕ) → IsFound key s k i → i < length s.contents
-  found_below = below.found-below key
+  found_below s k i e = omega (arith, some-below (map key s.contents) k i e, length-map s.contents key)
 
   -- a content is found at its symbol
   pub stored_found : (s : State C) (k : Key) (i : ℕ) → IsValid key s → IsStored key s k i → IsFound key s k i
@@ -57,15 +58,18 @@ module _ {C : Type 0} (key : C → Key) where
 
   -- equal contents have the same symbol, and different ones different symbols
   pub same_symbol : (s : State C) (k l : Key) (i j : ℕ) → IsFound key s k i → IsFound key s l j → (k ≡ l) ↔ (i ≡ j)
-  same_symbol = below.same_symbol key
+  same_symbol s k l i j a b = (
+    λ e. same_Some i j (sym a ∙ ap (λ (x : Key). first key s.contents x) e ∙ b),
+    λ e. same_Some k l (sym (first_key s.contents k i a) ∙ ap (λ (n : ℕ). option_map key (slice_get s.contents n)) e ∙ first_key s.contents l j b),
+  )
 
   -- if there are no contents, nothing is found
   pub empty_finds_nothing : (s : State C) → s.contents ≡ [] → FindsNothing key s
-  empty_finds_nothing = below.empty-finds_nothing key
+  empty_finds_nothing s e k = rw e refl
 
   -- after a clear nothing is found
   pub cleared_finds_nothing : (old new : State C) → Empties old new → FindsNothing key new
-  cleared_finds_nothing = below.cleared-finds_nothing key
+  cleared_finds_nothing old new step = empty_finds_nothing new step.contents
 
   -- the same contents are found at the same symbols
   pub same_contents_keeps : (old new : State C) → new.contents ≡ old.contents → Keeps key old new

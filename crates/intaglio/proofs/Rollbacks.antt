@@ -1,11 +1,11 @@
 -- What a rollback to a mark restores, if every call since the mark kept the contents.
-use Rattle.std.proofs.Common.{◌≡◌, ◌≤◌, ap, refl, arith, List, length, take, Result, Ok, Err, IsOk}
+use Rattle.std.proofs.Common.{◌≡◌, ◌≤◌, ◌∙◌, ap, refl, arith, List, length, take, Result, Ok, Err, IsOk}
 use Rattle.std.proofs.lemmas.List.{length-take}
 use Rattle.intaglio_content.specs.Key.{Key}
 use Rattle.intaglio_core.specs.State.{State}
 use Rattle.intaglio_core.specs.Change.{TakesBack}
 use Rattle.intaglio_core.specs.Lookup.{Keeps}
-use Rattle.intaglio_core.proofs.Laws.{keeps-front, restored}
+use Rattle.intaglio_core.proofs.Laws.{keeps-front}
 use Rattle.intaglio_symbol.specs.declared.error.StaleMark.{StaleMark}
 
 module _ {C : Type 0} (key : C → Key) where
@@ -23,5 +23,5 @@ module _ {C : Type 0} (key : C → Key) where
 
     -- and the contents are those at the time of the mark
     pub rolled_back : (r : Result (Unit {0}) StaleMark) → TakesBack next (length old.contents) r new → new.contents ≡ old.contents
-    rolled_back (Ok _) step = restored key old next new kept step
+    rolled_back (Ok _) step = step.contents ∙ keeps-front key old next kept
     rolled_back (Err _) step = let le = kept_count old next kept in let lt = step.0 in absurd (omega arith)

@@ -19,12 +19,13 @@ mod text;
 
 pub use error::TableError;
 pub use intaglio_core::{
-    AddedTo, AllSymbols, ByteStore, Bytewise, Call, Content, Copied, CopiedTo, Core,
+    AddedTo, AllSymbols, ByteStore, Bytewise, Content, Copied, CopiedTo, Core,
     DEFAULT_SYMBOL_TABLE_CAPACITY, FormInterner, Formed, Forms, Index, IndexedStore, InternError,
-    Interner, Keyed, Lends, LookedUp, LookedUpIn, Mark, Moved, Pairs, Reply, RoomError, Sought,
-    SoughtIn, Spelled, SpelledStore, StaleMark, Store, StoreForms, StorePairs, Symbol,
-    SymbolOverflowError, ToContent, Work, check_all, get_or_intern_all, intern_all, run,
+    Interner, Keyed, Lends, LookedUp, LookedUpIn, Mark, Moved, Pairs, RoomError, Sought, SoughtIn,
+    Spelled, SpelledStore, StaleMark, Store, StoreForms, StorePairs, Symbol, SymbolOverflowError,
+    ToContent, Work, check_all, get_or_intern_all, intern_all,
 };
+pub use intaglio_run::{Call, Reply, run};
 pub use intaglio_text::StrContent;
 pub use table::{Table, TableOver};
 pub use text::{Iter, Strings, SymbolTable};

@@ -281,10 +281,6 @@ module _ (hash : Key → ℕ) (count : ℕ) (keys : List Key) (k : Key) (path : 
   pub in_range : (s o : ℕ) (events : List Event) → IsAlong hash keys k path (Some (s, o)) events → s < length keys
   in_range s o events at = (candidate_hashed (s, o) events at).0
 
-  -- a key with another hash is another key
-  pub hash_differs : (s o : ℕ) (events : List Event) → IsAlong hash keys k path (Some (s, o)) events → hash k ≢ o → key_at hash keys k s ≢ k
-  hash_differs s o events at differ = λ e. differ (sym (ap hash e) ∙ (candidate_hashed (s, o) events at).1)
-
   -- beyond a greater hash no key is the sought one
   rest_differs : (at_path seen rest : List (ℕ × ℕ)) (candidate : Option (ℕ × ℕ)) → path ≡ seen ++ rest → candidate ≡ head_of rest → MatchOption candidate (Unit {0}) (λ e. hash k < e.1) → AllByRecursion (λ (e : ℕ × ℕ). key_at hash keys k e.0 ≢ k) rest
   rest_differs at_path seen [] candidate split next m = tt

@@ -10,7 +10,7 @@ use Rattle.intaglio_core.specs.Change.{AddsNew, InternsValue, IsOutOfMemory, Tak
 use Rattle.intaglio_core.specs.Lookup.{Keeps, FindsEach, StoresEach, FindsEachKey, StoresEachKey}
 use Rattle.intaglio_core.specs.Cost.{Adds, KnownSearchCost, KnownInternCost}
 use Rattle.intaglio_core.specs.Issue.{issued, interned, issue_from, interned_all}
-use Rattle.intaglio_core.specs.Batch.{IfOverflow, StaysValid, hashed_ahead, InGroups, IsInterning, InternsEach, InternsAll, FailsEach, RefusedCost}
+use Rattle.intaglio_core.specs.Batch.{IfOverflow, StaysValid, hashed_ahead, InGroups, IsInterning, InternsEach, InternsAll, FailsEach}
 use Rattle.intaglio_core.proofs.Issue.{added-as, shows-key}
 use Rattle.intaglio_core.proofs.Groups.{Adds-ahead}
 use Rattle.intaglio_core.proofs.Room.{interns-roomier}
@@ -35,22 +35,6 @@ taken-back {C} old mid new n (Err e) at front step =
     ap (λ (s : State C). s.contents) step.1 ∙ sym whole ∙ front
 
 module _ {C : Type 0} (key : C → Key) where
-  -- a rollback keeps the table
-  pub keeps-cut : (h now later : Key → ℕ) (old mid new : State C) (n : ℕ) (result : Result (Unit {0}) StaleMark)
-      → StaysValid key h old now mid → TakesBack mid n result new → later ≡ now → IsValid key new → StaysValid key h old later new
-  keeps-cut h now later old mid new n (Ok u) kept step same valid = record {
-    capacity = omega (arith, kept.capacity, step.spare);
-    limit = step.limit ∙ kept.limit;
-    same_hash = same ∙ kept.same_hash;
-    valid = valid;
-  }
-  keeps-cut h now later old mid new n (Err e) kept step same valid = record {
-    capacity = rw step.1 kept.capacity;
-    limit = ap (λ (s : State C). s.limit) step.1 ∙ kept.limit;
-    same_hash = same ∙ kept.same_hash;
-    valid = valid;
-  }
-
   out-limit : (copies : Bool) (old new : State C) → IsOutOfMemory copies old new → new.limit ≡ old.limit
   out-limit false old new h = h.limit
   out-limit true old new (inl h) = ap (λ (s : State C). s.limit) h.same
@@ -239,12 +223,3 @@ module _ {C Q : Type 0} (key : C → Key) (value_key : Q → Key) (adds : Q → 
       fails = step;
     }),
   )
-
-  some-cost : (old new : State C) (qs : List Q) (e : InternError) (cost : List Event) → FailsEach key value_key adds copies hash old qs e cost new → RefusedCost key value_key adds copies hash old qs cost
-  some-cost old new qs e cost (inl none) = inl none.0
-  some-cost old new qs e cost (inr up) = inr up.some
-
-  -- and what a batch costs that failed
-  pub refused-cost : (old new : State C) (qs : List Q) (e : InternError) (before after : List Event)
-      → Adds before after (λ cost. FailsEach key value_key adds copies hash old qs e cost new) → Adds before after (RefusedCost key value_key adds copies hash old qs)
-  refused-cost old new qs e before after run = (run.0, run.1, some-cost old new qs e run.0 run.2)

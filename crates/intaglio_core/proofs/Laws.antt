@@ -1,14 +1,14 @@
 -- What holds of look-ups, for the proofs of callers: what is found after an interning, a rollback or a clear, and where.
 use Rattle.std.proofs.Common.{◌≡◌, ◌≢◌, ◌∙◌, sym, ap, refl, arith, ℕ, zero, suc, ◌+◌, ◌<◌, ◌≤◌, Bool, true, false, cond, List, [], ◌∷◌, ◌++◌, length, map, take, drop, get_or, Option, Some, None, option_map, option_copied, unwrap_or, is_some, MatchOption, Result, Ok, Err, IfSome, inl, inr}
-use Rattle.std.specs.Prelude.{slice_get, ◌↔◌}
+use Rattle.std.specs.Prelude.{slice_get}
 use Rattle.std.specs.Borrow.{Bor}
 use Rattle.std.proofs.lemmas.Option.{same_Some, slice_get_within, get_or_from_slice_get}
 use Rattle.std.proofs.lemmas.List.{length-map, get_or-map, length-take-le, take-append-drop}
 use Rattle.intaglio_content.specs.Key.{Key}
-use Rattle.intaglio_content.specs.Store.{IsAddedOne, IsMoved, IsPushed}
+use Rattle.intaglio_content.specs.Store.{IsAddedOne, IsMoved}
 use Rattle.intaglio_core.specs.State.{State, key_eq, first, IsValid}
-use Rattle.intaglio_core.specs.Change.{AddsNew, Interns, InternsValue, InternsForm, IsAppended, IsOutOfMemory, IsTruncated, Empties}
-use Rattle.intaglio_core.specs.Lookup.{IsFound, FindsNothing, FindsOthers, FindsInterned, IsStored, Keeps, KeepsBelow, FindsEach}
+use Rattle.intaglio_core.specs.Change.{AddsNew, Interns, InternsValue, IsAppended, IsOutOfMemory}
+use Rattle.intaglio_core.specs.Lookup.{IsFound, FindsOthers, FindsInterned, IsStored, Keeps, KeepsBelow, FindsEach}
 use Rattle.intaglio_core.specs.Issue.{issued, interned, issue_from, interned_all}
 use Rattle.intaglio_core.proofs.First.{key_eq-decides, key_eq-unequal, first-append, first-some, some-below, or_at}
 use Rattle.intaglio_core.proofs.Held.{first-still, slice_get-front}
@@ -77,10 +77,6 @@ module _ {C : Type 0} (key : C → Key) where
       let h = mapped-some key (slice_get s.contents i) k (first-key s.contents k i e) in
       record { content = h.0; stands = h.1; same_key = h.2 }
 
-  -- a symbol that is found is below the number of contents
-  pub found-below : (s : State C) (k : Key) (i : ℕ) → IsFound key s k i → i < length s.contents
-  found-below s k i e = omega (arith, some-below (map key s.contents) k i e, length-map s.contents key)
-
   -- a content is found at its symbol
   pub stored-found : (s : State C) (k : Key) (i : ℕ) → IsValid key s → IsStored key s k i → IsFound key s k i
   stored-found s k i valid is =
@@ -101,21 +97,6 @@ module _ {C : Type 0} (key : C → Key) where
   pub read-found : (s : State C) (i : ℕ) (r : Option (Bor C)) → IsValid key s → option_copied r ≡ slice_get s.contents i → IfSome r (λ c. IsFound key s (key c.now) i)
   read-found s i None valid e = tt
   read-found s i (Some c) valid e = stored-found s (key c.now) i valid (record { content = c.now; stands = sym e; same_key = refl })
-
-  -- equal contents have the same symbol, and different ones different symbols
-  pub same_symbol : (s : State C) (k l : Key) (i j : ℕ) → IsFound key s k i → IsFound key s l j → (k ≡ l) ↔ (i ≡ j)
-  same_symbol s k l i j a b = (
-    λ e. same_Some i j (sym a ∙ ap (λ (x : Key). first key s.contents x) e ∙ b),
-    λ e. same_Some k l (sym (first-key s.contents k i a) ∙ ap (λ (n : ℕ). option_map key (slice_get s.contents n)) e ∙ first-key s.contents l j b),
-  )
-
-  -- where there is no content, nothing is found
-  pub empty-finds_nothing : (s : State C) → s.contents ≡ [] → FindsNothing key s
-  empty-finds_nothing s e k = rw e refl
-
-  -- after a clear nothing is found
-  pub cleared-finds_nothing : (old new : State C) → Empties old new → FindsNothing key new
-  cleared-finds_nothing old new step = empty-finds_nothing new step.contents
 
   has : (o : Option ℕ) (held : List C) (c : C) → first key held (key c) ≡ o → first key (cond (is_some o) held (held ++ c ∷ [])) (key c) ≡ Some (unwrap_or o (length held))
   has None held c e = rw (first-append key held (c ∷ []) (key c), e, (key_eq-decides (key c) (key c)).1 refl) (ap Some (omega arith))
@@ -234,21 +215,6 @@ module _ {C : Type 0} (key : C → Key) where
     pub interns-clauses : (old new : State C) (r : Result ℕ InternError) → InternsValue key adds copies old k r new → FindsInterned key old k r new
     interns-clauses old new r step = by_look_up (first key old.contents k) old new r refl step
 
-  -- what adds a content with a key and a spelling is interned as the copy of a form
-  module _ (spelling : C → List ℕ) (adds : List C → List C → Type 0) (copies : Bool) (k : Key) (w : List ℕ) (copy : (a b : List C) → adds a b → IsPushed key spelling k w a b) where
-    out-form : (kind : Bool) (old new : State C) → IsOutOfMemory kind old new → IsOutOfMemory true old new
-    out-form false old new h = inr h
-    out-form true old new h = h
-
-    form-by : (o : Option ℕ) (old new : State C) (r : Result ℕ InternError) → MatchOption o (AddsNew adds copies old r new) (λ i. (r ≡ Ok i) × (new ≡ old)) → MatchOption o (AddsNew (IsPushed key spelling k w) true old r new) (λ i. (r ≡ Ok i) × (new ≡ old))
-    form-by None old new (Ok i) h = record { below_limit = h.below_limit; position = h.position; contents = copy old.contents new.contents h.contents; spare = h.spare; growth = h.growth; limit = h.limit }
-    form-by None old new (Err (intern_error.Overflow e)) h = h
-    form-by None old new (Err (intern_error.Memory e)) h = out-form copies old new h
-    form-by (Some i) old new r h = h
-
-    pub interns-form : (old new : State C) (r : Result ℕ InternError) → InternsValue key adds copies old k r new → InternsForm key spelling old k w r new
-    interns-form old new r h = form-by (first key old.contents k) old new r h
-
   -- where only the first n contents are left, their symbols are kept, and nothing else is found
   pub cut-keeps : (old : State C) (n : ℕ) (new : State C) → n ≤ length old.contents → new.contents ≡ take n old.contents → KeepsBelow key old n new
   cut-keeps old n new le cut =
@@ -264,10 +230,6 @@ module _ {C : Type 0} (key : C → Key) where
         absent = λ k e. rw cut (or_at-none n _ _ (sym (parts k) ∙ e));
         below = λ k i e. below k i (rw cut at e);
       }
-
-  -- a rollback keeps the symbols below the mark, and nothing else is found
-  pub rolled_back-keeps : (old : State C) (n : ℕ) (new : State C) → IsTruncated old n new → KeepsBelow key old n new
-  rolled_back-keeps old n new cut = cut-keeps old n new cut.within cut.contents
 
   -- after contents came in order, each is found at the symbol that it was given
   pub issued-each : (held cs : List C) (n : ℕ) (c : C) (i : ℕ) → slice_get cs n ≡ Some c → slice_get (issue_from key held cs) n ≡ Some i → first key (interned_all key held cs) (key c) ≡ Some i
@@ -289,7 +251,3 @@ module _ {C : Type 0} (key : C → Key) where
   -- what is kept stands at the front
   pub keeps-front : (old new : State C) → Keeps key old new → take (length old.contents) new.contents ≡ old.contents
   keeps-front old new kept = take-front old.contents new.contents kept.stored
-
-  -- a rollback to a mark restores the contents that stood when the mark was made, if they were kept since
-  pub restored : (old next new : State C) → Keeps key old next → IsTruncated next (length old.contents) new → new.contents ≡ old.contents
-  restored old next new kept cut = cut.contents ∙ keeps-front old next kept

@@ -3,17 +3,12 @@ pub mod Along
 pub mod Walking
 pub mod Kept
 pub mod Spent
-pub mod LookUps
 pub mod Issue
-pub mod Growth
 pub mod Room
 pub mod Rounded
-pub mod InOrder
 pub mod Held
 pub mod Groups
 pub mod Each
 pub mod Laws
 pub mod OnResult
-pub mod Alike
 pub mod FewerBuckets
-pub mod Bytes

@@ -4,11 +4,7 @@ pub mod Change
 pub mod Lookup
 pub mod Capacity
 pub mod Cost
-pub mod Step
-pub mod Run
-pub mod Alike
 pub mod Issue
-pub mod Pattern
 pub mod Indexed
 pub mod Batch
 pub mod Bytes

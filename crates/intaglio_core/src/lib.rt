@@ -2,14 +2,13 @@
 //!
 //! [`IndexedStore`] gives each distinct content the next number, and returns the content for its number. The
 //! contents may be in any [`Store`]; [`Core`] keeps owned ones, in a `Vec`, and the tables of the crates above are
-//! thin types over it. [`FormInterner`] says what every table does, [`Interner`] what those with
-//! owned contents do besides, and [`run`] makes a list of calls on any of those.
+//! thin types over it. [`FormInterner`] says what every table does, and [`Interner`] what those with
+//! owned contents do besides.
 #![tactic(auto)]
 
 mod batch;
 pub mod indexed_store;
 pub mod interner;
-mod runs;
 
 pub use batch::{GROUP, check_all, get_or_intern_all, intern_all, look_ahead, touch_all};
 pub use indexed_store::{Core, IndexedStore};
@@ -24,4 +23,3 @@ pub use intaglio_symbol::{
     SymbolOverflowError,
 };
 pub use interner::{FormInterner, Interner};
-pub use runs::{Call, Reply, run};

@@ -1,4 +1,4 @@
-use Rattle.intaglio_core.proofs.Laws.{interns-form}
+use Rattle.intaglio.proofs.AsForms.{interns-form}
 use Rattle.intaglio.proofs.table.TableOver.get_or_intern.Goals as goal
 
 pub returns-clause-step : goal.returns-clause-step

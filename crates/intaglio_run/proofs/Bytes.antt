@@ -1,37 +1,20 @@
--- The room for bytes over batches and runs.
-use Rattle.std.proofs.Common.{◌≡◌, ◌≢◌, ℕ, ◌+◌, ◌<◌, ◌≤◌, List, [], ◌∷◌, ◌++◌, length, map, All, Option, Some, None, Ok, Err, Result, OnErr, MatchOption, is_err, Bool, false, refl, sym, ap, ◌∙◌, arith, length-append}
+-- The room for bytes over a run.
+use Rattle.std.proofs.Common.{◌≡◌, ◌≢◌, ℕ, ◌+◌, ◌<◌, ◌≤◌, List, [], ◌∷◌, ◌++◌, length, map, All, Option, Some, None, Ok, Result, MatchOption, Bool, refl, sym, ap, ◌∙◌, arith, length-append}
 use Rattle.std.specs.Prelude.{sum_by}
 use Rattle.std.proofs.Math.Seq.{get_or-append_seam}
 use Rattle.std.proofs.lemmas.List.{length-map}
 use Rattle.std.proofs.lemmas.List.Elements.{All-nil, All-push}
 use Rattle.std.proofs.lemmas.List.Sums.{sum_by-cons}
 use Rattle.intaglio_content.specs.Key.{Key}
-use Rattle.intaglio_content.specs.Store.{byte_room}
 use Rattle.intaglio_core.specs.State.{State, first}
-use Rattle.intaglio_core.specs.Bytes.{KeepsBytes}
 use Rattle.intaglio_core.specs.Change.{IsAdded}
-use Rattle.intaglio_core.specs.Step.{Step}
-use Rattle.intaglio_core.specs.Run.{UsesRoom}
+use Rattle.intaglio_run.specs.Step.{Step}
+use Rattle.intaglio_run.specs.Run.{UsesRoom}
 use Rattle.intaglio_symbol.specs.declared.error.InternError.{InternError}
-use Rattle.intaglio_core.specs.declared.runs.Call.{Call}
-use Rattle.intaglio_core.specs.declared.runs.Call.TheVariants.{Intern}
-use Rattle.intaglio_core.specs.declared.runs.Reply.{Reply}
-use Rattle.intaglio_core.specs.declared.runs.Reply.TheVariants as reply
-
--- a batch that was rolled back
-pub rolled-back : {C R E : Type 0} (takes : C → ℕ) (n : ℕ) (old mid new : List C) (bytes between bytes' : ℕ) (result : Result R E)
-    → byte_room takes old bytes ≤ byte_room takes mid between → byte_room takes new bytes' ≡ byte_room takes mid between → new ≡ old → KeepsBytes takes n old bytes result new bytes'
-rolled-back takes n old mid new bytes between bytes' result kept back same =
-    let total : byte_room takes old bytes ≤ byte_room takes new bytes' = omega (arith, kept, back) in
-    let sums : sum_by takes new ≡ sum_by takes old = ap (λ cs. sum_by takes cs) same in
-    let more : bytes ≤ bytes' = omega (arith, total, sums) in
-    record { taken = omega (arith, more); room = total; refused = elim result as (λ r. OnErr r (bytes ≤ bytes')) [ Ok _ ↦ tt | Err _ ↦ more ] }
-
--- and one that wasn't
-pub not-refused : {C R E : Type 0} (takes : C → ℕ) (n : ℕ) (old new : List C) (bytes bytes' : ℕ) (result : Result R E)
-    → is_err result ≡ false → bytes ≤ bytes' + n → byte_room takes old bytes ≤ byte_room takes new bytes' → KeepsBytes takes n old bytes result new bytes'
-not-refused takes n old new bytes bytes' (Ok v) is taken kept = record { taken = taken; room = kept; refused = tt }
-not-refused takes n old new bytes bytes' (Err e) is taken kept = cc
+use Rattle.intaglio_run.specs.declared.runs.Call.{Call}
+use Rattle.intaglio_run.specs.declared.runs.Call.TheVariants.{Intern}
+use Rattle.intaglio_run.specs.declared.runs.Reply.{Reply}
+use Rattle.intaglio_run.specs.declared.runs.Reply.TheVariants as reply
 
 -- what holds of all holds of the next one
 pub All-next : {X : Type 0} (P : X → Type 0) (all xs rest : List X) (x : X) (ys : List X) → xs ++ rest ≡ all → rest ≡ x ∷ ys → All P all → P x

@@ -3,10 +3,10 @@ use Rattle.std.specs.Prelude.{◌≡◌, ◌≢◌, ℕ, Bool, List, map, Option
 use Rattle.intaglio_content.specs.Key.{Key}
 use Rattle.intaglio_content.specs.Work.{Event}
 use Rattle.intaglio_core.specs.State.{State}
-use Rattle.intaglio_core.specs.Run.{Runs}
-use Rattle.intaglio_core.specs.declared.runs.Call.{Call}
-use Rattle.intaglio_core.specs.declared.runs.Reply.{Reply}
-use Rattle.intaglio_core.specs.declared.runs.Reply.TheVariants as reply
+use Rattle.intaglio_run.specs.Run.{Runs}
+use Rattle.intaglio_run.specs.declared.runs.Call.{Call}
+use Rattle.intaglio_run.specs.declared.runs.Reply.{Reply}
+use Rattle.intaglio_run.specs.declared.runs.Reply.TheVariants as reply
 
 -- what a reply says: a spelling is compared by its bytes, wherever they lie in memory
 pub data Seen : Type 0 where

@@ -8,16 +8,16 @@ use Rattle.intaglio_content.specs.Work.{Event, hashed, compared, step, placed}
 use Rattle.intaglio_core.specs.State.{State, first}
 use Rattle.intaglio_core.specs.Change.{IsAdded, IsRefused, IsOutOfMemory}
 use Rattle.intaglio_core.specs.Cost.{InOrder, hashed_keys, placed_count, SearchCost, IsAddingCost}
-use Rattle.intaglio_core.specs.Step.{Step, StepCost}
-use Rattle.intaglio_core.specs.Run.{RunsValues, IsCall, KeepsContents, HonoursRoom, searched_keys}
-use Rattle.intaglio_core.proofs.InOrder.{hashed_keys-append, InOrder-hash}
-use Rattle.intaglio_core.proofs.LookUps.{check-same, is_interned-same, contains-same, len-same, is_empty-same}
+use Rattle.intaglio_run.specs.Step.{Step, StepCost}
+use Rattle.intaglio_run.specs.Run.{RunsValues, IsCall, KeepsContents, HonoursRoom, searched_keys}
+use Rattle.intaglio_run.proofs.InOrder.{hashed_keys-append, InOrder-hash}
+use Rattle.intaglio_run.proofs.LookUps.{check-same, is_interned-same, contains-same, len-same, is_empty-same}
 use Rattle.intaglio_symbol.specs.declared.error.InternError.TheVariants as error
 use Rattle.intaglio_symbol.specs.declared.error.InternError.{InternError}
-use Rattle.intaglio_core.specs.declared.runs.Call.{Call}
-use Rattle.intaglio_core.specs.declared.runs.Call.TheVariants.{Intern, Check, GetInterned, IsInterned, Contains, Get, Len, IsEmpty, Reserve, ShrinkTo, ShrinkToFit}
-use Rattle.intaglio_core.specs.declared.runs.Reply.{Reply}
-use Rattle.intaglio_core.specs.declared.runs.Reply.TheVariants as reply
+use Rattle.intaglio_run.specs.declared.runs.Call.{Call}
+use Rattle.intaglio_run.specs.declared.runs.Call.TheVariants.{Intern, Check, GetInterned, IsInterned, Contains, Get, Len, IsEmpty, Reserve, ShrinkTo, ShrinkToFit}
+use Rattle.intaglio_run.specs.declared.runs.Reply.{Reply}
+use Rattle.intaglio_run.specs.declared.runs.Reply.TheVariants as reply
 
 pub placed_count-append : (a b : List Event) → placed_count (a ++ b) ≡ placed_count a + placed_count b
 placed_count-append [] b = omega arith

@@ -1,14 +1,14 @@
 use Rattle.std.proofs.Common.{◌≡◌, ◌∙◌, [], arith, append_assoc, append-nil, map, refl, sym, rules}
 use Rattle.std.specs.Vec.Iter.{into_iter_items}
 use Rattle.std.proofs.lemmas.Grind.{common_steps}
-use Rattle.intaglio_core.specs.declared.runs.Call.TheVariants.{Intern}
-use Rattle.intaglio_core.proofs.Growth.{Runs-hash, Runs-place, Runs-room}
-use Rattle.intaglio_core.proofs.Issue.{Runs-issue}
-use Rattle.intaglio_core.proofs.Room.{Runs-roomier}
-use Rattle.intaglio_core.specs.Run.{KeepsRoom}
-use Rattle.intaglio_core.proofs.Bytes.{All-next, StillRoom-start, StillRoom-push}
-use Rattle.intaglio_core.proofs.InOrder.{Adds-push}
-use Rattle.intaglio_core.proofs.runs.run.Goals as goal
+use Rattle.intaglio_run.specs.declared.runs.Call.TheVariants.{Intern}
+use Rattle.intaglio_run.proofs.Growth.{Runs-hash, Runs-place, Runs-room}
+use Rattle.intaglio_run.proofs.Issue.{Runs-issue}
+use Rattle.intaglio_run.proofs.Room.{Runs-roomier}
+use Rattle.intaglio_run.specs.Run.{KeepsRoom}
+use Rattle.intaglio_run.proofs.Bytes.{All-next, StillRoom-start, StillRoom-push}
+use Rattle.intaglio_run.proofs.InOrder.{Adds-push}
+use Rattle.intaglio_run.proofs.runs.run.Goals as goal
 
 pub loop-call-init : goal.loop-call-init
 loop-call-init g c =

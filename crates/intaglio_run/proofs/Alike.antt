@@ -7,13 +7,13 @@ use Rattle.intaglio_content.specs.Store.{IsMoved}
 use Rattle.intaglio_content.specs.Work.{Event}
 use Rattle.intaglio_core.specs.State.{State, first}
 use Rattle.intaglio_core.specs.Change.{IsAppended}
-use Rattle.intaglio_core.specs.Step.{Step, found}
-use Rattle.intaglio_core.specs.Run.{Runs}
-use Rattle.intaglio_core.specs.Alike.{Seen, symbol, pair, bool, spelling, count, done, overflow, capacity_overflow, stale, seen, HasMemory, AreAlike}
-use Rattle.intaglio_core.specs.declared.runs.Call.{Call}
-use Rattle.intaglio_core.specs.declared.runs.Call.TheVariants.{Intern, Check, GetInterned, IsInterned, Contains, Get, Len, IsEmpty, Clear, Reserve, ShrinkTo, ShrinkToFit, TakeBack}
-use Rattle.intaglio_core.specs.declared.runs.Reply.{Reply}
-use Rattle.intaglio_core.specs.declared.runs.Reply.TheVariants as reply
+use Rattle.intaglio_run.specs.Step.{Step, found}
+use Rattle.intaglio_run.specs.Run.{Runs}
+use Rattle.intaglio_run.specs.Alike.{Seen, symbol, pair, bool, spelling, count, done, overflow, capacity_overflow, stale, seen, HasMemory, AreAlike}
+use Rattle.intaglio_run.specs.declared.runs.Call.{Call}
+use Rattle.intaglio_run.specs.declared.runs.Call.TheVariants.{Intern, Check, GetInterned, IsInterned, Contains, Get, Len, IsEmpty, Clear, Reserve, ShrinkTo, ShrinkToFit, TakeBack}
+use Rattle.intaglio_run.specs.declared.runs.Reply.{Reply}
+use Rattle.intaglio_run.specs.declared.runs.Reply.TheVariants as reply
 use Rattle.intaglio_symbol.specs.declared.error.InternError.{InternError}
 
 -- what an interning says and leaves, by the place where its key is first

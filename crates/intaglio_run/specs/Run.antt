@@ -8,11 +8,11 @@ use Rattle.intaglio_core.specs.State.{State, IsValid}
 use Rattle.intaglio_core.specs.Change.{HasNoLessRoom}
 use Rattle.intaglio_core.specs.Cost.{InOrder, hashed_keys, placed_count}
 use Rattle.intaglio_core.specs.Issue.{issue}
-use Rattle.intaglio_core.specs.Step.{Step, StepCost}
-use Rattle.intaglio_core.specs.declared.runs.Call.{Call}
-use Rattle.intaglio_core.specs.declared.runs.Call.TheVariants.{Intern, Check, GetInterned, IsInterned, Clear, Reserve, ShrinkTo, ShrinkToFit, TakeBack}
-use Rattle.intaglio_core.specs.declared.runs.Reply.{Reply}
-use Rattle.intaglio_core.specs.declared.runs.Reply.TheVariants as reply
+use Rattle.intaglio_run.specs.Step.{Step, StepCost}
+use Rattle.intaglio_run.specs.declared.runs.Call.{Call}
+use Rattle.intaglio_run.specs.declared.runs.Call.TheVariants.{Intern, Check, GetInterned, IsInterned, Clear, Reserve, ShrinkTo, ShrinkToFit, TakeBack}
+use Rattle.intaglio_run.specs.declared.runs.Reply.{Reply}
+use Rattle.intaglio_run.specs.declared.runs.Reply.TheVariants as reply
 
 -- calls with values of type Q, by their keys, by what a list of contents becomes with each, and whether it is copied
 module _ {C Q : Type 0} (key : C → Key) (value_key : Q → Key) (spelling : C → List ℕ) (adds : Q → List C → List C → Type 0) (copies : Bool) (hash : Key → ℕ) where

@@ -2,10 +2,10 @@
 use Rattle.std.proofs.Common.{◌≡◌, ℕ, Bool, List}
 use Rattle.intaglio_content.specs.Key.{Key}
 use Rattle.intaglio_core.specs.State.{State}
-use Rattle.intaglio_core.specs.Step.{Step}
-use Rattle.intaglio_core.specs.declared.runs.Call.TheVariants.{Check, IsInterned, Contains, Len, IsEmpty}
-use Rattle.intaglio_core.specs.declared.runs.Reply.{Reply}
-use Rattle.intaglio_core.specs.declared.runs.Reply.TheVariants as reply
+use Rattle.intaglio_run.specs.Step.{Step}
+use Rattle.intaglio_run.specs.declared.runs.Call.TheVariants.{Check, IsInterned, Contains, Len, IsEmpty}
+use Rattle.intaglio_run.specs.declared.runs.Reply.{Reply}
+use Rattle.intaglio_run.specs.declared.runs.Reply.TheVariants as reply
 
 module _ {C Q : Type 0} (key : C → Key) (value_key : Q → Key) (spelling : C → List ℕ) (adds : Q → List C → List C → Type 0) (copies : Bool) where
   pub check-same : (old new : State C) (q : Q) (r : Reply) → Step key value_key spelling adds copies old (Check q) r new → new ≡ old

@@ -9,10 +9,10 @@ use Rattle.intaglio_symbol.specs.declared.error.InternError.TheVariants as inter
 use Rattle.intaglio_symbol.specs.declared.error.SymbolOverflowError.{SymbolOverflowError}
 use Rattle.intaglio_symbol.specs.declared.error.StaleMark.{StaleMark}
 use Rattle.intaglio_symbol.specs.declared.error.RoomError.TheVariants as room_error
-use Rattle.intaglio_core.specs.declared.runs.Call.{Call}
-use Rattle.intaglio_core.specs.declared.runs.Call.TheVariants.{Intern, Check, GetInterned, IsInterned, Contains, Get, Len, IsEmpty, Clear, Reserve, ShrinkTo, ShrinkToFit, TakeBack}
-use Rattle.intaglio_core.specs.declared.runs.Reply.{Reply}
-use Rattle.intaglio_core.specs.declared.runs.Reply.TheVariants as reply
+use Rattle.intaglio_run.specs.declared.runs.Call.{Call}
+use Rattle.intaglio_run.specs.declared.runs.Call.TheVariants.{Intern, Check, GetInterned, IsInterned, Contains, Get, Len, IsEmpty, Clear, Reserve, ShrinkTo, ShrinkToFit, TakeBack}
+use Rattle.intaglio_run.specs.declared.runs.Reply.{Reply}
+use Rattle.intaglio_run.specs.declared.runs.Reply.TheVariants as reply
 
 -- the first content with a key, and its position
 abbrev pub found : {C : Type 0} → (C → Key) → List C → Key → Option (ℕ × C)

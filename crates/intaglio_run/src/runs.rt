@@ -6,13 +6,13 @@ ghost use Rattle.std.specs.Option.{option_map};
 ghost use Rattle.intaglio_core.specs.State.{IsValid};
 ghost use Rattle.intaglio_core.specs.Change.{InternsValue, IsNotMemory};
 ghost use Rattle.intaglio_core.specs.Cost.{Costs, InternCost, IsRoomCost, SearchCost};
-ghost use Rattle.intaglio_core.specs.Step.{Step, StepCost, found, RepliesPair, RepliesSpelling};
-ghost use Rattle.intaglio_core.specs.Step.{RepliesReserved, RepliesShrunk, RepliesTakenBack};
-ghost use Rattle.intaglio_core.specs.Run.{RunsValues, HashesOnce, PlacesFew, HoldsRoom, HonoursRoom};
-ghost use Rattle.intaglio_core.specs.Run.{IssuesInOrder, KeepsRoom, HoldsBytes, HonoursFormRoom, UsesRoom};
+ghost use Rattle.intaglio_run.specs.Step.{Step, StepCost, found, RepliesPair, RepliesSpelling};
+ghost use Rattle.intaglio_run.specs.Step.{RepliesReserved, RepliesShrunk, RepliesTakenBack};
+ghost use Rattle.intaglio_run.specs.Run.{RunsValues, HashesOnce, PlacesFew, HoldsRoom, HonoursRoom};
+ghost use Rattle.intaglio_run.specs.Run.{IssuesInOrder, KeepsRoom, HoldsBytes, HonoursFormRoom, UsesRoom};
 
-use crate::interner::FormInterner;
 use intaglio_content::{AddedTo, SoughtIn, SpelledStore, Work};
+use intaglio_core::FormInterner;
 use intaglio_symbol::{InternError, Mark, RoomError, Symbol};
 use std::alloc::{AllocError, Global};
 

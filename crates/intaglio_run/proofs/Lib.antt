@@ -1,0 +1,7 @@
+pub mod LookUps
+pub mod InOrder
+pub mod Issue
+pub mod Growth
+pub mod Room
+pub mod Bytes
+pub mod Alike

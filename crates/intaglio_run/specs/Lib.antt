@@ -1,0 +1,4 @@
+-- What the contracts of this crate, and of the crates above it, cite.
+pub mod Step
+pub mod Run
+pub mod Alike

@@ -1,0 +1,8 @@
+//! Lists of calls, made in order on any table.
+//!
+//! [`run`] makes them, on everything that implements `FormInterner` of `intaglio_core`.
+#![tactic(auto)]
+
+mod runs;
+
+pub use runs::{Call, Reply, run};
