@@ -1,25 +1,12 @@
 -- What a change of a table is to the bytes of its contents.
-use Rattle.std.proofs.Common.{◌≡◌, ℕ, ◌+◌, ◌<◌, ◌≤◌, inl, inr, Bool, true, false, List, [], ◌∷◌, ◌++◌, map, refl, sym, ap, subst, ◌∙◌, arith}
-use Rattle.std.specs.Prelude.{max, ◌↔◌, option_map, slice_get, Option, Some, None, MatchOption, Result, Ok, Err}
-use Rattle.std.specs.List.{take-map}
-use Rattle.std.proofs.lemmas.List.{length-map, map-append}
-use Rattle.std.proofs.lemmas.Option.{slice_get-map}
+use Rattle.intaglio_c.proofs.Names.{◌≡◌, ℕ, ◌+◌, ◌<◌, ◌≤◌, inl, inr, Bool, true, false, List, [], ◌∷◌, ◌++◌, map, refl, sym, ap, subst, ◌∙◌, arith, max, ◌↔◌, option_map, slice_get, Option, Some, None, MatchOption, Result, Ok, Err, take-map, length-map, map-append, slice_get-map, State, Table, first, first_of, AddsNew, InternsValue, IsOutOfMemory, IsRefused, Reserves, Shrinks, TakesBack, StaleMark, fault, key, Seen, as_bytes, seen_as, seen_of, position, look_up, unless, IsChangedBy, InternsBy, InternsNew, KeyedState, Kind, Refusal}
 use Rattle.intaglio_content.specs.Key.{Key}
 use Rattle.intaglio_content.specs.Store.{IsMoved, IsPushed}
-use Rattle.intaglio_core.specs.State.{State, Table, first, first_of}
-use Rattle.intaglio_core.specs.Change.{AddsNew, InternsValue, IsOutOfMemory, IsRefused, Reserves, Shrinks, TakesBack}
 use Rattle.intaglio_symbol.specs.declared.error.InternError.{InternError}
 use Rattle.intaglio_symbol.specs.declared.error.InternError.TheVariants.{Overflow, Memory}
 use Rattle.intaglio_symbol.specs.declared.error.RoomError.{RoomError}
 use Rattle.intaglio_symbol.specs.declared.error.RoomError.TheVariants as room_error
-use Rattle.intaglio_symbol.specs.declared.error.StaleMark.{StaleMark}
-use Rattle.intaglio_c.specs.Kinds.{fault, key}
 use Rattle.intaglio_c.specs.Answers.{symbol_answer}
-use Rattle.intaglio_c.specs.Seen.{Seen, as_bytes, seen_as, seen_of, position, look_up, unless, IsChangedBy}
-use Rattle.intaglio_c.specs.Steps.{InternsBy, InternsNew}
-use Rattle.intaglio_hash.specs.declared.state.KeyedState.{KeyedState}
-use Rattle.intaglio_c.specs.declared.kind.Kind.{Kind}
-use Rattle.intaglio_c.specs.declared.refusal.Refusal.{Refusal}
 
 -- bytes that the kind doesn't take
 pub refused_bytes : (copies : Kind → Bool) (t : Seen) (b : List ℕ) (r : Refusal) (result : Result ℕ Refusal) → fault t.kind b ≡ Some r → result ≡ Err r → IsChangedBy t t (λ _ s'. InternsBy (copies t.kind) b t.state (look_up t b) result s')

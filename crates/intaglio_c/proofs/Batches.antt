@@ -1,28 +1,12 @@
 -- Batches, one string at a time.
-use Rattle.std.proofs.Common.{◌≡◌, ℕ, zero, suc, ◌+◌, ◌-◌, ◌<◌, ◌≤◌, Bool, true, false, cond, inl, inr, List, [], ◌∷◌, ◌++◌, length, map, take, drop, refl, sym, ap, subst, ◌∙◌, le_refl, arith, length-append, append_assoc, append-nil}
-use Rattle.std.specs.Prelude.{Option, Some, None, Result, Ok, Err, is_some, unwrap_or, slice_get, option_map, option_and_then}
-use Rattle.std.specs.List.{concat}
-use Rattle.std.proofs.Math.ListN.{get_or, set}
+use Rattle.intaglio_c.proofs.Names.{◌≡◌, ℕ, zero, suc, ◌+◌, ◌-◌, ◌<◌, ◌≤◌, Bool, true, false, cond, inl, inr, List, [], ◌∷◌, ◌++◌, length, map, take, drop, refl, sym, ap, subst, ◌∙◌, le_refl, arith, length-append, append_assoc, append-nil, Option, Some, None, Result, Ok, Err, is_some, unwrap_or, slice_get, option_map, option_and_then, concat, get_or, set, take-append-le, take_all, take_more, take_more_set, take_at, take-append-drop, drop_more, drop_at, map_push, drop-drop, length-drop, slice_get_within, IfOk-at_ok, IfErr-at_err, IsAppended, issued, interned, interned_all, issue_from, State, first, AreCopied, AreStored, ends_from, AreInterned, IsBegun, IsRolledBack, InternsOr, fault, first_fault, key, Seen, look_up, position, unless, IsChangedBy, Interns, InternsBy, Kind, Refusal}
 use Rattle.std.proofs.Math.Seq.{take-length}
-use Rattle.std.proofs.lemmas.List.{take-append-le, take_all, take_more, take_more_set, take_at, take-append-drop, drop_more, drop_at, drop-drop, length-drop, map_push}
 use Rattle.std.proofs.lemmas.List.Folds.{concat-append}
-use Rattle.std.proofs.lemmas.Option.{slice_get_within}
 use borrow.Rule.Slice.PartMut.{put_mid}
-use Rattle.std.proofs.lemmas.Result.{IfOk-at_ok, IfErr-at_err}
 use Rattle.intaglio_core.proofs.Laws.{interned_all-found}
 use Rattle.intaglio_core.proofs.Held.{interned_all-append, interned_all-longer, issue_from-append}
-use Rattle.intaglio_core.specs.Change.{IsAppended}
-use Rattle.intaglio_core.specs.Issue.{issued, interned, interned_all, issue_from}
-use Rattle.intaglio_core.specs.State.{State, first}
-use Rattle.intaglio_c.specs.Batches.{all_stored, ends_from, found_all, or_absent, AreInterned, IsBegun, IsRolledBack, InternsOr, DoNotFit}
 use Rattle.intaglio_c.proofs.Faults.{one_more}
 use Rattle.intaglio_c.proofs.Pieces.{drop_there, take_there}
-use Rattle.intaglio_c.specs.Handles.{found}
-use Rattle.intaglio_c.specs.Kinds.{fault, first_fault, key}
-use Rattle.intaglio_c.specs.Seen.{Seen, look_up, position, unless, IsChangedBy}
-use Rattle.intaglio_c.specs.Steps.{Interns, InternsBy}
-use Rattle.intaglio_c.specs.declared.kind.Kind.{Kind}
-use Rattle.intaglio_c.specs.declared.refusal.Refusal.{Refusal}
 use Rattle.intaglio_c.specs.declared.refusal.Refusal.TheVariants as refusal
 
 -- the capacity after one interning
@@ -141,38 +125,7 @@ module _ (t0 : Seen) (strings : List (List ℕ)) where
       subst (λ (ws : List (List ℕ)). IsChangedBy t0 t (λ _ s'. AreInterned t0 ws symbols s')) (take_all i strings end)
       (subst (λ (ns : List ℕ). IsChangedBy t0 t (λ _ s'. AreInterned t0 (take i strings) ns s')) (take_all i symbols (omega (arith, end, places))) all)
 
--- one string more is looked up
-pub found_more : (t : Seen) (strings : List (List ℕ)) (symbols : List ℕ) (i n : ℕ) (string : List ℕ) → slice_get strings i ≡ Some string → i < length symbols → n ≡ or_absent (found (look_up t string))
-    → take i symbols ≡ found_all t (take i strings) → take (i + 1) (set symbols i n) ≡ found_all t (take (i + 1) strings)
-found_more t strings symbols i n string there inside is before =
-    take_more_set symbols i n inside ∙ (λ j. before j ++ is j ∷ []) ∙ sym (map_push (λ (w : List ℕ). or_absent (found (look_up t w))) (take i strings) string) ∙ ap (found_all t) (sym (take_there strings i string there))
-
 -- the strings of symbols
-map-then : {X Y Z : Type 0} (f : Y → Z) (g : X → Y) (o : Option X) → option_map f (option_map g o) ≡ option_map (λ x. f (g x)) o
-map-then f g None = refl
-map-then f g (Some x) = refl
-
-abbrev onto : Option (List (List ℕ)) → Option (List (List ℕ)) → Option (List (List ℕ))
-onto front back = option_and_then (λ xs. option_map (λ ys. xs ++ ys) back) front
-
-onto-cons : (string : List ℕ) (front back : Option (List (List ℕ))) → option_map (λ xs. string ∷ xs) (onto front back) ≡ onto (option_map (λ xs. string ∷ xs) front) back
-onto-cons string None back = refl
-onto-cons string (Some xs) back = map-then (λ ys. string ∷ ys) (λ ys. xs ++ ys) back
-
-onto-stored : (o : Option (List ℕ)) (front back : Option (List (List ℕ))) → option_and_then (λ string. option_map (λ xs. string ∷ xs) (onto front back)) o ≡ onto (option_and_then (λ string. option_map (λ xs. string ∷ xs) front) o) back
-onto-stored None front back = refl
-onto-stored (Some string) front back = onto-cons string front back
-
-map-same : (o : Option (List (List ℕ))) → o ≡ option_map (λ ys. [] ++ ys) o
-map-same None = refl
-map-same (Some ys) = refl
-
-all_stored-append : (contents : List (List ℕ)) (xs ys : List ℕ) → all_stored contents (xs ++ ys) ≡ onto (all_stored contents xs) (all_stored contents ys)
-all_stored-append contents [] ys = map-same (all_stored contents ys)
-all_stored-append contents (x ∷ xs) ys =
-    ap (λ (o : Option (List (List ℕ))). option_and_then (λ string. option_map (λ zs. string ∷ zs) o) (slice_get contents x)) (all_stored-append contents xs ys)
-    ∙ onto-stored (slice_get contents x) (all_stored contents xs) (all_stored contents ys)
-
 ends_from-append : (n : ℕ) (xs ys : List (List ℕ)) → ends_from n (xs ++ ys) ≡ ends_from n xs ++ ends_from (n + length (concat xs)) ys
 ends_from-append n [] ys = ap (λ (k : ℕ). ends_from k ys) (omega arith)
 ends_from-append n (x ∷ xs) ys =
@@ -183,38 +136,27 @@ module _ (contents : List (List ℕ)) (old : List ℕ) where
   -- a copy on its way: the strings of these symbols are at the front of the buffer
   pub record IsCopied (symbols new : List ℕ) (start : ℕ) (ends : List ℕ) : Type 0 where
     pub done : List (List ℕ)
-    pub stored : all_stored contents symbols ≡ Some done
+    pub stored : AreStored contents symbols done
     pub place : start ≡ length (concat done)
     pub within : start ≤ length old
     pub buffer : new ≡ concat done ++ drop start old
     pub written : ends ≡ ends_from 0 done
-
-  -- the strings of all symbols, by those before one of them
-  from_here : (symbols new ends : List ℕ) (start i : ℕ) (o : Option (List ℕ)) (at : IsCopied (take i symbols) new start ends) → i < length symbols → slice_get contents (get_or symbols i 0) ≡ o
-      → all_stored contents symbols ≡ onto (Some at.done) (option_and_then (λ string. option_map (λ strings. string ∷ strings) (all_stored contents (drop (i + 1) symbols))) o)
-  from_here symbols new ends start i o at inside is =
-      ap (all_stored contents) (sym (take-append-drop i symbols) ∙ ap (λ (x : List ℕ). take i symbols ++ x) (drop_more symbols i 0 inside))
-      ∙ all_stored-append contents (take i symbols) (get_or symbols i 0 ∷ drop (i + 1) symbols)
-      ∙ (λ j. onto (at.stored j) (option_and_then (λ string. option_map (λ strings. string ∷ strings) (all_stored contents (drop (i + 1) symbols))) (is j)))
-
-  pub missing : (symbols new ends : List ℕ) (start i : ℕ) → i < length symbols → IsCopied (take i symbols) new start ends → slice_get contents (get_or symbols i 0) ≡ None → all_stored contents symbols ≡ None
-  missing symbols new ends start i inside at none = from_here symbols new ends start i None at inside none
 
   size : (symbols new ends : List ℕ) (start : ℕ) → IsCopied symbols new start ends → length new ≡ length old
   size symbols new ends start at = omega (arith, ap length at.buffer, length-append (concat at.done) (drop start old), at.place, length-drop start old, at.within)
 
   -- one string more is stored
   stored_more : (symbols new ends : List ℕ) (start i : ℕ) (string : List ℕ) → i < length symbols → (at : IsCopied (take i symbols) new start ends) → slice_get contents (get_or symbols i 0) ≡ Some string
-      → all_stored contents (take (i + 1) symbols) ≡ Some (at.done ++ string ∷ [])
+      → AreStored contents (take (i + 1) symbols) (at.done ++ string ∷ [])
   stored_more symbols new ends start i string inside at there =
-      ap (all_stored contents) (take_more symbols i 0 inside) ∙ all_stored-append contents (take i symbols) (get_or symbols i 0 ∷ [])
-      ∙ (λ j. onto (at.stored j) (option_and_then (λ s. option_map (λ strings. s ∷ strings) (Some [])) (there j)))
+      ap (map (slice_get contents)) (take_more symbols i 0 inside) ∙ map_push (slice_get contents) (take i symbols) (get_or symbols i 0) ∙ (λ j. at.stored j ++ there j ∷ []) ∙ sym (map_push Some at.done string)
 
   concat_more : (done : List (List ℕ)) (string : List ℕ) → concat (done ++ string ∷ []) ≡ concat done ++ string
   concat_more done string = concat-append done (string ∷ []) ∙ ap (λ (x : List ℕ). concat done ++ x) (append-nil string)
 
   pub too_short : (symbols new ends : List ℕ) (start i : ℕ) (string : List ℕ) → i < length symbols → IsCopied (take i symbols) new start ends → slice_get contents (get_or symbols i 0) ≡ Some string
-      → length new - start < length string → DoNotFit contents symbols old
+      → length new - start < length string
+      → (n : ℕ) × (strings : List (List ℕ)) × AreStored contents (take n symbols) strings × (length old < length (concat strings))
   too_short symbols new ends start i string inside at there less = (
     i + 1,
     at.done ++ string ∷ [],
@@ -240,3 +182,11 @@ module _ (contents : List (List ℕ)) (old : List ℕ) where
         buffer = (λ j. front j ++ (same j ++ back j)) ∙ sym (append_assoc (concat at.done) string rest) ∙ ap (λ (x : List ℕ). x ++ rest) (sym more);
         written = take_more_set ends i end inside' ∙ (λ j. at.written j ++ end ∷ []) ∙ ap (λ (n : ℕ). ends_from 0 at.done ++ n ∷ []) ending ∙ sym (ends_from-append 0 at.done (string ∷ []));
       }
+
+  pub all_copied : (symbols new ends : List ℕ) (start i : ℕ) → length symbols ≤ i → length ends ≡ length symbols → IsCopied (take i symbols) new start (take i ends)
+      → (strings : List (List ℕ)) × AreStored contents symbols strings × AreCopied strings old new ends
+  all_copied symbols new ends start i end places at = (
+    at.done,
+    ap (map (slice_get contents)) (sym (take_all i symbols end)) ∙ at.stored,
+    record { within = omega (arith, at.place, at.within); buffer = at.buffer ∙ ap (λ (n : ℕ). concat at.done ++ drop n old) at.place; ends = sym (take_all i ends (omega (arith, end, places))) ∙ at.written },
+  )

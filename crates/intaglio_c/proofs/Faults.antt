@@ -1,24 +1,10 @@
 -- Which bytes a kind doesn't take.
-use Rattle.std.proofs.Common.{◌∙◌, Bool, ◌≡◌, ℕ, zero, suc, ◌+◌, ◌-◌, ◌<◌, true, false, List, [], ◌∷◌, ◌++◌, length, take, refl, sym, ap, arith, cond, inl, inr, ◌⊎◌}
-use Rattle.std.specs.Prelude.{if◌then◌else◌, Option, Some, None, Result, Ok, Err, ◌==◌, IsUtf8, is_some}
+use Rattle.intaglio_c.proofs.Names.{◌∙◌, Bool, ◌≡◌, ℕ, zero, suc, ◌+◌, ◌-◌, ◌<◌, true, false, List, [], ◌∷◌, ◌++◌, length, take, refl, sym, ap, arith, cond, inl, inr, ◌⊎◌, if◌then◌else◌, Option, Some, None, Result, Ok, Err, ◌==◌, IsUtf8, is_some, eqb-true, none-some, TakesBack, interned, interned_all, State, first, StaleMark, Either, InternsOr, IsRolledBack, earlier, fault, first_fault, key, utf8_fault, zero_fault, zero_fault_at, Kind, Refusal, BadEnds, Full, NoMemory, NotUtf8, InnerZero, MissingZero, IsFaultless, Seen, look_up, position, unless, InternsBy}
 use Rattle.std.specs.Str.{is_utf8}
-use Rattle.std.proofs.lemmas.Bool.{eqb-true}
-use Rattle.std.proofs.lemmas.Option.{none-some}
 use Rattle.std.proofs.lemmas.Str.{IsUtf8-from_is_utf8, is_utf8-from_IsUtf8}
-use Rattle.intaglio_core.specs.Change.{TakesBack}
-use Rattle.intaglio_core.specs.Issue.{interned, interned_all}
-use Rattle.intaglio_core.specs.State.{State, first}
 use Rattle.intaglio_frozen.specs.Layout.{strings}
 use Rattle.intaglio_cstr.specs.Zeros.{EndsAtFirstZero, first_zero}
-use Rattle.intaglio_symbol.specs.declared.error.StaleMark.{StaleMark}
-use Rattle.intaglio_c.specs.Batches.{Either, InternsOr, IsRolledBack}
 use Rattle.intaglio_c.specs.Frozen.{Absorbs}
-use Rattle.intaglio_c.specs.Kinds.{earlier, fault, first_fault, key, utf8_fault, zero_fault, zero_fault_at}
-use Rattle.intaglio_c.specs.declared.kind.Kind.{Kind}
-use Rattle.intaglio_c.specs.declared.refusal.Refusal.{Refusal}
-use Rattle.intaglio_c.specs.declared.refusal.Refusal.TheVariants.{BadEnds, Full, NoMemory, NotUtf8, InnerZero, MissingZero}
-use Rattle.intaglio_c.specs.Seen.{IsFaultless, Seen, look_up, position, unless}
-use Rattle.intaglio_c.specs.Steps.{InternsBy}
 
 -- texts
 abbrev utf8_fault_by : Bool → Option Refusal

@@ -1,57 +1,56 @@
--- Hashes that are known before strings are looked up.
-use Rattle.std.proofs.Common.{◌≡◌, ℕ, ◌+◌, ◌<◌, ◌≤◌, ◌⊎◌, inl, inr, List, [], ◌∷◌, ◌++◌, length, take, drop, sym, ap, subst, ◌∙◌, append_assoc, arith}
-use Rattle.std.specs.Prelude.{Some, slice_get}
-use Rattle.std.proofs.Math.ListN.{get_or, set}
-use Rattle.std.proofs.lemmas.Bool.{cases_lt}
-use Rattle.std.proofs.lemmas.List.{take_more_set, take-append-drop, drop_more, drop_all, drop-drop}
-use Rattle.intaglio_c.proofs.Pieces.{drop_there}
-use Rattle.intaglio_c.specs.Hashes.{AreHashes, IsHash}
-use Rattle.intaglio_c.specs.Seen.{Seen}
-use Rattle.intaglio_c.specs.declared.kind.Kind.{Kind}
-use Rattle.intaglio_hash.specs.declared.state.KeyedState.{KeyedState}
+-- Numbers of strings, one beside each: what holds of those so far, and of one more.
+use Rattle.intaglio_c.proofs.Names.{◌≡◌, ℕ, ◌+◌, ◌<◌, ◌≤◌, ◌⊎◌, inl, inr, List, [], ◌∷◌, ◌++◌, length, map, take, drop, sym, ap, subst, ◌∙◌, append_assoc, length-drop, arith, Some, slice_get, get_or, set, cases_lt, take_all, take_more_set, take-append-drop, drop_more, drop_all, get_or-drop, map_push, get_or_from_slice_get, slice_get-get_or, slice_get_within, AreFirst, IsHash, Seen, Kind, KeyedState}
+use Rattle.intaglio_c.proofs.Pieces.{drop_there, take_there}
 
 -- a loop that ends at the shorter of both
 pub stops : (n m i : ℕ) → (i < n → m ≤ i) → (n ≤ i) ⊎ (m ≤ i)
 stops n m i short = elim (cases_lt i n) [ inl less ↦ inr (short less) | inr all ↦ inl all ]
 
--- a string, and those behind it, among those from a position on
-further : (strings : List (List ℕ)) (place i : ℕ) (string : List ℕ) → slice_get strings (place + i) ≡ Some string → drop i (drop place strings) ≡ string ∷ drop (i + 1) (drop place strings)
-further strings place i string there =
-    let next : place + i + 1 ≡ place + (i + 1) = omega arith in
-    drop-drop i place strings ∙ drop_there strings (place + i) string there ∙ ap (λ (n : ℕ). string ∷ drop n strings) next ∙ ap (λ (ws : List (List ℕ)). string ∷ ws) (sym (drop-drop (i + 1) place strings))
+-- a string among those from a position on
+pub behind : (strings : List (List ℕ)) (place i : ℕ) (string : List ℕ) → slice_get strings (place + i) ≡ Some string → slice_get (drop place strings) i ≡ Some string
+behind strings place i string there =
+    let within : i < length (drop place strings) = omega (arith, slice_get_within strings (place + i) string there, length-drop place strings) in
+    slice_get-get_or (drop place strings) i string within ∙ ap Some (get_or-drop place strings i string ∙ get_or_from_slice_get strings (place + i) string string there)
 
-module _ (kind : Kind) (keys : KeyedState) where
-  no_strings : (ns : List ℕ) → AreHashes kind keys [] ns
+module _ (P : List ℕ → ℕ → Type 0) where
+  no_strings : (ns : List ℕ) → AreFirst P [] ns
   no_strings [] = tt
   no_strings (n ∷ ns) = tt
 
-  -- the hash of a string, and those of the strings behind it
-  pub next_hash : (strings : List (List ℕ)) (hashes : List ℕ) (i used : ℕ) (string : List ℕ) → slice_get strings i ≡ Some string → used < length hashes → AreHashes kind keys (drop i strings) (drop used hashes)
-      → IsHash kind keys string (get_or hashes used 0) × AreHashes kind keys (drop (i + 1) strings) (drop (used + 1) hashes)
-  next_hash strings hashes i used string there left are =
-      subst (λ (ns : List ℕ). AreHashes kind keys (string ∷ drop (i + 1) strings) ns) (drop_more hashes used 0 left)
-      (subst (λ (ws : List (List ℕ)). AreHashes kind keys ws (drop used hashes)) (drop_there strings i string there) are)
+  -- the number of a string, and those of the strings behind it
+  pub first : (strings : List (List ℕ)) (ns : List ℕ) (i used : ℕ) (string : List ℕ) → slice_get strings i ≡ Some string → used < length ns → AreFirst P (drop i strings) (drop used ns)
+      → P string (get_or ns used 0) × AreFirst P (drop (i + 1) strings) (drop (used + 1) ns)
+  first strings ns i used string there left are =
+      subst (λ (rest : List ℕ). AreFirst P (string ∷ drop (i + 1) strings) rest) (drop_more ns used 0 left)
+      (subst (λ (ws : List (List ℕ)). AreFirst P ws (drop used ns)) (drop_there strings i string there) are)
 
-  -- the hashes so far, and those of the strings behind them, are those of all strings
+  -- with the numbers of the strings that are left, those so far are those of all strings
   abbrev pub Continues : List (List ℕ) → List (List ℕ) → List ℕ → Type 0
-  Continues all strings before = (ns : List ℕ) → AreHashes kind keys strings ns → AreHashes kind keys all (before ++ ns)
+  Continues all left before = (ns : List ℕ) → AreFirst P left ns → AreFirst P all (before ++ ns)
 
-  pub hashed_more : (strings : List (List ℕ)) (hashes : List ℕ) (place i n : ℕ) (string : List ℕ) → slice_get strings (place + i) ≡ Some string → i < length hashes → IsHash kind keys string n
-      → Continues (drop place strings) (drop i (drop place strings)) (take i hashes) → Continues (drop place strings) (drop (i + 1) (drop place strings)) (take (i + 1) (set hashes i n))
-  hashed_more strings hashes place i n string there inside hash continues ns behind =
-      let all = drop place strings in
-      subst (λ (zs : List ℕ). AreHashes kind keys all zs) (sym (ap (λ (zs : List ℕ). zs ++ ns) (take_more_set hashes i n inside) ∙ append_assoc (take i hashes) (n ∷ []) ns))
-      (continues (n ∷ ns) (subst (λ (ws : List (List ℕ)). AreHashes kind keys ws (n ∷ ns)) (sym (further strings place i string there)) (hash, behind)))
+  pub more : (all : List (List ℕ)) (ns : List ℕ) (i n : ℕ) (string : List ℕ) → slice_get all i ≡ Some string → i < length ns → P string n
+      → Continues all (drop i all) (take i ns) → Continues all (drop (i + 1) all) (take (i + 1) (set ns i n))
+  more all ns i n string there inside is continues behind are =
+      subst (λ (zs : List ℕ). AreFirst P all zs) (sym (ap (λ (zs : List ℕ). zs ++ behind) (take_more_set ns i n inside) ∙ append_assoc (take i ns) (n ∷ []) behind))
+      (continues (n ∷ behind) (subst (λ (ws : List (List ℕ)). AreFirst P ws (n ∷ behind)) (sym (drop_there all i string there)) (is, are)))
 
-  at_end : (all : List (List ℕ)) (hashes : List ℕ) (i : ℕ) → (length all ≤ i) ⊎ (length hashes ≤ i) → AreHashes kind keys (drop i all) (drop i hashes)
-  at_end all hashes i (inl end) = subst (λ (ws : List (List ℕ)). AreHashes kind keys ws (drop i hashes)) (sym (drop_all i all end)) (no_strings (drop i hashes))
-  at_end all hashes i (inr end) = subst (λ (ns : List ℕ). AreHashes kind keys (drop i all) ns) (sym (drop_all i hashes end)) tt
+  at_end : (all : List (List ℕ)) (ns : List ℕ) (i : ℕ) → (length all ≤ i) ⊎ (length ns ≤ i) → AreFirst P (drop i all) (drop i ns)
+  at_end all ns i (inl end) = subst (λ (ws : List (List ℕ)). AreFirst P ws (drop i ns)) (sym (drop_all i all end)) (no_strings (drop i ns))
+  at_end all ns i (inr end) = subst (λ (rest : List ℕ). AreFirst P (drop i all) rest) (sym (drop_all i ns end)) tt
 
-  pub all_hashed : (all : List (List ℕ)) (hashes : List ℕ) (i : ℕ) → (length all ≤ i) ⊎ (length hashes ≤ i) → Continues all (drop i all) (take i hashes) → AreHashes kind keys all hashes
-  all_hashed all hashes i stops continues =
-      subst (λ (ns : List ℕ). AreHashes kind keys all ns) (take-append-drop i hashes) (continues (drop i hashes) (at_end all hashes i stops))
+  pub all_first : (all : List (List ℕ)) (ns : List ℕ) (i : ℕ) → (length all ≤ i) ⊎ (length ns ≤ i) → Continues all (drop i all) (take i ns) → AreFirst P all ns
+  all_first all ns i ends continues = subst (λ (zs : List ℕ). AreFirst P all zs) (take-append-drop i ns) (continues (drop i ns) (at_end all ns i ends))
+
+-- the same of numbers that are fixed
+module _ (f : List ℕ → ℕ) (all : List (List ℕ)) (ns : List ℕ) (i : ℕ) where
+  pub mapped : (n : ℕ) (string : List ℕ) → slice_get all i ≡ Some string → i < length ns → n ≡ f string → take i ns ≡ map f (take i all) → take (i + 1) (set ns i n) ≡ map f (take (i + 1) all)
+  mapped n string there inside is before =
+      take_more_set ns i n inside ∙ (λ j. before j ++ is j ∷ []) ∙ sym (map_push f (take i all) string) ∙ ap (map f) (sym (take_there all i string there))
+
+  pub all_mapped : length all ≤ i → length ns ≡ length all → take i ns ≡ map f (take i all) → ns ≡ map f all
+  all_mapped end places are = sym (take_all i ns (omega (arith, end, places))) ∙ are ∙ ap (map f) (take_all i all end)
 
 -- a table whose state alone changed hashes as before
-pub moved : (t t' : Seen) (strings : List (List ℕ)) (ns : List ℕ) → t'.kind ≡ t.kind → t'.hasher ≡ t.hasher → AreHashes t.kind t.hasher strings ns → AreHashes t'.kind t'.hasher strings ns
+pub moved : (t t' : Seen) (strings : List (List ℕ)) (ns : List ℕ) → t'.kind ≡ t.kind → t'.hasher ≡ t.hasher → AreFirst (IsHash t.kind t.hasher) strings ns → AreFirst (IsHash t'.kind t'.hasher) strings ns
 moved t t' strings ns kind keys are =
-    subst (λ (k : Kind). AreHashes k t'.hasher strings ns) (sym kind) (subst (λ (h : KeyedState). AreHashes t.kind h strings ns) (sym keys) are)
+    subst (λ (k : Kind). AreFirst (IsHash k t'.hasher) strings ns) (sym kind) (subst (λ (h : KeyedState). AreFirst (IsHash t.kind h) strings ns) (sym keys) are)

@@ -1,8 +1,8 @@
 -- What the proofs share.
+pub mod Names
 pub mod AsBytes
 pub mod Faults
 pub mod Batches
-pub mod CStrings
 pub mod Hashes
 pub mod Pieces
 pub mod Walks

@@ -1,11 +1,5 @@
 -- The strings of a list, and of a batch, by their position.
-use Rattle.std.proofs.Common.{◌≡◌, ℕ, zero, suc, ◌+◌, ◌-◌, ◌<◌, ◌≤◌, Bool, true, false, List, [], ◌∷◌, ◌++◌, length, take, drop, refl, sym, ap, ◌∙◌, arith}
-use Rattle.std.specs.Prelude.{if◌then◌else◌, nat_lt, Some, slice_get, ◌==◌}
-use Rattle.std.proofs.Math.ListN.{get_or}
-use Rattle.std.proofs.lemmas.Bool.{eqb-true, ltb-false}
-use Rattle.std.proofs.lemmas.List.{drop_more, take_more}
-use Rattle.std.proofs.lemmas.Option.{get_or_from_slice_get, slice_get_within}
-use Rattle.intaglio_c.specs.Pieces.{are_ends, is_batch, pieces}
+use Rattle.intaglio_c.proofs.Names.{◌≡◌, ℕ, zero, suc, ◌+◌, ◌-◌, ◌<◌, ◌≤◌, Bool, true, false, List, [], ◌∷◌, ◌++◌, length, take, drop, refl, sym, ap, ◌∙◌, arith, if◌then◌else◌, nat_lt, Some, slice_get, ◌==◌, get_or, eqb-true, ltb-false, drop_more, take_more, get_or_from_slice_get, slice_get_within, are_ends, is_batch, pieces}
 
 module _ {X : Type 0} (xs : List X) (i : ℕ) (x : X) (there : slice_get xs i ≡ Some x) where
   pub drop_there : drop i xs ≡ x ∷ drop (i + 1) xs
@@ -39,11 +33,3 @@ in_order size start (end ∷ ends) zero good inside =
 in_order size start (end ∷ ends) (suc i) good inside =
     let first = ascends size start end (are_ends size end ends) (nat_lt end start) (nat_lt size end) refl refl good in
     in_order size end ends i first.2 (omega (arith, inside))
-
--- a batch has a place for the symbol of each string
-pub batch_places : (bytes ends : List ℕ) (places : ℕ) → is_batch bytes ends places ≡ true → places ≡ length (pieces bytes 0 ends)
-batch_places bytes ends places good = by (places == length ends) refl good
-  where
-    by : (b : Bool) → (places == length ends) ≡ b → (if b then are_ends (length bytes) 0 ends else false) ≡ true → places ≡ length (pieces bytes 0 ends)
-    by true same good = eqb-true places (length ends) same ∙ sym (pieces_length bytes 0 ends)
-    by false same good = absurd (let differs : false ≡ true = good in cc)

@@ -1,21 +1,51 @@
 -- What the walks over a pointer with an allocator share. `Box`, `BoxParts` and `TablePtr` are each a struct of the two, and so is the pair that a box is taken apart into.
-use mathlib.Core.Path.{◌≡◌, refl, ◌∙◌}
-use mathlib.Core.List.{List, [], ◌∷◌, ◌++◌}
+pub use mathlib.Core.List.{[], ◌∷◌, List, ◌++◌}
+pub use mathlib.Core.Path.{refl, ◌≡◌, sym, ap, subst, ◌∙◌}
+pub use base.Fml.{ftrue, Fml, GName, flft, fsep}
+pub use base.Logic.{ent, sep, id⊢, emp}
+pub use contract.BorrowLft.{◌⊑◌}
+pub use contract.Monad.{fact, fact_i}
+pub use contract.Running.{tables}
+pub use denote.Exit.{yes, no}
+pub use denote.Param.{param, bounded, layout}
+pub use denote.Param.Laws.{param_laws, Laws}
+pub use denote.RawPtr.{null_ptr, Ptr, lies_at, in_a_block, rawptr_Lawful, ptr_val, RawPtr}
+pub use denote.Signature.{plain}
+pub use denote.Steps.{nothing, heard, opens, only, peeks}
+pub use denote.Triple.Call.{calls_at_last, calls_at}
+pub use denote.Triple.Clauses.{Lasts, lasts}
+pub use denote.Triple.Spec.{triple_of}
+pub use denote.Triple.Table.{framed}
+pub use denote.Triple.Walked.{Stays, walk_of, says, stay_dropped, Goes-dropped, ends_at, Goes-spent_ref}
+pub use lib.Dec.{lit<, T as IsT, T}
+pub use mir.MapTy.{inst_fn}
+pub use mir.Syntax.{named, a_type, dcons, dnil, ty_ptr, tcons, tnil}
+pub use mir.Val.{Val, vptr, has_ty, WT, vstruct, vcons, vnil, of_list, has_tys}
+pub use prog.Wp.{WpFn}
+pub use types.ByLocal.{alloc_all, pass_all, free_all, look_at, get, sets, through, sets_last, env, get_in, lands_last, lands_as}
+pub use types.Kit.{‵, ◌⊛◌, ◌$◌, ◌∵◌, !, qed, done, move, keep, split, join, fjoin, suffices, raw, some, later, prop, at_ret, use1, await, pick, fsplit, fsplit3, fpack, feq_l, regoal, rewrite, frame, group, drop, use0, feq_i, Goal, Seq, Step, step, Item, fpick}
+pub use types.Logic.{sem, Logic}
+pub use types.Part.{agg, whole, sub, look_in}
+pub use types.Run.{enter, of_opd, lit, no_more, and_then, returns, load, stop, fld, addr, first, blocks, exec}
+pub use Rattle.std.below.core.proofs.alloc.Calls.{Goes-blank}
+pub use Rattle.std.proofs.alloc.Global.TheLaws.{lowers, the_row_laws}
+pub use Rattle.std.proofs.raw_atomic.Walks.{proved, proved_at}
+pub use Rattle.std.specs.Prelude.{IsSomeAnd, ⊤}
+pub use Rattle.std.specs.contracts.alloc.Global.{the_row as allocator}
+pub use Rattle.std.specs.contracts.boxed.Box.{the_row as box_of}
+pub use Rattle.std.specs.contracts.impls.GlobalAllocator.TheImpl.{ghosts}
+pub use Rattle.std.specs.declared.option.Option.{Option}
+pub use Rattle.std.specs.declared.option.Option.TheVariants.{None, Some}
 use seplogic.Ra.Ura.{Ura}
-use lib.Dec.{T}
-use mir.Syntax.{ty_ptr, tcons, tnil}
-use mir.Val.{Val, vstruct, vcons, vnil, of_list, has_ty, has_tys, WT}
-use base.Fml.{Fml}
-use types.Logic.{Logic}
-use types.Kit.{Goal, Seq, Step, step, Item, ‵, ◌$◌, move, drop, fjoin, fsplit, fpick, fpack, feq_i, feq_l, rewrite}
 use denote.RattleType.{RattleType, Valss}
 use denote.Laws.{Is, shows}
-use denote.Param.{layout}
-use denote.Param.Laws.{Laws, param_laws}
 use denote.Param.Steps.{one_value}
-use denote.RawPtr.{Ptr, RawPtr, ptr_val, rawptr_Lawful}
-use denote.Steps.{nothing, peeks}
 use denote.Struct.Struct.{Shape, Struct, within, as_fields}
+
+-- the value that is there
+pub there : {X : Type 0} (o : Option X) → IsSomeAnd o (λ _. ⊤) → (x : X) × (o ≡ Some x)
+there None h = absurd h
+there (Some x) h = (x, refl)
 
 -- a pointer and an allocator as the machine has them, where h is the allocator's value
 abbrev pub word : Ptr → Val → Val

@@ -1,12 +1,10 @@
 -- What a code says.
-use Rattle.std.specs.Prelude.{◌≡◌, ℕ, Bool, true, false, Option, Some, None, Result, Ok, Err}
+use Rattle.intaglio_c.specs.Words.{◌≡◌, ℕ, Bool, true, false, Option, Some, None, Result, Ok, Err, Refusal, NoTable, Full, NoMemory, TooLarge, Stale, NotUtf8, InnerZero, MissingZero, BadEnds, NoSymbol, NoSpace, NoKind, NotFrozen, OtherVersion, Reserved, TooMany, Truncated, TextEnds, Unused, NotFound, TooLong, Equal, NoPlaces}
 use Rattle.intaglio_symbol.specs.declared.error.InternError.{InternError}
 use Rattle.intaglio_symbol.specs.declared.error.InternError.TheVariants.{Overflow, Memory}
 use Rattle.intaglio_symbol.specs.declared.error.RoomError.{RoomError}
 use Rattle.intaglio_symbol.specs.declared.error.RoomError.TheVariants as room_error
 use Rattle.intaglio_symbol.specs.declared.error.StaleMark.{StaleMark}
-use Rattle.intaglio_c.specs.declared.refusal.Refusal.{Refusal}
-use Rattle.intaglio_c.specs.declared.refusal.Refusal.TheVariants.{NoTable, Full, NoMemory, TooLarge, Stale, NotUtf8, InnerZero, MissingZero, BadEnds, NoSymbol, NoSpace, NoKind, NotFrozen, OtherVersion, Reserved, TooMany, Truncated, TextEnds, Unused, NotFound, TooLong, Equal, NoPlaces}
 
 -- the code of an error
 abbrev pub refusal_code : Refusal → ℕ

@@ -1,22 +1,14 @@
 -- Batches: what becomes of many strings.
-use Rattle.std.specs.Prelude.{◌≡◌, ℕ, ◌+◌, ◌-◌, ◌^◌, ◌<◌, ◌≤◌, ◌==◌, Bool, true, false, if◌then◌else◌, nat_lt, List, [], ◌∷◌, ◌++◌, length, map, take, drop, slice_get, Option, Some, None, option_map, option_and_then, MatchOption, IsSomeAnd, Result, Ok, Err}
+use Rattle.intaglio_c.specs.Words.{◌≡◌, ℕ, ◌+◌, ◌-◌, ◌^◌, ◌<◌, ◌≤◌, ◌==◌, Bool, true, false, if◌then◌else◌, nat_lt, List, [], ◌∷◌, ◌++◌, length, map, take, drop, slice_get, get_or, Option, Some, None, MatchOption, Result, Ok, Err, State, Refusal, NoTable, BadEnds, NoSymbol, NoSpace}
 use Rattle.std.specs.List.{concat}
 use Rattle.intaglio_core.specs.Issue.{issue_from, interned_all}
 use Rattle.intaglio_core.specs.Lookup.{FindsEach}
-use Rattle.intaglio_core.specs.State.{State}
 use Rattle.intaglio_c.specs.Handles.{found, table_of}
 use Rattle.intaglio_c.specs.Kinds.{first_fault, key}
-use Rattle.intaglio_c.specs.Pieces.{is_batch, pieces}
+use Rattle.intaglio_c.specs.Pieces.{Either, FindsBy, is_batch, pieces}
 use Rattle.intaglio_c.specs.Seen.{Seen, look_up}
 use Rattle.intaglio_c.specs.Steps.{Interns}
 use Rattle.intaglio_c.specs.declared.handle.Handle.{Handle}
-use Rattle.intaglio_c.specs.declared.refusal.Refusal.{Refusal}
-use Rattle.intaglio_c.specs.declared.refusal.Refusal.TheVariants.{NoTable, BadEnds, NoSymbol, NoSpace}
-
--- the first if the condition is true, and otherwise the second
-abbrev pub Either : Bool → Type 0 → Type 0 → Type 0
-Either true Then Else = Then
-Either false Then Else = Else
 
 -- all strings are interned, in order: each is found at its symbol, behind what was there
 pub record AreInterned (t : Seen) (strings : List (List ℕ)) (issued : List ℕ) (new : State (List ℕ)) : Type 0 where
@@ -69,19 +61,14 @@ abbrev pub or_absent : Option ℕ → ℕ
 or_absent None = 2 ^ 64 - 1
 or_absent (Some symbol) = symbol
 
-abbrev pub found_all : Seen → List (List ℕ) → List ℕ
-found_all t strings = map (λ string. or_absent (found (look_up t string))) strings
-
 -- a batch is looked up
 abbrev pub FindsAll : List ℕ → List ℕ → List ℕ → List ℕ → Handle → Result (Unit {0}) Refusal → Type 0
 FindsAll bytes ends places symbols handle result =
-    MatchOption (table_of handle) ((result ≡ Err NoTable) × (symbols ≡ places))
-    (λ t. Either (is_batch bytes ends (length places)) ((result ≡ Ok tt) × (symbols ≡ found_all t (pieces bytes 0 ends))) ((result ≡ Err BadEnds) × (symbols ≡ places)))
+    MatchOption (table_of handle) ((result ≡ Err NoTable) × (symbols ≡ places)) (λ t. FindsBy (λ string. or_absent (found (look_up t string))) bytes ends places symbols result)
 
--- the strings of symbols, if each symbol has one
-abbrev pub all_stored : List (List ℕ) → List ℕ → Option (List (List ℕ))
-all_stored contents [] = Some []
-all_stored contents (symbol ∷ symbols) = option_and_then (λ string. option_map (λ strings. string ∷ strings) (all_stored contents symbols)) (slice_get contents symbol)
+-- these are the strings of symbols
+abbrev pub AreStored : List (List ℕ) → List ℕ → List (List ℕ) → Type 0
+AreStored contents symbols strings = map (slice_get contents) symbols ≡ map Some strings
 
 -- the ends of concatenated strings, from a position on
 abbrev pub ends_from : ℕ → List (List ℕ) → List ℕ
@@ -94,15 +81,11 @@ pub record AreCopied (strings : List (List ℕ)) (old new written : List ℕ) : 
   pub buffer : new ≡ concat strings ++ drop (length (concat strings)) old
   pub ends : written ≡ ends_from 0 strings
 
--- there is a number of symbols whose strings, those of the first ones, are longer than a buffer
-abbrev pub DoNotFit : List (List ℕ) → List ℕ → List ℕ → Type 0
-DoNotFit contents symbols buffer = (n : ℕ) × (strings : List (List ℕ)) × (all_stored contents (take n symbols) ≡ Some strings) × (length buffer < length (concat strings))
-
--- the strings of symbols are copied
+-- the strings of symbols are copied; or one has no string; or the strings of the first ones are longer than the buffer
 abbrev pub CopiesEach : List (List ℕ) → List ℕ → List ℕ → Result (Unit {0}) Refusal → List ℕ → List ℕ → Type 0
-CopiesEach contents symbols buffer (Ok _) buffer' ends = IsSomeAnd (all_stored contents symbols) (λ strings. AreCopied strings buffer buffer' ends)
-CopiesEach contents symbols buffer (Err NoSymbol) buffer' ends = all_stored contents symbols ≡ None
-CopiesEach contents symbols buffer (Err NoSpace) buffer' ends = DoNotFit contents symbols buffer
+CopiesEach contents symbols buffer (Ok _) buffer' ends = (strings : List (List ℕ)) × AreStored contents symbols strings × AreCopied strings buffer buffer' ends
+CopiesEach contents symbols buffer (Err NoSymbol) buffer' ends = (i : ℕ) × (i < length symbols) × (slice_get contents (get_or symbols i 0) ≡ None)
+CopiesEach contents symbols buffer (Err NoSpace) buffer' ends = (n : ℕ) × (strings : List (List ℕ)) × AreStored contents (take n symbols) strings × (length buffer < length (concat strings))
 CopiesEach contents symbols buffer (Err _) buffer' ends = ⊥
 
 -- the same, with a place for the end of each

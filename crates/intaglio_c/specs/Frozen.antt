@@ -1,6 +1,5 @@
 -- What C sees of a frozen table, which is its bytes.
-use Rattle.std.specs.Prelude.{◌≡◌, ◌⊎◌, ⊤, ℕ, ◌<◌, ◌≤◌, true, false, List, [], ◌∷◌, length, map, slice_get, Option, Some, None, MatchOption, MatchResult, IsErrAnd, Result, Ok, Err, ◌==◌}
-use Rattle.intaglio_core.specs.State.{State, first}
+use Rattle.intaglio_c.specs.Words.{◌≡◌, ◌⊎◌, ⊤, ℕ, ◌<◌, ◌≤◌, true, false, List, [], ◌∷◌, length, slice_get, Option, Some, None, MatchOption, MatchResult, IsErrAnd, Result, Ok, Err, ◌==◌, State, first, Rule, Refusal, NoTable, NoMemory, NotUtf8, BadEnds, NoSpace, NoKind, NotFrozen, OtherVersion, Reserved, TooMany, Truncated, TextEnds, Unused, NotFound, TooLong, Equal, NoPlaces}
 use Rattle.intaglio_frozen.specs.Fault.{IsFault}
 use Rattle.intaglio_frozen.specs.Freezing.{HasKeys, IsRefusal, IsTableOf}
 use Rattle.intaglio_frozen.specs.IsFrozen.{HasSections, IsBlock, IsFrozen}
@@ -11,16 +10,13 @@ use Rattle.intaglio_frozen.specs.declared.error.FrozenError.{FrozenError}
 use Rattle.intaglio_frozen.specs.declared.error.FrozenError.TheVariants as fault
 use Rattle.intaglio_frozen.specs.declared.kind.Kind.{Kind as FrozenKind}
 use Rattle.intaglio_frozen.specs.declared.kind.Kind.TheVariants as frozen
-use Rattle.intaglio_c.specs.Batches.{Either, InternsOr, IsRolledBack, or_absent}
+use Rattle.intaglio_c.specs.Batches.{InternsOr, IsRolledBack, or_absent}
 use Rattle.intaglio_c.specs.Handles.{filled, table_of}
 use Rattle.intaglio_c.specs.Kinds.{rule_of}
-use Rattle.intaglio_c.specs.Pieces.{is_batch, pieces}
+use Rattle.intaglio_c.specs.Pieces.{AreAll, Either, FindsBy, is_batch, pieces}
 use Rattle.intaglio_c.specs.Seen.{Seen}
 use Rattle.intaglio_c.specs.declared.handle.Handle.{Handle}
-use Rattle.intaglio_c.specs.declared.kind.Rule.{Rule}
 use Rattle.intaglio_c.specs.declared.kind.Rule.TheVariants as rule
-use Rattle.intaglio_c.specs.declared.refusal.Refusal.{Refusal}
-use Rattle.intaglio_c.specs.declared.refusal.Refusal.TheVariants.{NoTable, NoMemory, NotUtf8, BadEnds, NoSpace, NoKind, NotFrozen, OtherVersion, Reserved, TooMany, Truncated, TextEnds, Unused, NotFound, TooLong, Equal, NoPlaces}
 
 -- the error for C of what is wrong with bytes
 abbrev pub frozen_refusal : FrozenError → Refusal
@@ -47,28 +43,17 @@ Checks bs result = MatchResult result (λ _. IsFrozen bs) (IsRefused bs)
 abbrev pub position_in : List (List ℕ) → List ℕ → Option ℕ
 position_in list w = first (λ s. s ∷ []) list (w ∷ [])
 
--- what is written for the strings of a batch
-abbrev pub positions : List (List ℕ) → List (List ℕ) → List ℕ
-positions list ws = map (λ w. or_absent (position_in list w)) ws
-
 -- a batch is looked up in a list of strings
 abbrev pub FindsEach : List (List ℕ) → List ℕ → List ℕ → List ℕ → List ℕ → Result (Unit {0}) Refusal → Type 0
-FindsEach list batch ends places symbols result =
-    Either (is_batch batch ends (length places)) ((result ≡ Ok tt) × (symbols ≡ positions list (pieces batch 0 ends))) ((result ≡ Err BadEnds) × (symbols ≡ places))
+FindsEach list = FindsBy (λ w. or_absent (position_in list w))
 
 -- what is written for a string that is looked up in bytes that may be no frozen table: that it isn't found, or a symbol that has it
 abbrev pub IsEqualOrAbsent : List (List ℕ) → List ℕ → ℕ → Type 0
 IsEqualOrAbsent list w n = (n ≡ or_absent None) ⊎ (slice_get list n ≡ Some w)
 
--- the same for each string of a batch
-abbrev pub AreEqualOrAbsent : List (List ℕ) → List (List ℕ) → List ℕ → Type 0
-AreEqualOrAbsent list [] [] = ⊤
-AreEqualOrAbsent list (w ∷ ws) (n ∷ ns) = IsEqualOrAbsent list w n × AreEqualOrAbsent list ws ns
-AreEqualOrAbsent list _ _ = ⊥
-
 -- a batch is looked up in bytes with the sections of a frozen table, and otherwise nothing is written
 abbrev pub FindsEachTrusted : List ℕ → List ℕ → List ℕ → List ℕ → List ℕ → Result (Unit {0}) Refusal → Type 0
-FindsEachTrusted bs batch ends places symbols (Ok _) = HasSections bs × (is_batch batch ends (length places) ≡ true) × AreEqualOrAbsent (strings bs) (pieces batch 0 ends) symbols
+FindsEachTrusted bs batch ends places symbols (Ok _) = HasSections bs × (is_batch batch ends (length places) ≡ true) × AreAll (IsEqualOrAbsent (strings bs)) (pieces batch 0 ends) symbols
 FindsEachTrusted bs batch ends places symbols (Err BadEnds) = HasSections bs × (is_batch batch ends (length places) ≡ false) × (symbols ≡ places)
 FindsEachTrusted bs batch ends places symbols (Err refusal) = (¬ HasSections bs) × IsRefused bs refusal × (symbols ≡ places)
 

@@ -1,17 +1,12 @@
 -- What C sees of a handle, and what calls do to it.
-use Rattle.std.specs.Prelude.{◌≡◌, ℕ, ◌+◌, ◌^◌, ◌<◌, ◌⊎◌, List, [], ◌++◌, length, drop, slice_get, nat_lt, if◌then◌else◌, Option, Some, None, option_map, option_and_then, MatchOption, MatchResult, IsSomeAnd, Result, Ok, Err}
+use Rattle.intaglio_c.specs.Words.{◌≡◌, ℕ, ◌+◌, List, [], ◌++◌, length, drop, slice_get, nat_lt, if◌then◌else◌, Option, Some, None, option_map, option_and_then, MatchOption, MatchResult, IsSomeAnd, Result, Ok, Err, Empties, State, initial_hasher, Kind, Refusal, NoTable, NoMemory, TooLarge, NoKind}
 use Rattle.std.specs.declared.hash.DefaultHasher.{DefaultHasher}
-use Rattle.intaglio_core.specs.Change.{Empties}
-use Rattle.intaglio_core.specs.State.{State}
-use Rattle.intaglio_hash.specs.KeyedState.{initial_hasher}
 use Rattle.intaglio_c.specs.Answers.{IsCodeOf, IsSymbolCodeOf}
 use Rattle.intaglio_c.specs.Kinds.{kind_of}
-use Rattle.intaglio_c.specs.Seen.{Seen, seen, IsChangedBy, look_up}
+use Rattle.intaglio_c.specs.Seen.{IsOutside, Seen, most_of, room_of, seen, IsChangedBy, look_up}
 use Rattle.intaglio_c.specs.declared.any_table.AnyTable.{AnyTable}
+use Rattle.intaglio_c.specs.declared.any_table.size.Size.{Size}
 use Rattle.intaglio_c.specs.declared.handle.Handle.{Handle}
-use Rattle.intaglio_c.specs.declared.kind.Kind.{Kind}
-use Rattle.intaglio_c.specs.declared.refusal.Refusal.{Refusal}
-use Rattle.intaglio_c.specs.declared.refusal.Refusal.TheVariants.{NoTable, NoMemory, TooLarge, NoKind}
 
 -- the table that a handle holds, if it holds one
 abbrev pub table_of : Handle → Option Seen
@@ -61,12 +56,9 @@ Makes (Some kind) new (Err _) IsTooLarge IsMade = ⊥
 abbrev pub Puts : AnyTable → Handle → Result (Unit {0}) Refusal → Type 0
 Puts table new result = MatchResult result (λ _. new.ptr.table ≡ Some table) (λ refusal. (refusal ≡ NoMemory) × HoldsNone new)
 
--- a table of exactly this capacity is made, or one that can hold at most this many contents
-abbrev pub MakesRoom : ℕ → ℕ → DefaultHasher → Handle → Result (Unit {0}) Refusal → Type 0
-MakesRoom kind capacity hasher new result = Makes (kind_of kind) new result (2 ^ 32 < capacity) (λ which t. IsNew t which capacity (2 ^ 32) hasher)
-
-abbrev pub MakesLimited : ℕ → ℕ → DefaultHasher → Handle → Result (Unit {0}) Refusal → Type 0
-MakesLimited kind limit hasher new result = Makes (kind_of kind) new result ((limit ≡ 0) ⊎ (2 ^ 32 < limit)) (λ which t. IsNew t which 0 limit hasher)
+-- a table of this size is made
+abbrev pub MakesSized : ℕ → Size → DefaultHasher → Handle → Result (Unit {0}) Refusal → Type 0
+MakesSized kind size hasher new result = Makes (kind_of kind) new result (IsOutside size) (λ which t. IsNew t which (room_of size) (most_of size) hasher)
 
 -- what a look-up found
 abbrev pub found : Result (Option ℕ) Refusal → Option ℕ

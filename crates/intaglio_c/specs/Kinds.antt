@@ -1,15 +1,12 @@
 -- What each kind of table makes of bytes.
-use Rattle.std.specs.Prelude.{ℕ, ◌-◌, ◌==◌, Bool, true, false, if◌then◌else◌, List, [], ◌∷◌, length, Option, Some, None}
+use Rattle.intaglio_c.specs.Words.{◌≡◌, ℕ, ◌-◌, ◌==◌, Bool, true, false, if◌then◌else◌, List, [], ◌∷◌, length, Option, Some, None, initial_hasher, KeyedState, Kind, Rule, Refusal, NotUtf8, InnerZero, MissingZero}
 use Rattle.std.specs.Str.{is_utf8}
-use Rattle.intaglio_content.specs.Key.{Key}
+use Rattle.std.specs.Hash.DefaultHasher.{write, finish}
+use Rattle.intaglio_content.specs.Key.{Key, key_hash}
 use Rattle.intaglio_cstr.specs.Zeros.{first_zero}
 use Rattle.intaglio_path.specs.Components.{components}
-use Rattle.intaglio_c.specs.declared.kind.Kind.{Kind}
 use Rattle.intaglio_c.specs.declared.kind.Kind.TheVariants.{Owned, Path, Packed}
-use Rattle.intaglio_c.specs.declared.kind.Rule.{Rule}
 use Rattle.intaglio_c.specs.declared.kind.Rule.TheVariants as rule
-use Rattle.intaglio_c.specs.declared.refusal.Refusal.{Refusal}
-use Rattle.intaglio_c.specs.declared.refusal.Refusal.TheVariants.{NotUtf8, InnerZero, MissingZero}
 
 -- the kind with a number: of texts, bytes, C strings, paths, platform strings, byte strings, packed texts and packed
 -- bytes
@@ -74,3 +71,11 @@ earlier (Some refusal) later = Some refusal
 abbrev pub first_fault : Kind → List (List ℕ) → Option Refusal
 first_fault kind [] = None
 first_fault kind (string ∷ strings) = earlier (fault kind string) (first_fault kind strings)
+
+-- the hash of a key under a table's keys
+abbrev pub keyed_hash : KeyedState → Key → ℕ
+keyed_hash keys k = key_hash finish write (initial_hasher keys) k
+
+-- the hash of the content with these bytes, or any number if they are no content of the kind
+abbrev pub IsHash : Kind → KeyedState → List ℕ → ℕ → Type 0
+IsHash kind keys bytes n = fault kind bytes ≡ None → n ≡ keyed_hash keys (key kind bytes)

@@ -3,11 +3,10 @@ pub mod Answers
 pub mod Batches
 pub mod Frozen
 pub mod Handles
-pub mod Hashes
 pub mod Kinds
 pub mod Lent
 pub mod Owned
 pub mod Pieces
 pub mod Seen
-pub mod Sizes
 pub mod Steps
+pub mod Words

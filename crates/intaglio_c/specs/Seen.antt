@@ -1,13 +1,11 @@
 -- How C sees a table: its kind, its contents as their bytes, and its keys.
-use Rattle.std.specs.Prelude.{◌≡◌, ℕ, List, map, Option, Some, None, Result, Ok, Err}
-use Rattle.intaglio_core.specs.State.{State, Table, empty_state, first}
+use Rattle.intaglio_c.specs.Words.{◌≡◌, ◌⊎◌, ◌<◌, ◌^◌, ℕ, List, map, Option, Some, None, Result, Ok, Err, State, Table, empty_state, first, KeyedState, Kind, Refusal}
 use Rattle.intaglio_bytes.specs.BytesContent.{bytes_content_bytes}
 use Rattle.intaglio_path.specs.PathContent.{path_content_bytes}
 use Rattle.intaglio_c.specs.Kinds.{key, fault, first_fault}
-use Rattle.intaglio_hash.specs.declared.state.KeyedState.{KeyedState}
-use Rattle.intaglio_c.specs.declared.kind.Kind.{Kind}
 use Rattle.intaglio_c.specs.declared.kind.Kind.TheVariants as kind
-use Rattle.intaglio_c.specs.declared.refusal.Refusal.{Refusal}
+use Rattle.intaglio_c.specs.declared.any_table.size.Size.{Size}
+use Rattle.intaglio_c.specs.declared.any_table.size.Size.TheVariants.{Capacity, Limit}
 use Rattle.intaglio_c.specs.declared.any_table.AnyTable.{AnyTable}
 use Rattle.intaglio_c.specs.declared.any_table.AnyTable.TheVariants as any_table
 
@@ -58,6 +56,21 @@ fault_in (Some table) = first_fault (seen table).kind (contents_of table)
 -- a new table, whose capacity is that of its buckets
 abbrev pub new_table : Kind → ℕ → ℕ → KeyedState → Seen
 new_table which room most keys = record { kind = which; state = empty_state room most; hasher = keys }
+
+-- the capacity of a new table of this size
+abbrev pub room_of : Size → ℕ
+room_of (Capacity capacity) = capacity
+room_of (Limit _) = 0
+
+-- the most contents that it can hold
+abbrev pub most_of : Size → ℕ
+most_of (Capacity _) = 2 ^ 32
+most_of (Limit limit) = limit
+
+-- there is no such table
+abbrev pub IsOutside : Size → Type 0
+IsOutside (Capacity capacity) = 2 ^ 32 < capacity
+IsOutside (Limit limit) = (limit ≡ 0) ⊎ (2 ^ 32 < limit)
 
 -- a result, unless there is a fault
 abbrev pub unless : {X : Type 0} → Option Refusal → X → Result X Refusal

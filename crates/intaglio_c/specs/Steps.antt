@@ -1,11 +1,7 @@
 -- What each call does to the state of a table.
-use Rattle.std.specs.Prelude.{◌≡◌, ℕ, ◌+◌, ◌<◌, Bool, true, List, length, Option, Some, None, Result, Ok, Err}
-use Rattle.intaglio_core.specs.Change.{IsAppended, IsOutOfMemory, IsReserved, IsShrunk, IsTruncated, IsUnreserved}
-use Rattle.intaglio_core.specs.State.{State}
+use Rattle.intaglio_c.specs.Words.{◌≡◌, ℕ, ◌+◌, ◌<◌, Bool, true, List, length, Option, Some, None, Result, Ok, Err, IsAppended, IsOutOfMemory, IsReserved, IsShrunk, IsTruncated, IsUnreserved, State, Refusal, Full, NoMemory, TooLarge, Stale}
 use Rattle.intaglio_c.specs.Kinds.{copies_static}
 use Rattle.intaglio_c.specs.Seen.{Seen, look_up}
-use Rattle.intaglio_c.specs.declared.refusal.Refusal.{Refusal}
-use Rattle.intaglio_c.specs.declared.refusal.Refusal.TheVariants.{Full, NoMemory, TooLarge, Stale}
 
 -- bytes that aren't stored are interned, and copied or not
 abbrev pub InternsNew : Bool → List ℕ → State (List ℕ) → Result ℕ Refusal → State (List ℕ) → Type 0

@@ -6,12 +6,10 @@ use intaglio_content::Packed;
 use intaglio_hash::KeyedState;
 use intaglio_path::PathContent;
 
-mod ahead;
 mod batches;
 mod bytes;
-pub(crate) mod constructors;
 pub(crate) mod freeze;
-mod size;
+pub(crate) mod size;
 
 /// A table of one of the kinds. Its strings are bytes that were checked by its rule when they came in.
 #[derive(Drop)]

@@ -22,8 +22,10 @@ fn are_ends(size: usize, ends: &[usize]) -> bool
 }
 
 // Whether bytes and ends are a batch, with this many places for its symbols.
+#[tactic(auto, using(crate::proofs::Pieces::pieces_length))]
 pub(crate) fn is_batch(bytes: &[u8], ends: &[usize], places: usize) -> bool
     ensures batch { result ≡ is_batch bytes.now ends.now places }
+    ensures places { result ≡ true → places ≡ length (pieces bytes.now 0 ends.now) }
 {
     places == ends.len() && are_ends(bytes.len(), ends)
 }

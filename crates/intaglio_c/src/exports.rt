@@ -1,7 +1,5 @@
-//! The calls that C sees.
-//!
-//! A handle knows the kind of its table, so one function serves all kinds. The
-//! header also has names for each kind. A frozen table has no handle: it is its bytes.
+//! The calls that C sees. A handle knows the kind of its table, so one function serves all kinds; the header also has
+//! names for each. A frozen table has no handle: it is its bytes.
 ghost use Rattle.std.specs.Prelude.{◌≡◌};
 
 // The table of a handle, lent. Without a table the call returns at once.
@@ -14,11 +12,9 @@ macro_rules! table_of {
     }};
 }
 
-mod batches;
 mod frozen;
-mod making;
-mod size;
 mod strings;
+mod tables;
 
 /// Returns the version of the library: its first number times 10000, its second times 100, and its third.
 #[unsafe(no_mangle)]

@@ -5,11 +5,10 @@ ghost use Rattle.std.specs.declared.option.Option.TheVariants.{None, Some};
 ghost use Rattle.intaglio_c.specs.Seen.{fault_in};
 
 use crate::any_table::AnyTable;
-use crate::any_table::constructors::Size;
-use crate::box_parts::BoxParts;
+use crate::any_table::size::Size;
 use crate::kind::Kind;
 use crate::refusal::Refusal;
-use crate::table_ptr::TablePtr;
+use crate::table_ptr::{BoxParts, TablePtr};
 use intaglio_core::RoomError;
 use intaglio_hash::KeyedState;
 use std::alloc::{AllocError, Global};
@@ -71,10 +70,8 @@ impl Handle {
     ghost use Rattle.std.specs.Prelude.{◌≡◌, [], Err, IfOk, IfErr};
     ghost use Rattle.intaglio_hash.specs.KeyedState.{initial_hasher};
     ghost use Rattle.intaglio_c.specs.Answers.{room_refusal};
-    ghost use Rattle.intaglio_c.specs.Handles.{HoldsNone, IsNew, Makes, Puts};
-    ghost use Rattle.intaglio_c.specs.Kinds.{kind_of};
+    ghost use Rattle.intaglio_c.specs.Handles.{HoldsNone, MakesSized, Puts};
     ghost use Rattle.intaglio_c.specs.Seen.{contents_of};
-    ghost use Rattle.intaglio_c.specs.Sizes.{IsOutside, most_of, room_of};
 
     // Puts a new table into the handle, and drops the earlier one.
     fn put(&mut self, alloc: Global, made: Result<AnyTable, RoomError>) -> Result<(), Refusal>
@@ -98,8 +95,7 @@ impl Handle {
         size: Size,
         keys: KeyedState,
     ) -> Result<(), Refusal>
-        ensures made { Makes (kind_of kind) self.new result (IsOutside size)
-            (λ which t. IsNew t which (room_of size) (most_of size) (initial_hasher keys)) }
+        ensures made { MakesSized kind size (initial_hasher keys) self.new result }
     {
         let Some(kind) = Kind::of(kind) else {
             *self = Handle::none(alloc);

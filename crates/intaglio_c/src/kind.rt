@@ -1,4 +1,9 @@
-//! The kinds of tables.
+//! The kinds of tables, and what each wants of the bytes that come in.
+ghost use Rattle.std.specs.Prelude.{◌≡◌, IfOk, IfErr, None, Some};
+ghost use Rattle.intaglio_c.specs.Kinds.{broken, kind_of, utf8_fault, zero_fault};
+
+use crate::refusal::Refusal;
+use intaglio_cstr::{CStr, CStrError};
 
 /// What the strings of a table are.
 #[derive(Clone, Copy)]
@@ -23,9 +28,6 @@ pub enum Kind {
 }
 
 impl Kind {
-    ghost use Rattle.std.specs.Prelude.{◌≡◌};
-    ghost use Rattle.intaglio_c.specs.Kinds.{kind_of};
-
     // The kind with this number in C, which has two numbers for texts and two for bytes.
     pub(crate) fn of(number: u32) -> Option<Kind>
         ensures kind { result ≡ kind_of number }
@@ -40,6 +42,49 @@ impl Kind {
             6 => Some(Kind::Packed(Rule::Text)),
             7 => Some(Kind::Packed(Rule::Bytes)),
             _ => None,
+        }
+    }
+}
+
+// The text with these bytes.
+#[inline(always)]
+pub(crate) fn text_of(bytes: &[u8]) -> Result<&str, Refusal>
+    ensures ok { IfOk result (λ text. text.now ≡ bytes.now) }
+    ensures faultless { IfOk result (λ _. utf8_fault bytes.now ≡ None) }
+    ensures err { IfErr result (λ refusal. utf8_fault bytes.now ≡ Some refusal) }
+{
+    match str::from_utf8(bytes) {
+        Ok(text) => Ok(text),
+        Err(_) => Err(Refusal::NotUtf8),
+    }
+}
+
+// Checks that the only zero of the bytes is the last one.
+fn check_zeros(bytes: &[u8]) -> Result<(), Refusal>
+    ensures faultless { IfOk result (λ _. zero_fault bytes.now ≡ None) }
+    ensures err { IfErr result (λ refusal. zero_fault bytes.now ≡ Some refusal) }
+{
+    match CStr::from_bytes_with_nul(bytes) {
+        Ok(_) => Ok(()),
+        Err(CStrError::InnerZero(_)) => Err(Refusal::InnerZero),
+        Err(CStrError::MissingZero) => Err(Refusal::MissingZero),
+    }
+}
+
+impl Rule {
+    // Checks that the bytes are what the rule wants.
+    #[inline(always)]
+    pub(crate) fn check(self, bytes: &[u8]) -> Result<(), Refusal>
+        ensures faultless { IfOk result (λ _. broken self bytes.now ≡ None) }
+        ensures err { IfErr result (λ refusal. broken self bytes.now ≡ Some refusal) }
+    {
+        match self {
+            Rule::Bytes => Ok(()),
+            Rule::Text => match text_of(bytes) {
+                Ok(_) => Ok(()),
+                Err(refusal) => Err(refusal),
+            },
+            Rule::CStr => check_zeros(bytes),
         }
     }
 }

@@ -6,11 +6,9 @@
 //! their bytes, before and after the call.
 #![tactic(auto)]
 
+mod ahead;
 mod any_table;
 mod batch;
-mod box_parts;
-mod checks;
-mod codes;
 mod exports;
 mod handle;
 mod kind;

@@ -1,7 +1,10 @@
-//! Errors, and their codes.
+//! Errors and their codes, and results as C gets them.
 ghost use Rattle.std.specs.Prelude.{◌≡◌};
+ghost use Rattle.intaglio_c.specs.Answers.{answer_code, mark_answer, refusal_code, room_answer, room_refusal, symbol_answer, IsWritten};
+ghost use Rattle.intaglio_c.specs.Frozen.{freeze_refusal, frozen_refusal};
+ghost use Rattle.intaglio_c.specs.declared.refusal.Refusal.TheVariants.{NoMemory};
 
-use intaglio_core::RoomError;
+use intaglio_core::{InternError, RoomError, StaleMark, Symbol};
 use intaglio_frozen::{FreezeError, FrozenError};
 use std::alloc::AllocError;
 
@@ -57,8 +60,6 @@ pub enum Refusal {
 }
 
 impl Refusal {
-    ghost use Rattle.intaglio_c.specs.Answers.{refusal_code};
-
     // The code that C gets.
     pub(crate) fn code(self) -> u32
         ensures code { result ≡ refusal_code self }
@@ -68,8 +69,6 @@ impl Refusal {
 }
 
 impl From<AllocError> for Refusal {
-    ghost use Rattle.intaglio_c.specs.declared.refusal.Refusal.TheVariants.{NoMemory};
-
     ghost from_gives = { λ _ refusal. refusal ≡ NoMemory };
 
     fn from(_error: AllocError) -> Refusal {
@@ -78,8 +77,6 @@ impl From<AllocError> for Refusal {
 }
 
 impl From<RoomError> for Refusal {
-    ghost use Rattle.intaglio_c.specs.Answers.{room_refusal};
-
     ghost from_gives = { λ error refusal. refusal ≡ room_refusal error };
 
     fn from(error: RoomError) -> Refusal {
@@ -91,8 +88,6 @@ impl From<RoomError> for Refusal {
 }
 
 impl From<FrozenError> for Refusal {
-    ghost use Rattle.intaglio_c.specs.Frozen.{frozen_refusal};
-
     ghost from_gives = { λ error refusal. refusal ≡ frozen_refusal error };
 
     fn from(error: FrozenError) -> Refusal {
@@ -112,8 +107,6 @@ impl From<FrozenError> for Refusal {
 }
 
 impl From<FreezeError> for Refusal {
-    ghost use Rattle.intaglio_c.specs.Frozen.{freeze_refusal};
-
     ghost from_gives = { λ error refusal. refusal ≡ freeze_refusal error };
 
     fn from(error: FreezeError) -> Refusal {
@@ -125,5 +118,57 @@ impl From<FreezeError> for Refusal {
             FreezeError::NoPlaces => Refusal::NoPlaces,
             FreezeError::Memory => Refusal::NoMemory,
         }
+    }
+}
+
+// The code of a result: 0 if the call succeeded.
+pub(crate) fn code(answer: Result<(), Refusal>) -> u32
+    ensures code { result ≡ answer_code answer }
+{
+    match answer {
+        Ok(()) => 0,
+        Err(refusal) => refusal.code(),
+    }
+}
+
+// The code of a result with a symbol, which is written to `symbol`.
+pub(crate) fn symbol_code(answer: Result<Symbol, Refusal>, symbol: &mut u32) -> u32
+    ensures code { result ≡ answer_code answer }
+    ensures written { IsWritten answer symbol.old symbol.new }
+{
+    match answer {
+        Ok(issued) => {
+            *symbol = issued.id();
+            0
+        }
+        Err(refusal) => refusal.code(),
+    }
+}
+
+// The result for C of a constructor, a reservation or a shrink.
+pub(crate) fn room_answer(answer: Result<(), RoomError>) -> Result<(), Refusal>
+    ensures answer { result ≡ room_answer answer }
+{
+    Ok(answer?)
+}
+
+// The result for C of a rollback.
+pub(crate) fn mark_answer(answer: Result<(), StaleMark>) -> Result<(), Refusal>
+    ensures answer { result ≡ mark_answer answer }
+{
+    match answer {
+        Ok(()) => Ok(()),
+        Err(_) => Err(Refusal::Stale),
+    }
+}
+
+// The result for C of an interning.
+pub(crate) fn symbol_answer(answer: Result<Symbol, InternError>) -> Result<Symbol, Refusal>
+    ensures answer { result ≡ symbol_answer answer }
+{
+    match answer {
+        Ok(symbol) => Ok(symbol),
+        Err(InternError::Overflow(_)) => Err(Refusal::Full),
+        Err(InternError::Memory(_)) => Err(Refusal::NoMemory),
     }
 }

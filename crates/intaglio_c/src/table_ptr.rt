@@ -1,15 +1,44 @@
-//! The pointer of a handle, and what it owns.
+//! The pointer of a handle, and what it owns: a box as its pointer and its allocator.
 ghost use Rattle.std.specs.Prelude.{◌≡◌, IsSomeAnd, ⊤};
+ghost use Rattle.std.specs.Box.Ownership.{box_owns};
 ghost use Rattle.std.specs.declared.option.Option.{Option as Maybe};
 ghost use Rattle.std.specs.declared.option.Option.TheVariants.{None, Some};
 ghost use Rattle.intaglio_c.specs.declared.any_table.AnyTable.{AnyTable};
 ghost use Rattle.intaglio_c.specs.Owned.{ptr_owns, table_coded};
 
 use crate::any_table::AnyTable;
-use crate::box_parts::BoxParts;
-use std::alloc::Global;
+use std::alloc::{Allocator, Global};
 use std::marker::Model;
 use std::ptr::null_mut;
+
+/// The pointer and the allocator of a box. It owns what the box owned.
+pub(crate) struct BoxParts<T, A: Allocator> {
+    pub(crate) ptr: *mut T,
+    pub(crate) alloc: A,
+    pub ghost value: { T },
+}
+
+impl<T, A: Allocator> Model for BoxParts<T, A> {
+    ghost also_owns = { λ p. box_owns (A.dealloc_token p.alloc) T.row p.ptr p.value };
+}
+
+impl<T, A: Allocator> BoxParts<T, A> {
+    pub(crate) fn of(boxed: Box<T, A>) -> BoxParts<T, A>
+    where
+        T: Drop,
+        ensures value { result.value ≡ boxed.value }
+    {
+        let (ptr, alloc) = Box::into_raw_with_allocator(boxed);
+        BoxParts { ptr, alloc }
+    }
+
+    pub(crate) fn into_box(self) -> Box<T, A>
+        ensures value { result.value ≡ self.value }
+    {
+        let BoxParts { ptr, alloc } = self;
+        unsafe { Box::from_raw(alloc, ptr) }
+    }
+}
 
 /// A pointer that owns a boxed table, or nothing. To C it is one pointer, since an allocator has size 0.
 #[repr(C)]

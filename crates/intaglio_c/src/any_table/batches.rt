@@ -1,25 +1,15 @@
 //! Batches of strings.
 ghost use Rattle.std.specs.Prelude.{◌≡◌, length};
-ghost use Rattle.intaglio_c.specs.Batches.{CopiesEach, InternsAll, InternsOr, IsBegun, IsRolledBack, found_all, or_absent};
+ghost use Rattle.intaglio_c.specs.Batches.{CopiesEach, InternsAll, InternsOr, IsBegun, IsRolledBack};
 ghost use Rattle.intaglio_c.specs.Frozen.{Absorbs};
-ghost use Rattle.intaglio_c.specs.Handles.{found};
 ghost use Rattle.intaglio_c.specs.Seen.{TakesStep, contents_of, seen};
 
 use super::AnyTable;
+use crate::ahead::look_ahead;
 use crate::batch::{Batch, is_batch};
 use crate::refusal::Refusal;
 use intaglio_core::{GROUP, Mark, Symbol};
 use intaglio_frozen::{Block, StringList};
-
-// The number that is written for a look-up.
-fn or_absent(answer: Result<Option<Symbol>, Refusal>) -> u64
-    ensures number { result ≡ or_absent (found answer) }
-{
-    match answer {
-        Ok(Some(symbol)) => symbol.id() as u64,
-        _ => u64::MAX,
-    }
-}
 
 impl AnyTable {
     // Interns strings in order, up to the first that fails.
@@ -30,7 +20,7 @@ impl AnyTable {
         let mut hashes = [0u64; GROUP];
         let mut used = GROUP;
         for i in 0..symbols.len() {
-            used = self.look_ahead(list, i, &mut hashes, used);
+            used = look_ahead(&*self, list, i, &mut hashes, used);
             match self.intern(Some(hashes[used]), list.string(i)) {
                 Ok(symbol) => symbols[i] = symbol.id(),
                 Err(refusal) => return Err(refusal),
@@ -82,20 +72,6 @@ impl AnyTable {
             return Err(Refusal::BadEnds);
         }
         self.intern_list(&block, symbols)
-    }
-
-    // Looks up strings.
-    pub(crate) fn find_each<L: StringList>(&self, list: &L, symbols: &mut [u64])
-        requires places { length symbols.old ≡ length (L.strings list.now) }
-        ensures found { symbols.new ≡ found_all (seen self.now) (L.strings list.now) }
-    {
-        let mut hashes = [0u64; GROUP];
-        let mut used = GROUP;
-        for i in 0..symbols.len() {
-            used = self.look_ahead(list, i, &mut hashes, used);
-            symbols[i] = or_absent(self.find(Some(hashes[used]), list.string(i)));
-            used += 1;
-        }
     }
 
     // Copies the strings of symbols to the start of a buffer, and writes the end of each.

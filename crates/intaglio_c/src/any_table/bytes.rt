@@ -1,18 +1,19 @@
 //! Strings as their bytes.
-ghost use Rattle.std.specs.Prelude.{◌≡◌, [], ◌∷◌, None, Some, IfOk, IfErr, IfSome, slice_get};
+ghost use Rattle.std.specs.Prelude.{◌≡◌, ⊤, [], ◌∷◌, None, Some, IfOk, IfErr, IfSome, slice_get};
 ghost use Rattle.std.specs.Option.{option_map};
 ghost use Rattle.intaglio_path.specs.Components.{components};
-ghost use Rattle.intaglio_c.specs.Hashes.{IsHash, keyed_hash};
-ghost use Rattle.intaglio_c.specs.Kinds.{fault, utf8_fault};
+ghost use Rattle.intaglio_c.specs.Batches.{or_absent};
+ghost use Rattle.intaglio_c.specs.Handles.{found};
+ghost use Rattle.intaglio_c.specs.Kinds.{IsHash, fault, keyed_hash, utf8_fault};
 ghost use Rattle.intaglio_c.specs.Seen.{TakesStep, contents_of, look_up, seen};
 ghost use Rattle.intaglio_c.specs.Steps.{Interns, InternsStatic};
 
 use super::AnyTable;
-use crate::checks::text_of;
-use crate::codes::symbol_answer;
-use crate::refusal::Refusal;
+use crate::ahead::LookUps;
+use crate::kind::text_of;
+use crate::refusal::{Refusal, symbol_answer};
 use intaglio_bytes::bytes::BytesContent;
-use intaglio_core::{FormInterner, Sought, Symbol, Work};
+use intaglio_core::{FormInterner, Sought, Symbol, Work, touch_all};
 use intaglio_hash::KeyedState;
 use intaglio_path::{Path, PathContent};
 
@@ -51,21 +52,6 @@ impl AnyTable {
             AnyTable::Owned(_, table) => table.get(symbol),
             AnyTable::Path(table) => Some(table.get(symbol)?.as_str().as_bytes()),
             AnyTable::Packed(_, table) => table.get(symbol),
-        }
-    }
-
-    // The hash of the string with these bytes, or any number if the table doesn't take them.
-    #[inline(always)]
-    pub(super) fn hash(&self, bytes: &[u8]) -> u64
-        ensures hash { IsHash (seen self.now).kind (seen self.now).hasher bytes.now result }
-    {
-        match self {
-            AnyTable::Owned(_, table) => hash_bytes(table.hasher(), bytes),
-            AnyTable::Path(table) => match text_of(bytes) {
-                Ok(text) => hash_path(table.hasher(), text),
-                Err(_) => 0,
-            },
-            AnyTable::Packed(_, table) => hash_bytes(table.hasher(), bytes),
         }
     }
 
@@ -146,5 +132,51 @@ impl AnyTable {
             }
             AnyTable::Packed(_, table) => symbol_answer(table.get_or_intern(bytes)),
         }
+    }
+}
+
+// The number that is written for a look-up.
+fn or_absent(answer: Result<Option<Symbol>, Refusal>) -> u64
+    ensures number { result ≡ or_absent (found answer) }
+{
+    match answer {
+        Ok(Some(symbol)) => symbol.id() as u64,
+        _ => u64::MAX,
+    }
+}
+
+impl LookUps for AnyTable {
+    ghost is_hash = { λ table. IsHash (seen table).kind (seen table).hasher };
+
+    ghost may_be = { λ table bytes n. ⊤ };
+
+    ghost is_exact = { λ table. ⊤ };
+
+    ghost number = { λ table bytes. or_absent (found (look_up (seen table) bytes)) };
+
+    // Any number if the table doesn't take the bytes.
+    #[inline(always)]
+    fn hash(&self, bytes: &[u8]) -> u64 {
+        match self {
+            AnyTable::Owned(_, table) => hash_bytes(table.hasher(), bytes),
+            AnyTable::Path(table) => match text_of(bytes) {
+                Ok(text) => hash_path(table.hasher(), text),
+                Err(_) => 0,
+            },
+            AnyTable::Packed(_, table) => hash_bytes(table.hasher(), bytes),
+        }
+    }
+
+    fn touch(&self, hashes: &[u64]) {
+        match self {
+            AnyTable::Owned(_, table) => touch_all(table, hashes, &"".as_bytes()),
+            AnyTable::Path(table) => touch_all(table, hashes, &Path::new("")),
+            AnyTable::Packed(_, table) => touch_all(table, hashes, &"".as_bytes()),
+        }
+    }
+
+    #[inline(always)]
+    fn find_number(&self, hash: u64, bytes: &[u8]) -> u64 {
+        or_absent(self.find(Some(hash), bytes))
     }
 }

@@ -1,10 +1,39 @@
-//! Length and capacity: the calls that are the same for each kind.
-ghost use Rattle.std.specs.Prelude.{◌≡◌, ◌+◌, ◌≤◌, ◌^◌, length};
+//! Constructors, length and capacity: the calls that are the same for each kind.
+ghost use Rattle.std.specs.Prelude.{◌≡◌, ◌↔◌, Err, IfOk, ◌+◌, ◌≤◌, ◌^◌, length};
+ghost use Rattle.intaglio_core.specs.State.{empty_table};
+ghost use Rattle.intaglio_symbol.specs.declared.error.RoomError.TheVariants.{CapacityOverflow};
+ghost use Rattle.intaglio_c.specs.Seen.{IsOutside, most_of, new_table, room_of, seen, IsChanged, contents_of};
 ghost use Rattle.intaglio_core.specs.Change.{Empties, Reserves, Shrinks, TakesBack};
-ghost use Rattle.intaglio_c.specs.Seen.{IsChanged, contents_of, seen};
 
 use super::AnyTable;
-use intaglio_core::{Mark, RoomError, StaleMark};
+use crate::kind::Kind;
+use intaglio::TableOver;
+use intaglio_core::{Mark, RoomError, StaleMark, Store};
+use intaglio_hash::KeyedState;
+use std::alloc::Global;
+
+// What fixes the size of a new table.
+#[derive(Clone, Copy)]
+pub(crate) enum Size {
+    // Exactly this capacity.
+    Capacity(usize),
+    // Capacity 0, and at most this many contents.
+    Limit(usize),
+}
+
+fn table_of<L: Store + Drop>(
+    alloc: Global,
+    size: Size,
+    keys: KeyedState,
+) -> Result<TableOver<L, KeyedState>, RoomError>
+    ensures made { IfOk result (λ table. table ≡ empty_table (room_of size) (most_of size) keys) }
+    ensures overflow { (result ≡ Err CapacityOverflow) ↔ IsOutside size }
+{
+    match size {
+        Size::Capacity(capacity) => TableOver::with_capacity_and_hasher(alloc, capacity, keys),
+        Size::Limit(limit) => TableOver::with_limit(alloc, limit, keys),
+    }
+}
 
 // The same expression for the table of each kind.
 macro_rules! on_table {
@@ -18,6 +47,24 @@ macro_rules! on_table {
 }
 
 impl AnyTable {
+    // A table of this size.
+    pub(crate) fn of_size(
+        alloc: Global,
+        kind: Kind,
+        size: Size,
+        keys: KeyedState,
+    ) -> Result<Self, RoomError>
+        ensures made { IfOk result
+            (λ table. seen table ≡ new_table kind (room_of size) (most_of size) keys) }
+        ensures overflow { (result ≡ Err CapacityOverflow) ↔ IsOutside size }
+    {
+        match kind {
+            Kind::Owned(rule) => Ok(Self::Owned(rule, table_of(alloc, size, keys)?)),
+            Kind::Path => Ok(Self::Path(table_of(alloc, size, keys)?)),
+            Kind::Packed(rule) => Ok(Self::Packed(rule, table_of(alloc, size, keys)?)),
+        }
+    }
+
     pub(crate) fn len(&self) -> usize
         ensures count { result ≡ length (contents_of self.now) }
         ensures few { result ≤ 2 ^ 32 }

@@ -1,22 +1,16 @@
-//! Frozen tables, which are their bytes.
-//!
-//! But for the call that makes one there is no handle. Each call reads the header again, and nothing outside the
-//! bytes, whatever they are.
+//! Frozen tables, which are their bytes. Each call reads their header again, and nothing outside them.
 ghost use Rattle.std.specs.Prelude.{◌≡◌, ◌↔◌, true, false, length, slice_get, IsTrue, Some};
 ghost use Rattle.std.specs.Option.{option_map};
 ghost use Rattle.intaglio_frozen.specs.IsFrozen.{HasHeader, HasSections, IsFrozen, text_kind};
 ghost use Rattle.intaglio_frozen.specs.Layout.{kind, strings};
 ghost use Rattle.intaglio_c.specs.Answers.{IsCodeOf, given};
-ghost use Rattle.intaglio_c.specs.Batches.{or_absent};
-ghost use Rattle.intaglio_c.specs.Pieces.{is_batch, pieces};
-ghost use Rattle.intaglio_c.specs.Frozen.{Absorbs, AreEqualOrAbsent, Checks, FindsEach, FindsEachTrusted, FreezesHeld};
-ghost use Rattle.intaglio_c.specs.Frozen.{IsEqualOrAbsent, position_in, positions};
+ghost use Rattle.intaglio_c.specs.Frozen.{Absorbs, Checks, FindsEach, FindsEachTrusted, FreezesHeld, position_in};
 ghost use Rattle.intaglio_c.specs.Handles.{ChangesWithCode, Keeps};
 
-use crate::batch::is_batch;
-use crate::codes::code;
+use crate::ahead::find_each;
+use crate::batch::{Batch, is_batch};
 use crate::handle::Handle;
-use crate::refusal::Refusal;
+use crate::refusal::{Refusal, code};
 use crate::spelling::{Spelling, fill};
 use intaglio_core::Symbol;
 use intaglio_frozen::{Frozen, Header, Kind, TrustedFrozen};
@@ -49,10 +43,9 @@ fn freeze(
     }
 }
 
-/// Writes how many bytes a frozen table of the contents has, and copies them to the start of a buffer that has space
-/// for them. Its keys are these, or one of the seven pairs after them.
-/// Fails with `NoTable`; `NoSpace` if the buffer is too short, with the number written; `TooMany`, `TooLong`,
-/// `NoPlaces` and `NoMemory`.
+/// Writes how many bytes a frozen table of the contents has, under these keys or one of the seven pairs after them, and
+/// copies them to the start of a buffer that has space for them. Fails with `NoTable`; `NoSpace` if the buffer is too
+/// short, with the number written; `TooMany`, `TooLong`, `NoPlaces` and `NoMemory`.
 #[unsafe(no_mangle)]
 pub extern "C" fn intaglio_freeze(
     alloc: Global,
@@ -70,7 +63,6 @@ pub extern "C" fn intaglio_freeze(
 }
 
 /// Interns all strings of a frozen table, all or none, in its order, and writes the symbol of each.
-/// Any bytes with its header, whose strings fill their text, are taken as one.
 /// Fails with `NoTable`, what is wrong with the header or the ends, `BadEnds` if there isn't a place for the symbol of
 /// each string, and the errors of interning one; then the contents are unchanged.
 #[unsafe(no_mangle)]
@@ -82,8 +74,7 @@ pub extern "C" fn intaglio_absorb(handle: &mut Handle, bytes: &[u8], symbols: &m
     code(table.absorb(bytes, symbols))
 }
 
-/// Checks that these bytes are a frozen table. Reads all of them.
-/// Fails with what is wrong with the bytes.
+/// Checks that these bytes are a frozen table, and reads all of them. Fails with what is wrong with them.
 #[unsafe(no_mangle)]
 pub extern "C" fn intaglio_frozen_check(bytes: &[u8]) -> u32
     ensures checked { IsCodeOf result (Checks bytes.now) }
@@ -128,7 +119,7 @@ fn find_all(bytes: &[u8], batch: &[u8], ends: &[usize], symbols: &mut [u64]) -> 
     if !is_batch(batch, ends, symbols.len()) {
         return Err(Refusal::BadEnds);
     }
-    find_each(&table, batch, ends, symbols);
+    find_each(&table, &Batch { bytes: batch, ends }, symbols);
     Ok(())
 }
 
@@ -148,34 +139,7 @@ pub extern "C" fn intaglio_frozen_find_all(
     code(find_all(bytes, batch, ends, symbols))
 }
 
-// The number that is written for a string.
-fn number_in(table: &TrustedFrozen<'_>, string: &[u8]) -> u64
-    ensures found { IsEqualOrAbsent (strings table.now) string.now result }
-    ensures frozen { IsFrozen table.now
-        → result ≡ or_absent (position_in (strings table.now) string.now) }
-{
-    match table.check_interned(string) {
-        Some(symbol) => symbol.id() as u64,
-        None => u64::MAX,
-    }
-}
-
-// Looks up the strings of a batch.
-fn find_each(table: &TrustedFrozen<'_>, batch: &[u8], ends: &[usize], symbols: &mut [u64])
-    requires batch { is_batch batch.now ends.now (length symbols.old) ≡ true }
-    ensures found { AreEqualOrAbsent (strings table.now) (pieces batch.now 0 ends.now) symbols.new }
-    ensures frozen { IsFrozen table.now
-        → symbols.new ≡ positions (strings table.now) (pieces batch.now 0 ends.now) }
-{
-    let mut start = 0;
-    for (i, &end) in ends.iter().enumerate() {
-        symbols[i] = number_in(table, &batch[start..end]);
-        start = end;
-    }
-}
-
-/// Writes where the string of a symbol is in the bytes of a frozen table, if there is one, and returns whether there
-/// is.
+/// Writes where a symbol's string is in the bytes of a frozen table, if there is one, and returns whether there is.
 #[unsafe(no_mangle)]
 pub extern "C" fn intaglio_frozen_get(bytes: &[u8], symbol: u32, out: &mut Spelling) -> bool
     ensures found { IsTrue result

@@ -1,5 +1,4 @@
-use Rattle.std.proofs.Common.{◌≡◌, drop}
-use Rattle.intaglio_c.specs.Pieces.{are_ends}
+use Rattle.intaglio_c.proofs.Names.{◌≡◌, drop, are_ends}
 use Rattle.intaglio_c.proofs.batch.are_ends.Given as goal
 
 abbrev pub invariant-loop-end : goal.invariant-loop-end

@@ -1,8 +1,5 @@
 -- The bytes of a symbol in each store.
-use Rattle.std.proofs.Common.{ap, ◌∙◌, Some}
-use Rattle.intaglio_bytes.specs.BytesContent.{bytes_content_bytes}
-use Rattle.intaglio_path.specs.PathContent.{path_content_bytes}
-use Rattle.intaglio_c.specs.Seen.{seen, packed_bytes}
+use Rattle.intaglio_c.proofs.Names.{ap, ◌∙◌, Some, bytes_content_bytes, path_content_bytes, seen, packed_bytes}
 use Rattle.intaglio_c.specs.declared.kind.Kind.TheVariants as kind
 use Rattle.intaglio_c.proofs.AsBytes.{stored}
 use Rattle.intaglio_c.proofs.any_table.AnyTable.bytes_at.Goals as goal

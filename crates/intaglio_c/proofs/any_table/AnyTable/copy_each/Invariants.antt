@@ -1,5 +1,4 @@
-use Rattle.std.proofs.Common.{◌≡◌, length, take}
-use Rattle.intaglio_c.specs.Seen.{seen}
+use Rattle.intaglio_c.proofs.Names.{◌≡◌, length, take, seen}
 use Rattle.intaglio_c.proofs.Batches.{IsCopied}
 use Rattle.intaglio_c.proofs.any_table.AnyTable.copy_each.Given as goal
 

@@ -1,9 +1,5 @@
 -- A look-up in each store.
-use Rattle.std.proofs.Common.{refl, ap, ◌∙◌}
-use Rattle.intaglio_path.specs.Components.{components}
-use Rattle.intaglio_bytes.specs.BytesContent.{bytes_content_bytes}
-use Rattle.intaglio_path.specs.PathContent.{path_content_bytes}
-use Rattle.intaglio_c.specs.Seen.{seen, packed_bytes}
+use Rattle.intaglio_c.proofs.Names.{refl, ap, ◌∙◌, components, bytes_content_bytes, path_content_bytes, seen, packed_bytes}
 use Rattle.intaglio_c.specs.declared.kind.Kind.TheVariants as kind
 use Rattle.intaglio_c.proofs.AsBytes.{found}
 use Rattle.intaglio_c.proofs.any_table.AnyTable.find.Goals as goal

@@ -1,9 +1,5 @@
 -- An interning in each store.
-use Rattle.std.proofs.Common.{refl, ap, ◌∙◌, rules, Err, ◌≡◌, true}
-use Rattle.intaglio_path.specs.Components.{components}
-use Rattle.intaglio_bytes.specs.BytesContent.{bytes_content_bytes}
-use Rattle.intaglio_path.specs.PathContent.{path_content_bytes}
-use Rattle.intaglio_c.specs.Seen.{seen, packed_bytes}
+use Rattle.intaglio_c.proofs.Names.{refl, ap, ◌∙◌, rules, Err, ◌≡◌, true, components, bytes_content_bytes, path_content_bytes, seen, packed_bytes}
 use Rattle.intaglio_c.specs.declared.kind.Kind.TheVariants as kind
 use Rattle.intaglio_c.proofs.AsBytes.{interned, pushed, refused_bytes}
 use Rattle.intaglio_c.proofs.any_table.AnyTable.intern.Goals as goal

@@ -1,13 +1,12 @@
 -- Each turn interns one string more.
-use Rattle.std.proofs.Common.{Ok, rules, sym, ap, ◌∙◌, arith}
-use Rattle.intaglio_c.specs.Seen.{seen}
+use Rattle.intaglio_c.proofs.Names.{Ok, rules, sym, ap, ◌∙◌, arith, IsHash, seen}
 use Rattle.intaglio_c.proofs.Batches.{finished, stopped, turned}
-use Rattle.intaglio_c.proofs.Hashes.{moved, next_hash}
+use Rattle.intaglio_c.proofs.Hashes.{first, moved}
 use Rattle.intaglio_c.proofs.any_table.AnyTable.intern_each.Goals as goal
 
 pub intern-requires : goal.intern-requires
 intern-requires g c = record {
-  known = (next_hash (seen c.loop-i.self).kind (seen c.loop-i.self).hasher (g.L.StringList.strings c.args.list.now) c.look_ahead-used.new.hashes c.loop-i.i c.look_ahead-used.result c.string.result.now c.string.ensures
+  known = (first (IsHash (seen c.loop-i.self).kind (seen c.loop-i.self).hasher) (g.L.StringList.strings c.args.list.now) c.look_ahead-used.new.hashes c.loop-i.i c.look_ahead-used.result c.string.result.now c.string.ensures
       c.look_ahead-used.ensures.some c.look_ahead-used.ensures.left).0;
 }
 
@@ -20,7 +19,7 @@ loop-i-preserved g c =
       places = search rules;
       room = c.look_ahead-used.ensures.places ∙ c.loop-i.invariant.room;
       ahead = moved (seen c.loop-i.self) (seen c.intern.new.self) _ _ c.intern.ensures.step.kind c.intern.ensures.step.hasher
-          (next_hash (seen c.loop-i.self).kind (seen c.loop-i.self).hasher strings c.look_ahead-used.new.hashes c.loop-i.i c.look_ahead-used.result c.string.result.now c.string.ensures
+          (first (IsHash (seen c.loop-i.self).kind (seen c.loop-i.self).hasher) strings c.look_ahead-used.new.hashes c.loop-i.i c.look_ahead-used.result c.string.result.now c.string.ensures
           c.look_ahead-used.ensures.some c.look_ahead-used.ensures.left).1;
       begins = turned _ strings (seen c.loop-i.self) (seen c.intern.new.self) c.loop-i.symbols c.loop-i.i c.id.result c.string.result.now c.intern.result c.string.ensures c.loop-i.invariant.places c.loop-i.invariant.begins (c.in-Ok.is ∙ ap Ok (sym c.id.ensures)) c.intern.ensures.step;
     }

@@ -1,6 +1,4 @@
-use Rattle.std.proofs.Common.{◌≡◌, length, take, drop}
-use Rattle.intaglio_c.specs.Hashes.{AreHashes}
-use Rattle.intaglio_c.specs.Seen.{seen}
+use Rattle.intaglio_c.proofs.Names.{◌≡◌, length, take, drop, AreFirst, IsHash, seen}
 use Rattle.intaglio_c.proofs.Batches.{Begins}
 use Rattle.intaglio_c.proofs.any_table.AnyTable.intern_each.Given as goal
 
@@ -8,6 +6,6 @@ abbrev pub invariant-loop-i : goal.invariant-loop-i
 invariant-loop-i g l = record {
   places : length l.symbols ≡ length (g.L.StringList.strings l.list);
   room : length l.hashes ≡ 64;
-  ahead : AreHashes (seen l.self).kind (seen l.self).hasher (drop l.i (g.L.StringList.strings l.list)) (drop l.used l.hashes);
+  ahead : AreFirst (IsHash (seen l.self).kind (seen l.self).hasher) (drop l.i (g.L.StringList.strings l.list)) (drop l.used l.hashes);
   begins : Begins (seen l.initial.self) (g.L.StringList.strings l.list) (seen l.self) l.i (take l.i l.symbols);
 }

@@ -1,12 +1,7 @@
 -- An interning of static bytes in each store.
-use Rattle.std.proofs.Common.{refl, ap, rules, Err, ◌≡◌}
+use Rattle.intaglio_c.proofs.Names.{refl, ap, rules, Err, ◌≡◌, components, bytes_content_bytes, path_content_bytes, copies_static, seen, packed_bytes}
 use Rattle.intaglio_bytes.specs.declared.bytes.content.BytesContent.TheVariants as bytes
-use Rattle.intaglio_path.specs.Components.{components}
 use Rattle.intaglio_path.specs.declared.content.PathContent.TheVariants as path
-use Rattle.intaglio_bytes.specs.BytesContent.{bytes_content_bytes}
-use Rattle.intaglio_path.specs.PathContent.{path_content_bytes}
-use Rattle.intaglio_c.specs.Kinds.{copies_static}
-use Rattle.intaglio_c.specs.Seen.{seen, packed_bytes}
 use Rattle.intaglio_c.specs.declared.kind.Kind.TheVariants as kind
 use Rattle.intaglio_c.proofs.AsBytes.{interned, moved, pushed, refused_bytes}
 use Rattle.intaglio_c.proofs.any_table.AnyTable.intern_static.Goals as goal

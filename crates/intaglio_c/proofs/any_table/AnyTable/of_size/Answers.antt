@@ -1,11 +1,6 @@
 -- A new table of each kind.
-use Rattle.std.proofs.Common.{sym, ap, ◌∙◌, rules, Err, ◌≡◌}
-use Rattle.std.proofs.lemmas.Result.{IfOk-from_err}
-use Rattle.intaglio_bytes.specs.BytesContent.{bytes_content_bytes}
-use Rattle.intaglio_path.specs.PathContent.{path_content_bytes}
-use Rattle.intaglio_c.specs.Seen.{new_table, seen_as, packed_bytes}
-use Rattle.intaglio_c.specs.Sizes.{most_of, room_of}
-use Rattle.intaglio_c.specs.declared.kind.Kind.{Kind}
+use Rattle.intaglio_c.proofs.Names.{sym, ap, ◌∙◌, rules, Err, ◌≡◌, IfOk-from_err, bytes_content_bytes, path_content_bytes, new_table, seen_as, packed_bytes, Kind}
+use Rattle.intaglio_c.specs.Seen.{most_of, room_of}
 use Rattle.intaglio_c.specs.declared.kind.Kind.TheVariants as kind
 use Rattle.intaglio_c.proofs.AsBytes.{too_large_not, too_large}
 use Rattle.intaglio_c.proofs.any_table.AnyTable.of_size.Goals as goal

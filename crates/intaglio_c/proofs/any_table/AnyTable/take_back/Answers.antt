@@ -1,8 +1,5 @@
 -- A rollback of each store.
-use Rattle.std.proofs.Common.{ap}
-use Rattle.intaglio_bytes.specs.BytesContent.{bytes_content_bytes}
-use Rattle.intaglio_path.specs.PathContent.{path_content_bytes}
-use Rattle.intaglio_c.specs.Seen.{seen, packed_bytes}
+use Rattle.intaglio_c.proofs.Names.{ap, bytes_content_bytes, path_content_bytes, seen, packed_bytes}
 use Rattle.intaglio_c.proofs.AsBytes.{changed, taken_back}
 use Rattle.intaglio_c.proofs.any_table.AnyTable.take_back.Goals as goal
 

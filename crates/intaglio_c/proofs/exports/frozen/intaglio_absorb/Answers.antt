@@ -1,7 +1,5 @@
 -- Without a table, and what the strings are with those of a frozen table.
-use Rattle.std.proofs.Common.{rules, ap, sym, ◌∙◌, Err}
-use Rattle.intaglio_c.specs.declared.refusal.Refusal.TheVariants.{NoTable}
-use Rattle.intaglio_c.specs.Seen.{IsFaultless, fault_in, seen}
+use Rattle.intaglio_c.proofs.Names.{rules, ap, sym, ◌∙◌, Err, NoTable, IsFaultless, fault_in, seen}
 use Rattle.intaglio_c.proofs.Faults.{with_frozen}
 use Rattle.intaglio_c.proofs.exports.frozen.intaglio_absorb.Goals as goal
 

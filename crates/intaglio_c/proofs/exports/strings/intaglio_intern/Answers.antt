@@ -1,7 +1,5 @@
 -- Without a table, and what the strings are with a new one.
-use Rattle.std.proofs.Common.{rules, ap, sym, ◌∙◌, true, Err}
-use Rattle.intaglio_c.specs.declared.refusal.Refusal.TheVariants.{NoTable}
-use Rattle.intaglio_c.specs.Seen.{IsFaultless, fault_in, seen}
+use Rattle.intaglio_c.proofs.Names.{rules, ap, sym, ◌∙◌, true, Err, NoTable, IsFaultless, fault_in, seen}
 use Rattle.intaglio_c.proofs.Faults.{with_interned}
 use Rattle.intaglio_c.proofs.exports.strings.intaglio_intern.Goals as goal
 

@@ -1,8 +1,5 @@
 -- Without a table, and what the strings are with a new one.
-use Rattle.std.proofs.Common.{rules, ap, sym, ◌∙◌, Err}
-use Rattle.intaglio_c.specs.declared.refusal.Refusal.TheVariants.{NoTable}
-use Rattle.intaglio_c.specs.Kinds.{copies_static}
-use Rattle.intaglio_c.specs.Seen.{IsFaultless, fault_in, seen}
+use Rattle.intaglio_c.proofs.Names.{rules, ap, sym, ◌∙◌, Err, NoTable, copies_static, IsFaultless, fault_in, seen}
 use Rattle.intaglio_c.proofs.Faults.{with_interned}
 use Rattle.intaglio_c.proofs.exports.strings.intaglio_intern_static.Goals as goal
 

@@ -1,31 +1,8 @@
 -- The parts of the box that a pointer was made of.
-use mathlib.Core.Path.{◌≡◌, refl, sym}
-use mathlib.Core.List.{List, [], ◌∷◌, ◌++◌}
-use mir.Val.{Val}
-use base.Fml.{ftrue}
-use prog.Wp.{WpFn}
-use types.Kit.{‵, raw, ◌⊛◌, prop, ◌$◌, ◌∵◌, !, qed, done, move, keep, split, join, fsplit, fjoin, regoal, rewrite, suffices}
-use types.Run.{enter, stop, fld, of_opd, no_more, and_then, returns}
-use types.ByLocal.{alloc_all, pass_all, free_all, look_at, get, get_in, sets}
-use types.Part.{agg, sub, whole}
-use contract.Monad.{fact}
-use contract.Running.{tables}
-use denote.RawPtr.{rawptr_Lawful}
-use denote.Signature.{plain}
-use denote.Steps.{nothing, heard}
-use denote.Triple.Walked.{Stays, walk_of, says, stay_dropped, ends_at}
-use Rattle.std.below.core.proofs.alloc.Calls.{Goes-blank}
-use Rattle.std.proofs.raw_atomic.Walks.{proved_at}
-use Rattle.std.specs.Prelude.{IsSomeAnd, ⊤}
-use Rattle.std.specs.contracts.alloc.Global.{the_row as allocator}
-use Rattle.std.proofs.alloc.Global.TheLaws.{the_row_laws}
-use Rattle.std.specs.contracts.impls.GlobalAllocator.TheImpl.{ghosts}
-use Rattle.std.specs.declared.option.Option.{Option}
-use Rattle.std.specs.declared.option.Option.TheVariants.{None, Some}
+use Rattle.intaglio_c.proofs.Walks.{there, ◌≡◌, refl, sym, List, [], ◌∷◌, ◌++◌, Val, ftrue, WpFn, ‵, raw, ◌⊛◌, prop, ◌$◌, ◌∵◌, !, qed, done, move, keep, split, join, fsplit, fjoin, regoal, rewrite, suffices, enter, stop, fld, of_opd, no_more, and_then, returns, alloc_all, pass_all, free_all, look_at, get, get_in, sets, agg, sub, whole, fact, tables, rawptr_Lawful, plain, nothing, heard, Stays, walk_of, says, stay_dropped, ends_at, Goes-blank, proved_at, IsSomeAnd, ⊤, allocator, the_row_laws, ghosts, Option, None, Some, word, word_fits, pair_out, pair_in}
 use Rattle.intaglio_c.specs.Owned.{ptr_owns}
-use Rattle.intaglio_c.proofs.Walks.{word, word_fits, pair_out, pair_in}
 use Rattle.intaglio_c.specs.contracts.any_table.AnyTable.{the_row as any_table}
-use Rattle.intaglio_c.specs.contracts.box_parts.BoxParts.{the_row as parts_of}
+use Rattle.intaglio_c.specs.contracts.table_ptr.BoxParts.{the_row as parts_of}
 use Rattle.intaglio_c.specs.contracts.table_ptr.TablePtr.{the_row as table_ptr}
 use Rattle.intaglio_c.specs.contracts.table_ptr.TablePtr.into_parts as f
 use Rattle.intaglio_c.proofs.table_ptr.TablePtr.into_parts.Statement.{statement}
@@ -33,11 +10,6 @@ use Rattle.intaglio_c.proofs.table_ptr.TablePtr.into_parts.Code as code
 
 abbrev stayed : Stays f.ended.signature.params f.ended.kept
 stayed = (stay_dropped _ f.ended.kept.0, tt)
-
--- the value that is there
-there : {X : Type 0} (o : Option X) → IsSomeAnd o (λ _. ⊤) → (x : X) × (o ≡ Some x)
-there None h = absurd h
-there (Some x) h = (x, refl)
 
 pub into_parts_spec : {M : Type 1} → statement M
 into_parts_spec 𝓤 𝓛 𝓜 𝓡 wired =

@@ -1,22 +1,5 @@
 -- A null pointer owns nothing.
-use mathlib.Core.Path.{refl}
-use mathlib.Core.List.{[], ◌∷◌}
-use lib.Dec.{lit<}
-use base.Fml.{ftrue}
-use types.Kit.{‵, ◌⊛◌, ◌$◌, ◌∵◌, !, qed, done, move, keep, split, join, fjoin, suffices}
-use types.Run.{enter, of_opd, lit, no_more, and_then, returns}
-use types.ByLocal.{alloc_all, pass_all, free_all, look_at, get, sets}
-use types.Part.{agg}
-use denote.Exit.{yes}
-use denote.RawPtr.{null_ptr}
-use denote.Signature.{plain}
-use denote.Steps.{nothing}
-use denote.Triple.Walked.{Stays, walk_of, says, stay_dropped, Goes-dropped, ends_at}
-use Rattle.std.proofs.raw_atomic.Walks.{proved}
-use Rattle.std.specs.contracts.alloc.Global.{the_row as allocator}
-use Rattle.std.proofs.alloc.Global.TheLaws.{lowers}
-use Rattle.std.specs.declared.option.Option.TheVariants.{None}
-use Rattle.intaglio_c.proofs.Walks.{word, pair_in}
+use Rattle.intaglio_c.proofs.Walks.{refl, [], ◌∷◌, lit<, ftrue, ‵, ◌⊛◌, ◌$◌, ◌∵◌, !, qed, done, move, keep, split, join, fjoin, suffices, enter, of_opd, lit, no_more, and_then, returns, alloc_all, pass_all, free_all, look_at, get, sets, agg, yes, null_ptr, plain, nothing, Stays, walk_of, says, stay_dropped, Goes-dropped, ends_at, proved, allocator, lowers, None, word, pair_in}
 use Rattle.intaglio_c.specs.contracts.table_ptr.TablePtr.{the_row as table_ptr}
 use Rattle.intaglio_c.specs.contracts.table_ptr.TablePtr.none as f
 use Rattle.intaglio_c.proofs.table_ptr.TablePtr.none.Statement.{statement}

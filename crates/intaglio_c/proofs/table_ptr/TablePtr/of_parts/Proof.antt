@@ -1,27 +1,7 @@
 -- The parts of a box, behind a pointer that says no type.
-use mathlib.Core.Path.{refl}
-use mathlib.Core.List.{List, [], ◌∷◌, ◌++◌}
-use mir.Val.{Val}
-use base.Fml.{ftrue}
-use prog.Wp.{WpFn}
-use types.Kit.{‵, ◌⊛◌, prop, ◌$◌, ◌∵◌, !, qed, done, move, keep, split, join, fsplit, fjoin, regoal, suffices}
-use types.Run.{enter, stop, fld, of_opd, no_more, and_then, returns}
-use types.ByLocal.{alloc_all, pass_all, free_all, look_at, get, get_in, sets}
-use types.Part.{agg, sub, whole}
-use contract.Running.{tables}
-use denote.RawPtr.{rawptr_Lawful}
-use denote.Signature.{plain}
-use denote.Steps.{nothing}
-use denote.Triple.Walked.{Stays, walk_of, says, stay_dropped, ends_at}
-use Rattle.std.below.core.proofs.alloc.Calls.{Goes-blank}
-use Rattle.std.proofs.raw_atomic.Walks.{proved_at}
-use Rattle.std.specs.contracts.alloc.Global.{the_row as allocator}
-use Rattle.std.proofs.alloc.Global.TheLaws.{the_row_laws}
-use Rattle.std.specs.contracts.impls.GlobalAllocator.TheImpl.{ghosts}
-use Rattle.std.specs.declared.option.Option.TheVariants.{Some}
-use Rattle.intaglio_c.proofs.Walks.{word, word_fits, pair_out, pair_in}
+use Rattle.intaglio_c.proofs.Walks.{refl, List, [], ◌∷◌, ◌++◌, Val, ftrue, WpFn, ‵, ◌⊛◌, prop, ◌$◌, ◌∵◌, !, qed, done, move, keep, split, join, fsplit, fjoin, regoal, suffices, enter, stop, fld, of_opd, no_more, and_then, returns, alloc_all, pass_all, free_all, look_at, get, get_in, sets, agg, sub, whole, tables, rawptr_Lawful, plain, nothing, Stays, walk_of, says, stay_dropped, ends_at, Goes-blank, proved_at, allocator, the_row_laws, ghosts, Some, word, word_fits, pair_out, pair_in}
 use Rattle.intaglio_c.specs.contracts.any_table.AnyTable.{the_row as any_table}
-use Rattle.intaglio_c.specs.contracts.box_parts.BoxParts.{the_row as parts_of}
+use Rattle.intaglio_c.specs.contracts.table_ptr.BoxParts.{the_row as parts_of}
 use Rattle.intaglio_c.specs.contracts.table_ptr.TablePtr.{the_row as table_ptr}
 use Rattle.intaglio_c.specs.contracts.table_ptr.TablePtr.of_parts as f
 use Rattle.intaglio_c.proofs.table_ptr.TablePtr.of_parts.Statement.{statement}

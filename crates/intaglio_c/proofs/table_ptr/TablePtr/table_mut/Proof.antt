@@ -1,40 +1,14 @@
 -- The table behind the pointer, which a `&mut` to a `TablePtr` lends. The pointer itself isn't written.
-use mathlib.Core.Path.{◌≡◌, refl, sym}
-use mathlib.Core.List.{List, [], ◌∷◌, ◌++◌}
+use Rattle.intaglio_c.proofs.Walks.{there, ◌≡◌, refl, sym, List, [], ◌∷◌, ◌++◌, named, Val, vptr, Fml, GName, ftrue, flft, fsep, ent, sep, id⊢, WpFn, sem, ‵, raw, ◌⊛◌, some, later, prop, at_ret, ◌$◌, ◌∵◌, !, qed, done, move, keep, use1, split, join, await, pick, fsplit, fsplit3, fjoin, fpack, feq_l, regoal, rewrite, suffices, frame, group, whole, sub, look_in, enter, load, stop, fld, of_opd, addr, first, blocks, exec, returns, alloc_all, pass_all, free_all, look_at, get, through, sets, sets_last, env, fact, tables, no, Ptr, lies_at, in_a_block, plain, nothing, heard, opens, Stays, walk_of, says, stay_dropped, Goes-spent_ref, ends_at, the_row_laws, proved_at, IsSomeAnd, ⊤, allocator, ghosts, Option, None, Some, word, pair_out, pair_in}
 use Prim.Native.Nat.{ℕ}
 use mir.Raw.{raw as bare}
-use mir.Syntax.{named}
-use mir.Val.{Val, vptr}
-use base.Fml.{Fml, GName, ftrue, flft, fsep}
 use base.Fraction.{full_share}
-use base.Logic.{ent, sep, id⊢}
-use prog.Wp.{WpFn}
-use types.Logic.{sem}
-use types.Kit.{‵, raw, ◌⊛◌, some, later, prop, at_ret, ◌$◌, ◌∵◌, !, qed, done, move, keep, use1, split, join, await, pick, fsplit, fsplit3, fjoin, fpack, feq_l, regoal, rewrite, suffices, frame, group}
-use types.Part.{whole, sub, look_in}
-use types.Run.{enter, load, stop, fld, of_opd, addr, first, blocks, exec, returns}
-use types.ByLocal.{alloc_all, pass_all, free_all, look_at, get, through, sets, sets_last, env}
-use contract.Monad.{fact}
-use contract.Running.{tables}
-use denote.Exit.{no}
 use denote.Follow.{follows, lends_Part}
 use denote.Memory.{part_at, mem, cell_at, part_of, lone}
-use denote.RawPtr.{Ptr, lies_at, in_a_block}
 use denote.Ref.{MutRef}
-use denote.Signature.{plain}
-use denote.Steps.{nothing, heard, opens}
-use denote.Triple.Walked.{Stays, walk_of, says, stay_dropped, Goes-spent_ref, ends_at}
 use Rattle.std.proofs.VecSteps.Shapes.{after}
-use Rattle.std.proofs.alloc.Global.TheLaws.{the_row_laws}
-use Rattle.std.proofs.raw_atomic.Walks.{proved_at}
-use Rattle.std.specs.Prelude.{IsSomeAnd, ⊤}
-use Rattle.std.specs.contracts.alloc.Global.{the_row as allocator}
-use Rattle.std.specs.contracts.impls.GlobalAllocator.TheImpl.{ghosts}
-use Rattle.std.specs.declared.option.Option.{Option}
-use Rattle.std.specs.declared.option.Option.TheVariants.{None, Some}
 use Rattle.intaglio_c.specs.Lent.{with_table}
 use Rattle.intaglio_c.specs.Owned.{ptr_owns}
-use Rattle.intaglio_c.proofs.Walks.{word, pair_out, pair_in}
 use Rattle.intaglio_c.specs.contracts.any_table.AnyTable.{the_row as any_table}
 use Rattle.intaglio_c.specs.contracts.table_ptr.TablePtr.{the_row as table_ptr}
 use Rattle.intaglio_c.specs.contracts.table_ptr.TablePtr.table_mut as f
@@ -43,11 +17,6 @@ use Rattle.intaglio_c.proofs.table_ptr.TablePtr.table_mut.Code as code
 
 abbrev stayed : Stays f.ended.signature.params f.ended.kept
 stayed = (stay_dropped _ no, tt)
-
--- the value that is there
-there : {X : Type 0} (o : Option X) → IsSomeAnd o (λ _. ⊤) → (x : X) × (o ≡ Some x)
-there None h = absurd h
-there (Some x) h = (x, refl)
 
 -- all of a `TablePtr` at a place but its table
 abbrev Rest : table_ptr.Denot → Val → ℕ → ℕ → Fml
