@@ -8,14 +8,6 @@ use Rattle.intaglio_symbol.specs.declared.error.RoomError.{RoomError}
 use Rattle.intaglio_symbol.specs.declared.error.RoomError.TheVariants as room_error
 use Rattle.intaglio_c.specs.Answers.{symbol_answer}
 
--- bytes that the kind doesn't take
-pub refused_bytes : (copies : Kind → Bool) (t : Seen) (b : List ℕ) (r : Refusal) (result : Result ℕ Refusal) → fault t.kind b ≡ Some r → result ≡ Err r → IsChangedBy t t (λ _ s'. InternsBy (copies t.kind) b t.state (look_up t b) result s')
-refused_bytes copies t b r result fault_is err = record {
-  kind = refl;
-  hasher = refl;
-  step = subst (λ (f : Option Refusal). InternsBy (copies t.kind) b t.state (unless f (position t b)) result t.state) (sym fault_is) (err, refl);
-}
-
 -- a table whose state alone changed, as it is seen
 pub changed : {C : Type 0} (old : Seen) (kind : Kind) (bytes : C → List ℕ) (s s' : State C) (h h' : KeyedState) (Step : State (List ℕ) → State (List ℕ) → Type 0)
     → old ≡ seen_of kind bytes s h → h' ≡ h → Step (as_bytes bytes s) (as_bytes bytes s')
@@ -36,40 +28,6 @@ module _ {C : Type 0} (bytes : C → List ℕ) where
         limit = cut.limit;
       }
   taken_back old new n (Err stale) kept = (subst (λ (m : ℕ). m < n) (sym (length-map old.contents bytes)) kept.0, ap (as_bytes bytes) kept.1)
-
-  -- a reservation
-  pub reserved : (old new : State C) (n : ℕ) (result : Result (Unit {0}) RoomError) → Reserves old n result new → Reserves (as_bytes bytes old) n result (as_bytes bytes new)
-  reserved old new n (Ok done) made =
-      let count = length-map old.contents bytes in record {
-        within_limit = subst (λ (m : ℕ). m + n ≤ old.limit) (sym count) made.within_limit;
-        enough = λ e. ap (as_bytes bytes) (made.enough e);
-        contents = ap (map bytes) made.contents;
-        spare = made.spare;
-        buckets = λ e. made.buckets (subst (λ (m : ℕ). m + n ≤ old.buckets) count e);
-        limit = made.limit;
-      }
-  reserved old new n (Err room_error.CapacityOverflow) kept = (subst (λ (m : ℕ). old.limit < m + n) (sym (length-map old.contents bytes)) kept.0, ap (as_bytes bytes) kept.1)
-  reserved old new n (Err (room_error.Memory _)) failed = record {
-    within_limit = subst (λ (m : ℕ). m + n ≤ old.limit) (sym (length-map old.contents bytes)) failed.within_limit;
-    missing = failed.missing;
-    contents = ap (map bytes) failed.contents;
-    spare = failed.spare;
-    buckets = failed.buckets;
-    limit = failed.limit;
-  }
-
-  -- a shrink
-  pub shrunk : (old new : State C) (n : ℕ) (result : Result (Unit {0}) RoomError) → Shrinks old n result new → Shrinks (as_bytes bytes old) n result (as_bytes bytes new)
-  shrunk old new n (Ok done) made =
-      let count = length-map old.contents bytes in let left = length-map new.contents bytes in record {
-        small = λ e. ap (as_bytes bytes) (made.small (subst (λ (m : ℕ). m + old.spare ≤ n) count e));
-        contents = ap (map bytes) made.contents;
-        buckets = λ e. made.buckets (subst (λ (m : ℕ). n < m + old.spare) count e) ∙ ap (λ (m : ℕ). max m n) (sym count);
-        spare = λ e. ap (λ (m : ℕ). m + new.spare) left ∙ made.spare (subst (λ (m : ℕ). n < m + old.spare) count e) ∙ ap (λ (m : ℕ). max m n) (sym count);
-        limit = made.limit;
-      }
-  shrunk old new n (Err room_error.CapacityOverflow) never = never
-  shrunk old new n (Err (room_error.Memory _)) kept = (subst (λ (m : ℕ). n < m + old.spare) (sym (length-map old.contents bytes)) kept.0, ap (as_bytes bytes) kept.1)
 
   -- an interning of what isn't stored
   refused : (old new : State C) → IsRefused old new → IsRefused (as_bytes bytes old) (as_bytes bytes new)
@@ -118,19 +76,6 @@ module _ {C : Type 0} (bytes : C → List ℕ) where
 
   pub pushed : (content_key : C → Key) (k : Key) (w : List ℕ) (cs : List C) (b : List ℕ) → w ≡ b → Adds (IsPushed content_key bytes k w) cs b
   pushed content_key k w cs b is cs' one = moved one.copy cs b (one.same_spelling ∙ is) cs' one.added
-
-module _ {C : Type 0} (kind : Kind) (bytes : C → List ℕ) where
-  -- the bytes of a symbol
-  pub stored : (old : Seen) (held : State C) (h : KeyedState) (i : ℕ) (o : Option (List ℕ)) → old ≡ seen_of kind bytes held h → o ≡ option_map bytes (slice_get held.contents i) → o ≡ slice_get old.state.contents i
-  stored old held h i o is found = subst (λ (x : Seen). o ≡ slice_get x.state.contents i) (sym is) (found ∙ sym (slice_get-map bytes held.contents i))
-
--- whether a size is too large, by the result
-module _ {X Y E P : Type 0} where
-  pub too_large_not : (x : X) (y : Y) {e : E} → ((Ok x ≡ Err e) ↔ P) → (Ok y ≡ Err e) ↔ P
-  too_large_not x y over = (λ q. absurd (cc), λ p. absurd (let q = over.1 p in cc))
-
-  pub too_large : (r : Result Y E) (s : Result X E) (d e : E) → r ≡ Err d → s ≡ Err d → ((s ≡ Err e) ↔ P) → (r ≡ Err e) ↔ P
-  too_large r s d e err was over = (λ q. over.0 (let f : d ≡ e = cc in was ∙ ap Err f), λ p. let q = over.1 p in cc)
 
 -- a kind whose contents have their bytes' keys
 module _ {C : Type 0} (kind : Kind) (bytes : C → List ℕ) (content_key : C → Key) (same : (c : C) → content_key c ≡ key kind (bytes c)) where

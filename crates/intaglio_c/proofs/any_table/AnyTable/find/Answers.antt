@@ -9,6 +9,3 @@ returns-in-Owned c = record { found = found (kind.Owned c.in-Owned.field-0) byte
 
 pub returns-in-Path : goal.returns-in-Path
 returns-in-Path c = record { found = found kind.Path path_content_bytes _ (λ _. refl) _ _ _ _ _ _ (ap seen c.in-Path.is) c.in_ok-check.ensures.faultless (ap components (c.new-in-Path.ensures ∙ c.text_in.ensures.text)) c.search_hashed-in-Path.ensures.found }
-
-pub returns : goal.returns
-returns c = record { found = found (kind.Packed c.in-Packed.field-0) packed_bytes _ (λ _. refl) _ _ _ _ _ _ (ap seen c.in-Packed.is) c.in_ok-check.ensures.faultless refl c.search_hashed-in-Packed.ensures.found }

@@ -12,6 +12,3 @@ returns-in-Path c = record { step = interned kind.Path path_content_bytes _ (λ 
 
 pub returns : goal.returns
 returns c = record { step = interned (kind.Packed c.in-Packed.field-0) packed_bytes _ (λ _. refl) (λ _. true) _ _ _ _ c.intern_hashed-in-Packed.new.self c.args.bytes.now _ _ _ (ap seen c.in-Packed.is) c.intern_hashed-in-Packed.ensures.hasher c.in_ok-check.ensures.faultless refl (pushed packed_bytes _ _ _ _ _ refl) c.intern_hashed-in-Packed.ensures.step c.symbol_answer-in-Packed.ensures.answer }
-
-pub returns-in_err-check : goal.returns-in_err-check
-returns-in_err-check c = record { step = refused_bytes (λ _. true) _ _ _ _ c.in_err-check.ensures.err (let e : c.from_residual.result ≡ Err c.in_err-check.field-0.0 = search rules in e) }

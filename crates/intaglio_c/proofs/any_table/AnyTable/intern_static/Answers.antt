@@ -11,9 +11,3 @@ returns-in-Owned c = record { step = interned (kind.Owned c.in-Owned.field-0) by
 
 pub returns-in-Path : goal.returns-in-Path
 returns-in-Path c = record { step = interned kind.Path path_content_bytes _ (λ _. refl) copies_static _ _ _ _ c.intern-in-Path.new.self c.args.bytes.now _ _ _ (ap seen c.in-Path.is) c.intern-in-Path.ensures.hasher c.in_ok-check.ensures.faultless (ap components c.text_in.ensures.text) (moved path_content_bytes (path.Borrowed c.text_in.result) _ _ c.text_in.ensures.text) c.intern-in-Path.ensures.step c.symbol_answer-in-Path.ensures.answer }
-
-pub returns-in-Packed : goal.returns-in-Packed
-returns-in-Packed c = record { step = interned (kind.Packed c.in-Packed.field-0) packed_bytes _ (λ _. refl) copies_static _ _ _ _ c.get_or_intern.new.self c.args.bytes.now _ _ _ (ap seen c.in-Packed.is) c.get_or_intern.ensures.hasher c.in_ok-check.ensures.faultless refl (pushed packed_bytes _ _ _ _ _ refl) c.get_or_intern.ensures.step c.symbol_answer-in-Packed.ensures.answer }
-
-pub returns-in_err-check : goal.returns-in_err-check
-returns-in_err-check c = record { step = refused_bytes copies_static _ _ _ _ c.in_err-check.ensures.err (let e : c.from_residual.result ≡ Err c.in_err-check.field-0.0 = search rules in e) }

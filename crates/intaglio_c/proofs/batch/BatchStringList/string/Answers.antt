@@ -3,9 +3,6 @@ use Rattle.intaglio_c.proofs.Names.{◌∙◌, ◌-◌, ◌<◌, ◌≤◌, ◌�
 use Rattle.intaglio_c.proofs.Pieces.{in_order, piece, pieces_length}
 use Rattle.intaglio_c.proofs.batch.BatchStringList.string.Goals as goal
 
-pub start_of-requires : goal.start_of-requires
-start_of-requires c = omega (arith, c.requires, pieces_length c.args.self.now.bytes.now 0 c.args.self.now.ends.now)
-
 pub part-requires : goal.part-requires
 part-requires c =
     let ends = c.args.self.now.ends.now in
