@@ -3,7 +3,7 @@ use Rattle.intaglio_c.proofs.Names.{refl, ap, rules, Err, ◌≡◌, components,
 use Rattle.intaglio_bytes.specs.declared.bytes.content.BytesContent.TheVariants as bytes
 use Rattle.intaglio_path.specs.declared.content.PathContent.TheVariants as path
 use Rattle.intaglio_c.specs.declared.kind.Kind.TheVariants as kind
-use Rattle.intaglio_c.proofs.AsBytes.{interned, moved, pushed, refused_bytes}
+use Rattle.intaglio_c.proofs.AsBytes.{interned, moved, pushed}
 use Rattle.intaglio_c.proofs.any_table.AnyTable.intern_static.Goals as goal
 
 pub returns-in-Owned : goal.returns-in-Owned
