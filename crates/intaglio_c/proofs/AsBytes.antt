@@ -1,5 +1,5 @@
 -- What a change of a table is to the bytes of its contents.
-use Rattle.intaglio_c.proofs.Names.{◌≡◌, ℕ, ◌+◌, ◌<◌, ◌≤◌, inl, inr, Bool, true, false, List, [], ◌∷◌, ◌++◌, map, refl, sym, ap, subst, ◌∙◌, arith, max, ◌↔◌, option_map, slice_get, Option, Some, None, MatchOption, Result, Ok, Err, take-map, length-map, map-append, slice_get-map, State, Table, first, first_of, AddsNew, InternsValue, IsOutOfMemory, IsRefused, Reserves, Shrinks, TakesBack, StaleMark, fault, key, Seen, as_bytes, seen_as, seen_of, position, look_up, unless, IsChangedBy, InternsBy, InternsNew, KeyedState, Kind, Refusal}
+use Rattle.intaglio_c.proofs.Names.{◌≡◌, ℕ, ◌+◌, ◌<◌, ◌≤◌, inl, inr, Bool, true, false, List, [], ◌∷◌, ◌++◌, map, refl, sym, ap, subst, ◌∙◌, arith, max, ◌↔◌, option_map, slice_get, Option, Some, None, MatchOption, Result, Ok, Err, take-map, length-map, map-append, slice_get-map, State, Table, first, first_of, AddsNew, InternsValue, IsOutOfMemory, IsRefused, Reserves, Shrinks, TakesBack, StaleMark, fault, key, Seen, as_bytes, seen_of, position, look_up, unless, IsChangedBy, InternsBy, InternsNew, KeyedState, Kind, Refusal}
 use Rattle.intaglio_content.specs.Key.{Key}
 use Rattle.intaglio_content.specs.Store.{IsMoved, IsPushed}
 use Rattle.intaglio_symbol.specs.declared.error.InternError.{InternError}
@@ -96,12 +96,12 @@ module _ {C : Type 0} (kind : Kind) (bytes : C → List ℕ) (content_key : C �
   -- an interning
   pub interned : (copies : Kind → Bool) (adds : List C → List C → Type 0) (old : Seen) (held : State C) (h : KeyedState) (t' : Table C KeyedState) (b : List ℕ) (k : Key) (result : Result ℕ InternError) (answer : Result ℕ Refusal)
       → old ≡ seen_of kind bytes held h → t'.hasher ≡ h → fault old.kind b ≡ None → k ≡ key kind b → Adds bytes adds held.contents b → InternsValue content_key adds (copies kind) held k result t'.state → answer ≡ symbol_answer result
-      → IsChangedBy old (seen_as kind bytes t') (λ _ s'. InternsBy (copies old.kind) b old.state (look_up old b) answer s')
+      → IsChangedBy old (seen_of kind bytes t'.state t'.hasher) (λ _ s'. InternsBy (copies old.kind) b old.state (look_up old b) answer s')
   interned copies adds old held h t' b k result answer is hasher allowed spelled grows step answered =
       let s = as_bytes bytes held in let s' = as_bytes bytes t'.state in let given = symbol_answer result in
       let looked_up = by_look_up bytes adds (copies kind) (first content_key held.contents k) held t'.state b result grows step in
       let found = subst (λ (o : Option ℕ). InternsBy (copies kind) b s (Ok o) given s') (place held.contents b k spelled) looked_up in
       let tested = subst (λ (f : Option Refusal). InternsBy (copies kind) b s (unless f (position (seen_of kind bytes held h) b)) given s') (sym (subst (λ (x : Seen). fault x.kind b ≡ None) is allowed)) found in
-      subst (λ (a : Result ℕ Refusal). IsChangedBy old (seen_as kind bytes t') (λ _ x. InternsBy (copies old.kind) b old.state (look_up old b) a x)) (sym answered)
+      subst (λ (a : Result ℕ Refusal). IsChangedBy old (seen_of kind bytes t'.state t'.hasher) (λ _ x. InternsBy (copies old.kind) b old.state (look_up old b) a x)) (sym answered)
       (changed old kind bytes held t'.state h t'.hasher (λ _ x. InternsBy (copies old.kind) b old.state (look_up old b) given x) is hasher
       (subst (λ (x : Seen). InternsBy (copies x.kind) b x.state (look_up x b) given s') (sym is) tested))

@@ -1,5 +1,5 @@
 -- Which bytes a kind doesn't take.
-use Rattle.intaglio_c.proofs.Names.{◌∙◌, Bool, ◌≡◌, ℕ, zero, suc, ◌+◌, ◌-◌, ◌<◌, true, false, List, [], ◌∷◌, ◌++◌, length, take, refl, sym, ap, arith, cond, inl, inr, ◌⊎◌, if◌then◌else◌, Option, Some, None, Result, Ok, Err, ◌==◌, IsUtf8, is_some, eqb-true, none-some, TakesBack, interned, interned_all, State, first, StaleMark, Either, InternsOr, IsRolledBack, earlier, fault, first_fault, key, utf8_fault, zero_fault, zero_fault_at, Kind, Refusal, BadEnds, Full, NoMemory, NotUtf8, InnerZero, MissingZero, IsFaultless, Seen, look_up, position, unless, InternsBy}
+use Rattle.intaglio_c.proofs.Names.{◌∙◌, Bool, ◌≡◌, ℕ, zero, suc, ◌+◌, ◌-◌, ◌<◌, true, false, List, [], ◌∷◌, ◌++◌, length, take, refl, sym, ap, arith, cond, inl, inr, ◌⊎◌, if◌then◌else◌, Option, Some, None, Result, Ok, Err, ◌==◌, IsUtf8, is_some, eqb-true, none-some, TakesBack, interned, interned_all, State, first, StaleMark, Either, InternsOr, IsRolledBack, earlier, fault, first_fault, key, utf8_fault, zero_fault, zero_fault_at, Kind, Refusal, BadEnds, Full, NoMemory, NotUtf8, InnerZero, MissingZero, Seen, look_up, position, unless, InternsBy}
 use Rattle.std.specs.Str.{is_utf8}
 use Rattle.std.proofs.lemmas.Str.{IsUtf8-from_is_utf8, is_utf8-from_IsUtf8}
 use Rattle.intaglio_frozen.specs.Layout.{strings}
@@ -69,6 +69,10 @@ after None None true b s s' (Err NoMemory) (inr kept) = inl kept.contents
 after None None copies b s s' (Err _) never = absurd never
 after None (Some i) copies b s s' result known = inl (ap (λ (x : State (List ℕ)). x.contents) known.1)
 after (Some r) o copies b s s' result refused = inl (ap (λ (x : State (List ℕ)). x.contents) refused.1)
+
+-- all contents are strings of the table's kind
+abbrev pub IsFaultless : Seen → Type 0
+IsFaultless t = first_fault t.kind t.state.contents ≡ None
 
 -- a table that changes, all of whose strings are what its kind takes
 module _ (t t' : Seen) (same_kind : t'.kind ≡ t.kind) (faultless : IsFaultless t) where

@@ -47,10 +47,6 @@ abbrev pub IsWritten : Result ℕ Refusal → ℕ → ℕ → Type 0
 IsWritten (Ok symbol) before after = after ≡ symbol
 IsWritten (Err _) before after = after ≡ before
 
--- the same for a result with a symbol, which is written over another number
-abbrev pub IsSymbolCodeOf : ℕ → ℕ → ℕ → (Result ℕ Refusal → Type 0) → Type 0
-IsSymbolCodeOf code before after P = (answer : Result ℕ Refusal) × (code ≡ answer_code answer) × IsWritten answer before after × P answer
-
 -- a value, if it is given
 abbrev pub given : {X : Type 0} → Bool → X → Option X
 given true x = Some x

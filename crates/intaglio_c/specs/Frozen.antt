@@ -10,10 +10,9 @@ use Rattle.intaglio_frozen.specs.declared.error.FrozenError.{FrozenError}
 use Rattle.intaglio_frozen.specs.declared.error.FrozenError.TheVariants as fault
 use Rattle.intaglio_frozen.specs.declared.kind.Kind.{Kind as FrozenKind}
 use Rattle.intaglio_frozen.specs.declared.kind.Kind.TheVariants as frozen
-use Rattle.intaglio_c.specs.Batches.{InternsOr, IsRolledBack, or_absent}
+use Rattle.intaglio_c.specs.Batches.{AreAll, Either, FindsBy, InternsOr, IsRolledBack, is_batch, or_absent, pieces}
 use Rattle.intaglio_c.specs.Handles.{filled, table_of}
 use Rattle.intaglio_c.specs.Kinds.{rule_of}
-use Rattle.intaglio_c.specs.Pieces.{AreAll, Either, FindsBy, is_batch, pieces}
 use Rattle.intaglio_c.specs.Seen.{Seen}
 use Rattle.intaglio_c.specs.declared.handle.Handle.{Handle}
 use Rattle.intaglio_c.specs.declared.kind.Rule.TheVariants as rule

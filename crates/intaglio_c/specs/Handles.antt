@@ -1,7 +1,7 @@
 -- What C sees of a handle, and what calls do to it.
 use Rattle.intaglio_c.specs.Words.{◌≡◌, ℕ, ◌+◌, List, [], ◌++◌, length, drop, slice_get, nat_lt, if◌then◌else◌, Option, Some, None, option_map, option_and_then, MatchOption, MatchResult, IsSomeAnd, Result, Ok, Err, Empties, State, initial_hasher, Kind, Refusal, NoTable, NoMemory, TooLarge, NoKind}
 use Rattle.std.specs.declared.hash.DefaultHasher.{DefaultHasher}
-use Rattle.intaglio_c.specs.Answers.{IsCodeOf, IsSymbolCodeOf}
+use Rattle.intaglio_c.specs.Answers.{answer_code, IsCodeOf, IsWritten}
 use Rattle.intaglio_c.specs.Kinds.{kind_of}
 use Rattle.intaglio_c.specs.Seen.{IsOutside, Seen, most_of, room_of, seen, IsChangedBy, look_up}
 use Rattle.intaglio_c.specs.declared.any_table.AnyTable.{AnyTable}
@@ -31,7 +31,7 @@ ChangesWithCode old new code Step = IsCodeOf code (λ answer. Changes old new an
 
 -- and the symbol, which is written over another number
 abbrev pub ChangesWithSymbol : Handle → Handle → ℕ → ℕ → ℕ → (Seen → Result ℕ Refusal → State (List ℕ) → Type 0) → Type 0
-ChangesWithSymbol old new code before after Step = IsSymbolCodeOf code before after (λ answer. Changes old new answer Step)
+ChangesWithSymbol old new code before after Step = (answer : Result ℕ Refusal) × (code ≡ answer_code answer) × IsWritten answer before after × Changes old new answer Step
 
 -- the table, if there is one, is cleared
 abbrev pub Clears : Handle → Handle → Type 0
@@ -51,10 +51,6 @@ Makes (Some kind) new (Ok _) IsTooLarge IsMade = ¬ IsTooLarge × IsSomeAnd (tab
 Makes (Some kind) new (Err TooLarge) IsTooLarge IsMade = IsTooLarge × HoldsNone new
 Makes (Some kind) new (Err NoMemory) IsTooLarge IsMade = ¬ IsTooLarge × HoldsNone new
 Makes (Some kind) new (Err _) IsTooLarge IsMade = ⊥
-
--- a table is put into a handle, unless an allocation fails
-abbrev pub Puts : AnyTable → Handle → Result (Unit {0}) Refusal → Type 0
-Puts table new result = MatchResult result (λ _. new.ptr.table ≡ Some table) (λ refusal. (refusal ≡ NoMemory) × HoldsNone new)
 
 -- a table of this size is made
 abbrev pub MakesSized : ℕ → Size → DefaultHasher → Handle → Result (Unit {0}) Refusal → Type 0

@@ -6,7 +6,6 @@ pub mod Handles
 pub mod Kinds
 pub mod Lent
 pub mod Owned
-pub mod Pieces
 pub mod Seen
 pub mod Steps
 pub mod Words

@@ -23,18 +23,14 @@ as_bytes bytes s = record { contents = map bytes s.contents; spare = s.spare; bu
 abbrev pub seen_of : {C : Type 0} → Kind → (C → List ℕ) → State C → KeyedState → Seen
 seen_of k bytes s hasher = record { kind = k; state = as_bytes bytes s; hasher = hasher }
 
--- a table of this kind, by the bytes of its contents
-abbrev pub seen_as : {C : Type 0} → Kind → (C → List ℕ) → Table C KeyedState → Seen
-seen_as k bytes t = seen_of k bytes t.state t.hasher
-
 -- a packed table's contents are their bytes
 abbrev pub packed_bytes : List ℕ → List ℕ
 packed_bytes bytes = bytes
 
 abbrev pub seen : AnyTable → Seen
-seen (any_table.Owned rule t) = seen_as (kind.Owned rule) bytes_content_bytes t
-seen (any_table.Path t) = seen_as kind.Path path_content_bytes t
-seen (any_table.Packed rule t) = seen_as (kind.Packed rule) packed_bytes t
+seen (any_table.Owned rule t) = seen_of (kind.Owned rule) bytes_content_bytes t.state t.hasher
+seen (any_table.Path t) = seen_of kind.Path path_content_bytes t.state t.hasher
+seen (any_table.Packed rule t) = seen_of (kind.Packed rule) packed_bytes t.state t.hasher
 
 -- the symbol of the content that is equal to the one with these bytes, if one is stored
 abbrev pub position : Seen → List ℕ → Option ℕ
@@ -43,10 +39,6 @@ position t bytes = first (key t.kind) t.state.contents (key t.kind bytes)
 -- the contents of a table, as their bytes
 abbrev pub contents_of : AnyTable → List (List ℕ)
 contents_of table = (seen table).state.contents
-
--- all contents are strings of the table's kind
-abbrev pub IsFaultless : Seen → Type 0
-IsFaultless t = first_fault t.kind t.state.contents ≡ None
 
 -- the first fault of the contents of a table that is held, if there is one
 abbrev pub fault_in : Option AnyTable → Option Refusal

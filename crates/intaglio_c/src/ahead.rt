@@ -1,7 +1,7 @@
 //! Groups of strings: all of a group are hashed, then what their look-ups will read is read, and only then is each
 //! looked up. So the cache misses of their look-ups overlap, and nothing is allocated.
 ghost use Rattle.std.specs.Prelude.{◌≡◌, ◌<◌, ◌≤◌, ℕ, List, drop, length, map};
-ghost use Rattle.intaglio_c.specs.Pieces.{AreAll, AreFirst};
+ghost use Rattle.intaglio_c.specs.Batches.{AreAll, AreFirst, or_absent};
 
 use intaglio_core::GROUP;
 use intaglio_frozen::{StringList, TrustedFrozen};
@@ -88,7 +88,6 @@ impl LookUps for TrustedFrozen<'_> {
     ghost use Rattle.intaglio_frozen.specs.IsFrozen.{IsFrozen};
     ghost use Rattle.intaglio_frozen.specs.Layout.{strings};
     ghost use Rattle.intaglio_frozen.specs.LookUp.{hash};
-    ghost use Rattle.intaglio_c.specs.Batches.{or_absent};
     ghost use Rattle.intaglio_c.specs.Frozen.{IsEqualOrAbsent, position_in};
 
     ghost is_hash = { λ bytes string n. n ≡ hash bytes string };

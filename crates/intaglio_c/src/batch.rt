@@ -1,6 +1,6 @@
 //! Batches, as C passes them: many strings in one list of bytes, with the end of each.
 ghost use Rattle.std.specs.Prelude.{◌≡◌, ◌-◌, ◌≤◌, ◌∷◌, true, length, take, drop, get_or};
-ghost use Rattle.intaglio_c.specs.Pieces.{are_ends, is_batch, pieces};
+ghost use Rattle.intaglio_c.specs.Batches.{are_ends, is_batch, pieces};
 
 use intaglio_frozen::StringList;
 

@@ -21,14 +21,8 @@ impl Spelling {
     pub(crate) fn of(bytes: &[u8]) -> Spelling
         ensures len { result.len ≡ length bytes.now }
     {
-        if bytes.is_empty() {
-            return Spelling {
-                at: from_ref(NO_BYTES),
-                len: 0,
-            };
-        }
         Spelling {
-            at: from_ref(&bytes[0]),
+            at: from_ref(bytes.first().unwrap_or(NO_BYTES)),
             len: bytes.len(),
         }
     }

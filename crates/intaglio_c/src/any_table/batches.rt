@@ -64,10 +64,7 @@ impl AnyTable {
     pub(crate) fn absorb(&mut self, frozen: &[u8], symbols: &mut [u32]) -> Result<(), Refusal>
         ensures step { TakesStep self.old self.new result (Absorbs frozen.now symbols.old symbols.new) }
     {
-        let block = match Block::read(frozen) {
-            Ok(block) => block,
-            Err(fault) => return Err(Refusal::from(fault)),
-        };
+        let block = Block::read(frozen)?;
         if symbols.len() != StringList::len(&block) {
             return Err(Refusal::BadEnds);
         }

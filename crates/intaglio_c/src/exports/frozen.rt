@@ -29,18 +29,13 @@ fn freeze(
     ensures kept { Keeps handle.old handle.new }
 {
     let table = table_of!(handle, Err(Refusal::NoTable));
-    match table.freeze(alloc, key0, key1) {
-        Ok(bytes) => {
-            *len = bytes.len();
-            fill(buffer, &bytes);
-            if buffer.len() < bytes.len() {
-                Err(Refusal::NoSpace)
-            } else {
-                Ok(())
-            }
-        }
-        Err(error) => Err(Refusal::from(error)),
+    let bytes = table.freeze(alloc, key0, key1)?;
+    *len = bytes.len();
+    fill(buffer, &bytes);
+    if buffer.len() < bytes.len() {
+        return Err(Refusal::NoSpace);
     }
+    Ok(())
 }
 
 /// Writes how many bytes a frozen table of the contents has, under these keys or one of the seven pairs after them, and
@@ -112,10 +107,7 @@ fn find_all(bytes: &[u8], batch: &[u8], ends: &[usize], symbols: &mut [u64]) -> 
     ensures frozen { IsFrozen bytes.now
         → FindsEach (strings bytes.now) batch.now ends.now symbols.old symbols.new result }
 {
-    let table = match TrustedFrozen::open(bytes) {
-        Ok(table) => table,
-        Err(fault) => return Err(Refusal::from(fault)),
-    };
+    let table = TrustedFrozen::open(bytes)?;
     if !is_batch(batch, ends, symbols.len()) {
         return Err(Refusal::BadEnds);
     }

@@ -80,8 +80,7 @@ pub extern "C" fn intaglio_len(handle: &mut Handle) -> usize
     ensures count { result ≡ count (table_of handle.old) }
     ensures kept { Keeps handle.old handle.new }
 {
-    let table = table_of!(handle, 0);
-    table.len()
+    table_of!(handle, 0).len()
 }
 
 /// How many contents the table can hold before it has to grow, or 0 without a table.
@@ -90,8 +89,7 @@ pub extern "C" fn intaglio_capacity(handle: &mut Handle) -> usize
     ensures capacity { result ≡ capacity (table_of handle.old) }
     ensures kept { Keeps handle.old handle.new }
 {
-    let table = table_of!(handle, 0);
-    table.capacity()
+    table_of!(handle, 0).capacity()
 }
 
 /// Reserves capacity for `additional` more contents.
