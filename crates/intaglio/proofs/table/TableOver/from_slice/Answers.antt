@@ -1,4 +1,4 @@
-use Rattle.std.proofs.Common.{◌≡◌, ◌∙◌, ap, map, length, List, ℕ, [], sym}
+use Rattle.std.proofs.Common.{◌≡◌, ◌∙◌, ap, map, length, []}
 use Rattle.std.proofs.lemmas.List.{length-map}
 use Rattle.intaglio_symbol.specs.AllSymbols.{numbers_from}
 use Rattle.intaglio_core.specs.Issue.{issue_from}

@@ -1,4 +1,4 @@
-use Rattle.std.proofs.Common.{◌≡◌, ◌≢◌, ◌⊎◌, ℕ, false, ◌<◌, ◌+◌, ◌/◌, ◌%◌, length, sym, ap, ◌∙◌, arith, inl, inr}
+use Rattle.std.proofs.Common.{◌≡◌, ◌≢◌, ◌⊎◌, false, ◌<◌, ◌+◌, ◌/◌, ◌%◌, length, sym, ap, ◌∙◌, arith, inl, inr}
 use Rattle.std.proofs.lemmas.Bool.{true≢false}
 use Rattle.intaglio_index.specs.Placed.{Placed}
 use Rattle.intaglio_index.proofs.FilterLemmas.{marked_some}

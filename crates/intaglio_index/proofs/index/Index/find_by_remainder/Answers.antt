@@ -1,8 +1,8 @@
 use Rattle.std.proofs.Common.{◌≡◌, ◌≢◌, ◌⊎◌, ℕ, List, [], ◌∷◌, ◌++◌, false, ◌<◌, ◌+◌, ◌/◌, ◌%◌, length, get_or, sym, ap, ◌∙◌, arith, inl, inr}
 use Rattle.std.proofs.lemmas.Bool.{eqb-false, true≢false}
 use Rattle.intaglio_content.specs.Work.{Event, step}
-use Rattle.intaglio_index.specs.Placed.{Placed, chain, head_of}
-use Rattle.intaglio_index.specs.Found.{IsReached, IsFound}
+use Rattle.intaglio_index.specs.Placed.{Placed, chain}
+use Rattle.intaglio_index.specs.Found.{IsFound}
 use Rattle.intaglio_index.proofs.FilterLemmas.{marked_some}
 use Rattle.intaglio_index.proofs.HeadLemmas.{IsOccupied, is_occupied, second_within}
 use Rattle.intaglio_index.proofs.SearchLemmas.{absent_by_head, both_smaller, first_found, second_found, nearest_within, two_steps, each_some, hash_read}
