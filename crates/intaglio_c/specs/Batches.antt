@@ -1,5 +1,6 @@
 -- Batches, as C passes them, many strings in one list of bytes with the end of each; and what becomes of them.
-use Rattle.intaglio_c.specs.Words.{◌≡◌, ℕ, ◌+◌, ◌-◌, ◌^◌, ◌<◌, ◌≤◌, ◌==◌, Bool, true, false, if◌then◌else◌, nat_lt, List, [], ◌∷◌, ◌++◌, length, map, take, drop, slice_get, get_or, Option, Some, None, MatchOption, Result, Ok, Err, State, Refusal, NoTable, BadEnds, NoSymbol, NoSpace}
+use Rattle.std.specs.Prelude.{◌≡◌, ℕ, ◌+◌, ◌-◌, ◌^◌, ◌<◌, ◌≤◌, ◌==◌, Bool, true, false, if◌then◌else◌, nat_lt, List, [], ◌∷◌, ◌++◌, length, map, take, drop, slice_get, get_or, Option, Some, None, MatchOption, Result, Ok, Err}
+use Rattle.intaglio_c.specs.Words.{State, Refusal, NoTable, BadEnds, NoSymbol, NoSpace}
 use Rattle.std.specs.List.{concat}
 use Rattle.intaglio_core.specs.Issue.{issue_from, interned_all}
 use Rattle.intaglio_core.specs.Lookup.{FindsEach}

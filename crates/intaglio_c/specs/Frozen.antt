@@ -1,5 +1,6 @@
 -- What C sees of a frozen table, which is its bytes.
-use Rattle.intaglio_c.specs.Words.{◌≡◌, ◌⊎◌, ⊤, ℕ, ◌<◌, ◌≤◌, true, false, List, [], ◌∷◌, length, slice_get, Option, Some, None, MatchOption, MatchResult, IsErrAnd, Result, Ok, Err, ◌==◌, State, first, Rule, Refusal, NoTable, NoMemory, NotUtf8, BadEnds, NoSpace, NoKind, NotFrozen, OtherVersion, Reserved, TooMany, Truncated, TextEnds, Unused, NotFound, TooLong, Equal, NoPlaces}
+use Rattle.std.specs.Prelude.{◌≡◌, ◌⊎◌, ⊤, ℕ, ◌<◌, ◌≤◌, true, false, List, [], ◌∷◌, length, slice_get, Option, Some, None, MatchOption, MatchResult, IsErrAnd, Result, Ok, Err, ◌==◌}
+use Rattle.intaglio_c.specs.Words.{State, first, Rule, Refusal, NoTable, NoMemory, NotUtf8, BadEnds, NoSpace, NoKind, NotFrozen, OtherVersion, Reserved, TooMany, Truncated, TextEnds, Unused, NotFound, TooLong, Equal, NoPlaces}
 use Rattle.intaglio_frozen.specs.Fault.{IsFault}
 use Rattle.intaglio_frozen.specs.Freezing.{HasKeys, IsRefusal, IsTableOf}
 use Rattle.intaglio_frozen.specs.IsFrozen.{HasSections, IsBlock, IsFrozen}

@@ -1,5 +1,6 @@
 -- What each kind of table makes of bytes.
-use Rattle.intaglio_c.specs.Words.{◌≡◌, ℕ, ◌-◌, ◌==◌, Bool, true, false, if◌then◌else◌, List, [], ◌∷◌, length, Option, Some, None, initial_hasher, KeyedState, Kind, Rule, Refusal, NotUtf8, InnerZero, MissingZero}
+use Rattle.std.specs.Prelude.{◌≡◌, ℕ, ◌-◌, ◌==◌, Bool, true, false, if◌then◌else◌, List, [], ◌∷◌, length, Option, Some, None}
+use Rattle.intaglio_c.specs.Words.{initial_hasher, KeyedState, Kind, Rule, Refusal, NotUtf8, InnerZero, MissingZero}
 use Rattle.std.specs.Str.{is_utf8}
 use Rattle.std.specs.Hash.DefaultHasher.{write, finish}
 use Rattle.intaglio_content.specs.Key.{Key, key_hash}

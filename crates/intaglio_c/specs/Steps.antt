@@ -1,5 +1,6 @@
 -- What each call does to the state of a table.
-use Rattle.intaglio_c.specs.Words.{◌≡◌, ℕ, ◌+◌, ◌<◌, Bool, true, List, length, Option, Some, None, Result, Ok, Err, IsAppended, IsOutOfMemory, IsReserved, IsShrunk, IsTruncated, IsUnreserved, State, Refusal, Full, NoMemory, TooLarge, Stale}
+use Rattle.std.specs.Prelude.{◌≡◌, ℕ, ◌+◌, ◌<◌, Bool, true, List, length, Option, Some, None, Result, Ok, Err}
+use Rattle.intaglio_c.specs.Words.{IsAppended, IsOutOfMemory, IsReserved, IsShrunk, IsTruncated, IsUnreserved, State, Refusal, Full, NoMemory, TooLarge, Stale}
 use Rattle.intaglio_c.specs.Kinds.{copies_static}
 use Rattle.intaglio_c.specs.Seen.{Seen, look_up}
 

@@ -1,5 +1,4 @@
 -- The words that several definitions cite, passed on from one place.
-pub use Rattle.std.specs.Prelude.{◌≡◌, ℕ, Bool, true, false, Option, Some, None, Result, Ok, Err, ◌+◌, ◌-◌, ◌^◌, ◌<◌, ◌≤◌, ◌==◌, if◌then◌else◌, nat_lt, List, [], ◌∷◌, ◌++◌, length, map, take, drop, slice_get, get_or, option_map, option_and_then, MatchOption, IsSomeAnd, ◌⊎◌, ⊤, MatchResult, IsErrAnd}
 pub use Rattle.intaglio_core.specs.Change.{Empties, IsAppended, IsOutOfMemory, IsReserved, IsShrunk, IsTruncated, IsUnreserved}
 pub use Rattle.intaglio_core.specs.State.{State, first, Table, empty_state}
 pub use Rattle.intaglio_hash.specs.KeyedState.{initial_hasher}
