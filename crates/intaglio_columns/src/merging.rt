@@ -1,5 +1,6 @@
 //! Merges lists of strings.
 ghost use Rattle.std.specs.Prelude.{◌≡◌, ◌<◌, ◌^◌, length, map, IfErr, IfOk};
+ghost use Rattle.intaglio_content.specs.Key.{hash_of};
 ghost use Rattle.intaglio_core.specs.Batch.{IfOverflow};
 ghost use Rattle.intaglio_columns.specs.Columns.{AreMaps, union};
 
@@ -37,6 +38,9 @@ pub fn merge_tables<L: StringList, S: BuildHasher + Drop>(
     ensures union { IfOk result (λ merged. merged.table.state.contents ≡ union (map L.strings lists.now)) }
     ensures maps { IfOk result (λ merged. AreMaps (map L.strings lists.now)
         merged.table.state.contents (map (λ m. m.items) merged.maps.items)) }
+    ensures limit { IfOk result (λ merged. merged.table.state.limit ≡ 2 ^ 32) }
+    ensures hash { let hash = hash_of S.BuildHasher S.Hasher.Hasher in
+        IfOk result (λ merged. hash merged.table.hasher ≡ hash builder) }
     ensures overflow { IfErr result (λ e. IfOverflow e (2 ^ 32 < length (union (map L.strings lists.now)))) }
 {
     let mut table = TableOver::with_limit(alloc, SYMBOLS, builder).unwrap();

@@ -33,6 +33,7 @@ loop-i-preserved g c =
       union = after ∙ ap union (sym next);
       maps = rw (items, next, after, map-append (λ m. m.items) c.loop-i.maps.items (c.in_ok-symbols.symbols ∷ [])) maps;
       limit = c.absorb.ensures.table.limit ∙ c.loop-i.invariant.limit;
+      hash = c.absorb.ensures.table.same_hash ∙ c.loop-i.invariant.hash;
       count = omega (arith, c.push_reserved.ensures.len, c.loop-i.invariant.count);
       room = search rules;
     }
