@@ -20,6 +20,8 @@ from pathlib import Path
 sys.dont_write_bytecode = True
 TOP = Path(__file__).resolve().parent.parent
 VERSION = "rattle-kit-13f logic dac8208d650f15bf"
+# The variable of the environment that says to a check that others run beside it.
+BESIDE = "INTAGLIO_BESIDE"
 
 # What `rt ci` says of a crate that it has proved, now or in an earlier run, and at its end where all went well.
 PROVED_CRATE = re.compile(r"^rt: (\w+) (?:proved$|is kept: )", re.M)
@@ -109,8 +111,18 @@ def processors():
 
 def with_one_job_each():
     """The environment of an `rt ci` that proves as many crates side by side as there are processors, each by one job. Several jobs of a check
-    copy the prover, which takes a fifth more of processors in all."""
+    copy the prover, which takes a third more of processors in all."""
     return {**os.environ, "RT_JOBS": str(processors())}
+
+
+def beside_others():
+    """The environment of a check beside which others run, so that one job makes its proofs."""
+    return {**os.environ, BESIDE: "1"}
+
+
+def jobs():
+    """The flag of a proof that says how many jobs make it."""
+    return ["--jobs", "1" if BESIDE in os.environ else str(processors())]
 
 
 def free():
@@ -208,7 +220,7 @@ def built_tests(crate):
     """The status of proving and building the crate's tests, and what was printed."""
     with tempfile.TemporaryFile("w+", errors="replace") as crate.out:
         try:
-            status = crate.ci(["--jobs", str(processors())], True)
+            status = crate.ci(jobs(), True)
         except SystemExit as stopped:
             status = stopped.code
         crate.out.seek(0)
@@ -280,7 +292,7 @@ def built_static(name):
     build_missing(crate.below())
     made.parent.mkdir(exist_ok=True)
     with tempfile.TemporaryFile("w+", errors="replace") as crate.out:
-        status = crate.build_static(["--jobs", str(processors())])
+        status = crate.build_static(jobs())
         crate.out.seek(0)
         return crate.out.read() if status else ""
 
@@ -333,18 +345,23 @@ def beside(call, *given):
         return pool.submit(call, *given).result()
 
 
+# A crate with this many functions or fewer is proved as soon by one job as by several, which each read all libraries.
+FEW = 8
+
+
 def in_lanes(crates, prove):
     """Proves these crates side by side, by `prove` of a crate and its jobs, each once those of them below it are proved, and returns whether all are.
-    Those of the longest chain have a job for each processor, since all waits for them; the others run on what these leave."""
+    Those of the longest chain have a job for each processor, since all waits for them, and one if they are small; the others run on what these leave."""
     rt, names, chain, most = load(), {it.name for it in crates}, longest_chain(crates), min(4, processors())
 
     def task(crate):
-        waits, least = [(it.name, "proof") for it in crate.below() if it.name in names], most if crate.name in chain else 1
+        waits, is_long = [(it.name, "proof") for it in crate.below() if it.name in names], functions_of(crate) > FEW
+        least = most if crate.name in chain and is_long else 1
         need = rt.need(crate) * (1 + 0.6 * (least - 1))
 
         def call(given, jobs):
             how = prove if crate.name in chain else functools.partial(beside, prove)
-            return all(given[it] for it in waits) and how(crate, max(jobs, least))
+            return all(given[it] for it in waits) and how(crate, max(jobs, least) if is_long else 1)
 
         return waits, functions_of(crate), need, call
 

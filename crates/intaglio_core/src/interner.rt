@@ -1,11 +1,11 @@
 //! What every symbol table does, for code that is generic over tables.
 ghost use Rattle.std.specs.Prelude.{◌≡◌, ℕ, ◌<◌, ◌≤◌, ◌++◌, ◌∷◌, List, [], length, slice_get, option_copied};
-ghost use Rattle.std.specs.Prelude.{IfOk, IfSome, OnOk, OnErr};
+ghost use Rattle.std.specs.Prelude.{IfSome, OnOk, OnErr};
 ghost use Rattle.intaglio_content.specs.Key.{Key, hash_of};
 ghost use Rattle.intaglio_content.specs.Work.{Event, hashed};
 ghost use Rattle.intaglio_content.specs.Store.{byte_room};
 ghost use Rattle.intaglio_core.specs.State.{State, first, IsValid};
-ghost use Rattle.intaglio_core.specs.Lookup.{IsFound, IsStored, Keeps, KeepsBelow, FindsOthers, FindsNothing};
+ghost use Rattle.intaglio_core.specs.Lookup.{FindsInterned, FindsNothing, IsFound, KeepsBelow};
 ghost use Rattle.intaglio_core.specs.Change.{Interns, InternsValue, IsNotMemory};
 ghost use Rattle.intaglio_core.specs.Change.{Reserves, Shrinks, TakesBack, Empties};
 ghost use Rattle.intaglio_core.specs.Bytes.{InternsBytes, ShrinksBytes};
@@ -64,11 +64,8 @@ pub trait FormInterner {
         requires known { known_hash ≡ hash self.old (Q.key value) }
         ensures step { InternsValue Self.Content.key (Q.adds value) Q.copies (state self.old) (Q.key value) result
             (state self.new) }
-        ensures found { IfOk result (IsFound Self.Content.key (state self.new) (Q.key value)) }
-        ensures stored { IfOk result (IsStored Self.Content.key (state self.new) (Q.key value)) }
-        ensures kept { Keeps Self.Content.key (state self.old) (state self.new) }
-        ensures others { FindsOthers Self.Content.key (state self.old) (Q.key value) (state self.new) }
-        ensures refused { OnErr result ((state self.new).contents ≡ (state self.old).contents) }
+        ensures interned { let k = Q.key value in
+            FindsInterned Self.Content.key (state self.old) k result (state self.new) }
         ensures bytes { let interns = InternsBytes Self.Store.takes Self.Content.key (Q.needs value) (Q.key value) in
             interns (state self.old) (spare_bytes self.old) result (state self.new) (spare_bytes self.new) }
         ensures none_needed { 0 < (state self.old).spare → Q.in_store → Q.needs value ≤ spare_bytes self.old →
@@ -189,12 +186,8 @@ pub trait Interner: FormInterner<Store = Vec<Self::Content>, Prepared = Option<S
         work: &mut Work,
     ) -> Result<Symbol, InternError>
         ensures step { Interns Self.Content.key (Self.state self.old) content result (Self.state self.new) }
-        ensures found { IfOk result (IsFound Self.Content.key (Self.state self.new) (Self.Content.key content)) }
-        ensures stored { IfOk result (IsStored Self.Content.key (Self.state self.new) (Self.Content.key content)) }
-        ensures kept { Keeps Self.Content.key (Self.state self.old) (Self.state self.new) }
-        ensures others { let k = Self.Content.key content in
-            FindsOthers Self.Content.key (Self.state self.old) k (Self.state self.new) }
-        ensures refused { OnErr result ((Self.state self.new).contents ≡ (Self.state self.old).contents) }
+        ensures interned { let k = Self.Content.key content in
+            FindsInterned Self.Content.key (Self.state self.old) k result (Self.state self.new) }
         ensures cost { let cost = InternCost Self.Content.key (Self.hash self.old) (Self.state self.old) in
             Costs work.old work.new (cost (Self.Content.key content) result (Self.state self.new)) }
         ensures same_hash { Self.hash self.new ≡ Self.hash self.old }

@@ -1,12 +1,12 @@
 //! Interning by a borrowed form.
-ghost use Rattle.std.specs.Prelude.{◌≡◌, ◌<◌, ◌≤◌, ◌↔◌, None, IfOk, IsTrue, OnErr};
+ghost use Rattle.std.specs.Prelude.{◌≡◌, ◌<◌, ◌≤◌, ◌↔◌, None, IfOk, IsTrue};
 ghost use Rattle.intaglio_content.specs.Key.{hash_of};
 ghost use Rattle.intaglio_core.specs.State.{first, IsValid};
 ghost use Rattle.intaglio_core.specs.Cost.{Costs, KnownInternCost};
 ghost use Rattle.intaglio_core.specs.Bytes.{InternsBytes};
 ghost use Rattle.intaglio_core.specs.Change.{InternsValue, InternsForm, IsNotMemory};
 ghost use Rattle.intaglio.specs.Added.{symbol_of};
-ghost use Rattle.intaglio_core.specs.Lookup.{FindsInterned, FindsOthers, IsFound, IsStored, Keeps};
+ghost use Rattle.intaglio_core.specs.Lookup.{FindsInterned};
 
 use super::TableOver;
 use intaglio_core::{AddedTo, Content, InternError, LookedUpIn, Store, Symbol, Work};
@@ -43,11 +43,7 @@ where
     pub fn get_or_intern(&mut self, form: L::By) -> Result<Symbol, InternError>
         ensures step { let interns = InternsForm L.Content.key L.Content.spelling self.old.state in
             interns (L.By.key form) (L.By.form_spelling form) result self.new.state }
-        ensures found { IfOk result (IsFound L.Content.key self.new.state (L.By.key form)) }
-        ensures stored { IfOk result (IsStored L.Content.key self.new.state (L.By.key form)) }
-        ensures kept { Keeps L.Content.key self.old.state self.new.state }
-        ensures others { FindsOthers L.Content.key self.old.state (L.By.key form) self.new.state }
-        ensures refused { OnErr result (self.new.state.contents ≡ self.old.state.contents) }
+        ensures interned { FindsInterned L.Content.key self.old.state (L.By.key form) result self.new.state }
         ensures bytes { let interns = InternsBytes L.takes L.Content.key (L.By.needs form) (L.By.key form) in
             interns self.old.state self.old.spare_bytes result self.new.state self.new.spare_bytes }
         ensures none_needed { 0 < self.old.state.spare → L.By.in_store → L.By.needs form ≤ self.old.spare_bytes →

@@ -1,9 +1,9 @@
 //! Interning: of a content, which is moved, or by a borrowed form, which is copied, and only if it is new.
-ghost use Rattle.std.specs.Prelude.{◌≡◌, ◌<◌, ◌≤◌, None, IfOk, OnErr};
+ghost use Rattle.std.specs.Prelude.{◌≡◌, ◌<◌, ◌≤◌, None};
 ghost use Rattle.intaglio_content.specs.Key.{hash_of};
 ghost use Rattle.intaglio_core.specs.State.{first, IsValid};
 ghost use Rattle.intaglio_core.specs.Change.{AddsNew, InternsValue, IsNotMemory};
-ghost use Rattle.intaglio_core.specs.Lookup.{IsFound, IsStored, Keeps, FindsInterned, FindsOthers};
+ghost use Rattle.intaglio_core.specs.Lookup.{FindsInterned};
 ghost use Rattle.intaglio_core.specs.Cost.{Costs, InternCost, KnownInternCost};
 ghost use Rattle.intaglio_core.specs.Bytes.{InternsBytes};
 ghost use Rattle.intaglio_core.specs.Indexed.{AddCost};
@@ -35,11 +35,7 @@ where
     ) -> Result<Symbol, InternError>
         ensures step { InternsValue L.Content.key (Q.adds value) Q.copies self.old.state (Q.key value) result
             self.new.state }
-        ensures found { IfOk result (IsFound L.Content.key self.new.state (Q.key value)) }
-        ensures stored { IfOk result (IsStored L.Content.key self.new.state (Q.key value)) }
-        ensures kept { Keeps L.Content.key self.old.state self.new.state }
-        ensures others { FindsOthers L.Content.key self.old.state (Q.key value) self.new.state }
-        ensures refused { OnErr result (self.new.state.contents ≡ self.old.state.contents) }
+        ensures interned { FindsInterned L.Content.key self.old.state (Q.key value) result self.new.state }
         ensures cost { let hash = hash_of S.BuildHasher S.Hasher.Hasher self.old.hasher in
             let cost = InternCost L.Content.key hash self.old.state in
             Costs work.old work.new (cost (Q.key value) result self.new.state) }

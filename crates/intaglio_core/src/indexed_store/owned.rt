@@ -1,10 +1,10 @@
 //! Tables of owned contents, which are kept in a `Vec`.
 ghost use Rattle.std.specs.Prelude.{◌≡◌, ◌^◌, ◌≤◌, length, slice_get};
-ghost use Rattle.std.specs.Prelude.{option_copied, None, IfSome, IfOk, OnErr};
+ghost use Rattle.std.specs.Prelude.{option_copied, None, IfSome};
 ghost use Rattle.intaglio_content.specs.Key.{hash_of};
 ghost use Rattle.intaglio_core.specs.State.{IsValid};
 ghost use Rattle.intaglio_core.specs.Change.{Interns};
-ghost use Rattle.intaglio_core.specs.Lookup.{IsFound, IsStored, Keeps, FindsOthers};
+ghost use Rattle.intaglio_core.specs.Lookup.{IsFound, FindsInterned};
 ghost use Rattle.intaglio_core.specs.Cost.{Costs, InternCost};
 
 use super::Core;
@@ -47,11 +47,7 @@ impl<C: Keyed, S: BuildHasher> Core<C, S> {
     where
         C: Sought<C> + Drop,
         ensures step { Interns C.key self.old.state content result self.new.state }
-        ensures found { IfOk result (IsFound C.key self.new.state (C.key content)) }
-        ensures stored { IfOk result (IsStored C.key self.new.state (C.key content)) }
-        ensures kept { Keeps C.key self.old.state self.new.state }
-        ensures others { FindsOthers C.key self.old.state (C.key content) self.new.state }
-        ensures refused { OnErr result (self.new.state.contents ≡ self.old.state.contents) }
+        ensures interned { FindsInterned C.key self.old.state (C.key content) result self.new.state }
         ensures cost { let hash = hash_of S.BuildHasher S.Hasher.Hasher self.old.hasher in
             let cost = InternCost C.key hash self.old.state in
             Costs work.old work.new (cost (C.key content) result self.new.state) }

@@ -1,9 +1,9 @@
 //! Owned contents that are interned into one buffer, and iterators over what is there.
-ghost use Rattle.std.specs.Prelude.{◌≡◌, ◌<◌, ◌≤◌, ◌^◌, length, IfOk, OnErr};
+ghost use Rattle.std.specs.Prelude.{◌≡◌, ◌<◌, ◌≤◌, ◌^◌, length};
 ghost use Rattle.intaglio_core.specs.State.{pairs_of, IsValid};
 ghost use Rattle.intaglio_core.specs.Bytes.{InternsBytes};
 ghost use Rattle.intaglio_core.specs.Change.{InternsForm, IsNotMemory};
-ghost use Rattle.intaglio_core.specs.Lookup.{FindsOthers, IsFound, IsStored, Keeps};
+ghost use Rattle.intaglio_core.specs.Lookup.{FindsInterned};
 
 use crate::table::TableOver;
 use intaglio_content::{Packed, PackedForm, PackedOwned};
@@ -20,11 +20,7 @@ impl<K: PackedOwned, S: BuildHasher> TableOver<Packed<K>, S> {
     pub fn intern(&mut self, content: K::Owned) -> Result<Symbol, InternError>
         ensures step { let interns = InternsForm K.key_of (λ w. w) self.old.state (K.Owned.key content) in
             interns (K.Owned.packed_spelling content) result self.new.state }
-        ensures found { IfOk result (IsFound K.key_of self.new.state (K.Owned.key content)) }
-        ensures stored { IfOk result (IsStored K.key_of self.new.state (K.Owned.key content)) }
-        ensures kept { Keeps K.key_of self.old.state self.new.state }
-        ensures others { FindsOthers K.key_of self.old.state (K.Owned.key content) self.new.state }
-        ensures refused { OnErr result (self.new.state.contents ≡ self.old.state.contents) }
+        ensures interned { FindsInterned K.key_of self.old.state (K.Owned.key content) result self.new.state }
         ensures bytes { let interns = InternsBytes length K.key_of (length (K.Owned.packed_spelling content)) in
             interns (K.Owned.key content) self.old.state self.old.spare_bytes result self.new.state self.new.spare_bytes }
         ensures none_needed { 0 < self.old.state.spare → length (K.Owned.packed_spelling content) ≤ self.old.spare_bytes →

@@ -22,7 +22,7 @@ returns-then-id-i g c =
     let ws = g.L.StringList.strings c.args.list.now in
     let below = rw c.id.ensures at c.if-id-i.true in
     rw c.id-then-id-i.ensures (again ws c.loop-i.table.state c.get_or_intern.new.self.state c.loop-i.i c.in_ok-symbol.symbol c.string.result.now
-    c.loop-i.invariant.contents c.string.ensures below c.in_ok-symbol.ensures.kept c.in_ok-symbol.ensures.stored)
+    c.loop-i.invariant.contents c.string.ensures below c.in_ok-symbol.ensures.interned.kept c.in_ok-symbol.ensures.interned.stored)
 
 pub returns : goal.returns
 returns g c =
