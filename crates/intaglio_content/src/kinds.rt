@@ -1,5 +1,5 @@
-//! Marker traits of the six kinds, of contents and of packed kinds. Each decides the name of a table's iterator
-//! over its contents.
+//! Marker traits of the six kinds, of contents and of packed kinds. Each decides the name of a table's
+//! iterator over its contents.
 use crate::packed_kind::PackedKind;
 use crate::spelling::Spelling;
 
