@@ -5,10 +5,10 @@ pub use intaglio_symbol::AllSymbols;
 use std::hash::{BuildHasherDefault, FoldHasher};
 
 /// The byte strings of a table, in the order of their symbols.
-pub type BStrings<'a> = Forms<'a, BStrContent>;
+pub type BStrings<'a> = Forms<'a, Vec<BStrContent>>;
 
 /// The symbols and byte strings of a table, in order.
-pub type Iter<'a> = Pairs<'a, BStrContent>;
+pub type Iter<'a> = Pairs<'a, Vec<BStrContent>>;
 
 /// A table of distinct byte strings of the crate `bstr`, each with a [`Symbol`](crate::Symbol). Its
 /// calls are those of [`Table`].

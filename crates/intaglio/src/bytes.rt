@@ -5,10 +5,10 @@ pub use intaglio_symbol::AllSymbols;
 use std::hash::{BuildHasherDefault, FoldHasher};
 
 /// The byte slices of a table, in the order of their symbols.
-pub type Bytestrings<'a> = Forms<'a, BytesContent>;
+pub type Bytestrings<'a> = Forms<'a, Vec<BytesContent>>;
 
 /// The symbols and byte slices of a table, in order.
-pub type Iter<'a> = Pairs<'a, BytesContent>;
+pub type Iter<'a> = Pairs<'a, Vec<BytesContent>>;
 
 /// A table of distinct byte slices, each with a [`Symbol`](crate::Symbol).
 /// Its calls are those of [`Table`].

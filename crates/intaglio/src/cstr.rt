@@ -9,10 +9,10 @@ pub use intaglio_symbol::AllSymbols;
 use std::hash::{BuildHasherDefault, FoldHasher};
 
 /// The C strings of a table, in the order of their symbols.
-pub type CStrings<'a> = Forms<'a, CStrContent>;
+pub type CStrings<'a> = Forms<'a, Vec<CStrContent>>;
 
 /// The symbols and C strings of a table, in order.
-pub type Iter<'a> = Pairs<'a, CStrContent>;
+pub type Iter<'a> = Pairs<'a, Vec<CStrContent>>;
 
 /// A table of distinct C strings, each with a [`Symbol`](crate::Symbol).
 /// Its calls are those of [`Table`].

@@ -22,8 +22,8 @@ pub use intaglio_core::{
     AddedTo, AllSymbols, ByteStore, Bytewise, Content, Copied, CopiedTo, Core,
     DEFAULT_SYMBOL_TABLE_CAPACITY, FormInterner, Formed, Forms, Index, IndexedStore, InternError,
     Interner, Keyed, Lends, LookedUp, LookedUpIn, Mark, Moved, Pairs, RoomError, Sought, SoughtIn,
-    Spelled, SpelledStore, StaleMark, Store, StoreForms, StorePairs, Symbol, SymbolOverflowError,
-    ToContent, Work, check_all, get_or_intern_all, intern_all,
+    Spelled, SpelledStore, StaleMark, Store, Symbol, SymbolOverflowError, ToContent, Work,
+    check_all, get_or_intern_all, intern_all,
 };
 pub use intaglio_run::{Call, Reply, run};
 pub use intaglio_text::StrContent;

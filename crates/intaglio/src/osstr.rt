@@ -5,10 +5,10 @@ pub use intaglio_text::osstr::OsStrContent;
 use std::hash::{BuildHasherDefault, FoldHasher};
 
 /// The platform strings of a table, in the order of their symbols.
-pub type OsStrings<'a> = Forms<'a, OsStrContent>;
+pub type OsStrings<'a> = Forms<'a, Vec<OsStrContent>>;
 
 /// The symbols and platform strings of a table, in order.
-pub type Iter<'a> = Pairs<'a, OsStrContent>;
+pub type Iter<'a> = Pairs<'a, Vec<OsStrContent>>;
 
 /// A table of distinct platform strings, each with a [`Symbol`](crate::Symbol).
 /// Its calls are those of [`Table`].

@@ -4,7 +4,7 @@
 //! They have the calls of the other tables that take or give a borrowed string, with the same contracts, and
 //! they take less memory, since a string has no allocation of its own. Each new string is copied. By default
 //! they hash with `intaglio_hash::FixedState`, which has the other tables' hashes and is faster.
-use crate::{StoreForms, StorePairs, TableOver};
+use crate::{Forms, Pairs, TableOver};
 pub use intaglio_content::{Packable, Packed, PackedForm, PackedKind, PackedOwned, Spelling};
 use intaglio_hash::FixedState;
 pub use intaglio_text::StrKind;
@@ -15,10 +15,10 @@ pub mod osstr;
 pub mod path;
 
 /// The texts of a table, in the order of their symbols.
-pub type Strings<'a> = StoreForms<'a, Packed<StrKind>>;
+pub type Strings<'a> = Forms<'a, Packed<StrKind>>;
 
 /// The symbols and texts of a table, in order.
-pub type Iter<'a> = StorePairs<'a, Packed<StrKind>>;
+pub type Iter<'a> = Pairs<'a, Packed<StrKind>>;
 
 /// A table of distinct texts in one buffer, each with a [`Symbol`](crate::Symbol).
 /// Its calls are those of [`TableOver`].

@@ -9,10 +9,10 @@ pub use intaglio_symbol::AllSymbols;
 use std::hash::{BuildHasherDefault, FoldHasher};
 
 /// The paths of a table, in the order of their symbols.
-pub type Paths<'a> = Forms<'a, PathContent>;
+pub type Paths<'a> = Forms<'a, Vec<PathContent>>;
 
 /// The symbols and paths of a table, in order.
-pub type Iter<'a> = Pairs<'a, PathContent>;
+pub type Iter<'a> = Pairs<'a, Vec<PathContent>>;
 
 /// A table of distinct paths, each with a [`Symbol`](crate::Symbol).
 /// Its calls are those of [`Table`].

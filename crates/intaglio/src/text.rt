@@ -4,10 +4,10 @@ use intaglio_text::StrContent;
 use std::hash::{BuildHasherDefault, FoldHasher};
 
 /// The texts of a table, in the order of their symbols.
-pub type Strings<'a> = Forms<'a, StrContent>;
+pub type Strings<'a> = Forms<'a, Vec<StrContent>>;
 
 /// The symbols and texts of a table, in order.
-pub type Iter<'a> = Pairs<'a, StrContent>;
+pub type Iter<'a> = Pairs<'a, Vec<StrContent>>;
 
 /// A table of distinct texts, each with a [`Symbol`](crate::Symbol).
 /// Its calls are those of [`Table`].

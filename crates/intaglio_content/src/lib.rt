@@ -4,7 +4,7 @@
 //! - [`Store`], [`ByteStore`], [`SoughtIn`], [`AddedTo`], [`CopiedTo`], [`Lends`], [`LookedUpIn`], [`SpelledStore`]:
 //!   where contents are kept.
 //! - [`Packed`]: spellings of a [`PackedKind`] in one buffer.
-//! - [`Forms`], [`Pairs`], [`StoreForms`], [`StorePairs`]: iterators; [`Texts`] and the like mark the six kinds.
+//! - [`Forms`], [`Pairs`]: iterators over a store; [`Texts`] and the like mark the six kinds.
 //! - [`Work`]: what a call did, for contracts. [`Bytewise`], [`feed_item`]: kinds compared by bytes.
 #![tactic(auto)]
 
@@ -20,7 +20,6 @@ mod pairs;
 mod same;
 mod spelling;
 mod store;
-mod store_forms;
 mod vec_store;
 mod work;
 
@@ -37,5 +36,4 @@ pub use spelling::Spelling;
 pub use store::{
     AddedTo, ByteStore, Copied, CopiedTo, Lends, LookedUpIn, Moved, SoughtIn, SpelledStore, Store,
 };
-pub use store_forms::{StoreForms, StorePairs};
 pub use work::Work;

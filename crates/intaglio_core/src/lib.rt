@@ -14,8 +14,8 @@ pub use batch::{GROUP, check_all, get_or_intern_all, intern_all, look_ahead, tou
 pub use indexed_store::{Core, IndexedStore};
 pub use intaglio_content::{
     AddedTo, ByteStore, Bytewise, Content, Copied, CopiedTo, Formed, Forms, Keyed, Lends, LookedUp,
-    LookedUpIn, Moved, Pairs, Sought, SoughtIn, Spelled, SpelledStore, Store, StoreForms,
-    StorePairs, ToContent, Work, feed_item,
+    LookedUpIn, Moved, Pairs, Sought, SoughtIn, Spelled, SpelledStore, Store, ToContent, Work,
+    feed_item,
 };
 pub use intaglio_index::Index;
 pub use intaglio_symbol::{

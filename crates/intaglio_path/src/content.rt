@@ -180,6 +180,8 @@ impl<'a> Packable<PathKind> for Path<'a> {
     ghost key_of_packed = { λ _. refl };
 }
 
+impl Paths for PathKind {}
+
 impl PackedOwned for PathKind {
     type Owned = PathContent;
 }

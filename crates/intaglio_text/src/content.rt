@@ -146,6 +146,8 @@ impl Packable<StrKind> for &str {
     ghost key_of_packed = { λ _. refl };
 }
 
+impl Texts for StrKind {}
+
 impl PackedOwned for StrKind {
     type Owned = StrContent;
 }

@@ -1,14 +1,14 @@
 //! The table of the byte strings of the crate `bstr` in one buffer.
 use super::Packed;
-use crate::{StoreForms, StorePairs, TableOver};
+use crate::{Forms, Pairs, TableOver};
 pub use intaglio_bytes::b_str::BStrKind;
 use intaglio_hash::FixedState;
 
 /// The byte strings of a table, in the order of their symbols.
-pub type BStrings<'a> = StoreForms<'a, Packed<BStrKind>>;
+pub type BStrings<'a> = Forms<'a, Packed<BStrKind>>;
 
 /// The symbols and byte strings of a table, in order.
-pub type Iter<'a> = StorePairs<'a, Packed<BStrKind>>;
+pub type Iter<'a> = Pairs<'a, Packed<BStrKind>>;
 
 /// A table of distinct byte strings of the crate `bstr` in one buffer, each with a [`Symbol`](crate::Symbol).
 /// Its calls are those of [`TableOver`].

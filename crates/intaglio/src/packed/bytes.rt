@@ -1,14 +1,14 @@
 //! The table of byte slices in one buffer.
 use super::Packed;
-use crate::{StoreForms, StorePairs, TableOver};
+use crate::{Forms, Pairs, TableOver};
 pub use intaglio_bytes::bytes::BytesKind;
 use intaglio_hash::FixedState;
 
 /// The byte slices of a table, in the order of their symbols.
-pub type Bytestrings<'a> = StoreForms<'a, Packed<BytesKind>>;
+pub type Bytestrings<'a> = Forms<'a, Packed<BytesKind>>;
 
 /// The symbols and byte slices of a table, in order.
-pub type Iter<'a> = StorePairs<'a, Packed<BytesKind>>;
+pub type Iter<'a> = Pairs<'a, Packed<BytesKind>>;
 
 /// A table of distinct byte slices in one buffer, each with a [`Symbol`](crate::Symbol).
 /// Its calls are those of [`TableOver`].

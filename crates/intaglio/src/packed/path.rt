@@ -1,14 +1,14 @@
 //! The table of paths in one buffer.
 use super::Packed;
-use crate::{StoreForms, StorePairs, TableOver};
+use crate::{Forms, Pairs, TableOver};
 use intaglio_hash::FixedState;
 pub use intaglio_path::PathKind;
 
 /// The paths of a table, in the order of their symbols.
-pub type Paths<'a> = StoreForms<'a, Packed<PathKind>>;
+pub type Paths<'a> = Forms<'a, Packed<PathKind>>;
 
 /// The symbols and paths of a table, in order.
-pub type Iter<'a> = StorePairs<'a, Packed<PathKind>>;
+pub type Iter<'a> = Pairs<'a, Packed<PathKind>>;
 
 /// A table of distinct paths in one buffer, each with a [`Symbol`](crate::Symbol).
 /// Its calls are those of [`TableOver`].

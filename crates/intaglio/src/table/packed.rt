@@ -4,7 +4,6 @@ ghost use Rattle.intaglio_core.specs.State.{IsValid};
 
 mod contents;
 mod making;
-mod names;
 
 use super::TableOver;
 use intaglio_core::{ByteStore, Content};

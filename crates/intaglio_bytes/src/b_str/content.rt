@@ -150,6 +150,8 @@ impl<'a> Packable<BStrKind> for BStr<'a> {
     ghost key_of_packed = { λ _. refl };
 }
 
+impl BStrings for BStrKind {}
+
 impl PackedOwned for BStrKind {
     type Owned = BStrContent;
 }

@@ -145,6 +145,8 @@ impl Packable<BytesKind> for &[u8] {
     ghost key_of_packed = { λ _. refl };
 }
 
+impl Bytestrings for BytesKind {}
+
 impl PackedOwned for BytesKind {
     type Owned = BytesContent;
 }

@@ -6,8 +6,8 @@ ghost use Rattle.intaglio_core.specs.State.{first, spelling_at, pairs_of};
 ghost use Rattle.intaglio_core.specs.Lookup.{IsFound};
 ghost use Rattle.intaglio_core.specs.Cost.{Costs, SearchCost};
 
-use super::{Core, IndexedStore};
-use intaglio_content::{Content, Formed, Forms, Lends, Pairs, SoughtIn, Work};
+use super::IndexedStore;
+use intaglio_content::{Content, Forms, Lends, Pairs, SoughtIn, Work};
 use intaglio_symbol::Symbol;
 use std::hash::BuildHasher;
 
@@ -43,22 +43,20 @@ where
         let symbol = self.search(sought, work)?;
         Some((symbol, self.form(symbol)?))
     }
-}
 
-impl<'a, C: Formed<'a>, S: BuildHasher> Core<C, S> {
     /// The forms of all contents, in the order of their symbols.
-    pub fn forms(&'a self) -> Forms<'a, C>
-        ensures all { result ≡ map C.spelling self.now.state.contents }
+    pub fn forms(&'a self) -> Forms<'a, L>
+        ensures all { result ≡ map L.Content.spelling self.now.state.contents }
         ensures bound { length result ≤ 2 ^ 32 }
     {
-        Forms::of(self.contents())
+        Forms::of(self.store())
     }
 
     /// The symbols of all contents with their forms, in order.
-    pub fn pairs(&'a self) -> Pairs<'a, C>
-        ensures all { result ≡ pairs_of C.spelling self.now.state }
+    pub fn pairs(&'a self) -> Pairs<'a, L>
+        ensures all { result ≡ pairs_of L.Content.spelling self.now.state }
         ensures bound { length result ≤ 2 ^ 32 }
     {
-        Pairs::of(self, self.contents())
+        Pairs::of(self.store())
     }
 }

@@ -147,6 +147,8 @@ impl Packable<OsStrKind> for &str {
     ghost key_of_packed = { λ _. refl };
 }
 
+impl OsStrings for OsStrKind {}
+
 impl PackedOwned for OsStrKind {
     type Owned = OsStrContent;
 }

@@ -1,5 +1,5 @@
 //! The iterators of tables of each kind, from both ends.
-use super::each::{RunOut, Walked, on_each, on_owned, on_packed};
+use super::each::{RunOut, Walked, on_each, on_packed};
 use super::steps::Steps;
 
 const BOTH_ENDS: Steps = Steps {
@@ -23,7 +23,7 @@ fn iterators_go_from_both_ends(rt: HostRuntime) {
 intern xyz > 1
 intern 123 > 2
 intern 789 > 3";
-    on_owned(
+    on_each(
         &rt,
         rt.alloc(),
         &Walked {
@@ -38,7 +38,7 @@ fn ends_are_taken_in_turn(rt: HostRuntime) {
     let words = "intern a > 0
 intern b > 1
 intern c > 2";
-    on_owned(
+    on_each(
         &rt,
         rt.alloc(),
         &Walked {
@@ -82,7 +82,7 @@ next > none",
 
 #[test]
 fn nothing_comes_of_an_empty_table(rt: HostRuntime) {
-    on_owned(
+    on_each(
         &rt,
         rt.alloc(),
         &Walked {

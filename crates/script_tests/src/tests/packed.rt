@@ -1,8 +1,8 @@
 //! Tables in one buffer, by the calls of a [`Table`].
 use super::calls::{Ask, answer_by_forms, forms};
-use super::contents::{Shown, TestContent};
+use super::contents::TestContent;
 use super::printed::paired;
-use super::steps::{Steps, walks};
+use super::steps::{Steps, walk_pairs, walks};
 use super::table::{Counts, Made, Make, Table, Update, counts_of, updated};
 use crate::replies::interned;
 use intaglio::bstr::BStrContent;
@@ -86,19 +86,6 @@ fn put_forms<'a, K: PackedForm<'a>, S: HasherCount>(
     }
 }
 
-fn walk_packed_pairs<'a, K: PackedForm<'a>, S: HasherCount>(
-    rt: &impl Abort,
-    alloc: Global,
-    table: &'a TableOver<Packed<K>, S>,
-    pairs: &str,
-)
-where
-    K::Form: Shown,
-{
-    walks(rt, alloc, table.iter(), pairs);
-    walks(rt, alloc, table.into_iter(), pairs);
-}
-
 impl PackedTests for StrKind {
     fn put_packed<S: HasherCount>(
         alloc: Global,
@@ -137,7 +124,7 @@ impl PackedTests for StrKind {
         steps: Steps,
     ) {
         walks(rt, alloc, table.strings(), steps.contents);
-        walk_packed_pairs(rt, alloc, table, steps.pairs);
+        walk_pairs(rt, alloc, table, steps.pairs);
     }
 }
 
@@ -179,7 +166,7 @@ impl PackedTests for OsStrKind {
         steps: Steps,
     ) {
         walks(rt, alloc, table.os_strings(), steps.contents);
-        walk_packed_pairs(rt, alloc, table, steps.pairs);
+        walk_pairs(rt, alloc, table, steps.pairs);
     }
 }
 
@@ -221,7 +208,7 @@ impl PackedTests for BytesKind {
         steps: Steps,
     ) {
         walks(rt, alloc, table.bytestrings(), steps.contents);
-        walk_packed_pairs(rt, alloc, table, steps.pairs);
+        walk_pairs(rt, alloc, table, steps.pairs);
     }
 }
 
@@ -263,7 +250,7 @@ impl PackedTests for BStrKind {
         steps: Steps,
     ) {
         walks(rt, alloc, table.bstrings(), steps.contents);
-        walk_packed_pairs(rt, alloc, table, steps.pairs);
+        walk_pairs(rt, alloc, table, steps.pairs);
     }
 }
 
@@ -305,7 +292,7 @@ impl PackedTests for PathKind {
         steps: Steps,
     ) {
         walks(rt, alloc, table.paths(), steps.contents);
-        walk_packed_pairs(rt, alloc, table, steps.pairs);
+        walk_pairs(rt, alloc, table, steps.pairs);
     }
 }
 

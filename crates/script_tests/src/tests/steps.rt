@@ -2,9 +2,7 @@
 use super::contents::Shown;
 use super::printed::{number, numbered, text};
 use super::script::same_text;
-use intaglio::{
-    AllSymbols, Content, Formed, Forms, Lends, Pairs, StoreForms, StorePairs, Symbol, Table,
-};
+use intaglio::{AllSymbols, Content, Forms, Lends, Pairs, Symbol, TableOver};
 use std::alloc::Global;
 use std::process::Abort;
 use test_hashers::builders::HasherCount;
@@ -36,14 +34,15 @@ pub fn walks<W: Walk>(rt: &impl Abort, alloc: Global, mut walked: W, script: &st
 }
 
 /// Makes the steps on the iterator of symbols and forms of a table.
-pub fn walk_pairs<'a, C: Formed<'a>, S: HasherCount>(
+pub fn walk_pairs<'a, L: Lends<'a>, S: HasherCount>(
     rt: &impl Abort,
     alloc: Global,
-    table: &'a Table<C, S>,
+    table: &'a TableOver<L, S>,
     pairs: &str,
 )
 where
-    C::Form: Shown,
+    L::Content: Content,
+    L::Form: Shown,
 {
     walks(rt, alloc, table.iter(), pairs);
     walks(rt, alloc, table.into_iter(), pairs);
@@ -90,9 +89,10 @@ impl<'a> Walk for AllSymbols<'a> {
     }
 }
 
-impl<'a, C: Formed<'a>> Walk for Forms<'a, C>
+impl<'a, L: Lends<'a>> Walk for Forms<'a, L>
 where
-    C::Form: Shown,
+    L::Content: Content,
+    L::Form: Shown,
 {
     fn step<R: Abort>(&mut self, rt: &R, alloc: Global, name: &str) -> Option<String> {
         match name {
@@ -106,34 +106,7 @@ where
     }
 }
 
-impl<'a, C: Formed<'a>> Walk for Pairs<'a, C>
-where
-    C::Form: Shown,
-{
-    fn step<R: Abort>(&mut self, rt: &R, alloc: Global, name: &str) -> Option<String> {
-        match name {
-            "next" => Some(pair_said(rt, alloc, self.next())),
-            "size_hint" => Some(hint_said(rt, alloc, self.size_hint())),
-            _ => None,
-        }
-    }
-}
-
-impl<'a, L: Lends<'a>> Walk for StoreForms<'a, L>
-where
-    L::Content: Content,
-    L::Form: Shown,
-{
-    fn step<R: Abort>(&mut self, rt: &R, alloc: Global, name: &str) -> Option<String> {
-        match name {
-            "next" => Some(form_said(rt, alloc, self.next())),
-            "size_hint" => Some(hint_said(rt, alloc, self.size_hint())),
-            _ => None,
-        }
-    }
-}
-
-impl<'a, L: Lends<'a>> Walk for StorePairs<'a, L>
+impl<'a, L: Lends<'a>> Walk for Pairs<'a, L>
 where
     L::Content: Content,
     L::Form: Shown,

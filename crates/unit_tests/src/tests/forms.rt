@@ -2,6 +2,7 @@
 use super::assertions::{copy_of, holds, same};
 use intaglio::cstr::{CStr, CStrContent};
 use intaglio::{Forms, Pairs, StrContent, Symbol, SymbolTable};
+use std::alloc::{AllocError, Global};
 use std::test::Fail;
 
 #[test]
@@ -13,8 +14,8 @@ fn c_strings_are_compared_by_their_bytes(rt: HostRuntime) {
     holds(&rt, content.form() != other);
 }
 
-fn letters() -> [StrContent; 3] {
-    [
+fn letters(alloc: Global) -> Result<Vec<StrContent>, AllocError> {
+    vec![in alloc;
         StrContent::from("a"),
         StrContent::from("b"),
         StrContent::from("c"),
@@ -22,20 +23,21 @@ fn letters() -> [StrContent; 3] {
 }
 
 #[test]
-fn forms_are_skipped_counted_and_cloned(rt: HostRuntime) {
-    let contents = letters();
+fn forms_are_skipped_counted_and_cloned(rt: HostRuntime) -> Result<(), Fail> {
+    let contents = letters(rt.alloc())?;
     let forms = Forms::of(&contents);
     same(&rt, copy_of(&rt, &forms).nth(1), Some("b"));
     same(&rt, copy_of(&rt, &forms).nth_back(1), Some("b"));
     same(&rt, copy_of(&rt, &forms).nth_back(3), None);
     same(&rt, copy_of(&rt, &forms).count(), 3);
     same(&rt, forms.last(), Some("c"));
+    Ok(())
 }
 
 #[test]
 fn pairs_are_skipped_counted_and_cloned(rt: HostRuntime) -> Result<(), Fail> {
-    let contents = letters();
-    let pairs = Pairs::of(&contents, &contents);
+    let contents = letters(rt.alloc())?;
+    let pairs = Pairs::of(&contents);
     same(&rt, pairs.clone()?.count(), 3);
     assert_eq!(&rt; pairs.clone()?.nth(1), Some((Symbol::new(1), "b")));
     assert_eq!(&rt; pairs.last(), Some((Symbol::new(2), "c")));

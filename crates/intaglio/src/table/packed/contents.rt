@@ -1,13 +1,13 @@
-//! Owned contents that are interned into one buffer, and iterators over what is there.
-ghost use Rattle.std.specs.Prelude.{◌≡◌, ◌<◌, ◌≤◌, ◌^◌, length};
-ghost use Rattle.intaglio_core.specs.State.{pairs_of, IsValid};
+//! Owned contents that are interned into one buffer.
+ghost use Rattle.std.specs.Prelude.{◌≡◌, ◌<◌, ◌≤◌, length};
+ghost use Rattle.intaglio_core.specs.State.{IsValid};
 ghost use Rattle.intaglio_core.specs.Bytes.{InternsBytes};
 ghost use Rattle.intaglio_core.specs.Change.{InternsForm, IsNotMemory};
 ghost use Rattle.intaglio_core.specs.Lookup.{FindsInterned};
 
 use crate::table::TableOver;
-use intaglio_content::{Packed, PackedForm, PackedOwned};
-use intaglio_core::{InternError, StorePairs, Symbol, Work};
+use intaglio_content::{Packed, PackedOwned};
+use intaglio_core::{InternError, Symbol, Work};
 use std::hash::BuildHasher;
 
 impl<K: PackedOwned, S: BuildHasher> TableOver<Packed<K>, S> {
@@ -29,36 +29,5 @@ impl<K: PackedOwned, S: BuildHasher> TableOver<Packed<K>, S> {
         ensures valid { IsValid K.key_of self.new.state }
     {
         self.core.get_or_intern(content, &mut Work::new())
-    }
-}
-
-impl<'a, K: PackedForm<'a>, S: BuildHasher> TableOver<Packed<K>, S> {
-    /// All symbols with their contents, in order.
-    ///
-    /// ```
-    /// # use intaglio::packed::SymbolTable;
-    /// # let mut table = SymbolTable::new(rt.alloc())?;
-    /// # let _symbol = table.get_or_intern("abc")?;
-    /// for (symbol, text) in table.iter() {
-    ///     assert!(rt; table.get(symbol) == Some(text));
-    /// }
-    /// ```
-    pub fn iter(&'a self) -> StorePairs<'a, Packed<K>>
-        ensures all { result ≡ pairs_of (λ w. w) self.now.state }
-        ensures bound { length result ≤ 2 ^ 32 }
-    {
-        StorePairs::of(self.core.store())
-    }
-}
-
-impl<'a, K: PackedForm<'a>, S: BuildHasher> IntoIterator for &'a TableOver<Packed<K>, S> {
-    type Item = (Symbol, K::Form);
-
-    type IntoIter = StorePairs<'a, Packed<K>>;
-
-    ghost into_iter_gives = { λ table pairs. pairs ≡ pairs_of (λ w. w) table.now.state };
-
-    fn into_iter(self) -> StorePairs<'a, Packed<K>> {
-        self.iter()
     }
 }
