@@ -2,7 +2,8 @@
 use super::assertions::{copy_of, holds, same};
 use intaglio::cstr::{CStr, CStrContent};
 use intaglio::{Forms, Pairs, StrContent, Symbol, SymbolTable};
-use std::alloc::{AllocError, Global};
+use std::alloc::Global;
+use std::process::Abort;
 use std::test::Fail;
 
 #[test]
@@ -14,29 +15,29 @@ fn c_strings_are_compared_by_their_bytes(rt: HostRuntime) {
     holds(&rt, content.form() != other);
 }
 
-fn letters(alloc: Global) -> Result<Vec<StrContent>, AllocError> {
+fn letters(rt: &impl Abort, alloc: Global) -> Vec<StrContent> {
     vec![in alloc;
         StrContent::from("a"),
         StrContent::from("b"),
         StrContent::from("c"),
     ]
+    .expect(rt, "no memory")
 }
 
 #[test]
-fn forms_are_skipped_counted_and_cloned(rt: HostRuntime) -> Result<(), Fail> {
-    let contents = letters(rt.alloc())?;
+fn forms_are_skipped_counted_and_cloned(rt: HostRuntime) {
+    let contents = letters(&rt, rt.alloc());
     let forms = Forms::of(&contents);
     same(&rt, copy_of(&rt, &forms).nth(1), Some("b"));
     same(&rt, copy_of(&rt, &forms).nth_back(1), Some("b"));
     same(&rt, copy_of(&rt, &forms).nth_back(3), None);
     same(&rt, copy_of(&rt, &forms).count(), 3);
     same(&rt, forms.last(), Some("c"));
-    Ok(())
 }
 
 #[test]
 fn pairs_are_skipped_counted_and_cloned(rt: HostRuntime) -> Result<(), Fail> {
-    let contents = letters(rt.alloc())?;
+    let contents = letters(&rt, rt.alloc());
     let pairs = Pairs::of(&contents);
     same(&rt, pairs.clone()?.count(), 3);
     assert_eq!(&rt; pairs.clone()?.nth(1), Some((Symbol::new(1), "b")));
