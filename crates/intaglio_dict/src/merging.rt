@@ -1,8 +1,7 @@
 //! The subcommand that merges dictionaries.
 use crate::freezing::refusal;
-use crate::input::{STANDARD, size_of, whole};
+use crate::input::{STANDARD, meter_of, whole};
 use crate::keys::keys_of;
-use crate::metered::Meter;
 use crate::noticing::Noticing;
 use crate::output::{Content, write_to};
 use crate::progress::Shown;
@@ -11,7 +10,6 @@ use crate::run::checked;
 use clap::ArgMatches;
 use intaglio_dictionary::merging::{merge, write_codes};
 use intaglio_frozen::{Frozen, Header, Kind};
-use intaglio_lines::error::StreamError;
 use intaglio_symbol::Symbol;
 use std::fs;
 use std::hash::RandomState;
@@ -42,8 +40,7 @@ impl<R: Eprint + AllocGlobal> Content<R> for Map<'_> {
     fn write<W: Write>(&mut self, rt: &R, name: &str, output: &mut Noticing<W>) -> Result<(), u8> {
         match write_codes(rt.alloc(), self.codes, output) {
             Ok(()) => Ok(()),
-            Err(StreamError::Memory) => Err(report::out_of_memory(rt)),
-            Err(_) => Err(report::unwritten(rt, name, output.error())),
+            Err(fault) => Err(report::stopped(rt, fault, name, output.error)),
         }
     }
 }
@@ -65,13 +62,10 @@ impl<R: Files + RandomSource + Print + Eprint + AllocGlobal> Content<R> for Merg
             &mut self.shown,
         ) {
             Ok(maps) => {
-                self.count = maps
-                    .iter()
-                    .map(|map| map.len())
-                    .fold(0, |sum, n| sum.saturating_add(n));
+                self.count = count_of(&maps);
                 self.write_maps(rt, &maps)
             }
-            Err(refused) => Err(refusal(rt, name, refused, output.error())),
+            Err(refused) => Err(refusal(rt, name, refused, output.error)),
         }
     }
 }
@@ -97,6 +91,13 @@ impl<R> Merging<'_, '_, R> {
     }
 }
 
+// How many symbols the maps have together.
+fn count_of(maps: &[Vec<Symbol>]) -> usize {
+    maps.iter()
+        .map(|map| map.len())
+        .fold(0, |sum, n| sum.saturating_add(n))
+}
+
 // Makes a folder if none is there.
 fn make_folder<R: Files + Eprint + AllocGlobal>(rt: &R, name: &str) -> Result<(), u8> {
     match fs::create_dir(rt, name) {
@@ -118,23 +119,43 @@ pub fn merge_dictionaries<R: Files + RandomSource + Input + Print + Eprint + All
         return Err(report::read_twice(rt));
     }
     let keys = keys_of(rt, found)?;
-    let is_shown = found.get_flag("PROGRESS");
-    let all = whole_files(rt, names, is_shown)?;
-    let tables = tables_of(rt, names, &all)?;
-    let mut merging = Merging {
+    let all = whole_files(rt, names, found.get_flag("PROGRESS"))?;
+    merge_files(rt, found, names, output, keys, &all)
+}
+
+// Merges the dictionaries in these files.
+fn merge_files<R: Files + RandomSource + Print + Eprint + AllocGlobal>(
+    rt: &R,
+    found: &ArgMatches<'_>,
+    names: &[&str],
+    output: &str,
+    keys: Option<(u64, u64)>,
+    all: &[Vec<u8>],
+) -> Result<(), u8> {
+    let tables = tables_of(rt, names, all)?;
+    let merging = Merging {
         tables: &tables,
         names,
-        kind: common_kind(&all),
+        kind: common_kind(all),
         keys,
         folder: found.get_str("FOLDER"),
         count: 0,
-        shown: Shown::new(rt, is_shown),
+        shown: Shown::new(rt, found.get_flag("PROGRESS")),
     };
-    write_to(rt, output, names, &mut merging)?;
-    if found.get_flag("VERBOSE") {
-        report::count(rt, names.len() as u64, "dictionaries merged");
+    merge_to(rt, output, merging, found.get_flag("VERBOSE"))
+}
+
+fn merge_to<R: Files + RandomSource + Print + Eprint + AllocGlobal>(
+    rt: &R,
+    output: &str,
+    mut merging: Merging<'_, '_, R>,
+    is_counted: bool,
+) -> Result<(), u8> {
+    write_to(rt, output, merging.names, &mut merging)?;
+    if is_counted {
+        report::count(rt, merging.names.len() as u64, "dictionaries merged");
         report::count(rt, merging.count as u64, "strings merged");
-        report::count(rt, merging.shown.distinct() as u64, "distinct strings");
+        report::count(rt, merging.shown.distinct as u64, "distinct strings");
     }
     Ok(())
 }
@@ -145,7 +166,7 @@ fn whole_files<R: Files + Input + Eprint + AllocGlobal>(
     names: &[&str],
     is_shown: bool,
 ) -> Result<Vec<Vec<u8>>, u8> {
-    let mut meter = Meter::of(if is_shown { size_of(rt, names) } else { 0 });
+    let mut meter = meter_of(rt, names, is_shown);
     let mut all = Vec::new(rt.alloc());
     for name in names {
         if all.push(whole(rt, name, &mut meter)?).is_err() {
