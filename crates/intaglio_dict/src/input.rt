@@ -58,7 +58,8 @@ pub fn whole<R: Files + Input + Eprint + AllocGlobal>(
     }
 }
 
-/// The name and the bytes of the file that the other inputs are read by. Otherwise the exit status after a message.
+/// The name and the bytes of the file by which the other inputs are read. Otherwise the exit status after a
+/// message.
 pub fn first_input<'a, R: Files + Input + Eprint + AllocGlobal>(
     rt: &R,
     found: &ArgMatches<'a>,

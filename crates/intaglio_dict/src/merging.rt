@@ -82,12 +82,22 @@ impl<R> Merging<'_, '_, R> {
         };
         make_folder(rt, folder)?;
         for (number, codes) in maps.iter().enumerate() {
-            let Ok(path) = format!(in rt.alloc(); "{folder}/{number}.map") else {
-                return Err(report::out_of_memory(rt));
-            };
-            write_to(rt, path.as_str(), self.names, &mut Map { codes })?;
+            write_map(rt, folder, number, self.names, codes)?;
         }
         Ok(())
+    }
+}
+
+fn write_map<R: Files + RandomSource + Print + Eprint + AllocGlobal>(
+    rt: &R,
+    folder: &str,
+    number: usize,
+    names: &[&str],
+    codes: &[Symbol],
+) -> Result<(), u8> {
+    match format!(in rt.alloc(); "{folder}/{number}.map") {
+        Ok(path) => write_to(rt, path.as_str(), names, &mut Map { codes }),
+        Err(_) => Err(report::out_of_memory(rt)),
     }
 }
 
@@ -184,13 +194,8 @@ fn tables_of<'a, R: Eprint + AllocGlobal>(
 ) -> Result<Vec<Frozen<'a>>, u8> {
     let mut tables = Vec::new(rt.alloc());
     for (name, bytes) in names.iter().zip(all.iter()) {
-        match checked(rt, name, bytes) {
-            Ok(table) => {
-                if tables.push(table).is_err() {
-                    return Err(report::out_of_memory(rt));
-                }
-            }
-            Err(status) => return Err(status),
+        if tables.push(checked(rt, name, bytes)?).is_err() {
+            return Err(report::out_of_memory(rt));
         }
     }
     Ok(tables)

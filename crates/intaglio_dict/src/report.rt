@@ -27,8 +27,8 @@ fn without_number(text: &str) -> &str {
     }
 }
 
-/// Of an input that couldn't be read to its end, or an output that couldn't be written, by the last error. Nothing
-/// is said if nobody reads the output.
+/// Of an input that couldn't be read to its end, or an output that couldn't be written, by the last error.
+/// Nothing is said if nobody reads the output.
 pub fn stopped<R: Eprint + AllocGlobal>(
     rt: &R,
     fault: StreamError,
