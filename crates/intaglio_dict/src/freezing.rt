@@ -57,8 +57,9 @@ fn freeze_to<R: Files + RandomSource + Print + Eprint + AllocGlobal>(
     name: &str,
     mut freezing: Freezing<'_, R>,
 ) -> Result<(), u8> {
-    freezing.shown.stage(freezing.input.len(), "bytes read");
-    write_to(rt, name, freezing.names, &mut freezing)
+    let (names, size) = (freezing.names, freezing.input.len());
+    freezing.shown.stage(size, "bytes read");
+    write_to(rt, name, names, &mut freezing)
 }
 
 // Refuses codes that are also the dictionary or an input: then the exit status after a message.

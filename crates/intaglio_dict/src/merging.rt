@@ -122,7 +122,7 @@ pub fn merge_dictionaries<R: Files + RandomSource + Input + Print + Eprint + All
     rt: &R,
     found: &ArgMatches<'_>,
 ) -> Result<(), u8> {
-    let (Some(names), Some(output)) = (found.get_strs("DICT"), found.get_str("OUT")) else {
+    let Some(names) = found.get_strs("DICT") else {
         return Err(2);
     };
     if names.iter().filter(|name| **name == STANDARD).count() > 1 {
@@ -130,18 +130,19 @@ pub fn merge_dictionaries<R: Files + RandomSource + Input + Print + Eprint + All
     }
     let keys = keys_of(rt, found)?;
     let all = whole_files(rt, names, found.get_flag("PROGRESS"))?;
-    merge_files(rt, found, names, output, keys, &all)
+    merge_files(rt, found, keys, &all)
 }
 
 // Merges the dictionaries in these files.
 fn merge_files<R: Files + RandomSource + Print + Eprint + AllocGlobal>(
     rt: &R,
     found: &ArgMatches<'_>,
-    names: &[&str],
-    output: &str,
     keys: Option<(u64, u64)>,
     all: &[Vec<u8>],
 ) -> Result<(), u8> {
+    let (Some(names), Some(output)) = (found.get_strs("DICT"), found.get_str("OUT")) else {
+        return Err(2);
+    };
     let tables = tables_of(rt, names, all)?;
     let merging = Merging {
         tables: &tables,
@@ -161,9 +162,10 @@ fn merge_to<R: Files + RandomSource + Print + Eprint + AllocGlobal>(
     mut merging: Merging<'_, '_, R>,
     is_counted: bool,
 ) -> Result<(), u8> {
-    write_to(rt, output, merging.names, &mut merging)?;
+    let names = merging.names;
+    write_to(rt, output, names, &mut merging)?;
     if is_counted {
-        report::count(rt, merging.names.len() as u64, "dictionaries merged");
+        report::count(rt, names.len() as u64, "dictionaries merged");
         report::count(rt, merging.count as u64, "strings merged");
         report::count(rt, merging.shown.distinct as u64, "distinct strings");
     }
