@@ -1,18 +1,17 @@
 //! The subcommands that translate columns: lines to codes, codes to lines, and codes to other codes.
-use crate::input::{INPUT, STANDARD, STANDARD_INPUT, name_of, size_of, whole};
+use crate::input::{STANDARD, STANDARD_INPUT, first_input, meter_of, name_of};
 use crate::metered::{Meter, Metered};
 use crate::noticing::Noticing;
 use crate::output::{Content, refuse_input, write_to};
 use crate::report;
+use crate::report::Stream;
 use crate::run::checked;
 use clap::ArgMatches;
 use intaglio_dictionary::codes::CodeMap;
 use intaglio_dictionary::columns::{decode, encode, renumber};
 use intaglio_dictionary::error::ColumnError;
 use intaglio_frozen::Frozen;
-use intaglio_lines::error::StreamError;
 use std::alloc::Global;
-use std::fs;
 use std::io::{Read, Write};
 use std::random::RandomSource;
 use std::rt::Files;
@@ -56,14 +55,7 @@ struct Column<'a, 't> {
 impl<R: Files + Input + Eprint + AllocGlobal> Content<R> for Column<'_, '_> {
     fn write<W: Write>(&mut self, rt: &R, name: &str, output: &mut Noticing<W>) -> Result<(), u8> {
         for input in self.names {
-            if *input == STANDARD {
-                self.add(rt, (INPUT, rt.reader()), name, output)?;
-            } else {
-                match fs::open(rt, *input) {
-                    Ok(file) => self.add(rt, (*input, file), name, output)?,
-                    Err(e) => return Err(report::of_file(rt, input, e)),
-                }
-            }
+            self.add(rt, input, name, output)?;
         }
         Ok(())
     }
@@ -71,31 +63,34 @@ impl<R: Files + Input + Eprint + AllocGlobal> Content<R> for Column<'_, '_> {
 
 impl Column<'_, '_> {
     // Translates one input.
-    fn add<R: Eprint + AllocGlobal, I: Read + Drop, W: Write>(
+    fn add<R: Files + Input + Eprint + AllocGlobal, W: Write>(
         &mut self,
         rt: &R,
-        input: (&str, I),
+        input_name: &str,
         name: &str,
         output: &mut Noticing<W>,
     ) -> Result<(), u8> {
-        let (input_name, input) = input;
-        let mut input = Metered::new(rt, self.meter, input);
+        let mut input = Metered::open(rt, input_name, self.meter)?;
         let translated = self.translation.translate(rt.alloc(), &mut input, output);
-        self.meter = input.meter();
-        match translated {
-            Ok(count) => {
-                self.count = self.count.saturating_add(count);
-                Ok(())
-            }
-            Err(ColumnError::Stream(StreamError::Memory)) => Err(report::out_of_memory(rt)),
-            Err(ColumnError::Stream(StreamError::Read)) => {
-                Err(report::unread(rt, input_name, input.error()))
-            }
-            Err(ColumnError::Stream(StreamError::Write)) => {
-                Err(report::unwritten(rt, name, output.error()))
-            }
-            Err(fault) => Err(report::failed(rt, input_name, fault)),
-        }
+        self.meter = input.meter;
+        let (read, written) = ((name_of(input_name), input.error), (name, output.error));
+        let count = count_of(rt, translated, read, written)?;
+        self.count = self.count.saturating_add(count);
+        Ok(())
+    }
+}
+
+// How many were translated from an input to an output, each with its last error.
+fn count_of<R: Eprint + AllocGlobal>(
+    rt: &R,
+    translated: Result<u64, ColumnError>,
+    input: Stream<'_>,
+    output: Stream<'_>,
+) -> Result<u64, u8> {
+    match translated {
+        Ok(count) => Ok(count),
+        Err(ColumnError::Stream(fault)) => Err(report::stopped_one(rt, fault, input, output)),
+        Err(fault) => Err(report::failed(rt, input.0, fault)),
     }
 }
 
@@ -105,7 +100,16 @@ pub fn encode_lines<R: Files + RandomSource + Input + Print + Eprint + AllocGlob
     found: &ArgMatches<'_>,
 ) -> Result<(), u8> {
     let (name, bytes) = first_input(rt, found, "DICT", "FILE")?;
-    match checked(rt, name, &bytes) {
+    encode_by(rt, found, name, &bytes)
+}
+
+fn encode_by<R: Files + RandomSource + Input + Print + Eprint + AllocGlobal>(
+    rt: &R,
+    found: &ArgMatches<'_>,
+    name: &str,
+    bytes: &[u8],
+) -> Result<(), u8> {
+    match checked(rt, name, bytes) {
         Ok(table) => {
             let translation = Translation::Encode(&table, found.get_flag("MISSING"));
             translate(rt, found, name, "FILE", translation, "lines encoded")
@@ -124,7 +128,17 @@ pub fn decode_codes<R: Files + RandomSource + Input + Print + Eprint + AllocGlob
         return Err(report::line_end(rt));
     }
     let (name, bytes) = first_input(rt, found, "DICT", "CODES")?;
-    match checked(rt, name, &bytes) {
+    decode_by(rt, found, name, &bytes, missing)
+}
+
+fn decode_by<R: Files + RandomSource + Input + Print + Eprint + AllocGlobal>(
+    rt: &R,
+    found: &ArgMatches<'_>,
+    name: &str,
+    bytes: &[u8],
+    missing: Option<&[u8]>,
+) -> Result<(), u8> {
+    match checked(rt, name, bytes) {
         Ok(table) => {
             let translation = Translation::Decode(&table, missing);
             translate(rt, found, name, "CODES", translation, "codes decoded")
@@ -139,7 +153,16 @@ pub fn renumber_codes<R: Files + RandomSource + Input + Print + Eprint + AllocGl
     found: &ArgMatches<'_>,
 ) -> Result<(), u8> {
     let (name, bytes) = first_input(rt, found, "MAP", "CODES")?;
-    match CodeMap::of(&bytes) {
+    renumber_by(rt, found, name, &bytes)
+}
+
+fn renumber_by<R: Files + RandomSource + Input + Print + Eprint + AllocGlobal>(
+    rt: &R,
+    found: &ArgMatches<'_>,
+    name: &str,
+    bytes: &[u8],
+) -> Result<(), u8> {
+    match CodeMap::of(bytes) {
         Some(map) => {
             let translation = Translation::Renumber(&map);
             translate(rt, found, name, "CODES", translation, "codes renumbered")
@@ -150,24 +173,6 @@ pub fn renumber_codes<R: Files + RandomSource + Input + Print + Eprint + AllocGl
             "not a map: its length is no multiple of 4",
         )),
     }
-}
-
-// The name and the bytes of the dictionary or map by which the inputs are translated.
-fn first_input<'a, R: Files + Input + Eprint + AllocGlobal>(
-    rt: &R,
-    found: &ArgMatches<'a>,
-    first: &str,
-    others: &str,
-) -> Result<(&'a str, Vec<u8>), u8> {
-    let Some(name) = found.get_str(first) else {
-        return Err(2);
-    };
-    let names = found.get_strs(others).unwrap_or(STANDARD_INPUT);
-    if name == STANDARD && names.contains(&STANDARD) {
-        return Err(report::read_twice(rt));
-    }
-    let bytes = whole(rt, name, &mut Meter::silent())?;
-    Ok((name, bytes))
 }
 
 // Writes what is made of the inputs.
@@ -182,11 +187,10 @@ fn translate<R: Files + RandomSource + Input + Print + Eprint + AllocGlobal>(
     let names = found.get_strs(others).unwrap_or(STANDARD_INPUT);
     let output = found.get_str("OUT").unwrap_or(STANDARD);
     refuse_input(rt, output, &[first])?;
-    let is_shown = found.get_flag("PROGRESS");
     let mut column = Column {
         translation,
         names,
-        meter: Meter::of(if is_shown { size_of(rt, names) } else { 0 }),
+        meter: meter_of(rt, names, found.get_flag("PROGRESS")),
         count: 0,
     };
     write_to(rt, output, names, &mut column)?;

@@ -205,11 +205,7 @@ static SUBCOMMANDS: [Subcommand; 10] = [
 
 /// What the program takes.
 pub fn command<'a>(alloc: Global) -> Result<Command<'a>, AllocError> {
-    let mut command = program(alloc);
-    for row in SUBCOMMANDS {
-        command = command.subcommand(subcommand(alloc, row)?)?;
-    }
-    Ok(command)
+    program(alloc).subcommands(subcommands(alloc, &SUBCOMMANDS)?)
 }
 
 fn program<'a>(alloc: Global) -> Command<'a> {
@@ -223,45 +219,48 @@ fn program<'a>(alloc: Global) -> Command<'a> {
         .arg_required_else_help(true)
 }
 
-fn subcommand<'a>(alloc: Global, row: Subcommand) -> Result<Command<'a>, AllocError> {
-    let mut command = Command::new(alloc, row.0).about(row.1);
-    for argument in row.2 {
-        command = command.arg(argument_of(alloc, *argument)?)?;
+fn subcommands<'a>(alloc: Global, rows: &[Subcommand]) -> Result<Vec<Command<'a>>, AllocError> {
+    let mut subcommands = Vec::new(alloc);
+    for row in rows {
+        subcommands.push(subcommand(alloc, row)?)?;
     }
-    Ok(command)
+    Ok(subcommands)
 }
 
-fn argument_of<'a>(alloc: Global, row: Argument) -> Result<Arg<'a>, AllocError> {
+fn subcommand<'a>(alloc: Global, row: &Subcommand) -> Result<Command<'a>, AllocError> {
+    let arguments = arguments(alloc, row.2)?;
+    Command::new(alloc, row.0).about(row.1).args(arguments)
+}
+
+fn arguments<'a>(alloc: Global, rows: &[Argument]) -> Result<Vec<Arg<'a>>, AllocError> {
+    let mut arguments = Vec::new(alloc);
+    for row in rows {
+        arguments.push(argument(alloc, *row)?)?;
+    }
+    Ok(arguments)
+}
+
+fn argument<'a>(alloc: Global, row: Argument) -> Result<Arg<'a>, AllocError> {
     let argument = Arg::new(alloc, row.0).help(row.2);
     match row.1 {
         Takes::Flag(option) => Ok(argument.long(option).action(ArgAction::SetTrue)),
         Takes::Value(option) => Ok(argument.long(option)),
-        Takes::Output(is_required) => Ok(output(argument).required(is_required)),
+        Takes::Output(is_required) => Ok(argument.short('o').long("output").required(is_required)),
         Takes::One => Ok(argument.required(true)),
-        Takes::Many(is_required) => Ok(many(argument).required(is_required)),
-        Takes::Numbers => Ok(many(argument).value_parser(clap::value_parser!(u32))),
-        Takes::Kind => Ok(kind(argument)),
-        Takes::Keys => without_random_keys(keys(argument)),
+        Takes::Many(is_required) => Ok(argument.num_args(1..).required(is_required)),
+        Takes::Numbers => Ok(
+            argument
+                .num_args(1..)
+                .value_parser(clap::value_parser!(u32)),
+        ),
+        Takes::Kind => Ok(
+            argument
+                .long("kind")
+                .value_parser(KINDS)
+                .default_value("bytes"),
+        ),
+        Takes::Keys => without_random_keys(argument.long("keys").value_name("K0,K1")),
     }
-}
-
-fn output<'a>(argument: Arg<'a>) -> Arg<'a> {
-    argument.short('o').long("output")
-}
-
-fn many<'a>(argument: Arg<'a>) -> Arg<'a> {
-    argument.num_args(1..).action(ArgAction::Append)
-}
-
-fn kind<'a>(argument: Arg<'a>) -> Arg<'a> {
-    argument
-        .long("kind")
-        .value_parser(KINDS)
-        .default_value("bytes")
-}
-
-fn keys<'a>(argument: Arg<'a>) -> Arg<'a> {
-    argument.long("keys").value_name("K0,K1")
 }
 
 // A function of its own: over arguments that are known, the proof of this one call takes minutes.

@@ -1,7 +1,6 @@
 //! The subcommand that writes a dictionary.
-use crate::input::{STANDARD_INPUT, lines, size_of};
+use crate::input::{STANDARD_INPUT, lines};
 use crate::keys::keys_of;
-use crate::metered::Meter;
 use crate::noticing::Noticing;
 use crate::output::{Bytes, Content, are_one, refuse_input, write_to};
 use crate::progress::Shown;
@@ -10,7 +9,6 @@ use clap::ArgMatches;
 use intaglio_dictionary::error::FreezingError;
 use intaglio_dictionary::freezing::{freeze_column, freeze_lines, freeze_lines_with_default_keys};
 use intaglio_frozen::{FreezeError, Kind};
-use intaglio_lines::error::StreamError;
 use std::hash::RandomState;
 use std::io;
 use std::io::Write;
@@ -34,49 +32,55 @@ pub fn freeze<R: Files + RandomSource + Input + Print + Eprint + AllocGlobal>(
     rt: &R,
     found: &ArgMatches<'_>,
 ) -> Result<(), u8> {
-    let (Some(name), Some(kind)) = (found.get_str("DICT"), kind_of(found)) else {
+    let Some(name) = found.get_str("DICT") else {
         return Err(2);
     };
-    let codes = found.get_str("CODES");
     let names = found.get_strs("FILE").unwrap_or(STANDARD_INPUT);
-    if let Some(codes) = codes {
-        check_codes(rt, codes, name, names)?;
-    }
-    let keys = keys_of(rt, found)?;
+    let codes = found.get_str("CODES");
+    check_codes(rt, codes, name, names)?;
+    let (kind, keys) = (kind_of(found), keys_of(rt, found)?);
     let is_shown = found.get_flag("PROGRESS");
-    let mut meter = Meter::of(if is_shown { size_of(rt, names) } else { 0 });
-    let input = lines(rt, names, kind == Kind::Text, &mut meter)?;
-    let mut shown = Shown::new(rt, is_shown);
-    shown.stage(input.len(), "bytes read");
-    let mut freezing = Freezing {
+    let input = lines(rt, names, kind == Kind::Text, is_shown)?;
+    let freezing = Freezing {
         kind,
         keys,
         names,
         input: &input,
         codes,
-        shown,
+        shown: Shown::new(rt, is_shown),
     };
+    freeze_to(rt, name, freezing)
+}
+
+fn freeze_to<R: Files + RandomSource + Print + Eprint + AllocGlobal>(
+    rt: &R,
+    name: &str,
+    mut freezing: Freezing<'_, R>,
+) -> Result<(), u8> {
+    let (names, size) = (freezing.names, freezing.input.len());
+    freezing.shown.stage(size, "bytes read");
     write_to(rt, name, names, &mut freezing)
 }
 
 // Refuses codes that are also the dictionary or an input: then the exit status after a message.
 fn check_codes<R: Files + Eprint>(
     rt: &R,
-    codes: &str,
+    codes: Option<&str>,
     name: &str,
     names: &[&str],
 ) -> Result<(), u8> {
-    if are_one(rt, codes, name) {
-        return Err(report::one_output(rt));
+    match codes {
+        Some(codes) if are_one(rt, codes, name) => Err(report::one_output(rt)),
+        Some(codes) => refuse_input(rt, codes, names),
+        None => Ok(()),
     }
-    refuse_input(rt, codes, names)
 }
 
-fn kind_of(found: &ArgMatches<'_>) -> Option<Kind> {
+// The arguments take no other kind.
+fn kind_of(found: &ArgMatches<'_>) -> Kind {
     match found.get_str("KIND") {
-        Some("text") => Some(Kind::Text),
-        Some("bytes") => Some(Kind::Bytes),
-        _ => None,
+        Some("text") => Kind::Text,
+        _ => Kind::Bytes,
     }
 }
 
@@ -112,7 +116,7 @@ impl<R: Eprint> Freezing<'_, R> {
         };
         match written {
             Ok(()) => Ok(()),
-            Err(refused) => Err(refusal(rt, name, refused, output.error())),
+            Err(refused) => Err(refusal(rt, name, refused, output.error)),
         }
     }
 
@@ -131,8 +135,8 @@ impl<R: Eprint> Freezing<'_, R> {
         let shown = &mut self.shown;
         match freeze_column(alloc, kind, keys, builder, input, output, codes, shown) {
             Ok(()) => Ok(()),
-            Err(_) if codes.error().is_some() => Err(report::out_of_memory(rt)),
-            Err(refused) => Err(refusal(rt, name, refused, output.error())),
+            Err(_) if codes.error.is_some() => Err(report::out_of_memory(rt)),
+            Err(refused) => Err(refusal(rt, name, refused, output.error)),
         }
     }
 }
@@ -145,10 +149,8 @@ pub fn refusal<R: Eprint + AllocGlobal>(
     error: Option<io::Error>,
 ) -> u8 {
     match refused {
-        FreezingError::Table(FreezeError::Memory) => report::out_of_memory(rt),
-        FreezingError::Stream(StreamError::Memory) => report::out_of_memory(rt),
         FreezingError::Table(FreezeError::NoPlaces) => report::no_places(rt),
-        FreezingError::Stream(_) => report::unwritten(rt, name, error),
+        FreezingError::Stream(fault) => report::stopped(rt, fault, name, error),
         _ => report::of_input(rt, refused),
     }
 }

@@ -1,10 +1,9 @@
 //! Inputs, which are files or standard input.
 use crate::metered::{Meter, Metered};
 use crate::report;
-use intaglio_lines::error::StreamError;
+use clap::ArgMatches;
 use intaglio_lines::read::read_all;
 use std::alloc::AllocError;
-use std::io::Read;
 use std::rt::Files;
 use std::{fs, str};
 
@@ -27,8 +26,8 @@ pub fn path_of<'a>(name: &'a str) -> &'a str {
     if name == STANDARD { "/dev/stdin" } else { name }
 }
 
-/// How many bytes these inputs have together, or 0 if that isn't known: one of them isn't a regular file.
-pub fn size_of<R: Files>(rt: &R, names: &[&str]) -> u64 {
+// How many bytes these inputs have together, or 0 if that isn't known: one of them isn't a regular file.
+fn size_of<R: Files>(rt: &R, names: &[&str]) -> u64 {
     let mut size = 0u64;
     for name in names {
         match fs::metadata(rt, path_of(name)) {
@@ -39,35 +38,43 @@ pub fn size_of<R: Files>(rt: &R, names: &[&str]) -> u64 {
     size
 }
 
+/// A meter of these inputs, which shows something if that is asked for.
+pub fn meter_of<R: Files>(rt: &R, names: &[&str], is_shown: bool) -> Meter {
+    Meter::of(if is_shown { size_of(rt, names) } else { 0 })
+}
+
 /// The bytes of an input, or the exit status after a message.
 pub fn whole<R: Files + Input + Eprint + AllocGlobal>(
     rt: &R,
     name: &str,
     meter: &mut Meter,
 ) -> Result<Vec<u8>, u8> {
-    if name == STANDARD {
-        return read_to_end(rt, INPUT, rt.reader(), meter);
-    }
-    match fs::open(rt, name) {
-        Ok(input) => read_to_end(rt, name, input, meter),
-        Err(e) => Err(report::of_file(rt, name, e)),
+    let mut input = Metered::open(rt, name, *meter)?;
+    let read = read_all(rt.alloc(), &mut input);
+    *meter = input.meter;
+    match read {
+        Ok(bytes) => Ok(bytes),
+        Err(fault) => Err(report::stopped(rt, fault, name_of(name), input.error)),
     }
 }
 
-fn read_to_end<R: Eprint + AllocGlobal, I: Read + Drop>(
+/// The name and the bytes of the file by which the other inputs are read. Otherwise the exit status after a
+/// message.
+pub fn first_input<'a, R: Files + Input + Eprint + AllocGlobal>(
     rt: &R,
-    name: &str,
-    input: I,
-    meter: &mut Meter,
-) -> Result<Vec<u8>, u8> {
-    let mut input = Metered::new(rt, *meter, input);
-    let read = read_all(rt.alloc(), &mut input);
-    *meter = input.meter();
-    match read {
-        Ok(bytes) => Ok(bytes),
-        Err(StreamError::Memory) => Err(report::out_of_memory(rt)),
-        Err(_) => Err(report::unread(rt, name, input.error())),
+    found: &ArgMatches<'a>,
+    first: &str,
+    others: &str,
+) -> Result<(&'a str, Vec<u8>), u8> {
+    let Some(name) = found.get_str(first) else {
+        return Err(2);
+    };
+    let names = found.get_strs(others).unwrap_or(STANDARD_INPUT);
+    if name == STANDARD && names.contains(&STANDARD) {
+        return Err(report::read_twice(rt));
     }
+    let bytes = whole(rt, name, &mut Meter::silent())?;
+    Ok((name, bytes))
 }
 
 /// The lines of several inputs, or the exit status after a message. The last line of each is ended, but for the
@@ -76,11 +83,12 @@ pub fn lines<R: Files + Input + Eprint + AllocGlobal>(
     rt: &R,
     names: &[&str],
     are_texts: bool,
-    meter: &mut Meter,
+    is_shown: bool,
 ) -> Result<Vec<u8>, u8> {
+    let mut meter = meter_of(rt, names, is_shown);
     let mut bytes = Vec::new(rt.alloc());
     for name in names {
-        let more = whole(rt, name, meter)?;
+        let more = whole(rt, name, &mut meter)?;
         if are_texts {
             check_text(rt, name, &more)?;
         }

@@ -1,19 +1,18 @@
 //! The subcommands that look lines or symbols up.
-use crate::input::{INPUT, STANDARD, STANDARD_INPUT, check_text, name_of, whole};
+use crate::input::{INPUT, STANDARD, STANDARD_INPUT, check_text, first_input, name_of, whole};
 use crate::metered::{Meter, Metered};
 use crate::noticing::Noticing;
+use crate::output::OUTPUT;
 use crate::report;
-use crate::run::{checked, ended};
+use crate::run::checked;
 use clap::ArgMatches;
 use intaglio_dictionary::dictionary::Dictionary;
 use intaglio_dictionary::error::DictionaryError;
 use intaglio_dictionary::look_up::{find_lines, write_strings};
 use intaglio_frozen::TrustedFrozen;
-use intaglio_lines::error::StreamError;
 use intaglio_symbol::Symbol;
-use std::io::Read;
 use std::rt::Files;
-use std::{fs, io, str};
+use std::{io, str};
 
 /// Writes the symbols of lines, and returns the exit status, as `grep` has it: 1 if some lines weren't found, and
 /// 2 after an error.
@@ -29,24 +28,36 @@ fn find_all<R: Files + Input + Print + Eprint + AllocGlobal>(
     rt: &R,
     found: &ArgMatches<'_>,
 ) -> Result<bool, u8> {
-    let Some(name) = found.get_str("DICT") else {
-        return Err(2);
-    };
+    let (name, bytes) = first_input(rt, found, "DICT", "FILE")?;
+    find_by(rt, found, name, &bytes)
+}
+
+// Opens the dictionary in these bytes, and looks the lines up.
+fn find_by<R: Files + Input + Print + Eprint + AllocGlobal>(
+    rt: &R,
+    found: &ArgMatches<'_>,
+    name: &str,
+    bytes: &[u8],
+) -> Result<bool, u8> {
     let names = found.get_strs("FILE").unwrap_or(STANDARD_INPUT);
-    if name == STANDARD && names.contains(&STANDARD) {
-        return Err(report::read_twice(rt));
-    }
-    let bytes = whole(rt, name, &mut Meter::silent())?;
     if found.get_flag("TRUSTED") {
-        match TrustedFrozen::open(&bytes) {
-            Ok(table) => find_in_files(rt, &table, names),
-            Err(fault) => Err(report::failed(rt, name_of(name), fault)),
-        }
-    } else {
-        match checked(rt, name, &bytes) {
+        match trusted(rt, name, bytes) {
             Ok(table) => find_in_files(rt, &table, names),
             Err(status) => Err(status),
         }
+    } else {
+        match checked(rt, name, bytes) {
+            Ok(table) => find_in_files(rt, &table, names),
+            Err(status) => Err(status),
+        }
+    }
+}
+
+// The dictionary in these bytes, after a check of its header. Otherwise the exit status after a message.
+fn trusted<'a, R: Eprint>(rt: &R, name: &str, bytes: &'a [u8]) -> Result<TrustedFrozen<'a>, u8> {
+    match TrustedFrozen::open(bytes) {
+        Ok(table) => Ok(table),
+        Err(fault) => Err(report::failed(rt, name_of(name), fault)),
     }
 }
 
@@ -58,31 +69,25 @@ fn find_in_files<R: Files + Input + Print + Eprint + AllocGlobal, D: Dictionary>
 ) -> Result<bool, u8> {
     let mut all = true;
     for name in names {
-        let found = if *name == STANDARD {
-            find_in(rt, table, INPUT, rt.reader())?
-        } else {
-            match fs::open(rt, *name) {
-                Ok(input) => find_in(rt, table, name, input)?,
-                Err(e) => return Err(report::of_file(rt, name, e)),
-            }
-        };
+        let found = find_in(rt, table, name)?;
         all = all && found;
     }
     Ok(all)
 }
 
-fn find_in<R: Print + Eprint + AllocGlobal, D: Dictionary, I: Read + Drop>(
+fn find_in<R: Files + Input + Print + Eprint + AllocGlobal, D: Dictionary>(
     rt: &R,
     table: &D,
     name: &str,
-    input: I,
 ) -> Result<bool, u8> {
-    let mut input = Metered::new(rt, Meter::silent(), input);
+    let mut input = Metered::open(rt, name, Meter::silent())?;
     let mut output = Noticing::new(io::writer(rt));
     match find_lines(rt.alloc(), table, &mut input, &mut output) {
         Ok(all) => Ok(all),
-        Err(StreamError::Read) => Err(report::unread(rt, name, input.error())),
-        Err(stopped) => Err(ended(rt, Err(stopped), &output)),
+        Err(fault) => {
+            let (read, written) = ((name_of(name), input.error), (OUTPUT, output.error));
+            Err(report::stopped_one(rt, fault, read, written))
+        }
     }
 }
 
@@ -91,20 +96,24 @@ pub fn get<R: Files + Input + Print + Eprint + AllocGlobal>(
     rt: &R,
     found: &ArgMatches<'_>,
 ) -> Result<(), u8> {
-    let Some(name) = found.get_str("DICT") else {
-        return Err(2);
-    };
-    if name == STANDARD && !found.contains_id("NUMBER") {
-        return Err(report::read_twice(rt));
-    }
-    let bytes = whole(rt, name, &mut Meter::silent())?;
+    let (name, bytes) = first_input(rt, found, "DICT", "NUMBER")?;
+    get_by(rt, found, name, &bytes)
+}
+
+// Opens the dictionary in these bytes, and writes the strings.
+fn get_by<R: Files + Input + Print + Eprint + AllocGlobal>(
+    rt: &R,
+    found: &ArgMatches<'_>,
+    name: &str,
+    bytes: &[u8],
+) -> Result<(), u8> {
     if found.get_flag("TRUSTED") {
-        match TrustedFrozen::open(&bytes) {
+        match trusted(rt, name, bytes) {
             Ok(table) => get_from(rt, &table, name, found),
-            Err(fault) => Err(report::failed(rt, name_of(name), fault)),
+            Err(status) => Err(status),
         }
     } else {
-        match checked(rt, name, &bytes) {
+        match checked(rt, name, bytes) {
             Ok(table) => get_from(rt, &table, name, found),
             Err(status) => Err(status),
         }
@@ -117,16 +126,28 @@ fn get_from<R: Files + Input + Print + Eprint + AllocGlobal, D: Dictionary>(
     name: &str,
     found: &ArgMatches<'_>,
 ) -> Result<(), u8> {
-    let symbols = if found.contains_id("NUMBER") {
-        typed_symbols(rt, found)?
-    } else {
-        read_symbols(rt)?
-    };
+    let symbols = asked_symbols(rt, found)?;
     let mut output = Noticing::new(io::writer(rt));
     match write_strings(rt.alloc(), table, &symbols, &mut output) {
         Ok(()) => Ok(()),
-        Err(DictionaryError::Stream(stopped)) => Err(ended(rt, Err(stopped), &output)),
+        Err(DictionaryError::Stream(fault)) => Err(report::stopped(
+            rt,
+            fault,
+            OUTPUT,
+            output.error,
+        )),
         Err(unknown) => Err(report::failed(rt, name_of(name), unknown)),
+    }
+}
+
+fn asked_symbols<R: Files + Input + Eprint + AllocGlobal>(
+    rt: &R,
+    found: &ArgMatches<'_>,
+) -> Result<Vec<Symbol>, u8> {
+    if found.contains_id("NUMBER") {
+        typed_symbols(rt, found)
+    } else {
+        read_symbols(rt)
     }
 }
 
@@ -153,9 +174,13 @@ fn typed_symbols<R: Eprint + AllocGlobal>(
 fn read_symbols<R: Files + Input + Eprint + AllocGlobal>(rt: &R) -> Result<Vec<Symbol>, u8> {
     let input = whole(rt, STANDARD, &mut Meter::silent())?;
     check_text(rt, STANDARD, &input)?;
-    let Ok(text) = str::from_utf8(&input) else {
-        return Err(2);
-    };
+    match str::from_utf8(&input) {
+        Ok(text) => symbols_in(rt, text),
+        Err(_) => Err(2),
+    }
+}
+
+fn symbols_in<R: Eprint + AllocGlobal>(rt: &R, text: &str) -> Result<Vec<Symbol>, u8> {
     let mut symbols = Vec::new(rt.alloc());
     for (before, line) in text.lines().enumerate() {
         let Ok(number) = line.parse::<u32>() else {

@@ -19,6 +19,8 @@ mod replacing;
 mod report;
 mod run;
 
+use clap::ArgMatches;
+use std::alloc::Global;
 use std::env::FillError;
 use std::io::ErrorKind;
 use std::process::ExitCode;
@@ -46,14 +48,14 @@ fn serve_words<R: Files + RandomSource + Input + Print + Eprint + AllocGlobal>(
     rt: &R,
     words: &[String],
 ) -> u8 {
-    let command = match command::command(rt.alloc()) {
-        Ok(command) => command,
-        Err(_) => return report::out_of_memory(rt),
-    };
-    match command.try_get_matches_from(words) {
+    match matches(rt.alloc(), words) {
         Ok(matches) => run::run(rt, &matches),
         Err(error) => report::usage(rt, error),
     }
+}
+
+fn matches<'a>(alloc: Global, words: &'a [String]) -> Result<ArgMatches<'a>, clap::Error> {
+    command::command(alloc)?.try_get_matches_from(words)
 }
 
 // The arguments, and the program's name before them.

@@ -1,8 +1,7 @@
 //! The subcommand that merges dictionaries.
 use crate::freezing::refusal;
-use crate::input::{STANDARD, size_of, whole};
+use crate::input::{STANDARD, meter_of, whole};
 use crate::keys::keys_of;
-use crate::metered::Meter;
 use crate::noticing::Noticing;
 use crate::output::{Content, write_to};
 use crate::progress::Shown;
@@ -11,7 +10,6 @@ use crate::run::checked;
 use clap::ArgMatches;
 use intaglio_dictionary::merging::{merge, write_codes};
 use intaglio_frozen::{Frozen, Header, Kind};
-use intaglio_lines::error::StreamError;
 use intaglio_symbol::Symbol;
 use std::fs;
 use std::hash::RandomState;
@@ -42,8 +40,7 @@ impl<R: Eprint + AllocGlobal> Content<R> for Map<'_> {
     fn write<W: Write>(&mut self, rt: &R, name: &str, output: &mut Noticing<W>) -> Result<(), u8> {
         match write_codes(rt.alloc(), self.codes, output) {
             Ok(()) => Ok(()),
-            Err(StreamError::Memory) => Err(report::out_of_memory(rt)),
-            Err(_) => Err(report::unwritten(rt, name, output.error())),
+            Err(fault) => Err(report::stopped(rt, fault, name, output.error)),
         }
     }
 }
@@ -65,13 +62,10 @@ impl<R: Files + RandomSource + Print + Eprint + AllocGlobal> Content<R> for Merg
             &mut self.shown,
         ) {
             Ok(maps) => {
-                self.count = maps
-                    .iter()
-                    .map(|map| map.len())
-                    .fold(0, |sum, n| sum.saturating_add(n));
+                self.count = count_of(&maps);
                 self.write_maps(rt, &maps)
             }
-            Err(refused) => Err(refusal(rt, name, refused, output.error())),
+            Err(refused) => Err(refusal(rt, name, refused, output.error)),
         }
     }
 }
@@ -88,13 +82,30 @@ impl<R> Merging<'_, '_, R> {
         };
         make_folder(rt, folder)?;
         for (number, codes) in maps.iter().enumerate() {
-            let Ok(path) = format!(in rt.alloc(); "{folder}/{number}.map") else {
-                return Err(report::out_of_memory(rt));
-            };
-            write_to(rt, path.as_str(), self.names, &mut Map { codes })?;
+            write_map(rt, folder, number, self.names, codes)?;
         }
         Ok(())
     }
+}
+
+fn write_map<R: Files + RandomSource + Print + Eprint + AllocGlobal>(
+    rt: &R,
+    folder: &str,
+    number: usize,
+    names: &[&str],
+    codes: &[Symbol],
+) -> Result<(), u8> {
+    match format!(in rt.alloc(); "{folder}/{number}.map") {
+        Ok(path) => write_to(rt, path.as_str(), names, &mut Map { codes }),
+        Err(_) => Err(report::out_of_memory(rt)),
+    }
+}
+
+// How many symbols the maps have together.
+fn count_of(maps: &[Vec<Symbol>]) -> usize {
+    maps.iter()
+        .map(|map| map.len())
+        .fold(0, |sum, n| sum.saturating_add(n))
 }
 
 // Makes a folder if none is there.
@@ -111,30 +122,52 @@ pub fn merge_dictionaries<R: Files + RandomSource + Input + Print + Eprint + All
     rt: &R,
     found: &ArgMatches<'_>,
 ) -> Result<(), u8> {
-    let (Some(names), Some(output)) = (found.get_strs("DICT"), found.get_str("OUT")) else {
+    let Some(names) = found.get_strs("DICT") else {
         return Err(2);
     };
     if names.iter().filter(|name| **name == STANDARD).count() > 1 {
         return Err(report::read_twice(rt));
     }
     let keys = keys_of(rt, found)?;
-    let is_shown = found.get_flag("PROGRESS");
-    let all = whole_files(rt, names, is_shown)?;
-    let tables = tables_of(rt, names, &all)?;
-    let mut merging = Merging {
+    let all = whole_files(rt, names, found.get_flag("PROGRESS"))?;
+    merge_files(rt, found, keys, &all)
+}
+
+// Merges the dictionaries in these files.
+fn merge_files<R: Files + RandomSource + Print + Eprint + AllocGlobal>(
+    rt: &R,
+    found: &ArgMatches<'_>,
+    keys: Option<(u64, u64)>,
+    all: &[Vec<u8>],
+) -> Result<(), u8> {
+    let (Some(names), Some(output)) = (found.get_strs("DICT"), found.get_str("OUT")) else {
+        return Err(2);
+    };
+    let tables = tables_of(rt, names, all)?;
+    let merging = Merging {
         tables: &tables,
         names,
-        kind: common_kind(&all),
+        kind: common_kind(all),
         keys,
         folder: found.get_str("FOLDER"),
         count: 0,
-        shown: Shown::new(rt, is_shown),
+        shown: Shown::new(rt, found.get_flag("PROGRESS")),
     };
+    merge_to(rt, output, merging, found.get_flag("VERBOSE"))
+}
+
+fn merge_to<R: Files + RandomSource + Print + Eprint + AllocGlobal>(
+    rt: &R,
+    output: &str,
+    mut merging: Merging<'_, '_, R>,
+    is_counted: bool,
+) -> Result<(), u8> {
+    let names = merging.names;
     write_to(rt, output, names, &mut merging)?;
-    if found.get_flag("VERBOSE") {
+    if is_counted {
         report::count(rt, names.len() as u64, "dictionaries merged");
         report::count(rt, merging.count as u64, "strings merged");
-        report::count(rt, merging.shown.distinct() as u64, "distinct strings");
+        report::count(rt, merging.shown.distinct as u64, "distinct strings");
     }
     Ok(())
 }
@@ -145,7 +178,7 @@ fn whole_files<R: Files + Input + Eprint + AllocGlobal>(
     names: &[&str],
     is_shown: bool,
 ) -> Result<Vec<Vec<u8>>, u8> {
-    let mut meter = Meter::of(if is_shown { size_of(rt, names) } else { 0 });
+    let mut meter = meter_of(rt, names, is_shown);
     let mut all = Vec::new(rt.alloc());
     for name in names {
         if all.push(whole(rt, name, &mut meter)?).is_err() {
@@ -163,13 +196,8 @@ fn tables_of<'a, R: Eprint + AllocGlobal>(
 ) -> Result<Vec<Frozen<'a>>, u8> {
     let mut tables = Vec::new(rt.alloc());
     for (name, bytes) in names.iter().zip(all.iter()) {
-        match checked(rt, name, bytes) {
-            Ok(table) => {
-                if tables.push(table).is_err() {
-                    return Err(report::out_of_memory(rt));
-                }
-            }
-            Err(status) => return Err(status),
+        if tables.push(checked(rt, name, bytes)?).is_err() {
+            return Err(report::out_of_memory(rt));
         }
     }
     Ok(tables)

@@ -1,6 +1,11 @@
 //! How much of the inputs is read, on standard error.
-use std::io;
+ghost use Rattle.std.specs.Prelude.{None};
+
+use crate::input::STANDARD;
+use crate::report;
 use std::io::Read;
+use std::rt::Files;
+use std::{fs, io};
 
 /// How many bytes of the inputs were read.
 #[derive(Clone, Copy)]
@@ -41,50 +46,56 @@ impl Meter {
     }
 }
 
-/// Reads through another stream, counts the bytes, and keeps the last error.
+/// Reads standard input or a file, counts the bytes, and keeps the last error.
 #[derive(Drop)]
-pub struct Metered<'a, R, S> {
+pub struct Metered<'a, R: Files + Input> {
     rt: &'a R,
-    meter: Meter,
-    stream: S,
-    error: Option<io::Error>,
-}
-
-impl<'a, R, S> Metered<'a, R, S> {
-    /// Counts on from this meter.
-    pub fn new(rt: &'a R, meter: Meter, stream: S) -> Metered<'a, R, S> {
-        Metered {
-            rt,
-            meter,
-            stream,
-            error: None,
-        }
-    }
-
+    source: Source<R::Reader, R::File>,
     /// How many bytes were read.
-    pub fn meter(&self) -> Meter {
-        self.meter
-    }
-
+    pub meter: Meter,
     /// The last error.
-    pub fn error(&self) -> Option<io::Error> {
-        self.error
+    pub error: Option<io::Error>,
+}
+
+#[derive(Drop)]
+enum Source<I, F> {
+    Standard(I),
+    File(F),
+}
+
+impl<'a, R: Files + Input + Eprint + AllocGlobal> Metered<'a, R> {
+    /// Opens an input, and counts on from this meter. Otherwise the exit status after a message.
+    pub fn open(rt: &'a R, name: &str, meter: Meter) -> Result<Metered<'a, R>, u8> {
+        let source = if name == STANDARD {
+            Source::Standard(rt.reader())
+        } else {
+            match fs::open(rt, name) {
+                Ok(file) => Source::File(file),
+                Err(e) => return Err(report::of_file(rt, name, e)),
+            }
+        };
+        Ok(Metered {
+            rt,
+            source,
+            meter,
+            error: None,
+        })
     }
 }
 
-impl<R: Eprint, S: Read> Read for Metered<'_, R, S> {
-    ghost remaining = { λ r. S.remaining r.stream };
+impl<R: Files + Input + Eprint> Read for Metered<'_, R> {
+    // What a reader has yet to give is said of none of the inputs.
+    ghost remaining = { λ _. None };
 
     fn read(&mut self, buf: &mut [u8]) -> io::Result<usize> {
-        match self.stream.read(buf) {
-            Ok(taken) => {
-                self.meter.add(self.rt, taken);
-                Ok(taken)
-            }
-            Err(error) => {
-                self.error = Some(error);
-                Err(error)
-            }
+        let read = match &mut self.source {
+            Source::Standard(input) => input.read(buf),
+            Source::File(file) => file.read(buf),
+        };
+        match read {
+            Ok(taken) => self.meter.add(self.rt, taken),
+            Err(error) => self.error = Some(error),
         }
+        read
     }
 }

@@ -6,7 +6,8 @@ use std::io::Write;
 #[derive(Drop)]
 pub struct Noticing<S> {
     stream: S,
-    error: Option<io::Error>,
+    /// The last error.
+    pub error: Option<io::Error>,
 }
 
 impl<S> Noticing<S> {
@@ -21,11 +22,6 @@ impl<S> Noticing<S> {
     /// The stream.
     pub fn into_stream(self) -> S {
         self.stream
-    }
-
-    /// The last error.
-    pub fn error(&self) -> Option<io::Error> {
-        self.error
     }
 }
 

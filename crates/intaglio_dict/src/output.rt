@@ -3,6 +3,7 @@ use crate::input::{STANDARD, name_of, path_of};
 use crate::noticing::Noticing;
 use crate::replacing::Place;
 use crate::report;
+use intaglio_lines::error::StreamError;
 use std::io::Write;
 use std::os::unix::fs::MetadataExt;
 use std::path::Path;
@@ -30,7 +31,7 @@ impl<R: Eprint + AllocGlobal> Content<R> for Bytes<'_> {
     fn write<W: Write>(&mut self, rt: &R, name: &str, output: &mut Noticing<W>) -> Result<(), u8> {
         match write_whole(self.bytes, output) {
             Ok(()) => Ok(()),
-            Err(_) => Err(report::unwritten(rt, name, output.error())),
+            Err(_) => Err(report::stopped(rt, StreamError::Write, name, output.error)),
         }
     }
 }
@@ -53,8 +54,17 @@ pub fn write_to<R: Files + RandomSource + Print + Eprint + AllocGlobal, C: Conte
         return content.write(rt, OUTPUT, &mut Noticing::new(io::writer(rt)));
     }
     let place = Place::of(rt, name)?;
+    write_beside(rt, &place, content)
+}
+
+// Writes beside a file, which is replaced when the new one is whole.
+fn write_beside<R: Files + RandomSource + Eprint + AllocGlobal, C: Content<R>>(
+    rt: &R,
+    place: &Place<'_>,
+    content: &mut C,
+) -> Result<(), u8> {
     let (path, file) = place.create_beside(rt)?;
-    let replaced = write_and_replace(rt, &place, path.as_path(), file, content);
+    let replaced = write_and_replace(rt, place, path.as_path(), file, content);
     if replaced.is_err() {
         let _ = fs::remove_file(rt, path.as_path());
     }
@@ -85,7 +95,7 @@ pub fn refuse_input<R: Files + Eprint>(rt: &R, output: &str, inputs: &[&str]) ->
         return Ok(());
     };
     for name in inputs {
-        if file_of(rt, path_of(name)) == Some(replaced) {
+        if is_file(rt, path_of(name), replaced) {
             return Err(report::failed(rt, name_of(name), "the input is also the output"));
         }
     }
@@ -98,9 +108,14 @@ pub fn are_one<R: Files>(rt: &R, output: &str, other: &str) -> bool {
         return true;
     }
     match file_of(rt, output) {
-        Some(file) => file_of(rt, other) == Some(file),
+        Some(file) => is_file(rt, other, file),
         None => false,
     }
+}
+
+// Whether a path leads to this file.
+fn is_file<R: Files>(rt: &R, path: &str, file: (u64, u64)) -> bool {
+    file_of(rt, path) == Some(file)
 }
 
 // The device and the number of a regular file.

@@ -6,7 +6,8 @@ use intaglio_dictionary::progress::Progress;
 pub struct Shown<'a, R> {
     rt: &'a R,
     is_asked_for: bool,
-    distinct: usize,
+    /// How many distinct lines or strings were reported last.
+    pub distinct: usize,
 }
 
 impl<'a, R: Eprint> Shown<'a, R> {
@@ -17,11 +18,6 @@ impl<'a, R: Eprint> Shown<'a, R> {
             is_asked_for,
             distinct: 0,
         }
-    }
-
-    /// How many distinct lines or strings were reported last.
-    pub fn distinct(&self) -> usize {
-        self.distinct
     }
 
     /// Shows a stage by a count.

@@ -27,21 +27,38 @@ fn without_number(text: &str) -> &str {
     }
 }
 
-/// Of an input that couldn't be read to its end, by the last error.
-pub fn unread<R: Eprint + AllocGlobal>(rt: &R, name: &str, error: Option<io::Error>) -> u8 {
-    match error {
-        Some(error) => of_file(rt, name, error),
-        None => failed(rt, name, StreamError::Read),
+/// Of an input that couldn't be read to its end, or an output that couldn't be written, by the last error.
+/// Nothing is said if nobody reads the output.
+pub fn stopped<R: Eprint + AllocGlobal>(
+    rt: &R,
+    fault: StreamError,
+    name: &str,
+    error: Option<io::Error>,
+) -> u8 {
+    match (fault, error) {
+        (StreamError::Memory, _) => out_of_memory(rt),
+        (StreamError::Write, Some(error)) if error.kind() == io::ErrorKind::BrokenPipe =>
+            UNREAD_OUTPUT,
+        (_, Some(error)) => of_file(rt, name, error),
+        (_, None) => failed(rt, name, fault),
     }
 }
 
-/// Of an output that couldn't be written, by the last error. Nothing is said if nobody reads it.
-pub fn unwritten<R: Eprint + AllocGlobal>(rt: &R, name: &str, error: Option<io::Error>) -> u8 {
-    match error {
-        Some(error) if error.kind() == io::ErrorKind::BrokenPipe => UNREAD_OUTPUT,
-        Some(error) => of_file(rt, name, error),
-        None => failed(rt, name, StreamError::Write),
-    }
+/// The name of an input or an output, and its last error.
+pub type Stream<'a> = (&'a str, Option<io::Error>);
+
+/// Of the one of an input and an output that the fault is of.
+pub fn stopped_one<R: Eprint + AllocGlobal>(
+    rt: &R,
+    fault: StreamError,
+    input: Stream<'_>,
+    output: Stream<'_>,
+) -> u8 {
+    let (name, error) = match fault {
+        StreamError::Read => input,
+        _ => output,
+    };
+    stopped(rt, fault, name, error)
 }
 
 /// Of what is wrong with a file, or with one of the standard streams.

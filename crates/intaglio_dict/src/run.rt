@@ -56,14 +56,15 @@ fn check<R: Files + Input + Eprint + AllocGlobal>(rt: &R, found: &ArgMatches<'_>
 }
 
 fn check_one<R: Files + Input + Eprint + AllocGlobal>(rt: &R, name: &str) -> u8 {
-    let bytes = match whole(rt, name, &mut Meter::silent()) {
-        Ok(bytes) => bytes,
-        Err(status) => return status,
-    };
-    match checked(rt, name, &bytes) {
-        Ok(_) => 0,
+    match whole(rt, name, &mut Meter::silent()) {
+        Ok(bytes) => status_of(is_dictionary(rt, name, &bytes)),
         Err(status) => status,
     }
+}
+
+fn is_dictionary<R: Eprint>(rt: &R, name: &str, bytes: &[u8]) -> Result<(), u8> {
+    checked(rt, name, bytes)?;
+    Ok(())
 }
 
 /// The dictionary in these bytes, after a check of all of them. Otherwise the exit status after a message.
@@ -83,25 +84,29 @@ fn on_dictionary<R: Files + Input + Print + Eprint + AllocGlobal>(
     let Some(name) = found.get_str("DICT") else {
         return 2;
     };
-    let bytes = match whole(rt, name, &mut Meter::silent()) {
-        Ok(bytes) => bytes,
-        Err(status) => return status,
-    };
-    let table = match checked(rt, name, &bytes) {
-        Ok(table) => table,
-        Err(status) => return status,
-    };
-    match command {
-        "list" => list_all(rt, &table),
-        "stat" => stat(rt, &table, bytes.len() as u64),
-        _ => 2,
+    match whole(rt, name, &mut Meter::silent()) {
+        Ok(bytes) => on_bytes(rt, command, name, &bytes),
+        Err(status) => status,
+    }
+}
+
+fn on_bytes<R: Print + Eprint + AllocGlobal>(
+    rt: &R,
+    command: &str,
+    name: &str,
+    bytes: &[u8],
+) -> u8 {
+    match checked(rt, name, bytes) {
+        Ok(table) if command == "list" => list_all(rt, &table),
+        Ok(table) => stat(rt, &table, bytes.len() as u64),
+        Err(status) => status,
     }
 }
 
 fn list_all<R: Print + Eprint + AllocGlobal>(rt: &R, table: &Frozen<'_>) -> u8 {
     let mut output = Noticing::new(io::writer(rt));
     let answer = list(rt.alloc(), table, &mut output);
-    ended(rt, answer, &output)
+    ended(rt, answer, output.error)
 }
 
 fn stat<R: Print + Eprint + AllocGlobal>(rt: &R, table: &Frozen<'_>, bytes: u64) -> u8 {
@@ -121,18 +126,17 @@ fn stat<R: Print + Eprint + AllocGlobal>(rt: &R, table: &Frozen<'_>, bytes: u64)
         Ok(()) => Ok(()),
         Err(_) => Err(StreamError::Write),
     };
-    ended(rt, answer, &output)
+    ended(rt, answer, output.error)
 }
 
-/// The exit status after standard output, and a message if it isn't whole.
-pub fn ended<R: Eprint + AllocGlobal, W: Write>(
+// The exit status after standard output, and a message if it isn't whole.
+fn ended<R: Eprint + AllocGlobal>(
     rt: &R,
     answer: Result<(), StreamError>,
-    output: &Noticing<W>,
+    error: Option<io::Error>,
 ) -> u8 {
     match answer {
         Ok(()) => 0,
-        Err(StreamError::Memory) => report::out_of_memory(rt),
-        Err(_) => report::unwritten(rt, OUTPUT, output.error()),
+        Err(fault) => report::stopped(rt, fault, OUTPUT, error),
     }
 }
