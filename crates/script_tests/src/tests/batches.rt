@@ -1,13 +1,11 @@
 //! Batches: contents or forms that one call interns or looks up.
-use super::each::{Hashed, Script, on_each, on_paths};
+use super::each::{Hashed, on_each, on_paths, try_on_each};
 
 #[test]
 fn contents_interned_together_get_the_symbols_of_internings_in_order(rt: HostRuntime) {
     on_each(
         &rt,
-        rt.alloc(),
-        &Script(
-            "with_limit 4 > done
+        "with_limit 4 > done
 intaglio::intern_all b a b > [Symbol(0), Symbol(1), Symbol(0)]
 len > 2
 intaglio::intern_all a c c a > [Symbol(1), Symbol(2), Symbol(2), Symbol(1)]
@@ -18,15 +16,13 @@ intaglio::intern_all d a e > Symbol overflow
 len > 3
 intaglio::intern_all c d > [Symbol(2), Symbol(3)]
 len > 4",
-        ),
     );
 }
 
 #[test]
 fn contents_interned_together_are_hashed_once_each(rt: HostRuntime) {
-    on_each(
+    try_on_each(
         &rt,
-        rt.alloc(),
         &Hashed {
             capacity: 4096,
             fixed: Some(7),
@@ -41,9 +37,7 @@ hashers > 5",
 fn a_table_interns_and_finds_forms_together(rt: HostRuntime) {
     on_each(
         &rt,
-        rt.alloc(),
-        &Script(
-            "with_limit 4 > done
+        "with_limit 4 > done
 get_or_intern_all b a b > [Symbol(0), Symbol(1), Symbol(0)]
 len > 2
 get_or_intern_all a c c a > [Symbol(1), Symbol(2), Symbol(2), Symbol(1)]
@@ -55,7 +49,6 @@ len > 3
 get_or_intern_all c d > [Symbol(2), Symbol(3)]
 len > 4
 check_all c e b > [Some(Symbol(2)), None, Some(Symbol(0))]",
-        ),
     );
 }
 
@@ -63,9 +56,7 @@ check_all c e b > [Some(Symbol(2)), None, Some(Symbol(0))]",
 fn a_table_interns_contents_together(rt: HostRuntime) {
     on_each(
         &rt,
-        rt.alloc(),
-        &Script(
-            "with_limit 4 > done
+        "with_limit 4 > done
 intern_all b a b > [Symbol(0), Symbol(1), Symbol(0)]
 len > 2
 intern_all a c c a > [Symbol(1), Symbol(2), Symbol(2), Symbol(1)]
@@ -76,7 +67,6 @@ intern_all d a e > Symbol overflow
 len > 3
 intern_all c d > [Symbol(2), Symbol(3)]
 len > 4",
-        ),
     );
 }
 
@@ -84,9 +74,7 @@ len > 4",
 fn forms_are_interned_as_their_contents(rt: HostRuntime) {
     on_each(
         &rt,
-        rt.alloc(),
-        &Script(
-            "with_limit 2 > done
+        "with_limit 2 > done
 get_or_intern b > 0
 intern a > 1
 get_or_intern a > 1
@@ -95,15 +83,13 @@ get_or_intern c > Symbol overflow
 len > 2
 get 0 > b
 get_or_intern b > 0",
-        ),
     );
 }
 
 #[test]
 fn a_form_is_hashed_once(rt: HostRuntime) {
-    on_each(
+    try_on_each(
         &rt,
-        rt.alloc(),
         &Hashed {
             capacity: 0,
             fixed: Some(7),
@@ -119,13 +105,10 @@ hashers > 3",
 fn the_first_spelling_of_a_path_is_copied(rt: HostRuntime) {
     on_paths(
         &rt,
-        rt.alloc(),
-        &Script(
-            "new > done
+        "new > done
 get_or_intern a//b > 0
 get_or_intern a/b > 0
 get 0 > a//b
 len > 1",
-        ),
     );
 }

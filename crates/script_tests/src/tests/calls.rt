@@ -3,7 +3,8 @@ use super::contents::Shown;
 use super::printed::{reply_text, spelled, symbols_text};
 use crate::replies::interned;
 use intaglio::{
-    Content, Formed, Lends, LookedUp, LookedUpIn, Reply, Sought, SoughtIn, Symbol, Table, TableOver,
+    Content, Formed, Lends, LookedUp, LookedUpIn, Reply, Sought, SoughtIn, Symbol, Table,
+    TableOver, Work, get_or_intern_all,
 };
 use std::alloc::{AllocError, Global};
 use std::process::Abort;
@@ -16,6 +17,8 @@ pub enum Ask {
     GetOrIntern,
     /// `get_or_intern_all`.
     GetOrInternAll,
+    /// The function `get_or_intern_all`.
+    CountedAll,
     /// `check_interned`.
     CheckInterned,
     /// `check_all`.
@@ -73,16 +76,37 @@ where
     L::Prepared: Drop,
     L::Form: Shown,
 {
-    let reply = match ask {
-        Ask::GetOrInternAll => return symbols_text(rt, alloc, table.get_or_intern_all(&forms)),
-        Ask::CheckAll => return found(rt, alloc, table.check_all(&forms)),
-        Ask::GetOrIntern => interned(table.get_or_intern(only(rt, forms))),
-        Ask::CheckInterned => Reply::Symbol(table.check_interned(only(rt, forms))),
-        Ask::IsInterned => Reply::Bool(table.is_interned(only(rt, forms))),
+    match ask {
+        Ask::GetOrInternAll => symbols_text(rt, alloc, table.get_or_intern_all(&forms)),
+        Ask::CountedAll => {
+            let symbols = get_or_intern_all(alloc, table, &forms, &mut Work::new());
+            symbols_text(rt, alloc, symbols)
+        }
+        Ask::CheckAll => found(rt, alloc, table.check_all(&forms)),
+        _ => reply_text(rt, alloc, &reply(alloc, table, only(rt, forms), ask)),
+    }
+}
+
+// The same for all other calls, which take at most one form.
+fn reply<'a, L: Lends<'a> + LookedUpIn<'a>, S: HasherCount>(
+    alloc: Global,
+    table: &'a mut TableOver<L, S>,
+    form: <L as LookedUpIn<'a>>::By,
+    ask: Ask,
+) -> Reply
+where
+    L::Content: Content + SoughtIn<L> + Drop,
+    L::Prepared: Drop,
+    L::Form: Shown,
+{
+    match ask {
+        Ask::GetOrIntern => interned(table.get_or_intern(form)),
+        Ask::CheckInterned => Reply::Symbol(table.check_interned(form)),
+        Ask::IsInterned => Reply::Bool(table.is_interned(form)),
         Ask::Contains(symbol) => Reply::Bool(table.contains(symbol)),
         Ask::Get(symbol) | Ask::Index(symbol) => spelled(alloc, table.get(symbol)),
-    };
-    reply_text(rt, alloc, &reply)
+        _ => Reply::Stale,
+    }
 }
 
 // What a batch of look-ups returns.

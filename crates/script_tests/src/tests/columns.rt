@@ -15,25 +15,23 @@ use test_hashers::builders::Fold;
 
 // On a table with this limit.
 fn runs_on<C: TestContent>(rt: &impl Abort, alloc: Global, limit: usize, script: &'static str) {
-    let mut table = Owned::<C>::make(alloc, Make::Limited(limit)).expect(rt, "no table");
+    let made = Owned::<C>::make(alloc, Make::Limited(limit));
     let calls = calls_by_contents::<C>(rt, alloc, script);
-    runs::<Moved, _, _>(rt, alloc, &mut table, calls, script);
+    runs::<Moved, _, _>(rt, alloc, made, calls, script);
 }
 
 fn runs_on_a_core(rt: &impl Abort, alloc: Global, limit: usize, script: &'static str) {
     let made: Result<Core<StrContent, Fold>, _> = Core::with_limit(alloc, limit, Fold::new());
     let calls = calls_by_contents::<StrContent>(rt, alloc, script);
-    runs::<Moved, _, _>(rt, alloc, &mut made.expect(rt, "no table"), calls, script);
+    runs::<Moved, _, _>(rt, alloc, made, calls, script);
 }
 
 fn runs_by_texts(rt: &impl Abort, alloc: Global, limit: usize, script: &'static str) {
     let how = Make::Limited(limit);
-    let mut owned = Owned::<StrContent>::make(alloc, how).expect(rt, "no table");
-    let calls = calls_by_texts(rt, alloc, script);
-    runs::<Copied, _, _>(rt, alloc, &mut owned, calls, script);
-    let mut packed = packed::SymbolTable::make(alloc, how).expect(rt, "no table");
-    let calls = calls_by_texts(rt, alloc, script);
-    runs::<Copied, _, _>(rt, alloc, &mut packed, calls, script);
+    let owned = Owned::<StrContent>::make(alloc, how);
+    runs::<Copied, _, _>(rt, alloc, owned, calls_by_texts(rt, alloc, script), script);
+    let packed = packed::SymbolTable::make(alloc, how);
+    runs::<Copied, _, _>(rt, alloc, packed, calls_by_texts(rt, alloc, script), script);
 }
 
 fn runs_on_each(rt: &impl Abort, alloc: Global, limit: usize, script: &'static str) {

@@ -24,13 +24,14 @@ pub trait Trial {
 }
 
 /// Runs the trial on tables of each kind.
-pub fn on_each<Q: Trial>(rt: &impl Abort, alloc: Global, trial: &Q) {
-    on_owned(rt, alloc, trial);
-    on_packed(rt, alloc, trial);
+pub fn try_on_each<Q: Trial>(rt: &(impl Abort + AllocGlobal), trial: &Q) {
+    try_on_owned(rt, trial);
+    try_on_packed(rt, trial);
 }
 
 /// Runs the trial on tables of each kind of owned contents.
-pub fn on_owned<Q: Trial>(rt: &impl Abort, alloc: Global, trial: &Q) {
+fn try_on_owned<Q: Trial>(rt: &(impl Abort + AllocGlobal), trial: &Q) {
+    let alloc = rt.alloc();
     trial.try_on::<Owned<StrContent>, _>(rt, alloc);
     trial.try_on::<Owned<OsStrContent>, _>(rt, alloc);
     trial.try_on::<Owned<BytesContent>, _>(rt, alloc);
@@ -40,7 +41,8 @@ pub fn on_owned<Q: Trial>(rt: &impl Abort, alloc: Global, trial: &Q) {
 }
 
 /// Runs the trial on tables in one buffer.
-pub fn on_packed<Q: Trial>(rt: &impl Abort, alloc: Global, trial: &Q) {
+pub fn try_on_packed<Q: Trial>(rt: &(impl Abort + AllocGlobal), trial: &Q) {
+    let alloc = rt.alloc();
     trial.try_on::<packed::SymbolTable, _>(rt, alloc);
     trial.try_on::<packed::osstr::SymbolTable, _>(rt, alloc);
     trial.try_on::<packed::bytes::SymbolTable, _>(rt, alloc);
@@ -49,7 +51,8 @@ pub fn on_packed<Q: Trial>(rt: &impl Abort, alloc: Global, trial: &Q) {
 }
 
 /// Runs the trial on tables of bytes.
-pub fn on_bytes<Q: Trial>(rt: &impl Abort, alloc: Global, trial: &Q) {
+pub fn try_on_bytes<Q: Trial>(rt: &(impl Abort + AllocGlobal), trial: &Q) {
+    let alloc = rt.alloc();
     trial.try_on::<Owned<BytesContent>, _>(rt, alloc);
     trial.try_on::<Owned<BStrContent>, _>(rt, alloc);
     trial.try_on::<packed::bytes::SymbolTable, _>(rt, alloc);
@@ -57,14 +60,20 @@ pub fn on_bytes<Q: Trial>(rt: &impl Abort, alloc: Global, trial: &Q) {
 }
 
 /// Runs the trial on tables of C strings.
-pub fn on_c_strings<Q: Trial>(rt: &impl Abort, alloc: Global, trial: &Q) {
-    trial.try_on::<Owned<CStrContent>, _>(rt, alloc);
+pub fn try_on_c_strings<Q: Trial>(rt: &(impl Abort + AllocGlobal), trial: &Q) {
+    trial.try_on::<Owned<CStrContent>, _>(rt, rt.alloc());
 }
 
-/// Runs the trial on tables of paths.
-pub fn on_paths<Q: Trial>(rt: &impl Abort, alloc: Global, trial: &Q) {
-    trial.try_on::<Owned<PathContent>, _>(rt, alloc);
-    trial.try_on::<packed::path::SymbolTable, _>(rt, alloc);
+/// Plays the script on tables of each kind.
+pub fn on_each(rt: &(impl Abort + AllocGlobal), script: &'static str) {
+    try_on_each(rt, &Script(script));
+}
+
+/// Plays the script on tables of paths.
+pub fn on_paths(rt: &(impl Abort + AllocGlobal), script: &'static str) {
+    let alloc = rt.alloc();
+    Script(script).try_on::<Owned<PathContent>, _>(rt, alloc);
+    Script(script).try_on::<packed::path::SymbolTable, _>(rt, alloc);
 }
 
 /// A script, with one part for each table: how it is made, and the calls on it.

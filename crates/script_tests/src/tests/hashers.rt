@@ -1,6 +1,6 @@
 //! How many hashers a table makes, and tables whose hashes are equal, share buckets or are random.
 use super::assertions::same;
-use super::each::{Hashed, on_each};
+use super::each::{Hashed, try_on_each};
 use super::script::plays;
 use intaglio::path::{Path, PathContent};
 use intaglio::{Keyed, Sought, StrContent, SymbolTable, Work};
@@ -9,9 +9,8 @@ use test_hashers::builders::Counted;
 
 #[test]
 fn a_call_hashes_once_and_a_growth_never(rt: HostRuntime) {
-    on_each(
+    try_on_each(
         &rt,
-        rt.alloc(),
         &Hashed {
             capacity: 0,
             fixed: None,
@@ -30,9 +29,8 @@ hashers > 400",
 
 #[test]
 fn two_thousand_equal_hashes_on_each_table(rt: HostRuntime) {
-    on_each(
+    try_on_each(
         &rt,
-        rt.alloc(),
         &Hashed {
             capacity: 0,
             fixed: Some(7),
@@ -45,9 +43,8 @@ check 2000 > none",
 
 #[test]
 fn a_cut_unlinks_each_symbol_of_a_bucket(rt: HostRuntime) {
-    on_each(
+    try_on_each(
         &rt,
-        rt.alloc(),
         &Hashed {
             capacity: 4096,
             fixed: Some(7),

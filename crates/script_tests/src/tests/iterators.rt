@@ -1,5 +1,5 @@
 //! The iterators of tables of each kind, from both ends.
-use super::each::{RunOut, Walked, on_each, on_packed};
+use super::each::{RunOut, Walked, try_on_each, try_on_packed};
 use super::steps::Steps;
 
 const BOTH_ENDS: Steps = Steps {
@@ -23,9 +23,8 @@ fn iterators_go_from_both_ends(rt: HostRuntime) {
 intern xyz > 1
 intern 123 > 2
 intern 789 > 3";
-    on_each(
+    try_on_each(
         &rt,
-        rt.alloc(),
         &Walked {
             words,
             steps: BOTH_ENDS,
@@ -38,9 +37,8 @@ fn ends_are_taken_in_turn(rt: HostRuntime) {
     let words = "intern a > 0
 intern b > 1
 intern c > 2";
-    on_each(
+    try_on_each(
         &rt,
-        rt.alloc(),
         &Walked {
             words,
             steps: Steps {
@@ -82,9 +80,8 @@ next > none",
 
 #[test]
 fn nothing_comes_of_an_empty_table(rt: HostRuntime) {
-    on_each(
+    try_on_each(
         &rt,
-        rt.alloc(),
         &Walked {
             words: "",
             steps: NOTHING,
@@ -94,7 +91,7 @@ fn nothing_comes_of_an_empty_table(rt: HostRuntime) {
 
 #[test]
 fn run_out_symbols_are_those_of_an_empty_table(rt: HostRuntime) {
-    on_each(&rt, rt.alloc(), &RunOut);
+    try_on_each(&rt, &RunOut);
 }
 
 const FORWARDS: Steps = Steps {
@@ -119,9 +116,8 @@ next > none",
 
 #[test]
 fn a_packed_table_yields_its_texts(rt: HostRuntime) {
-    on_packed(
+    try_on_packed(
         &rt,
-        rt.alloc(),
         &Walked {
             words: "intern abc > 0
 intern x > 1

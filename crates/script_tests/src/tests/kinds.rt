@@ -1,7 +1,7 @@
 //! What only some kinds of content have: spellings of equal paths, zero bytes, and bytes that aren't UTF-8.
 use super::assertions::same;
 use super::contents::{borrowed_content, content};
-use super::each::{Kept, Script, on_bytes, on_c_strings, on_each, on_paths};
+use super::each::{Kept, Script, on_paths, try_on_bytes, try_on_c_strings, try_on_each};
 use intaglio::cstr;
 use intaglio::cstr::CStrContent;
 use std::alloc::Global;
@@ -11,9 +11,7 @@ use std::process::Abort;
 fn spellings_of_a_path(rt: HostRuntime) {
     on_paths(
         &rt,
-        rt.alloc(),
-        &Script(
-            "new > done
+        "new > done
 intern a//b > 0
 intern a/b > 0
 get 0 > a//b
@@ -37,7 +35,6 @@ intern // > 2
 intern /. > 2
 intern .. > 3
 intern /.. > 4",
-        ),
     );
 }
 
@@ -45,9 +42,7 @@ intern /.. > 4",
 fn thirty_paths_have_sixteen_symbols(rt: HostRuntime) {
     on_paths(
         &rt,
-        rt.alloc(),
-        &Script(
-            "new > done
+        "new > done
 intern > 0
 intern . > 1
 intern ./ > 1
@@ -79,7 +74,6 @@ intern ... > 13
 intern .a/b. > 14
 intern a b/c > 15
 len > 16",
-        ),
     );
 }
 
@@ -87,16 +81,13 @@ len > 16",
 fn a_path_may_come_back_in_another_spelling(rt: HostRuntime) {
     on_paths(
         &rt,
-        rt.alloc(),
-        &Script(
-            "with_hasher > done
+        "with_hasher > done
 intern x > 0
 mark > 1
 intern a//b > 1
 take_back 1 > done
 intern a/b > 1
 get 1 > a/b",
-        ),
     );
 }
 
@@ -108,24 +99,24 @@ intern \0 > 0";
 
 #[test]
 fn zeros_are_bytes(rt: HostRuntime) {
-    on_bytes(&rt, rt.alloc(), &Script(ZEROS));
+    try_on_bytes(&rt, &Script(ZEROS));
 }
 
 #[test]
 fn bytes_that_are_no_text_are_kept(rt: HostRuntime) {
     let bytes: [&[u8]; 5] = [b"\x00", b"\xff", b"\x00\xff", b"\x00\xfe", b"\x00\xff\x00"];
-    on_bytes(&rt, rt.alloc(), &Kept(&bytes));
-    on_c_strings(&rt, rt.alloc(), &Kept(&[b"\xff"]));
+    try_on_bytes(&rt, &Kept(&bytes));
+    try_on_c_strings(&rt, &Kept(&[b"\xff"]));
 }
 
 #[test]
 fn each_content_of_the_list_is_kept(rt: HostRuntime) {
     let long = Vec::from_elem(rt.alloc(), b'x', 4096).expect(&rt, "memory");
     let long = [long.as_slice()];
-    on_each(&rt, rt.alloc(), &Kept(&long));
+    try_on_each(&rt, &Kept(&long));
     let short: [&[u8]; 5] = [b"", b"a", b"abc", b"a/b", b"\xc3\xa4"];
-    on_each(&rt, rt.alloc(), &Kept(&short));
-    on_each(&rt, rt.alloc(), &Kept(&[b"a//b"]));
+    try_on_each(&rt, &Kept(&short));
+    try_on_each(&rt, &Kept(&[b"a//b"]));
 }
 
 // Asserts that a table returns the bytes of a C string and the zero after them.

@@ -1,4 +1,5 @@
 //! Calls on many contents, whose expected results are computed.
+use super::assertions::same;
 use super::calls::Ask;
 use super::contents::{content, vec_of_one};
 use super::printed::{number, text};
@@ -21,7 +22,7 @@ pub fn interns<T: Table>(
     wanted: u32,
 ) {
     let reply = table.put(content(rt, alloc, spelling));
-    assert_eq!(rt; reply, Reply::Symbol(Some(Symbol::new(wanted))));
+    same(rt, reply, Reply::Symbol(Some(Symbol::new(wanted))));
 }
 
 /// Asserts what the call by the spelling returns.
@@ -35,7 +36,7 @@ pub fn gives<T: Table>(
 ) {
     let contents = vec_of_one(rt, alloc, content(rt, alloc, spelling));
     let answer = table.ask(rt, alloc, &contents, ask);
-    assert_eq!(rt; answer.as_str(), wanted);
+    same(rt, answer.as_str(), wanted);
 }
 
 /// Interns the decimal numbers from 0, which get these symbols.
@@ -100,7 +101,7 @@ fn finds<T: Table>(rt: &impl Abort, alloc: Global, table: &mut T, spelling: &[u8
     gives(rt, alloc, table, spelling, Ask::IsInterned, "true");
     let pair = table.pair(alloc, &content(rt, alloc, spelling));
     let copy = spelling.to_vec(alloc).expect(rt, "memory");
-    assert_eq!(rt; pair, Reply::Pair(Some((wanted, copy))));
+    same(rt, pair, Reply::Pair(Some((wanted, copy))));
 }
 
 /// Interns the decimal numbers from 0, padded with zeros to 100 bytes, each twice, and asserts after each

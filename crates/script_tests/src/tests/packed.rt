@@ -10,17 +10,14 @@ use intaglio::bytes::BytesContent;
 use intaglio::osstr::OsStrContent;
 use intaglio::packed::{Packed, PackedForm, PackedOwned};
 use intaglio::path::PathContent;
-use intaglio::{
-    AllSymbols, Formed, InternError, Reply, RoomError, StrContent, Symbol, TableOver, Work,
-    get_or_intern_all,
-};
+use intaglio::{AllSymbols, Reply, RoomError, StrContent, TableOver};
 use intaglio_bytes::b_str::BStrKind;
 use intaglio_bytes::bytes::BytesKind;
 use intaglio_hash::FixedState;
 use intaglio_path::PathKind;
 use intaglio_text::StrKind;
 use intaglio_text::osstr::OsStrKind;
-use std::alloc::{AllocError, Global};
+use std::alloc::Global;
 use std::process::Abort;
 use test_hashers::builders::{Counted, HasherCount};
 
@@ -29,14 +26,6 @@ pub trait PackedTests: PackedOwned
 where
     Self::Owned: TestContent,
 {
-    /// Interns the forms of contents: by the function `get_or_intern_all` if it is `counted`, else by the table's.
-    fn put_packed<S: HasherCount>(
-        alloc: Global,
-        table: &mut TableOver<Packed<Self>, S>,
-        contents: &[Self::Owned],
-        counted: bool,
-    ) -> Result<Vec<Symbol>, InternError>;
-
     /// Looks the borrowed form of a content up, as `get_interned`.
     fn packed_pair<S: HasherCount>(
         alloc: Global,
@@ -62,40 +51,7 @@ where
     );
 }
 
-fn forms_of<'a, C: Formed<'a>>(
-    alloc: Global,
-    contents: &'a [C],
-) -> Result<Vec<C::Form>, AllocError> {
-    let mut forms = Vec::with_capacity(alloc, contents.len())?;
-    for content in contents {
-        forms.push(content.borrow())?;
-    }
-    Ok(forms)
-}
-
-fn put_forms<'a, K: PackedForm<'a>, S: HasherCount>(
-    alloc: Global,
-    table: &mut TableOver<Packed<K>, S>,
-    forms: &[K::Form],
-    counted: bool,
-) -> Result<Vec<Symbol>, InternError> {
-    if counted {
-        get_or_intern_all(alloc, table, forms, &mut Work::new())
-    } else {
-        table.get_or_intern_all(forms)
-    }
-}
-
 impl PackedTests for StrKind {
-    fn put_packed<S: HasherCount>(
-        alloc: Global,
-        table: &mut TableOver<Packed<StrKind>, S>,
-        contents: &[StrContent],
-        counted: bool,
-    ) -> Result<Vec<Symbol>, InternError> {
-        put_forms(alloc, table, &forms_of(alloc, contents)?, counted)
-    }
-
     fn packed_pair<S: HasherCount>(
         alloc: Global,
         table: &TableOver<Packed<StrKind>, S>,
@@ -129,15 +85,6 @@ impl PackedTests for StrKind {
 }
 
 impl PackedTests for OsStrKind {
-    fn put_packed<S: HasherCount>(
-        alloc: Global,
-        table: &mut TableOver<Packed<OsStrKind>, S>,
-        contents: &[OsStrContent],
-        counted: bool,
-    ) -> Result<Vec<Symbol>, InternError> {
-        put_forms(alloc, table, &forms_of(alloc, contents)?, counted)
-    }
-
     fn packed_pair<S: HasherCount>(
         alloc: Global,
         table: &TableOver<Packed<OsStrKind>, S>,
@@ -171,15 +118,6 @@ impl PackedTests for OsStrKind {
 }
 
 impl PackedTests for BytesKind {
-    fn put_packed<S: HasherCount>(
-        alloc: Global,
-        table: &mut TableOver<Packed<BytesKind>, S>,
-        contents: &[BytesContent],
-        counted: bool,
-    ) -> Result<Vec<Symbol>, InternError> {
-        put_forms(alloc, table, &forms_of(alloc, contents)?, counted)
-    }
-
     fn packed_pair<S: HasherCount>(
         alloc: Global,
         table: &TableOver<Packed<BytesKind>, S>,
@@ -213,15 +151,6 @@ impl PackedTests for BytesKind {
 }
 
 impl PackedTests for BStrKind {
-    fn put_packed<S: HasherCount>(
-        alloc: Global,
-        table: &mut TableOver<Packed<BStrKind>, S>,
-        contents: &[BStrContent],
-        counted: bool,
-    ) -> Result<Vec<Symbol>, InternError> {
-        put_forms(alloc, table, &forms_of(alloc, contents)?, counted)
-    }
-
     fn packed_pair<S: HasherCount>(
         alloc: Global,
         table: &TableOver<Packed<BStrKind>, S>,
@@ -255,15 +184,6 @@ impl PackedTests for BStrKind {
 }
 
 impl PackedTests for PathKind {
-    fn put_packed<S: HasherCount>(
-        alloc: Global,
-        table: &mut TableOver<Packed<PathKind>, S>,
-        contents: &[PathContent],
-        counted: bool,
-    ) -> Result<Vec<Symbol>, InternError> {
-        put_forms(alloc, table, &forms_of(alloc, contents)?, counted)
-    }
-
     fn packed_pair<S: HasherCount>(
         alloc: Global,
         table: &TableOver<Packed<PathKind>, S>,
@@ -306,20 +226,12 @@ where
         interned(self.intern(content))
     }
 
-    fn put_all(
-        &mut self,
-        alloc: Global,
-        contents: Vec<K::Owned>,
-    ) -> Result<Vec<Symbol>, InternError> {
-        K::put_packed(alloc, self, &contents, false)
+    fn put_all<R: Abort>(&mut self, rt: &R, alloc: Global, contents: Vec<K::Owned>) -> String {
+        K::ask_packed(rt, alloc, self, &contents, Ask::GetOrInternAll)
     }
 
-    fn put_counted(
-        &mut self,
-        alloc: Global,
-        contents: Vec<K::Owned>,
-    ) -> Result<Vec<Symbol>, InternError> {
-        K::put_packed(alloc, self, &contents, true)
+    fn put_counted<R: Abort>(&mut self, rt: &R, alloc: Global, contents: Vec<K::Owned>) -> String {
+        K::ask_packed(rt, alloc, self, &contents, Ask::CountedAll)
     }
 
     fn pair(&self, alloc: Global, sought: &K::Owned) -> Reply {

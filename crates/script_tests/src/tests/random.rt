@@ -1,6 +1,6 @@
 //! Random scripts on tables of each kind, whose results must be those of a plain list.
 use super::contents::TestContent;
-use super::each::{Trial, on_each};
+use super::each::{Trial, try_on_each};
 use super::plain::Plain;
 use super::script::{Line, answers, same_text, size, way};
 use super::table::{Made, Table};
@@ -262,5 +262,5 @@ fn difference<T: Table>(
 fn tables_return_what_a_plain_list_does(rt: HostRuntime) {
     let random = RandomState::new(&rt).expect(&rt, "a seed");
     let seed = random.hash_one(0u64);
-    on_each(&rt, rt.alloc(), &RandomScripts { seed });
+    try_on_each(&rt, &RandomScripts { seed });
 }

@@ -1,13 +1,11 @@
 //! Capacities, reservations, shrinks, limits and rollbacks.
-use super::each::{Script, on_each, on_paths};
+use super::each::{on_each, on_paths};
 
 #[test]
 fn tables_are_made_of_their_capacity(rt: HostRuntime) {
     on_each(
         &rt,
-        rt.alloc(),
-        &Script(
-            "with_capacity 0 > done
+        "with_capacity 0 > done
 capacity > 0
 
 with_capacity 1 > done
@@ -34,7 +32,6 @@ with_capacity 4294967297 > capacity overflow
 with_capacity 18446744073709551615 > capacity overflow
 
 with_capacity_and_hasher 4294967297 > capacity overflow",
-        ),
     );
 }
 
@@ -42,9 +39,7 @@ with_capacity_and_hasher 4294967297 > capacity overflow",
 fn a_table_grows_from_nothing_to_a_hundred(rt: HostRuntime) {
     on_each(
         &rt,
-        rt.alloc(),
-        &Script(
-            "with_capacity_and_hasher 0 > done
+        "with_capacity_and_hasher 0 > done
 intern_numbers 1 > done
 fits 4 > true
 intern_numbers 5 > done
@@ -60,7 +55,6 @@ fits 128 > true
 intern_numbers 100 > done
 check_numbers 100 > done
 fits 100 > true",
-        ),
     );
 }
 
@@ -68,9 +62,7 @@ fits 100 > true",
 fn a_reservation_grows_the_capacity(rt: HostRuntime) {
     on_each(
         &rt,
-        rt.alloc(),
-        &Script(
-            "with_capacity 1 > done
+        "with_capacity 1 > done
 lend abc\0 > 0
 try_reserve 10 > done
 fits 11 > true
@@ -89,7 +81,6 @@ lend h\0 > 7
 lend i\0 > 8
 lend j\0 > 9
 lend k\0 > 10",
-        ),
     );
 }
 
@@ -97,9 +88,7 @@ lend k\0 > 10",
 fn a_reservation_above_the_symbols_is_refused(rt: HostRuntime) {
     on_each(
         &rt,
-        rt.alloc(),
-        &Script(
-            "new > done
+        "new > done
 try_reserve 18446744073709551615 > capacity overflow
 
 with_hasher > done
@@ -108,7 +97,6 @@ try_reserve 18446744073709551615 > capacity overflow
 reserve 4294967296 > capacity overflow
 len > 1
 capacity > 4096",
-        ),
     );
 }
 
@@ -116,9 +104,7 @@ capacity > 4096",
 fn a_shrink_leaves_what_was_asked_for(rt: HostRuntime) {
     on_each(
         &rt,
-        rt.alloc(),
-        &Script(
-            "with_capacity_and_hasher 10 > done
+        "with_capacity_and_hasher 10 > done
 intern a > 0
 intern b > 1
 intern c > 2
@@ -149,7 +135,6 @@ with_capacity 1 > done
 intern a > 0
 shrink_to 5 > done
 capacity > 1",
-        ),
     );
 }
 
@@ -157,9 +142,7 @@ capacity > 1",
 fn a_limit_is_from_one_to_the_number_of_symbols(rt: HostRuntime) {
     on_each(
         &rt,
-        rt.alloc(),
-        &Script(
-            "with_limit 0 > capacity overflow
+        "with_limit 0 > capacity overflow
 
 with_limit 4294967297 > capacity overflow
 
@@ -169,7 +152,6 @@ capacity > 0
 
 with_limit 1 > done
 limit > 1",
-        ),
     );
 }
 
@@ -177,15 +159,12 @@ limit > 1",
 fn a_full_table_still_finds(rt: HostRuntime) {
     on_each(
         &rt,
-        rt.alloc(),
-        &Script(
-            "with_limit 2 > done
+        "with_limit 2 > done
 intern a > 0
 intern b > 1
 intern c > Symbol overflow
 intern a > 0
 len > 2",
-        ),
     );
 }
 
@@ -193,9 +172,7 @@ len > 2",
 fn room_is_reserved_up_to_the_limit(rt: HostRuntime) {
     on_each(
         &rt,
-        rt.alloc(),
-        &Script(
-            "with_limit 3 > done
+        "with_limit 3 > done
 reserve 4 > capacity overflow
 reserve 3 > done
 intern a > 0
@@ -206,7 +183,6 @@ reserve 1 > capacity overflow
 intern b > 1
 clear > done
 intern d > 0",
-        ),
     );
 }
 
@@ -214,15 +190,12 @@ intern d > 0",
 fn a_limit_counts_equal_paths_once(rt: HostRuntime) {
     on_paths(
         &rt,
-        rt.alloc(),
-        &Script(
-            "with_limit 1 > done
+        "with_limit 1 > done
 intern a/b > 0
 intern a//b > 0
 intern c > Symbol overflow
 get 0 > a/b
 len > 1",
-        ),
     );
 }
 
@@ -230,9 +203,7 @@ len > 1",
 fn contents_after_a_mark_are_dropped(rt: HostRuntime) {
     on_each(
         &rt,
-        rt.alloc(),
-        &Script(
-            "with_hasher > done
+        "with_hasher > done
 intern a > 0
 mark > 1
 intern b > 1
@@ -244,7 +215,6 @@ intern c > 1
 get 1 > c
 take_back 5 > stale mark
 len > 2",
-        ),
     );
 }
 
@@ -252,9 +222,7 @@ len > 2",
 fn marks_are_taken_back_from_last_to_first(rt: HostRuntime) {
     on_each(
         &rt,
-        rt.alloc(),
-        &Script(
-            "with_hasher > done
+        "with_hasher > done
 intern a > 0
 mark > 1
 intern b > 1
@@ -266,7 +234,6 @@ take_back 1 > done
 len > 1
 take_back 2 > stale mark
 len > 1",
-        ),
     );
 }
 
@@ -274,9 +241,7 @@ len > 1",
 fn a_mark_is_judged_by_its_number(rt: HostRuntime) {
     on_each(
         &rt,
-        rt.alloc(),
-        &Script(
-            "with_hasher > done
+        "with_hasher > done
 intern a > 0
 intern b > 1
 mark > 2
@@ -287,7 +252,6 @@ intern z > 2
 take_back 2 > done
 get 1 > y
 get 2 > none",
-        ),
     );
 }
 
@@ -295,15 +259,12 @@ get 2 > none",
 fn a_full_table_is_taken_back(rt: HostRuntime) {
     on_each(
         &rt,
-        rt.alloc(),
-        &Script(
-            "with_limit 2 > done
+        "with_limit 2 > done
 intern a > 0
 intern b > 1
 intern c > Symbol overflow
 take_back 1 > done
 intern c > 1
 intern d > Symbol overflow",
-        ),
     );
 }

@@ -1,29 +1,31 @@
 //! Makes the calls of a script by one call of `run`.
+use super::assertions::same;
 use super::contents::{TestContent, content};
 use super::printed::reply_text;
 use super::script::{Line, same_text, size, symbol};
-use intaglio::{AddedTo, Call, FormInterner, Mark, Reply, SpelledStore, Work, run};
+use intaglio::{AddedTo, Call, FormInterner, Mark, Reply, RoomError, SpelledStore, Work, run};
 use std::alloc::Global;
 use std::process::Abort;
 
-/// Makes the calls of a script in one run.
-pub fn runs<H, T: FormInterner, Q: AddedTo<T::Store, H>>(
+/// Makes the calls of a script in one run on a new table.
+pub fn runs<H, T: FormInterner + Drop, Q: AddedTo<T::Store, H>>(
     rt: &impl Abort,
     alloc: Global,
-    table: &mut T,
+    made: Result<T, RoomError>,
     calls: Vec<Call<Q>>,
     script: &'static str,
 )
 where
     T::Store: SpelledStore,
 {
-    let replies = run::<H, _, _>(alloc, table, calls, &mut Work::new()).expect(rt, "memory");
+    let mut table = made.expect(rt, "no table");
+    let replies = run::<H, _, _>(alloc, &mut table, calls, &mut Work::new()).expect(rt, "memory");
     agree(rt, alloc, script, replies.as_slice());
 }
 
 // Asserts that the replies are those of the lines.
 fn agree(rt: &impl Abort, alloc: Global, script: &'static str, replies: &[Reply]) {
-    assert_eq!(rt; replies.len(), script.lines().count());
+    same(rt, replies.len(), script.lines().count());
     for (text, reply) in script.lines().zip(replies.iter()) {
         let line = Line::of(text).expect(rt, text);
         same_text(rt, reply_text(rt, alloc, reply).as_str(), line.wanted, text);

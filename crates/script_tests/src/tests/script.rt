@@ -2,7 +2,7 @@
 use super::calls::Ask;
 use super::contents::{TestContent, borrowed_content, content, vec_of_one};
 use super::loops::{checks_numbers, finds_numbers, interns_numbers, keeps_numbers};
-use super::printed::{reply_text, symbols_text};
+use super::printed::reply_text;
 use super::table::{Counts, Make, Table, Update};
 use crate::replies::counted;
 use intaglio::{Reply, Symbol};
@@ -136,8 +136,8 @@ fn ask(rt: &impl Abort, line: Line) -> Option<Ask> {
 fn batches<T: Table>(rt: &impl Abort, alloc: Global, table: &mut T, line: Line) -> Option<String> {
     let words = contents(rt, alloc, line.word);
     match line.name {
-        "intern_all" => Some(symbols_text(rt, alloc, table.put_all(alloc, words))),
-        "intaglio::intern_all" => Some(symbols_text(rt, alloc, table.put_counted(alloc, words))),
+        "intern_all" => Some(table.put_all(rt, alloc, words)),
+        "intaglio::intern_all" => Some(table.put_counted(rt, alloc, words)),
         "get_or_intern_all" => Some(table.ask(rt, alloc, &words, Ask::GetOrInternAll)),
         "check_all" => Some(table.ask(rt, alloc, &words, Ask::CheckAll)),
         _ => None,

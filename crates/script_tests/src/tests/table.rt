@@ -1,11 +1,10 @@
 //! A trait with the calls of a table and no contract, so that its callers are proved without that of each call.
 use super::calls::Ask;
 use super::contents::TestContent;
+use super::printed::symbols_text;
 use super::steps::Steps;
 use crate::replies::interned;
-use intaglio::{
-    AllSymbols, InternError, Mark, Reply, RoomError, Store, Symbol, TableOver, Work, intern_all,
-};
+use intaglio::{AllSymbols, Mark, Reply, RoomError, Store, TableOver, Work, intern_all};
 use std::alloc::Global;
 use std::process::Abort;
 use test_hashers::builders::{Counted, Fold, HasherCount};
@@ -33,18 +32,10 @@ pub trait Table: Drop {
     fn put(&mut self, content: Self::Kind) -> Reply;
 
     /// As `intern_all`, or in one buffer as `get_or_intern_all`.
-    fn put_all(
-        &mut self,
-        alloc: Global,
-        contents: Vec<Self::Kind>,
-    ) -> Result<Vec<Symbol>, InternError>;
+    fn put_all<R: Abort>(&mut self, rt: &R, alloc: Global, contents: Vec<Self::Kind>) -> String;
 
     /// By the function `intern_all`, or in one buffer by `get_or_intern_all`.
-    fn put_counted(
-        &mut self,
-        alloc: Global,
-        contents: Vec<Self::Kind>,
-    ) -> Result<Vec<Symbol>, InternError>;
+    fn put_counted<R: Abort>(&mut self, rt: &R, alloc: Global, contents: Vec<Self::Kind>) -> String;
 
     /// As `get_interned`.
     fn pair(&self, alloc: Global, sought: &Self::Kind) -> Reply;
@@ -72,13 +63,13 @@ impl<C: TestContent, S: HasherCount> Table for intaglio::Table<C, S> {
         interned(self.intern(content))
     }
 
-    fn put_all(&mut self, alloc: Global, contents: Vec<C>) -> Result<Vec<Symbol>, InternError> {
-        let _ = alloc;
-        self.intern_all(contents)
+    fn put_all<R: Abort>(&mut self, rt: &R, alloc: Global, contents: Vec<C>) -> String {
+        symbols_text(rt, alloc, self.intern_all(contents))
     }
 
-    fn put_counted(&mut self, alloc: Global, contents: Vec<C>) -> Result<Vec<Symbol>, InternError> {
-        intern_all(alloc, self, contents, &mut Work::new())
+    fn put_counted<R: Abort>(&mut self, rt: &R, alloc: Global, contents: Vec<C>) -> String {
+        let symbols = intern_all(alloc, self, contents, &mut Work::new());
+        symbols_text(rt, alloc, symbols)
     }
 
     fn pair(&self, alloc: Global, sought: &C) -> Reply {

@@ -1,13 +1,11 @@
 //! Interning, looking up and clearing, with texts as contents of each kind.
-use super::each::{Script, on_each};
+use super::each::on_each;
 
 #[test]
 fn equal_texts_have_one_symbol(rt: HostRuntime) {
     on_each(
         &rt,
-        rt.alloc(),
-        &Script(
-            "new > done
+        "new > done
 intern abc > 0
 intern abc > 0
 intern xyz > 1
@@ -15,7 +13,6 @@ len > 2
 get 0 > abc
 get 1 > xyz
 get 2 > none",
-        ),
     );
 }
 
@@ -23,16 +20,13 @@ get 2 > none",
 fn the_empty_text_is_a_text(rt: HostRuntime) {
     on_each(
         &rt,
-        rt.alloc(),
-        &Script(
-            "with_hasher > done
+        "with_hasher > done
 intern > 0
 intern x > 1
 intern > 0
 clear > done
 intern x > 0
 get 1 > none",
-        ),
     );
 }
 
@@ -40,9 +34,7 @@ get 1 > none",
 fn a_cleared_table_begins_at_zero(rt: HostRuntime) {
     on_each(
         &rt,
-        rt.alloc(),
-        &Script(
-            "with_hasher > done
+        "with_hasher > done
 intern a > 0
 intern b > 1
 clear > done
@@ -50,7 +42,6 @@ intern c > 0
 get 0 > c
 get 1 > none
 contains 1 > false",
-        ),
     );
 }
 
@@ -58,9 +49,7 @@ contains 1 > false",
 fn a_cleared_table_keeps_its_capacity(rt: HostRuntime) {
     on_each(
         &rt,
-        rt.alloc(),
-        &Script(
-            "with_hasher > done
+        "with_hasher > done
 intern a > 0
 intern b > 1
 intern c > 2
@@ -71,7 +60,6 @@ get 0 > x
 get 2 > none
 contains 2 > false
 check a > none",
-        ),
     );
 }
 
@@ -79,9 +67,7 @@ check a > none",
 fn a_text_is_found_once_it_is_interned(rt: HostRuntime) {
     on_each(
         &rt,
-        rt.alloc(),
-        &Script(
-            "with_hasher > done
+        "with_hasher > done
 get_interned abc > none
 intern abc > 0
 get_interned abc > 0 abc
@@ -89,7 +75,6 @@ is_interned abc > true
 clear > done
 is_empty > true
 is_interned abc > false",
-        ),
     );
 }
 
@@ -97,13 +82,10 @@ is_interned abc > false",
 fn texts_are_not_normalised(rt: HostRuntime) {
     on_each(
         &rt,
-        rt.alloc(),
-        &Script(
-            "with_hasher > done
+        "with_hasher > done
 intern \u{e4} > 0
 intern a\u{308} > 1
 intern \u{e4} > 0",
-        ),
     );
 }
 
@@ -111,9 +93,7 @@ intern \u{e4} > 0",
 fn owned_and_borrowed_agree(rt: HostRuntime) {
     on_each(
         &rt,
-        rt.alloc(),
-        &Script(
-            "new > done
+        "new > done
 intern abc > 0
 get 0 > abc
 intern abc > 0
@@ -124,7 +104,6 @@ lend abc\0 > 0
 get 0 > abc
 intern abc > 0
 lend abc\0 > 0",
-        ),
     );
 }
 
@@ -132,12 +111,9 @@ lend abc\0 > 0",
 fn an_index_gives_the_stored_content(rt: HostRuntime) {
     on_each(
         &rt,
-        rt.alloc(),
-        &Script(
-            "new > done
+        "new > done
 intern abc > 0
 index 0 > abc",
-        ),
     );
 }
 
@@ -145,9 +121,7 @@ index 0 > abc",
 fn tables_are_made_and_dropped(rt: HostRuntime) {
     on_each(
         &rt,
-        rt.alloc(),
-        &Script(
-            "new > done
+        "new > done
 
 with_capacity 16384 > done
 
@@ -164,7 +138,6 @@ intern 2 > 1
 intern 3 > 2
 intern 4 > 3
 intern 5 > 4",
-        ),
     );
 }
 
@@ -172,12 +145,9 @@ intern 5 > 4",
 fn owned_texts_of_a_hundred_bytes_are_kept_once(rt: HostRuntime) {
     on_each(
         &rt,
-        rt.alloc(),
-        &Script(
-            "with_capacity_and_hasher 0 > done
+        "with_capacity_and_hasher 0 > done
 keep_numbers 100 > done
 len > 100",
-        ),
     );
 }
 
@@ -185,9 +155,7 @@ len > 100",
 fn an_empty_table_contains_no_symbol(rt: HostRuntime) {
     on_each(
         &rt,
-        rt.alloc(),
-        &Script(
-            "new > done
+        "new > done
 contains 0 > false
 contains 1 > false
 contains 17 > false
@@ -195,6 +163,5 @@ contains 4095 > false
 contains 4096 > false
 contains 4294967294 > false
 contains 4294967295 > false",
-        ),
     );
 }
