@@ -38,6 +38,7 @@ fn forms_are_skipped_counted_and_cloned(rt: HostRuntime) {
 #[test]
 fn pairs_are_skipped_counted_and_cloned(rt: HostRuntime) -> Result<(), Fail> {
     let contents = letters(&rt, rt.alloc());
+    assert!(&rt; contents.len() == 3);
     let pairs = Pairs::of(&contents);
     same(&rt, pairs.clone()?.count(), 3);
     assert_eq!(&rt; pairs.clone()?.nth(1), Some((Symbol::new(1), "b")));
