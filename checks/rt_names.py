@@ -111,7 +111,7 @@ def processors():
 
 def with_one_job_each():
     """The environment of an `rt ci` that proves as many crates side by side as there are processors, each by one job. Several jobs of a check
-    copy the prover, which takes a third more of processors in all."""
+    copy the prover, which takes a third to a half more of processors in all."""
     return {**os.environ, "RT_JOBS": str(processors())}
 
 
