@@ -6,12 +6,12 @@ use Rattle.std.proofs.lemmas.List.{length-map, map-append}
 use Rattle.std.proofs.lemmas.Option.{same_Some}
 use Rattle.intaglio_content.specs.Key.{Key}
 use Rattle.intaglio_symbol.specs.declared.error.InternError.{InternError}
-use Rattle.intaglio_core.specs.State.{State, key_eq, first_of, first, IsValid}
-use Rattle.intaglio_core.specs.Change.{Empties, IsAppended, Interns, IsCopyAppended, InternsForm}
-use Rattle.intaglio_core.specs.Lookup.{IsFound, FindsNothing, IsStored, Keeps}
-use Rattle.intaglio_core.specs.Issue.{issue_from, interned_all}
-use Rattle.intaglio_core.proofs.First.{key_eq-decides, some-below}
-use Rattle.intaglio_core.proofs.Laws as below
+use Rattle.intaglio_interner.specs.State.{State, key_eq, first_of, first, IsValid}
+use Rattle.intaglio_interner.specs.Change.{Empties, IsAppended, Interns, IsCopyAppended, InternsForm}
+use Rattle.intaglio_interner.specs.Lookup.{IsFound, FindsNothing, IsStored, Keeps}
+use Rattle.intaglio_interner.specs.Issue.{issue_from, interned_all}
+use Rattle.intaglio_interner.proofs.First.{key_eq-decides, some-below}
+use Rattle.intaglio_interner.proofs.Laws as below
 use Rattle.intaglio.specs.Grows.{Grows, GrowsByForm}
 
 contained : (b : Bool) (x : Key) (xs : List Key) (k : Key) (o : Option ℕ) (i : ℕ) → (b ≡ true → x ≡ k) → ((j : ℕ) → o ≡ Some j → Contains xs k) → cond b (Some 0) (option_map (λ j. 1 + j) o) ≡ Some i → Contains (x ∷ xs) k

@@ -4,8 +4,8 @@ use Rattle.std.specs.Prelude.{Contains}
 use Rattle.std.proofs.lemmas.List.Elements.{All-nil, All-cons, All-head, All-tail, All-same}
 use Rattle.intaglio_content.specs.Key.{Key}
 use Rattle.intaglio_content.specs.Work.{Event, hashed, compared, step, placed}
-use Rattle.intaglio_core.specs.State.{State, AreDistinct}
-use Rattle.intaglio_core.specs.Cost.{hashed_keys, sought_keys, stored_keys, placed_count, IsAddingCost}
+use Rattle.intaglio_interner.specs.State.{State, AreDistinct}
+use Rattle.intaglio_interner.specs.Cost.{hashed_keys, sought_keys, stored_keys, placed_count, IsAddingCost}
 use Rattle.intaglio_run.proofs.Growth.{placed_count-append}
 use Rattle.intaglio_run.proofs.InOrder.{hashed_keys-append}
 use Rattle.intaglio.specs.Costly.{SearchesAreCheap, InterningsAreCheap}

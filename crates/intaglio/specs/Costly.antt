@@ -2,8 +2,8 @@
 use Rattle.std.specs.Prelude.{◌≡◌, ◌≢◌, ℕ, ◌+◌, List, ◌∷◌, ◌++◌, length, Contains}
 use Rattle.intaglio_content.specs.Key.{Key}
 use Rattle.intaglio_content.specs.Work.{Event, hashed, compared, placed}
-use Rattle.intaglio_core.specs.State.{State}
-use Rattle.intaglio_core.specs.Cost.{placed_count, IsSearchCost, IsAddingCost}
+use Rattle.intaglio_interner.specs.State.{State}
+use Rattle.intaglio_interner.specs.Cost.{placed_count, IsSearchCost, IsAddingCost}
 
 -- a search for a key, whose bucket holds these keys, whatever other events it leaves
 pub record SearchesAreCheap (hash : Key → ℕ) (k : Key) (bucket : List Key) : Type 0 where

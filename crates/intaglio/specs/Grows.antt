@@ -1,7 +1,7 @@
 -- What an interning of something new does to the list of contents.
 use Rattle.std.specs.Prelude.{◌≡◌, ℕ, List, [], ◌∷◌, ◌++◌, length, map}
 use Rattle.intaglio_content.specs.Key.{Key}
-use Rattle.intaglio_core.specs.State.{State}
+use Rattle.intaglio_interner.specs.State.{State}
 
 -- the content is the last one, at the next symbol
 abbrev pub Grows : {C : Type 0} → State C → C → ℕ → State C → Type 0

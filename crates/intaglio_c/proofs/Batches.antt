@@ -3,8 +3,8 @@ use Rattle.intaglio_c.proofs.Names.{◌≡◌, ℕ, zero, suc, ◌+◌, ◌-◌,
 use Rattle.std.proofs.Math.Seq.{take-length}
 use Rattle.std.proofs.lemmas.List.Folds.{concat-append}
 use borrow.Rule.Slice.PartMut.{put_mid}
-use Rattle.intaglio_core.proofs.Laws.{interned_all-found}
-use Rattle.intaglio_core.proofs.Held.{interned_all-append, interned_all-longer, issue_from-append}
+use Rattle.intaglio_interner.proofs.Laws.{interned_all-found}
+use Rattle.intaglio_interner.proofs.Held.{interned_all-append, interned_all-longer, issue_from-append}
 use Rattle.intaglio_c.proofs.Faults.{one_more}
 use Rattle.intaglio_c.proofs.Pieces.{drop_there, take_there}
 use Rattle.intaglio_c.specs.declared.refusal.Refusal.TheVariants as refusal

@@ -19,6 +19,6 @@ pub use Rattle.intaglio_c.specs.Steps.{Interns, InternsBy, InternsNew}
 pub use Rattle.intaglio_c.specs.declared.kind.Kind.{Kind}
 pub use Rattle.intaglio_c.specs.declared.refusal.Refusal.{Refusal}
 pub use Rattle.intaglio_c.specs.declared.refusal.Refusal.TheVariants.{NoTable, BadEnds, Full, NoMemory, NotUtf8, InnerZero, MissingZero}
-pub use Rattle.intaglio_core.specs.Change.{IsAppended, AddsNew, InternsValue, IsOutOfMemory, IsRefused, Reserves, Shrinks, TakesBack}
-pub use Rattle.intaglio_core.specs.Issue.{issued, interned, interned_all, issue_from}
-pub use Rattle.intaglio_core.specs.State.{State, first, Table, first_of}
+pub use Rattle.intaglio_interner.specs.Change.{IsAppended, AddsNew, InternsValue, IsOutOfMemory, IsRefused, Reserves, Shrinks, TakesBack}
+pub use Rattle.intaglio_interner.specs.Issue.{issued, interned, interned_all, issue_from}
+pub use Rattle.intaglio_interner.specs.State.{State, first, Table, first_of}

@@ -2,8 +2,8 @@
 use Rattle.std.specs.Prelude.{◌≡◌, ℕ, ◌+◌, ◌-◌, ◌^◌, ◌<◌, ◌≤◌, ◌==◌, Bool, true, false, if◌then◌else◌, nat_lt, List, [], ◌∷◌, ◌++◌, length, map, take, drop, slice_get, get_or, Option, Some, None, MatchOption, Result, Ok, Err}
 use Rattle.intaglio_c.specs.Words.{State, Refusal, NoTable, BadEnds, NoSymbol, NoSpace}
 use Rattle.std.specs.List.{concat}
-use Rattle.intaglio_core.specs.Issue.{issue_from, interned_all}
-use Rattle.intaglio_core.specs.Lookup.{FindsEach}
+use Rattle.intaglio_interner.specs.Issue.{issue_from, interned_all}
+use Rattle.intaglio_interner.specs.Lookup.{FindsEach}
 use Rattle.intaglio_c.specs.Handles.{found, table_of}
 use Rattle.intaglio_c.specs.Kinds.{first_fault, key}
 use Rattle.intaglio_c.specs.Seen.{Seen, look_up}

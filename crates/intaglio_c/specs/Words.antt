@@ -1,6 +1,6 @@
 -- The words that several definitions cite, passed on from one place.
-pub use Rattle.intaglio_core.specs.Change.{Empties, IsAppended, IsOutOfMemory, IsReserved, IsShrunk, IsTruncated, IsUnreserved}
-pub use Rattle.intaglio_core.specs.State.{State, first, Table, empty_state}
+pub use Rattle.intaglio_interner.specs.Change.{Empties, IsAppended, IsOutOfMemory, IsReserved, IsShrunk, IsTruncated, IsUnreserved}
+pub use Rattle.intaglio_interner.specs.State.{State, first, Table, empty_state}
 pub use Rattle.intaglio_hash.specs.KeyedState.{initial_hasher}
 pub use Rattle.intaglio_hash.specs.declared.state.KeyedState.{KeyedState}
 pub use Rattle.intaglio_c.specs.declared.kind.Kind.{Kind}

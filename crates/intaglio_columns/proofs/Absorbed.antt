@@ -8,10 +8,10 @@ use Rattle.std.proofs.lemmas.Option.{slice_get_within, get_or_from_slice_get}
 use Rattle.intaglio_content.specs.Key.{Key}
 use Rattle.intaglio_symbol.specs.declared.error.InternError.{InternError}
 use Rattle.intaglio_symbol.specs.declared.error.InternError.TheVariants.{Overflow, Memory}
-use Rattle.intaglio_core.specs.Batch.{IfOverflow}
-use Rattle.intaglio_core.specs.Issue.{issued, interned, issue_from, interned_all}
-use Rattle.intaglio_core.proofs.Held.{content-still, interned_all-append, interned_all-longer, issue_from-append}
-use Rattle.intaglio_core.proofs.Laws.{first-key, issued-found, mapped-some}
+use Rattle.intaglio_interner.specs.Batch.{IfOverflow}
+use Rattle.intaglio_interner.specs.Issue.{issued, interned, issue_from, interned_all}
+use Rattle.intaglio_interner.proofs.Held.{content-still, interned_all-append, interned_all-longer, issue_from-append}
+use Rattle.intaglio_interner.proofs.Laws.{first-key, issued-found, mapped-some}
 use Rattle.intaglio_columns.specs.Columns.{decode, string_key, union, AreKeys, AreMaps, IsMap}
 
 -- a string stands at its symbol

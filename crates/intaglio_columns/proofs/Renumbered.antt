@@ -7,11 +7,11 @@ use Rattle.std.proofs.lemmas.Grind.{flat_map-append}
 use Rattle.std.proofs.lemmas.List.{length-map, get_or-map}
 use Rattle.std.proofs.lemmas.Option.{same_Some, slice_get-map, slice_get_past, slice_get_within, get_or_from_slice_get, unwrap_or-slice_get}
 use Rattle.intaglio_content.specs.Key.{Key}
-use Rattle.intaglio_core.specs.State.{first, key_eq, Distinct}
-use Rattle.intaglio_core.specs.Issue.{issued, interned, interned_all}
-use Rattle.intaglio_core.proofs.First.{key_eq-decides}
-use Rattle.intaglio_core.proofs.Held.{first-still, interned_all-append}
-use Rattle.intaglio_core.proofs.Laws.{issued-found}
+use Rattle.intaglio_interner.specs.State.{first, key_eq, Distinct}
+use Rattle.intaglio_interner.specs.Issue.{issued, interned, interned_all}
+use Rattle.intaglio_interner.proofs.First.{key_eq-decides}
+use Rattle.intaglio_interner.proofs.Held.{first-still, interned_all-append}
+use Rattle.intaglio_interner.proofs.Laws.{issued-found}
 use Rattle.intaglio_columns.specs.Columns.{decode, missing, renumber, string_key, union, IsMap}
 use Rattle.intaglio_columns.specs.Laws.{RenumberingKeepsStrings, MapsCompose, MapsAreUnique, MergingNests}
 

@@ -2,7 +2,7 @@
 use Rattle.std.specs.Prelude.{◌≡◌, ℕ, ◌-◌, ◌^◌, List, [], ◌∷◌, map, get_or, slice_get, Option, Some}
 use Rattle.std.specs.List.{flat_map}
 use Rattle.intaglio_content.specs.Key.{Key}
-use Rattle.intaglio_core.specs.Issue.{interned_all}
+use Rattle.intaglio_interner.specs.Issue.{interned_all}
 
 -- each of these strings is accepted
 abbrev pub AreAccepted : (List ℕ → Type 0) → List (List ℕ) → Type 0

@@ -1,6 +1,6 @@
 -- What merging and renumbering keep.
 use Rattle.std.specs.Prelude.{◌≡◌, ℕ, ◌≤◌, List, ◌∷◌, ◌++◌, length}
-use Rattle.intaglio_core.specs.State.{Distinct}
+use Rattle.intaglio_interner.specs.State.{Distinct}
 use Rattle.intaglio_columns.specs.Columns.{decode, missing, renumber, string_key, union, IsMap}
 
 -- renumbered codes have the strings that the codes had

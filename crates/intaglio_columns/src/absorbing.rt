@@ -1,8 +1,8 @@
 //! How a table takes in all strings of a list.
 ghost use Rattle.std.specs.Prelude.{◌≡◌, ◌<◌, drop, length, map, take, IfErr, IfOk, OnErr, OnOk};
-ghost use Rattle.intaglio_core.specs.Batch.{IfOverflow, StaysValid};
-ghost use Rattle.intaglio_core.specs.Issue.{interned_all, issue_from};
-ghost use Rattle.intaglio_core.specs.Lookup.{Keeps};
+ghost use Rattle.intaglio_interner.specs.Batch.{IfOverflow, StaysValid};
+ghost use Rattle.intaglio_interner.specs.Issue.{interned_all, issue_from};
+ghost use Rattle.intaglio_interner.specs.Lookup.{Keeps};
 ghost use Rattle.intaglio_columns.specs.Columns.{AreAccepted, AreKeys, IsMap};
 
 use crate::from_string::FromString;

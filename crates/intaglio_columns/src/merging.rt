@@ -1,7 +1,7 @@
 //! Merges lists of strings.
 ghost use Rattle.std.specs.Prelude.{◌≡◌, ◌<◌, ◌^◌, length, map, IfErr, IfOk};
 ghost use Rattle.intaglio_content.specs.Key.{hash_of};
-ghost use Rattle.intaglio_core.specs.Batch.{IfOverflow};
+ghost use Rattle.intaglio_interner.specs.Batch.{IfOverflow};
 ghost use Rattle.intaglio_columns.specs.Columns.{AreMaps, union};
 
 use crate::absorbing::absorb;

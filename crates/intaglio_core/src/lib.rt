@@ -2,15 +2,11 @@
 //!
 //! [`IndexedStore`] gives each distinct content the next number, and returns the content for its number. The
 //! contents may be in any [`Store`]; [`Core`] keeps owned ones, in a `Vec`, and the tables of the crates above are
-//! thin types over it. [`FormInterner`] says what every table does, and [`Interner`] what those with
-//! owned contents do besides.
+//! thin types over it. It does what [`FormInterner`] says of every table, and `Core` what [`Interner`] says too.
 #![tactic(auto)]
 
-mod batch;
 pub mod indexed_store;
-pub mod interner;
 
-pub use batch::{GROUP, check_all, get_or_intern_all, intern_all, look_ahead, touch_all};
 pub use indexed_store::{Core, IndexedStore};
 pub use intaglio_content::{
     AddedTo, ByteStore, Bytewise, Content, Copied, CopiedTo, Formed, Forms, Keyed, Lends, LookedUp,
@@ -18,8 +14,10 @@ pub use intaglio_content::{
     feed_item,
 };
 pub use intaglio_index::Index;
+pub use intaglio_interner::{
+    FormInterner, GROUP, Interner, check_all, get_or_intern_all, intern_all, look_ahead, touch_all,
+};
 pub use intaglio_symbol::{
     AllSymbols, DEFAULT_SYMBOL_TABLE_CAPACITY, InternError, Mark, RoomError, StaleMark, Symbol,
     SymbolOverflowError,
 };
-pub use interner::{FormInterner, Interner};

@@ -5,9 +5,9 @@ use Rattle.std.proofs.lemmas.Nat.{from_le_bytes-to_le_bytes_4}
 use Rattle.std.proofs.lemmas.List.Elements.{recursion_from_All}
 use Rattle.std.proofs.lemmas.Option.{slice_get_within}
 use Rattle.std.proofs.lemmas.List.Folds.{flat_map-map}
-use Rattle.intaglio_core.specs.Issue.{issued, interned, issue_from, issue, interned_all}
-use Rattle.intaglio_core.proofs.Held.{first-still}
-use Rattle.intaglio_core.proofs.Laws.{first-key, issued-found, mapped-some}
+use Rattle.intaglio_interner.specs.Issue.{issued, interned, issue_from, issue, interned_all}
+use Rattle.intaglio_interner.proofs.Held.{first-still}
+use Rattle.intaglio_interner.proofs.Laws.{first-key, issued-found, mapped-some}
 use Rattle.intaglio_lines.specs.Lines.{lines_of}
 use Rattle.intaglio_lines.specs.Output.{spelling_line}
 use Rattle.intaglio_lines.proofs.ByLines.{flat_map-lines_of}

@@ -1,7 +1,7 @@
 -- What is written of a dictionary.
 use Rattle.std.specs.Prelude.{◌≡◌, ⊤, ℕ, ◌+◌, ◌<◌, Bool, List, [], ◌∷◌, length, max, find, nat_le, slice_get, is_some, All, Option, None, Some, IfSome}
 use Rattle.std.specs.List.{flat_map, fold, list_all}
-use Rattle.intaglio_core.specs.State.{first}
+use Rattle.intaglio_interner.specs.State.{first}
 use Rattle.intaglio_lines.specs.Lines.{lines_of}
 use Rattle.intaglio_lines.specs.Output.{number_line}
 use Rattle.intaglio_lines.specs.Puts.{Writes}

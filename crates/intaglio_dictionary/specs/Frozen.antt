@@ -1,7 +1,7 @@
 -- What is written of the lines of an input, frozen.
 use Rattle.std.specs.Prelude.{ℕ, ⊤, List, [], ◌∷◌, Option, Some, None}
 use Rattle.std.specs.Str.{IsUtf8}
-use Rattle.intaglio_core.specs.Issue.{interned_all, issue}
+use Rattle.intaglio_interner.specs.Issue.{interned_all, issue}
 use Rattle.intaglio_lines.specs.Lines.{lines_of}
 use Rattle.intaglio_lines.specs.Puts.{Writes}
 use Rattle.intaglio_lines.specs.StreamError.{IsWritingError}

@@ -1,4 +1,2 @@
 pub mod Accepted
 pub mod Known
-pub mod Spellings
-pub mod Written

@@ -1,7 +1,7 @@
 -- What is written for an input.
 use Rattle.std.specs.Prelude.{ℕ, List, []}
 use Rattle.intaglio_content.specs.Key.{Key}
-use Rattle.intaglio_core.specs.Issue.{issue, interned_all}
+use Rattle.intaglio_interner.specs.Issue.{issue, interned_all}
 use Rattle.intaglio_lines.specs.Lines.{lines_of}
 use Rattle.intaglio_lines.specs.Output.{output_of}
 use Rattle.intaglio_lines.specs.Kind.{key_of}

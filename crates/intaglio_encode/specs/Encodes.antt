@@ -1,7 +1,7 @@
 -- What a run promises of the input that it reads.
 use Rattle.std.specs.Prelude.{◌≡◌, ℕ, ◌^◌, ◌<◌, List, Option, Result, String, map, string_bytes, IfSome, OnOk}
 use Rattle.std.specs.Io.KnownBytes.{IsAtEnd}
-use Rattle.intaglio_encode.specs.LineForms.{AllLinesFit, distinct_count}
+use Rattle.intaglio_lines.specs.LineForms.{AllLinesFit, distinct_count}
 use Rattle.intaglio_encode.specs.Encoded.{encoded}
 use Rattle.intaglio_lines.specs.Kind.{Allows, is_fit, key_of, kind_of_words}
 use Rattle.intaglio_lines.specs.Puts.{Writes}

@@ -6,7 +6,4 @@
 
 pub mod encode;
 pub mod error;
-pub mod from_line;
-pub mod intern_lines;
 pub mod serve;
-pub mod write;

@@ -4,9 +4,10 @@ ghost use Rattle.std.specs.Io.KnownBytes.{IsAtEnd};
 ghost use Rattle.intaglio_lines.specs.Kind.{is_fit, kind_of_words};
 ghost use Rattle.intaglio_encode.specs.Encodes.{Accepts, Encodes, EncodesBy, Forbids, IsTooMany, ReadsForbidden};
 ghost use Rattle.intaglio_encode.specs.Encodes.{RefusesBy, WritesOnlyIf};
-ghost use Rattle.intaglio_encode.specs.ToolError.{IfEncode, IsInputError, ReportsFirstUnfit};
+ghost use Rattle.intaglio_lines.specs.ToolError.{IsInputError, ReportsFirstUnfit};
+ghost use Rattle.intaglio_encode.specs.RunError.{IfEncode};
 ghost use Rattle.intaglio_encode.specs.declared.error.RunError.TheVariants.{Encode, NoSeed};
-ghost use Rattle.intaglio_encode.specs.declared.error.ToolError.TheVariants.{NotUtf8, Overflow, Write as WriteFailed};
+ghost use Rattle.intaglio_lines.specs.declared.tool_error.ToolError.TheVariants.{NotUtf8, Overflow, Write as WriteFailed};
 
 use crate::encode::encode;
 use crate::error::RunError;

@@ -1,8 +1,8 @@
 -- Batches of strings, which are hashed ahead in groups.
 use Rattle.std.proofs.Common.{◌≡◌, ◌∙◌, ℕ, suc, ◌+◌, ◌-◌, ◌%◌, ◌<◌, List, [], ◌∷◌, ◌++◌, length, length-drop, get_or, map, take, drop, drop-cons, refl, sym, ap, arith}
 use Rattle.std.proofs.lemmas.List.{drop-drop, map_more, take_all}
-use Rattle.intaglio_core.proofs.Groups.{IsGroup, hashed-first}
-use Rattle.intaglio_core.specs.State.{first}
+use Rattle.intaglio_interner.proofs.Groups.{IsGroup, hashed-first}
+use Rattle.intaglio_interner.specs.State.{first}
 use Rattle.intaglio_frozen.specs.Layout.{strings}
 use Rattle.intaglio_frozen.specs.LookUp.{find, FindsAll}
 use Rattle.intaglio_frozen.proofs.Found.{find_is_first}

@@ -3,10 +3,10 @@ use Rattle.std.proofs.Common.{zero, suc, get_or, ◌≡◌, ◌∙◌, ℕ, ◌+
 use Rattle.std.proofs.lemmas.List.{length-map}
 use Rattle.std.proofs.lemmas.Grind.{take_at_read}
 use Rattle.std.proofs.lemmas.Option.{slice_get_within, get_or_from_slice_get, slice_get-get_or}
-use Rattle.intaglio_core.proofs.First.{some-below}
-use Rattle.intaglio_core.specs.Change.{InternsForm, InternsNewForm}
-use Rattle.intaglio_core.specs.Lookup.{IsStored, Keeps}
-use Rattle.intaglio_core.specs.State.{State, AreDistinct, first}
+use Rattle.intaglio_interner.proofs.First.{some-below}
+use Rattle.intaglio_interner.specs.Change.{InternsForm, InternsNewForm}
+use Rattle.intaglio_interner.specs.Lookup.{IsStored, Keeps}
+use Rattle.intaglio_interner.specs.State.{State, AreDistinct, first}
 use Rattle.intaglio_symbol.specs.declared.error.InternError.{InternError}
 use Rattle.intaglio_frozen.proofs.Found.{key, at-key}
 use Rattle.intaglio_frozen.specs.Freezing.{AreEqual, HasNoEqual}

@@ -8,8 +8,8 @@ use Rattle.std.specs.Bool.{Decides}
 use Rattle.std.specs.Str.{bytes_eq}
 use Rattle.std.specs.Cmp.Lexicographic.{bytes_decides}
 use Rattle.intaglio_content.specs.Key.{Key}
-use Rattle.intaglio_core.specs.State.{first, AreDistinct}
-use Rattle.intaglio_core.proofs.First.{first-none, first-some}
+use Rattle.intaglio_interner.specs.State.{first, AreDistinct}
+use Rattle.intaglio_interner.proofs.First.{first-none, first-some}
 use Rattle.intaglio_frozen.proofs.Places.{strings_length}
 use Rattle.intaglio_frozen.specs.Layout.{count, u32_at, tags_at, strings}
 use Rattle.intaglio_frozen.specs.IsFrozen.{IsFrozen}

@@ -1,7 +1,7 @@
 -- Contents whose keys are their spellings.
 use Rattle.std.proofs.Common.{◌≡◌, ℕ, List, [], ◌∷◌, map, refl, ap}
 use Rattle.intaglio_content.specs.Key.{Key}
-use Rattle.intaglio_core.specs.State.{first, first_of}
+use Rattle.intaglio_interner.specs.State.{first, first_of}
 
 spelled_keys : {C : Type 0} (key : C → Key) (spelling : C → List ℕ) → ((c : C) → key c ≡ spelling c ∷ []) → (cs : List C) →
     map key cs ≡ map (λ w. w ∷ []) (map spelling cs)

@@ -4,10 +4,10 @@ use Rattle.std.proofs.lemmas.List.{length-append, map-append}
 use Rattle.std.proofs.Math.Seq.{get_or-append_seam}
 use Rattle.std.proofs.Math.ListN.{get_or-append}
 use Rattle.intaglio_content.specs.Key.{Key}
-use Rattle.intaglio_core.proofs.First.{first-none}
-use Rattle.intaglio_core.specs.State.{first, first_of, AreDistinct}
-use Rattle.intaglio_core.specs.Issue.{interned, interned_all}
-use Rattle.intaglio_core.specs.Batch.{IfOverflow}
+use Rattle.intaglio_interner.proofs.First.{first-none}
+use Rattle.intaglio_interner.specs.State.{first, first_of, AreDistinct}
+use Rattle.intaglio_interner.specs.Issue.{interned, interned_all}
+use Rattle.intaglio_interner.specs.Batch.{IfOverflow}
 use Rattle.intaglio_symbol.specs.declared.error.InternError.{InternError}
 use Rattle.intaglio_symbol.specs.declared.error.InternError.TheVariants.{Overflow, Memory}
 

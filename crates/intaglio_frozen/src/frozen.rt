@@ -1,7 +1,7 @@
 //! A frozen table.
 ghost use Rattle.std.specs.Prelude.{◌≡◌, ℕ, List, length, slice_get, map, zip, [], ◌∷◌, IfOk, IfErr, IsOk, Some, ◌^◌, ◌<◌, ◌≤◌, is_some, option_copied};
 ghost use Rattle.intaglio_symbol.specs.AllSymbols.{numbers_from};
-ghost use Rattle.intaglio_core.specs.State.{first, AreDistinct};
+ghost use Rattle.intaglio_interner.specs.State.{first, AreDistinct};
 ghost use Rattle.intaglio_frozen.specs.Layout.{strings};
 ghost use Rattle.intaglio_frozen.specs.IsFrozen.{IsFrozen};
 ghost use Rattle.intaglio_frozen.specs.Fault.{IsFault};

@@ -1,6 +1,6 @@
 //! Laws for proofs of callers.
 ghost use Rattle.std.specs.Prelude.{◌≡◌, [], ◌∷◌, map};
-ghost use Rattle.intaglio_core.specs.State.{first};
+ghost use Rattle.intaglio_interner.specs.State.{first};
 ghost use Rattle.intaglio_frozen.specs.IsFrozen.{IsFrozen};
 ghost use Rattle.intaglio_frozen.specs.SameTable.{AreSameTable};
 

@@ -1,7 +1,7 @@
 //! How a frozen table becomes one that grows.
 ghost use Rattle.std.specs.Prelude.{◌≡◌, ◌^◌, map, IfOk, IfErr};
 ghost use Rattle.intaglio_content.specs.Key.{hash_of};
-ghost use Rattle.intaglio_core.specs.Batch.{IfOverflow};
+ghost use Rattle.intaglio_interner.specs.Batch.{IfOverflow};
 
 use crate::frozen::Frozen;
 use crate::iter::FrozenStrings;

@@ -1,6 +1,6 @@
 //! A frozen table whose bytes are trusted.
 ghost use Rattle.std.specs.Prelude.{◌≡◌, ◌^◌, ◌≤◌, length, slice_get, [], ◌∷◌, IfOk, IfErr, IfSome, IsOk, Some, option_copied};
-ghost use Rattle.intaglio_core.specs.State.{first};
+ghost use Rattle.intaglio_interner.specs.State.{first};
 ghost use Rattle.intaglio_frozen.specs.Layout.{strings};
 ghost use Rattle.intaglio_frozen.specs.LookUp.{hash};
 ghost use Rattle.intaglio_frozen.specs.IsFrozen.{HasSections, IsFrozen};

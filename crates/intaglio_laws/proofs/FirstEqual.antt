@@ -6,10 +6,10 @@ use Rattle.std.proofs.lemmas.List.{length-map}
 use Rattle.std.proofs.lemmas.List.Elements.{All-from_recursion}
 use Rattle.std.proofs.lemmas.Bool.{cases_Bool}
 use Rattle.intaglio_content.specs.Key.{Key}
-use Rattle.intaglio_core.specs.State.{key_eq, first}
-use Rattle.intaglio_core.specs.Issue.{issued, interned, issue_from, issue, interned_all}
-use Rattle.intaglio_core.proofs.First.{key_eq-decides, some-below, first-append}
-use Rattle.intaglio_core.proofs.Held.{first-still}
+use Rattle.intaglio_interner.specs.State.{key_eq, first}
+use Rattle.intaglio_interner.specs.Issue.{issued, interned, issue_from, issue, interned_all}
+use Rattle.intaglio_interner.proofs.First.{key_eq-decides, some-below, first-append}
+use Rattle.intaglio_interner.proofs.Held.{first-still}
 use Rattle.intaglio_lines.specs.Lines.{lines_of}
 use Rattle.intaglio_lines.specs.Output.{spelling_line}
 use Rattle.intaglio_encode.specs.Encoded.{encoded_by}

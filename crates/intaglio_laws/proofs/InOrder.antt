@@ -5,9 +5,9 @@ use Rattle.std.proofs.lemmas.List.{length-map, map-append, length-take-le, get_o
 use Rattle.std.proofs.lemmas.List.Elements.{recursion_from_All}
 use Rattle.std.proofs.lemmas.Bool.{cases_order}
 use Rattle.intaglio_content.specs.Key.{Key}
-use Rattle.intaglio_core.specs.State.{first, Distinct}
-use Rattle.intaglio_core.specs.Issue.{issued, interned, issue_from, issue, interned_all}
-use Rattle.intaglio_core.proofs.First.{first-none, first-some, some-below}
+use Rattle.intaglio_interner.specs.State.{first, Distinct}
+use Rattle.intaglio_interner.specs.Issue.{issued, interned, issue_from, issue, interned_all}
+use Rattle.intaglio_interner.proofs.First.{first-none, first-some, some-below}
 use Rattle.intaglio_core.proofs.Kept.{distinct-push}
 use Rattle.intaglio_lines.specs.Lines.{lines_of}
 use Rattle.intaglio_lines.specs.Output.{output_of}

@@ -3,3 +3,5 @@ pub mod LineCuts
 pub mod ByLines
 pub mod Numbers
 pub mod Reading
+pub mod Spellings
+pub mod Written

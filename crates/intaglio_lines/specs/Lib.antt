@@ -6,3 +6,6 @@ pub mod Decoded
 pub mod Fault
 pub mod Puts
 pub mod StreamError
+pub mod Cuts
+pub mod LineForms
+pub mod ToolError

@@ -6,8 +6,8 @@ use Rattle.std.proofs.lemmas.List.{length-map}
 use Rattle.std.proofs.lemmas.List.Elements.{All-nil, All-push}
 use Rattle.std.proofs.lemmas.List.Sums.{sum_by-cons}
 use Rattle.intaglio_content.specs.Key.{Key}
-use Rattle.intaglio_core.specs.State.{State, first}
-use Rattle.intaglio_core.specs.Change.{IsAdded}
+use Rattle.intaglio_interner.specs.State.{State, first}
+use Rattle.intaglio_interner.specs.Change.{IsAdded}
 use Rattle.intaglio_run.specs.Step.{Step}
 use Rattle.intaglio_run.specs.Run.{UsesRoom}
 use Rattle.intaglio_symbol.specs.declared.error.InternError.{InternError}

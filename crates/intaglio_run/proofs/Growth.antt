@@ -5,9 +5,9 @@ use Rattle.std.proofs.lemmas.List.Elements.{All-cons}
 use Rattle.intaglio_content.specs.Key.{Key}
 use Rattle.intaglio_content.specs.Store.{IsAddedOne}
 use Rattle.intaglio_content.specs.Work.{Event, hashed, compared, step, placed}
-use Rattle.intaglio_core.specs.State.{State, first}
-use Rattle.intaglio_core.specs.Change.{IsAdded, IsRefused, IsOutOfMemory}
-use Rattle.intaglio_core.specs.Cost.{InOrder, hashed_keys, placed_count, SearchCost, IsAddingCost}
+use Rattle.intaglio_interner.specs.State.{State, first}
+use Rattle.intaglio_interner.specs.Change.{IsAdded, IsRefused, IsOutOfMemory}
+use Rattle.intaglio_interner.specs.Cost.{InOrder, hashed_keys, placed_count, SearchCost, IsAddingCost}
 use Rattle.intaglio_run.specs.Step.{Step, StepCost}
 use Rattle.intaglio_run.specs.Run.{RunsValues, IsCall, KeepsContents, HonoursRoom, searched_keys}
 use Rattle.intaglio_run.proofs.InOrder.{hashed_keys-append, InOrder-hash}

@@ -4,16 +4,16 @@ use Rattle.std.proofs.Common.{◌≡◌, ◌∙◌, sym, ℕ, suc, arith, Bool, 
 use Rattle.intaglio_content.specs.Key.{Key}
 use Rattle.intaglio_content.specs.Store.{IsAddedOne}
 use Rattle.intaglio_content.specs.Work.{Event}
-use Rattle.intaglio_core.specs.State.{State, first}
-use Rattle.intaglio_core.specs.Cost.{InOrder}
-use Rattle.intaglio_core.specs.Issue.{issued, interned, issue_from, issue}
+use Rattle.intaglio_interner.specs.State.{State, first}
+use Rattle.intaglio_interner.specs.Cost.{InOrder}
+use Rattle.intaglio_interner.specs.Issue.{issued, interned, issue_from, issue}
 use Rattle.intaglio_run.specs.Step.{Step}
 use Rattle.intaglio_run.specs.Run.{RunsValues, IsCall, IsRefusal}
 use Rattle.intaglio_run.specs.declared.runs.Call.{Call}
 use Rattle.intaglio_run.specs.declared.runs.Call.TheVariants.{Intern}
 use Rattle.intaglio_run.specs.declared.runs.Reply.{Reply}
 use Rattle.intaglio_run.specs.declared.runs.Reply.TheVariants as reply
-use Rattle.intaglio_core.proofs.Issue.{added-as, shows-key}
+use Rattle.intaglio_interner.proofs.Issue.{added-as, shows-key}
 
 -- an interning gives the symbol of a key, the first one or the next, and the key is held after it
 abbrev pub IsIssued : {C : Type 0} → (C → Key) → State C → Key → ℕ → State C → Type 0

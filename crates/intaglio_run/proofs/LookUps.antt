@@ -1,7 +1,7 @@
 -- Look-ups leave a table as it is.
 use Rattle.std.proofs.Common.{◌≡◌, ℕ, Bool, List}
 use Rattle.intaglio_content.specs.Key.{Key}
-use Rattle.intaglio_core.specs.State.{State}
+use Rattle.intaglio_interner.specs.State.{State}
 use Rattle.intaglio_run.specs.Step.{Step}
 use Rattle.intaglio_run.specs.declared.runs.Call.TheVariants.{Check, IsInterned, Contains, Len, IsEmpty}
 use Rattle.intaglio_run.specs.declared.runs.Reply.{Reply}

@@ -4,8 +4,8 @@ use Rattle.std.proofs.lemmas.Bool.{cases_lt}
 use Rattle.intaglio_content.specs.Key.{Key}
 use Rattle.intaglio_content.specs.Store.{IsAddedOne}
 use Rattle.intaglio_content.specs.Work.{Event}
-use Rattle.intaglio_core.specs.State.{State}
-use Rattle.intaglio_core.specs.Change.{HasNoLessRoom}
+use Rattle.intaglio_interner.specs.State.{State}
+use Rattle.intaglio_interner.specs.Change.{HasNoLessRoom}
 use Rattle.intaglio_run.specs.Step.{Step, RepliesReserved, RepliesTakenBack}
 use Rattle.intaglio_run.specs.Run.{RunsValues, IsCall, KeepsRoom}
 use Rattle.intaglio_symbol.specs.declared.error.InternError.TheVariants as intern_error
@@ -15,7 +15,7 @@ use Rattle.intaglio_run.specs.declared.runs.Reply.{Reply}
 use Rattle.intaglio_run.specs.declared.runs.Reply.TheVariants as reply
 use Rattle.intaglio_run.proofs.InOrder.{InOrder-keeps}
 use Rattle.intaglio_run.proofs.LookUps.{check-same, is_interned-same, contains-same, len-same, is_empty-same}
-use Rattle.intaglio_core.proofs.Room.{same-roomier, kept-roomier, interns-roomier}
+use Rattle.intaglio_interner.proofs.Room.{same-roomier, kept-roomier, interns-roomier}
 
 module _ {C Q : Type 0} (key : C → Key) (value_key : Q → Key) (spelling : C → List ℕ) (adds : Q → List C → List C → Type 0) (copies : Bool) (one : (q : Q) (a b : List C) → adds q a b → IsAddedOne key (value_key q) a b) where
   intern-roomier : (old next : State C) (q : Q) (r : Reply) → Step key value_key spelling adds copies old (Intern q) r next → HasNoLessRoom old next

@@ -2,7 +2,7 @@
 use Rattle.std.specs.Prelude.{◌≡◌, ◌≢◌, ℕ, Bool, List, map, Option, option_map, All}
 use Rattle.intaglio_content.specs.Key.{Key}
 use Rattle.intaglio_content.specs.Work.{Event}
-use Rattle.intaglio_core.specs.State.{State}
+use Rattle.intaglio_interner.specs.State.{State}
 use Rattle.intaglio_run.specs.Run.{Runs}
 use Rattle.intaglio_run.specs.declared.runs.Call.{Call}
 use Rattle.intaglio_run.specs.declared.runs.Reply.{Reply}

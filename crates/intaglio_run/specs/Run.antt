@@ -4,10 +4,10 @@ use Rattle.intaglio_content.specs.Key.{Key}
 use Rattle.intaglio_content.specs.Store.{IsMoved}
 use Rattle.intaglio_content.specs.Work.{Event}
 use Rattle.intaglio_content.specs.Store.{byte_room}
-use Rattle.intaglio_core.specs.State.{State, IsValid}
-use Rattle.intaglio_core.specs.Change.{HasNoLessRoom}
-use Rattle.intaglio_core.specs.Cost.{InOrder, hashed_keys, placed_count}
-use Rattle.intaglio_core.specs.Issue.{issue}
+use Rattle.intaglio_interner.specs.State.{State, IsValid}
+use Rattle.intaglio_interner.specs.Change.{HasNoLessRoom}
+use Rattle.intaglio_interner.specs.Cost.{InOrder, hashed_keys, placed_count}
+use Rattle.intaglio_interner.specs.Issue.{issue}
 use Rattle.intaglio_run.specs.Step.{Step, StepCost}
 use Rattle.intaglio_run.specs.declared.runs.Call.{Call}
 use Rattle.intaglio_run.specs.declared.runs.Call.TheVariants.{Intern, Check, GetInterned, IsInterned, Clear, Reserve, ShrinkTo, ShrinkToFit, TakeBack}

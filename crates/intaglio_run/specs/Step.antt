@@ -2,9 +2,9 @@
 use Rattle.std.specs.Prelude.{◌≡◌, ◌≢◌, ℕ, Bool, List, [], length, Option, Some, Ok, Err, is_some, nat_lt, nat_eq, option_map, option_and_then, slice_get, alloc_error, IsSomeAnd}
 use Rattle.intaglio_content.specs.Key.{Key}
 use Rattle.intaglio_content.specs.Work.{Event}
-use Rattle.intaglio_core.specs.State.{State, first}
-use Rattle.intaglio_core.specs.Change.{InternsValue, Reserves, Shrinks, TakesBack, Empties}
-use Rattle.intaglio_core.specs.Cost.{InternCost, SearchCost, IsRoomCost}
+use Rattle.intaglio_interner.specs.State.{State, first}
+use Rattle.intaglio_interner.specs.Change.{InternsValue, Reserves, Shrinks, TakesBack, Empties}
+use Rattle.intaglio_interner.specs.Cost.{InternCost, SearchCost, IsRoomCost}
 use Rattle.intaglio_symbol.specs.declared.error.InternError.TheVariants as intern_error
 use Rattle.intaglio_symbol.specs.declared.error.SymbolOverflowError.{SymbolOverflowError}
 use Rattle.intaglio_symbol.specs.declared.error.StaleMark.{StaleMark}

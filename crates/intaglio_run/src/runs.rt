@@ -1,18 +1,18 @@
 //! A list of calls, made in order on any table.
 ghost use Rattle.std.specs.Prelude.{◌≡◌, ◌≢◌, ◌<◌, ◌≤◌, [], option_copied, slice_get, IfOk, IsOk, OnOk, OnErr};
 ghost use Rattle.intaglio_content.specs.Store.{byte_room};
-ghost use Rattle.intaglio_core.specs.Bytes.{InternsBytes};
+ghost use Rattle.intaglio_interner.specs.Bytes.{InternsBytes};
 ghost use Rattle.std.specs.Option.{option_map};
-ghost use Rattle.intaglio_core.specs.State.{IsValid};
-ghost use Rattle.intaglio_core.specs.Change.{InternsValue, IsNotMemory};
-ghost use Rattle.intaglio_core.specs.Cost.{Costs, InternCost, IsRoomCost, SearchCost};
+ghost use Rattle.intaglio_interner.specs.State.{IsValid};
+ghost use Rattle.intaglio_interner.specs.Change.{InternsValue, IsNotMemory};
+ghost use Rattle.intaglio_interner.specs.Cost.{Costs, InternCost, IsRoomCost, SearchCost};
 ghost use Rattle.intaglio_run.specs.Step.{Step, StepCost, found, RepliesPair, RepliesSpelling};
 ghost use Rattle.intaglio_run.specs.Step.{RepliesReserved, RepliesShrunk, RepliesTakenBack};
 ghost use Rattle.intaglio_run.specs.Run.{RunsValues, HashesOnce, PlacesFew, HoldsRoom, HonoursRoom};
 ghost use Rattle.intaglio_run.specs.Run.{IssuesInOrder, KeepsRoom, HoldsBytes, HonoursFormRoom, UsesRoom};
 
 use intaglio_content::{AddedTo, SoughtIn, SpelledStore, Work};
-use intaglio_core::FormInterner;
+use intaglio_interner::FormInterner;
 use intaglio_symbol::{InternError, Mark, RoomError, Symbol};
 use std::alloc::{AllocError, Global};
 

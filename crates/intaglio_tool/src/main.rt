@@ -2,9 +2,9 @@
 #![tactic(auto)]
 
 ghost use Rattle.std.specs.Prelude.{◌≡◌, IfErr};
-ghost use Rattle.intaglio_encode.specs.declared.error.ToolError.TheVariants.{Memory};
+ghost use Rattle.intaglio_lines.specs.declared.tool_error.ToolError.TheVariants.{Memory};
 
-use intaglio_encode::error::ToolError;
+use intaglio_lines::tool_error::ToolError;
 use intaglio_encode::serve::serve;
 use intaglio_lines::error::report;
 use std::env;

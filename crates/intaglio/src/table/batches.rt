@@ -1,11 +1,11 @@
 //! Batches of contents or forms.
 ghost use Rattle.std.specs.Prelude.{◌≡◌, ◌<◌, length, map, sum_by, IfErr, IfOk, OnErr, OnOk};
 ghost use Rattle.intaglio_content.specs.Key.{hash_of};
-ghost use Rattle.intaglio_core.specs.State.{first};
-ghost use Rattle.intaglio_core.specs.Lookup.{FindsEach, FindsEachKey, Keeps, StoresEach, StoresEachKey};
-ghost use Rattle.intaglio_core.specs.Issue.{interned_all, issue_from};
-ghost use Rattle.intaglio_core.specs.Batch.{IfOverflow, StaysValid};
-ghost use Rattle.intaglio_core.specs.Bytes.{KeepsBytes};
+ghost use Rattle.intaglio_interner.specs.State.{first};
+ghost use Rattle.intaglio_interner.specs.Lookup.{FindsEach, FindsEachKey, Keeps, StoresEach, StoresEachKey};
+ghost use Rattle.intaglio_interner.specs.Issue.{interned_all, issue_from};
+ghost use Rattle.intaglio_interner.specs.Batch.{IfOverflow, StaysValid};
+ghost use Rattle.intaglio_interner.specs.Bytes.{KeepsBytes};
 
 use super::{Table, TableOver};
 use intaglio_core::{

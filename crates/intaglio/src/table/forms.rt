@@ -1,12 +1,12 @@
 //! Interning by a borrowed form.
 ghost use Rattle.std.specs.Prelude.{◌≡◌, ◌<◌, ◌≤◌, ◌↔◌, None, IfOk, IsTrue};
 ghost use Rattle.intaglio_content.specs.Key.{hash_of};
-ghost use Rattle.intaglio_core.specs.State.{first, IsValid};
-ghost use Rattle.intaglio_core.specs.Cost.{Costs, KnownInternCost};
-ghost use Rattle.intaglio_core.specs.Bytes.{InternsBytes};
-ghost use Rattle.intaglio_core.specs.Change.{InternsValue, InternsForm, IsNotMemory};
+ghost use Rattle.intaglio_interner.specs.State.{first, IsValid};
+ghost use Rattle.intaglio_interner.specs.Cost.{Costs, KnownInternCost};
+ghost use Rattle.intaglio_interner.specs.Bytes.{InternsBytes};
+ghost use Rattle.intaglio_interner.specs.Change.{InternsValue, InternsForm, IsNotMemory};
 ghost use Rattle.intaglio.specs.Added.{symbol_of};
-ghost use Rattle.intaglio_core.specs.Lookup.{FindsInterned};
+ghost use Rattle.intaglio_interner.specs.Lookup.{FindsInterned};
 
 use super::TableOver;
 use intaglio_core::{AddedTo, Content, InternError, LookedUpIn, Store, Symbol, Work};

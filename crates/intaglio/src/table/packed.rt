@@ -1,6 +1,6 @@
 //! What tables in one buffer have besides.
 ghost use Rattle.std.specs.Prelude.{◌≡◌, ◌≤◌, length, map, sum_by, IsOk, OnErr, OnOk};
-ghost use Rattle.intaglio_core.specs.State.{IsValid};
+ghost use Rattle.intaglio_interner.specs.State.{IsValid};
 
 mod contents;
 mod making;

@@ -1,9 +1,9 @@
 //! Constructors, length and capacity: the calls that are the same for each kind.
 ghost use Rattle.std.specs.Prelude.{◌≡◌, ◌↔◌, Err, IfOk, ◌+◌, ◌≤◌, ◌^◌, length};
-ghost use Rattle.intaglio_core.specs.State.{empty_table};
+ghost use Rattle.intaglio_interner.specs.State.{empty_table};
 ghost use Rattle.intaglio_symbol.specs.declared.error.RoomError.TheVariants.{CapacityOverflow};
 ghost use Rattle.intaglio_c.specs.Seen.{IsOutside, most_of, new_table, room_of, seen, IsChanged, contents_of};
-ghost use Rattle.intaglio_core.specs.Change.{Empties, Reserves, Shrinks, TakesBack};
+ghost use Rattle.intaglio_interner.specs.Change.{Empties, Reserves, Shrinks, TakesBack};
 
 use super::AnyTable;
 use crate::kind::Kind;

@@ -1,14 +1,18 @@
 //! Tables of owned contents, which are kept in a `Vec`.
-ghost use Rattle.std.specs.Prelude.{◌≡◌, ◌^◌, ◌≤◌, length, slice_get};
-ghost use Rattle.std.specs.Prelude.{option_copied, None, IfSome};
+ghost use Rattle.std.specs.Prelude.{◌≡◌, ◌^◌, ◌<◌, ◌≤◌, false, length, slice_get};
+ghost use Rattle.std.specs.Prelude.{option_copied, None, IfSome, IfOk, IfErr, OnOk, OnErr};
 ghost use Rattle.intaglio_content.specs.Key.{hash_of};
-ghost use Rattle.intaglio_core.specs.State.{IsValid};
-ghost use Rattle.intaglio_core.specs.Change.{Interns};
-ghost use Rattle.intaglio_core.specs.Lookup.{IsFound, FindsInterned};
-ghost use Rattle.intaglio_core.specs.Cost.{Costs, InternCost};
+ghost use Rattle.intaglio_content.specs.Store.{IsMoved};
+ghost use Rattle.intaglio_interner.specs.State.{IsValid};
+ghost use Rattle.intaglio_interner.specs.Change.{Interns};
+ghost use Rattle.intaglio_interner.specs.Lookup.{IsFound, FindsInterned, Keeps, FindsEach, StoresEach};
+ghost use Rattle.intaglio_interner.specs.Cost.{Costs, InternCost};
+ghost use Rattle.intaglio_interner.specs.Issue.{issue_from, interned_all};
+ghost use Rattle.intaglio_interner.specs.Batch.{IfOverflow, StaysValid, InternsAll, RefusedCost};
 
 use super::Core;
-use intaglio_content::{Keyed, Sought, Work};
+use intaglio_content::{Content, Keyed, Sought, Work};
+use intaglio_interner::intern_all;
 use intaglio_symbol::{InternError, Symbol};
 use std::hash::BuildHasher;
 
@@ -55,5 +59,48 @@ impl<C: Keyed, S: BuildHasher> Core<C, S> {
         ensures valid { IsValid C.key self.new.state }
     {
         self.get_or_intern(content, work)
+    }
+
+    /// Interns a batch of contents, as [`intern_all`] does.
+    ///
+    /// # Errors
+    ///
+    /// Those of [`intern_all`].
+    pub fn intern_all(
+        &mut self,
+        contents: Vec<C>,
+        work: &mut Work,
+    ) -> Result<Vec<Symbol>, InternError>
+    where
+        C: Content + Sought<C> + Drop,
+        // As internings one by one, but hashed ahead in groups.
+        ensures ok { IfOk result (λ symbols. Costs work.old work.new (λ cost.
+            InternsAll C.key C.key IsMoved false (hash_of S.BuildHasher S.Hasher.Hasher self.old.hasher)
+            self.old.state contents.items symbols.items cost self.new.state)) }
+        ensures symbols { IfOk result (λ symbols.
+            symbols.items ≡ issue_from C.key self.old.state.contents contents.items) }
+        ensures held { let all = interned_all C.key self.old.state.contents contents.items in
+            OnOk result (self.new.state.contents ≡ all) }
+
+        // Each is found at its symbol, and earlier contents keep their symbols and are found as before.
+        ensures found { IfOk result (λ symbols.
+            FindsEach C.key self.new.state contents.items symbols.items) }
+        ensures stored { IfOk result (λ symbols.
+            StoresEach C.key self.new.state contents.items symbols.items) }
+        ensures kept { Keeps C.key self.old.state self.new.state }
+
+        // All or none.
+        ensures refused { OnErr result (self.new.state.contents ≡ self.old.state.contents) }
+        ensures overflow { let all = interned_all C.key self.old.state.contents contents.items in
+            IfErr result (λ e. IfOverflow e (self.old.state.limit < length all)) }
+        ensures refused_cost { OnErr result (Costs work.old work.new
+            (RefusedCost C.key C.key IsMoved false (hash_of S.BuildHasher S.Hasher.Hasher self.old.hasher) self.old.state
+            contents.items)) }
+
+        ensures table { StaysValid C.key (hash_of S.BuildHasher S.Hasher.Hasher self.old.hasher) self.old.state
+            (hash_of S.BuildHasher S.Hasher.Hasher self.new.hasher) self.new.state }
+    {
+        let alloc = self.allocator();
+        intern_all(alloc, self, contents, work)
     }
 }

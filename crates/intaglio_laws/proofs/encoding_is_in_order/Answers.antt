@@ -1,5 +1,5 @@
 use Rattle.std.proofs.Common.{[], arith}
-use Rattle.intaglio_core.specs.Issue.{issue, interned_all}
+use Rattle.intaglio_interner.specs.Issue.{issue, interned_all}
 use Rattle.intaglio_lines.specs.Lines.{lines_of}
 use Rattle.intaglio_lines.specs.Kind.{key_of}
 use Rattle.intaglio_laws.proofs.FirstEqual.{holds-encoded}

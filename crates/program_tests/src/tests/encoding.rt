@@ -2,7 +2,7 @@
 use super::assertions::holds;
 use super::fakes::{SlowReader, SmallWriter, StuckWriter, UnflushedWriter};
 use intaglio_encode::encode::encode;
-use intaglio_encode::error::ToolError;
+use intaglio_lines::tool_error::ToolError;
 use intaglio_encode::serve::serve;
 use intaglio_lines::error::report;
 use intaglio_lines::kind::Kind;

@@ -1,9 +1,9 @@
 //! Owned contents that are interned into one buffer.
 ghost use Rattle.std.specs.Prelude.{◌≡◌, ◌<◌, ◌≤◌, length};
-ghost use Rattle.intaglio_core.specs.State.{IsValid};
-ghost use Rattle.intaglio_core.specs.Bytes.{InternsBytes};
-ghost use Rattle.intaglio_core.specs.Change.{InternsForm, IsNotMemory};
-ghost use Rattle.intaglio_core.specs.Lookup.{FindsInterned};
+ghost use Rattle.intaglio_interner.specs.State.{IsValid};
+ghost use Rattle.intaglio_interner.specs.Bytes.{InternsBytes};
+ghost use Rattle.intaglio_interner.specs.Change.{InternsForm, IsNotMemory};
+ghost use Rattle.intaglio_interner.specs.Lookup.{FindsInterned};
 
 use crate::table::TableOver;
 use intaglio_content::{Packed, PackedOwned};

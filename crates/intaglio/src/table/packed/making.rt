@@ -2,7 +2,7 @@
 ghost use Rattle.std.specs.Prelude.{◌≡◌, ◌^◌, ◌<◌, ◌↔◌, [], Err, IfOk, IsOk};
 ghost use Rattle.intaglio_symbol.specs.declared.error.RoomError.TheVariants.{CapacityOverflow};
 ghost use Rattle.intaglio_core.specs.Capacity.{IsRounded};
-ghost use Rattle.intaglio_core.specs.State.{empty_state};
+ghost use Rattle.intaglio_interner.specs.State.{empty_state};
 
 use crate::table::TableOver;
 use intaglio_core::{ByteStore, Content, IndexedStore, RoomError};

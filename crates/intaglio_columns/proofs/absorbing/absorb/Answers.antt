@@ -1,6 +1,6 @@
 use Rattle.std.proofs.Common.{map}
-use Rattle.intaglio_core.proofs.Each.{taken-back}
-use Rattle.intaglio_core.proofs.Laws.{keeps-front, same_contents-keeps}
+use Rattle.intaglio_interner.proofs.Each.{taken-back}
+use Rattle.intaglio_interner.proofs.Laws.{keeps-front, same_contents-keeps}
 use Rattle.intaglio_columns.proofs.Absorbed.{issued-map-by}
 use Rattle.intaglio_columns.proofs.absorbing.absorb.Goals as goal
 

@@ -1,9 +1,9 @@
 use Rattle.std.proofs.Common.{◌≡◌, ◌∙◌, ◌+◌, ◌<◌, ◌++◌, ap, drop, take, length, length-drop, length-take, map, min, sym, append_assoc, rules, arith}
 use Rattle.std.proofs.lemmas.List.{length-map, take_min}
 use Rattle.std.proofs.lemmas.Result.{err_from_is_err_and}
-use Rattle.intaglio_core.specs.Batch.{IfOverflow}
-use Rattle.intaglio_core.specs.Issue.{interned_all, issue_from}
-use Rattle.intaglio_core.proofs.Laws.{keeps-then}
+use Rattle.intaglio_interner.specs.Batch.{IfOverflow}
+use Rattle.intaglio_interner.specs.Issue.{interned_all, issue_from}
+use Rattle.intaglio_interner.proofs.Laws.{keeps-then}
 use Rattle.intaglio_columns.proofs.Absorbed.{group-symbols, group-held, group-over, if-overflow}
 use Rattle.intaglio_columns.proofs.absorbing.intern_strings.Goals as goal
 

@@ -1,8 +1,8 @@
 -- What the strings taken so far gave, and what the rest will give, is what all strings give.
 use Rattle.std.proofs.Common.{◌≡◌, ◌-◌, ◌≤◌, ◌++◌, drop, length, map}
-use Rattle.intaglio_core.specs.Batch.{StaysValid}
-use Rattle.intaglio_core.specs.Issue.{issue_from, interned_all}
-use Rattle.intaglio_core.specs.Lookup.{Keeps}
+use Rattle.intaglio_interner.specs.Batch.{StaysValid}
+use Rattle.intaglio_interner.specs.Issue.{issue_from, interned_all}
+use Rattle.intaglio_interner.specs.Lookup.{Keeps}
 use Rattle.intaglio_columns.proofs.absorbing.intern_strings.Given as goal
 
 abbrev pub invariant-loop-start : goal.invariant-loop-start

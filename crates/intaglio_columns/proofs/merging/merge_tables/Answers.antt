@@ -2,8 +2,8 @@ use Rattle.std.proofs.Common.{◌≡◌, ◌∙◌, ◌+◌, ◌^◌, ◌<◌, �
 use Rattle.std.proofs.lemmas.Grind.{take_at_read}
 use Rattle.std.proofs.lemmas.List.{map-append, map-id, take-map}
 use Rattle.std.proofs.lemmas.Result.{err_from_is_err_and}
-use Rattle.intaglio_core.specs.Batch.{IfOverflow}
-use Rattle.intaglio_core.specs.Issue.{interned_all}
+use Rattle.intaglio_interner.specs.Batch.{IfOverflow}
+use Rattle.intaglio_interner.specs.Issue.{interned_all}
 use Rattle.intaglio_columns.specs.Columns.{string_key, union, AreMaps, IsMap}
 use Rattle.intaglio_columns.proofs.Absorbed.{if-overflow, maps-next, union-next, union-over}
 use Rattle.intaglio_columns.proofs.merging.merge_tables.Goals as goal

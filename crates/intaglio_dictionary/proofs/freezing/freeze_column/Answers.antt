@@ -1,5 +1,5 @@
 use Rattle.std.proofs.Common.{◌≡◌, [], ◌∷◌}
-use Rattle.intaglio_core.specs.Issue.{issue}
+use Rattle.intaglio_interner.specs.Issue.{issue}
 use Rattle.intaglio_lines.specs.Lines.{lines_of}
 use Rattle.intaglio_dictionary.proofs.Coded.{column-issued}
 use Rattle.intaglio_dictionary.proofs.freezing.freeze_column.Goals as goal

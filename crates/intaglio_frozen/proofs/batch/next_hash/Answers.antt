@@ -1,5 +1,5 @@
 use Rattle.std.proofs.Common.{◌∙◌}
-use Rattle.intaglio_core.proofs.Groups.{IsGroup, hashed-next}
+use Rattle.intaglio_interner.proofs.Groups.{IsGroup, hashed-next}
 use Rattle.intaglio_frozen.specs.LookUp.{hash}
 use Rattle.intaglio_frozen.proofs.Batched.{hashed-one}
 use Rattle.intaglio_frozen.proofs.batch.next_hash.Goals.{then-at-eq0, else-at-eq0}

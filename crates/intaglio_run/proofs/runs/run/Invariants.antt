@@ -1,6 +1,6 @@
 use Rattle.std.proofs.Common.{◌≡◌, ◌++◌, ◌+◌, ◌≤◌, vec_len, vec_capacity}
 use Rattle.std.specs.Vec.Iter.{into_iter_items, into_iter_len}
-use Rattle.intaglio_core.specs.Cost.{Adds}
+use Rattle.intaglio_interner.specs.Cost.{Adds}
 use Rattle.intaglio_run.specs.Run.{RunsValues, HoldsBytes}
 use Rattle.intaglio_run.proofs.Bytes.{StillRoom}
 use Rattle.intaglio_run.proofs.runs.run.Given as goal

@@ -1,8 +1,8 @@
 use Rattle.std.proofs.Common.{◌≡◌, ◌∙◌, ap, map, length, []}
 use Rattle.std.proofs.lemmas.List.{length-map}
 use Rattle.intaglio_symbol.specs.AllSymbols.{numbers_from}
-use Rattle.intaglio_core.specs.Issue.{issue_from}
-use Rattle.intaglio_core.proofs.Each.{keys-seen}
+use Rattle.intaglio_interner.specs.Issue.{issue_from}
+use Rattle.intaglio_interner.proofs.Each.{keys-seen}
 use Rattle.intaglio.proofs.Numbered.{numbered}
 use Rattle.intaglio.proofs.table.TableOver.from_slice.Goals as goal
 

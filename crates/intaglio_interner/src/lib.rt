@@ -1,0 +1,11 @@
+//! What every symbol table does, whatever its contents are kept in and however they are found.
+//!
+//! [`FormInterner`] says it of all tables, and [`Interner`] what those with owned contents do besides; batches of
+//! look-ups and internings are made on any of them.
+#![tactic(auto)]
+
+mod batch;
+mod interner;
+
+pub use batch::{GROUP, check_all, get_or_intern_all, intern_all, look_ahead, touch_all};
+pub use interner::{FormInterner, Interner};

@@ -1,0 +1,110 @@
+//! Interns the lines of an input.
+ghost use Rattle.std.specs.Prelude.{◌≡◌, ◌+◌, ◌<◌, ◌≤◌, true, false, [], length, OnOk, IfOk, IfErr};
+ghost use Rattle.intaglio_interner.specs.Issue.{issue};
+ghost use Rattle.intaglio_lines.specs.Lines.{lines_of};
+ghost use Rattle.intaglio_lines.specs.LineForms.{AllLinesFit, StartsWithForms, StartsUnfit};
+ghost use Rattle.intaglio_lines.specs.LineForms.{HoldsLines, distinct_count, fit_count};
+ghost use Rattle.intaglio_lines.specs.ToolError.{IsInterningError, ReportsFirstUnfit};
+ghost use Rattle.intaglio_lines.specs.declared.tool_error.ToolError.TheVariants.{Overflow};
+
+use crate::from_line::FromLine;
+use crate::lines::first_line;
+use crate::tool_error::ToolError;
+use intaglio_content::{Content, Store, Work};
+use intaglio_interner::{FormInterner, get_or_intern_all};
+use intaglio_symbol::Symbol;
+use std::alloc::{AllocError, Global};
+
+// How many lines are interned as a batch, so that the cache misses of their look-ups overlap.
+const GROUP: usize = 64;
+
+// Some lines as forms, the input after these lines, and whether the next line fits.
+#[derive(Drop)]
+struct Group<'a, F> {
+    forms: Vec<F>,
+    rest: &'a [u8],
+    fits: bool,
+}
+
+/// Interns the lines of an input in order into an empty table, and returns their symbols. A line that equals
+/// an earlier one is not copied.
+///
+/// # Errors
+///
+/// `ZeroByte` for the first line that doesn't fit, `Overflow` if there are more distinct lines than the table
+/// can hold, `Memory` if an allocation failed.
+pub fn intern_lines<'a, T: FormInterner>(
+    alloc: Global,
+    table: &mut T,
+    input: &'a [u8],
+) -> Result<Vec<Symbol>, ToolError>
+where
+    T::Content: FromLine<'a, T::Store>,
+    requires allowed { T.Content.allows input.now }
+    requires empty { (T.state table.old).contents ≡ [] }
+    ensures symbols { IfOk result (λ symbols. symbols.items ≡ issue T.Content.key_of (lines_of input.now)) }
+    ensures held { OnOk result
+        (HoldsLines T.Content.spelling T.Content.key_of (T.state table.new) input.now) }
+    ensures fit { OnOk result (AllLinesFit T.Content.fits input.now) }
+    ensures zero { IfErr result (ReportsFirstUnfit T.Content.fits input.now) }
+    ensures overflow { result ≡ Err Overflow →
+        (T.state table.old).limit < distinct_count T.Content.key_of input.now }
+    ensures err { IfErr result IsInterningError }
+{
+    let mut symbols = Vec::new(alloc);
+    let mut rest = input;
+    let mut number = 0u64;
+    while !rest.is_empty() {
+        let group = gather::<T::Store, T::Content>(alloc, rest)?;
+        number += group.forms.len() as u64;
+        let taken = get_or_intern_all(alloc, table, &group.forms, &mut Work::new())?;
+        symbols.extend_from_slice(&taken)?;
+        if !group.fits {
+            return Err(ToolError::ZeroByte(number + 1));
+        }
+        rest = group.rest;
+    }
+    Ok(symbols)
+}
+
+// The first lines of an input as forms.
+fn gather<'a, L: Store, C: FromLine<'a, L>>(
+    alloc: Global,
+    input: &'a [u8],
+) -> Result<Group<'a, C::Line>, AllocError>
+where
+    L::Content: Content,
+    requires allowed { C.allows input.now }
+    requires some { 0 < length input.now }
+    ensures allowed { IfOk result (λ group. C.allows group.rest.now) }
+    ensures lines { IfOk result
+        (λ group. StartsWithForms C.Line.form_spelling group.forms.items group.rest.now input.now) }
+    ensures fit { IfOk result
+        (λ group. fit_count C.fits input.now ≡ length group.forms.items + fit_count C.fits group.rest.now) }
+    ensures zero { IfOk result (λ group. group.fits ≡ false → StartsUnfit C.fits group.rest.now) }
+    ensures bytes { IfOk result
+        (λ group. length group.forms.items + length group.rest.now ≤ length input.now) }
+    ensures shorter { IfOk result (λ group. group.fits ≡ true → length group.rest.now < length input.now) }
+{
+    let mut forms = Vec::with_capacity(alloc, GROUP)?;
+    let mut rest = input;
+    while forms.len() < GROUP && !rest.is_empty() {
+        let (line, after) = first_line(rest);
+        match C::from_line(line) {
+            Some(form) => forms.push_reserved(form),
+            None => {
+                return Ok(Group {
+                    forms,
+                    rest,
+                    fits: false,
+                });
+            }
+        }
+        rest = after;
+    }
+    Ok(Group {
+        forms,
+        rest,
+        fits: true,
+    })
+}
