@@ -325,18 +325,14 @@ def functions_of(crate):
     return sum(len(re.findall(rb"\bfn \w", it.read_bytes())) for it in files if not {"tests", "tests.rt"} & {*it.parts})
 
 
-def longest_chain(crates):
-    """The names of the crates of the longest chain, in functions, in which each waits for the one before it. The crates come lowest first."""
-    behind, after = {}, {}
+def chains_through(crates):
+    """How long the longest chain through each crate is, in functions, in which each waits for the one before it. The crates come lowest first."""
+    below, behind = {}, {}
+    for crate in crates:
+        below[crate.name] = functions_of(crate) + max((below.get(it.name, 0) for it in crate.below()), default=0)
     for crate in reversed(crates):
-        above = [it.name for it in crates if crate.name in {below.name for below in it.below()}]
-        after[crate.name] = max(above, key=behind.get, default=None)
-        behind[crate.name] = functions_of(crate) + behind.get(after[crate.name], 0)
-    chain, name = set(), max(behind, key=behind.get, default=None)
-    while name:
-        chain.add(name)
-        name = after[name]
-    return chain
+        behind[crate.name] = max((functions_of(it) + behind[it.name] for it in crates if crate.name in {under.name for under in it.below()}), default=0)
+    return {it.name: below[it.name] + behind[it.name] for it in crates}
 
 
 def beside(call, *given):
@@ -346,22 +342,27 @@ def beside(call, *given):
 
 
 # A crate with this many functions or fewer is proved as soon by one job as by several, which each read all libraries.
-FEW = 8
+FEW = 4
+# The share of the longest chain from which on a chain would soon be the longest, if its crates waited.
+NEARLY = 0.88
 
 
 def in_lanes(crates, prove):
     """Proves these crates side by side, by `prove` of a crate and its jobs, each once those of them below it are proved, and returns whether all are.
-    Those of the longest chain have a job for each processor, since all waits for them, and one if they are small; the others run on what these leave."""
-    rt, names, chain, most = load(), {it.name for it in crates}, longest_chain(crates), min(4, processors())
+    Those of the longest chain have a job for each processor, since all waits for them, those of a chain nearly as long two, and small ones one; what
+    else there is runs on what these leave."""
+    rt, through, most = load(), chains_through(crates), min(4, processors())
+    longest = max(through.values(), default=0)
 
     def task(crate):
-        waits, is_long = [(it.name, "proof") for it in crate.below() if it.name in names], functions_of(crate) > FEW
-        least = most if crate.name in chain and is_long else 1
+        waits, length = [(it.name, "proof") for it in crate.below() if it.name in through], through[crate.name]
+        is_waited_for = length > NEARLY * longest
+        least = 1 if functions_of(crate) <= FEW or not is_waited_for else most if length == longest else min(2, most)
         need = rt.need(crate) * (1 + 0.6 * (least - 1))
 
         def call(given, jobs):
-            how = prove if crate.name in chain else functools.partial(beside, prove)
-            return all(given[it] for it in waits) and how(crate, max(jobs, least) if is_long else 1)
+            how = prove if is_waited_for else functools.partial(beside, prove)
+            return all(given[it] for it in waits) and how(crate, max(jobs, least) if functions_of(crate) > FEW else 1)
 
         return waits, functions_of(crate), need, call
 
