@@ -342,7 +342,7 @@ def beside(call, *given):
 
 
 # A crate with this many functions or fewer is proved as soon by one job as by several, which each read all libraries.
-FEW = 4
+FEW = 8
 # The share of the longest chain from which on a chain would soon be the longest, if its crates waited.
 NEARLY = 0.88
 
