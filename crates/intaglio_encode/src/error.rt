@@ -2,7 +2,7 @@
 ghost use Rattle.std.specs.Prelude.{◌≡◌};
 ghost use Rattle.intaglio_encode.specs.declared.error.RunError.TheVariants.{Encode};
 
-use intaglio_lines::tool_error::ToolError;
+pub use intaglio_lines::tool_error::ToolError;
 use thiserror::Error;
 
 /// Why a run whose arguments name a kind failed.
