@@ -4,9 +4,9 @@
 ghost use Rattle.std.specs.Prelude.{◌≡◌, IfErr};
 ghost use Rattle.intaglio_lines.specs.declared.tool_error.ToolError.TheVariants.{Memory};
 
-use intaglio_lines::tool_error::ToolError;
 use intaglio_encode::serve::serve;
 use intaglio_lines::error::report;
+use intaglio_lines::tool_error::ToolError;
 use std::env;
 use std::hash::RandomState;
 use std::io::ErrorKind;

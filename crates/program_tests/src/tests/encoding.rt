@@ -2,10 +2,10 @@
 use super::assertions::holds;
 use super::fakes::{SlowReader, SmallWriter, StuckWriter, UnflushedWriter};
 use intaglio_encode::encode::encode;
-use intaglio_lines::tool_error::ToolError;
 use intaglio_encode::serve::serve;
 use intaglio_lines::error::report;
 use intaglio_lines::kind::Kind;
+use intaglio_lines::tool_error::ToolError;
 use std::alloc::Global;
 use std::hash::{BuildHasherDefault, FoldHasher};
 use std::io::{ErrorKind, Read, Write};
