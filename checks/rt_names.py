@@ -356,13 +356,13 @@ def in_lanes(crates, prove):
 
     def task(crate):
         waits, length = [(it.name, "proof") for it in crate.below() if it.name in through], through[crate.name]
-        is_waited_for = length > NEARLY * longest
-        least = 1 if functions_of(crate) <= FEW or not is_waited_for else most if length == longest else min(2, most)
+        is_waited_for, is_small = length > NEARLY * longest, functions_of(crate) <= FEW
+        least = 1 if is_small or not is_waited_for else most if length == longest else min(2, most)
         need = rt.need(crate) * (1 + 0.6 * (least - 1))
 
         def call(given, jobs):
             how = prove if is_waited_for else functools.partial(beside, prove)
-            return all(given[it] for it in waits) and how(crate, max(jobs, least) if functions_of(crate) > FEW else 1)
+            return all(given[it] for it in waits) and how(crate, 1 if is_small else max(jobs, least))
 
         return waits, functions_of(crate), need, call
 
