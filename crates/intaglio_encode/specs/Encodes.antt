@@ -1,8 +1,8 @@
 -- What a run promises of the input that it reads.
-use Rattle.std.specs.Prelude.{◌≡◌, ℕ, ◌^◌, ◌<◌, List, Option, Result, String, map, string_bytes, IfSome, OnOk}
+use Rattle.std.specs.Prelude.{◌≡◌, ℕ, ◌^◌, ◌<◌, List, Option, String, map, string_bytes, IfSome}
 use Rattle.std.specs.Io.KnownBytes.{IsAtEnd}
 use Rattle.intaglio_lines.specs.LineForms.{AllLinesFit, distinct_count}
-use Rattle.intaglio_encode.specs.Encoded.{encoded}
+use Rattle.intaglio_lines.specs.Encoded.{encoded}
 use Rattle.intaglio_lines.specs.Kind.{Allows, is_fit, key_of, kind_of_words}
 use Rattle.intaglio_lines.specs.Puts.{Writes}
 use Rattle.intaglio_lines.specs.declared.kind.Kind.{Kind}
@@ -27,10 +27,6 @@ ReadsForbidden kind old new = IfSome old (Forbids kind) × IsAtEnd new
 -- the input can be split into lines of this kind, and each line fits
 abbrev pub Accepts : Kind → List ℕ → Type 0
 Accepts kind input = Allows kind input × AllLinesFit (is_fit kind) input
-
--- the call succeeds only if P holds, and nothing is written if it doesn't
-abbrev pub WritesOnlyIf : {T E W : Type 0} → Type 0 → Result T E → W → W → Type 0
-WritesOnlyIf P result old new = OnOk result P × (¬ P → new ≡ old)
 
 -- the status is 1, and nothing is written, if the input isn't one that the kind of the arguments accepts
 abbrev pub RefusesBy : {W Z : Type 0} → List (String Z) → Option (List ℕ) → ℕ → W → W → Type 0

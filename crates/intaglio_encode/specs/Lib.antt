@@ -1,4 +1,3 @@
 -- What the contracts of the program cite.
-pub mod Encoded
 pub mod Encodes
 pub mod RunError

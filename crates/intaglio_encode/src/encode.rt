@@ -1,10 +1,10 @@
 //! From the bytes read to the bytes written.
 ghost use Rattle.std.specs.Prelude.{◌≡◌, ◌≢◌, ◌<◌, ◌^◌, OnOk, IfErr, IfSome, IsErrAnd};
 ghost use Rattle.std.specs.Io.KnownBytes.{IsAtEnd};
-ghost use Rattle.intaglio_encode.specs.Encoded.{encoded, encoded_by};
+ghost use Rattle.intaglio_lines.specs.Encoded.{encoded, encoded_by};
 ghost use Rattle.intaglio_lines.specs.Kind.{is_fit};
-ghost use Rattle.intaglio_lines.specs.Puts.{Writes};
-ghost use Rattle.intaglio_encode.specs.Encodes.{Accepts, Encodes, Forbids, IsTooMany, ReadsForbidden, WritesOnlyIf};
+ghost use Rattle.intaglio_lines.specs.Puts.{Writes, WritesOnlyIf};
+ghost use Rattle.intaglio_encode.specs.Encodes.{Accepts, Encodes, Forbids, IsTooMany, ReadsForbidden};
 ghost use Rattle.intaglio_lines.specs.LineForms.{AllLinesFit, distinct_count};
 ghost use Rattle.intaglio_lines.specs.ToolError.{IsEncodingError, IsInputError, IsInterningOrWritingError};
 ghost use Rattle.intaglio_lines.specs.ToolError.{ReportsFirstUnfit};
@@ -14,13 +14,11 @@ use intaglio_bytes::b_str::BStrContent;
 use intaglio_bytes::bytes::BytesContent;
 use intaglio_core::{Core, Sought, Spelled};
 use intaglio_cstr::CStrContent;
-use intaglio_lines::encoding::Encoding;
+use intaglio_lines::encoding::encode_lines;
 use intaglio_lines::from_line::FromLine;
-use intaglio_lines::intern_lines::intern_lines;
 use intaglio_lines::kind::Kind;
 use intaglio_lines::read::read_all;
 use intaglio_lines::tool_error::ToolError;
-use intaglio_lines::write::write_output;
 use intaglio_path::PathContent;
 use intaglio_text::StrContent;
 use intaglio_text::osstr::OsStrContent;
@@ -118,12 +116,6 @@ fn encode_by<
     ensures nothing_written { IfErr result (λ e. e ≢ WriteFailed → writer.new ≡ writer.old) }
     ensures err { IfErr result IsInterningOrWritingError }
 {
-    let mut table = Core::<C, S>::with_hasher(alloc, builder)?;
-    let symbols = intern_lines(alloc, &mut table, input)?;
-    let encoding = Encoding {
-        symbols: &symbols,
-        table: &table,
-    };
-    write_output(alloc, &encoding, writer)?;
-    Ok(())
+    let table = Core::<C, S>::with_hasher(alloc, builder)?;
+    encode_lines(alloc, table, input, writer)
 }

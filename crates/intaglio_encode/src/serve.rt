@@ -3,7 +3,8 @@ ghost use Rattle.std.specs.Prelude.{◌≡◌, ◌≢◌, ◌≤◌, ◌↔◌, 
 ghost use Rattle.std.specs.Io.KnownBytes.{IsAtEnd};
 ghost use Rattle.intaglio_lines.specs.Kind.{is_fit, kind_of_words};
 ghost use Rattle.intaglio_encode.specs.Encodes.{Accepts, Encodes, EncodesBy, Forbids, IsTooMany, ReadsForbidden};
-ghost use Rattle.intaglio_encode.specs.Encodes.{RefusesBy, WritesOnlyIf};
+ghost use Rattle.intaglio_encode.specs.Encodes.{RefusesBy};
+ghost use Rattle.intaglio_lines.specs.Puts.{WritesOnlyIf};
 ghost use Rattle.intaglio_lines.specs.ToolError.{IsInputError, ReportsFirstUnfit};
 ghost use Rattle.intaglio_encode.specs.RunError.{IfEncode};
 ghost use Rattle.intaglio_encode.specs.declared.error.RunError.TheVariants.{Encode, NoSeed};

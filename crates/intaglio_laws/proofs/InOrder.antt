@@ -11,7 +11,7 @@ use Rattle.intaglio_interner.proofs.First.{first-none, first-some, some-below}
 use Rattle.intaglio_core.proofs.Kept.{distinct-push}
 use Rattle.intaglio_lines.specs.Lines.{lines_of}
 use Rattle.intaglio_lines.specs.Output.{output_of}
-use Rattle.intaglio_encode.specs.Encoded.{encoded_by}
+use Rattle.intaglio_lines.specs.Encoded.{encoded_by}
 use Rattle.intaglio_lines.specs.Decoded.{IsLine, Holds, decoded}
 use Rattle.intaglio_laws.specs.Laws.{AreInOrder}
 use Rattle.intaglio_lines.proofs.ByLines.{lines_of-flat_map}

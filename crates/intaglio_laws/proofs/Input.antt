@@ -4,7 +4,7 @@ use Rattle.std.specs.List.{flat_map}
 use Rattle.intaglio_lines.specs.Lines.{lines_of}
 use Rattle.intaglio_lines.specs.Kind.{key_of}
 use Rattle.intaglio_lines.specs.Output.{spelling_line}
-use Rattle.intaglio_encode.specs.Encoded.{encoded}
+use Rattle.intaglio_lines.specs.Encoded.{encoded}
 use Rattle.intaglio_lines.specs.Decoded.{Decodes, with_last_line_ended}
 use Rattle.intaglio_lines.specs.declared.kind.Kind.{Kind}
 use Rattle.intaglio_lines.specs.declared.kind.Kind.TheVariants.{Text, Bytes, BStr, CStr, OsStr, Path}

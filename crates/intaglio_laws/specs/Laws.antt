@@ -7,7 +7,7 @@ use Rattle.intaglio_interner.specs.State.{key_eq, Distinct}
 use Rattle.intaglio_lines.specs.Lines.{lines_of}
 use Rattle.intaglio_lines.specs.Kind.{key_of}
 use Rattle.intaglio_lines.specs.Output.{spelling_line}
-use Rattle.intaglio_encode.specs.Encoded.{encoded}
+use Rattle.intaglio_lines.specs.Encoded.{encoded}
 use Rattle.intaglio_lines.specs.Decoded.{Holds, Decodes, decoded, with_last_line_ended}
 use Rattle.intaglio_lines.specs.Fault.{fault_of}
 use Rattle.intaglio_lines.specs.declared.kind.Kind.{Kind}

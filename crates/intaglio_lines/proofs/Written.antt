@@ -1,6 +1,7 @@
 -- What is written for a list of contents, one after the other.
-use Rattle.std.proofs.Common.{◌≡◌, ℕ, suc, zero, ◌+◌, add-one, List, [], ◌∷◌, ◌++◌, take, map, Option, Some, refl, ap}
+use Rattle.std.proofs.Common.{◌≡◌, ℕ, suc, zero, ◌+◌, add-one, List, [], ◌∷◌, ◌++◌, take, map, Option, None, Some, refl, sym, ap}
 use Rattle.std.specs.List.{slice_get, flat_map}
+use Rattle.std.specs.Option.{option_map}
 use Rattle.std.specs.Io.KnownBytes.{Appends}
 use Rattle.std.proofs.lemmas.List.{append-nil, map-append}
 use Rattle.std.proofs.lemmas.Grind.{flat_map-append}
@@ -11,13 +12,19 @@ take-next [] n c at = cc
 take-next (x ∷ xs) zero c at = let same : x ≡ c = cc in rw same refl
 take-next (x ∷ xs) (suc n) c at = ap (λ t. x ∷ t) (take-next xs n c at)
 
-module _ {C : Type 0} (f : List ℕ → List ℕ) (spelling : C → List ℕ) (cs : List C) (n : ℕ) (c : C) where
-  flat_map-next : slice_get cs n ≡ Some c → flat_map f (map spelling (take (n + 1) cs)) ≡ flat_map f (map spelling (take n cs)) ++ f (spelling c)
-  flat_map-next at =
+module _ {C : Type 0} (f : List ℕ → List ℕ) (spelling : C → List ℕ) (cs : List C) (n : ℕ) where
+  flat_map-next : (c : C) → slice_get cs n ≡ Some c → flat_map f (map spelling (take (n + 1) cs)) ≡ flat_map f (map spelling (take n cs)) ++ f (spelling c)
+  flat_map-next c at =
       rw (add-one n, take-next cs n c at, map-append spelling (take n cs) (c ∷ []), flat_map-append f (map spelling (take n cs)) (spelling c ∷ []))
       (ap (λ t. flat_map f (map spelling (take n cs)) ++ t) (append-nil (f (spelling c))))
 
+  spelled : (found : Option C) (line : List ℕ) → option_map spelling found ≡ Some line → (c : C) × (found ≡ Some c) × (spelling c ≡ line)
+  spelled None line is = cc
+  spelled (Some c) line is = (c, refl, cc)
+
   -- the lines so far, and that of one content more
-  pub appends-next : (old mid new : Option (List ℕ)) (line : List ℕ) → slice_get cs n ≡ Some c → line ≡ spelling c
+  pub appends-next : (old mid new : Option (List ℕ)) (line : List ℕ) → option_map spelling (slice_get cs n) ≡ Some line
       → Appends old mid (flat_map f (map spelling (take n cs))) → Appends mid new (f line) → Appends old new (flat_map f (map spelling (take (n + 1) cs)))
-  appends-next old mid new line at spelled before next = rw (flat_map-next at) (Appends-append old mid new _ _ before (rw spelled at next))
+  appends-next old mid new line at before next =
+      let of = spelled (slice_get cs n) line at in
+      rw (flat_map-next of.0 of.1) (Appends-append old mid new _ _ before (rw (sym of.2) at next))

@@ -8,4 +8,5 @@ pub mod Puts
 pub mod StreamError
 pub mod Cuts
 pub mod LineForms
+pub mod Encoded
 pub mod ToolError

@@ -1,41 +1,84 @@
-//! Writes the symbols of the lines and the spellings.
-ghost use Rattle.std.specs.Prelude.{OnOk, map};
+//! Interns the lines of an input, and writes their symbols and the spellings.
+ghost use Rattle.std.specs.Prelude.{◌≡◌, ◌≢◌, ◌<◌, [], OnOk, IfErr, map};
 ghost use Rattle.std.specs.List.{flat_map};
+ghost use Rattle.intaglio_lines.specs.Encoded.{encoded_by};
+ghost use Rattle.intaglio_lines.specs.LineForms.{AllLinesFit, distinct_count};
 ghost use Rattle.intaglio_lines.specs.Output.{output_of, number_line, spelling_line};
-ghost use Rattle.intaglio_lines.specs.Puts.{Puts};
+ghost use Rattle.intaglio_lines.specs.Puts.{Puts, Writes, WritesOnlyIf};
+ghost use Rattle.intaglio_lines.specs.ToolError.{IsInterningOrWritingError, ReportsFirstUnfit};
+ghost use Rattle.intaglio_lines.specs.declared.tool_error.ToolError.TheVariants.{Overflow, Write as WriteFailed};
 
-use crate::write::{Output, make_room, put, put_line};
-use intaglio_content::Spelled;
-use intaglio_interner::Interner;
+use crate::from_line::FromLine;
+use crate::intern_lines::intern_lines;
+use crate::tool_error::ToolError;
+use crate::write::{Output, make_room, put, put_line, write_output};
+use intaglio_content::{Content, SpelledStore, Store};
+use intaglio_interner::FormInterner;
 use intaglio_symbol::Symbol;
+use std::alloc::Global;
 use std::io;
 use std::io::Write;
 
 // The length of the longest line of a number: ten digits and byte 10.
 const NUMBER_LINE: usize = 11;
 
-/// The output: each line's symbol, an empty line, and each spelling in the table that issued the symbols.
-#[derive(Drop)]
-pub struct Encoding<'a, T> {
-    /// The symbols of the lines.
-    pub symbols: &'a [Symbol],
-    /// The table that issued them.
-    pub table: &'a T,
+/// Interns the lines of an input into this empty table, and writes the symbol of each line, an empty line, and
+/// the spelling of each symbol.
+///
+/// All lines are interned before anything is written, and nothing is allocated after the first write.
+///
+/// # Errors
+///
+/// Those of [`intern_lines`], `Memory` if the block can't be allocated, and `Write` if a write fails. After
+/// each but `Write` nothing was written.
+pub fn encode_lines<'a, T: FormInterner + Drop, W: Write>(
+    alloc: Global,
+    mut table: T,
+    input: &'a [u8],
+    writer: &mut W,
+) -> Result<(), ToolError>
+where
+    T::Content: FromLine<'a, T::Store>,
+    T::Store: SpelledStore,
+    requires allowed { T.Content.allows input.now }
+    requires empty { (T.state table).contents ≡ [] }
+    ensures written { OnOk result (Writes W.contents writer.old writer.new
+        (encoded_by T.Content.key_of input.now)) }
+    ensures zero { IfErr result (ReportsFirstUnfit T.Content.fits input.now) }
+    ensures fit { WritesOnlyIf (AllLinesFit T.Content.fits input.now) result writer.old writer.new }
+    ensures overflow { result ≡ Err Overflow → (T.state table).limit < distinct_count T.Content.key_of input.now }
+    ensures nothing_written { IfErr result (λ e. e ≢ WriteFailed → writer.new ≡ writer.old) }
+    ensures err { IfErr result IsInterningOrWritingError }
+{
+    let symbols = intern_lines(alloc, &mut table, input)?;
+    let encoding = Encoding {
+        symbols: &symbols,
+        contents: table.store(),
+    };
+    write_output(alloc, &encoding, writer)?;
+    Ok(())
 }
 
-impl<T: Interner> Output for Encoding<'_, T>
+// Each line's symbol, an empty line, and the spelling of each content.
+#[derive(Drop)]
+struct Encoding<'a, L> {
+    symbols: &'a [Symbol],
+    contents: &'a L,
+}
+
+impl<L: SpelledStore> Output for Encoding<'_, L>
 where
-    T::Content: Spelled,
+    L::Content: Content,
 {
     ghost bytes = { λ encoding. output_of encoding.symbols.now
-        (map T.Content.spelling (T.state encoding.table.now).contents) };
+        (map L.Content.spelling (L.contents encoding.contents.now)) };
 
     ghost is_ready = { λ _. Unit {0} };
 
     fn put_all<W: Write>(&self, block: &mut Vec<u8>, writer: &mut W) -> io::Result<()> {
         put_symbols(self.symbols, block, writer)?;
         put(b"\n", block, writer)?;
-        put_spellings(self.table, block, writer)
+        put_spellings(self.contents, block, writer)
     }
 }
 
@@ -57,19 +100,18 @@ fn put_number<W: Write>(number: u32, block: &mut Vec<u8>, writer: &mut W) -> io:
     writeln!(block, "{number}")
 }
 
-fn put_spellings<T: Interner, W: Write>(
-    table: &T,
+fn put_spellings<L: SpelledStore, W: Write>(
+    contents: &L,
     block: &mut Vec<u8>,
     writer: &mut W,
 ) -> io::Result<()>
 where
-    T::Content: Spelled,
+    L::Content: Content,
     ensures { OnOk result (Puts W.contents writer.old block.old writer.new block.new
-        (flat_map spelling_line (map T.Content.spelling (T.state table.now).contents))) }
+        (flat_map spelling_line (map L.Content.spelling (L.contents contents.now)))) }
 {
-    for number in 0..table.count() {
-        let content = table.content(Symbol::new(number as u32)).unwrap();
-        put_line(content.spelling(), block, writer)?;
+    for place in 0..contents.len() {
+        put_line(contents.spelling_at(place).unwrap(), block, writer)?;
     }
     Ok(())
 }

@@ -1,6 +1,6 @@
 use Rattle.std.proofs.Common.{◌∙◌, ap, sym, drop, length}
 use Rattle.std.proofs.Math.Seq.{drop-append_seam}
-use Rattle.intaglio_encode.specs.Encoded.{encoded}
+use Rattle.intaglio_lines.specs.Encoded.{encoded}
 use Rattle.intaglio_laws.proofs.encoding_is_a_function.Goals as goal
 
 pub returns : goal.returns

@@ -1,6 +1,6 @@
 use Rattle.std.proofs.Common.{subst, sym}
 use Rattle.intaglio_lines.specs.Decoded.{Decodes, with_last_line_ended}
-use Rattle.intaglio_encode.specs.Encoded.{encoded}
+use Rattle.intaglio_lines.specs.Encoded.{encoded}
 use Rattle.intaglio_lines.proofs.Reading.{one-output}
 use Rattle.intaglio_laws.proofs.Input.{decodes-input}
 use Rattle.intaglio_laws.proofs.encoding_keeps_the_input.Goals as goal
