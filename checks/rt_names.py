@@ -343,25 +343,25 @@ def beside(call, *given):
 
 # A crate with this many functions or fewer is proved as soon by one job as by several, which each read all libraries.
 FEW = 8
-# The share of the longest chain from which on a chain would soon be the longest, if its crates waited.
-NEARLY = 0.88
+# The shares of the longest chain from which on a chain would soon be the longest, if its crates had one job each, and if they had what others leave.
+NEARLY, LONG = 0.88, 0.8
 
 
 def in_lanes(crates, prove):
     """Proves these crates side by side, by `prove` of a crate and its jobs, each once those of them below it are proved, and returns whether all are.
-    Those of the longest chain have a job for each processor, since all waits for them, those of a chain nearly as long two, and small ones one; what
-    else there is runs on what these leave."""
+    Those of the longest chain have a job for each processor, since all waits for them, those of a chain nearly as long two, and small ones one; those of
+    short chains run on what these leave."""
     rt, through, most = load(), chains_through(crates), min(4, processors())
     longest = max(through.values(), default=0)
 
     def task(crate):
         waits, length = [(it.name, "proof") for it in crate.below() if it.name in through], through[crate.name]
-        is_waited_for, is_small = length > NEARLY * longest, functions_of(crate) <= FEW
-        least = 1 if is_small or not is_waited_for else most if length == longest else min(2, most)
+        is_small = functions_of(crate) <= FEW
+        least = 1 if is_small or length < NEARLY * longest else most if length == longest else min(2, most)
         need = rt.need(crate) * (1 + 0.6 * (least - 1))
 
         def call(given, jobs):
-            how = prove if is_waited_for else functools.partial(beside, prove)
+            how = prove if length > LONG * longest else functools.partial(beside, prove)
             return all(given[it] for it in waits) and how(crate, 1 if is_small else max(jobs, least))
 
         return waits, functions_of(crate), need, call
