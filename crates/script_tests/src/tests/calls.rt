@@ -33,8 +33,8 @@ pub enum Ask {
     Index(Symbol),
 }
 
-/// The borrowed forms of contents.
-pub fn forms<'a, C: Formed<'a>>(rt: &impl Abort, alloc: Global, contents: &'a [C]) -> Vec<C::Form> {
+// The borrowed forms of contents.
+fn forms<'a, C: Formed<'a>>(rt: &impl Abort, alloc: Global, contents: &'a [C]) -> Vec<C::Form> {
     let mut forms = Vec::new(alloc);
     for content in contents {
         forms.push(content.borrow()).expect(rt, "memory");
@@ -46,36 +46,39 @@ fn only<T: Drop>(rt: &impl Abort, mut forms: Vec<T>) -> T {
     forms.pop().expect(rt, "no form")
 }
 
-/// What a table of owned contents returns for a call by these forms.
-pub fn answer<'a, C: Formed<'a> + LookedUp<'a> + Sought<C> + Drop, S: HasherCount>(
+/// What a table of owned contents returns for a call by the forms of these.
+pub fn answer<'a, C: Formed<'a> + LookedUp<'a, By = <C as Formed<'a>>::Form>, S: HasherCount>(
     rt: &impl Abort,
     alloc: Global,
     table: &'a mut Table<C, S>,
-    forms: Vec<<C as LookedUp<'a>>::By>,
+    contents: &'a [C],
     ask: Ask,
 ) -> String
 where
+    C: Sought<C> + Drop,
     C::Form: Shown,
 {
     match ask {
         Ask::Index(symbol) => reply_text(rt, alloc, &index(alloc, table, symbol)),
-        _ => answer_by_forms(rt, alloc, table, forms, ask),
+        _ => answer_over(rt, alloc, table, contents, ask),
     }
 }
 
-/// What any table returns for a call by these forms.
-pub fn answer_by_forms<'a, L: Lends<'a> + LookedUpIn<'a>, S: HasherCount>(
+/// What any table returns for a call by the forms of these, but for `table[symbol]`.
+pub fn answer_over<'a, L: Lends<'a> + LookedUpIn<'a>, C, S: HasherCount>(
     rt: &impl Abort,
     alloc: Global,
     table: &'a mut TableOver<L, S>,
-    forms: Vec<<L as LookedUpIn<'a>>::By>,
+    contents: &'a [C],
     ask: Ask,
 ) -> String
 where
+    C: Formed<'a, Form = <L as LookedUpIn<'a>>::By>,
     L::Content: Content + SoughtIn<L> + Drop,
     L::Prepared: Drop,
     L::Form: Shown,
 {
+    let forms = forms(rt, alloc, contents);
     match ask {
         Ask::GetOrInternAll => symbols_text(rt, alloc, table.get_or_intern_all(&forms)),
         Ask::CountedAll => {

@@ -2,36 +2,59 @@
 //! borrowed texts.
 use super::contents::TestContent;
 use super::runs::{calls_by_contents, calls_by_texts, runs};
-use super::table::{Made, Make, Owned};
 use intaglio::bstr::BStrContent;
 use intaglio::bytes::BytesContent;
 use intaglio::cstr::CStrContent;
 use intaglio::osstr::OsStrContent;
+use intaglio::packed::{Packed, StrKind};
 use intaglio::path::PathContent;
-use intaglio::{Copied, Core, Moved, StrContent, packed};
+use intaglio::{
+    AddedTo, Call, Content, Copied, Core, Moved, SoughtIn, SpelledStore, StrContent, TableOver,
+};
+use intaglio_hash::FixedState;
 use std::alloc::Global;
 use std::process::Abort;
-use test_hashers::builders::Fold;
+use test_hashers::builders::{Fold, HasherCount};
 
-// On a table with this limit.
+// On a table over this store, with this limit.
+fn runs_over<H, L: SpelledStore + Drop, S: HasherCount, Q: AddedTo<L, H>>(
+    rt: &impl Abort,
+    alloc: Global,
+    hasher: S,
+    limit: usize,
+    calls: Vec<Call<Q>>,
+    script: &'static str,
+)
+where
+    L::Content: Content + SoughtIn<L> + Drop,
+    L::Prepared: Drop,
+{
+    let made = TableOver::<L, S>::with_limit(alloc, limit, hasher);
+    runs::<H, _, _>(rt, alloc, made, calls, script);
+}
+
+// By owned contents.
 fn runs_on<C: TestContent>(rt: &impl Abort, alloc: Global, limit: usize, script: &'static str) {
-    let made = Owned::<C>::make(alloc, Make::Limited(limit));
+    let calls = calls_by_contents::<C>(rt, alloc, script);
+    runs_over::<Moved, Vec<C>, _, _>(rt, alloc, Fold::new(), limit, calls, script);
+}
+
+fn runs_on_a_core<C: TestContent>(
+    rt: &impl Abort,
+    alloc: Global,
+    limit: usize,
+    script: &'static str,
+) {
+    let made = Core::<C, Fold>::with_limit(alloc, limit, Fold::new());
     let calls = calls_by_contents::<C>(rt, alloc, script);
     runs::<Moved, _, _>(rt, alloc, made, calls, script);
 }
 
-fn runs_on_a_core(rt: &impl Abort, alloc: Global, limit: usize, script: &'static str) {
-    let made: Result<Core<StrContent, Fold>, _> = Core::with_limit(alloc, limit, Fold::new());
-    let calls = calls_by_contents::<StrContent>(rt, alloc, script);
-    runs::<Moved, _, _>(rt, alloc, made, calls, script);
-}
-
 fn runs_by_texts(rt: &impl Abort, alloc: Global, limit: usize, script: &'static str) {
-    let how = Make::Limited(limit);
-    let owned = Owned::<StrContent>::make(alloc, how);
-    runs::<Copied, _, _>(rt, alloc, owned, calls_by_texts(rt, alloc, script), script);
-    let packed = packed::SymbolTable::make(alloc, how);
-    runs::<Copied, _, _>(rt, alloc, packed, calls_by_texts(rt, alloc, script), script);
+    let calls = calls_by_texts(rt, alloc, script);
+    runs_over::<Copied, Vec<StrContent>, _, _>(rt, alloc, Fold::new(), limit, calls, script);
+    let calls = calls_by_texts(rt, alloc, script);
+    runs_over::<Copied, Packed<StrKind>, _, _>(rt, alloc, FixedState, limit, calls, script);
 }
 
 fn runs_on_each(rt: &impl Abort, alloc: Global, limit: usize, script: &'static str) {
@@ -41,7 +64,7 @@ fn runs_on_each(rt: &impl Abort, alloc: Global, limit: usize, script: &'static s
     runs_on::<BStrContent>(rt, alloc, limit, script);
     runs_on::<CStrContent>(rt, alloc, limit, script);
     runs_on::<PathContent>(rt, alloc, limit, script);
-    runs_on_a_core(rt, alloc, limit, script);
+    runs_on_a_core::<StrContent>(rt, alloc, limit, script);
     runs_by_texts(rt, alloc, limit, script);
 }
 

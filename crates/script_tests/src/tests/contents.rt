@@ -1,7 +1,7 @@
 //! Contents of each kind, made from their spelling, and the calls that differ by kind.
-use super::calls::{Ask, answer, forms};
+use super::calls::{Ask, answer};
 use super::printed::paired;
-use super::steps::{Steps, walk_pairs, walks};
+use super::steps::{Steps, walk_table};
 use intaglio::bstr::BStrContent;
 use intaglio::bytes::BytesContent;
 use intaglio::cstr::{CStr, CStrContent};
@@ -16,9 +16,7 @@ use test_hashers::contents::OfSpelling;
 /// What differs between tables of the kinds.
 pub trait TestContent: OfSpelling {
     /// Whether it is compared as a path.
-    fn are_paths() -> bool {
-        false
-    }
+    const ARE_PATHS: bool = false;
 
     /// Looks its borrowed form up, as `get_interned`.
     fn pair_in<S: HasherCount>(&self, alloc: Global, table: &Table<Self, S>) -> Reply;
@@ -33,12 +31,7 @@ pub trait TestContent: OfSpelling {
     ) -> String;
 
     /// Makes the steps on the iterators of forms.
-    fn go_through<R: Abort, S: HasherCount>(
-        rt: &R,
-        alloc: Global,
-        table: &Table<Self, S>,
-        steps: Steps,
-    );
+    fn go<R: Abort, S: HasherCount>(rt: &R, alloc: Global, table: &Table<Self, S>, steps: &Steps);
 }
 
 impl TestContent for StrContent {
@@ -56,17 +49,11 @@ impl TestContent for StrContent {
         contents: &[StrContent],
         ask: Ask,
     ) -> String {
-        answer(rt, alloc, table, forms(rt, alloc, contents), ask)
+        answer(rt, alloc, table, contents, ask)
     }
 
-    fn go_through<R: Abort, S: HasherCount>(
-        rt: &R,
-        alloc: Global,
-        table: &Table<StrContent, S>,
-        steps: Steps,
-    ) {
-        walks(rt, alloc, table.strings(), steps.contents);
-        walk_pairs(rt, alloc, table, steps.pairs);
+    fn go<R: Abort, S: HasherCount>(rt: &R, alloc: Global, table: &Table<Self, S>, steps: &Steps) {
+        walk_table(rt, alloc, table, table.strings(), steps);
     }
 }
 
@@ -85,17 +72,11 @@ impl TestContent for OsStrContent {
         contents: &[OsStrContent],
         ask: Ask,
     ) -> String {
-        answer(rt, alloc, table, forms(rt, alloc, contents), ask)
+        answer(rt, alloc, table, contents, ask)
     }
 
-    fn go_through<R: Abort, S: HasherCount>(
-        rt: &R,
-        alloc: Global,
-        table: &Table<OsStrContent, S>,
-        steps: Steps,
-    ) {
-        walks(rt, alloc, table.os_strings(), steps.contents);
-        walk_pairs(rt, alloc, table, steps.pairs);
+    fn go<R: Abort, S: HasherCount>(rt: &R, alloc: Global, table: &Table<Self, S>, steps: &Steps) {
+        walk_table(rt, alloc, table, table.os_strings(), steps);
     }
 }
 
@@ -114,17 +95,11 @@ impl TestContent for BytesContent {
         contents: &[BytesContent],
         ask: Ask,
     ) -> String {
-        answer(rt, alloc, table, forms(rt, alloc, contents), ask)
+        answer(rt, alloc, table, contents, ask)
     }
 
-    fn go_through<R: Abort, S: HasherCount>(
-        rt: &R,
-        alloc: Global,
-        table: &Table<BytesContent, S>,
-        steps: Steps,
-    ) {
-        walks(rt, alloc, table.bytestrings(), steps.contents);
-        walk_pairs(rt, alloc, table, steps.pairs);
+    fn go<R: Abort, S: HasherCount>(rt: &R, alloc: Global, table: &Table<Self, S>, steps: &Steps) {
+        walk_table(rt, alloc, table, table.bytestrings(), steps);
     }
 }
 
@@ -143,17 +118,11 @@ impl TestContent for BStrContent {
         contents: &[BStrContent],
         ask: Ask,
     ) -> String {
-        answer(rt, alloc, table, forms(rt, alloc, contents), ask)
+        answer(rt, alloc, table, contents, ask)
     }
 
-    fn go_through<R: Abort, S: HasherCount>(
-        rt: &R,
-        alloc: Global,
-        table: &Table<BStrContent, S>,
-        steps: Steps,
-    ) {
-        walks(rt, alloc, table.bstrings(), steps.contents);
-        walk_pairs(rt, alloc, table, steps.pairs);
+    fn go<R: Abort, S: HasherCount>(rt: &R, alloc: Global, table: &Table<Self, S>, steps: &Steps) {
+        walk_table(rt, alloc, table, table.bstrings(), steps);
     }
 }
 
@@ -172,24 +141,16 @@ impl TestContent for CStrContent {
         contents: &[CStrContent],
         ask: Ask,
     ) -> String {
-        answer(rt, alloc, table, forms(rt, alloc, contents), ask)
+        answer(rt, alloc, table, contents, ask)
     }
 
-    fn go_through<R: Abort, S: HasherCount>(
-        rt: &R,
-        alloc: Global,
-        table: &Table<CStrContent, S>,
-        steps: Steps,
-    ) {
-        walks(rt, alloc, table.c_strings(), steps.contents);
-        walk_pairs(rt, alloc, table, steps.pairs);
+    fn go<R: Abort, S: HasherCount>(rt: &R, alloc: Global, table: &Table<Self, S>, steps: &Steps) {
+        walk_table(rt, alloc, table, table.c_strings(), steps);
     }
 }
 
 impl TestContent for PathContent {
-    fn are_paths() -> bool {
-        true
-    }
+    const ARE_PATHS: bool = true;
 
     fn pair_in<S: HasherCount>(&self, alloc: Global, table: &Table<PathContent, S>) -> Reply {
         match table.get_interned(self.form()) {
@@ -205,30 +166,17 @@ impl TestContent for PathContent {
         contents: &[PathContent],
         ask: Ask,
     ) -> String {
-        answer(rt, alloc, table, forms(rt, alloc, contents), ask)
+        answer(rt, alloc, table, contents, ask)
     }
 
-    fn go_through<R: Abort, S: HasherCount>(
-        rt: &R,
-        alloc: Global,
-        table: &Table<PathContent, S>,
-        steps: Steps,
-    ) {
-        walks(rt, alloc, table.paths(), steps.contents);
-        walk_pairs(rt, alloc, table, steps.pairs);
+    fn go<R: Abort, S: HasherCount>(rt: &R, alloc: Global, table: &Table<Self, S>, steps: &Steps) {
+        walk_table(rt, alloc, table, table.paths(), steps);
     }
 }
 
 /// An owned content of this spelling.
 pub fn content<C: TestContent>(rt: &impl Abort, alloc: Global, spelling: &[u8]) -> C {
     C::owned(alloc, spelling).expect(rt, "no such content")
-}
-
-/// A content alone.
-pub fn vec_of_one<C: Drop>(rt: &impl Abort, alloc: Global, content: C) -> Vec<C> {
-    let mut contents = Vec::new(alloc);
-    contents.push(content).expect(rt, "memory");
-    contents
 }
 
 /// A borrowed content of this spelling, which a zero follows.

@@ -2,7 +2,7 @@
 use super::each::{RunOut, Walked, try_on_each, try_on_packed};
 use super::steps::Steps;
 
-const BOTH_ENDS: Steps = Steps {
+const BOTH_ENDS: Steps<'static> = Steps {
     symbols: "next > 0
 nth_back(2) > 1
 next > none",
@@ -67,7 +67,7 @@ next > none",
     );
 }
 
-const NOTHING: Steps = Steps {
+const NOTHING: Steps<'static> = Steps {
     symbols: "size_hint > (0, Some(0))
 next > none
 next_back > none",
@@ -94,7 +94,7 @@ fn run_out_symbols_are_those_of_an_empty_table(rt: HostRuntime) {
     try_on_each(&rt, &RunOut);
 }
 
-const FORWARDS: Steps = Steps {
+const FORWARDS: Steps<'static> = Steps {
     symbols: "next_back > 2
 next > 0",
     contents: "size_hint > (3, Some(3))

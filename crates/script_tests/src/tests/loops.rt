@@ -1,17 +1,12 @@
 //! Calls on many contents, whose expected results are computed.
 use super::assertions::same;
 use super::calls::Ask;
-use super::contents::{content, vec_of_one};
+use super::contents::content;
 use super::printed::{number, text};
 use super::table::Table;
 use intaglio::{Reply, Symbol};
 use std::alloc::Global;
 use std::process::Abort;
-
-// The count as a `u32`.
-fn end(rt: &impl Abort, count: usize) -> u32 {
-    u32::try_from(count).expect(rt, "too many")
-}
 
 /// Asserts that interning the spelling returns the symbol of this number.
 pub fn interns<T: Table>(
@@ -25,8 +20,23 @@ pub fn interns<T: Table>(
     same(rt, reply, Reply::Symbol(Some(Symbol::new(wanted))));
 }
 
-/// Asserts what the call by the spelling returns.
-pub fn gives<T: Table>(
+/// What the call by the spelling returns.
+pub fn asked<T: Table>(
+    rt: &impl Abort,
+    alloc: Global,
+    table: &mut T,
+    spelling: &[u8],
+    ask: Ask,
+) -> String {
+    let mut contents = Vec::new(alloc);
+    contents
+        .push(content(rt, alloc, spelling))
+        .expect(rt, "memory");
+    table.ask(rt, alloc, &contents, ask)
+}
+
+// Asserts what the call by the spelling returns.
+fn gives<T: Table>(
     rt: &impl Abort,
     alloc: Global,
     table: &mut T,
@@ -34,58 +44,62 @@ pub fn gives<T: Table>(
     ask: Ask,
     wanted: &str,
 ) {
-    let contents = vec_of_one(rt, alloc, content(rt, alloc, spelling));
-    let answer = table.ask(rt, alloc, &contents, ask);
+    let answer = asked(rt, alloc, table, spelling, ask);
     same(rt, answer.as_str(), wanted);
 }
 
-/// Interns the decimal numbers from 0, which get these symbols.
-pub fn interns_numbers<T: Table>(
-    rt: &impl Abort,
-    alloc: Global,
-    table: &mut T,
-    count: usize,
-) -> Reply {
-    for wanted in 0..end(rt, count) {
-        let text = wanted.to_string(alloc).expect(rt, "memory");
-        interns(rt, alloc, table, text.as_bytes(), wanted);
-    }
-    Reply::Done
+/// What is done with each of the decimal numbers.
+#[derive(Clone, Copy)]
+pub enum Turn {
+    /// Interns it, which gets the symbol of this number.
+    Interns,
+    /// The same with the number padded with zeros to 100 bytes, twice, as [`keeps_new`].
+    Keeps,
+    /// Checks it. They are checked from the last to the first.
+    Checks,
+    /// Looks it up, by each of the three look-ups.
+    Finds,
 }
 
-/// Checks the decimal numbers, from the last to the first.
-pub fn checks_numbers<T: Table>(
+/// Does this with the decimal numbers from 0.
+pub fn makes_turns<T: Table>(
     rt: &impl Abort,
     alloc: Global,
     table: &mut T,
-    count: usize,
-) -> Reply {
-    for wanted in (0..end(rt, count)).rev() {
-        let text = wanted.to_string(alloc).expect(rt, "memory");
-        gives(
+    turn: Turn,
+    count: u32,
+) {
+    for number in 0..count {
+        match turn {
+            Turn::Checks => makes_turn(rt, alloc, table, turn, count - 1 - number),
+            _ => makes_turn(rt, alloc, table, turn, number),
+        }
+    }
+}
+
+fn makes_turn<T: Table>(rt: &impl Abort, alloc: Global, table: &mut T, turn: Turn, wanted: u32) {
+    let text = turn_text(rt, alloc, turn, wanted);
+    let spelling = text.as_bytes();
+    match turn {
+        Turn::Interns => interns(rt, alloc, table, spelling, wanted),
+        Turn::Keeps => keeps_new(rt, alloc, table, spelling, wanted),
+        Turn::Checks => gives(
             rt,
             alloc,
             table,
-            text.as_bytes(),
+            spelling,
             Ask::CheckInterned,
             text.as_str(),
-        );
+        ),
+        Turn::Finds => finds(rt, alloc, table, spelling, Symbol::new(wanted)),
     }
-    Reply::Done
 }
 
-/// Looks up the decimal numbers, by each of the three look-ups.
-pub fn finds_numbers<T: Table>(
-    rt: &impl Abort,
-    alloc: Global,
-    table: &mut T,
-    count: usize,
-) -> Reply {
-    for wanted in 0..end(rt, count) {
-        let text = wanted.to_string(alloc).expect(rt, "memory");
-        finds(rt, alloc, table, text.as_bytes(), Symbol::new(wanted));
+fn turn_text(rt: &impl Abort, alloc: Global, turn: Turn, number: u32) -> String {
+    match turn {
+        Turn::Keeps => format!(in alloc; "{number:0100}").expect(rt, "memory"),
+        _ => number.to_string(alloc).expect(rt, "memory"),
     }
-    Reply::Done
 }
 
 fn finds<T: Table>(rt: &impl Abort, alloc: Global, table: &mut T, spelling: &[u8], wanted: Symbol) {
@@ -104,30 +118,21 @@ fn finds<T: Table>(rt: &impl Abort, alloc: Global, table: &mut T, spelling: &[u8
     same(rt, pair, Reply::Pair(Some((wanted, copy))));
 }
 
-/// Interns the decimal numbers from 0, padded with zeros to 100 bytes, each twice, and asserts after each
-/// interning that the text is kept.
-pub fn keeps_numbers<T: Table>(
-    rt: &impl Abort,
-    alloc: Global,
-    table: &mut T,
-    count: usize,
-) -> Reply {
-    for wanted in 0..end(rt, count) {
-        let text = format!(in alloc; "{wanted:0100}").expect(rt, "memory");
-        keeps(rt, alloc, table, text.as_bytes(), wanted);
-        keeps(rt, alloc, table, text.as_bytes(), wanted);
-    }
-    Reply::Done
-}
-
-/// Interns a content, which gets this symbol, and asserts that it is kept.
-pub fn keeps<T: Table>(
+/// Interns a content that isn't interned yet twice, and asserts after each interning that it is kept.
+pub fn keeps_new<T: Table>(
     rt: &impl Abort,
     alloc: Global,
     table: &mut T,
     spelling: &[u8],
     wanted: u32,
 ) {
+    gives(rt, alloc, table, spelling, Ask::IsInterned, "false");
+    keeps(rt, alloc, table, spelling, wanted);
+    keeps(rt, alloc, table, spelling, wanted);
+}
+
+// Interns a content, which gets this symbol, and asserts that it is kept.
+fn keeps<T: Table>(rt: &impl Abort, alloc: Global, table: &mut T, spelling: &[u8], wanted: u32) {
     interns(rt, alloc, table, spelling, wanted);
     let symbol = Symbol::new(wanted);
     finds(rt, alloc, table, spelling, symbol);

@@ -1,8 +1,8 @@
 //! Tables in one buffer, by the calls of a [`Table`].
-use super::calls::{Ask, answer_by_forms, forms};
+use super::calls::{Ask, answer_over};
 use super::contents::TestContent;
 use super::printed::paired;
-use super::steps::{Steps, walk_pairs, walks};
+use super::steps::{Steps, walk_table};
 use super::table::{Counts, Made, Make, Table, Update, counts_of, updated};
 use crate::replies::interned;
 use intaglio::bstr::BStrContent;
@@ -21,15 +21,18 @@ use std::alloc::Global;
 use std::process::Abort;
 use test_hashers::builders::{Counted, HasherCount};
 
+/// A table in one buffer.
+pub type Buffer<K, S> = TableOver<Packed<K>, S>;
+
 /// A kind of contents that are packed, and what differs between packed tables of the kinds.
 pub trait PackedTests: PackedOwned
 where
     Self::Owned: TestContent,
 {
     /// Looks the borrowed form of a content up, as `get_interned`.
-    fn packed_pair<S: HasherCount>(
+    fn pair_of<S: HasherCount>(
         alloc: Global,
-        table: &TableOver<Packed<Self>, S>,
+        table: &Buffer<Self, S>,
         sought: &Self::Owned,
     ) -> Reply;
 
@@ -37,24 +40,19 @@ where
     fn ask_packed<R: Abort, S: HasherCount>(
         rt: &R,
         alloc: Global,
-        table: &mut TableOver<Packed<Self>, S>,
+        table: &mut Buffer<Self, S>,
         contents: &[Self::Owned],
         ask: Ask,
     ) -> String;
 
     /// Makes the steps on the iterators of forms.
-    fn go_through_packed<R: Abort, S: HasherCount>(
-        rt: &R,
-        alloc: Global,
-        table: &TableOver<Packed<Self>, S>,
-        steps: Steps,
-    );
+    fn go<R: Abort, S: HasherCount>(rt: &R, alloc: Global, table: &Buffer<Self, S>, steps: &Steps);
 }
 
 impl PackedTests for StrKind {
-    fn packed_pair<S: HasherCount>(
+    fn pair_of<S: HasherCount>(
         alloc: Global,
-        table: &TableOver<Packed<StrKind>, S>,
+        table: &Buffer<Self, S>,
         sought: &StrContent,
     ) -> Reply {
         match table.get_interned(sought.form()) {
@@ -66,28 +64,22 @@ impl PackedTests for StrKind {
     fn ask_packed<R: Abort, S: HasherCount>(
         rt: &R,
         alloc: Global,
-        table: &mut TableOver<Packed<StrKind>, S>,
+        table: &mut Buffer<StrKind, S>,
         contents: &[StrContent],
         ask: Ask,
     ) -> String {
-        answer_by_forms(rt, alloc, table, forms(rt, alloc, contents), ask)
+        answer_over(rt, alloc, table, contents, ask)
     }
 
-    fn go_through_packed<R: Abort, S: HasherCount>(
-        rt: &R,
-        alloc: Global,
-        table: &TableOver<Packed<StrKind>, S>,
-        steps: Steps,
-    ) {
-        walks(rt, alloc, table.strings(), steps.contents);
-        walk_pairs(rt, alloc, table, steps.pairs);
+    fn go<R: Abort, S: HasherCount>(rt: &R, alloc: Global, table: &Buffer<Self, S>, steps: &Steps) {
+        walk_table(rt, alloc, table, table.strings(), steps);
     }
 }
 
 impl PackedTests for OsStrKind {
-    fn packed_pair<S: HasherCount>(
+    fn pair_of<S: HasherCount>(
         alloc: Global,
-        table: &TableOver<Packed<OsStrKind>, S>,
+        table: &Buffer<Self, S>,
         sought: &OsStrContent,
     ) -> Reply {
         match table.get_interned(sought.form()) {
@@ -99,28 +91,22 @@ impl PackedTests for OsStrKind {
     fn ask_packed<R: Abort, S: HasherCount>(
         rt: &R,
         alloc: Global,
-        table: &mut TableOver<Packed<OsStrKind>, S>,
+        table: &mut Buffer<OsStrKind, S>,
         contents: &[OsStrContent],
         ask: Ask,
     ) -> String {
-        answer_by_forms(rt, alloc, table, forms(rt, alloc, contents), ask)
+        answer_over(rt, alloc, table, contents, ask)
     }
 
-    fn go_through_packed<R: Abort, S: HasherCount>(
-        rt: &R,
-        alloc: Global,
-        table: &TableOver<Packed<OsStrKind>, S>,
-        steps: Steps,
-    ) {
-        walks(rt, alloc, table.os_strings(), steps.contents);
-        walk_pairs(rt, alloc, table, steps.pairs);
+    fn go<R: Abort, S: HasherCount>(rt: &R, alloc: Global, table: &Buffer<Self, S>, steps: &Steps) {
+        walk_table(rt, alloc, table, table.os_strings(), steps);
     }
 }
 
 impl PackedTests for BytesKind {
-    fn packed_pair<S: HasherCount>(
+    fn pair_of<S: HasherCount>(
         alloc: Global,
-        table: &TableOver<Packed<BytesKind>, S>,
+        table: &Buffer<Self, S>,
         sought: &BytesContent,
     ) -> Reply {
         match table.get_interned(sought.form()) {
@@ -132,28 +118,22 @@ impl PackedTests for BytesKind {
     fn ask_packed<R: Abort, S: HasherCount>(
         rt: &R,
         alloc: Global,
-        table: &mut TableOver<Packed<BytesKind>, S>,
+        table: &mut Buffer<BytesKind, S>,
         contents: &[BytesContent],
         ask: Ask,
     ) -> String {
-        answer_by_forms(rt, alloc, table, forms(rt, alloc, contents), ask)
+        answer_over(rt, alloc, table, contents, ask)
     }
 
-    fn go_through_packed<R: Abort, S: HasherCount>(
-        rt: &R,
-        alloc: Global,
-        table: &TableOver<Packed<BytesKind>, S>,
-        steps: Steps,
-    ) {
-        walks(rt, alloc, table.bytestrings(), steps.contents);
-        walk_pairs(rt, alloc, table, steps.pairs);
+    fn go<R: Abort, S: HasherCount>(rt: &R, alloc: Global, table: &Buffer<Self, S>, steps: &Steps) {
+        walk_table(rt, alloc, table, table.bytestrings(), steps);
     }
 }
 
 impl PackedTests for BStrKind {
-    fn packed_pair<S: HasherCount>(
+    fn pair_of<S: HasherCount>(
         alloc: Global,
-        table: &TableOver<Packed<BStrKind>, S>,
+        table: &Buffer<Self, S>,
         sought: &BStrContent,
     ) -> Reply {
         match table.get_interned(sought.form()) {
@@ -165,28 +145,22 @@ impl PackedTests for BStrKind {
     fn ask_packed<R: Abort, S: HasherCount>(
         rt: &R,
         alloc: Global,
-        table: &mut TableOver<Packed<BStrKind>, S>,
+        table: &mut Buffer<BStrKind, S>,
         contents: &[BStrContent],
         ask: Ask,
     ) -> String {
-        answer_by_forms(rt, alloc, table, forms(rt, alloc, contents), ask)
+        answer_over(rt, alloc, table, contents, ask)
     }
 
-    fn go_through_packed<R: Abort, S: HasherCount>(
-        rt: &R,
-        alloc: Global,
-        table: &TableOver<Packed<BStrKind>, S>,
-        steps: Steps,
-    ) {
-        walks(rt, alloc, table.bstrings(), steps.contents);
-        walk_pairs(rt, alloc, table, steps.pairs);
+    fn go<R: Abort, S: HasherCount>(rt: &R, alloc: Global, table: &Buffer<Self, S>, steps: &Steps) {
+        walk_table(rt, alloc, table, table.bstrings(), steps);
     }
 }
 
 impl PackedTests for PathKind {
-    fn packed_pair<S: HasherCount>(
+    fn pair_of<S: HasherCount>(
         alloc: Global,
-        table: &TableOver<Packed<PathKind>, S>,
+        table: &Buffer<Self, S>,
         sought: &PathContent,
     ) -> Reply {
         match table.get_interned(sought.form()) {
@@ -198,25 +172,19 @@ impl PackedTests for PathKind {
     fn ask_packed<R: Abort, S: HasherCount>(
         rt: &R,
         alloc: Global,
-        table: &mut TableOver<Packed<PathKind>, S>,
+        table: &mut Buffer<PathKind, S>,
         contents: &[PathContent],
         ask: Ask,
     ) -> String {
-        answer_by_forms(rt, alloc, table, forms(rt, alloc, contents), ask)
+        answer_over(rt, alloc, table, contents, ask)
     }
 
-    fn go_through_packed<R: Abort, S: HasherCount>(
-        rt: &R,
-        alloc: Global,
-        table: &TableOver<Packed<PathKind>, S>,
-        steps: Steps,
-    ) {
-        walks(rt, alloc, table.paths(), steps.contents);
-        walk_pairs(rt, alloc, table, steps.pairs);
+    fn go<R: Abort, S: HasherCount>(rt: &R, alloc: Global, table: &Buffer<Self, S>, steps: &Steps) {
+        walk_table(rt, alloc, table, table.paths(), steps);
     }
 }
 
-impl<K: PackedTests, S: HasherCount> Table for TableOver<Packed<K>, S>
+impl<K: PackedTests, S: HasherCount> Table for Buffer<K, S>
 where
     K::Owned: TestContent,
 {
@@ -235,7 +203,7 @@ where
     }
 
     fn pair(&self, alloc: Global, sought: &K::Owned) -> Reply {
-        K::packed_pair(alloc, self, sought)
+        K::pair_of(alloc, self, sought)
     }
 
     fn ask<R: Abort>(&mut self, rt: &R, alloc: Global, contents: &[K::Owned], ask: Ask) -> String {
@@ -254,16 +222,16 @@ where
         self.all_symbols()
     }
 
-    fn go<R: Abort>(&self, rt: &R, alloc: Global, steps: Steps) {
-        K::go_through_packed(rt, alloc, self, steps);
+    fn go<R: Abort>(&self, rt: &R, alloc: Global, steps: &Steps) {
+        K::go(rt, alloc, self, steps);
     }
 }
 
-impl<K: PackedTests> Made for TableOver<Packed<K>, FixedState>
+impl<K: PackedTests> Made for Buffer<K, FixedState>
 where
     K::Owned: TestContent,
 {
-    type Counting = TableOver<Packed<K>, Counted>;
+    type Counting = Buffer<K, Counted>;
 
     fn make(alloc: Global, how: Make) -> Result<Self, RoomError> {
         match how {
@@ -283,7 +251,7 @@ where
         alloc: Global,
         capacity: usize,
         hasher: Counted,
-    ) -> Result<TableOver<Packed<K>, Counted>, RoomError> {
+    ) -> Result<Buffer<K, Counted>, RoomError> {
         TableOver::with_capacity_and_hasher(alloc, capacity, hasher)
     }
 }

@@ -30,7 +30,7 @@ pub fn reply_text(rt: &impl Abort, alloc: Global, reply: &Reply) -> String {
         Reply::Spelling(Some(spelling)) => text(rt, alloc, spelling.as_slice()),
         Reply::Bool(answer) => answer.to_string(alloc).expect(rt, "memory"),
         Reply::Count(count) => number(rt, alloc, *count),
-        other => word_of(other).to_string(alloc).expect(rt, "memory"),
+        other => word(rt, alloc, word_of(other)),
     }
 }
 
@@ -46,6 +46,11 @@ pub fn symbols_text(
     }
 }
 
+/// A word as text of its own.
+pub fn word(rt: &impl Abort, alloc: Global, word: &str) -> String {
+    word.to_string(alloc).expect(rt, "memory")
+}
+
 /// A number as text.
 pub fn number(rt: &impl Abort, alloc: Global, number: usize) -> String {
     number.to_string(alloc).expect(rt, "memory")
@@ -54,7 +59,7 @@ pub fn number(rt: &impl Abort, alloc: Global, number: usize) -> String {
 /// A spelling as text: its bytes, if it isn't UTF-8.
 pub fn text(rt: &impl Abort, alloc: Global, spelling: &[u8]) -> String {
     match str::from_utf8(spelling) {
-        Ok(text) => text.to_string(alloc).expect(rt, "memory"),
+        Ok(text) => word(rt, alloc, text),
         Err(_) => format!(in alloc; "{spelling:?}").expect(rt, "memory"),
     }
 }

@@ -215,13 +215,20 @@ fn without(rt: &impl Abort, alloc: Global, lines: &[Line], place: usize) -> Vec<
 
 // The script up to the line whose result isn't that of the plain list, if there is one.
 fn differs<T: Made>(rt: &impl Abort, alloc: Global, first: Line, lines: &[Line]) -> Option<String> {
-    let limit = if first.name == "with_limit" {
-        size(rt, first.word)
-    } else {
-        4294967296
-    };
-    let plain = Plain::new(alloc, limit, T::Kind::are_paths());
-    let found = match way(rt, first) {
+    let rest = rest_that_differs::<T>(rt, alloc, first, lines)?;
+    let (name, word) = (first.name, first.word);
+    Some(format!(in alloc; "{name} {word}{rest}").expect(rt, "memory"))
+}
+
+// The same without its first line.
+fn rest_that_differs<T: Made>(
+    rt: &impl Abort,
+    alloc: Global,
+    first: Line,
+    lines: &[Line],
+) -> Option<String> {
+    let plain = Plain::new(alloc, limit(rt, first), T::Kind::ARE_PATHS);
+    match way(rt, first) {
         Some(how) => {
             let made = T::make(alloc, how).expect(rt, "no table");
             difference(rt, alloc, made, plain, lines)
@@ -230,10 +237,16 @@ fn differs<T: Made>(rt: &impl Abort, alloc: Global, first: Line, lines: &[Line])
             let made = T::make_counting(alloc, 0, Counted::new(None)).expect(rt, "no table");
             difference(rt, alloc, made, plain, lines)
         }
-    };
-    let rest = found?;
-    let (name, word) = (first.name, first.word);
-    Some(format!(in alloc; "{name} {word}{rest}").expect(rt, "memory"))
+    }
+}
+
+// The limit of a table that is made so.
+fn limit(rt: &impl Abort, first: Line) -> usize {
+    if first.name == "with_limit" {
+        size(rt, first.word)
+    } else {
+        4294967296
+    }
 }
 
 // The lines up to the one whose result isn't that of the plain list, if there is one.
@@ -246,16 +259,20 @@ fn difference<T: Table>(
 ) -> Option<String> {
     let mut script = String::new(alloc);
     for line in lines {
-        let got = answers(rt, alloc, &mut table, *line).expect(rt, line.name);
+        let got = answers(rt, alloc, &mut table, *line);
         let wanted = plain.answer(rt, alloc, *line);
-        let (name, word) = (line.name, line.word);
-        write!(script, "\n{name} {word} > {wanted}").expect(rt, "memory");
+        write_line(rt, &mut script, *line, wanted.as_str());
         if got != wanted {
             write!(script, ", and not {got}").expect(rt, "memory");
             return Some(script);
         }
     }
     None
+}
+
+fn write_line(rt: &impl Abort, script: &mut String, line: Line, wanted: &str) {
+    let (name, word) = (line.name, line.word);
+    write!(script, "\n{name} {word} > {wanted}").expect(rt, "memory");
 }
 
 #[test]

@@ -2,7 +2,7 @@
 use super::assertions::same;
 use super::contents::{TestContent, content};
 use super::printed::reply_text;
-use super::script::{Line, same_text, size, symbol};
+use super::script::{Line, line_of, same_text, size, symbol};
 use intaglio::{AddedTo, Call, FormInterner, Mark, Reply, RoomError, SpelledStore, Work, run};
 use std::alloc::Global;
 use std::process::Abort;
@@ -27,7 +27,7 @@ where
 fn agree(rt: &impl Abort, alloc: Global, script: &'static str, replies: &[Reply]) {
     same(rt, replies.len(), script.lines().count());
     for (text, reply) in script.lines().zip(replies.iter()) {
-        let line = Line::of(text).expect(rt, text);
+        let line = line_of(rt, text);
         same_text(rt, reply_text(rt, alloc, reply).as_str(), line.wanted, text);
     }
 }
@@ -40,7 +40,7 @@ pub fn calls_by_contents<C: TestContent>(
 ) -> Vec<Call<C>> {
     let mut calls = Vec::new(alloc);
     for text in script.lines() {
-        let line = Line::of(text).expect(rt, text);
+        let line = line_of(rt, text);
         push_call(
             rt,
             &mut calls,
@@ -59,7 +59,7 @@ pub fn calls_by_texts(
 ) -> Vec<Call<&'static str>> {
     let mut calls = Vec::new(alloc);
     for text in script.lines() {
-        let line = Line::of(text).expect(rt, text);
+        let line = line_of(rt, text);
         push_call(rt, &mut calls, line, line.word);
     }
     calls

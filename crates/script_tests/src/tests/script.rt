@@ -1,8 +1,8 @@
 //! Scripts: each line has a call and its expected result.
 use super::calls::Ask;
-use super::contents::{TestContent, borrowed_content, content, vec_of_one};
-use super::loops::{checks_numbers, finds_numbers, interns_numbers, keeps_numbers};
-use super::printed::reply_text;
+use super::contents::{TestContent, borrowed_content, content};
+use super::loops::{Turn, asked, makes_turns};
+use super::printed::{reply_text, word};
 use super::table::{Counts, Make, Table, Update};
 use crate::replies::counted;
 use intaglio::{Reply, Symbol};
@@ -17,13 +17,11 @@ pub struct Line {
     pub wanted: &'static str,
 }
 
-impl Line {
-    /// The parts of a line.
-    pub fn of(line: &'static str) -> Option<Line> {
-        let (call, wanted) = line.split_once(" > ")?;
-        let (name, word) = call.split_once(' ').unwrap_or((call, ""));
-        Some(Line { name, word, wanted })
-    }
+/// The parts of a line.
+pub fn line_of(rt: &impl Abort, text: &'static str) -> Line {
+    let (call, wanted) = text.split_once(" > ").expect(rt, text);
+    let (name, word) = call.split_once(' ').unwrap_or((call, ""));
+    Line { name, word, wanted }
 }
 
 /// The number that a word says.
@@ -31,9 +29,13 @@ pub fn size(rt: &impl Abort, word: &str) -> usize {
     word.parse().expect(rt, "no number")
 }
 
+fn count(rt: &impl Abort, word: &str) -> u32 {
+    word.parse().expect(rt, "no number")
+}
+
 /// The symbol that a word says.
 pub fn symbol(rt: &impl Abort, word: &str) -> Symbol {
-    Symbol::new(word.parse().expect(rt, "no number"))
+    Symbol::new(count(rt, word))
 }
 
 /// Asserts that the result is the one expected at this line.
@@ -56,25 +58,23 @@ pub fn way(rt: &impl Abort, line: Line) -> Option<Make> {
 /// Makes the calls of a script on a table.
 pub fn plays<T: Table>(rt: &impl Abort, alloc: Global, table: &mut T, script: &'static str) {
     for text in script.lines() {
-        let line = Line::of(text).expect(rt, text);
-        let answer = answers(rt, alloc, table, line).expect(rt, text);
+        let line = line_of(rt, text);
+        let answer = answers(rt, alloc, table, line);
         same_text(rt, answer.as_str(), line.wanted, text);
     }
 }
 
-/// What the table returns for one call, if there is a call of this name.
-pub fn answers<T: Table>(
-    rt: &impl Abort,
-    alloc: Global,
-    table: &mut T,
-    line: Line,
-) -> Option<String> {
+/// What the table returns for one call, or that there is no call of this name.
+pub fn answers<T: Table>(rt: &impl Abort, alloc: Global, table: &mut T, line: Line) -> String {
     if let Some(reply) = replies(rt, alloc, table, line) {
-        return Some(reply_text(rt, alloc, &reply));
+        return reply_text(rt, alloc, &reply);
     }
     if let Some(ask) = ask(rt, line) {
-        let contents = vec_of_one(rt, alloc, content(rt, alloc, line.word.as_bytes()));
-        return Some(table.ask(rt, alloc, &contents, ask));
+        return asked(rt, alloc, table, line.word.as_bytes(), ask);
+    }
+    if let Some(turn) = turn(line) {
+        makes_turns(rt, alloc, table, turn, count(rt, line.word));
+        return word(rt, alloc, "done");
     }
     batches(rt, alloc, table, line)
 }
@@ -84,14 +84,20 @@ fn replies<T: Table>(rt: &impl Abort, alloc: Global, table: &mut T, line: Line) 
         "intern" => Some(table.put(content(rt, alloc, line.word.as_bytes()))),
         "lend" => Some(table.put(borrowed_content(rt, line.word))),
         "get_interned" => Some(table.pair(alloc, &content(rt, alloc, line.word.as_bytes()))),
-        "intern_numbers" => Some(interns_numbers(rt, alloc, table, size(rt, line.word))),
-        "keep_numbers" => Some(keeps_numbers(rt, alloc, table, size(rt, line.word))),
-        "check_numbers" => Some(checks_numbers(rt, alloc, table, size(rt, line.word))),
-        "find_numbers" => Some(finds_numbers(rt, alloc, table, size(rt, line.word))),
         _ => match update(rt, line) {
             Some(update) => Some(table.update(update)),
             None => counts(rt, table.counts(), line),
         },
+    }
+}
+
+fn turn(line: Line) -> Option<Turn> {
+    match line.name {
+        "intern_numbers" => Some(Turn::Interns),
+        "keep_numbers" => Some(Turn::Keeps),
+        "check_numbers" => Some(Turn::Checks),
+        "find_numbers" => Some(Turn::Finds),
+        _ => None,
     }
 }
 
@@ -132,15 +138,15 @@ fn ask(rt: &impl Abort, line: Line) -> Option<Ask> {
     }
 }
 
-// The same for a batch of words.
-fn batches<T: Table>(rt: &impl Abort, alloc: Global, table: &mut T, line: Line) -> Option<String> {
+// What the table returns for a call by a batch of words.
+fn batches<T: Table>(rt: &impl Abort, alloc: Global, table: &mut T, line: Line) -> String {
     let words = contents(rt, alloc, line.word);
     match line.name {
-        "intern_all" => Some(table.put_all(rt, alloc, words)),
-        "intaglio::intern_all" => Some(table.put_counted(rt, alloc, words)),
-        "get_or_intern_all" => Some(table.ask(rt, alloc, &words, Ask::GetOrInternAll)),
-        "check_all" => Some(table.ask(rt, alloc, &words, Ask::CheckAll)),
-        _ => None,
+        "intern_all" => table.put_all(rt, alloc, words),
+        "intaglio::intern_all" => table.put_counted(rt, alloc, words),
+        "get_or_intern_all" => table.ask(rt, alloc, &words, Ask::GetOrInternAll),
+        "check_all" => table.ask(rt, alloc, &words, Ask::CheckAll),
+        _ => word(rt, alloc, "no such call"),
     }
 }
 

@@ -1,6 +1,6 @@
 //! Scripts for iterators: each line has a step and its expected result.
 use super::contents::Shown;
-use super::printed::{number, numbered, text};
+use super::printed::{number, numbered, text, word};
 use super::script::same_text;
 use intaglio::{AllSymbols, Content, Forms, Lends, Pairs, Symbol, TableOver};
 use std::alloc::Global;
@@ -9,67 +9,68 @@ use test_hashers::builders::HasherCount;
 
 /// Scripts whose lines have the steps on an iterator and their expected results.
 #[derive(Clone, Copy)]
-pub struct Steps {
+pub struct Steps<'s> {
     /// Those of `all_symbols`.
-    pub symbols: &'static str,
+    pub symbols: &'s str,
     /// Those of the iterator of contents.
-    pub contents: &'static str,
+    pub contents: &'s str,
     /// Those of `iter`, and of the table itself.
-    pub pairs: &'static str,
+    pub pairs: &'s str,
 }
+
+// What a step of another name returns, which no script expects.
+const NO_STEP: &str = "no such step";
 
 /// An iterator on which steps are made by name.
 pub trait Walk: Drop {
-    /// What the step of this name returns.
-    fn step<R: Abort>(&mut self, rt: &R, alloc: Global, name: &str) -> Option<String>;
+    /// What the step of this name returns, or that there is none.
+    fn step<R: Abort>(&mut self, rt: &R, alloc: Global, name: &str) -> String;
 }
 
 /// Makes the steps of a script.
 pub fn walks<W: Walk>(rt: &impl Abort, alloc: Global, mut walked: W, script: &str) {
     for line in script.lines() {
         let (step, wanted) = line.split_once(" > ").expect(rt, line);
-        let answer = walked.step(rt, alloc, step).expect(rt, line);
+        let answer = walked.step(rt, alloc, step);
         same_text(rt, answer.as_str(), wanted, line);
     }
 }
 
-/// Makes the steps on the iterator of symbols and forms of a table.
-pub fn walk_pairs<'a, L: Lends<'a>, S: HasherCount>(
+/// Makes the steps on the iterators of a table, one of which is given.
+pub fn walk_table<'a, L: Lends<'a>, S: HasherCount>(
     rt: &impl Abort,
     alloc: Global,
     table: &'a TableOver<L, S>,
-    pairs: &str,
+    forms: Forms<'a, L>,
+    steps: &Steps,
 )
 where
     L::Content: Content,
     L::Form: Shown,
 {
-    walks(rt, alloc, table.iter(), pairs);
-    walks(rt, alloc, table.into_iter(), pairs);
-}
-
-fn none(rt: &impl Abort, alloc: Global) -> String {
-    "none".to_string(alloc).expect(rt, "memory")
+    walks(rt, alloc, forms, steps.contents);
+    walks(rt, alloc, table.iter(), steps.pairs);
+    walks(rt, alloc, table.into_iter(), steps.pairs);
 }
 
 fn symbol_said(rt: &impl Abort, alloc: Global, symbol: Option<Symbol>) -> String {
     match symbol {
         Some(symbol) => number(rt, alloc, symbol.id() as usize),
-        None => none(rt, alloc),
+        None => word(rt, alloc, "none"),
     }
 }
 
 fn form_said<F: Shown>(rt: &impl Abort, alloc: Global, form: Option<F>) -> String {
     match form {
         Some(form) => text(rt, alloc, form.bytes()),
-        None => none(rt, alloc),
+        None => word(rt, alloc, "none"),
     }
 }
 
 fn pair_said<F: Shown>(rt: &impl Abort, alloc: Global, pair: Option<(Symbol, F)>) -> String {
     match pair {
         Some((symbol, form)) => numbered(rt, alloc, symbol, form.bytes()),
-        None => none(rt, alloc),
+        None => word(rt, alloc, "none"),
     }
 }
 
@@ -78,13 +79,13 @@ fn hint_said(rt: &impl Abort, alloc: Global, hint: (usize, Option<usize>)) -> St
 }
 
 impl<'a> Walk for AllSymbols<'a> {
-    fn step<R: Abort>(&mut self, rt: &R, alloc: Global, name: &str) -> Option<String> {
+    fn step<R: Abort>(&mut self, rt: &R, alloc: Global, name: &str) -> String {
         match name {
-            "next" => Some(symbol_said(rt, alloc, self.next())),
-            "next_back" => Some(symbol_said(rt, alloc, self.next_back())),
-            "nth_back(2)" => Some(symbol_said(rt, alloc, self.nth_back(2))),
-            "size_hint" => Some(hint_said(rt, alloc, self.size_hint())),
-            _ => None,
+            "next" => symbol_said(rt, alloc, self.next()),
+            "next_back" => symbol_said(rt, alloc, self.next_back()),
+            "nth_back(2)" => symbol_said(rt, alloc, self.nth_back(2)),
+            "size_hint" => hint_said(rt, alloc, self.size_hint()),
+            _ => word(rt, alloc, NO_STEP),
         }
     }
 }
@@ -94,14 +95,14 @@ where
     L::Content: Content,
     L::Form: Shown,
 {
-    fn step<R: Abort>(&mut self, rt: &R, alloc: Global, name: &str) -> Option<String> {
+    fn step<R: Abort>(&mut self, rt: &R, alloc: Global, name: &str) -> String {
         match name {
-            "next" => Some(form_said(rt, alloc, self.next())),
-            "next_back" => Some(form_said(rt, alloc, self.next_back())),
-            "nth_back(2)" => Some(form_said(rt, alloc, self.nth_back(2))),
-            "size_hint" => Some(hint_said(rt, alloc, self.size_hint())),
-            "len" => Some(number(rt, alloc, self.len())),
-            _ => None,
+            "next" => form_said(rt, alloc, self.next()),
+            "next_back" => form_said(rt, alloc, self.next_back()),
+            "nth_back(2)" => form_said(rt, alloc, self.nth_back(2)),
+            "size_hint" => hint_said(rt, alloc, self.size_hint()),
+            "len" => number(rt, alloc, self.len()),
+            _ => word(rt, alloc, NO_STEP),
         }
     }
 }
@@ -111,11 +112,11 @@ where
     L::Content: Content,
     L::Form: Shown,
 {
-    fn step<R: Abort>(&mut self, rt: &R, alloc: Global, name: &str) -> Option<String> {
+    fn step<R: Abort>(&mut self, rt: &R, alloc: Global, name: &str) -> String {
         match name {
-            "next" => Some(pair_said(rt, alloc, self.next())),
-            "size_hint" => Some(hint_said(rt, alloc, self.size_hint())),
-            _ => None,
+            "next" => pair_said(rt, alloc, self.next()),
+            "size_hint" => hint_said(rt, alloc, self.size_hint()),
+            _ => word(rt, alloc, NO_STEP),
         }
     }
 }

@@ -53,7 +53,7 @@ pub trait Table: Drop {
     fn symbols(&self) -> AllSymbols<'_>;
 
     /// Makes the steps on the other iterators.
-    fn go<R: Abort>(&self, rt: &R, alloc: Global, steps: Steps);
+    fn go<R: Abort>(&self, rt: &R, alloc: Global, steps: &Steps);
 }
 
 impl<C: TestContent, S: HasherCount> Table for intaglio::Table<C, S> {
@@ -92,8 +92,8 @@ impl<C: TestContent, S: HasherCount> Table for intaglio::Table<C, S> {
         self.all_symbols()
     }
 
-    fn go<R: Abort>(&self, rt: &R, alloc: Global, steps: Steps) {
-        C::go_through(rt, alloc, self, steps);
+    fn go<R: Abort>(&self, rt: &R, alloc: Global, steps: &Steps) {
+        C::go(rt, alloc, self, steps);
     }
 }
 
