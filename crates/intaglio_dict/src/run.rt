@@ -29,8 +29,8 @@ pub fn run<R: Files + RandomSource + Input + Print + Eprint + AllocGlobal>(
     }
 }
 
-// Runs the subcommand with this name. (Over pairs of a name and its arguments, the proof of the match takes five
-// times as long.)
+// Runs the subcommand with this name. Over pairs of a name and its arguments, the proof of the match takes
+// five times as long.
 fn run_subcommand<R: Files + RandomSource + Input + Print + Eprint + AllocGlobal>(
     rt: &R,
     name: &str,
