@@ -13,147 +13,86 @@ fn numbers_are_kept(rt: HostRuntime) {
     same(&rt, DEFAULT_SYMBOL_TABLE_CAPACITY, 4096);
 }
 
-// Asserts that all of these are the symbol with this number.
-fn are(rt: &impl Abort, symbols: &[Symbol], number: u32) {
-    for symbol in symbols {
-        same(rt, symbol.id(), number);
-    }
+fn is(rt: &impl Abort, symbol: Symbol, number: u32) {
+    same(rt, symbol.id(), number);
 }
 
-type Converted = Result<Symbol, SymbolOverflowError>;
-
-fn give(rt: &impl Abort, symbols: &[Converted], number: u32) {
-    for symbol in symbols {
-        holds(rt, *symbol == Ok(Symbol::new(number)));
-    }
+fn gives(rt: &impl Abort, symbol: Result<Symbol, SymbolOverflowError>, number: u32) {
+    holds(rt, symbol == Ok(Symbol::new(number)));
 }
 
-fn are_refused(rt: &impl Abort, symbols: &[Converted]) {
-    for symbol in symbols {
-        holds(rt, *symbol == Err(SymbolOverflowError::new()));
-    }
+fn refused(rt: &impl Abort, symbol: Result<Symbol, SymbolOverflowError>) {
+    holds(rt, symbol == Err(SymbolOverflowError::new()));
 }
 
 #[test]
 fn symbol_from_primitive(rt: HostRuntime) {
-    are(
-        &rt,
-        &[Symbol::from(0u8), Symbol::from(0u16), Symbol::from(0u32)],
-        0,
-    );
-    are(
-        &rt,
-        &[Symbol::from(17u8), Symbol::from(17u16), Symbol::from(17u32)],
-        17,
-    );
-    give(&rt, &[Symbol::try_from(0u64), Symbol::try_from(0usize)], 0);
-    give(
-        &rt,
-        &[Symbol::try_from(17u64), Symbol::try_from(17usize)],
-        17,
-    );
-    let most = [
-        Symbol::try_from(4294967295u64),
-        Symbol::try_from(4294967295usize),
-    ];
-    give(&rt, &most, 4294967295);
-    are_refused(
-        &rt,
-        &[Symbol::try_from(4294967296u64), Symbol::try_from(u64::MAX)],
-    );
-    are_refused(
-        &rt,
-        &[
-            Symbol::try_from(4294967296usize),
-            Symbol::try_from(usize::MAX),
-        ],
-    );
+    is(&rt, Symbol::from(0u8), 0);
+    is(&rt, Symbol::from(17u8), 17);
+    is(&rt, Symbol::from(0u16), 0);
+    is(&rt, Symbol::from(17u16), 17);
+    is(&rt, Symbol::from(0u32), 0);
+    is(&rt, Symbol::from(17u32), 17);
+    gives(&rt, Symbol::try_from(0u64), 0);
+    gives(&rt, Symbol::try_from(17u64), 17);
+    gives(&rt, Symbol::try_from(4294967295u64), 4294967295);
+    gives(&rt, Symbol::try_from(0usize), 0);
+    gives(&rt, Symbol::try_from(17usize), 17);
+    gives(&rt, Symbol::try_from(4294967295usize), 4294967295);
+    refused(&rt, Symbol::try_from(4294967296u64));
+    refused(&rt, Symbol::try_from(u64::MAX));
+    refused(&rt, Symbol::try_from(4294967296usize));
+    refused(&rt, Symbol::try_from(usize::MAX));
 }
 
 #[test]
 fn symbol_from_primitive_ref(rt: HostRuntime) {
-    are(
-        &rt,
-        &[Symbol::from(&0u8), Symbol::from(&0u16), Symbol::from(&0u32)],
-        0,
-    );
-    are(
-        &rt,
-        &[
-            Symbol::from(&17u8),
-            Symbol::from(&17u16),
-            Symbol::from(&17u32),
-        ],
-        17,
-    );
-    give(
-        &rt,
-        &[Symbol::try_from(&0u64), Symbol::try_from(&0usize)],
-        0,
-    );
-    give(
-        &rt,
-        &[Symbol::try_from(&17u64), Symbol::try_from(&17usize)],
-        17,
-    );
-    are_refused(
-        &rt,
-        &[
-            Symbol::try_from(&4294967296u64),
-            Symbol::try_from(&u64::MAX),
-        ],
-    );
-    are_refused(
-        &rt,
-        &[
-            Symbol::try_from(&4294967296usize),
-            Symbol::try_from(&usize::MAX),
-        ],
-    );
+    is(&rt, Symbol::from(&0u8), 0);
+    is(&rt, Symbol::from(&17u8), 17);
+    is(&rt, Symbol::from(&0u16), 0);
+    is(&rt, Symbol::from(&17u16), 17);
+    is(&rt, Symbol::from(&0u32), 0);
+    is(&rt, Symbol::from(&17u32), 17);
+    gives(&rt, Symbol::try_from(&0u64), 0);
+    gives(&rt, Symbol::try_from(&17u64), 17);
+    gives(&rt, Symbol::try_from(&0usize), 0);
+    gives(&rt, Symbol::try_from(&17usize), 17);
+    refused(&rt, Symbol::try_from(&4294967296u64));
+    refused(&rt, Symbol::try_from(&u64::MAX));
+    refused(&rt, Symbol::try_from(&4294967296usize));
+    refused(&rt, Symbol::try_from(&usize::MAX));
 }
 
 #[test]
 fn symbol_from_nonzero(rt: HostRuntime) {
-    let small = [
-        Symbol::from(NonZeroU8::new(17).unwrap()),
-        Symbol::from(NonZeroU16::new(17).unwrap()),
-        Symbol::from(NonZeroU32::new(17).unwrap()),
-    ];
-    are(&rt, &small, 17);
-    let large = [
-        Symbol::try_from(NonZeroU64::new(17).unwrap()),
-        Symbol::try_from(NonZeroUsize::new(17).unwrap()),
-    ];
-    give(&rt, &large, 17);
-    let too_large = [
-        Symbol::try_from(NonZeroU64::new(4294967296).unwrap()),
-        Symbol::try_from(NonZeroU64::MAX),
+    is(&rt, Symbol::from(NonZeroU8::new(17).unwrap()), 17);
+    is(&rt, Symbol::from(NonZeroU16::new(17).unwrap()), 17);
+    is(&rt, Symbol::from(NonZeroU32::new(17).unwrap()), 17);
+    gives(&rt, Symbol::try_from(NonZeroU64::new(17).unwrap()), 17);
+    gives(&rt, Symbol::try_from(NonZeroUsize::new(17).unwrap()), 17);
+    refused(&rt, Symbol::try_from(NonZeroU64::new(4294967296).unwrap()));
+    refused(&rt, Symbol::try_from(NonZeroU64::MAX));
+    refused(
+        &rt,
         Symbol::try_from(NonZeroUsize::new(4294967296).unwrap()),
-        Symbol::try_from(NonZeroUsize::MAX),
-    ];
-    are_refused(&rt, &too_large);
+    );
+    refused(&rt, Symbol::try_from(NonZeroUsize::MAX));
 }
 
 #[test]
 fn symbol_from_nonzero_ref(rt: HostRuntime) {
-    let small = [
-        Symbol::from(&NonZeroU8::new(17).unwrap()),
-        Symbol::from(&NonZeroU16::new(17).unwrap()),
-        Symbol::from(&NonZeroU32::new(17).unwrap()),
-    ];
-    are(&rt, &small, 17);
-    let large = [
-        Symbol::try_from(&NonZeroU64::new(17).unwrap()),
-        Symbol::try_from(&NonZeroUsize::new(17).unwrap()),
-    ];
-    give(&rt, &large, 17);
-    let too_large = [
-        Symbol::try_from(&NonZeroU64::new(4294967296).unwrap()),
-        Symbol::try_from(&NonZeroU64::MAX),
+    is(&rt, Symbol::from(&NonZeroU8::new(17).unwrap()), 17);
+    is(&rt, Symbol::from(&NonZeroU16::new(17).unwrap()), 17);
+    is(&rt, Symbol::from(&NonZeroU32::new(17).unwrap()), 17);
+    gives(&rt, Symbol::try_from(&NonZeroU64::new(17).unwrap()), 17);
+    gives(&rt, Symbol::try_from(&NonZeroUsize::new(17).unwrap()), 17);
+    refused(&rt, Symbol::try_from(&NonZeroU64::new(4294967296).unwrap()));
+    refused(&rt, Symbol::try_from(&NonZeroU64::MAX));
+    refused(
+        &rt,
         Symbol::try_from(&NonZeroUsize::new(4294967296).unwrap()),
-        Symbol::try_from(&NonZeroUsize::MAX),
-    ];
-    are_refused(&rt, &too_large);
+    );
+    refused(&rt, Symbol::try_from(&NonZeroUsize::MAX));
 }
 
 fn has_id(rt: &impl Abort, number: u32) {
