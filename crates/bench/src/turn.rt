@@ -70,21 +70,40 @@ fn single_calls<R: Print + Clock + AllocGlobal, T: WordTable>(
     table: &mut T,
     plan: Plan,
 ) -> Result<()> {
-    let alloc = rt.alloc();
-    let shuffled = shuffled_numbers(alloc, plan)?;
-    let fresh = words(alloc, &numbers(alloc, 0, plan.size)?)?;
+    let shuffled = shuffled_numbers(rt.alloc(), plan)?;
+    let fresh = first_words(rt.alloc(), plan)?;
     measure(rt, table, plan, "new", Operation::Intern(fresh))?;
-    let known = words(alloc, &shuffled)?;
+    let known = words(rt.alloc(), &shuffled)?;
+    call_on_known(rt, table, plan, known)?;
+    let absent = other_words(rt.alloc(), plan)?;
+    measure(rt, table, plan, "miss", Operation::LookUp(&absent))?;
+    read_and_clear(rt, table, plan, &shuffled)?;
+    measure(rt, table, plan, "refill", Operation::Intern(absent))
+}
+
+// The single calls on words that are there.
+fn call_on_known<R: Print + Clock + AllocGlobal, T: WordTable>(
+    rt: &R,
+    table: &mut T,
+    plan: Plan,
+    known: Vec<String>,
+) -> Result<()> {
     measure(rt, table, plan, "hit", Operation::LookUp(&known))?;
     measure(rt, table, plan, "borrowed", Operation::GetOrIntern(&known))?;
-    measure(rt, table, plan, "again", Operation::Intern(known))?;
-    let absent = other_words(alloc, plan)?;
-    measure(rt, table, plan, "miss", Operation::LookUp(&absent))?;
-    measure(rt, table, plan, "get", Operation::Get(&shuffled))?;
-    measure(rt, table, plan, "read", Operation::Read(&shuffled))?;
+    measure(rt, table, plan, "again", Operation::Intern(known))
+}
+
+// What is read by symbols and by iterators, and a clear.
+fn read_and_clear<R: Print + Clock + AllocGlobal, T: WordTable>(
+    rt: &R,
+    table: &mut T,
+    plan: Plan,
+    numbers: &[u32],
+) -> Result<()> {
+    measure(rt, table, plan, "get", Operation::Get(numbers))?;
+    measure(rt, table, plan, "read", Operation::Read(numbers))?;
     measure(rt, table, plan, "iterate", Operation::Iterate)?;
-    measure(rt, table, plan, "clear", Operation::Clear)?;
-    measure(rt, table, plan, "refill", Operation::Intern(absent))
+    measure(rt, table, plan, "clear", Operation::Clear)
 }
 
 // The same operations in batches, as far as there is a call that takes a batch.
@@ -93,10 +112,22 @@ fn batches<R: Print + Clock + AllocGlobal, T: WordTable>(
     table: &mut T,
     plan: Plan,
 ) -> Result<()> {
-    let alloc = rt.alloc();
-    let fresh = words(alloc, &numbers(alloc, 0, plan.size)?)?;
+    let fresh = first_words(rt.alloc(), plan)?;
     measure(rt, table, plan, "new", Operation::InternBatches(fresh))?;
-    let known = words(alloc, &shuffled_numbers(alloc, plan)?)?;
+    let known = shuffled_words(rt.alloc(), plan)?;
+    call_on_known_in_batches(rt, table, plan, known)?;
+    let absent = other_words(rt.alloc(), plan)?;
+    measure(rt, table, plan, "miss", Operation::LookUpBatches(&absent))?;
+    table.clear();
+    measure(rt, table, plan, "refill", Operation::InternBatches(absent))
+}
+
+fn call_on_known_in_batches<R: Print + Clock + AllocGlobal, T: WordTable>(
+    rt: &R,
+    table: &mut T,
+    plan: Plan,
+    known: Vec<String>,
+) -> Result<()> {
     measure(rt, table, plan, "hit", Operation::LookUpBatches(&known))?;
     measure(
         rt,
@@ -105,11 +136,16 @@ fn batches<R: Print + Clock + AllocGlobal, T: WordTable>(
         "borrowed",
         Operation::GetOrInternBatches(&known),
     )?;
-    measure(rt, table, plan, "again", Operation::InternBatches(known))?;
-    let absent = other_words(alloc, plan)?;
-    measure(rt, table, plan, "miss", Operation::LookUpBatches(&absent))?;
-    table.clear();
-    measure(rt, table, plan, "refill", Operation::InternBatches(absent))
+    measure(rt, table, plan, "again", Operation::InternBatches(known))
+}
+
+/// All words, in the order of their numbers.
+pub fn first_words(alloc: Global, plan: Plan) -> Result<Vec<String>, AllocError> {
+    words(alloc, &numbers(alloc, 0, plan.size)?)
+}
+
+fn shuffled_words(alloc: Global, plan: Plan) -> Result<Vec<String>, AllocError> {
+    words(alloc, &shuffled_numbers(alloc, plan)?)
 }
 
 /// The numbers of all words, in an order that looks random.
@@ -161,7 +197,7 @@ pub fn hash_alone<R: Print + Clock + AllocGlobal, T: WordTable>(
     table: &mut T,
     plan: Plan,
 ) -> Result<()> {
-    let fresh = words(rt.alloc(), &numbers(rt.alloc(), 0, plan.size)?)?;
+    let fresh = first_words(rt.alloc(), plan)?;
     measure(rt, table, plan, "hash", Operation::Hash(&fresh))
 }
 
@@ -171,7 +207,7 @@ pub fn copy<R: Print + Clock + AllocGlobal, T: WordTable>(
     table: &mut T,
     plan: Plan,
 ) -> Result<()> {
-    let fresh = words(rt.alloc(), &numbers(rt.alloc(), 0, plan.size)?)?;
+    let fresh = first_words(rt.alloc(), plan)?;
     measure(rt, table, plan, "copied", Operation::GetOrIntern(&fresh))
 }
 
@@ -182,14 +218,25 @@ pub fn hold<R: Print + Input + AllocGlobal, T: WordTable>(
     table: &mut T,
     plan: Plan,
 ) -> Result<()> {
+    let bytes = fill(rt.alloc(), table, plan)?;
+    let count = table.len();
+    println!(rt; "held {count} {bytes}")?;
+    wait_for_end(rt)
+}
+
+// Interns words made one at a time, and returns how many bytes they have.
+fn fill<T: WordTable>(alloc: Global, table: &mut T, plan: Plan) -> Result<u64> {
     let mut bytes = 0u64;
     for number in 0..plan.size {
-        let text = word(rt.alloc(), number)?;
+        let text = word(alloc, number)?;
         bytes = bytes.wrapping_add(text.len() as u64);
         table.intern_word(text)?;
     }
-    let count = table.len();
-    println!(rt; "held {count} {bytes}")?;
+    Ok(bytes)
+}
+
+// Returns when the input ends.
+fn wait_for_end<R: Input + AllocGlobal>(rt: &R) -> Result<()> {
     for line in rt.lines(rt.alloc()) {
         let _ = line?;
     }

@@ -11,20 +11,23 @@ const SALES: &str = "ada tea\nbob coffee\nada milk\ncleo tea\n";
 
 const TOWNS: &str = "cleo Paris\nada London\ndan Rome\n";
 
-// The lines as rows, each a key, a blank and a value: the symbols of the keys, and the values.
+// A line: the symbol of its key, and its value.
+type Row<'a> = (Symbol, &'a str);
+
+// The lines as rows, each a key, a blank and a value.
 fn rows_of<'a>(
     alloc: Global,
     keys: &mut SymbolTable,
     lines: &'a str,
-) -> Result<(Vec<Symbol>, Vec<&'a str>), TableError> {
-    let mut symbols = Vec::new(alloc);
-    let mut values = Vec::new(alloc);
+) -> Result<Vec<Row<'a>>, TableError> {
+    let mut rows = Vec::new(alloc);
     for line in lines.lines() {
         let (key, value) = line.split_once(' ').unwrap_or((line, ""));
-        symbols.push(keys.get_or_intern(key)?)?;
-        values.push(value)?;
+        let symbol = keys.get_or_intern(key)?;
+        rows.reserve(1)?;
+        rows.push_reserved((symbol, value));
     }
-    Ok((symbols, values))
+    Ok(rows)
 }
 
 fn print_pair(rt: &impl Print, key: &str, value: &str, other: &str) -> Result<()> {
@@ -40,11 +43,11 @@ fn print_sale(
     symbols: &[Option<Symbol>],
     customer: Symbol,
     item: &str,
-    towns: &(Vec<Symbol>, Vec<&str>),
+    towns: &[Row<'_>],
 ) -> Result<()>
     requires { symbols.now ≡ found_in customers.now.state people.now.state }
 {
-    for (person, town) in towns.0.iter().zip(&towns.1) {
+    for (person, town) in towns {
         if have_same_text(customers, people, symbols, customer, *person) {
             let key = customers.get(customer);
             let same = people.get(*person);
@@ -60,11 +63,11 @@ fn print_sales(
     rt: &(impl Print + AllocGlobal),
     customers: &SymbolTable,
     people: &SymbolTable,
-    sales: &(Vec<Symbol>, Vec<&str>),
-    towns: &(Vec<Symbol>, Vec<&str>),
+    sales: &[Row<'_>],
+    towns: &[Row<'_>],
 ) -> Result<()> {
     let symbols = symbols_in(rt.alloc(), customers, people)?;
-    for (customer, item) in sales.0.iter().zip(&sales.1) {
+    for (customer, item) in sales {
         print_sale(rt, customers, people, &symbols, *customer, *item, towns)?;
     }
     Ok(())

@@ -1,7 +1,9 @@
 //! Prints the words of a text with their counts.
+ghost use Rattle.std.specs.Prelude.{◌≡◌, length};
+
 use crate::words::{count_of, count_word, count_words};
 use anyhow::Result;
-use intaglio::SymbolTable;
+use intaglio::{SymbolTable, TableError};
 
 const TEXT: &str = "to be or not to be\nthat is the question\n";
 
@@ -25,16 +27,20 @@ pub fn print_words(rt: &(impl Print + AllocGlobal)) -> Result<()> {
     count_words(&mut texts, &mut counts, TEXT)?;
     print_counts(rt, &texts, &counts)?;
 
-    let (be, not) = (
-        count_of(&texts, &counts, "be"),
-        count_of(&texts, &counts, "not"),
-    );
-    count_word(&mut texts, &mut counts, "be")?;
-    let (more, same) = (
-        count_of(&texts, &counts, "be"),
-        count_of(&texts, &counts, "not"),
-    );
+    let more = count_once_more(&mut texts, &mut counts)?;
+    print_count(rt, "be", more)
+}
+
+// Counts `be` once more, and returns its count.
+fn count_once_more(texts: &mut SymbolTable, counts: &mut Vec<u64>) -> Result<u64, TableError>
+    requires beside { length counts.old.items ≡ length texts.old.state.contents }
+{
+    let be = count_of(texts, counts, "be");
+    let not = count_of(texts, counts, "not");
+    count_word(texts, counts, "be")?;
+    let more = count_of(texts, counts, "be");
+    let same = count_of(texts, counts, "not");
     prove!(more == u64::saturating_add(be, 1));
     prove!(same == not);
-    print_count(rt, "be", more)
+    Ok(more)
 }

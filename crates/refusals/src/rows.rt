@@ -41,6 +41,10 @@ fn intern_again(rt: &impl Eprint, table: &mut SymbolTable) -> Result<(), Fault> 
 /// Makes three tables. From the line `none` on, it makes only calls that allocate nothing.
 pub fn without_memory(rt: &(impl Eprint + AllocGlobal)) -> Result<(), Fault> {
     let mut tables = Tables::make(rt.alloc())?;
+    fill_and_take(rt, &mut tables)
+}
+
+fn fill_and_take(rt: &(impl Eprint + AllocGlobal), tables: &mut Tables) -> Result<(), Fault> {
     let owned = "abc".to_string(rt.alloc())?;
     let is_filled = tables.fill();
     tell(rt, "table", 0);
@@ -69,9 +73,7 @@ impl Tables {
     }
 
     fn fill(&mut self) -> bool {
-        is_symbol(self.roomy.intern(StrContent::from("abc")), 0)
-            && self.roomy.reserve(10).is_ok()
-            && self.roomy.capacity() >= 11
+        makes_room(&mut self.roomy)
             && is_symbol(self.usual.intern(StrContent::from("abc")), 0)
             && interns(&mut self.equal, &EQUAL, 0)
     }
@@ -80,10 +82,22 @@ impl Tables {
         interns(&mut self.roomy, &NEW, 1)
             && is_symbol(self.usual.intern(owned), 0)
             && lends(&self.usual, "abc", 0)
-            && self.equal.take_back(Mark::new(4)).is_ok()
-            && self.equal.capacity() == 4096
-            && finds_first(&self.equal, &EQUAL, 4)
+            && keeps_four(&mut self.equal)
     }
+}
+
+// Interns a text, and reserves for ten more.
+fn makes_room(table: &mut SymbolTable) -> bool {
+    is_symbol(table.intern(StrContent::from("abc")), 0)
+        && table.reserve(10).is_ok()
+        && table.capacity() >= 11
+}
+
+// Takes back all but the first four of the texts with equal hashes.
+fn keeps_four(table: &mut SymbolTable<Counted>) -> bool {
+    table.take_back(Mark::new(4)).is_ok()
+        && table.capacity() == 4096
+        && finds_first(table, &EQUAL, 4)
 }
 
 fn made<T, E: Drop>(table: Result<T, E>) -> Result<T, Fault> {

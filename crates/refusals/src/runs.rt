@@ -23,16 +23,25 @@ pub fn watch<C: Stored>(
     calls: Calls,
 ) -> Result<(), Fault> {
     let mut checked = CheckedTable::<C>::start(rt, style)?;
-    let is_right = match calls {
-        Calls::Plain => fill(rt, &mut checked, style) && make_calls(rt, &mut checked),
-        Calls::Cut => {
-            fill(rt, &mut checked, style)
-                && checked.change(rt, Update::TakeBack(10))
-                && make_calls(rt, &mut checked)
-        }
-        Calls::NoMemory => no_memory(rt, &mut checked),
-    };
+    let is_right = make(rt, &mut checked, style, calls);
     checked.answer(is_right)
+}
+
+fn make<C: Stored>(
+    rt: &(impl Eprint + AllocGlobal),
+    checked: &mut CheckedTable<C>,
+    style: CallStyle,
+    calls: Calls,
+) -> bool {
+    match calls {
+        Calls::Plain => fill(rt, checked, style) && make_calls(rt, checked),
+        Calls::Cut => {
+            fill(rt, checked, style)
+                && checked.change(rt, Update::TakeBack(10))
+                && make_calls(rt, checked)
+        }
+        Calls::NoMemory => no_memory(rt, checked),
+    }
 }
 
 // Twenty contents into an empty table; a run looks them up again.

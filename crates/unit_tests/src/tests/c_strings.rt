@@ -7,28 +7,30 @@ use std::process::Abort;
 const MISSING: Result<&[u8], CStrError> = Err(CStrError::MissingZero);
 
 fn reads(bytes: &[u8], wanted: Result<&[u8], CStrError>) -> bool {
-    match (CStr::from_bytes_with_nul(bytes), wanted) {
-        (Ok(found), Ok(spelling)) => {
-            *found.to_bytes() == *spelling && *found.to_bytes_with_nul() == *bytes
-        }
-        (Err(found), Err(error)) => found == error,
-        _ => false,
+    match CStr::from_bytes_with_nul(bytes) {
+        Ok(found) => wanted == Ok(found.to_bytes()) && found.to_bytes_with_nul() == bytes,
+        Err(error) => wanted == Err(error),
     }
 }
 
-fn takes(bytes: Vec<u8>, wanted: Result<&[u8], CStrError>) -> bool {
-    match (CString::from_vec_with_nul(bytes), wanted) {
-        (Ok(found), Ok(spelling)) => *found.as_c_str().to_bytes() == *spelling,
-        (Err(found), Err(error)) => found == error,
-        _ => false,
+fn takes(alloc: Global, bytes: &[u8], wanted: Result<&[u8], CStrError>) -> bool {
+    let Ok(owned) = bytes.to_vec(alloc) else {
+        return false;
+    };
+    match CString::from_vec_with_nul(owned) {
+        Ok(found) => wanted == Ok(found.as_c_str().to_bytes()),
+        Err(error) => wanted == Err(error),
     }
 }
 
-fn makes(alloc: Global, bytes: Vec<u8>, wanted: Result<&[u8], usize>) -> bool {
-    match (CString::new(alloc, bytes), wanted) {
-        (Ok(found), Ok(ended)) => *found.as_c_str().to_bytes_with_nul() == *ended,
-        (Err(CStringError::InnerZero(found)), Err(place)) => found == place,
-        _ => false,
+fn makes(alloc: Global, bytes: &[u8], wanted: Result<&[u8], usize>) -> bool {
+    let Ok(owned) = bytes.to_vec(alloc) else {
+        return false;
+    };
+    match CString::new(alloc, owned) {
+        Ok(found) => wanted == Ok(found.as_c_str().to_bytes_with_nul()),
+        Err(CStringError::InnerZero(place)) => wanted == Err(place),
+        Err(CStringError::Memory(_)) => false,
     }
 }
 
@@ -42,11 +44,8 @@ fn agrees(
     made: Result<&[u8], usize>,
 ) {
     holds(rt, reads(bytes, read));
-    holds(rt, takes(bytes.to_vec(alloc).expect(rt, "memory"), read));
-    holds(
-        rt,
-        makes(alloc, bytes.to_vec(alloc).expect(rt, "memory"), made),
-    );
+    holds(rt, takes(alloc, bytes, read));
+    holds(rt, makes(alloc, bytes, made));
 }
 
 // Bytes, what `from_bytes_with_nul` returns, and what `new` does.

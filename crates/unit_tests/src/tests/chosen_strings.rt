@@ -36,24 +36,26 @@ fn hash_of(bytes: &[u8]) -> u64 {
     hasher.finish()
 }
 
+// Asserts that the bytes have these keys and this hash.
+fn has(rt: &impl Abort, bytes: &[u8], keys: (u64, u64), hash: u64) {
+    let header = Header::read(bytes).expect(rt, "no header");
+    same(rt, (header.key0, header.key1), keys);
+    same(rt, hash_of(bytes), hash);
+}
+
 #[test]
 fn the_first_keys_that_serve_are_taken(rt: HostRuntime) {
     let table = of_words(&rt, rt.alloc(), UNDER_ONE);
     let bytes = freeze(rt.alloc(), &table, Kind::Bytes, 0, 0).expect(&rt, "not frozen");
-    let header = Header::read(&bytes).expect(&rt, "no header");
-    same(&rt, header.key0, 1);
-    same(&rt, header.key1, 0);
-    same(&rt, hash_of(&bytes), 13_321_550_753_116_863_131);
+    has(&rt, &bytes, (1, 0), 13_321_550_753_116_863_131);
 }
 
 #[test]
 fn keys_are_drawn_from_strings_after_the_first_eight(rt: HostRuntime) {
     let table = of_words(&rt, rt.alloc(), UNDER_EIGHT);
     let bytes = freeze_with_default_keys(rt.alloc(), &table, Kind::Bytes).expect(&rt, "not frozen");
-    let header = Header::read(&bytes).expect(&rt, "no header");
-    same(&rt, header.key0, 10_087_741_285_488_634_726);
-    same(&rt, header.key1, 4_955_475_991_202_912_833);
-    same(&rt, hash_of(&bytes), 2_372_016_649_126_576_846);
+    let keys = (10_087_741_285_488_634_726, 4_955_475_991_202_912_833);
+    has(&rt, &bytes, keys, 2_372_016_649_126_576_846);
 }
 
 #[test]

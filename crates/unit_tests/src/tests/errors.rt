@@ -33,14 +33,18 @@ fn error_texts(rt: HostRuntime) {
 #[test]
 fn a_table_error_prints_what_it_holds(rt: HostRuntime) {
     let full = InternError::from(SymbolOverflowError::new());
-    prints(
-        &rt,
-        TableError::from(RoomError::CapacityOverflow),
-        "capacity overflow",
-    );
-    prints(&rt, TableError::from(full), "Symbol overflow");
-    prints(&rt, TableError::from(StaleMark::new()), "stale mark");
-    prints(&rt, TableError::from(AllocError), "out of memory");
+    let errors = [
+        (
+            TableError::from(RoomError::CapacityOverflow),
+            "capacity overflow",
+        ),
+        (TableError::from(full), "Symbol overflow"),
+        (TableError::from(StaleMark::new()), "stale mark"),
+        (TableError::from(AllocError), "out of memory"),
+    ];
+    for (error, text) in errors {
+        prints(&rt, error, text);
+    }
     same(&rt, TableError::from(full), TableError::Intern(full));
 }
 

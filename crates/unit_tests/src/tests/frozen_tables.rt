@@ -45,9 +45,14 @@ fn a_frozen_table_yields_its_symbols_with_their_strings(rt: HostRuntime) {
     let mut copy = copy_of(&rt, &pairs);
     assert_eq!(&rt; copy.next(), Some((Symbol::new(1), b"".as_slice())));
     same(&rt, pairs.size_hint(), (2, Some(2)));
-    for (symbol, string) in &table {
-        same(&rt, table.get(symbol), Some(string));
-        same(&rt, table.check_interned(string), Some(symbol));
+    finds_each(&rt, &table);
+}
+
+// Asserts that each pair is found by its symbol and by its string.
+fn finds_each(rt: &impl Abort, table: &Frozen<'_>) {
+    for (symbol, string) in table {
+        same(rt, table.get(symbol), Some(string));
+        same(rt, table.check_interned(string), Some(symbol));
     }
 }
 
@@ -67,11 +72,16 @@ fn a_frozen_table_is_thawed(rt: HostRuntime) {
     let frozen = Frozen::open(&TABLE).expect(&rt, "no table");
     let mut thawed: SymbolTable = frozen.thaw(rt.alloc(), FixedState).expect(&rt, "memory");
     same(&rt, thawed.len(), 3);
-    for (symbol, string) in &frozen {
-        same(&rt, thawed.get(symbol), Some(string));
-    }
+    gets_each(&rt, &thawed, &frozen);
     same(&rt, thawed.get_or_intern(b"xy"), Ok(Symbol::new(2)));
     same(&rt, thawed.get_or_intern(b"new"), Ok(Symbol::new(3)));
+}
+
+// Asserts that a table has the strings of a frozen one under their symbols.
+fn gets_each(rt: &impl Abort, table: &SymbolTable, frozen: &Frozen<'_>) {
+    for (symbol, string) in frozen {
+        same(rt, table.get(symbol), Some(string));
+    }
 }
 
 // Asserts which strings the first symbols have.

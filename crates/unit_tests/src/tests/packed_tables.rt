@@ -5,19 +5,25 @@ use intaglio::packed::SymbolTable;
 use intaglio_packed::{StringBuffer, StringEnds};
 use test_hashers::builders::Fold;
 
+fn makes_room(table: &mut SymbolTable<Fold>) -> bool {
+    table.reserve(3).is_ok() && table.reserve_bytes(1000).is_ok() && table.capacity() >= 3
+}
+
+// Whether it then has room for one string alone.
+fn gives_room_up(table: &mut SymbolTable<Fold>) -> bool {
+    table.shrink_to_fit().is_ok() && table.capacity() == 1
+}
+
 #[test]
 fn a_packed_table_has_room_and_gives_it_up(rt: HostRuntime) {
     let mut table = SymbolTable::with_capacity_and_hasher(rt.alloc(), 0, Fold::new()).expect(
         &rt, "a table",
     );
     same(&rt, table.capacity(), 0);
-    same(&rt, table.reserve(3), Ok(()));
-    same(&rt, table.reserve_bytes(1000), Ok(()));
-    holds(&rt, table.capacity() >= 3);
+    holds(&rt, makes_room(&mut table));
     same(&rt, table.get_or_intern("abc"), Ok(Symbol::new(0)));
     same(&rt, table.byte_count(), 3);
-    same(&rt, table.shrink_to_fit(), Ok(()));
-    same(&rt, table.capacity(), 1);
+    holds(&rt, gives_room_up(&mut table));
     same(&rt, table.get(Symbol::new(0)), Some("abc"));
     same(&rt, table.check_interned("abc"), Some(Symbol::new(0)));
 }
