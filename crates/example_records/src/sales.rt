@@ -24,6 +24,7 @@ fn rows_of<'a>(
     for line in lines.lines() {
         let (key, value) = line.split_once(' ').unwrap_or((line, ""));
         let symbol = keys.get_or_intern(key)?;
+        // (The checker doesn't cover a `push` of what holds a borrow.)
         rows.reserve(1)?;
         rows.push_reserved((symbol, value));
     }
