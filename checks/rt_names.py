@@ -22,6 +22,8 @@ TOP = Path(__file__).resolve().parent.parent
 VERSION = "rattle-kit-13f logic dac8208d650f15bf"
 # The variable of the environment that says to a check that others run beside it.
 BESIDE = "INTAGLIO_BESIDE"
+# How the names of the folders begin in which edits are tried.
+SCRATCH = "together-"
 
 # What `rt ci` says of a crate that it has proved, now or in an earlier run, and at its end where all went well.
 PROVED_CRATE = re.compile(r"^rt: (\w+) (?:proved$|is kept: )", re.M)
@@ -130,12 +132,25 @@ def free():
     return load().free()
 
 
+def provers_outside(name):
+    """How many provers are at work on this machine, but for those in folders whose names begin so."""
+    count = 0
+    for process in Path("/proc").glob("[0-9]*"):
+        try:
+            words, _, numbers = (process / "stat").read_text(errors="replace").rpartition(")")
+            if words.endswith("(rattle") and numbers.split()[0] in "RD":
+                count += not Path(os.readlink(process / "cwd")).name.startswith(name)
+        except OSError:
+            continue
+    return count
+
+
 def checked(crate, texts, functions, spoilt, kept):
     """What a check of these functions prints, of a copy of the crate with these texts in place of its own, over what `kept` holds. The answers of the
     functions in `spoilt` have one more, which can't be read."""
     rt, only = load(), [word for function in functions for word in ("--only", function)]
     words = [rt.rtlib.RATTLE, "check", *crate.words(["--jobs", "1", *only], keeps=False), "--incremental", kept]
-    with tempfile.TemporaryDirectory(prefix="together-") as room:
+    with tempfile.TemporaryDirectory(prefix=SCRATCH) as room:
         for part in rt.rtlib.PARTS:
             if Path(crate.folder, part).is_dir():
                 shutil.copytree(Path(crate.folder, part), Path(room, part))
