@@ -137,9 +137,9 @@ def provers_outside(name):
     count = 0
     for process in Path("/proc").glob("[0-9]*"):
         try:
-            words, _, numbers = (process / "stat").read_text(errors="replace").rpartition(")")
-            if words.endswith("(rattle") and numbers.split()[0] in "RD":
-                count += not Path(os.readlink(process / "cwd")).name.startswith(name)
+            if (process / "comm").read_text(errors="replace") == "rattle\n" and not Path(os.readlink(process / "cwd")).name.startswith(name):
+                states = [it.read_text(errors="replace").rpartition(")")[2].split()[0] for it in process.glob("task/*/stat")]
+                count += not {*states}.isdisjoint("RD")
         except OSError:
             continue
     return count
