@@ -1,10 +1,11 @@
 -- What is written for a list of contents, one after the other.
-use Rattle.std.proofs.Common.{◌≡◌, ℕ, suc, zero, ◌+◌, add-one, List, [], ◌∷◌, ◌++◌, take, map, Option, None, Some, refl, sym, ap}
+use Rattle.std.proofs.Common.{◌≡◌, ℕ, suc, zero, ◌+◌, add-one, List, [], ◌∷◌, ◌++◌, take, map, Option, Some, refl, sym, ap}
 use Rattle.std.specs.List.{slice_get, flat_map}
 use Rattle.std.specs.Option.{option_map}
 use Rattle.std.specs.Io.KnownBytes.{Appends}
 use Rattle.std.proofs.lemmas.List.{append-nil, map-append}
 use Rattle.std.proofs.lemmas.Grind.{flat_map-append}
+use Rattle.intaglio_interner.proofs.Laws.{mapped-some}
 use Rattle.intaglio_lines.proofs.Appended.{Appends-append}
 
 take-next : {C : Type 0} (cs : List C) (n : ℕ) (c : C) → slice_get cs n ≡ Some c → take (suc n) cs ≡ take n cs ++ c ∷ []
@@ -18,13 +19,9 @@ module _ {C : Type 0} (f : List ℕ → List ℕ) (spelling : C → List ℕ) (c
       rw (add-one n, take-next cs n c at, map-append spelling (take n cs) (c ∷ []), flat_map-append f (map spelling (take n cs)) (spelling c ∷ []))
       (ap (λ t. flat_map f (map spelling (take n cs)) ++ t) (append-nil (f (spelling c))))
 
-  spelled : (found : Option C) (line : List ℕ) → option_map spelling found ≡ Some line → (c : C) × (found ≡ Some c) × (spelling c ≡ line)
-  spelled None line is = cc
-  spelled (Some c) line is = (c, refl, cc)
-
   -- the lines so far, and that of one content more
   pub appends-next : (old mid new : Option (List ℕ)) (line : List ℕ) → option_map spelling (slice_get cs n) ≡ Some line
       → Appends old mid (flat_map f (map spelling (take n cs))) → Appends mid new (f line) → Appends old new (flat_map f (map spelling (take (n + 1) cs)))
   appends-next old mid new line at before next =
-      let of = spelled (slice_get cs n) line at in
+      let of = mapped-some spelling (slice_get cs n) line at in
       rw (flat_map-next of.0 of.1) (Appends-append old mid new _ _ before (rw (sym of.2) at next))
