@@ -1,5 +1,5 @@
 //! Each public call of `Core`, made once on a table with random keys.
-use super::assertions::{holds, same};
+use super::assertions::same;
 use intaglio::{Core, FormInterner, Interner, Mark, RoomError, StrContent, Symbol, Work};
 use std::alloc::Global;
 use std::hash::RandomState;
@@ -44,10 +44,15 @@ fn fills(rt: &impl Abort, table: &mut Table, texts: &'static str) {
 
 // Reads a table of `abc`, `xyz`, `123` and `789`.
 fn reads(rt: &impl Abort, table: &Table) {
-    holds(rt, !table.is_empty());
-    same(rt, table.contents().len(), 4);
-    holds(rt, table.contains(Symbol::new(3)));
-    holds(rt, !table.contains(Symbol::new(4)));
+    same(rt, (table.is_empty(), table.contents().len()), (false, 4));
+    same(
+        rt,
+        (
+            table.contains(Symbol::new(3)),
+            table.contains(Symbol::new(4)),
+        ),
+        (true, false),
+    );
     same(rt, table.all_symbols().nth(3), Some(Symbol::new(3)));
 }
 
@@ -55,75 +60,49 @@ fn reads(rt: &impl Abort, table: &Table) {
 fn lends(rt: &impl Abort, table: &Table) {
     same(rt, table.form(Symbol::new(2)), Some("123"));
     same(rt, table.forms().nth(3), Some("789"));
-    holds(rt, finds(table, "xyz", 1));
-    holds(rt, begins(table, "abc"));
+    let found = table.search_form(&"xyz", &mut Work::new());
+    assert_eq!(rt; found, Some((Symbol::new(1), "xyz")));
+    assert_eq!(rt; table.pairs().nth(0), Some((Symbol::new(0), "abc")));
 }
 
-// Whether the text is found with this number.
-fn finds(table: &Table, text: &str, number: u32) -> bool {
-    match table.search_form(&text, &mut Work::new()) {
-        Some((symbol, spelling)) => symbol.is(number) && spelling == text,
-        None => false,
-    }
-}
-
-// Whether this text is the first one.
-fn begins(table: &Table, text: &str) -> bool {
-    match table.pairs().nth(0) {
-        Some((symbol, spelling)) => symbol.is(0) && spelling == text,
-        None => false,
-    }
-}
-
-// A change of its capacity.
-#[derive(Clone, Copy)]
-enum Resize {
-    Reserve(usize),
-    TryReserve(usize),
-    ReserveWith(usize),
-    ShrinkTo(usize),
-    ShrinkWith(usize),
-    ShrinkToFit,
-}
-
-// Changes, and the least and the greatest capacity after each.
-static RESIZES: [(Resize, usize, usize); 6] = [
-    (Resize::Reserve(100), 104, usize::MAX),
-    (Resize::TryReserve(1000), 1004, usize::MAX),
-    (Resize::ReserveWith(10_000), 10_004, usize::MAX),
-    (Resize::ShrinkTo(5000), 5000, 5000),
-    (Resize::ShrinkWith(50), 50, 50),
-    (Resize::ShrinkToFit, 4, 4),
-];
-
-fn resized(table: &mut Table, resize: Resize) -> Result<(), RoomError> {
-    match resize {
-        Resize::Reserve(additional) => table.reserve(additional),
-        Resize::TryReserve(additional) => table.try_reserve(additional),
-        Resize::ReserveWith(additional) => table.reserve_with(additional, &mut Work::new()),
-        Resize::ShrinkTo(capacity) => table.shrink_to(capacity),
-        Resize::ShrinkWith(capacity) => table.shrink_with(capacity, &mut Work::new()),
-        Resize::ShrinkToFit => table.shrink_to_fit(),
-    }
-}
-
+// Changes its capacity.
 fn resizes(rt: &impl Abort, table: &mut Table) {
-    for (resize, least, most) in RESIZES {
-        same(rt, resized(table, resize), Ok(()));
-        let capacity = table.capacity();
-        holds(rt, least <= capacity && capacity <= most);
-    }
+    same(
+        rt,
+        (table.reserve(100), table.capacity() >= 104),
+        (Ok(()), true),
+    );
+    same(
+        rt,
+        (table.try_reserve(1000), table.capacity() >= 1004),
+        (Ok(()), true),
+    );
+    let reserved = table.reserve_with(10_000, &mut Work::new());
+    same(rt, (reserved, table.capacity() >= 10_004), (Ok(()), true));
+    same(
+        rt,
+        (table.shrink_to(5000), table.capacity()),
+        (Ok(()), 5000),
+    );
+    let shrunk = table.shrink_with(50, &mut Work::new());
+    same(rt, (shrunk, table.capacity()), (Ok(()), 50));
+    same(rt, (table.shrink_to_fit(), table.capacity()), (Ok(()), 4));
 }
 
 // Removes contents.
 fn cuts(rt: &impl Abort, table: &mut Table) {
-    same(rt, table.mark(), Mark::new(4));
-    same(rt, FormInterner::mark(table), Mark::new(4));
-    same(rt, table.take_back(Mark::new(3)), Ok(()));
-    same(rt, table.len(), 3);
+    same(
+        rt,
+        (table.mark(), FormInterner::mark(table)),
+        (Mark::new(4), Mark::new(4)),
+    );
+    same(
+        rt,
+        (table.take_back(Mark::new(3)), table.len()),
+        (Ok(()), 3),
+    );
     table.clear();
-    same(rt, table.len(), 0);
-    same(rt, table.capacity(), 4);
+    same(rt, (table.len(), table.capacity()), (0, 4));
 }
 
 #[test]

@@ -24,52 +24,15 @@ fn letters(rt: &impl Abort, alloc: Global) -> Vec<StrContent> {
     .expect(rt, "no memory")
 }
 
-// Takes one of the texts that are left.
-#[derive(Clone, Copy)]
-enum Take {
-    Nth(usize),
-    NthBack(usize),
-    Last,
-}
-
-fn taken<'a>(mut forms: Forms<'a, Vec<StrContent>>, take: Take) -> Option<&'a str> {
-    match take {
-        Take::Nth(n) => forms.nth(n),
-        Take::NthBack(n) => forms.nth_back(n),
-        Take::Last => forms.last(),
-    }
-}
-
-static TAKEN: [(Take, Option<&str>); 4] = [
-    (Take::Nth(1), Some("b")),
-    (Take::NthBack(1), Some("b")),
-    (Take::NthBack(3), None),
-    (Take::Last, Some("c")),
-];
-
 #[test]
 fn forms_are_skipped_counted_and_cloned(rt: HostRuntime) {
     let contents = letters(&rt, rt.alloc());
     let forms = Forms::of(&contents);
+    same(&rt, copy_of(&rt, &forms).nth(1), Some("b"));
+    same(&rt, copy_of(&rt, &forms).nth_back(1), Some("b"));
+    same(&rt, copy_of(&rt, &forms).nth_back(3), None);
     same(&rt, copy_of(&rt, &forms).count(), 3);
-    for (take, wanted) in TAKEN {
-        same(&rt, taken(copy_of(&rt, &forms), take), wanted);
-    }
-}
-
-// Whether the pair that is `n` pairs ahead is of this number and text.
-fn nth_is(mut pairs: Pairs<'_, Vec<StrContent>>, n: usize, number: u32, text: &str) -> bool {
-    match pairs.nth(n) {
-        Some((symbol, form)) => symbol.is(number) && form == text,
-        None => false,
-    }
-}
-
-fn last_is(pairs: Pairs<'_, Vec<StrContent>>, number: u32, text: &str) -> bool {
-    match pairs.last() {
-        Some((symbol, form)) => symbol.is(number) && form == text,
-        None => false,
-    }
+    same(&rt, forms.last(), Some("c"));
 }
 
 #[test]
@@ -78,8 +41,8 @@ fn pairs_are_skipped_counted_and_cloned(rt: HostRuntime) -> Result<(), Fail> {
     assert!(&rt; contents.len() == 3);
     let pairs = Pairs::of(&contents);
     same(&rt, pairs.clone()?.count(), 3);
-    holds(&rt, nth_is(copy_of(&rt, &pairs), 1, 1, "b"));
-    holds(&rt, last_is(pairs, 2, "c"));
+    assert_eq!(&rt; pairs.clone()?.nth(1), Some((Symbol::new(1), "b")));
+    assert_eq!(&rt; pairs.last(), Some((Symbol::new(2), "c")));
     Ok(())
 }
 
