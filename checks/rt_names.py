@@ -1,7 +1,7 @@
 """All that the scripts here take from the toolchain's own `rt`, which promises none of it: names of its module, and sentences of its prover.
 
-It was written for the `rt version` below. Under another one `load` stops with a line that says so: see then that each name and each
-sentence still stands, and change the line.
+It was written for the `rt version`s below. Under another one `load` stops with a line that says so: see then that each name and each
+sentence still stands, and add to the line. `rt` of the first proves all anew each time and keeps no verdicts; that of the second does (`keeps_verdicts`).
 """
 
 import functools
@@ -19,7 +19,7 @@ from pathlib import Path
 
 sys.dont_write_bytecode = True
 TOP = Path(__file__).resolve().parent.parent
-VERSION = "rattle-kit-13f logic dac8208d650f15bf"
+VERSIONS = ("rattle-kit-13b logic dac8208d650f15bf", "rattle-kit-13f logic dac8208d650f15bf")
 # The variable of the environment that says to a check that others run beside it.
 BESIDE = "INTAGLIO_BESIDE"
 # How the names of the folders begin in which edits are tried.
@@ -55,8 +55,8 @@ def version():
 def load():
     """The toolchain's `rt`, as a module. What stands below a crate is read as statements, as under `rt ci`."""
     found = shutil.which("rt") or sys.exit("there is no rt on the PATH")
-    if version() != VERSION:
-        sys.exit(f"checks/rt_names.py was written for '{VERSION}', and rt version says '{version()}': see that what it names still stands")
+    if version() not in VERSIONS:
+        sys.exit(f"checks/rt_names.py was written for {' and '.join(map(repr, VERSIONS))}, and rt version says '{version()}': see that what it names still stands")
     path = os.path.realpath(found)
     sys.path.insert(0, os.path.dirname(path))
     loader = importlib.machinery.SourceFileLoader("rt", path)
@@ -68,6 +68,11 @@ def load():
     # Whatever it starts ends with this process. (The first call sets a signal's handler, which the main thread alone may.)
     module.rtlib.guarded()
     return module
+
+
+def keeps_verdicts():
+    """Whether this version of `rt` keeps what it proved for later runs on this machine, of other checkouts too."""
+    return hasattr(load(), "Kept")
 
 
 def over_kept(verdict):
@@ -186,21 +191,31 @@ def unreadable(said, texts):
     return next((line for line in said.splitlines() if rt.unread(line, texts) or rt.rtlib.STALE.search(line)), None)
 
 
+class NothingKept:
+    """Stands for what `rt` keeps of earlier runs under a version that keeps nothing."""
+
+    def tried(self, _name):
+        return None
+
+    def is_untouched(self, _crate):
+        return False
+
+
 class Verdicts:
     """What the prover said of edits, in this run and in earlier ones of any checkout on this machine. It is kept where `rt` keeps what it said of its own
-    edits, and as `rt` does under a sum of all that it stands on: the kit, the files of the crate and of those below it, the edit and the scripts. So it is
-    never out of date. What was said over the libraries of an `rt ci` is said of all, and no other counts for a run beside an `rt ci`."""
+    edits, if it does, and as `rt` does under a sum of all that it stands on: the kit, the files of the crate and of those below it, the edit and the
+    scripts. So it is never out of date. What was said over the libraries of an `rt ci` is said of all, and no other counts for a run beside an `rt ci`."""
 
     def __init__(self, scripts, is_anew, is_beside_ci):
-        every = crates()
+        every = crates() if keeps_verdicts() else []
         # (the files are looked at here, and again as something is kept)
-        self.kept, self.stamps = load().Kept(every, is_anew), {}
+        self.kept, self.stamps = load().Kept(every, is_anew) if every else NothingKept(), {}
         for crate in every:
             load().stamp_of(crate, self.stamps)
         self.scripts, self.is_beside_ci = [load().rtlib.sum_of(it) for it in scripts], is_beside_ci
 
     def name(self, crate, edit, is_of_ci):
-        return hashlib.sha256(repr((self.stamps[crate.name], self.scripts, edit, is_of_ci)).encode()).hexdigest()
+        return hashlib.sha256(repr((self.stamps.get(crate.name), self.scripts, edit, is_of_ci)).encode()).hexdigest()
 
     def known(self, crate, edit):
         """What was said of an edit, as it was read, in an earlier run, or nothing."""
@@ -269,7 +284,7 @@ def standing_on(names):
 def is_proved(crate):
     """Whether the crate was proved as it is now, with what stands below it: here, or in another checkout on this machine, whose library is then taken."""
     if not crate.is_program:
-        return crate.is_built() or load().take_rlib(crate)
+        return crate.is_built() or keeps_verdicts() and load().take_rlib(crate)
     return os.path.exists(f"{crate.folder}/out/{crate.name}") and load().rtlib.text_of(f"{crate.folder}/out/rlib/stamp") == crate.stamp()
 
 
@@ -290,7 +305,7 @@ def proved(crate, jobs):
             status = stopped.code or 2
         if not status and stamp == crate.stamp():
             Path(kept, "stamp").write_text(stamp, encoding="utf-8")
-            if not crate.is_program:
+            if not crate.is_program and keeps_verdicts():
                 # (as `rt lib` does, so that other checkouts on this machine take it)
                 rt.offer(crate, stamp)
         crate.out.seek(0)
