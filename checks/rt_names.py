@@ -151,8 +151,8 @@ def provers_outside(name):
 
 
 def checked(crate, texts, functions, spoilt, kept):
-    """What a check of these functions prints, of a copy of the crate with these texts in place of its own, over what `kept` holds. The answers of the
-    functions in `spoilt` have one more, which can't be read."""
+    """What a check of these functions prints, of a copy of the crate with these texts in place of its own, over what `kept` holds. `functions` has for
+    each the one whose proof it takes, which is another one for a copy. The answers of the functions in `spoilt` have one more, which can't be read."""
     rt, only = load(), [word for function in functions for word in ("--only", function)]
     words = [rt.rtlib.RATTLE, "check", *crate.words(["--jobs", "1", *only], keeps=False), "--incremental", kept]
     with tempfile.TemporaryDirectory(prefix=SCRATCH) as room:
@@ -161,10 +161,22 @@ def checked(crate, texts, functions, spoilt, kept):
                 shutil.copytree(Path(crate.folder, part), Path(room, part))
         for path, text in texts.items():
             Path(room, path).write_text(text, encoding="utf-8")
+        for function, whose in functions.items():
+            take_proof(Path(room, "proofs"), function, whose)
         for function in functions:
             leave_to_the_prover(Path(room, "proofs", *function.split("::")), function in spoilt)
         ran = subprocess.run([*rt.rtlib.guarded(), *words], cwd=room, stdin=subprocess.DEVNULL, capture_output=True, errors="replace")
         return ran.stdout + ran.stderr
+
+
+def take_proof(proofs, function, whose):
+    """Gives a copy of a function a copy of that one's proof."""
+    own = proofs.joinpath(*whose.split("::"))
+    if function != whose and own.is_dir():
+        copy = Path(shutil.copytree(own, proofs.joinpath(*function.split("::"))))
+        for path in copy.glob("*.antt"):
+            text = path.read_text(encoding="utf-8")
+            path.write_text(text.replace(f".{whose.replace('::', '.')}.", f".{function.replace('::', '.')}."), encoding="utf-8")
 
 
 def leave_to_the_prover(proof, is_spoilt):

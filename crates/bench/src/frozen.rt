@@ -1,9 +1,11 @@
 //! Frozen tables, beside the packed tables that they are made of, under the same hash.
+use crate::operations::{get, get_or_intern, look_up};
 use crate::plan::Plan;
+use crate::table::Searched;
 use crate::turn::{first_words, other_words, report, shuffled_numbers};
 use crate::words::{word, words};
 use anyhow::Result;
-use intaglio::{Symbol, packed};
+use intaglio::packed;
 use intaglio_frozen::{Frozen, Kind, TrustedFrozen, freeze};
 use intaglio_hash::KeyedState;
 use std::alloc::{AllocError, Global};
@@ -20,52 +22,6 @@ const PACKED: [&str; 3] = ["packed_hit", "packed_miss", "packed_get"];
 const FROZEN: [&str; 3] = ["frozen_hit", "frozen_miss", "frozen_get"];
 
 const TRUSTED: [&str; 3] = ["trusted_hit", "trusted_miss", "trusted_get"];
-
-// A table that is searched.
-trait Searched {
-    fn find(&self, word: &str) -> Option<Symbol>;
-
-    fn bytes(&self, symbol: Symbol) -> Option<&[u8]>;
-}
-
-impl<S: BuildHasher> Searched for packed::SymbolTable<S> {
-    #[inline(always)]
-    fn find(&self, word: &str) -> Option<Symbol> {
-        self.check_interned(word)
-    }
-
-    #[inline(always)]
-    fn bytes(&self, symbol: Symbol) -> Option<&[u8]> {
-        match self.get(symbol) {
-            Some(text) => Some(text.as_bytes()),
-            None => None,
-        }
-    }
-}
-
-impl Searched for Frozen<'_> {
-    #[inline(always)]
-    fn find(&self, word: &str) -> Option<Symbol> {
-        self.check_interned(word.as_bytes())
-    }
-
-    #[inline(always)]
-    fn bytes(&self, symbol: Symbol) -> Option<&[u8]> {
-        self.get(symbol)
-    }
-}
-
-impl Searched for TrustedFrozen<'_> {
-    #[inline(always)]
-    fn find(&self, word: &str) -> Option<Symbol> {
-        self.check_interned(word.as_bytes())
-    }
-
-    #[inline(always)]
-    fn bytes(&self, symbol: Symbol) -> Option<&[u8]> {
-        self.get(symbol)
-    }
-}
 
 // What is sought: words that are there and others, both in an order that looks random, and symbols.
 #[derive(Drop)]
@@ -108,7 +64,7 @@ fn filled<R: Print + Clock + AllocGlobal>(
         plan.capacity,
         KeyedState::with_keys(KEYS.0, KEYS.1),
     )?;
-    let sum = interned(&mut table, &fresh);
+    let sum = get_or_intern(&mut table, &fresh);
     report(rt, plan, "new", start, sum)?;
     Ok(table)
 }
@@ -158,14 +114,14 @@ fn search<R: Print + Clock, T: Searched>(
     table: &T,
     sought: &Sought,
 ) -> Result<()> {
-    look_up(rt, plan, names[0], table, &sought.known)?;
-    look_up(rt, plan, names[1], table, &sought.absent)?;
+    look_ups(rt, plan, names[0], table, &sought.known)?;
+    look_ups(rt, plan, names[1], table, &sought.absent)?;
     let start = Instant::now(rt)?;
-    let sum = lengths(table, &sought.symbols);
+    let sum = get(table, &sought.symbols);
     report(rt, plan, names[2], start, sum)
 }
 
-fn look_up<R: Print + Clock, T: Searched>(
+fn look_ups<R: Print + Clock, T: Searched>(
     rt: &R,
     plan: Plan,
     name: &str,
@@ -173,44 +129,8 @@ fn look_up<R: Print + Clock, T: Searched>(
     words: &[String],
 ) -> Result<()> {
     let start = Instant::now(rt)?;
-    let sum = found(table, words);
+    let sum = look_up(table, words);
     report(rt, plan, name, start, sum)
-}
-
-// Interns the words, and adds up the numbers of their symbols, plus 1 for each.
-#[inline(never)]
-fn interned<S: BuildHasher>(table: &mut packed::SymbolTable<S>, words: &[String]) -> u64 {
-    let mut sum = 0u64;
-    for word in words {
-        if let Ok(symbol) = table.get_or_intern(word.as_str()) {
-            sum = sum.wrapping_add(symbol.id() as u64 + 1);
-        }
-    }
-    sum
-}
-
-// Looks up the words, and adds up the numbers of the symbols found, plus 1 for each.
-#[inline(never)]
-fn found<T: Searched>(table: &T, words: &[String]) -> u64 {
-    let mut sum = 0u64;
-    for word in words {
-        if let Some(symbol) = table.find(word.as_str()) {
-            sum = sum.wrapping_add(symbol.id() as u64 + 1);
-        }
-    }
-    sum
-}
-
-// Adds up the lengths of the strings of these symbols.
-#[inline(never)]
-fn lengths<T: Searched>(table: &T, symbols: &[u32]) -> u64 {
-    let mut sum = 0u64;
-    for symbol in symbols {
-        if let Some(bytes) = table.bytes(Symbol::new(*symbol)) {
-            sum = sum.wrapping_add(bytes.len() as u64);
-        }
-    }
-    sum
 }
 
 /// Prints the words, a line each: those that the tables have, and as many others.

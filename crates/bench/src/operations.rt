@@ -1,7 +1,7 @@
 //! What is measured. Each operation returns a sum that shows what it found.
 ghost use Rattle.std.specs.Prelude.{◌≡◌};
 
-use crate::table::{WordTable, forms};
+use crate::table::{Searched, WordTable, forms};
 use intaglio::{InternError, Symbol};
 use std::alloc::{AllocError, Global};
 
@@ -110,7 +110,7 @@ pub fn look_up_batches<T: WordTable>(
 
 /// Looks up the words, and adds up the numbers of the symbols found, plus 1 for each.
 #[inline(never)]
-pub fn look_up<T: WordTable>(table: &T, words: &[String]) -> u64 {
+pub fn look_up<T: Searched>(table: &T, words: &[String]) -> u64 {
     let mut sum = 0u64;
     for word in words {
         if let Some(symbol) = table.find(word.as_str()) {
@@ -122,11 +122,11 @@ pub fn look_up<T: WordTable>(table: &T, words: &[String]) -> u64 {
 
 /// Adds up the lengths of the texts of these symbols.
 #[inline(never)]
-pub fn get<T: WordTable>(table: &T, numbers: &[u32]) -> u64 {
+pub fn get<T: Searched>(table: &T, numbers: &[u32]) -> u64 {
     let mut sum = 0u64;
     for number in numbers {
-        if let Some(text) = table.text(Symbol::new(*number)) {
-            sum = sum.wrapping_add(text.len() as u64);
+        if let Some(bytes) = table.bytes(Symbol::new(*number)) {
+            sum = sum.wrapping_add(bytes.len() as u64);
         }
     }
     sum
@@ -134,11 +134,11 @@ pub fn get<T: WordTable>(table: &T, numbers: &[u32]) -> u64 {
 
 /// Adds up the first bytes of the texts of these symbols.
 #[inline(never)]
-pub fn read<T: WordTable>(table: &T, numbers: &[u32]) -> u64 {
+pub fn read<T: Searched>(table: &T, numbers: &[u32]) -> u64 {
     let mut sum = 0u64;
     for number in numbers {
-        if let Some(text) = table.text(Symbol::new(*number)) {
-            if let Some(byte) = text.as_bytes().first() {
+        if let Some(bytes) = table.bytes(Symbol::new(*number)) {
+            if let Some(byte) = bytes.first() {
                 sum = sum.wrapping_add(*byte as u64);
             }
         }

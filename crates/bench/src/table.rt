@@ -1,13 +1,23 @@
-//! A table of texts, as the operations call it.
+//! Tables of texts, as the operations call them.
 ghost use Rattle.std.specs.Iterator.{IsFinite};
 ghost use Rattle.std.specs.Prelude.{◌≡◌, ℕ, length};
 
 use intaglio::{InternError, StrContent, Symbol, SymbolTable, packed};
+use intaglio_frozen::{Frozen, TrustedFrozen};
 use std::alloc::{AllocError, Global};
 use std::hash::BuildHasher;
 
+/// A table that is searched.
+pub trait Searched {
+    /// The symbol of a word, if it is there.
+    fn find(&self, word: &str) -> Option<Symbol>;
+
+    /// The bytes of a symbol's text.
+    fn bytes(&self, symbol: Symbol) -> Option<&[u8]>;
+}
+
 /// A table of texts, over a `Vec` or over one buffer.
-pub trait WordTable {
+pub trait WordTable: Searched {
     /// What a batch has for an owned word.
     type Word: Drop;
 
@@ -35,14 +45,8 @@ pub trait WordTable {
     /// Interns borrowed words.
     fn intern_forms(&mut self, words: &[&str]) -> Result<Vec<Symbol>, InternError>;
 
-    /// The symbol of a word, if it is there.
-    fn find(&self, word: &str) -> Option<Symbol>;
-
     /// The symbols of words, where they are there.
     fn find_all(&self, words: &[&str]) -> Result<Vec<Option<Symbol>>, AllocError>;
-
-    /// The text of a symbol.
-    fn text(&self, symbol: Symbol) -> Option<&str>;
 
     /// The numbers of all symbols and the lengths of all texts, added up.
     fn sum(&self) -> u64;
@@ -54,6 +58,54 @@ pub trait WordTable {
     /// Drops all texts.
     fn clear(&mut self)
         ensures { count self.new ≡ 0 };
+}
+
+impl<S: BuildHasher> Searched for SymbolTable<S> {
+    #[inline(always)]
+    fn find(&self, word: &str) -> Option<Symbol> {
+        self.check_interned(word)
+    }
+
+    #[inline(always)]
+    fn bytes(&self, symbol: Symbol) -> Option<&[u8]> {
+        self.get(symbol).map(|text| text.as_bytes())
+    }
+}
+
+impl<S: BuildHasher> Searched for packed::SymbolTable<S> {
+    #[inline(always)]
+    fn find(&self, word: &str) -> Option<Symbol> {
+        self.check_interned(word)
+    }
+
+    #[inline(always)]
+    fn bytes(&self, symbol: Symbol) -> Option<&[u8]> {
+        self.get(symbol).map(|text| text.as_bytes())
+    }
+}
+
+impl Searched for Frozen<'_> {
+    #[inline(always)]
+    fn find(&self, word: &str) -> Option<Symbol> {
+        self.check_interned(word.as_bytes())
+    }
+
+    #[inline(always)]
+    fn bytes(&self, symbol: Symbol) -> Option<&[u8]> {
+        self.get(symbol)
+    }
+}
+
+impl Searched for TrustedFrozen<'_> {
+    #[inline(always)]
+    fn find(&self, word: &str) -> Option<Symbol> {
+        self.check_interned(word.as_bytes())
+    }
+
+    #[inline(always)]
+    fn bytes(&self, symbol: Symbol) -> Option<&[u8]> {
+        self.get(symbol)
+    }
 }
 
 impl<S: BuildHasher> WordTable for SymbolTable<S> {
@@ -97,18 +149,8 @@ impl<S: BuildHasher> WordTable for SymbolTable<S> {
     }
 
     #[inline(always)]
-    fn find(&self, word: &str) -> Option<Symbol> {
-        self.check_interned(word)
-    }
-
-    #[inline(always)]
     fn find_all(&self, words: &[&str]) -> Result<Vec<Option<Symbol>>, AllocError> {
         self.check_all(words)
-    }
-
-    #[inline(always)]
-    fn text(&self, symbol: Symbol) -> Option<&str> {
-        self.get(symbol)
     }
 
     #[inline(always)]
@@ -165,18 +207,8 @@ impl<S: BuildHasher> WordTable for packed::SymbolTable<S> {
     }
 
     #[inline(always)]
-    fn find(&self, word: &str) -> Option<Symbol> {
-        self.check_interned(word)
-    }
-
-    #[inline(always)]
     fn find_all(&self, words: &[&str]) -> Result<Vec<Option<Symbol>>, AllocError> {
         self.check_all(words)
-    }
-
-    #[inline(always)]
-    fn text(&self, symbol: Symbol) -> Option<&str> {
-        self.get(symbol)
     }
 
     #[inline(always)]
