@@ -150,9 +150,10 @@ def provers_outside(name):
     return count
 
 
-def checked(crate, texts, functions, spoilt, kept):
+def checked(crate, texts, functions, spoilt, kept, are_stubs):
     """What a check of these functions prints, of a copy of the crate with these texts in place of its own, over what `kept` holds. `functions` has for
-    each the one whose proof it takes, which is another one for a copy. The answers of the functions in `spoilt` have one more, which can't be read."""
+    each the one whose proof it takes, which is another one for a copy. The answers of the functions in `spoilt` have one more, which can't be read.
+    If all others are stubs, none has a proof."""
     rt, only = load(), [word for function in functions for word in ("--only", function)]
     words = [rt.rtlib.RATTLE, "check", *crate.words(["--jobs", "1", *only], keeps=False), "--incremental", kept]
     with tempfile.TemporaryDirectory(prefix=SCRATCH) as room:
@@ -163,6 +164,8 @@ def checked(crate, texts, functions, spoilt, kept):
             Path(room, path).write_text(text, encoding="utf-8")
         for function, whose in functions.items():
             take_proof(Path(room, "proofs"), function, whose)
+        if are_stubs:
+            drop_proofs(Path(room, "proofs"), {Path(*function.split("::")) for function in functions})
         for function in functions:
             leave_to_the_prover(Path(room, "proofs", *function.split("::")), function in spoilt)
         ran = subprocess.run([*rt.rtlib.guarded(), *words], cwd=room, stdin=subprocess.DEVNULL, capture_output=True, errors="replace")
@@ -177,6 +180,15 @@ def take_proof(proofs, function, whose):
         for path in copy.glob("*.antt"):
             text = path.read_text(encoding="utf-8")
             path.write_text(text.replace(f".{whose.replace('::', '.')}.", f".{function.replace('::', '.')}."), encoding="utf-8")
+
+
+def drop_proofs(proofs, but):
+    """Leaves no proof of a function, but for those in these folders. The prover doesn't search for one where there is an empty file."""
+    for folder in {it.parent for name in ("Answers", "Invariants", "Proof") for it in proofs.glob(f"**/{name}.antt")}:
+        if folder.relative_to(proofs) not in but:
+            for name in ("Answers", "Invariants"):
+                (folder / f"{name}.antt").unlink(missing_ok=True)
+            (folder / "Proof.antt").write_text("-- No proof.\n", encoding="utf-8")
 
 
 def leave_to_the_prover(proof, is_spoilt):
