@@ -22,11 +22,13 @@ use std::marker::Model;
 /// UTF-8, only [`Frozen::open`](crate::Frozen::open) checks.
 ///
 /// ```
-/// # use intaglio_frozen::{Block, FrozenError, StringList};
-/// fn number_of_strings(bytes: &[u8]) -> Result<usize, FrozenError> {
-///     let block = Block::read(bytes)?;
-///     Ok(StringList::len(&block))
-/// }
+/// # use intaglio::{StrContent, SymbolTable};
+/// # use intaglio_frozen::{Block, Kind, StringList, freeze};
+/// # let mut words = SymbolTable::new(rt.alloc())?;
+/// # let _symbol = words.intern(StrContent::from("abc"))?;
+/// let bytes = freeze(rt.alloc(), &words, Kind::Text, 1, 2)?;
+/// let block = Block::read(&bytes)?;
+/// assert!(rt; StringList::len(&block) == 1);
 /// ```
 #[derive(Drop)]
 pub struct Block<'a> {

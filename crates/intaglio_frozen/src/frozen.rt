@@ -94,13 +94,14 @@ impl<'a> Frozen<'a> {
     /// All symbols with their strings, in order.
     ///
     /// ```
-    /// # use intaglio_frozen::Frozen;
-    /// fn longest(table: &Frozen<'_>) -> usize {
-    ///     let mut most = 0;
-    ///     for (_, string) in table.iter() {
-    ///         most = string.len().max(most);
-    ///     }
-    ///     most
+    /// # use intaglio::{StrContent, SymbolTable};
+    /// # use intaglio_frozen::{Frozen, Kind, freeze};
+    /// # let mut words = SymbolTable::new(rt.alloc())?;
+    /// # let _symbol = words.intern(StrContent::from("abc"))?;
+    /// # let bytes = freeze(rt.alloc(), &words, Kind::Text, 1, 2)?;
+    /// let table = Frozen::open(&bytes)?;
+    /// for (symbol, string) in table.iter() {
+    ///     assert!(rt; table.get(symbol) == Some(string));
     /// }
     /// ```
     pub fn iter(&self) -> FrozenPairs<'a>
@@ -157,12 +158,15 @@ impl<'a> Frozen<'a> {
     /// [`AllocError`] if the allocation of the list fails.
     ///
     /// ```
-    /// # use intaglio_frozen::Frozen;
-    /// # use std::alloc::{AllocError, Global};
-    /// fn all_known(alloc: Global, table: &Frozen<'_>, words: &[&[u8]]) -> Result<bool, AllocError> {
-    ///     let symbols = table.check_all(alloc, words)?;
-    ///     Ok(symbols.iter().all(|symbol| symbol.is_some()))
-    /// }
+    /// # use intaglio::{StrContent, SymbolTable};
+    /// # use intaglio_frozen::{Frozen, Kind, freeze};
+    /// # let mut words = SymbolTable::new(rt.alloc())?;
+    /// # let symbol = words.intern(StrContent::from("abc"))?;
+    /// # let bytes = freeze(rt.alloc(), &words, Kind::Text, 1, 2)?;
+    /// let table = Frozen::open(&bytes)?;
+    /// let strings = [b"abc".as_slice(), b"x".as_slice()];
+    /// let found = table.check_all(rt.alloc(), &strings)?;
+    /// assert!(rt; found.as_slice() == [Some(symbol), None].as_slice());
     /// ```
     pub fn check_all(
         &self,

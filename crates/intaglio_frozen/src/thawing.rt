@@ -23,14 +23,15 @@ impl<'a> Frozen<'a> {
     /// Only `Memory`, if an allocation fails.
     ///
     /// ```
-    /// # use intaglio::InternError;
     /// # use intaglio::packed::bytes::SymbolTable;
-    /// # use intaglio_frozen::Frozen;
+    /// # use intaglio_frozen::{Frozen, Kind, freeze};
     /// # use intaglio_hash::FixedState;
-    /// # use std::alloc::Global;
-    /// fn thawed(alloc: Global, table: &Frozen<'_>) -> Result<SymbolTable, InternError> {
-    ///     table.thaw(alloc, FixedState)
-    /// }
+    /// # let mut words = SymbolTable::new(rt.alloc())?;
+    /// # let symbol = words.get_or_intern(b"abc")?;
+    /// let bytes = freeze(rt.alloc(), &words, Kind::Bytes, 1, 2)?;
+    /// let frozen = Frozen::open(&bytes)?;
+    /// let thawed: SymbolTable = frozen.thaw(rt.alloc(), FixedState)?;
+    /// assert!(rt; thawed.get(symbol) == Some(b"abc".as_slice()));
     /// ```
     pub fn thaw<S: BuildHasher + Drop>(
         &self,

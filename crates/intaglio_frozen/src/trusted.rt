@@ -19,11 +19,14 @@ use std::marker::Model;
 /// bytes are a frozen table. A contract sees the bytes.
 ///
 /// ```
-/// # use intaglio_frozen::{FrozenError, TrustedFrozen};
-/// fn is_known(bytes: &[u8], word: &str) -> Result<bool, FrozenError> {
-///     let table = TrustedFrozen::open(bytes)?;
-///     Ok(table.check_interned(word.as_bytes()).is_some())
-/// }
+/// # use intaglio::{StrContent, SymbolTable};
+/// # use intaglio_frozen::{Kind, TrustedFrozen, freeze};
+/// # let mut words = SymbolTable::new(rt.alloc())?;
+/// # let symbol = words.intern(StrContent::from("abc"))?;
+/// let bytes = freeze(rt.alloc(), &words, Kind::Text, 1, 2)?;
+/// let table = TrustedFrozen::open(&bytes)?;
+/// assert!(rt; table.check_interned(b"abc") == Some(symbol));
+/// assert!(rt; table.get(symbol) == Some(b"abc".as_slice()));
 /// ```
 #[derive(Drop)]
 pub struct TrustedFrozen<'a> {
