@@ -35,6 +35,7 @@ PROVED = re.compile(r"^proved\b")
 KEPT_WORK = "incremental=trusted"
 # The function's own goals may all be closed: it can't be told, or is told, while a function that it calls isn't proved.
 CALLS_UNPROVED = re.compile(r"^(not proved; |no proof: )(it calls|the borrow checker's part in its proof is not made yet: a call of)")
+NOT_PROVED = re.compile(r"^not proved(?:; it calls .* not proved)?$")
 OPEN_GOAL = re.compile(r"^note: \S+:\d+:\d+: it is not proved that")
 LEFT_OPEN = re.compile(r"`search` did not prove (?:`[^`]+`(?:, )?)+")
 # An error in the files of a function's proof: the path of the function, with / for ::. What is wrong may go on in lines that are indented.
@@ -45,6 +46,8 @@ OF_CLAUSE = re.compile(r"clause-([a-z]\w*)")
 OF_OTHERS = {"invariant_of": "invariant", "requires": "requires", "loop": "loop", "returns": "ensures", "bounds": "bounds"}
 # An answer that names what an edit took away. That shows nothing of the contract, and `rt must-fail` says so too.
 BROKEN_NAME = re.compile(r"has no field|is not in scope|has no `|was not admitted")
+# An answer of a goal that isn't there, and the one by which a function is spoilt.
+NO_SUCH_GOAL, SPOILT = re.compile(r"\.Goals` has no `"), re.compile(r": error: `spoilt`: ")
 
 
 def version():
@@ -150,10 +153,10 @@ def provers_outside(name):
     return count
 
 
-def checked(crate, texts, functions, spoilt, kept, are_stubs):
+def checked(crate, texts, functions, are_spoilt, kept, stubs):
     """What a check of these functions prints, of a copy of the crate with these texts in place of its own, over what `kept` holds. `functions` has for
-    each the one whose proof it takes, which is another one for a copy. The answers of the functions in `spoilt` have one more, which can't be read.
-    If all others are stubs, none has a proof."""
+    each the one whose proof it takes, which is another one for a copy. If they are spoilt, their answers have one more, which can't be read.
+    If there are stubs, which are functions too, no other function has a proof."""
     rt, only = load(), [word for function in functions for word in ("--only", function)]
     words = [rt.rtlib.RATTLE, "check", *crate.words(["--jobs", "1", *only], keeps=False), "--incremental", kept]
     with tempfile.TemporaryDirectory(prefix=SCRATCH) as room:
@@ -164,12 +167,18 @@ def checked(crate, texts, functions, spoilt, kept, are_stubs):
             Path(room, path).write_text(text, encoding="utf-8")
         for function, whose in functions.items():
             take_proof(Path(room, "proofs"), function, whose)
-        if are_stubs:
-            drop_proofs(Path(room, "proofs"), {Path(*function.split("::")) for function in functions})
+        if stubs:
+            drop_proofs(Path(room, "proofs"), *({Path(room, "proofs", *it.split("::")) for it in them} for them in (functions, stubs)))
         for function in functions:
-            leave_to_the_prover(Path(room, "proofs", *function.split("::")), function in spoilt)
+            leave_to_the_prover(Path(room, "proofs", *function.split("::")), are_spoilt)
         ran = subprocess.run([*rt.rtlib.guarded(), *words], cwd=room, stdin=subprocess.DEVNULL, capture_output=True, errors="replace")
         return ran.stdout + ran.stderr
+
+
+def is_all_spoilt(words, lines):
+    """Whether the prover says nothing of a spoilt function but that it isn't proved, that it calls others that aren't, that the one answer can't be
+    read, and that it has no goal of answers of other clauses."""
+    return bool(NOT_PROVED.match(words) and any(map(SPOILT.search, lines)) and all(SPOILT.search(it) or NO_SUCH_GOAL.search(it) for it in lines))
 
 
 def take_proof(proofs, function, whose):
@@ -182,13 +191,15 @@ def take_proof(proofs, function, whose):
             path.write_text(text.replace(f".{whose.replace('::', '.')}.", f".{function.replace('::', '.')}."), encoding="utf-8")
 
 
-def drop_proofs(proofs, but):
-    """Leaves no proof of a function, but for those in these folders. The prover doesn't search for one where there is an empty file."""
-    for folder in {it.parent for name in ("Answers", "Invariants", "Proof") for it in proofs.glob(f"**/{name}.antt")}:
-        if folder.relative_to(proofs) not in but:
-            for name in ("Answers", "Invariants"):
-                (folder / f"{name}.antt").unlink(missing_ok=True)
-            (folder / "Proof.antt").write_text("-- No proof.\n", encoding="utf-8")
+def drop_proofs(proofs, but, stubs):
+    """Leaves no proof of a function, but for those in the first folders. The prover doesn't search for one where there is an empty file, as in those of
+    the stubs."""
+    own = {it.parent for name in ("Answers", "Invariants", "Proof") for it in proofs.glob(f"**/{name}.antt")}
+    for folder in (own | stubs) - but:
+        folder.mkdir(parents=True, exist_ok=True)
+        for name in ("Answers", "Invariants"):
+            (folder / f"{name}.antt").unlink(missing_ok=True)
+        (folder / "Proof.antt").write_text("-- No proof.\n", encoding="utf-8")
 
 
 def leave_to_the_prover(proof, is_spoilt):

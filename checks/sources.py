@@ -62,6 +62,27 @@ def clauses_from(lines, at, indent):
         at += 1
 
 
+def with_ensures(text, names):
+    """The text of a function with those of its `ensures` alone that have one of these names. The prover names goals by their clauses if there are
+    several: so the shortest other one stays with a single one, and all stay if one has no name or there is one alone."""
+    lines, parts, depth = text.splitlines(keepends=True), [], 0
+    head = next(i for i, it in enumerate(lines) if FN.match(it))
+    end = clauses_from(lines, head, FN.match(lines[head])[1])[1]
+    for line in lines[head + 1 : end]:
+        if not depth:
+            found = CLAUSE.fullmatch(line.rstrip())
+            parts.append((found[2] or UNNAMED if found and line.split()[0] == "ensures" else "", []))
+        parts[-1][1].append(line)
+        depth += line.count("{") - line.count("}")
+    ensured = {name: sum(map(len, rows)) for name, rows in parts if name}
+    if UNNAMED in ensured or len(ensured) == 1:
+        return text
+    stay = {"", *names}
+    if len(ensured.keys() & stay) == 1:
+        stay |= {*sorted(ensured.keys() - stay, key=ensured.get)[:1]}
+    return "".join([*lines[: head + 1], *(row for name, rows in parts if name in stay for row in rows), *lines[end:]])
+
+
 def functions_in(crate, path):
     """The functions of a file, the ghost members of its impls by owner and trait, and the types that it declares."""
     lines = path.read_text(encoding="utf-8").splitlines()

@@ -1,12 +1,12 @@
 //! The subcommands that translate columns: lines to codes, codes to lines, and codes to other codes.
-use crate::input::{STANDARD, STANDARD_INPUT, first_input, meter_of, name_of};
-use crate::metered::{Meter, Metered};
-use crate::noticing::Noticing;
-use crate::output::{Content, refuse_input, write_to};
-use crate::report;
-use crate::report::Stream;
 use crate::run::checked;
 use clap::ArgMatches;
+use intaglio_dict_io::input::{STANDARD, STANDARD_INPUT, first_input, meter_of, name_of};
+use intaglio_dict_io::metered::{Meter, Metered};
+use intaglio_dict_io::noticing::Noticing;
+use intaglio_dict_io::output::{Content, refuse_input, write_to};
+use intaglio_dict_io::report;
+use intaglio_dict_io::report::Stream;
 use intaglio_dictionary::codes::CodeMap;
 use intaglio_dictionary::columns::{decode, encode, renumber};
 use intaglio_dictionary::error::ColumnError;

@@ -1,11 +1,11 @@
 //! The subcommand that writes a dictionary.
-use crate::input::{STANDARD_INPUT, lines};
-use crate::keys::keys_of;
-use crate::noticing::Noticing;
-use crate::output::{Bytes, Content, are_one, refuse_input, write_to};
 use crate::progress::Shown;
-use crate::report;
 use clap::ArgMatches;
+use intaglio_dict_io::input::{STANDARD_INPUT, lines};
+use intaglio_dict_io::keys::keys_of;
+use intaglio_dict_io::noticing::Noticing;
+use intaglio_dict_io::output::{Bytes, Content, are_one, refuse_input, write_to};
+use intaglio_dict_io::report;
 use intaglio_dictionary::error::FreezingError;
 use intaglio_dictionary::freezing::{freeze_column, freeze_lines, freeze_lines_with_default_keys};
 use intaglio_frozen::{FreezeError, Kind};
@@ -92,7 +92,7 @@ impl<R: Files + RandomSource + Print + Eprint + AllocGlobal> Content<R> for Free
         };
         let mut bytes = Noticing::new(Vec::new(rt.alloc()));
         self.write_column(rt, name, output, &mut bytes)?;
-        let bytes = bytes.into_stream();
+        let bytes = bytes.stream;
         write_to(rt, codes, self.names, &mut Bytes { bytes: &bytes })
     }
 }
@@ -149,8 +149,17 @@ pub fn refusal<R: Eprint + AllocGlobal>(
     error: Option<io::Error>,
 ) -> u8 {
     match refused {
-        FreezingError::Table(FreezeError::NoPlaces) => report::no_places(rt),
+        FreezingError::Table(FreezeError::NoPlaces) => no_places(rt),
         FreezingError::Stream(fault) => report::stopped(rt, fault, name, error),
         _ => report::of_input(rt, refused),
     }
+}
+
+// Of lines that have no frozen table under the keys that were tried.
+fn no_places<R: Eprint>(rt: &R) -> u8 {
+    let _ = eprintln!(rt;
+        "intaglio_dict: {}; other keys may do: --random-keys",
+        FreezeError::NoPlaces
+    );
+    1
 }

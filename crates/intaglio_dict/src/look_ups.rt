@@ -1,11 +1,13 @@
 //! The subcommands that look lines or symbols up.
-use crate::input::{INPUT, STANDARD, STANDARD_INPUT, check_text, first_input, name_of, whole};
-use crate::metered::{Meter, Metered};
-use crate::noticing::Noticing;
-use crate::output::OUTPUT;
-use crate::report;
 use crate::run::checked;
 use clap::ArgMatches;
+use intaglio_dict_io::input::{
+    INPUT, STANDARD, STANDARD_INPUT, check_text, first_input, name_of, whole,
+};
+use intaglio_dict_io::metered::{Meter, Metered};
+use intaglio_dict_io::noticing::Noticing;
+use intaglio_dict_io::output::OUTPUT;
+use intaglio_dict_io::report;
 use intaglio_dictionary::dictionary::Dictionary;
 use intaglio_dictionary::error::DictionaryError;
 use intaglio_dictionary::look_up::{find_lines, write_strings};

@@ -5,21 +5,14 @@
 #![tactic(auto)]
 
 mod columns;
-mod command;
 mod freezing;
-mod input;
-mod keys;
 mod look_ups;
 mod merging;
-mod metered;
-mod noticing;
-mod output;
 mod progress;
-mod replacing;
-mod report;
 mod run;
 
 use clap::ArgMatches;
+use intaglio_dict_io::{command, report};
 use std::alloc::Global;
 use std::env::FillError;
 use std::io::ErrorKind;

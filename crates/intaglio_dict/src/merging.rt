@@ -1,13 +1,13 @@
 //! The subcommand that merges dictionaries.
 use crate::freezing::refusal;
-use crate::input::{STANDARD, meter_of, whole};
-use crate::keys::keys_of;
-use crate::noticing::Noticing;
-use crate::output::{Content, write_to};
 use crate::progress::Shown;
-use crate::report;
 use crate::run::checked;
 use clap::ArgMatches;
+use intaglio_dict_io::input::{STANDARD, meter_of, whole};
+use intaglio_dict_io::keys::keys_of;
+use intaglio_dict_io::noticing::Noticing;
+use intaglio_dict_io::output::{Content, write_to};
+use intaglio_dict_io::report;
 use intaglio_dictionary::merging::{merge, write_codes};
 use intaglio_frozen::{Frozen, Header, Kind};
 use intaglio_symbol::Symbol;

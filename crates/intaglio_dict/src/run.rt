@@ -1,14 +1,14 @@
 //! What each subcommand does.
 use crate::columns::{decode_codes, encode_lines, renumber_codes};
 use crate::freezing::freeze;
-use crate::input::{name_of, whole};
 use crate::look_ups::{find, get};
 use crate::merging::merge_dictionaries;
-use crate::metered::Meter;
-use crate::noticing::Noticing;
-use crate::output::OUTPUT;
-use crate::report;
 use clap::ArgMatches;
+use intaglio_dict_io::input::{name_of, whole};
+use intaglio_dict_io::metered::Meter;
+use intaglio_dict_io::noticing::Noticing;
+use intaglio_dict_io::output::OUTPUT;
+use intaglio_dict_io::report;
 use intaglio_dictionary::look_up::list;
 use intaglio_dictionary::size::size_of_strings;
 use intaglio_frozen::Frozen;

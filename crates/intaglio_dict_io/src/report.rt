@@ -1,6 +1,5 @@
 //! Messages on standard error, each with the exit status. A message that can't be written is lost.
 use clap::error::ErrorKind;
-use intaglio_frozen::FreezeError;
 use intaglio_lines::error::StreamError;
 use std::fmt::Display;
 use std::io;
@@ -110,15 +109,6 @@ pub fn of_input<R: Eprint, D: Display + Drop>(rt: &R, what: D) -> u8 {
 
 fn say<R: Eprint, D: Display + Drop>(rt: &R, what: D) {
     let _ = eprintln!(rt; "intaglio_dict: {what}");
-}
-
-/// Of lines that have no frozen table under the keys that were tried.
-pub fn no_places<R: Eprint>(rt: &R) -> u8 {
-    let _ = eprintln!(rt;
-        "intaglio_dict: {}; other keys may do: --random-keys",
-        FreezeError::NoPlaces
-    );
-    1
 }
 
 /// Of random bytes, which the system doesn't give.

@@ -5,7 +5,8 @@ use std::io::Write;
 /// Writes through another stream, and keeps the last error.
 #[derive(Drop)]
 pub struct Noticing<S> {
-    stream: S,
+    /// The stream.
+    pub stream: S,
     /// The last error.
     pub error: Option<io::Error>,
 }
@@ -17,11 +18,6 @@ impl<S> Noticing<S> {
             stream,
             error: None,
         }
-    }
-
-    /// The stream.
-    pub fn into_stream(self) -> S {
-        self.stream
     }
 }
 

@@ -81,7 +81,7 @@ fn write_and_replace<R: Files + Eprint + AllocGlobal, C: Content<R>>(
 ) -> Result<(), u8> {
     let mut output = Noticing::new(file);
     content.write(rt, path.as_str(), &mut output)?;
-    place.replace(rt, path, output.into_stream())
+    place.replace(rt, path, output.stream)
 }
 
 /// Refuses an output that is the same regular file as one of the inputs: then the exit status after a message.

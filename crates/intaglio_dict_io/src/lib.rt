@@ -1,0 +1,11 @@
+//! What the program `intaglio_dict` reads and writes: its arguments, inputs, outputs and messages.
+#![tactic(auto)]
+
+pub mod command;
+pub mod input;
+pub mod keys;
+pub mod metered;
+pub mod noticing;
+pub mod output;
+pub mod replacing;
+pub mod report;
