@@ -1,20 +1,18 @@
 //! The subcommands that look lines or symbols up.
 use crate::run::checked;
 use clap::ArgMatches;
-use intaglio_dict_io::input::{
-    INPUT, STANDARD, STANDARD_INPUT, check_text, first_input, name_of, whole,
-};
+use intaglio_dict_io::input::{STANDARD_INPUT, first_input, name_of};
 use intaglio_dict_io::metered::{Meter, Metered};
 use intaglio_dict_io::noticing::Noticing;
 use intaglio_dict_io::output::OUTPUT;
 use intaglio_dict_io::report;
+use intaglio_dict_io::symbols::asked_symbols;
 use intaglio_dictionary::dictionary::Dictionary;
 use intaglio_dictionary::error::DictionaryError;
 use intaglio_dictionary::look_up::{find_lines, write_strings};
 use intaglio_frozen::TrustedFrozen;
-use intaglio_symbol::Symbol;
+use std::io;
 use std::rt::Files;
-use std::{io, str};
 
 /// Writes the symbols of lines, and returns the exit status, as `grep` has it: 1 if some lines weren't found, and
 /// 2 after an error.
@@ -140,57 +138,4 @@ fn get_from<R: Files + Input + Print + Eprint + AllocGlobal, D: Dictionary>(
         )),
         Err(unknown) => Err(report::failed(rt, name_of(name), unknown)),
     }
-}
-
-fn asked_symbols<R: Files + Input + Eprint + AllocGlobal>(
-    rt: &R,
-    found: &ArgMatches<'_>,
-) -> Result<Vec<Symbol>, u8> {
-    if found.contains_id("NUMBER") {
-        typed_symbols(rt, found)
-    } else {
-        read_symbols(rt)
-    }
-}
-
-// The symbols among the arguments.
-fn typed_symbols<R: Eprint + AllocGlobal>(
-    rt: &R,
-    found: &ArgMatches<'_>,
-) -> Result<Vec<Symbol>, u8> {
-    let mut symbols = Vec::new(rt.alloc());
-    if let Some(numbers) = found.get_many::<u32>("NUMBER") {
-        for number in numbers {
-            let Ok(number) = number else {
-                return Err(2);
-            };
-            if symbols.push(Symbol::new(number)).is_err() {
-                return Err(report::out_of_memory(rt));
-            }
-        }
-    }
-    Ok(symbols)
-}
-
-// The symbols in the lines of standard input.
-fn read_symbols<R: Files + Input + Eprint + AllocGlobal>(rt: &R) -> Result<Vec<Symbol>, u8> {
-    let input = whole(rt, STANDARD, &mut Meter::silent())?;
-    check_text(rt, STANDARD, &input)?;
-    match str::from_utf8(&input) {
-        Ok(text) => symbols_in(rt, text),
-        Err(_) => Err(2),
-    }
-}
-
-fn symbols_in<R: Eprint + AllocGlobal>(rt: &R, text: &str) -> Result<Vec<Symbol>, u8> {
-    let mut symbols = Vec::new(rt.alloc());
-    for (before, line) in text.lines().enumerate() {
-        let Ok(number) = line.parse::<u32>() else {
-            return Err(report::not_a_symbol(rt, INPUT, before.saturating_add(1), line));
-        };
-        if symbols.push(Symbol::new(number)).is_err() {
-            return Err(report::out_of_memory(rt));
-        }
-    }
-    Ok(symbols)
 }

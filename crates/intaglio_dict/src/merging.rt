@@ -3,17 +3,16 @@ use crate::freezing::refusal;
 use crate::progress::Shown;
 use crate::run::checked;
 use clap::ArgMatches;
-use intaglio_dict_io::input::{STANDARD, meter_of, whole};
+use intaglio_dict_io::input::{STANDARD, whole_files};
 use intaglio_dict_io::keys::keys_of;
 use intaglio_dict_io::noticing::Noticing;
-use intaglio_dict_io::output::{Content, write_to};
+use intaglio_dict_io::output::{Content, make_folder, write_to};
 use intaglio_dict_io::report;
 use intaglio_dictionary::merging::{merge, write_codes};
 use intaglio_frozen::{Frozen, Header, Kind};
 use intaglio_symbol::Symbol;
-use std::fs;
 use std::hash::RandomState;
-use std::io::{ErrorKind, Write};
+use std::io::Write;
 use std::random::RandomSource;
 use std::rt::Files;
 
@@ -108,15 +107,6 @@ fn count_of(maps: &[Vec<Symbol>]) -> usize {
         .fold(0, |sum, n| sum.saturating_add(n))
 }
 
-// Makes a folder if none is there.
-fn make_folder<R: Files + Eprint + AllocGlobal>(rt: &R, name: &str) -> Result<(), u8> {
-    match fs::create_dir(rt, name) {
-        Ok(()) => Ok(()),
-        Err(e) if e.kind() == ErrorKind::AlreadyExists => Ok(()),
-        Err(e) => Err(report::of_file(rt, name, e)),
-    }
-}
-
 /// Merges dictionaries. Otherwise the exit status after a message.
 pub fn merge_dictionaries<R: Files + RandomSource + Input + Print + Eprint + AllocGlobal>(
     rt: &R,
@@ -170,22 +160,6 @@ fn merge_to<R: Files + RandomSource + Print + Eprint + AllocGlobal>(
         report::count(rt, merging.shown.distinct as u64, "distinct strings");
     }
     Ok(())
-}
-
-// The bytes of all files.
-fn whole_files<R: Files + Input + Eprint + AllocGlobal>(
-    rt: &R,
-    names: &[&str],
-    is_shown: bool,
-) -> Result<Vec<Vec<u8>>, u8> {
-    let mut meter = meter_of(rt, names, is_shown);
-    let mut all = Vec::new(rt.alloc());
-    for name in names {
-        if all.push(whole(rt, name, &mut meter)?).is_err() {
-            return Err(report::out_of_memory(rt));
-        }
-    }
-    Ok(all)
 }
 
 // The dictionaries in these files.

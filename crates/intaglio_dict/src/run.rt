@@ -7,7 +7,7 @@ use clap::ArgMatches;
 use intaglio_dict_io::input::{name_of, whole};
 use intaglio_dict_io::metered::Meter;
 use intaglio_dict_io::noticing::Noticing;
-use intaglio_dict_io::output::OUTPUT;
+use intaglio_dict_io::output::ended;
 use intaglio_dict_io::report;
 use intaglio_dictionary::look_up::list;
 use intaglio_dictionary::size::size_of_strings;
@@ -139,16 +139,4 @@ fn stat<R: Print + Eprint + AllocGlobal>(rt: &R, table: &Frozen<'_>, bytes: u64)
         Err(_) => Err(StreamError::Write),
     };
     ended(rt, answer, output.error)
-}
-
-// The exit status after standard output, and a message if it isn't whole.
-fn ended<R: Eprint + AllocGlobal>(
-    rt: &R,
-    answer: Result<(), StreamError>,
-    error: Option<io::Error>,
-) -> u8 {
-    match answer {
-        Ok(()) => 0,
-        Err(fault) => report::stopped(rt, fault, OUTPUT, error),
-    }
 }

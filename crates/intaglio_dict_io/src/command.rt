@@ -1,5 +1,5 @@
 //! The arguments: a row for each subcommand, with a row for each of its arguments.
-use clap::{Arg, ArgAction, Command};
+use clap::{Arg, ArgAction, ArgMatches, Command};
 use std::alloc::{AllocError, Global};
 
 const NOTES: &str = "A file that is called - is standard input, or as the output standard output.
@@ -203,8 +203,13 @@ static SUBCOMMANDS: [Subcommand; 10] = [
     ),
 ];
 
-/// What the program takes.
-pub fn command<'a>(alloc: Global) -> Result<Command<'a>, AllocError> {
+/// What these words ask for. The first one is the program's name.
+pub fn matches<'a>(alloc: Global, words: &'a [String]) -> Result<ArgMatches<'a>, clap::Error> {
+    command(alloc)?.try_get_matches_from(words)
+}
+
+// What the program takes.
+fn command<'a>(alloc: Global) -> Result<Command<'a>, AllocError> {
     program(alloc).subcommands(subcommands(alloc, &SUBCOMMANDS)?)
 }
 

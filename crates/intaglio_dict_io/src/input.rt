@@ -58,6 +58,22 @@ pub fn whole<R: Files + Input + Eprint + AllocGlobal>(
     }
 }
 
+/// The bytes of all files, or the exit status after a message.
+pub fn whole_files<R: Files + Input + Eprint + AllocGlobal>(
+    rt: &R,
+    names: &[&str],
+    is_shown: bool,
+) -> Result<Vec<Vec<u8>>, u8> {
+    let mut meter = meter_of(rt, names, is_shown);
+    let mut all = Vec::new(rt.alloc());
+    for name in names {
+        if all.push(whole(rt, name, &mut meter)?).is_err() {
+            return Err(report::out_of_memory(rt));
+        }
+    }
+    Ok(all)
+}
+
 /// The name and the bytes of the file by which the other inputs are read. Otherwise the exit status after a
 /// message.
 pub fn first_input<'a, R: Files + Input + Eprint + AllocGlobal>(

@@ -9,3 +9,5 @@ pub mod noticing;
 pub mod output;
 pub mod replacing;
 pub mod report;
+pub mod symbols;
+pub mod words;

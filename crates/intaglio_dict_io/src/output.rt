@@ -4,7 +4,7 @@ use crate::noticing::Noticing;
 use crate::replacing::Place;
 use crate::report;
 use intaglio_lines::error::StreamError;
-use std::io::Write;
+use std::io::{ErrorKind, Write};
 use std::os::unix::fs::MetadataExt;
 use std::path::Path;
 use std::random::RandomSource;
@@ -123,5 +123,26 @@ fn file_of<R: Files>(rt: &R, path: &str) -> Option<(u64, u64)> {
     match fs::metadata(rt, path) {
         Ok(found) if found.is_file() => Some((found.dev(), found.ino())),
         _ => None,
+    }
+}
+
+/// Makes a folder if none is there. Otherwise the exit status after a message.
+pub fn make_folder<R: Files + Eprint + AllocGlobal>(rt: &R, name: &str) -> Result<(), u8> {
+    match fs::create_dir(rt, name) {
+        Ok(()) => Ok(()),
+        Err(e) if e.kind() == ErrorKind::AlreadyExists => Ok(()),
+        Err(e) => Err(report::of_file(rt, name, e)),
+    }
+}
+
+/// The exit status after standard output, and a message if it isn't whole.
+pub fn ended<R: Eprint + AllocGlobal>(
+    rt: &R,
+    answer: Result<(), StreamError>,
+    error: Option<io::Error>,
+) -> u8 {
+    match answer {
+        Ok(()) => 0,
+        Err(fault) => report::stopped(rt, fault, OUTPUT, error),
     }
 }
