@@ -46,8 +46,8 @@ OF_CLAUSE = re.compile(r"clause-([a-z]\w*)")
 OF_OTHERS = {"invariant_of": "invariant", "requires": "requires", "loop": "loop", "returns": "ensures", "bounds": "bounds"}
 # An answer that names what an edit took away. That shows nothing of the contract, and `rt must-fail` says so too.
 BROKEN_NAME = re.compile(r"has no field|is not in scope|has no `|was not admitted")
-# An answer of a goal that isn't there, and the one by which a function is spoilt.
-NO_SUCH_GOAL, SPOILT = re.compile(r"\.Goals` has no `"), re.compile(r": error: `spoilt`: ")
+# The answer by which a function is spoilt.
+SPOILT = re.compile(r": error: `spoilt`: ")
 
 
 def version():
@@ -176,9 +176,9 @@ def checked(crate, texts, functions, are_spoilt, kept, stubs):
 
 
 def is_all_spoilt(words, lines):
-    """Whether the prover says nothing of a spoilt function but that it isn't proved, that it calls others that aren't, that the one answer can't be
-    read, and that it has no goal of answers of other clauses."""
-    return bool(NOT_PROVED.match(words) and any(map(SPOILT.search, lines)) and all(SPOILT.search(it) or NO_SUCH_GOAL.search(it) for it in lines))
+    """Whether the prover says nothing of a spoilt function but that it isn't proved, that it calls others that aren't, and that the one answer can't be
+    read."""
+    return bool(NOT_PROVED.match(words) and lines and all(map(SPOILT.search, lines)))
 
 
 def take_proof(proofs, function, whose):
