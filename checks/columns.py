@@ -5,10 +5,12 @@ import itertools
 import os
 import random
 import re
+import resource
 import shutil
 import struct
 import subprocess
 import tempfile
+import unicodedata
 from pathlib import Path
 
 from frozen_tables import BYTES, TEXT, freeze
@@ -16,11 +18,16 @@ from programs import run
 
 NAME = "intaglio_dict"
 MISSING = 2**32 - 1
+# What messages say of a missing line, and of its code.
+CODED = f"--missing gives such lines the code {MISSING}"
+LINELESS = "that of a line that wasn't in a dictionary; --missing TEXT gives it a line"
 PARTS = 10
 # How many lines a column has in all, and at most how many distinct ones are drawn for it.
 SIZES = (0, 1, 7, 300, 5_000, 100_000, 1_000_000)
 DISTINCT = 10_000
 DAMAGED = 150
+# The length of a long line, and the processor time that a command may take for it.
+LONG, LONG_SECONDS = 100 * 2**20, 15
 
 
 class Damaged(ValueError):
@@ -51,12 +58,24 @@ def ended(lines):
     return b"".join(it + b"\n" for it in lines)
 
 
+def shown(line):
+    """A line as messages show it: as it is if it's a short text without control characters, and otherwise escaped."""
+    try:
+        text = line.decode()
+        is_plain = len(line) <= 200 and not any(unicodedata.category(it) == "Cc" for it in text)
+    except UnicodeDecodeError:
+        is_plain = False
+    named = {9: "\\t", 10: "\\n", 13: "\\r", 34: '\\"', 39: "\\'", 92: "\\\\"}
+    escaped = "".join(named.get(it, chr(it) if 32 <= it < 127 else f"\\x{it:02x}") for it in line[:200])
+    return f"'{text}'" if is_plain else f"'{escaped}'" + ".." * (len(line) > 200)
+
+
 def encoded(strings, lines, missing=False):
     """The codes of lines, of which none may be missing unless that is allowed."""
     symbols = {it: number for number, it in enumerate(strings)}
     for place, line in enumerate(lines, 1):
         if line not in symbols and not missing:
-            raise Damaged(place, "is not in the dictionary")
+            raise Damaged(place, f"is not in the dictionary: {shown(line)}; {CODED}")
     return [symbols.get(it, MISSING) for it in lines]
 
 
@@ -64,7 +83,7 @@ def decoded(strings, codes, missing=None):
     """The lines of codes; the missing ones are this text, if there is one."""
     for place, code in enumerate(codes, 1):
         if code >= len(strings) and (code != MISSING or missing is None):
-            raise Damaged(place, "is no symbol")
+            raise Damaged(place, f"is {code}, {LINELESS if code == MISSING else 'which is no symbol'}")
     return [missing if it == MISSING else strings[it] for it in codes]
 
 
@@ -72,7 +91,7 @@ def renumbered(numbers, codes):
     """The codes under a map; missing ones stay so."""
     for place, code in enumerate(codes, 1):
         if code >= len(numbers) and code != MISSING:
-            raise Damaged(place, "is no symbol")
+            raise Damaged(place, f"is {code}, which isn't in the map")
     return [code if code == MISSING else numbers[code] for code in codes]
 
 
@@ -142,8 +161,10 @@ def of_missing(tool, strings, lines, folder):
     yield "encode --missing", run([tool, "encode", "--missing", table, source, "-o", codes]) == DONE and read(codes) == packed(wanted)
     yield "decode --missing", run([tool, "decode", "--missing", "none", table, codes]) == (0, ended(decoded(strings, wanted, b"none")), [])
     place = next((it for it, code in enumerate(wanted, 1) if code == MISSING), 0)
-    said_of = said(1, f"{source}: line {place} is not in the dictionary") if place else DONE
-    yield "encode", run([tool, "encode", table, source])[::2] == said_of[::2]
+    said_of = said(1, f"{source}: line {place} is not in the dictionary: {shown(lines[place - 1])}; {CODED}") if place else DONE
+    status, wrote, told = run([tool, "encode", table, source])
+    yield "encode", (status, told) == said_of[::2]
+    yield "what encode wrote", packed(wanted[: place - 1] if place else wanted).startswith(wrote)
 
 
 def of_column(tool, chance, size, kind, folder):
@@ -182,31 +203,37 @@ def faults(tool, folder):
     table, codes, out = f"{folder}/table", f"{folder}/codes", f"{folder}/out"
     strings = [b"a", b"", b"ccc"]
     Path(table).write_bytes(freeze(strings))
-    for given, place in ((b"a\nx\n", 2), (b"x", 1), (b"a\n\nccc\ncc", 4), (b"aa\n", 1), (b"\n\n\nA\n", 4)):
-        fault = f"line {place} is not in the dictionary"
-        status, _, told = run([tool, "encode", table], given)
-        yield f"encode {given}", (status, told) == said(1, f"standard input: {fault}")[::2]
+    long = [b"x" * count for count in (200, 201, 65_536, 200_000)] + [b"\xc3\xa9" * 100, b"\xc3\xa9" * 101]
+    odd = [b"\xff'\"\\", b"a\tb", b"\0", "é".encode(), b"a" * 70_000 + b"\n" + b"b" * 70_000]
+    shows = [(b"a\n" * 40_000 + it + end, 40_001) for it in (*long, *odd) for end in (b"", b"\n", b"\na\nzzz\n")]
+    for given, place in ((b"a\nx\n", 2), (b"x", 1), (b"a\n\nccc\ncc", 4), (b"aa\n", 1), (b"\n\n\nA\n", 4), *shows):
+        fault = f"line {place} is not in the dictionary: {shown(lines_of(given)[place - 1])}; {CODED}"
+        status, wrote, told = run([tool, "encode", table], given)
+        yield f"encode {given[-99:]}", (status, told) == said(1, f"standard input: {fault}")[::2]
+        yield f"what encode wrote of {given[-99:]}", packed(encoded(strings, lines_of(given)[: place - 1])).startswith(wrote)
         Path(codes).write_bytes(given)
         Path(out).write_bytes(b"as it was")
-        yield f"encode -o {given}", run([tool, "encode", table, codes, "-o", out]) == said(1, f"{codes}: {fault}") and read(out) == b"as it was"
+        yield f"encode -o {given[-99:]}", run([tool, "encode", table, codes, "-o", out]) == said(1, f"{codes}: {fault}") and read(out) == b"as it was"
         wanted = packed(encoded(strings, lines_of(given), True))
-        yield f"encode --missing {given}", run([tool, "encode", "--missing", table], given) == (0, wanted, [])
+        yield f"encode --missing {given[-99:]}", run([tool, "encode", "--missing", table], given) == (0, wanted, [])
         lines = [it if it in strings else b"?" for it in lines_of(given)]
-        yield f"decode --missing {given}", run([tool, "decode", "--missing", "?", table], wanted) == (0, ended(lines), [])
-        told = said(1, f"standard input: code {place} is no symbol")[::2]
-        yield f"decode {given}", run([tool, "decode", table], wanted)[::2] == told
-    for numbers, place in (([3], 1), ([0, 2, 1, 4], 4), ([2**31], 1), ([0, 2**32 - 2], 2)):
+        yield f"decode --missing {given[-99:]}", run([tool, "decode", "--missing", "?", table], wanted) == (0, ended(lines), [])
+        told = said(1, f"standard input: code number {place} is {MISSING}, {LINELESS}")[::2]
+        yield f"decode {given[-99:]}", run([tool, "decode", table], wanted)[::2] == told
+    of_code = {"decode": "which is no symbol", "renumber": "which isn't in the map"}
+    for numbers, place in (([3], 1), ([0, 2, 1, 4], 4), ([2**31], 1), ([0, 2**32 - 2], 2), ([1] * 100_000 + [3], 100_001)):
         for command in (["decode", table], ["decode", "--missing", "?", table], ["renumber", f"{folder}/map"]):
+            fault = f"code number {place} is {numbers[place - 1]}, {of_code[command[0]]}"
             Path(f"{folder}/map").write_bytes(packed([5, 4, 9]))
-            yield f"{command[0]} {numbers}", run([tool, *command], packed(numbers))[::2] == said(1, f"standard input: code {place} is no symbol")[::2]
+            yield f"{command[0]} {numbers[-4:]}", run([tool, *command], packed(numbers))[::2] == said(1, f"standard input: {fault}")[::2]
             Path(codes).write_bytes(packed(numbers))
-            wanted = said(1, f"{codes}: code {place} is no symbol")
-            yield f"{command[0]} -o {numbers}", run([tool, *command, codes, "-o", out]) == wanted and read(out) == b"as it was"
+            wanted = said(1, f"{codes}: {fault}")
+            yield f"{command[0]} -o {numbers[-4:]}", run([tool, *command, codes, "-o", out]) == wanted and read(out) == b"as it was"
     for cut in (1, 2, 3):
         for count in (0, 1, 70_000):
             given = packed([1] * count) + bytes(cut)
             for command in (["decode", table], ["renumber", f"{folder}/map"]):
-                yield f"{command[0]}, cut", run([tool, *command], given)[::2] == said(1, f"standard input: code {count + 1} is cut short")[::2]
+                yield f"{command[0]}, cut", run([tool, *command], given)[::2] == said(1, f"standard input: code number {count + 1} is cut short")[::2]
         Path(f"{folder}/short").write_bytes(packed([0, 1]) + bytes(cut))
         wanted = said(1, f"{folder}/short: not a map: its length is no multiple of 4")
         yield "a cut map", run([tool, "renumber", f"{folder}/short"], packed([0])) == wanted
@@ -221,6 +248,20 @@ def damage(data, chance):
         at = chance.randrange(len(data) + 1)
         data[at : at + chance.randrange(3)] = chance.randbytes(chance.choice((0, 1, 2, 4)))
     return bytes(data)
+
+
+def missing_lines(tool, chance, table, strings):
+    """Lines of which some aren't in the dictionary: `encode` writes codes of lines before the first of them, and nothing else."""
+    for turn in range(DAMAGED):
+        lines = chance.choices(strings, k=chance.choice((1, 50, 20_000, 40_000)))
+        for place in chance.choices(range(len(lines)), k=turn % 3):
+            lines[place] = b"none of them"
+        place = next((it for it, line in enumerate(lines, 1) if line not in strings), 0)
+        wanted = packed(encoded(strings, lines[: place - 1] if place else lines))
+        status, wrote, told = run([tool, "encode", table], ended(lines))
+        message = [f"{NAME}: standard input: line {place} is not in the dictionary: {shown(lines[place - 1])}; {CODED}"] if place else []
+        is_right = wanted.startswith(wrote) if place else wrote == wanted
+        yield f"encode, {len(lines)} lines, missing {place}: {status}, {told}", (status, told) == (int(bool(place)), message) and is_right
 
 
 def translated(translate, data):
@@ -240,6 +281,7 @@ def damages(tool, chance, folder):
     """Codes and maps of random bytes: what the program writes, and the first code at which it stops, are what the reader here finds."""
     table, numbers, strings = f"{folder}/table", f"{folder}/map", [b"%d" % it for it in range(200)]
     Path(table).write_bytes(freeze(strings))
+    yield from missing_lines(tool, chance, table, strings)
     for turn in range(DAMAGED):
         changed = damage(packed(chance.choices(range(2**32), k=200)), chance)
         data = damage(packed(chance.choices([*range(200), MISSING][: 200 + turn % 2], k=chance.choice((0, 1, 50, 20_000)))), chance)
@@ -255,9 +297,35 @@ def damages(tool, chance, folder):
                 yield f"{words}, damaged", (status, wrote, told) == said(1, f"{numbers}: not a map: its length is no multiple of 4")
                 continue
             wanted, fault = translated(translate, data)
-            message = [f"{NAME}: standard input: code {fault.args[0]} {fault.args[1]}"] if fault else []
+            message = [f"{NAME}: standard input: code number {fault.args[0]} {fault.args[1]}"] if fault else []
             is_right = wanted.startswith(wrote) if fault else wrote == wanted
             yield f"{words}, damaged: {data[:400].hex()}", (status, told) == (int(bool(fault)), message) and is_right
+
+
+def long_lines(tool, folder):
+    """Each command on a line of 100 MiB: what it writes, and its processor time, which would be minutes if it grew with the square of the length."""
+    table, codes, source, out = (f"{folder}/{it}" for it in ("long.dict", "long.codes", "long.lines", "long.out"))
+    line = b"0123456789abcdef" * (LONG // 16)
+    lines = line + b"\nb\n"
+    Path(source).write_bytes(lines)
+    two, maps = packed([0, 1]), f"{folder}/long.maps"
+    for words, given, wanted in (
+        (["freeze", "-o", table, "--codes", codes, source], b"", DONE),
+        (["encode", table, source], b"", (0, two, [])),
+        (["encode", table], line, (0, two[:4], [])),
+        (["encode", table], line[1:], said(1, f"standard input: line 1 is not in the dictionary: {shown(line[1:])}; {CODED}")),
+        (["find", table, source], b"", (0, b"0\n1\n", [])),
+        (["decode", table, codes], b"", (0, lines, [])),
+        (["get", table, "0"], b"", (0, line + b"\n", [])),
+        (["list", table], b"", (0, lines, [])),
+        (["merge", table, table, "-o", out, "--maps", maps], b"", DONE),
+    ):
+        before = sum(resource.getrusage(resource.RUSAGE_CHILDREN)[:2])
+        done = run([tool, *words], given)
+        seconds = sum(resource.getrusage(resource.RUSAGE_CHILDREN)[:2]) - before
+        yield f"{words}: a line of 100 MiB", done == wanted
+        yield f"{words}: a line of 100 MiB: {seconds:.1f} s of processor time", seconds < LONG_SECONDS
+    yield "the codes of long lines", read(codes) == two and read(out) == read(table) and read(f"{maps}/1.map") == two
 
 
 def requests(tool, folder):
@@ -292,14 +360,16 @@ def requests(tool, folder):
         (["freeze", "-o", f"{folder}/new", "--codes", codes, codes], codes),
     ):
         before = {it: read(f"{folder}/{it}") for it in os.listdir(folder) if os.path.isfile(f"{folder}/{it}")}
-        yield f"{words[0]}: an output that is an input", run([tool, *words]) == said(1, f"{name}: the input is also the output")
+        wanted = said(2, f"{name}: this input is also the output {name}; nothing was written")
+        yield f"{words[0]}: an output that is an input", run([tool, *words]) == wanted
         yield f"{words[0]}: after that", before == {it: read(f"{folder}/{it}") for it in os.listdir(folder) if os.path.isfile(f"{folder}/{it}")}
     twice = said(2, "standard input can be only one of the inputs")
     for words in (["encode", "-"], ["decode", "-", codes, "-"], ["renumber", "-"], ["merge", "-", tables[0], "-", "-o", out]):
         yield f"{words}", run([tool, *words], read(tables[0])) == twice
-    one = said(2, "the codes and the dictionary can't be one output")
     for name, other in (("-", "-"), (f"{folder}/new", f"{folder}/new"), (tables[0], f"{folder}/./one")):
-        yield f"freeze, one output {other}", run([tool, "freeze", "-o", name, "--codes", other], b"a") == one
+        one, two = ("standard output" if it == "-" else it for it in (name, other))
+        wanted = said(2, f"{two}: this output is also the output {one}; nothing was written")
+        yield f"freeze, one output {other}", run([tool, "freeze", "-o", name, "--codes", other], b"a") == wanted
     for text in ("\n", "a\nb", "a\n"):
         yield f"decode --missing {text!r}", run([tool, "decode", "--missing", text, tables[0]]) == said(2, "the text after --missing has a line end")
     for words in (["encode"], ["decode"], ["renumber"], ["merge"], ["merge", tables[0]], ["encode", tables[0], "--no"]):
@@ -392,6 +462,17 @@ def example(tool, folder):
         Path(f"{folder}/lines").write_bytes(ended(lines))
         status, wrote, _ = run(["examples/columns", f"{folder}/lines", "3"], DICT=tool, PATH=os.environ["PATH"])
         yield f"{len(lines)} lines", (status, wrote.split(b"\n")[0]) == (0, b"strings %d" % len({*lines}))
+    odd = f"{folder}/a folder, 5% 'odd'"
+    os.mkdir(odd)
+    os.symlink(tool, f"{odd}/dict")
+    shutil.copy(f"{folder}/lines", odd)
+    settings = {"DICT": f"{odd}/dict", "PATH": os.environ["PATH"], "TMPDIR": odd}
+    status, wrote, _ = run(["examples/columns", f"{odd}/lines", "3"], **settings)
+    yield "a folder with a space", (status, wrote.split(b"\n")[0], sorted(os.listdir(odd))) == (0, b"strings %d" % len({*lines}), ["dict", "lines"])
+    for parts in ("0", "-1", "x", "", "3x", "1.5", "08", " 3", "a[$(touch made)]", "9999999"):
+        status, wrote, told = run(["examples/columns", f"{odd}/lines", parts], **settings)
+        wanted = f"columns: PARTS is a number from 1 to 999999, and not '{parts}'"
+        yield f"{parts!r} parts", (status, wrote, told[0]) == (2, b"", wanted) and not os.path.exists("made") and sorted(os.listdir(odd)) == ["dict", "lines"]
 
 
 def made(tool, folder):
@@ -421,6 +502,7 @@ def cases(tool, library):
         yield f"a column of {size} lines, {word}", lambda folder, size=size, kind=kind: of_column(tool, random.Random(size), size, kind, folder)
     yield "faults", lambda folder: faults(tool, folder)
     yield "damaged codes and maps", lambda folder: damages(tool, random.Random(1), folder)
+    yield "long lines", lambda folder: long_lines(tool, folder)
     yield "requests", lambda folder: requests(tool, folder)
     yield "devices", lambda folder: devices(tool, library, folder)
     yield "examples/columns", lambda folder: example(tool, folder)

@@ -211,7 +211,7 @@ def links(writer, folder):
 
 
 def irregular(writer, folder):
-    """What is no regular file isn't replaced."""
+    """What is no regular file isn't replaced: the program writes to a device and to a pipe, and the Python module refuses them."""
     path = f"{folder}/there"
     made = {"a pipe": lambda: os.mkfifo(path), "a device": lambda: os.mknod(path, stat.S_IFCHR | 0o666, os.makedev(1, 3))}
     for what, make in made.items():
@@ -221,13 +221,24 @@ def irregular(writer, folder):
             print(f"left out: {what} can't be made here")
             continue
         kind = stat.S_IFMT(os.stat(path).st_mode)
-        yield what, frozen_to(writer, path) == (1, writer.message(path, "not a regular file"))
-        yield f"{what} stays", stat.S_IFMT(os.lstat(path).st_mode) == kind and os.listdir(folder) == ["there"]
         link = f"{folder}/link"
         os.symlink("there", link)
-        yield f"a link to {what}", frozen_to(writer, link) == (1, writer.message(link, "not a regular file")) and os.path.islink(link)
+        for called, name in ((what, path), (f"a link to {what}", link)):
+            yield called, is_written(writer, name) if isinstance(writer, Program) else frozen_to(writer, name) == (1, writer.message(name, "not a regular file"))
+            yield f"{called} stays", stat.S_IFMT(os.stat(path).st_mode) == kind and sorted(os.listdir(folder)) == ["link", "there"] and os.path.islink(link)
         remove(path)
         remove(link)
+
+
+def is_written(writer, path):
+    """Whether the program writes to a device, or all of the table to a pipe that is read."""
+    if not stat.S_ISFIFO(os.stat(path).st_mode):
+        return frozen_to(writer, path) == DONE
+    reader = os.open(path, os.O_RDONLY | os.O_NONBLOCK)
+    try:
+        return frozen_to(writer, path) == DONE and os.read(reader, 1 << 16) == freeze(STRINGS)
+    finally:
+        os.close(reader)
 
 
 def names(writer, folder):

@@ -1,5 +1,5 @@
 """`intaglio_dict` as a program among others: standard streams by the name `-`, statuses, symbols from standard input, an output that is an
-input, lines that aren't UTF-8, trusted dictionaries, progress in percents, a closed pipe, and usage lines.
+input (frozen_apart.py has more of that), lines that aren't UTF-8, trusted dictionaries, progress in percents, a closed pipe, and the name in usage lines and messages.
 """
 import os
 import subprocess
@@ -85,7 +85,7 @@ def symbols(tool, folder):
         (b"0\n\xff\n", "line 2 is not UTF-8"),
     ):
         yield f"get: {given}", run([tool, "get", name], given) == said(1, f"standard input: {what}")
-    yield "get: no string", run([tool, "get", name], b"0\n20\n") == said(1, f"{name}: no string 20")
+    yield "get: no string", run([tool, "get", name], b"0\n20\n") == said(1, f"{name}: no string has the symbol 20")
     found = run([tool, "find", name], LINES)[1]
     yield "get after find", run([tool, "get", name], found) == done(LINES)
 
@@ -98,12 +98,13 @@ def outputs(tool, folder):
     os.link(lines, other)
     for name in (lines, link, other):
         for words in ([lines], [f"{folder}/../{os.path.basename(folder)}/lines"], [link], [other, lines]):
-            wanted = said(1, f"{words[0]}: the input is also the output")
+            wanted = said(2, f"{words[0]}: this input is also the output {name}; nothing was written")
             yield f"freeze -o {name} {words}", run([tool, "freeze", "-o", name, *words]) == wanted
         shell = ["/bin/sh", "-c", 'exec "$0" "$@" < "$LINES"', tool, "freeze", "-o", name]
-        yield f"freeze -o {name} < lines", run(shell, LINES=lines) == said(1, "standard input: the input is also the output")
+        yield f"freeze -o {name} < lines", run(shell, LINES=lines) == said(2, f"standard input: this input is also the output {name}; nothing was written")
     appended = ["/bin/sh", "-c", 'exec "$0" freeze -o - "$LINES" >> "$LINES"', tool]
-    yield "freeze -o - lines >> lines", run(appended, LINES=lines) == said(1, f"{lines}: the input is also the output")
+    wanted = said(2, f"{lines}: this input is also the output standard output; nothing was written")
+    yield "freeze -o - lines >> lines", run(appended, LINES=lines) == wanted
     yield "after that", Path(lines).read_bytes() == LINES and sorted(os.listdir(folder)) == ["lines", "link", "other"]
 
 
@@ -155,11 +156,17 @@ def progress(tool, folder):
 
 
 def usage(tool, folder):
-    """Usage lines begin with the name by which the program was called."""
-    for called, shown in (("intaglio dict", "intaglio dict"), ("/some/folder/dict", "dict")):
+    """Usage lines and messages begin with the name by which the program was called."""
+    for called, shown in (("intaglio dict", "intaglio dict"), ("/some/folder/dict", "dict"), ("./intaglio dict", "intaglio dict")):
         for words in (["find", "--help"], ["find"], ["find", "--no"]):
             ran = subprocess.run([called, *words], executable=tool, capture_output=True, text=True, timeout=60)
             yield f"usage of {called} {words}", f"Usage: {shown} find " in ran.stdout + ran.stderr
+        for words, message in ((["list", "no"], "no: No such file or directory"), (["freeze", "-o", "no", "--keys", "5"], "--keys '5': "), (["get", "no", "x"], "'x' is no ")):
+            ran = subprocess.run([called, *words], executable=tool, capture_output=True, text=True, timeout=60, cwd=folder)
+            yield f"messages of {called} {words}", ran.stderr.startswith(f"{shown}: {message}")
+    given = [tool, "freeze", "--verbose", "-o", f"{folder}/made"]
+    for lines, count, distinct in ((b"b\na\nb", 3, 2), (b"b\n", 1, 1), (b"", 0, 0), (b"\n\n", 2, 1)):
+        yield f"freeze --verbose {lines}", run(given, lines) == (0, b"", [f"{NAME}: {count} lines frozen", f"{NAME}: {distinct} distinct lines"])
 
 
 CASES = (streams, statuses, symbols, outputs, texts, trusted, progress, usage)

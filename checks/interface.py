@@ -54,14 +54,55 @@ def exports(module, text):
                 yield module, f"pub use {name.strip()}"
 
 
+# An alias of contents, what a kind's contents are made of, and the forms and values that are looked up among them.
+ALIAS = re.compile(r"(?m)^pub type (\w+) = ContentOf<(\w+)>;")
+KIND_ALIAS = re.compile(r"(?m)^pub type (\w+) = (\w+)<\w+>;")
+OWNED = re.compile(r"(?m)^impl(?:<\w+>)? KindOwned for (\w+)(?:<\w+>)? \{\n    type Static = (.*);\n\n    type Owned = (.*);")
+FORM = re.compile(r"(?m)^impl<'a(?:, \w+)?> KindForm<'a> for (\w+)(?:<\w+>)? \{\n    type Form = (.*);")
+PACKABLE = re.compile(r"(?m)^impl(?:<[^>]*>)? Packable<(\w+)(?:<\w+>)?> for (\w+)")
+
+
+def elided(form):
+    """A type that is borrowed from `self`, as a signature has it."""
+    return re.sub(r"<'a>", "<'_>", form).replace("&'a ", "&")
+
+
+def of_kinds(crate, texts):
+    """What the generic declarations of `ContentOf` say of each alias of contents that a crate has, with the types of its kind in their places."""
+    generic, text = TOP / "crates/intaglio_content/src/content_of.rt", "\n".join(texts)
+    made = re.findall(r"impl<K: KindOwned<(\w+) = (.*)>> From<(.*)> for ContentOf<K>", generic.read_text(encoding="utf-8"))
+    kinds = {name: of for name, of in KIND_ALIAS.findall(text)}
+    owned = {kind: {"Static": static, "Owned": own} for kind, static, own in OWNED.findall(text)}
+    forms, sought = dict(FORM.findall(text)), PACKABLE.findall(text)
+    for content, kind in ALIAS.findall(text):
+        kind = kinds.get(kind, kind)
+        for owner, signature in [*calls("intaglio_content", generic), *types(generic.read_text(encoding="utf-8")), ("", "impl Spelled for ContentOf")]:
+            if owner not in ("", "ContentOf", "Spelled for ContentOf"):
+                continue
+            for part, of in owned[kind].items():
+                signature = signature.replace(f"K::{part}", of)
+            signature = signature.replace("&'a self", "&self").replace("K::Form", elided(forms[kind])).replace("<K: KindOwned>", "")
+            yield owner.replace("ContentOf", content), signature.replace("ContentOf", content)
+        yield from ((f"From for {content}", f"fn from(text: {of}) -> {content}") for part, of, _ in made if owned[kind][part] == of)
+        for value in [content, *(it for of, it in sought if of == kind)]:
+            for owner, signature in calls("intaglio_content", generic):
+                if owner == "Sought for Q":
+                    yield f"Sought for {value}", signature.replace("ContentOf<K>", content)
+
+
 def items(crate):
-    """What a crate declares, as (OWNER, SIGNATURE): also the impls of traits, by their headers."""
-    for path in sorted((TOP / "crates" / crate / "src").glob("**/*.rt")):
+    """What a crate declares, as (OWNER, SIGNATURE): also the impls of traits, by their headers, and what a content of a kind has by its generic type."""
+    paths = sorted((TOP / "crates" / crate / "src").glob("**/*.rt"))
+    yield from of_kinds(crate, [it.read_text(encoding="utf-8") for it in paths])
+    for path in paths:
         text = path.read_text(encoding="utf-8")
+        module = "" if path.stem == "lib" else path.stem
+        # (a type that a module declares is had there as one that it re-exports)
+        yield from ((module, f"pub use {it}") for it in re.findall(r"(?m)^pub (?:type|struct|enum|trait) (\w+)", text) if module)
         yield from calls(crate, path)
         yield from types(text)
         yield from (("", joined(it)) for it in MARKED.findall(text))
-        yield from exports("" if path.stem == "lib" else path.stem, text)
+        yield from exports(module, text)
 
 
 def listed():

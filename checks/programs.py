@@ -4,7 +4,7 @@ import os, shutil, subprocess, sys, tempfile
 TOP = os.path.join(os.path.dirname(os.path.abspath(__file__)), "..")
 SOURCE = "checks/refuse.c"
 BUILDS = ("", ".by-rattle")  # the two compilers' executables
-OUT_OF_MEMORY = (1, b"", ["out of memory"])
+OUT_OF_MEMORY = "out of memory"
 
 PROGRAMS = ("intaglio_tool", "intaglio_restore")
 
@@ -36,8 +36,21 @@ def run(command, given=b"", **settings):
     return ran.returncode, ran.stdout, ran.stderr.decode(errors="replace").splitlines()
 
 
+def said(command, text):
+    """The lines of a message, which begins with the name by which the program was called."""
+    return [f"{os.path.basename(command[0])}: {text}"]
+
+
 def program(name, build):
     return f"crates/{name}/out/{name}{build}"
+
+
+def called(name, path, folder):
+    """A link to a program by its plain name, whichever compiler built it: messages begin with the name by which it was called."""
+    link = os.path.join(folder, os.path.basename(path).partition(".")[2] or "first", name)
+    os.makedirs(os.path.dirname(link), exist_ok=True)
+    os.symlink(os.path.abspath(path), link)
+    return link
 
 
 def modes(tool):

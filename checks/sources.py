@@ -22,8 +22,9 @@ FIELD = re.compile(r" +(?:pub )?(\w+) : ")
 
 # A function: where it is, the impl or trait that it stands in, and its clauses by their names.
 Function = make_dataclass("Function", "crate file line owner trait name clauses is_test text".split(), frozen=True, eq=False)
-# An edit: the function that it turns, the clauses by which it is refused, and the promise that it breaks.
-Edit = namedtuple("Edit", "crate folder name path function clauses promise beside file pairs")
+# An edit, a mutant or a control: the function that it turns, the clauses by which it is refused, and the promise that it breaks.
+Edit = namedtuple("Edit", "crate kind name path function clauses promise beside file pairs")
+MUTANT, CONTROL = "mutant", "control"
 
 
 def named(text):
@@ -125,14 +126,22 @@ def definitions_in(path):
     return found
 
 
-def edits_in(crate, path):
-    text = path.read_text(encoding="utf-8")
+def edit_of(crate, path, text):
+    """The edit that a block of a file of mutants describes."""
     line = lambda word: (re.search(rf"^{word}: (.*)$", text, re.M) or ["", ""])[1]
+    kind, _, name = text.partition("\n")[0].partition(": ")
     found = re.fullmatch(r"([\w, ]+): (.+)", line("promise"))
     clauses = tuple(found[1].split(", ")) if found else ()
     pairs = tuple(re.findall(r"^old: (.*)\nnew: ?(.*)$", text, re.M))
-    return Edit(crate, path.parent.name, path.stem, str(path.relative_to(TOP)), line("fn"), clauses, found[2] if found else "",
+    return Edit(crate, kind, name, f"{path.relative_to(TOP)}: {name}", line("fn"), clauses, found[2] if found else "",
                 tuple(line("beside").split()), line("file"), pairs)
+
+
+def edits_in(crate):
+    """A crate's mutants and controls: the blocks of its file of mutants."""
+    path = TOP / "crates" / crate / "mutants.txt"
+    text = re.sub(r"(?m)^#.*\n", "", path.read_text(encoding="utf-8")) if path.is_file() else ""
+    return [edit_of(crate, path, it) for it in re.split(r"\n{2,}", text.strip()) if it]
 
 
 def is_of_type(edit):
@@ -155,13 +164,14 @@ class Sources:
                     self.members.setdefault((folder.name, *owner), {}).update(own)
             for path in sorted(folder.glob("specs/**/*.antt")):
                 self.definitions.update(definitions_in(path))
-            self.edits += [edits_in(folder.name, path) for path in sorted(folder.glob("must-*/*.edit"))]
+            self.edits += edits_in(folder.name)
 
     def tests(self):
         return [it for it in self.functions if it.is_test]
 
     def is_public(self, function):
-        """Whether callers of its crate can call a function: it stands in a public module of a library, or it or its type is re-exported."""
+        """Whether callers of its crate can call a function: it stands in the root or in a public module of a
+        library, or it or its type is re-exported."""
         root = TOP / "crates" / function.crate / "src/lib.rt"
         is_method = function.owner and function.owner == function.trait
         if not root.is_file() or not (is_method or function.text.lstrip().startswith("pub ")):
@@ -169,7 +179,8 @@ class Sources:
         text = root.read_text(encoding="utf-8")
         exported = {word for it in re.findall(r"(?ms)^pub use ([^;]+);", text) for word in re.findall(r"\w+", it)}
         is_in_module = any(re.match(rf"crates/\w+/src/{it}[./]", function.file) for it in re.findall(r"(?m)^pub mod (\w+);", text))
-        return is_in_module or (function.owner or function.name) in exported
+        is_in_root = not function.owner and function.file.endswith("/src/lib.rt")
+        return is_in_root or is_in_module or (function.owner or function.name) in exported
 
     def clauses_of(self, function):
         """The clauses of a function: its own, or its trait's; and the members of its impl."""

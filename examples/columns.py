@@ -29,10 +29,14 @@ def ends_of(path, parts):
         yield size
 
 
-def lines_of(path, start, end):
+def read_part(path, start, end):
     with open(path, "rb") as file:
         file.seek(start)
-        data = file.read(end - start)
+        return file.read(end - start)
+
+
+def lines_of(path, start, end):
+    data = read_part(path, start, end)
     return data.removesuffix(b"\n").split(b"\n") if data else []
 
 
@@ -45,7 +49,7 @@ def read_codes(name):
 def encode(name, path, start, end):
     """Map: the dictionary and the codes of a part."""
     table = BytesTable()
-    codes = array("I", table.intern_all(lines_of(path, start, end)))
+    codes = table.encode_lines(read_part(path, start, end))
     table.freeze(f"{name}.dict")
     Path(f"{name}.codes").write_bytes(codes)
 

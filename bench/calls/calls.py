@@ -48,7 +48,7 @@ def turn(row, intern, find):
 def main():
     gc.disable()
     count = len(FRESH.splitlines())
-    symbols, found = array("I", bytes(4 * count)), array("q", bytes(8 * count))
+    symbols, found = array("I", bytes(4 * count)), array("I", bytes(4 * count))
     for _ in range(int(sys.argv[4])):
         table = SymbolTable()
         turn("Python: intern_all, check_all", table.intern_all, table.check_all)

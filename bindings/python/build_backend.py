@@ -41,7 +41,7 @@ def compile_to(path):
     includes = [f"-I{sysconfig.get_path('include')}", f"-I{HEADERS}"]
     version = f'-DVERSION="{project()["version"]}"'
     flags = [*FLAGS, *shlex.split(os.environ.get("CFLAGS", ""))]
-    subprocess.run([*shlex.split(compiler), *flags, *includes, version, HERE / "src/table.c", archive(), *LINKED, "-o", path], check=True)
+    subprocess.run([*shlex.split(compiler), *flags, *includes, version, *sorted((HERE / "src").glob("*.c")), archive(), *LINKED, "-o", path], check=True)
 
 
 def metadata():

@@ -1,12 +1,13 @@
 /* Makes every call that only reads while the memory of the table and of its handle can't be written: a write would end the
- * program, and so would a request for memory or a free. So several threads may read a table at once. Linked with
- * -Wl,--wrap=malloc,--wrap=realloc,--wrap=free. */
+ * program, and so would a request for memory or a free. So several threads may read a table at once. Opens frozen tables while
+ * only their header can be read. Linked with -Wl,--wrap=malloc,--wrap=realloc,--wrap=free. */
 #define _GNU_SOURCE
 #include "intaglio.h"
 #include <stdio.h>
 #include <stdlib.h>
 #include <string.h>
 #include <sys/mman.h>
+#include <unistd.h>
 
 enum { SIZE = 1 << 22, STRINGS = 500 };
 
@@ -66,6 +67,19 @@ static size_t spell(uint32_t kind, uint32_t i, uint8_t *into) {
     if (!holds) { fprintf(stderr, "line %d, kind %u: %s\n", __LINE__, kind, #CONDITION); exit(1); } \
 } while (0)
 
+/* Trusted bytes are opened by their header alone: here no byte behind it can be read. */
+static void open_by_header(const uint8_t *frozen, size_t len, bool is_text, uint32_t kind) {
+    enum { HEADER = 64 };
+    size_t page = (size_t)sysconf(_SC_PAGESIZE), size = page + (len / page + 1) * page;
+    uint8_t *pages = (uint8_t *)mmap(NULL, size, PROT_READ | PROT_WRITE, MAP_PRIVATE | MAP_ANONYMOUS, -1, 0);
+    if (pages == MAP_FAILED) exit(2);
+    uint8_t *bytes = pages + page - HEADER;
+    memcpy(bytes, frozen, len);
+    WANT(mprotect(pages + page, size - page, PROT_NONE) == 0);
+    READS(intaglio_frozen_len(bytes, len) == STRINGS && intaglio_frozen_is_text(bytes, len) == is_text);
+    WANT(munmap(pages, size) == 0);
+}
+
 /* Freezing requests memory of its own, and writes to none of the table's. The bytes are read without a request. */
 static void freeze(const intaglio_table *table, uint32_t kind) {
     static uint8_t frozen[1 << 16];
@@ -75,7 +89,9 @@ static void freeze(const intaglio_table *table, uint32_t kind) {
     intaglio_spelling out;
     WANT(intaglio_freeze(table, 1, 2, frozen, sizeof frozen, &len) == INTAGLIO_DONE);
     READS(intaglio_frozen_check(frozen, len) == INTAGLIO_DONE && intaglio_frozen_len(frozen, len) == STRINGS);
-    READS(intaglio_frozen_is_text(frozen, len) == (kind == INTAGLIO_TEXT || kind == INTAGLIO_PATH || kind == INTAGLIO_OSSTR || kind == INTAGLIO_PACKED_TEXT));
+    bool is_text = kind == INTAGLIO_TEXT || kind == INTAGLIO_PATH || kind == INTAGLIO_OSSTR || kind == INTAGLIO_PACKED_TEXT;
+    READS(intaglio_frozen_is_text(frozen, len) == is_text);
+    open_by_header(frozen, len, is_text, kind);
     for (uint32_t i = 0; i < STRINGS; i++) {
         size_t size = spell(kind, i, bytes);
         READS(intaglio_frozen_find(frozen, len, bytes, size, &symbol) && symbol == i);

@@ -1,4 +1,5 @@
 """Columns from Python: strings to codes and back, merged dictionaries, beside plain lists and dicts. With numpy, if it is there."""
+import os
 import pickle
 import random
 import struct
@@ -57,7 +58,7 @@ class Encoding(unittest.TestCase):
         for missing in (MISSING, 0, 7, True, 2**31):
             self.assertEqual(list(words.encode(column, missing=missing)), [0, missing, missing, 3])
         for missing in (-1, 2**32, 2**64):
-            with self.assertRaises(OverflowError):
+            with self.assertRaisesRegex(OverflowError, "MISSING"):
                 words.encode(column, missing=missing)
         for missing in ("0", 1.0):
             with self.assertRaises(TypeError):
@@ -65,15 +66,30 @@ class Encoding(unittest.TestCase):
         codes = words.encode(column, missing=MISSING)
         for missing in (None, "?", b"", 0):
             self.assertEqual(words.decode(codes, missing=missing), ["to", missing, missing, "é"])
+        self.assertEqual(list(words.encode(["to", None, "no", float("nan"), "é"], missing=7)), [0, 7, 7, 7, 3])
+        self.assertEqual(list(words.encode([None] * 70_000, missing=MISSING)), [MISSING] * 70_000)
+        many = ["to", None, "é"] * 40_000
+        self.assertEqual(list(words.encode(many, missing=9)), [0, 9, 3] * 40_000)
+        for nothing in (None, float("nan")):
+            with self.assertRaisesRegex(TypeError, "at position 1: missing= gives None, NaN and NA a code$"):
+                words.encode(["to", nothing, "no"])
+            with self.assertRaisesRegex(TypeError, "at position 1$"):
+                words.find_all(["to", nothing])
 
     def test_other_objects_are_no_strings(self):
         texts, data = frozen_of(WORDS), frozen_of([b"a", b"\xff"])
-        for words, other in ((texts, b"to"), (texts, None), (texts, 7), (data, "a"), (data, None)):
+        for words, other, advice in ((texts, b"to", "kind=bytes"), (texts, None, ""), (texts, 7, ""), (data, "a", "kind=str"), (data, None, "")):
             for call in (words.encode, words.find_all):
-                with self.assertRaises(TypeError):
+                with self.assertRaisesRegex(TypeError, f"at position 1.*{advice}"):
                     call([words[0], other])
-            with self.assertRaises(TypeError):
-                words.check_interned(other)
+                with self.assertRaisesRegex(TypeError, f"at position 1000.*{advice}"):
+                    call([words[0]] * 1000 + [other])
+            for call in (words.check_interned, words.__contains__, words.index, words.count):
+                with self.assertRaisesRegex(TypeError, advice):
+                    call(other)
+        with self.assertRaises(intaglio.Missing) as raised:
+            texts.encode(["to", "no", 7])
+        self.assertEqual(raised.exception.position, 1)
         for call in (texts.encode, texts.find_all):
             with self.assertRaises(TypeError):
                 call(7)
@@ -88,9 +104,11 @@ class Encoding(unittest.TestCase):
             words.encode_into(["to", "no"], out)
         with self.assertRaises(intaglio.NoSpace):
             words.encode_into(["to"] * 5, out)
-        for other in (array("H", [0] * 9), array("i", [0] * 9), array("Q", [0] * 9), array("f", [0] * 9), bytearray(99), [0] * 9, None):
-            with self.assertRaises(TypeError):
+        for other in (array("H", [0] * 9), array("q", [0] * 9), array("Q", [0] * 9), array("f", [0] * 9), bytearray(99), [0] * 9, None):
+            with self.assertRaisesRegex(TypeError, "^codes are .*4 bytes.*uint32"):
                 words.encode_into(["to"], other)
+        signed = array("i", [9] * 4)
+        self.assertEqual((words.encode_into(["é", "no", None], signed, missing=MISSING), list(signed)), (3, [3, -1, -1, 9]))
         with self.assertRaises(BufferError):
             words.encode_into(["to"], memoryview(out).toreadonly())
         self.assertEqual(list(out), [1, 3, 0, 9])
@@ -120,12 +138,90 @@ class Encoding(unittest.TestCase):
             self.assertEqual(list(renumber(given, array("I", [7, 8, 9, 5]))), [8, 7, 5, 8])
             self.assertEqual(list(renumber(array("I", [3, 0]), given)), [1, 1])
         self.assertEqual(words.decode(memoryview(codes)[::-2]), ["be", "to"])
-        for other in (data, bytearray(data), array("i", [1]), array("H", [1]), array("Q", [1]), array("f", [1]), [1], 1, None):
+        signed = array("i", [1, -1, 3])
+        self.assertEqual((words.decode(signed, missing="?"), list(renumber(signed, array("i", [7, 8, 9, -1])))), (["be", "?", "é"], [8, MISSING, MISSING]))
+        for other in (data, bytearray(data), array("H", [1]), array("q", [1]), array("Q", [1]), array("f", [1]), [1], 1, None):
             for call in (words.decode, lambda it: renumber(it, codes), lambda it: renumber(codes, it)):
-                with self.assertRaises(TypeError):
+                with self.assertRaisesRegex(TypeError, "^codes are .*4 bytes.*uint32"):
                     call(other)
         self.assertEqual((words.decode(array("I")), list(renumber(array("I"), codes))), ([], []))
         self.assertEqual(list(renumber(array("I", [MISSING, 2, MISSING]), codes)), [MISSING, 3, MISSING])
+
+    def test_codes_are_renumbered_into_a_buffer(self):
+        codes, numbers = array("I", [2, 0, MISSING, 1]), array("I", [5, 6, 7])
+        wanted = [7, 5, MISSING, 6]
+        for out in (array("I", [9] * 4), array("i", [9] * 4), array("I", [9] * 6), memoryview(bytearray(16)).cast("I")):
+            self.assertIs(renumber(codes, numbers, out=out), out)
+            self.assertEqual([it % 2**32 for it in out], wanted + [9] * (len(out) - 4))
+        self.assertEqual((list(codes), renumber(codes, numbers, None)), ([2, 0, MISSING, 1], array("I", wanted)))
+        shared = array("I", codes)
+        self.assertIs(renumber(shared, numbers, shared), shared)
+        self.assertEqual(list(shared), wanted)
+        for size in (1, 2, 3):
+            shifted = array("I", [9] * size + list(codes) + [9] * size)
+            view = memoryview(shifted)
+            renumber(view[size:size + 4], numbers, out=view[:4])
+            self.assertEqual(list(shifted)[:4], wanted)
+            shifted = array("I", [9] * size + list(codes) + [9] * size)
+            view = memoryview(shifted)
+            renumber(view[size:size + 4], numbers, out=view[2 * size:])
+            self.assertEqual(list(shifted)[2 * size:2 * size + 4], wanted)
+        shared = array("I", [2, 0, 1])
+        self.assertEqual(list(renumber(array("I", [0, 1, 2]), shared, shared)), [2, 0, 1])
+        out = array("I", [9] * 4)
+        for given, error in ((array("I", [0, 3, 0]), intaglio.NoSymbol), (array("I", [0] * 5), intaglio.NoSpace)):
+            with self.assertRaises(error):
+                renumber(given, numbers, out=out)
+        odd = memoryview(bytearray(21))[1:].cast("I")
+        for other, error in ((array("Q", [0] * 9), TypeError), ([0] * 9, TypeError), (memoryview(out).toreadonly(), BufferError), (odd, TypeError)):
+            with self.assertRaises(error):
+                renumber(codes, numbers, out=other)
+        self.assertEqual(list(out), [9] * 4)
+
+    def test_lines_of_a_buffer_are_encoded(self):
+        chance = random.Random(6)
+        strings = [*dict.fromkeys(["", "a", "é", "x" * 9_000, "y" * 1_100_000, *(str(chance.randrange(10**9)) for _ in range(2_000))])]
+        words, data = frozen_of(strings), frozen_of([it.encode() for it in strings])
+        long = strings[:5]
+        for column in ([], [""], ["a"], ["", ""], long, [chance.choice(strings[:4] + strings[5:]) for _ in range(100_000)], [*long, *long, *strings]):
+            wanted = array("I", [strings.index(it) for it in column] if len(column) < 5_000 else map({it: i for i, it in enumerate(strings)}.get, column))
+            text = "\n".join(column).encode() + b"\n" * bool(column)
+            for given in (text, bytearray(text), memoryview(text)):
+                self.assertEqual((words.encode_lines(given), data.encode_lines(given)), (wanted, wanted))
+            if column and column[-1]:
+                self.assertEqual(words.encode_lines(text[:-1]), wanted)
+        self.assertEqual(words.encode_lines(b"a\nb\n\xff\n\n", missing=MISSING), array("I", [1, MISSING, MISSING, 0]))
+        for text, string in ((b"a\nb", "b"), (b"a\n\xff", b"\xff"), (b"a\na\r", "a\r")):
+            with self.assertRaises(intaglio.Missing) as raised:
+                words.encode_lines(text)
+            self.assertEqual(raised.exception.string, string)
+        self.assertEqual(raised.exception.position, 1)
+        with self.assertRaises(intaglio.Missing) as raised:
+            words.encode_lines(b"a\n" * 50_000 + b"no")
+        self.assertEqual((raised.exception.string, raised.exception.position), ("no", 50_000))
+        for other in ("a", None, 7, ["a"]):
+            with self.assertRaises(TypeError):
+                words.encode_lines(other)
+
+    def test_long_batches_are_looked_up_in_blocks(self):
+        chance = random.Random(7)
+        strings = [*dict.fromkeys([*(str(chance.randrange(10**9)) for _ in range(5_000)), "z" * 1_100_000, "é" * 600_000])]
+        number = {it: i for i, it in enumerate(strings)}
+        words = frozen_of(strings)
+        column = [chance.choice(strings[:-2]) for _ in range(100_000)]
+        column[0], column[40_000], column[-1] = strings[-2], strings[-1], strings[-2]
+        self.assertEqual(words.encode(column), array("I", map(number.get, column)))
+        column[70_000], column[70_001], column[90_000] = "no", "\ud800", "\ud800"
+        wanted = [number.get(it) for it in column]
+        self.assertEqual(words.find_all(column), wanted)
+        self.assertEqual(words.encode(column, missing=MISSING), array("I", [MISSING if it is None else it for it in wanted]))
+        for string, position in (("no", 70_000), ("\ud800", 70_001), ("\ud800", 90_000)):
+            with self.assertRaises(intaglio.Missing) as raised:
+                words.encode(column)
+            self.assertEqual((raised.exception.string, raised.exception.position), (string, position))
+            column[position] = strings[0]
+        self.assertEqual(words.encode(column), array("I", map(number.get, column)))
+        self.assertEqual(words.decode(words.encode(column)), column)
 
     def test_equal_codes_share_their_string(self):
         words = frozen_of(["ab", "cd"])
@@ -136,9 +232,13 @@ class Encoding(unittest.TestCase):
         words = frozen_of(WORDS)
         words.close()
         words.close()
-        for call in (lambda: words.encode(["to"]), lambda: words.decode(array("I", [0])), lambda: words[0], words.to_bytes, lambda: SymbolTable().absorb(words)):
+        for call in (lambda: words.encode(["to"]), lambda: words.decode(array("I", [0])), lambda: words[0], lambda: list(words), lambda: words[:2], lambda: "to" in words):
+            with self.assertRaisesRegex(ValueError, "^the Frozen was closed$"):
+                call()
+        for call in (words.to_bytes, lambda: SymbolTable().absorb(words), lambda: pickle.dumps(words)):
             with self.assertRaises(ValueError):
                 call()
+        self.assertEqual(repr(words), "<Frozen, closed>")
 
     def test_trusted_texts_that_are_damaged_are_not_decoded(self):
         data = frozen_tables.freeze([b"a", b"bc"], frozen_tables.TEXT)
@@ -200,12 +300,14 @@ class Merging(unittest.TestCase):
         self.assertEqual(list(paths.absorb(frozen_of(["a/b", "c", "a/./b"]))), [0, 1, 0])
 
     def test_a_table_absorbs_all_or_nothing(self):
-        for table, frozen, error in (
-            (SymbolTable(["a"], limit=2), frozen_of(["b", "a", "c"]), intaglio.Full), (SymbolTable(["a"]), frozen_of([b"b", b"\xff"]), intaglio.NotUtf8),
-            (intaglio.CStringTable([b"a"]), frozen_of([b"b\0", b"c"]), intaglio.MissingZero), (SymbolTable(["a"]), frozen_of([]).to_bytes(), TypeError), (SymbolTable(["a"]), None, TypeError),
+        for table, frozen, error, message in (
+            (SymbolTable(["a"], limit=2), frozen_of(["b", "a", "c"]), intaglio.Full, "^at position 2: The string is new"),
+            (SymbolTable(["a"]), frozen_of([b"b", b"\xff"]), intaglio.NotUtf8, "^at position 1: The string isn't valid UTF-8.$"),
+            (intaglio.CStringTable([b"a"]), frozen_of([b"b\0", b"c"]), intaglio.MissingZero, "^at position 1: "),
+            (SymbolTable(["a"]), frozen_of([]).to_bytes(), TypeError, "^a Frozen, not bytes$"), (SymbolTable(["a"]), None, TypeError, "^a Frozen, not NoneType$"),
         ):
             before = list(table)
-            with self.assertRaises(error):
+            with self.assertRaisesRegex(error, message):
                 table.absorb(frozen)
             self.assertEqual(list(table), before)
         table.close()
@@ -238,6 +340,37 @@ class Merging(unittest.TestCase):
                 merge(given, out)
         self.assertEqual((out.read_bytes(), sorted(it.name for it in self.folder.iterdir())), (b"as it was", ["one", "out"]))
 
+    def test_what_is_no_list_of_tables_is_named(self):
+        one, path = frozen_of(["a"]), self.folder / "one"
+        SymbolTable(["a"]).freeze(path)
+        data = path.read_bytes()
+        for given, message in (
+            ((one,), "a list of tables, not a single Frozen"), ((one, one), "a list of tables, not a single Frozen"),
+            ((SymbolTable(["a"]),), "a list of tables, not a single SymbolTable"), ((str(path),), "a list of tables, not a single str"),
+            ((path,), "a list of tables, not a single PosixPath"), ((data,), "a list of tables, not a single bytes"),
+            ((str(path), str(path)), "a list of tables, not a single str"), (([one], one), "out is the path of a new file, not a Frozen"),
+            (([one], SymbolTable()), "out is the path of a new file, not a SymbolTable"), (([one, data],), "at position 1: .*from_bytes"),
+            (([one, bytearray(data)],), "at position 1: .*from_bytes"), (([SymbolTable()],), "at position 0: .*not SymbolTable"), (([7.5],), "at position 0: "),
+        ):
+            with self.assertRaisesRegex(TypeError, message):
+                merge(*given)
+        with self.assertRaisesRegex(TypeError, "from_bytes"):
+            Frozen(data)
+        self.assertEqual(list(merge([bytes(path), one])[0]), ["a"])
+        path.write_bytes(b"no table")
+        for call in (lambda: merge([one, path]), lambda: merge([one, str(path)])):
+            with self.assertRaises(intaglio.NotFrozen) as raised:
+                call()
+            self.assertEqual((os.fsdecode(raised.exception.filename), str(raised.exception)), (str(path), f"{path}: The bytes don't begin as a frozen table does."))
+        self.assertEqual([it.name for it in self.folder.iterdir()], ["one"])
+
+    def test_bytes_that_are_read_as_texts_are_merged_to_texts(self):
+        data = [frozen_of([it.encode() for it in words]) for words in (["é", "a"], ["b", "é"])]
+        texts = [Frozen.from_bytes(it.to_bytes(), kind=str) for it in data]
+        words, maps = merge(texts)
+        self.assertEqual((list(words), [list(it) for it in maps], words.is_text), (["é", "a", "b"], [[0, 1], [2, 0]], True))
+        self.assertFalse(merge([texts[0], data[1]])[0].is_text)
+
     def test_many_tables_need_few_descriptors(self):
         names = [self.folder / str(it) for it in range(1200)]
         for number, name in enumerate(names):
@@ -254,6 +387,9 @@ class Merging(unittest.TestCase):
                     parts = [[it.decode() for it in lines] for lines in parts]
                 frozen = [frozen_of([*dict.fromkeys(lines)], are_texts) for lines in parts]
                 codes = [words.encode(lines) for words, lines in zip(frozen, parts)]
+                for lines, each in zip(parts, codes):
+                    table = (SymbolTable if are_texts else BytesTable)()
+                    self.assertEqual((table.encode(lines), list(table), table.decode(each)), (each, [*dict.fromkeys(lines)], lines))
                 whole, maps = merge(frozen)
                 symbols = {}
                 wanted = [array("I", [symbols.setdefault(it, len(symbols)) for it in words]) for words in frozen]
@@ -285,9 +421,9 @@ class WithNumpy(unittest.TestCase):
 
     def test_other_arrays_are_refused(self):
         words = frozen_of(WORDS)
-        for kind in ("i4", "u8", "u2", "f4", ">u4", "S4"):
-            for call in (words.decode, lambda it: words.encode_into(["to"], it)):
-                with self.assertRaises(TypeError):
+        for kind in ("i8", "u8", "u2", "i2", "f4", ">u4", ">i4", "S4"):
+            for call in (words.decode, lambda it: words.encode_into(["to"], it), lambda it: renumber(it, numpy.zeros(3, "u4"))):
+                with self.assertRaisesRegex(TypeError, "^codes are integers of 4 bytes.*astype"):
                     call(numpy.zeros(3, kind))
         with self.assertRaises(ValueError):
             words.encode_into(["to"], numpy.zeros(6, "u4")[::2])

@@ -1,10 +1,14 @@
 """Frozen tables from Python: those of checks/frozen_tables.py, which is written from docs/FROZEN.md alone."""
+import copy
+import multiprocessing
 import os
+import pickle
 import random
 import stat
 import sys
 import tempfile
 import unittest
+from concurrent.futures import ProcessPoolExecutor
 from pathlib import Path
 
 sys.dont_write_bytecode = True
@@ -17,6 +21,11 @@ from intaglio._table import frozen_find_all, thaw
 TEXTS = ["a", "bc", "", "é"]
 BYTES = [b"a", b"\xff", b""]
 ROUNDS = 100
+
+
+def encoded(table, strings):
+    """What another process answers."""
+    return list(table.encode(strings))
 
 
 class OfFrozen(unittest.TestCase):
@@ -39,15 +48,27 @@ class OfFrozen(unittest.TestCase):
                 self.assertEqual(table.find_all(strings), list(range(len(strings))))
                 self.assertEqual(list(table.items()), list(enumerate(strings)))
                 self.assertEqual((table[0], table[-1], table[1:3]), (strings[0], strings[-1], strings[1:3]))
+                for part in (slice(None), slice(None, None, -2), slice(-2, None), slice(3, 1), slice(0, 99), slice(5, 500, 7)):
+                    self.assertEqual(table[part], strings[part])
+                self.assertEqual((list(reversed(table)), table.get_all(iter([0, len(strings) - 1])), table.get_all([])), (strings[::-1], [strings[0], strings[-1]], []))
+                self.assertEqual((next(iter(table)), repr(table)), (strings[0], f"<Frozen of {len(strings)} {'str' if table.is_text else 'bytes'}>"))
                 self.assertTrue(all(table.index(it) == i and table.count(it) == 1 for i, it in enumerate(strings)))
 
     def test_others_are_not_found(self):
         with Frozen(self.write(TEXTS)) as table:
             self.assertEqual(table.find_all(["b", "\ud800", "bc"]), [None, None, 1])
-            self.assertTrue("b" not in table and b"a" not in table and 7 not in table and "a" in table)
+            self.assertTrue("b" not in table and "\ud800" not in table and "a" in table)
+            self.assertEqual((table.count("b"), table.count("a"), table.check_all(["b", "a"])), (0, 1, [None, 0]))
             self.assertEqual((table.get(4), table.get(4, "x"), table.get(-1), table.get(2**32)), (None, "x", None, None))
-            with self.assertRaises(IndexError):
-                table[4]
+            for symbol in (4, -5, 2**32, 2**64, -(2**64)):
+                with self.assertRaisesRegex(IndexError, f"^no such symbol: {symbol}, and the table has 4 strings$"):
+                    table[symbol]
+            for symbol in (4, -1, 2**64):
+                with self.assertRaisesRegex(intaglio.NoSymbol, f"^at position 1: no such symbol: {symbol}, and the table has 4 strings$"):
+                    table.get_all([0, symbol, "x"])
+            for symbols in (["0"], 7, [None]):
+                with self.assertRaises(TypeError):
+                    table.get_all(symbols)
             with self.assertRaises(ValueError):
                 table.index("bc", 2)
             with self.assertRaises(TypeError):
@@ -148,6 +169,94 @@ class OfFrozen(unittest.TestCase):
         self.assertTrue(Frozen(self.write(TEXTS)).is_text)
         self.assertFalse(Frozen(self.write(BYTES)).is_text)
 
+    def test_strings_are_read_as_another_type(self):
+        data = [it.encode() for it in TEXTS]
+        for strings, wanted in ((data, TEXTS), (TEXTS, TEXTS), (TEXTS, data), (BYTES, BYTES)):
+            kind = str if wanted is TEXTS else bytes
+            for table in (Frozen(self.write(strings), kind=kind), Frozen(self.path, kind=kind, trusted=True), Frozen.from_bytes(self.path.read_bytes(), kind=kind)):
+                self.assertEqual((list(table), table.find_all(wanted), wanted[1] in table, table.is_text), (wanted, list(range(len(wanted))), True, kind is str))
+                self.assertEqual((table[1], table[::-1], table.get(2), table.decode(table.encode(wanted)), table.index(wanted[1])), (wanted[1], wanted[::-1], wanted[2], wanted, 1))
+                again = pickle.loads(pickle.dumps(table))
+                self.assertEqual((list(again), again.is_text), (wanted, kind is str))
+                other = wanted[0].encode() if kind is str else wanted[0].decode()
+                with self.assertRaises(TypeError):
+                    table.check_interned(other)
+        many = [b"%d" % it for it in range(40_000)]
+        for at in (0, 20_000, 39_999):
+            many[at] = b"ab\xff"
+            intaglio.BytesTable(many).freeze(self.path)
+            with self.assertRaisesRegex(intaglio.NotUtf8, f"frozen: at position {at}: The string isn't valid UTF-8.$") as raised:
+                Frozen(self.path, kind=str)
+            self.assertEqual((raised.exception.position, raised.exception.filename), (at, str(self.path)))
+            many[at] = b"%d" % at
+        for kind in ("str", int, True):
+            with self.assertRaisesRegex(TypeError, "^kind is str, bytes or None"):
+                Frozen(self.path, kind=kind)
+
+    def test_pickles_and_copies(self):
+        for strings in (TEXTS, BYTES, [], [str(number) for number in range(5_000)]):
+            path = self.write(strings)
+            data = path.read_bytes()
+            for table in (Frozen(path), Frozen(path, trusted=True), Frozen(str(path)), Frozen.from_bytes(data), Frozen.from_bytes(bytearray(data), trusted=True)):
+                for copied in (copy.copy, copy.deepcopy, *(lambda it, protocol=protocol: pickle.loads(pickle.dumps(it, protocol)) for protocol in range(6))):
+                    other = copied(table)
+                    self.assertEqual((type(other), list(other), other.is_text, other.find_all(strings)), (Frozen, strings, table.is_text, list(range(len(strings)))))
+                    self.assertEqual(other._trusted, table._trusted)
+                    other.close()
+                    self.assertEqual(list(table), strings)
+                other = copy.copy(table)
+                table.close()
+                self.assertEqual(list(other), strings)
+                self.assertEqual(list(copy.deepcopy([other, other])[1]), strings)
+                other.close()
+
+    def test_a_mapped_table_is_pickled_by_its_path(self):
+        strings = [str(number) for number in range(20_000)]
+        table, here = Frozen(self.write(strings)), os.getcwd()
+        self.assertTrue(len(pickle.dumps(table)) < 500 < 100_000 < len(pickle.dumps(Frozen.from_bytes(table.to_bytes()))))
+        try:
+            os.chdir(self.path.parent)
+            relative = pickle.dumps(Frozen(self.path.name))
+        finally:
+            os.chdir(here)
+        self.assertEqual(list(pickle.loads(relative)), strings)
+        with open(self.path, "rb") as file:
+            self.assertEqual(list(pickle.loads(pickle.dumps(Frozen(os.dup(file.fileno()))))), strings)
+
+    def test_a_pickle_is_never_of_another_table(self):
+        for trusted in (False, True):
+            table = Frozen(self.write(["a", "b"]), trusted=trusted)
+            before = pickle.dumps(table)
+            for others in (["c"], ["a", "b", "c"], *([] if trusted else [["a", "c"]])):
+                intaglio.SymbolTable(others).freeze(self.path)
+                with self.assertRaisesRegex(ValueError, "frozen: another file than the one that was pickled$"):
+                    pickle.loads(before)
+                self.assertEqual(list(pickle.loads(pickle.dumps(table))), ["a", "b"])
+            self.path.unlink()
+            with self.assertRaises(FileNotFoundError):
+                pickle.loads(before)
+            self.assertEqual(list(pickle.loads(pickle.dumps(table))), ["a", "b"])
+
+    def test_what_a_subclass_has_is_copied(self):
+        class Named(Frozen):
+            pass
+
+        globals()["Named"], Named.__qualname__ = Named, "Named"
+        table = Named(self.write(TEXTS))
+        table.name = ["x"]
+        for copied, is_shared in ((copy.copy, True), (copy.deepcopy, False), (lambda it: pickle.loads(pickle.dumps(it)), False)):
+            other = copied(table)
+            self.assertEqual((type(other), list(other), other.name, other.name is table.name), (Named, TEXTS, ["x"], is_shared))
+
+    def test_other_processes_get_a_table(self):
+        tables = [Frozen(self.write(TEXTS)), Frozen.from_bytes(self.path.read_bytes())]
+        for method in ("fork", "spawn"):
+            with ProcessPoolExecutor(2, multiprocessing.get_context(method)) as pool:
+                for table in tables:
+                    self.assertEqual(list(pool.map(encoded, [table] * 4, [TEXTS] * 4)), [[0, 1, 2, 3]] * 4)
+                other = pool.submit(copy.copy, tables[1]).result()
+                self.assertEqual(list(other), TEXTS)
+
     def test_damaged_files_are_refused_by_name(self):
         whole = self.write(TEXTS).read_bytes()
         for at, to, error in (
@@ -155,11 +264,29 @@ class OfFrozen(unittest.TestCase):
             (39, 1, intaglio.TooMany), (33, 1, intaglio.Truncated), (len(whole) - 1, 0xff, intaglio.NotFound),
         ):
             self.path.write_bytes(whole[:at] + bytes([to]) + whole[at + 1:])
-            with self.assertRaises(error):
+            with self.assertRaisesRegex(error, f"^{self.path}: ") as raised:
                 Frozen(self.path)
+            self.assertEqual(raised.exception.filename, str(self.path))
+            with self.assertRaises(error) as raised:
+                Frozen.from_bytes(self.path.read_bytes())
+            self.assertIsNone(raised.exception.filename)
         self.path.write_bytes(b"")
-        with self.assertRaises(intaglio.NotFrozen):
-            Frozen(self.path)
+        for trusted in (False, True):
+            with self.assertRaisesRegex(intaglio.NotFrozen, f"^{self.path}: The bytes don't begin as a frozen table does.$"):
+                Frozen(self.path, trusted=trusted)
+
+    def test_the_header_of_a_trusted_file_is_checked(self):
+        whole = self.write(TEXTS).read_bytes()
+        for damaged, error in (
+            (b"", intaglio.NotFrozen), (b"garbage" * 40, intaglio.NotFrozen), (whole[:40], intaglio.Truncated), (whole[:70], intaglio.Truncated),
+            (whole[:8] + b"\x02" + whole[9:], intaglio.OtherVersion), (whole[:12] + b"\x02" + whole[13:], intaglio.NoKind), (whole[:63] + b"\x01" + whole[64:], intaglio.Reserved), (whole[:39] + b"\x01" + whole[40:], intaglio.TooMany),
+        ):
+            self.path.write_bytes(damaged)
+            with self.assertRaises(error) as raised:
+                Frozen(self.path, trusted=True)
+            self.assertEqual(raised.exception.filename, str(self.path))
+            with self.assertRaises(error):
+                Frozen.from_bytes(damaged, trusted=True)
         with self.assertRaises(FileNotFoundError):
             Frozen(self.path.with_name("none"))
 
@@ -172,7 +299,7 @@ class OfFrozen(unittest.TestCase):
                 damaged[chance.randrange(frozen_tables.HEADER.size, len(whole))] = chance.randrange(256)
             reader = frozen_tables.Frozen.__new__(frozen_tables.Frozen)
             reader.read(bytes(damaged))
-            symbols = frozen_find_all(bytes(damaged), [*words, "absent"])
+            symbols = frozen_find_all(bytes(damaged), True, [*words, "absent"])
             for word, symbol in zip([*words, "absent"], symbols, strict=True):
                 self.assertTrue(symbol is None or reader[symbol] == word.encode(), (word, symbol))
             found += sum(it is not None for it in symbols)

@@ -5,16 +5,21 @@ checks/bindings sets MALLOC_MMAP_THRESHOLD_=65536: the memory of a large string 
 reading it afterwards is a crash."""
 import sys
 import threading
+import time
 import unittest
+from array import array
 
 import intaglio
-from intaglio import SymbolTable
+from intaglio import MISSING, Frozen, SymbolTable, renumber
+from intaglio._table import frozen_slice
 
 CALLS = 60_000
 THREADS = 3
 WORDS = [f"word {number}" + "x" * (number % 50) for number in range(400)]
 CLEARS = 20_000
 LARGE = ["a" * 100_000, "b" * 100_000]
+# How many strings a batch has, and how many words there are, so that one takes some tenths of a second.
+LONG, DISTINCT = 1_000_000, 100_000
 
 
 def run(*calls):
@@ -94,6 +99,110 @@ class Threads(unittest.TestCase):
 
         self.assertEqual(run(batches, lambda: single(1), lambda: single(2)), [])
         self.assertEqual(sorted(table), sorted(f"single {seed} {step}" for seed in (1, 2) for step in range(5_000)))
+
+
+class FrozenTables(unittest.TestCase):
+    """A Frozen is read-only, so its batches let other threads run."""
+
+    @classmethod
+    def setUpClass(cls):
+        cls.words = [f"word {number}" for number in range(DISTINCT)]
+        cls.table = Frozen.from_bytes(SymbolTable(cls.words).freeze())
+        cls.numbers = array("I", (step * 7919 % DISTINCT for step in range(LONG)))
+        cls.column = [cls.words[number] for number in cls.numbers]
+        cls.lines = "\n".join(cls.column).encode()
+        cls.map = array("I", reversed(range(DISTINCT)))
+
+    def calls_meanwhile(self, batch):
+        """How many calls another thread makes on the table while a batch runs, and how long the batch and the longest wait of that thread are."""
+        done, waits, started = threading.Event(), [], threading.Event()
+
+        def look_up():
+            started.set()
+            last = time.perf_counter()
+            while not done.is_set():
+                assert self.table.check_interned(self.words[len(waits) % DISTINCT]) == len(waits) % DISTINCT
+                now = time.perf_counter()
+                waits.append(now - last)
+                last = now
+
+        thread = threading.Thread(target=look_up)
+        thread.start()
+        started.wait()
+        start = time.perf_counter()
+        batch()
+        length = time.perf_counter() - start
+        done.set()
+        thread.join()
+        return len(waits), length, max(waits)
+
+    def test_another_threads_call_does_not_wait_for_a_batch(self):
+        out = array("I", bytes(4 * LONG))
+        for name, batch in (
+            ("encode", lambda: self.table.encode(self.column)), ("encode_into", lambda: self.table.encode_into(self.column, out)),
+            ("find_all", lambda: self.table.find_all(self.column)), ("encode_lines", lambda: self.table.encode_lines(self.lines)),
+            ("decode", lambda: self.table.decode(self.numbers)), ("iterating", lambda: [list(self.table) for _ in range(9)]),
+            ("a slice", lambda: frozen_slice(self.table._data, True, 0, 2 * LONG, 0)),
+        ):
+            calls, length, wait = self.calls_meanwhile(batch)
+            # (a batch that held the lock would leave one call, which waits as long as the batch)
+            self.assertTrue(calls > 100 and wait < length / 2, (name, calls, length, wait))
+
+    def test_batches_of_several_threads_agree(self):
+        sys.setswitchinterval(1e-6)
+        self.addCleanup(sys.setswitchinterval, 0.005)
+        part, text = self.column[:100_000], self.lines[:1_000_000].rpartition(b"\n")[0]
+        wanted, of_lines = self.numbers[:100_000], self.numbers[:text.count(b"\n") + 1]
+        out = {}
+
+        def work(number):
+            for turn in range(4):
+                out[number, turn] = (
+                    self.table.encode(part) == wanted, self.table.encode_lines(text) == of_lines, self.table.decode(wanted) == part, self.table.find_all(part) == list(wanted),
+                    renumber(renumber(wanted, self.map), self.map) == wanted, self.table.encode([None, *part], missing=MISSING)[1:] == wanted,
+                )
+
+        self.assertEqual(run(*(lambda number=number: work(number) for number in range(4))), [])
+        self.assertEqual({it: all(found) for it, found in out.items()}, {(number, turn): True for number in range(4) for turn in range(4)})
+
+    def test_a_list_that_changes_meanwhile_is_refused_or_read_whole(self):
+        for change in (list.clear, lambda it: it.extend(self.words), lambda it: it.__setitem__(slice(None), ["no"] * len(it))):
+            column, seen = self.column * 2, []
+
+            def encode():
+                try:
+                    seen.append(len(self.table.encode(column, missing=MISSING)))
+                except RuntimeError as error:
+                    seen.append(str(error))
+
+            thread = threading.Thread(target=encode)
+            thread.start()
+            time.sleep(0.05)
+            change(column)
+            thread.join()
+            self.assertIn(seen, ([2 * LONG], ["the list of strings changed its length meanwhile"], [0], [2 * LONG + DISTINCT]))
+
+    def test_a_table_that_another_thread_reads_is_not_closed(self):
+        for _ in range(20):
+            table, started, codes = Frozen.from_bytes(self.table.to_bytes()), threading.Event(), []
+
+            def encode():
+                started.set()
+                codes.append(table.encode_lines(self.lines))
+
+            thread = threading.Thread(target=encode)
+            thread.start()
+            started.wait()
+            time.sleep(0.02)
+            try:
+                table.close()
+            except BufferError:
+                thread.join()
+                self.assertEqual(codes, [self.numbers])
+                table.close()
+                return
+            thread.join()
+        self.fail("no batch was met")
 
 
 if __name__ == "__main__":

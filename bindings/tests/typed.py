@@ -1,6 +1,7 @@
 """A program whose types `mypy --strict` must accept, and which runs."""
 from array import array
 from collections.abc import Sequence
+from copy import copy
 from pathlib import Path, PurePath
 from tempfile import TemporaryDirectory
 
@@ -23,23 +24,38 @@ with SymbolTable(["a", "b"], capacity=2, keys=(1, 2)) as table:
     pairs: list[tuple[int, str]] = list(table.items())
     buffer = array("I", bytes(8))
     count: int = table.intern_into(["a", "b"], buffer)
-    assert (first(table), one, some, other, each, count) == ("a", "b", ["a"], 0, [0, None], 2)
+    encoded: "array[int]" = table.encode(["a", "b"])
+    with_missing: "array[int]" = table.encode(["a", None, float("nan")], missing=MISSING)
+    of_lines: "array[int]" = table.intern_lines(b"a\nb")
+    decoded: list[str] = table.decode(encoded)
+    decoded_or_none: list[str | None] = table.decode(with_missing, missing=None)
+    assert (first(table), one, some, other, each, count, encoded == of_lines) == ("a", "b", ["a"], 0, [0, None], 2, True)
+    assert (decoded, decoded_or_none, table.check_into(["b", "z"], buffer), list(buffer)) == (["a", "b"], ["a", None, None], 2, [1, MISSING])
 
 with TemporaryDirectory() as folder:
     path = Path(folder) / "frozen"
     SymbolTable(["a", "b"]).freeze(path, keys=(1, 2))
-    frozen: Frozen[str] = Frozen(path)
+    frozen = Frozen(path, kind=str)
     symbols_there: list[int | None] = frozen.find_all(["b", "c"])
     last: str = frozen[-1]
     assert (symbols_there, last, first(frozen), list(frozen.items())) == ([1, None], "b", "a", [(0, "a"), (1, "b")])
     bytes_of: bytes = SymbolTable(["b", "c"]).freeze(keys=(1, 2))
-    in_memory: Frozen[str] = Frozen.from_bytes(bytes_of, trusted=True)
+    in_memory = Frozen.from_bytes(bytes_of, trusted=True, kind=str)
+    of_any_kind = Frozen(path)
+    as_told: Frozen[str] = Frozen(path)
+    as_bytes: list[bytes] = list(Frozen(path, kind=bytes))
+    first_of_any: bytes | str = of_any_kind[0]
+    copied: Frozen[str] = copy(frozen)
+    lines_there: "array[int]" = frozen.encode_lines(memoryview(b"b\na"))
+    assert (list(as_told), as_bytes, first_of_any, list(copied), list(lines_there)) == (["a", "b"], [b"a", b"b"], "a", ["a", "b"], [1, 0])
     codes: "array[int]" = frozen.encode(["b", "x"], missing=MISSING)
     strings: list[str] = frozen.decode(codes[:1])
     with_none: list[str | None] = frozen.decode(codes, missing=None)
     written: int = frozen.encode_into(iter(["b", "a"]), codes)
     merged, maps = merge([path, frozen, in_memory], Path(folder) / "merged", keys=(1, 2))
     again: "array[int]" = renumber(codes, maps[2])
+    same: "array[int]" = renumber(codes, maps[2], out=array("I", codes))
+    assert same == again and frozen.get_all([1, 0]) == ["b", "a"]
     mapped: "array[int]" = SymbolTable().absorb(frozen)
     assert (strings, with_none, written, list(codes), len(merged), list(again), list(mapped)) == (["b"], ["b", None], 2, [1, 0], 3, [2, 1], [0, 1])
     assert merged.to_bytes() == (Path(folder) / "merged").read_bytes()
@@ -58,4 +74,5 @@ try:
     SymbolTable().get_all([1])
 except NoSymbol as error:
     refused: Refused = error
-    assert refused.code == 10
+    place: int | None = refused.position
+    assert (refused.code, place) == (10, 0)

@@ -13,15 +13,18 @@ A SymbolTable gives each distinct string a small number, its symbol, and returns
 The other kinds take the same calls: BytesTable, CStringTable, PathTable, OsStringTable and ByteStringTable. A table is a sequence of
 its strings, each at its symbol: table[-1] is the last, and table[1:3] a list. `get` and `get_all` take symbols, which aren't negative.
 
-intern_all, check_all and get_all make one call for many strings; intern_into and check_into write the symbols to a buffer.
+intern_all, check_all and get_all make one call for many strings. encode and decode turn a column of strings into codes, which are symbols in 4 bytes each, and back;
+encode_into writes them to a buffer, and encode_lines takes the lines of one. What is missing has the code MISSING, the last number of 4 bytes: as an integer with a
+sign it is -1.
 
-A table can be copied and pickled. table.freeze(path) writes the strings to a file, and Frozen(path) maps it: a read-only sequence of them, each at its symbol.
-Frozen.encode and Frozen.decode turn a column of strings into codes and back, merge makes one Frozen of several, and renumber turns codes of each into its own.
+table.freeze(path) writes the strings to a file, and Frozen(path) maps it: a read-only sequence of them, each at its symbol, with the same calls. merge makes one Frozen
+of several, and renumber turns codes of each into its own. Both kinds of tables can be copied and pickled.
 
-A call that fails raises a subclass of Refused, named after the reason, and leaves the strings unchanged.
+A call that fails raises a subclass of Refused, named after the reason, and leaves the strings unchanged. `position` says which string of
+several it is about, and `filename` which file.
 
 A table may be used by several threads. A batch of internings or look-ups holds the interpreter's lock until it is done: no other
-thread sees a part of it. An interpreter without that lock can't import the module.
+thread sees a part of it. Batches on a Frozen let other threads run. An interpreter without that lock can't import the module.
 """
 from collections.abc import Sequence
 
@@ -33,13 +36,10 @@ from intaglio.errors import (
 from intaglio.frozen import Frozen, merge
 
 __all__ = [
-    "SymbolTable", "BytesTable", "CStringTable", "PathTable", "OsStringTable", "ByteStringTable", "Table", "ABSENT", "Frozen", "merge", "renumber", "MISSING", "Missing",
+    "SymbolTable", "BytesTable", "CStringTable", "PathTable", "OsStringTable", "ByteStringTable", "Table", "Frozen", "merge", "renumber", "MISSING", "Missing",
     "Refused", "NoTable", "Full", "NoMemory", "TooLarge", "Stale", "NotUtf8", "InnerZero", "MissingZero", "BadEnds", "NoSymbol", "NoSpace", "NoKind",
     "NotFrozen", "OtherVersion", "Reserved", "TooMany", "Truncated", "TextEnds", "Unused", "NotFound", "TooLong", "Equal", "NoPlaces",
     "REFUSALS", "__version__",
 ]
-
-# What check_into writes for a string that isn't in the table.
-ABSENT = -1
 
 Sequence.register(Table)

@@ -1,10 +1,16 @@
 """The errors of the tables. Each is also one of Python's, so that code which knows nothing of tables catches them."""
+import os
 
 
 class Refused(Exception):
-    """A call failed, and the strings of the table are unchanged. The subclass says why."""
+    """A call failed, and the strings of the table are unchanged. The subclass says why.
+
+    `position` is that of the string or code that it is about, from 0, if the call took several; `filename` is the file that it is about.
+    """
 
     code: int
+    position: int | None = None
+    filename: str | bytes | int | None = None
 
     def __str__(self) -> str:
         return super().__str__() or self.__doc__ or ""
@@ -35,13 +41,13 @@ class TooLarge(Refused, ValueError):
 
 
 class Stale(Refused, ValueError):
-    """The table has fewer strings than the length to roll back to."""
+    """No length that the table can be rolled back to."""
 
     code = 5
 
 
 class NotUtf8(Refused, ValueError):
-    """The string isn't valid UTF-8: it contains a lone surrogate."""
+    """The string isn't valid UTF-8."""
 
     code = 6
 
@@ -65,10 +71,9 @@ class BadEnds(Refused, ValueError):
 
 
 class NoSymbol(Refused, IndexError):
-    """The table has no such symbol. For a code of a column it has the position of the first such code."""
+    """The table has no such symbol."""
 
     code = 10
-    position: int | None = None
 
 
 class NoSpace(Refused, ValueError):
@@ -163,9 +168,42 @@ class Missing(KeyError):
 REFUSALS: dict[int, type[Refused]] = {refusal.code: refusal for refusal in Refused.__subclasses__()}
 
 
-def refusal(code: int) -> Refused:
+def at(position: int | None, message: str) -> str:
+    """The message about a string or code at a position of a batch, or about the only one."""
+    return message if position is None else f"at position {position}: {message}"
+
+
+def placed(kind: type[Refused], message: str, position: int | None) -> Refused:
+    """An error with a message of its own."""
+    error = kind(at(position, message))
+    error.position = position
+    return error
+
+
+def refusal(code: int, position: int | None = None) -> Refused:
     """The error of a code of the library."""
-    return REFUSALS[code]()
+    kind = REFUSALS[code]
+    return kind() if position is None else placed(kind, kind.__doc__ or "", position)
+
+
+def lone_surrogate(position: int | None = None) -> Refused:
+    """The error of a `str` that has no UTF-8."""
+    return placed(NotUtf8, "The string isn't valid UTF-8: it contains a lone surrogate.", position)
+
+
+def no_such_symbol(symbol: int, length: int, position: int | None = None) -> Refused:
+    """The error of a number that is no symbol."""
+    return placed(NoSymbol, f"no such symbol: {symbol}, and the table has {length} strings", position)
+
+
+def no_size(number: int) -> TooLarge:
+    """The error of a number that isn't one of strings."""
+    return TooLarge(f"a number of strings is from 0 to 2**32, not {number}")
+
+
+def no_length(length: int, strings: int) -> Stale:
+    """The error of a length that a table can't be rolled back to."""
+    return Stale(f"no length to roll back to: {length}, and the table has {strings} strings")
 
 
 def no_symbol(code: int, position: int) -> NoSymbol:
@@ -173,3 +211,9 @@ def no_symbol(code: int, position: int) -> NoSymbol:
     error = NoSymbol(f"code {code} at position {position} is no symbol")
     error.position = position
     return error
+
+
+def name_file(error: Refused, path: str | bytes | int) -> None:
+    """Puts a file's name before the message of an error."""
+    error.filename = path
+    error.args = (f"{path if isinstance(path, int) else os.fsdecode(path)}: {error}",)

@@ -1,23 +1,33 @@
 """Frozen tables: a symbol table in one block of bytes, such as a file."""
 import contextlib
+import copy
 import errno
 import fcntl
 import functools
+import itertools
 import mmap
 import operator
 import os
 import stat
+import zlib
 from collections.abc import Sequence
 
 from intaglio._table import (
-    BytesTable, SymbolTable, frozen_check, frozen_decode, frozen_encode, frozen_encode_into, frozen_find, frozen_find_all, frozen_get, frozen_is_text, frozen_len,
+    BytesTable, SymbolTable, Table, frozen_check, frozen_check_header, frozen_check_texts, frozen_decode, frozen_encode, frozen_encode_into, frozen_encode_lines, frozen_find,
+    frozen_find_all, frozen_get, frozen_get_all, frozen_is_text, frozen_len, frozen_slice,
 )
-from intaglio.errors import NoSymbol
+from intaglio.errors import Refused, name_file, no_such_symbol
 
 # How many names are drawn for a new file.
 MAX_NAMES = 100
 # What is passed if nothing stands in for a missing string.
 NOTHING = object()
+# What a frozen table begins with, and how many bytes its header has.
+MAGIC, HEADER = b"INTAGLIO", 64
+# How many strings are made at once while a table is gone through.
+CHUNK = 256
+# What a Frozen has by itself: other attributes are a subclass's.
+OWN = ("_data", "_map", "_path", "_stat", "_trusted", "_is_text", "_len", "_sum")
 
 
 def mode_at(path):
@@ -77,15 +87,25 @@ def replace(path, data):
         raise
 
 
+def refuse_bytes(path):
+    """Raises TypeError for the bytes of a table in place of its path."""
+    if isinstance(path, (bytearray, memoryview)) or isinstance(path, bytes) and path.startswith(MAGIC):
+        raise TypeError(f"a path, not the bytes of a table in a {type(path).__name__}: Frozen.from_bytes takes those")
+
+
 class Frozen(Sequence):
-    """A read-only table in a file, as Table.freeze writes it. The file is mapped. It is a sequence of its strings, each at its symbol.
+    """A read-only table in a file, as Table.freeze and `intaglio_dict freeze` write it. The file is mapped. It is a sequence of its strings,
+    each at its symbol.
 
-    Frozen(path, *, trusted=False)
+    Frozen(path, *, trusted=False, kind=None)
 
-    The strings are `str` if the kind of the table is text, and else `bytes`. All bytes are checked, unless the file is trusted: then a
-    string that is found is still equal to the one that was sought, but one that is there may not be found, and of a damaged file what
-    returns strings (`get`, `[]`, iterating, `items`) may raise UnicodeDecodeError, or have no string at a symbol below the length.
-    The file must not be made shorter while it is mapped.
+    kind: `str` or `bytes`, what the strings are. By default they are `str` if the file says that they are texts, and else `bytes`. A file of
+    bytes is opened as `str` if all are UTF-8.
+
+    trusted: the file is known to be whole, and only its header is checked, so that opening takes the same time for each file. Otherwise all
+    bytes are. In a damaged file a string that is found is still equal to the one that was sought, but one that is there may not be found, and
+    what returns strings (`get`, `[]`, iterating, `items`, `decode`) may raise UnicodeDecodeError, or have no string at a symbol below the
+    length. The file must not be made shorter while it is mapped.
 
     A column of strings is stored as its codes, the symbol of each string in 4 bytes:
 
@@ -94,68 +114,98 @@ class Frozen(Sequence):
     >>> codes, words.decode(codes)
     (array('I', [1, 0, 1]), ['be', 'to', 'be'])
 
-    Raises NotFrozen, OtherVersion, NoKind, Reserved, TooMany, Truncated, TextEnds, Unused, NotFound, NotUtf8, OSError.
+    It can be copied, and pickled: a mapped one by its path, and one in memory by its bytes. Batches (encode, find_all, decode and their kin)
+    let other threads run meanwhile.
+
+    Raises NotFrozen, OtherVersion, NoKind, Reserved, TooMany, Truncated, TextEnds, Unused, NotFound, NotUtf8, which name the file, OSError.
     """
 
-    def __init__(self, path, *, trusted=False):
+    def __init__(self, path, *, trusted=False, kind=None):
+        refuse_bytes(path)
         with open(path, "rb") as file:
             # (an empty file can't be mapped)
-            self._open(mmap.mmap(file.fileno(), 0, access=mmap.ACCESS_READ) if file.seek(0, 2) else memoryview(b""), trusted)
+            mapped = mmap.mmap(file.fileno(), 0, access=mmap.ACCESS_READ) if file.seek(0, 2) else None
+            status = os.fstat(file.fileno())
+        self._path = None if isinstance(path, int) else os.path.abspath(os.fspath(path))
+        self._stat = status.st_dev, status.st_ino
+        try:
+            self._open(memoryview(mapped or b""), mapped, trusted, kind)
+        except Refused as error:
+            name_file(error, path if isinstance(path, int) else os.fspath(path))
+            raise
 
     @classmethod
-    def from_bytes(cls, data, *, trusted=False):
+    def from_bytes(cls, data, *, trusted=False, kind=None):
         """A table over its bytes in memory, as freeze and to_bytes return them: any buffer, which must not change. Raises what Frozen raises."""
         frozen = cls.__new__(cls)
-        frozen._open(memoryview(data).cast("B"), trusted)
+        frozen._path = frozen._stat = None
+        frozen._open(memoryview(data).cast("B"), None, trusted, kind)
         return frozen
 
     # Takes the bytes, and closes what holds them if they are no frozen table.
-    def _open(self, data, trusted):
-        self._data = data
+    def _open(self, data, mapped, trusted, kind):
+        self._data, self._map, self._trusted, self._sum = data, mapped, bool(trusted), None
         try:
-            if not trusted:
-                frozen_check(self._data)
+            if kind not in (None, str, bytes):
+                raise TypeError(f"kind is str, bytes or None, not {kind!r}")
+            (frozen_check_header if trusted else frozen_check)(data)
+            self._is_text = frozen_is_text(data) if kind is None else kind is str
+            if self._is_text and not trusted and not frozen_is_text(data):
+                frozen_check_texts(data)
         except BaseException:
             self.close()
             raise
-        self._len = frozen_len(self._data)
+        self._len = frozen_len(data)
 
     @property
     def is_text(self):
         """Whether the strings are `str`."""
-        return frozen_is_text(self._data)
+        return self._is_text
 
     def check_interned(self, string, /):
-        """The symbol of a string, or None."""
-        return frozen_find(self._data, string)
+        """The symbol of a string, or None. Raises TypeError for another type than the strings have."""
+        return frozen_find(self._data, self._is_text, string)
 
     def find_all(self, strings, /):
-        """The symbol of each string, or None."""
-        return frozen_find_all(self._data, strings)
+        """A list of the symbol of each string, or None."""
+        return frozen_find_all(self._data, self._is_text, strings)
+
+    check_all = find_all
 
     def encode(self, strings, /, *, missing=None):
         """The codes of strings, which are their symbols, as an array('I').
 
-        A string that isn't in the table has the code `missing`, such as MISSING; without it raises Missing, a KeyError with the first
-        such string and its position.
+        With `missing`, such as MISSING, that is the code of a string that isn't in the table, and of None, NaN and pandas.NA. Without it,
+        raises Missing, a KeyError with the first such string and its position, or TypeError. The strings are in any iterable: numpy's arrays
+        of objects and pandas' columns are read where they are.
 
         >>> words = Frozen.from_bytes(SymbolTable(["to", "be"]).freeze())
-        >>> words.encode(["be", "or"], missing=MISSING)
-        array('I', [1, 4294967295])
+        >>> words.encode(["be", "or", None], missing=MISSING)
+        array('I', [1, 4294967295, 4294967295])
         >>> words.encode(["be", "or"])
         Traceback (most recent call last):
         intaglio.errors.Missing: 'or' at position 1 is not in the table
         """
-        return frozen_encode(self._data, strings, missing)
+        return frozen_encode(self._data, self._is_text, strings, missing)
 
     def encode_into(self, strings, out, /, *, missing=None):
-        """Writes the codes of strings to the start of a buffer of unsigned integers of 4 bytes, such as an array('I') or a numpy array of
-        uint32, and returns how many there are. Raises what encode raises, and NoSpace if the buffer is too short; it is then unchanged.
+        """Writes the codes of strings to the start of a buffer of integers of 4 bytes, such as an array('I') or a numpy array of uint32 or
+        int32, and returns how many there are. Raises what encode raises, and NoSpace if the buffer is too short; it is then unchanged.
         """
-        return frozen_encode_into(self._data, strings, out, missing)
+        return frozen_encode_into(self._data, self._is_text, strings, out, missing)
+
+    def encode_lines(self, lines, /, *, missing=None):
+        """The codes of the lines of a buffer, as an array('I'). No object is made of a line. A line ends before b"\\n", and the last one
+        needs none; of a table of texts they are UTF-8. The buffer must not change meanwhile. Raises what encode raises.
+
+        >>> words = Frozen.from_bytes(SymbolTable(["to", "be"]).freeze())
+        >>> words.encode_lines(b"be\\nto\\nbe\\n")
+        array('I', [1, 0, 1])
+        """
+        return frozen_encode_lines(self._data, self._is_text, lines, missing)
 
     def decode(self, codes, /, *, missing=NOTHING):
-        """A list of the strings of codes: any buffer of unsigned integers of 4 bytes, such as an array('I') or a numpy array of uint32.
+        """A list of the strings of codes: any buffer of integers of 4 bytes, such as an array('I') or a numpy array of uint32 or int32.
 
         `missing` is what the list has for the code MISSING. Raises NoSymbol, an IndexError, with the position of the first code that is
         no symbol, and UnicodeDecodeError if the file is trusted, of texts, and damaged.
@@ -164,16 +214,21 @@ class Frozen(Sequence):
         >>> words.decode(words.encode(["be", "or"], missing=MISSING), missing=None)
         ['be', None]
         """
-        return frozen_decode(self._data, codes) if missing is NOTHING else frozen_decode(self._data, codes, missing)
+        given = () if missing is NOTHING else (missing,)
+        return frozen_decode(self._data, self._is_text, codes, *given)
 
     def get(self, symbol, default=None, /):
         """The string of a symbol, or the default if there is none. Raises UnicodeDecodeError if the file is trusted, of texts, and damaged."""
-        string = frozen_get(self._data, symbol)
+        string = frozen_get(self._data, self._is_text, symbol)
         return default if string is None else string
+
+    def get_all(self, symbols, /):
+        """A list of the strings of symbols: any iterable of numbers. Raises NoSymbol, with its position."""
+        return frozen_get_all(self._data, self._is_text, symbols)
 
     def index(self, string, start=0, stop=None, /):
         """The symbol of a string. Raises ValueError if it isn't in the table, or not from start to stop."""
-        symbol = self._symbol(string)
+        symbol = self.check_interned(string)
         if symbol is not None and symbol in range(*slice(start, stop).indices(self._len)):
             return symbol
         raise ValueError(f"{string!r} is not in the table")
@@ -191,36 +246,69 @@ class Frozen(Sequence):
         return bytes(self._data)
 
     def close(self):
-        """Unmaps the file. Calls that read it then raise ValueError."""
-        if isinstance(self._data, mmap.mmap):
-            self._data.close()
-        else:
-            self._data.release()
+        """Unmaps the file, if no copy has it. Calls that read it then raise ValueError. Raises BufferError while another thread reads it."""
+        self._data.release()
+        if self._map is not None:
+            with contextlib.suppress(BufferError):
+                self._map.close()
 
-    # The symbol of any object: one of another type is in no table.
-    def _symbol(self, string):
-        return frozen_find(self._data, string) if isinstance(string, str if self.is_text else bytes) else None
-
-    def _at(self, symbol):
-        string = frozen_get(self._data, symbol)
-        if string is None:
-            raise NoSymbol
-        return string
+    def _slice(self, start, stop):
+        return frozen_slice(self._data, self._is_text, start, stop - start, 1)
 
     def __len__(self):
         return self._len
 
     def __contains__(self, string):
-        return self._symbol(string) is not None
+        return self.check_interned(string) is not None
 
     def __getitem__(self, index):
         if isinstance(index, slice):
-            return [self._at(symbol) for symbol in range(*index.indices(self._len))]
+            symbols = range(*index.indices(self._len))
+            return frozen_slice(self._data, self._is_text, symbols.start, len(symbols), symbols.step)
         symbol = operator.index(index)
-        return self._at(symbol + self._len if symbol < 0 else symbol)
+        string = frozen_get(self._data, self._is_text, symbol + self._len if symbol < 0 else symbol)
+        if string is None:
+            raise no_such_symbol(symbol, self._len)
+        return string
 
     def __iter__(self):
-        return map(self._at, range(self._len))
+        starts = range(0, self._len, CHUNK)
+        return itertools.chain.from_iterable(map(self._slice, starts, (min(start + CHUNK, self._len) for start in starts)))
+
+    def __copy__(self):
+        other = type(self).__new__(type(self))
+        other.__dict__.update(self.__dict__)
+        other._data = memoryview(self._data)
+        return other
+
+    def __deepcopy__(self, memo):
+        other = copy.copy(self)
+        other.__dict__.update(copy.deepcopy(self._attributes(), memo))
+        return other
+
+    def __reduce__(self):
+        kind = str if self._is_text else bytes
+        if self._is_at_path():
+            return reopen, (type(self), self._path, self._trusted, kind, len(self._data), self._checksum()), self._attributes()
+        return thaw, (type(self), bytes(self._data), self._trusted, kind), self._attributes()
+
+    # What a subclass or a caller has set.
+    def _attributes(self):
+        return {name: value for name, value in self.__dict__.items() if name not in OWN}
+
+    # Whether the path still leads to the file that is mapped.
+    def _is_at_path(self):
+        try:
+            status = self._path is not None and os.stat(self._path)
+        except OSError:
+            return False
+        return bool(status) and self._stat == (status.st_dev, status.st_ino)
+
+    # A checksum of all bytes, or of the header of a trusted file.
+    def _checksum(self):
+        if self._sum is None:
+            self._sum = zlib.crc32(self._data[:HEADER] if self._trusted else self._data)
+        return self._sum
 
     def __enter__(self):
         return self
@@ -229,22 +317,50 @@ class Frozen(Sequence):
         self.close()
 
     def __repr__(self):
-        return f"<{type(self).__name__} of {self._len}>"
+        try:
+            self._data.nbytes
+        except ValueError:
+            return f"<{type(self).__name__}, closed>"
+        return f"<{type(self).__name__} of {self._len} {'str' if self._is_text else 'bytes'}>"
 
 
-def are_texts(table):
-    """Whether a frozen table, or that of a path, is of texts."""
+# Pickles name these two functions, so they keep their names and their parameters.
+def reopen(cls, path, trusted, kind, size, checksum):
+    """The table of a file that was pickled by its path. Raises ValueError if the file is another one by now."""
+    frozen = cls.__new__(cls)
+    Frozen.__init__(frozen, path, trusted=trusted, kind=kind)
+    if (len(frozen._data), frozen._checksum()) != (size, checksum):
+        frozen.close()
+        raise ValueError(f"{os.fsdecode(path)}: another file than the one that was pickled")
+    return frozen
+
+
+def thaw(cls, data, trusted, kind):
+    """The table that was pickled by its bytes."""
+    return cls.from_bytes(data, trusted=trusted, kind=kind)
+
+
+def opened(table, position, trusted):
+    """A Frozen of one of the tables that are merged, which is closed again behind its use if a path was given."""
     if isinstance(table, Frozen):
-        return table.is_text
-    with Frozen(table, trusted=True) as frozen:
+        return contextlib.nullcontext(table)
+    try:
+        refuse_bytes(table)
+        path = os.fspath(table)
+    except TypeError as error:
+        raise TypeError(f"each of the tables to merge is a Frozen or a path; at position {position}: {error}") from None
+    return Frozen(path, trusted=trusted)
+
+
+def is_text_at(position, table):
+    """Whether a frozen table, or that of a path, is of texts."""
+    with opened(table, position, True) as frozen:
         return frozen.is_text
 
 
-def absorbed(merged, table):
+def absorbed(merged, position, table):
     """The map of a frozen table, or of that of a path, into a table."""
-    if isinstance(table, Frozen):
-        return merged.absorb(table)
-    with Frozen(table) as frozen:
+    with opened(table, position, False) as frozen:
         return merged.absorb(frozen)
 
 
@@ -252,8 +368,8 @@ def merge(tables, /, out=None, *, keys=(0, 0)):
     """Merges frozen tables. Returns a Frozen of all their strings in the order of their first occurrences, and a list with a map for each
     table: an array('I') with the new symbol of each of its strings, by which renumber turns codes of that table into codes of the new one.
 
-    Each of the tables is a Frozen or a path. The new one is written to the path `out`, as Table.freeze does, or else held in memory. It is of
-    texts if all are. Raises what Frozen, Table.absorb and Table.freeze raise.
+    The tables are in a list or another iterable, and each is a Frozen or a path. The new one is written to the path `out`, as Table.freeze
+    does, or else held in memory. It is of texts if all are. Raises what Frozen, Table.absorb and Table.freeze raise.
 
     >>> one, two = (Frozen.from_bytes(SymbolTable(words).freeze()) for words in (["to", "be"], ["or", "to"]))
     >>> both, maps = merge([one, two])
@@ -262,8 +378,13 @@ def merge(tables, /, out=None, *, keys=(0, 0)):
     >>> both.decode(renumber(two.encode(["to", "or"]), maps[1]))
     ['to', 'or']
     """
+    if isinstance(tables, (Frozen, Table, str, bytes, bytearray, memoryview, os.PathLike)):
+        raise TypeError(f"a list of tables, not a single {type(tables).__name__}: merge([one, two])")
+    if isinstance(out, (Frozen, Table)):
+        raise TypeError(f"out is the path of a new file, not a {type(out).__name__}: the tables are in a list, merge([one, two])")
     tables = list(tables)
-    with (SymbolTable if all(map(are_texts, tables)) else BytesTable)() as merged:
-        maps = [absorbed(merged, table) for table in tables]
+    are_texts = [is_text_at(*it) for it in enumerate(tables)]
+    with (SymbolTable if all(are_texts) else BytesTable)() as merged:
+        maps = [absorbed(merged, *it) for it in enumerate(tables)]
         frozen = merged.freeze(out, keys=keys)
     return Frozen(out) if out is not None else Frozen.from_bytes(frozen, trusted=True), maps

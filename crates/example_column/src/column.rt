@@ -38,7 +38,7 @@ impl Column {
     ///
     /// If an allocation fails, or there are more than 2^32 distinct texts.
     pub fn encode(alloc: Global, rows: Vec<StrContent>) -> Result<Column, TableError>
-        ensures rows { IfOk result (λ column. column ≡ map str_content_bytes rows.items) }
+        ensures rows { IfOk result (λ column. column ≡ map str_content_bytes rows.entry.items) }
     {
         let mut texts = SymbolTable::new(alloc)?;
         let codes = texts.intern_all(rows)?;

@@ -1,1 +1,2 @@
+pub mod Shadowing
 pub mod Spellings

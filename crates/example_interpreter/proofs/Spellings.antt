@@ -1,23 +1,18 @@
 -- The texts of tokens after one more was interned.
-use Rattle.std.proofs.Common.{◌≡◌, ap, refl, arith, ℕ, ◌<◌, zero, suc, List, [], ◌∷◌, ◌++◌, length, get_or, Some}
-use Rattle.std.specs.Prelude.{slice_get, All, ◌↔◌}
+use Rattle.std.proofs.Common.{◌≡◌, ap, refl, arith, ℕ, ◌<◌, suc, List, [], ◌∷◌, ◌++◌, length, get_or, Option}
+use Rattle.std.specs.Prelude.{unwrap_or, All, ◌↔◌}
 use Rattle.std.proofs.lemmas.Grind.{flat_map-append}
 use Rattle.std.proofs.lemmas.List.{append-nil, append_assoc}
 use Rattle.std.proofs.lemmas.List.Elements.{All-push}
 use Rattle.std.proofs.lemmas.Option.{slice_get_within}
 use Rattle.intaglio.specs.BytesContent.{bytes_content_bytes}
 use Rattle.intaglio.specs.Keys.{bytes_key}
-use Rattle.intaglio.specs.Lookup.{IsStored, Keeps}
+use Rattle.intaglio.specs.Lookup.{IsFound, IsStored, Keeps}
 use Rattle.intaglio.specs.State.{State, IsValid}
 use Rattle.intaglio.specs.Types.{BytesContent}
-use Rattle.intaglio.proofs.CallerLaws.{same_symbol, stored_found}
+use Rattle.intaglio.proofs.CallerLaws.{same_symbol, has_content, keeps_below, keeps_text, spelled_at}
 use Rattle.example_interpreter.specs.Spelled.{text_of, spelled}
 use Rattle.example_interpreter.specs.declared.token.Token.{Token}
-
-there : {X : Type 0} (xs : List X) (i : ℕ) → i < length xs → (x : X) × (slice_get xs i ≡ Some x)
-there [] i h = absurd (omega arith)
-there (x ∷ xs) zero h = (x, refl)
-there (x ∷ xs) (suc i) h = there xs i (omega arith)
 
 -- what is stored with a key of one text has this text
 pub stored-text : (s : State BytesContent) (text : List ℕ) (i : ℕ) → IsStored bytes_key s (text ∷ []) i → text_of s.contents i ≡ text
@@ -31,10 +26,7 @@ stored-within s text i is = slice_get_within s.contents i is.content is.stands
 
 module _ (old new : State BytesContent) (kept : Keeps bytes_key old new) where
   text-kept : (i : ℕ) → i < length old.contents → text_of new.contents i ≡ text_of old.contents i
-  text-kept i h = let x = there old.contents i h in rw (x.1, kept.stored i x.0 x.1) refl
-
-  within-kept : (i : ℕ) → i < length old.contents → i < length new.contents
-  within-kept i h = let x = there old.contents i h in slice_get_within new.contents i x.0 (kept.stored i x.0 x.1)
+  text-kept i h = ap (λ (o : Option (List ℕ)). unwrap_or o []) (keeps_text bytes_key bytes_content_bytes old new i kept h)
 
   -- tokens keep their texts
   spelled-kept : (tokens : List Token) → All (λ token. token.text < length old.contents) tokens → spelled new.contents tokens ≡ spelled old.contents tokens
@@ -42,7 +34,7 @@ module _ (old new : State BytesContent) (kept : Keeps bytes_key old new) where
   spelled-kept (t ∷ ts) h = rw (text-kept t.text (h 0 t (omega arith)), spelled-kept ts (λ i d lt. h (suc i) d (omega arith))) refl
 
   within-each : (tokens : List Token) → All (λ token. token.text < length old.contents) tokens → All (λ token. token.text < length new.contents) tokens
-  within-each tokens h = λ i d lt. within-kept (get_or tokens i d).text (h i d lt)
+  within-each tokens h = λ i d lt. keeps_below bytes_key old new (get_or tokens i d).text kept (h i d lt)
 
   -- and with one more token, whose text is the front of what is left, they and the rest spell the source
   pub spelled-push : (tokens after : List Token) (token : Token) (lexeme back rest source : List ℕ) → All (λ t. t.text < length old.contents) tokens → after ≡ tokens ++ token ∷ [] → text_of new.contents token.text ≡ lexeme → lexeme ++ back ≡ rest
@@ -60,9 +52,6 @@ module _ (old new : State BytesContent) (kept : Keeps bytes_key old new) where
 -- symbols of the table have the same text exactly if they are the same
 pub same_text : (s : State BytesContent) (i j : ℕ) → IsValid bytes_key s → i < length s.contents → j < length s.contents → (text_of s.contents i ≡ text_of s.contents j) ↔ (i ≡ j)
 same_text s i j valid h k =
-    let x = there s.contents i h in
-    let y = there s.contents j k in
-    let a = stored_found bytes_key s (bytes_key x.0) i valid (record { content = x.0; stands = x.1; same_key = refl }) in
-    let b = stored_found bytes_key s (bytes_key y.0) j valid (record { content = y.0; stands = y.1; same_key = refl }) in
-    let same = same_symbol bytes_key s (bytes_key x.0) (bytes_key y.0) i j a b in
-    (λ e. same.0 (ap (λ (t : List ℕ). t ∷ []) (rw (x.1, y.1) at e)), λ e. ap (λ (n : ℕ). text_of s.contents n) e)
+    let found : (n : ℕ) → n < length s.contents → IsFound bytes_key s (text_of s.contents n ∷ []) n =
+    (λ n below. (spelled_at bytes_key bytes_content_bytes (λ c. refl) s (text_of s.contents n) n valid).0 (rw (has_content bytes_key s n below).1 refl)) in
+    (λ e. (same_symbol bytes_key s _ _ i j (found i h) (found j k)).0 (ap (λ (t : List ℕ). t ∷ []) e), λ e. ap (λ (n : ℕ). text_of s.contents n) e)

@@ -1,2 +1,3 @@
--- What the contracts of the lexer cite.
+-- What the contracts of the lexer and of the bindings cite.
+pub mod Names
 pub mod Spelled

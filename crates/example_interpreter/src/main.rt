@@ -1,14 +1,17 @@
 //! The names of an interpreter: a lexer's symbols, keywords first, and names with scopes.
 //!
 //! The program prints the tokens of a source, and then the source again, put together from the tokens. Then
-//! it declares `x` and `y`, visits two blocks that declare names of their own, and finds `x` as it was.
+//! it declares `x` and `y`, visits two blocks that declare names of their own, and finds `x` as it was. At last
+//! it declares `x` in a block where another `x` is visible, and finds the inner one there and the outer one behind.
 #![tactic(auto)]
 
+mod bindings;
 mod lexer;
 mod scopes;
 mod token;
 
 use anyhow::Result;
+use bindings::Bindings;
 use intaglio::{StrContent, SymbolTable, bytes};
 use lexer::{lex, table_of_keywords};
 use scopes::{declare, visit};
@@ -19,7 +22,8 @@ const SOURCE: &str = "let x1 = x + 12;\nwhile x1 { x = x1; }\n";
 
 fn main(rt: HostRuntime) -> Result<()> {
     lex_source(&rt)?;
-    visit_blocks(&rt)
+    visit_blocks(&rt)?;
+    shadow_name(&rt)
 }
 
 fn lex_source(rt: &(impl Print + AllocGlobal)) -> Result<()> {
@@ -52,8 +56,8 @@ fn print_source(rt: &impl Print, texts: &bytes::SymbolTable, tokens: &[Token]) -
 
 fn visit_blocks(rt: &(impl Print + AllocGlobal)) -> Result<()> {
     let mut names = SymbolTable::new(rt.alloc())?;
-    let symbol = names.intern(StrContent::from("x"))?;
-    declare(&mut names, "y")?;
+    declare(&mut names, "x y")?;
+    let symbol = names.get_or_intern("x")?;
     let first = visit(&mut names, "z x")?;
     let second = visit(&mut names, "p q y p")?;
     let found = names.check_interned("x");
@@ -65,5 +69,26 @@ fn visit_blocks(rt: &(impl Print + AllocGlobal)) -> Result<()> {
 
 fn print_counts(rt: &impl Print, first: usize, second: usize, outside: usize) -> Result<()> {
     println!(rt; "{first} and {second} names inside, {outside} outside")?;
+    Ok(())
+}
+
+#[tactic(auto, using(crate::proofs::Shadowing::same_last, crate::proofs::Shadowing::last_added, crate::proofs::Shadowing::scope_left))]
+fn shadow_name(rt: &(impl Print + AllocGlobal)) -> Result<()> {
+    let mut bindings = Bindings::new(rt.alloc())?;
+    bindings.declare("x")?;
+    bindings.declare("y")?;
+    let outside = bindings.resolve("x");
+    let depth = bindings.depth();
+    bindings.declare("x")?;
+    let inside = bindings.resolve("x");
+    prove!(inside == Some(depth));
+    bindings.leave(depth);
+    let found = bindings.resolve("x");
+    prove!(found == outside);
+    print_places(rt, inside.unwrap_or(0), found.unwrap_or(0))
+}
+
+fn print_places(rt: &impl Print, inside: usize, outside: usize) -> Result<()> {
+    println!(rt; "x is declaration {inside} in the block, {outside} outside")?;
     Ok(())
 }

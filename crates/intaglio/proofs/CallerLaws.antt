@@ -1,12 +1,12 @@
--- The laws that callers cite. Those from `below` are proved in `intaglio_core`, and stated again here so that a crate that
--- lists only `intaglio` finds them.
+-- The laws that callers cite. Those from `below` are proved in `intaglio_interner`, and stated again here so that a crate
+-- that lists only `intaglio` finds them.
 use Rattle.std.proofs.Common.{◌≡◌, ◌≢◌, ◌∙◌, ap, refl, sym, arith, ℕ, zero, suc, ◌+◌, ◌<◌, Bool, true, false, cond, List, [], ◌∷◌, ◌++◌, length, map, take, get_or, length-append, Option, Some, None, option_map, is_some, MatchOption, Result, Ok}
 use Rattle.std.specs.Prelude.{slice_get, ◌↔◌, IsTrue, Contains, AllPairs}
 use Rattle.std.proofs.lemmas.List.{length-map, map-append}
-use Rattle.std.proofs.lemmas.Option.{same_Some}
+use Rattle.std.proofs.lemmas.Option.{same_Some, slice_get_within}
 use Rattle.intaglio_content.specs.Key.{Key}
 use Rattle.intaglio_symbol.specs.declared.error.InternError.{InternError}
-use Rattle.intaglio_interner.specs.State.{State, key_eq, first_of, first, IsValid}
+use Rattle.intaglio_interner.specs.State.{State, key_eq, first_of, first, spelling_at, IsValid}
 use Rattle.intaglio_interner.specs.Change.{Empties, IsAppended, Interns, IsCopyAppended, InternsForm}
 use Rattle.intaglio_interner.specs.Lookup.{IsFound, FindsNothing, IsStored, Keeps}
 use Rattle.intaglio_interner.specs.Issue.{issue_from, interned_all}
@@ -39,6 +39,11 @@ found-or-not : (keys : List Key) (k : Key) (o : Option ℕ) → first_of keys k 
 found-or-not keys k None e = (λ t. cc, λ c. absurd (first_of-misses keys k e c.0 k c.1 c.2))
 found-or-not keys k (Some i) e = (λ t. first_of-contains keys k i e, λ c. refl)
 
+content-at : {C : Type 0} (cs : List C) (i : ℕ) → i < length cs → (c : C) × (slice_get cs i ≡ Some c)
+content-at [] i below = absurd (omega arith)
+content-at (c ∷ cs) zero below = (c, refl)
+content-at (c ∷ cs) (suc i) below = content-at cs i (omega arith)
+
 module _ {C : Type 0} (key : C → Key) where
   -- what is found has the key that was looked up
   pub first_key : (cs : List C) (k : Key) (i : ℕ) → first key cs k ≡ Some i → option_map key (slice_get cs i) ≡ Some k
@@ -51,6 +56,10 @@ module _ {C : Type 0} (key : C → Key) where
   -- a symbol that is found is below the number of contents
   pub found_below : (s : State C) (k : Key) (i : ℕ) → IsFound key s k i → i < length s.contents
   found_below s k i e = omega (arith, some-below (map key s.contents) k i e, length-map s.contents key)
+
+  -- a symbol below the number of contents has a content
+  pub has_content : (s : State C) (i : ℕ) → i < length s.contents → (c : C) × (slice_get s.contents i ≡ Some c)
+  has_content s i below = content-at s.contents i below
 
   -- a content is found at its symbol
   pub stored_found : (s : State C) (k : Key) (i : ℕ) → IsValid key s → IsStored key s k i → IsFound key s k i
@@ -78,6 +87,17 @@ module _ {C : Type 0} (key : C → Key) where
   -- what is kept over one call and over the next is kept over both
   pub keeps_then : (old next new : State C) → Keeps key old next → Keeps key next new → Keeps key old new
   keeps_then = below.keeps-then key
+
+  -- a symbol keeps its content, and so its spelling
+  pub keeps_content : (old new : State C) (i : ℕ) → Keeps key old new → i < length old.contents → slice_get new.contents i ≡ slice_get old.contents i
+  keeps_content old new i kept below = let held = has_content old i below in kept.stored i held.0 held.1 ∙ sym held.1
+
+  pub keeps_text : (spelling : C → List ℕ) (old new : State C) (i : ℕ) → Keeps key old new → i < length old.contents → spelling_at spelling new i ≡ spelling_at spelling old i
+  keeps_text spelling old new i kept below = ap (option_map spelling) (keeps_content old new i kept below)
+
+  -- a symbol stays below the number of contents
+  pub keeps_below : (old new : State C) (i : ℕ) → Keeps key old new → i < length old.contents → i < length new.contents
+  keeps_below old new i kept below = let held = has_content old i below in slice_get_within new.contents i held.0 (kept.stored i held.0 held.1)
 
   -- the contents that are kept are the first ones afterwards
   pub keeps_front : (old new : State C) → Keeps key old new → take (length old.contents) new.contents ≡ old.contents
@@ -158,6 +178,13 @@ module _ {C : Type 0} (key : C → Key) (spelling : C → List ℕ) (bytewise : 
         λ t. let c = law.0 t in let lt = c.1 in let e : get_or (map spelling cs) c.0 w ∷ [] ≡ w ∷ [] = sym (key-at cs c.0 w) ∙ c.2 in (c.0, omega arith, cc),
         λ c. let lt = c.1 in law.1 (c.0, omega arith, key-at cs c.0 w ∙ ap (λ (v : List ℕ). v ∷ []) c.2),
       )
+
+  -- a symbol has a spelling exactly if a look-up of the spelling finds this symbol
+  pub spelled_at : (s : State C) (w : List ℕ) (i : ℕ) → IsValid key s → (spelling_at spelling s i ≡ Some w) ↔ IsFound key s (w ∷ []) i
+  spelled_at s w i valid = (
+    λ read. below.spelling-found key spelling (λ (v : List ℕ). v ∷ []) s w i bytewise valid (sym read),
+    λ found. let is = found_stored key s (w ∷ []) i found in let same : spelling is.content ∷ [] ≡ w ∷ [] = sym (bytewise is.content) ∙ is.same_key in rw is.stands (cc),
+  )
 
   -- the spellings of a table's contents are distinct
   pub spellings_differ : (s : State C) → IsValid key s → AllPairs (λ v w. v ≢ w) (map spelling s.contents)

@@ -78,7 +78,7 @@ module _ {C : Type 0} (key : C → Key) (hash : Key → ℕ) (old : State C) (k 
       let parts : length (hashed_keys cost) ≡ length (hashed_keys (is.search ++ is.growth ++ placed ∷ [])) = ap (λ (ms : List Event). length (hashed_keys ms)) is.parts in
       let whole : length (hashed_keys (is.search ++ is.growth ++ placed ∷ [])) ≡ length (hashed_keys (is.search ++ is.growth)) + 0 = hashings-sum (is.search ++ is.growth) (placed ∷ []) in
       let begins : length (hashed_keys (is.search ++ is.growth)) ≡ length (hashed_keys is.search) + length (hashed_keys is.growth) = hashings-sum is.search is.growth in
-      let one : length (hashed_keys is.search) ≡ 1 = ap (λ (ks : List Key). length ks) is.searches.hashings in
+      let one : length (hashed_keys is.search) ≡ 1 = ap (λ (ks : List Key). length ks) is.searches.0.hashings in
       let none : length (hashed_keys is.growth) ≡ 0 = ap (λ (ks : List Key). length ks) is.grows.hashings in
       omega (arith, parts, whole, begins, one, none)
 
@@ -87,7 +87,7 @@ module _ {C : Type 0} (key : C → Key) (hash : Key → ℕ) (old : State C) (k 
       let parts : placed_count cost ≡ placed_count (is.search ++ is.growth ++ placed ∷ []) = ap (λ (ms : List Event). placed_count ms) is.parts in
       let whole : placed_count (is.search ++ is.growth ++ placed ∷ []) ≡ placed_count (is.search ++ is.growth) + 1 = placed_count-append (is.search ++ is.growth) (placed ∷ []) in
       let begins : placed_count (is.search ++ is.growth) ≡ placed_count is.search + placed_count is.growth = placed_count-append is.search is.growth in
-      let none : placed_count is.search ≡ 0 = is.searches.placements in
+      let none : placed_count is.search ≡ 0 = is.searches.0.placements in
       omega (arith, parts, whole, begins, none)
 
   pub internings_are_cheap : InterningsAreCheap key hash old k new

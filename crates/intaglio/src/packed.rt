@@ -3,9 +3,10 @@
 //!
 //! They have the calls of the other tables that take or give a borrowed string, with the same contracts, and
 //! they take less memory, since a string has no allocation of its own. Each new string is copied. By default
-//! they hash with `intaglio_hash::FixedState`, which has the other tables' hashes and is faster.
+//! they hash with `intaglio_hash::FixedState`, which has the hashes of the other tables' default: hash and
+//! comparison together take less time with it in these tables.
 use crate::{Forms, Pairs, TableOver};
-pub use intaglio_content::{Packable, Packed, PackedForm, PackedKind, PackedOwned, Spelling};
+pub use intaglio_content::{Kind, KindOwned, Packable, Packed, PackedForm, Spelling};
 use intaglio_hash::FixedState;
 pub use intaglio_text::StrKind;
 

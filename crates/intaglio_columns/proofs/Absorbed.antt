@@ -1,8 +1,8 @@
 -- What stands at the symbols that strings are given, one list after the other.
-use Rattle.std.proofs.Common.{◌≡◌, ◌∙◌, ℕ, ◌+◌, ◌<◌, List, [], ◌∷◌, ◌++◌, length, map, take, drop, get_or, refl, sym, ap, subst, Some, arith, append-nil, length-drop, drop-drop}
+use Rattle.std.proofs.Common.{◌≡◌, ◌∙◌, ℕ, ◌+◌, ◌<◌, List, [], ◌∷◌, ◌++◌, length, map, take, drop, refl, sym, ap, subst, Some, arith, append-nil, Result, Ok, Err, IfOk, OnOk}
 use Rattle.std.specs.List.{flat_map}
 use Rattle.std.specs.Prelude.{slice_get}
-use Rattle.std.proofs.lemmas.List.{map-append, get_or-drop, take-append-drop}
+use Rattle.std.proofs.lemmas.List.{map-append, take-append-drop}
 use Rattle.std.proofs.lemmas.Grind.{flat_map-append, take_at_read}
 use Rattle.std.proofs.lemmas.Option.{slice_get_within, get_or_from_slice_get}
 use Rattle.intaglio_content.specs.Key.{Key}
@@ -10,7 +10,7 @@ use Rattle.intaglio_symbol.specs.declared.error.InternError.{InternError}
 use Rattle.intaglio_symbol.specs.declared.error.InternError.TheVariants.{Overflow, Memory}
 use Rattle.intaglio_interner.specs.Batch.{IfOverflow}
 use Rattle.intaglio_interner.specs.Issue.{issued, interned, issue_from, interned_all}
-use Rattle.intaglio_interner.proofs.Held.{content-still, interned_all-append, interned_all-longer, issue_from-append}
+use Rattle.intaglio_interner.proofs.Held.{content-still, interned_all-append, interned_all-longer}
 use Rattle.intaglio_interner.proofs.Laws.{first-key, issued-found, mapped-some}
 use Rattle.intaglio_columns.specs.Columns.{decode, string_key, union, AreKeys, AreMaps, IsMap}
 
@@ -91,38 +91,16 @@ union-over limit i lists over =
     let same : union lists ≡ interned_all string_key (union front) (flat_map all back) = ap union (sym whole) ∙ parts in
     omega (arith, over, longer, ap length same)
 
--- the strings of a group, and those behind it
-module _ (key : List ℕ → Key) (held strings : List (List ℕ)) (start n : ℕ) where
-  parts : drop start strings ≡ take n (drop start strings) ++ drop (start + n) strings
-  parts = sym (take-append-drop n (drop start strings)) ∙ ap (λ t. take n (drop start strings) ++ t) (drop-drop n start strings)
-
-  pub group-symbols : (forms new : List (List ℕ)) (taken : List ℕ) → forms ≡ take n (drop start strings) → taken ≡ issue_from key held forms → new ≡ interned_all key held forms
-      → issue_from key held (drop start strings) ≡ taken ++ issue_from key new (drop (start + n) strings)
-  group-symbols forms new taken are given after =
-      ap (issue_from key held) parts ∙ issue_from-append key held (take n (drop start strings)) (drop (start + n) strings)
-      ∙ rw (given, after, are) refl
-
-  pub group-held : (forms new : List (List ℕ)) → forms ≡ take n (drop start strings) → new ≡ interned_all key held forms
-      → interned_all key held (drop start strings) ≡ interned_all key new (drop (start + n) strings)
-  group-held forms new are after =
-      ap (interned_all key held) parts ∙ interned_all-append key held (take n (drop start strings)) (drop (start + n) strings) ∙ rw (after, are) refl
-
-  pub group-over : (forms : List (List ℕ)) (limit : ℕ) → forms ≡ take n (drop start strings) → limit < length (interned_all key held forms)
-      → limit < length (interned_all key held (drop start strings))
-  group-over forms limit are over =
-      let longer = interned_all-longer key (interned_all key held forms) (drop (start + n) strings) in
-      let all = group-held forms (interned_all key held forms) are refl in
-      omega (arith, over, longer, ap length all)
-
--- the next string of a group
-pub next-string : (strings : List (List ℕ)) (start i : ℕ) (w : List ℕ) → slice_get strings (start + i) ≡ Some w
-    → take (i + 1) (drop start strings) ≡ take i (drop start strings) ++ w ∷ []
-next-string strings start i w at =
-    let within : i < length (drop start strings) = omega (arith, slice_get_within strings (start + i) w at, length-drop start strings) in
-    let here : get_or (drop start strings) i w ≡ w = get_or-drop start strings i w ∙ get_or_from_slice_get strings (start + i) w w at in
-    (take_at_read (drop start strings) i w within).1 ∙ ap (λ t. take i (drop start strings) ++ t ∷ []) here
+-- the next string
+pub next-string : (strings : List (List ℕ)) (i : ℕ) (w : List ℕ) → slice_get strings i ≡ Some w → take (i + 1) strings ≡ take i strings ++ w ∷ []
+next-string strings i w at = (take_at_read strings i w (slice_get_within strings i w at)).1 ∙ ap (λ t. take i strings ++ t ∷ []) (get_or_from_slice_get strings i w w at)
 
 -- what follows of an overflow
 pub if-overflow : {P Q : Type 0} (e : InternError) → (P → Q) → IfOverflow e P → IfOverflow e Q
 if-overflow (Overflow full) f p = f p
 if-overflow (Memory refused) f p = tt
+
+-- what follows of a value and of what holds beside it
+pub ok-both : {V E Q : Type 0} (P R : V → Type 0) (r : Result V E) → IfOk r P → OnOk r Q → ((v : V) → P v → Q → R v) → IfOk r R
+ok-both P R (Ok v) p q f = f v p q
+ok-both P R (Err e) p q f = tt

@@ -1,12 +1,23 @@
 -- Columns: codes under a list of strings, maps from one list to another, and the union of lists.
-use Rattle.std.specs.Prelude.{◌≡◌, ℕ, ◌-◌, ◌^◌, List, [], ◌∷◌, map, get_or, slice_get, Option, Some}
+use Rattle.std.specs.Prelude.{◌≡◌, ◌⊎◌, ℕ, ◌-◌, ◌^◌, List, [], ◌∷◌, map, get_or, slice_get, Option, Some}
 use Rattle.std.specs.List.{flat_map}
 use Rattle.intaglio_content.specs.Key.{Key}
+use Rattle.intaglio_content.specs.Work.{Event}
+use Rattle.intaglio_interner.specs.Batch.{IfOverflow}
 use Rattle.intaglio_interner.specs.Issue.{interned_all}
+use Rattle.intaglio_symbol.specs.declared.error.InternError.{InternError}
 
 -- each of these strings is accepted
 abbrev pub AreAccepted : (List ℕ → Type 0) → List (List ℕ) → Type 0
 AreAccepted accepts strings = (i : ℕ) (w : List ℕ) → slice_get strings i ≡ Some w → accepts w
+
+-- this holds of forms of these strings
+abbrev pub OfForms : {F : Type 0} → (F → List ℕ) → List (List ℕ) → (List F → Type 0) → Type 0
+OfForms {F} spelling strings P = (forms : List F) × (map spelling forms ≡ strings) × P forms
+
+-- with this error and cost, either this holds of forms of these strings, or they couldn't be allocated
+abbrev pub FailsAsForms : {F : Type 0} → (F → List ℕ) → List (List ℕ) → InternError → List Event → (List F → Type 0) → Type 0
+FailsAsForms spelling strings e cost P = ((cost ≡ []) × IfOverflow e ⊥) ⊎ OfForms spelling strings P
 
 -- strings are compared by their bytes
 abbrev pub string_key : List ℕ → Key

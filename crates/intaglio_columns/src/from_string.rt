@@ -1,11 +1,9 @@
 //! Strings of a list as forms that are interned.
-ghost use Rattle.std.specs.Prelude.{◌≡◌, ◌↔◌, List, ℕ, IsTrue, IsUtf8};
+ghost use Rattle.std.specs.Prelude.{◌≡◌, ◌↔◌, ◌≤◌, List, ℕ, length, IsTrue};
 ghost use Rattle.intaglio_frozen.specs.IsFrozen.{AreTexts};
 
-use intaglio_bytes::bytes::BytesContent;
-use intaglio_content::{Content, CopiedTo, Packed, PackedForm, Spelling, Store};
+use intaglio_content::{Content, ContentOf, CopiedTo, Packed, PackedForm, Spelling, Store};
 use intaglio_frozen::StringList;
-use intaglio_text::StrContent;
 use std::str;
 
 /// A content that is interned by a form of a string, into a store of type `L`.
@@ -22,7 +20,8 @@ where
     /// The form whose spelling is the string. Nothing is copied.
     fn from_string(string: &'s [u8]) -> Self::Form
         requires { accepts string.now }
-        ensures { Self.Form.form_spelling result ≡ string.now };
+        ensures spelling { Self.Form.form_spelling result ≡ string.now }
+        ensures needs { Self.Form.needs result ≤ length string.now };
 }
 
 impl<'s, K: PackedForm<'s>> FromString<'s, Packed<K>> for Spelling<K> {
@@ -35,23 +34,13 @@ impl<'s, K: PackedForm<'s>> FromString<'s, Packed<K>> for Spelling<K> {
     }
 }
 
-impl<'s> FromString<'s, Vec<BytesContent>> for BytesContent {
-    type Form = &'s [u8];
+impl<'s, K: PackedForm<'s>> FromString<'s, Vec<ContentOf<K>>> for ContentOf<K> {
+    type Form = K::Form;
 
-    ghost accepts = { λ _. Unit {0} };
+    ghost accepts = { λ string. K.is_spelling string };
 
-    fn from_string(string: &'s [u8]) -> &'s [u8] {
-        string
-    }
-}
-
-impl<'s> FromString<'s, Vec<StrContent>> for StrContent {
-    type Form = &'s str;
-
-    ghost accepts = { IsUtf8 };
-
-    fn from_string(string: &'s [u8]) -> &'s str {
-        str::from_utf8(string).unwrap()
+    fn from_string(string: &'s [u8]) -> K::Form {
+        K::form_of(string)
     }
 }
 

@@ -1,20 +1,21 @@
+#![tactic(auto)]
 //! What tables store and compare.
 //!
-//! - [`Keyed`], [`Content`], [`Spelled`], [`Formed`], [`LookedUp`], [`Sought`], [`ToContent`]: contents and forms.
+//! - [`Kind`], [`KindOwned`], [`KindForm`], [`PackedForm`]: kinds of strings; [`ContentOf`], [`Keyed`], [`Content`],
+//!   [`Spells`], [`Packable`]: their contents and forms.
 //! - [`Store`], [`ByteStore`], [`SoughtIn`], [`AddedTo`], [`CopiedTo`], [`Lends`], [`LookedUpIn`], [`SpelledStore`]:
 //!   where contents are kept.
-//! - [`Packed`]: spellings of a [`PackedKind`] in one buffer.
-//! - [`Forms`], [`Pairs`]: iterators over a store; [`Texts`] and the like mark the six kinds.
-//! - [`Work`]: what a call did, for contracts. [`Bytewise`], [`feed_item`]: kinds compared by bytes.
-#![tactic(auto)]
+//! - [`Packed`]: spellings of a [`Kind`] in one buffer.
+//! - [`Forms`], [`Pairs`]: iterators over a store; [`OfKind`] is what names an iterator after its kind.
+//! - [`Work`]: what a call did, for contracts. [`feed_item`], [`same_bytes`]: kinds compared by bytes.
 
-mod bytewise;
 mod content;
+mod content_of;
 mod feed;
 mod forms;
-mod kinds;
+mod kind;
+mod of_kind;
 mod packed;
-mod packed_kind;
 mod packed_store;
 mod pairs;
 mod same;
@@ -23,13 +24,13 @@ mod store;
 mod vec_store;
 mod work;
 
-pub use bytewise::Bytewise;
-pub use content::{Content, Formed, Keyed, LookedUp, Sought, Spelled, ToContent};
+pub use content::{Content, Keyed, Sought, Spelled};
+pub use content_of::ContentOf;
 pub use feed::feed_item;
 pub use forms::Forms;
-pub use kinds::{BStrings, Bytestrings, CStrings, OsStrings, Paths, Texts};
+pub use kind::{Kind, KindForm, KindOwned, Packable, PackedForm, Spells};
+pub use of_kind::OfKind;
 pub use packed::Packed;
-pub use packed_kind::{Packable, PackedForm, PackedKind, PackedOwned};
 pub use pairs::Pairs;
 pub use same::same_bytes;
 pub use spelling::Spelling;

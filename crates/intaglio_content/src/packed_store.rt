@@ -4,8 +4,8 @@ ghost use Rattle.intaglio_packed.specs.Buckets.{sparse, sparse-multiple};
 ghost use Rattle.intaglio_content.specs.Store.{IsPushed};
 
 use crate::content::Keyed;
+use crate::kind::{Kind, Packable, PackedForm, Spells};
 use crate::packed::Packed;
-use crate::packed_kind::{Packable, PackedForm, PackedKind};
 use crate::spelling::Spelling;
 use crate::store::{
     AddedTo, ByteStore, Copied, CopiedTo, Lends, LookedUpIn, SoughtIn, SpelledStore, Store,
@@ -16,7 +16,7 @@ use std::alloc::{AllocError, Global};
 use std::hash::{BuildHasher, Hasher};
 use std::marker::PhantomData;
 
-impl<K: PackedKind> Store for Packed<K> {
+impl<K: Kind> Store for Packed<K> {
     type Content = Spelling<K>;
 
     type Prepared = ();
@@ -30,6 +30,8 @@ impl<K: PackedKind> Store for Packed<K> {
     ghost takes = { length };
 
     ghost buckets_for = { sparse };
+
+    ghost shrink_failed = { λ _. ⊤ };
 
     ghost buckets_multiple = { sparse-multiple };
 
@@ -78,12 +80,17 @@ impl<K: PackedKind> Store for Packed<K> {
         self.strings.shrink_to(min_capacity)
     }
 
+    #[inline(always)]
+    fn touch(&self, i: usize) -> u8 {
+        self.string(i).first().copied().unwrap_or(0)
+    }
+
     fn bucket_count(count: usize) -> usize {
         sparse_buckets(count)
     }
 }
 
-impl<K: PackedKind> ByteStore for Packed<K> {
+impl<K: Kind> ByteStore for Packed<K> {
     fn byte_count(&self) -> usize {
         self.strings.byte_count()
     }
@@ -95,22 +102,22 @@ impl<K: PackedKind> ByteStore for Packed<K> {
 
 // The bytes of a stored spelling, as a value with a key.
 #[derive(Drop)]
-struct Stored<'a, K: PackedKind> {
+struct Stored<'a, K: Kind> {
     bytes: &'a [u8],
     kind: PhantomData<K>,
 }
 
-impl<'a, K: PackedKind> Keyed for Stored<'a, K> {
+impl<'a, K: Kind> Keyed for Stored<'a, K> {
     ghost key = { λ stored. K.key_of stored.bytes.now };
 }
 
-impl<K: PackedKind, Q: Packable<K>> SoughtIn<Packed<K>> for Q {
+impl<K: Kind, Q: Packable<K>> SoughtIn<Packed<K>> for Q {
     // Inlined, so that the hasher's state stays in registers.
     #[inline(always)]
     fn hash_by<S: BuildHasher>(&self, builder: &S, work: &mut Work) -> u64 {
         work.hashed(self);
         let mut hasher = builder.build_hasher();
-        K::feed_spelling(self.packed_bytes(), &mut hasher);
+        K::feed_spelling(self.spelled_bytes(), &mut hasher);
         hasher.finish()
     }
 
@@ -124,51 +131,46 @@ impl<K: PackedKind, Q: Packable<K>> SoughtIn<Packed<K>> for Q {
                 kind: PhantomData::<K>,
             },
         );
-        K::same_spellings(self.packed_bytes(), stored)
-    }
-
-    #[inline(always)]
-    fn touch_at(&self, store: &Packed<K>, i: usize) -> u8 {
-        store.string(i).first().copied().unwrap_or(0)
+        K::same_spellings(self.spelled_bytes(), stored)
     }
 }
 
-impl<K: PackedKind, Q: Packable<K> + Drop> AddedTo<Packed<K>, Copied> for Q {
-    ghost adds = { λ value. IsPushed K.key_of (λ w. w) (Q.Keyed.key value) (Q.packed_spelling value) };
+impl<K: Kind, Q: Packable<K> + Drop> AddedTo<Packed<K>, Copied> for Q {
+    ghost adds = { λ value. IsPushed K.key_of (λ w. w) (Q.Keyed.key value) (Q.spelled value) };
 
     ghost copies = { true };
 
-    ghost needs = { λ value. length (Q.packed_spelling value) };
+    ghost needs = { λ value. length (Q.spelled value) };
 
     ghost in_store = { ⊤ };
 
     ghost is_prepared = { λ _ _. ⊤ };
 
     fn prepare(&self, store: &mut Packed<K>) -> Result<(), AllocError> {
-        store.reserve_bytes(self.packed_bytes().len())
+        store.reserve_bytes(self.spelled_bytes().len())
     }
 
     fn push(self, prepared: (), store: &mut Packed<K>) {
         let _ = prepared;
-        store.strings.push_reserved(self.packed_bytes());
+        store.strings.push_reserved(self.spelled_bytes());
     }
 
     ghost adds_one = { λ value old new added.
         record { content = added.copy; same_key = added.same_key; added = added.added } };
 }
 
-impl<K: PackedKind, Q: Packable<K> + Copy> CopiedTo<Packed<K>> for Q {
-    ghost form_spelling = { λ form. Q.packed_spelling form };
+impl<K: Kind, Q: Packable<K> + Copy> CopiedTo<Packed<K>> for Q {
+    ghost form_spelling = { λ form. Q.spelled form };
 
     ghost adds_copy = { λ _ _ _ added. added };
 
-    ghost key_of_form = { λ form. Q.key_of_packed form };
+    ghost key_of_form = { λ form. Q.key_of_spelled form };
 }
 
 impl<'a, K: PackedForm<'a>> Lends<'a> for Packed<K> {
     type Form = K::Form;
 
-    ghost lent_spelling = { λ form. K.Form.packed_spelling form };
+    ghost lent_spelling = { λ form. K.Form.spelled form };
 
     #[inline(always)]
     fn form_at(&'a self, i: usize) -> K::Form {
@@ -176,7 +178,7 @@ impl<'a, K: PackedForm<'a>> Lends<'a> for Packed<K> {
     }
 }
 
-impl<K: PackedKind> SpelledStore for Packed<K> {
+impl<K: Kind> SpelledStore for Packed<K> {
     fn spelling_at(&self, i: usize) -> Option<&[u8]> {
         self.strings.get(i)
     }

@@ -1,13 +1,17 @@
 //! A `Vec` of owned contents as the store of a table.
 ghost use Rattle.std.specs.Prelude.{◌≡◌, ◌*◌, suc, vec_capacity, true, false, refl, ⊤, IsSomeAnd};
 ghost use Rattle.std.proofs.Common.{arith};
+ghost use Rattle.intaglio_content.specs.ContentOf.{content_bytes};
 ghost use Rattle.intaglio_content.specs.Store.{IsMoved, IsPushed};
 
-use crate::content::{Content, Formed, Keyed, LookedUp, Sought, Spelled, ToContent};
+use crate::content::{Keyed, Sought, Spelled};
+use crate::content_of::ContentOf;
+use crate::kind::{KindForm, KindOwned, Packable, Spells};
 use crate::store::{
     AddedTo, Copied, CopiedTo, Lends, LookedUpIn, Moved, SoughtIn, SpelledStore, Store,
 };
 use crate::work::Work;
+use intaglio_packed::reserve_doubling;
 use std::alloc::{AllocError, Global};
 use std::hash::BuildHasher;
 
@@ -25,6 +29,8 @@ impl<C: Keyed> Store for Vec<C> {
     ghost takes = { λ _. 0 };
 
     ghost buckets_for = { λ n. n };
+
+    ghost shrink_failed = { λ _. ⊤ };
 
     ghost buckets_multiple = { λ n. (0, omega arith) };
 
@@ -52,7 +58,7 @@ impl<C: Keyed> Store for Vec<C> {
 
     #[inline(always)]
     fn reserve(&mut self, additional: usize) -> Result<(), AllocError> {
-        Vec::reserve(self, additional)
+        reserve_doubling(self, additional)
     }
 
     fn truncate(&mut self, n: usize)
@@ -79,6 +85,11 @@ impl<C: Keyed> Store for Vec<C> {
     }
 
     #[inline(always)]
+    fn touch(&self, i: usize) -> u8 {
+        self[i].touch()
+    }
+
+    #[inline(always)]
     fn bucket_count(count: usize) -> usize {
         count
     }
@@ -93,11 +104,6 @@ impl<C: Keyed, Q: Sought<C>> SoughtIn<Vec<C>> for Q {
     #[inline(always)]
     fn same_at(&self, store: &Vec<C>, i: usize, work: &mut Work) -> bool {
         self.same_as(&store[i], work)
-    }
-
-    #[inline(always)]
-    fn touch_at(&self, store: &Vec<C>, i: usize) -> u8 {
-        self.touch(&store[i])
     }
 }
 
@@ -127,8 +133,9 @@ impl<C: Keyed + SoughtIn<Vec<C>> + Drop> AddedTo<Vec<C>, Moved> for C {
     ghost adds_one = { λ content old new added. record { content = content; same_key = refl; added = added } };
 }
 
-impl<C: Content, Q: ToContent<C> + Drop> AddedTo<Vec<C>, Copied> for Q {
-    ghost adds = { λ form. IsPushed C.Keyed.key C.Content.spelling (Q.Keyed.key form) (Q.ToContent.form_spelling form) };
+impl<K: KindOwned, Q: Packable<K> + Copy> AddedTo<Vec<ContentOf<K>>, Copied> for Q {
+    ghost adds = { λ form. IsPushed (λ c. K.key_of (content_bytes K.Static.spelled K.Owned.spelled c))
+        (content_bytes K.Static.spelled K.Owned.spelled) (Q.Keyed.key form) (Q.spelled form) };
 
     ghost copies = { true };
 
@@ -137,14 +144,16 @@ impl<C: Content, Q: ToContent<C> + Drop> AddedTo<Vec<C>, Copied> for Q {
     ghost in_store = { ⊥ };
 
     ghost is_prepared = { λ form copied. IsSomeAnd copied (λ copy.
-        (C.Keyed.key copy ≡ Q.Keyed.key form) × (C.Content.spelling copy ≡ Q.ToContent.form_spelling form)) };
+        (K.key_of (content_bytes K.Static.spelled K.Owned.spelled copy) ≡ Q.Keyed.key form)
+        × (content_bytes K.Static.spelled K.Owned.spelled copy ≡ Q.spelled form)) };
 
-    fn prepare(&self, store: &mut Vec<C>) -> Result<Option<C>, AllocError> {
-        Ok(Some(self.to_content(*store.allocator())?))
+    fn prepare(&self, store: &mut Vec<ContentOf<K>>) -> Result<Option<ContentOf<K>>, AllocError> {
+        let copy = K::copy(*store.allocator(), self.spelled_bytes())?;
+        Ok(Some(ContentOf::Owned(copy)))
     }
 
     #[inline(always)]
-    fn push(self, prepared: Option<C>, store: &mut Vec<C>) {
+    fn push(self, prepared: Option<ContentOf<K>>, store: &mut Vec<ContentOf<K>>) {
         match prepared {
             Some(copy) => store.push_reserved(copy),
             None => {}
@@ -155,23 +164,23 @@ impl<C: Content, Q: ToContent<C> + Drop> AddedTo<Vec<C>, Copied> for Q {
         record { content = added.copy; same_key = added.same_key; added = added.added } };
 }
 
-impl<C: Content, Q: ToContent<C> + Copy> CopiedTo<Vec<C>> for Q {
-    ghost form_spelling = { λ form. Q.ToContent.form_spelling form };
+impl<K: KindOwned, Q: Packable<K> + Copy> CopiedTo<Vec<ContentOf<K>>> for Q {
+    ghost form_spelling = { λ form. Q.spelled form };
 
     ghost adds_copy = { λ _ _ _ added. added };
 
-    ghost key_of_form = { λ form. Q.ToContent.key_of_form form };
+    ghost key_of_form = { λ form. Q.key_of_spelled form };
 }
 
-impl<'a, C: Formed<'a>> Lends<'a> for Vec<C> {
-    type Form = C::Form;
+impl<'a, K: KindForm<'a>> Lends<'a> for Vec<ContentOf<K>> {
+    type Form = K::Form;
 
-    ghost lent_spelling = { λ form. C.form_spelling form };
+    ghost lent_spelling = { λ form. K.Form.spelled form };
 
     #[inline(always)]
-    fn form_at(&'a self, i: usize) -> C::Form {
+    fn form_at(&'a self, i: usize) -> K::Form {
         let content = &self[i];
-        content.borrow()
+        content.form()
     }
 }
 
@@ -184,6 +193,6 @@ impl<C: Spelled> SpelledStore for Vec<C> {
     }
 }
 
-impl<'q, C: LookedUp<'q>> LookedUpIn<'q> for Vec<C> {
-    type By = C::By;
+impl<'q, K: KindForm<'q>> LookedUpIn<'q> for Vec<ContentOf<K>> {
+    type By = K::Form;
 }

@@ -1,57 +1,44 @@
 //! C strings as contents.
-ghost use Rattle.std.specs.Prelude.{◌≡◌, [], ◌∷◌, refl};
+ghost use Rattle.std.specs.Prelude.{◌≡◌, [], ◌∷◌, refl, None};
 ghost use Rattle.intaglio_cstr.specs.CStr.{c_str_spelling};
-ghost use Rattle.intaglio_cstr.specs.CStrContent.{c_str_content_bytes};
-ghost use Rattle.intaglio_cstr.specs.declared.content.CStrContent.TheVariants.{Borrowed, Owned};
+ghost use Rattle.intaglio_cstr.specs.Zeros.{first_zero};
 
 use crate::c_str::CStr;
 use crate::c_string::CString;
-use intaglio_content::{Bytewise, CStrings, Content, Formed, Keyed, LookedUp, Spelled, ToContent};
+use intaglio_content::{
+    ContentOf, Keyed, Kind, KindForm, KindOwned, Packable, Spells, feed_item, same_bytes,
+};
 use std::alloc::{AllocError, Global};
+use std::hash::Hasher;
 
-/// A C string that a table stores. Its spelling is its bytes before the final
-/// zero, and its key is that one item.
-///
-/// It is stored as passed in: nothing is copied, and an owned one keeps its spare capacity.
-///
-/// ```
-/// # use intaglio::cstr::{CStr, CStrContent};
-/// let content = CStrContent::from(CStr::from_bytes_with_nul(b"abc\x00")?);
-/// assert!(rt; content.form().to_bytes() == b"abc".as_slice());
-/// ```
-#[derive(Drop)]
-pub enum CStrContent {
-    /// A C string with the lifetime `'static`.
-    Borrowed(CStr<'static>),
-    /// An owned C string.
-    Owned(CString),
-}
+/// The kind of C strings. Their spellings are the bytes before the final zero.
+pub struct CStrKind;
 
-impl CStrContent {
-    /// The C string, borrowed.
-    pub fn form(&self) -> CStr<'_>
-        ensures { c_str_spelling result ≡ c_str_content_bytes self.now }
-    {
-        match self {
-            CStrContent::Borrowed(text) => *text,
-            CStrContent::Owned(text) => text.as_c_str(),
-        }
+/// A C string that a table stores: a `CStr<'static>` or a `CString`.
+pub type CStrContent = ContentOf<CStrKind>;
+
+impl Kind for CStrKind {
+    ghost key_of = { λ bytes. bytes ∷ [] };
+
+    ghost is_spelling = { λ bytes. first_zero bytes ≡ None };
+
+    #[inline(always)]
+    fn feed_spelling<H: Hasher>(spelling: &[u8], hasher: &mut H) {
+        feed_item(spelling, hasher);
+    }
+
+    #[inline(always)]
+    fn same_spellings(a: &[u8], b: &[u8]) -> bool {
+        same_bytes(a, b)
     }
 }
 
-impl From<CStr<'static>> for CStrContent {
-    ghost from_gives = { λ text content. content ≡ Borrowed text };
+impl<'a> Spells<CStrKind> for CStr<'a> {
+    ghost spelled = { c_str_spelling };
 
-    fn from(text: CStr<'static>) -> CStrContent {
-        CStrContent::Borrowed(text)
-    }
-}
-
-impl From<CString> for CStrContent {
-    ghost from_gives = { λ text content. content ≡ Owned text };
-
-    fn from(text: CString) -> CStrContent {
-        CStrContent::Owned(text)
+    #[inline(always)]
+    fn spelled_bytes(&self) -> &[u8] {
+        self.to_bytes()
     }
 }
 
@@ -59,58 +46,59 @@ impl<'a> Keyed for CStr<'a> {
     ghost key = { λ text. c_str_spelling text ∷ [] };
 }
 
-impl<'a> Bytewise for CStr<'a> {
-    fn compared_bytes(&self) -> &[u8] {
-        self.to_bytes()
+impl<'a> Packable<CStrKind> for CStr<'a> {
+    ghost key_of_spelled = { λ _. refl };
+}
+
+impl Spells<CStrKind> for CString {
+    ghost spelled = { λ text. text };
+
+    #[inline(always)]
+    fn spelled_bytes(&self) -> &[u8] {
+        self.as_c_str().to_bytes()
     }
 }
 
-impl Keyed for CStrContent {
-    ghost key = { λ content. c_str_content_bytes content ∷ [] };
-}
+impl KindOwned for CStrKind {
+    type Static = CStr<'static>;
 
-impl Content for CStrContent {
-    ghost spelling = { c_str_content_bytes };
+    type Owned = CString;
 
-    ghost key_of = { λ bytes. bytes ∷ [] };
-
-    ghost key_of_spelling = { λ _. refl };
-}
-
-impl CStrings for CStrContent {}
-
-impl Bytewise for CStrContent {
-    fn compared_bytes(&self) -> &[u8] {
-        self.form().to_bytes()
+    fn copy(alloc: Global, spelling: &[u8]) -> Result<CString, AllocError> {
+        let mut bytes = Vec::with_capacity(alloc, spelling.len() + 1)?;
+        bytes.extend_from_slice(spelling)?;
+        Ok(CString::new(alloc, bytes).unwrap())
     }
 }
 
-impl Spelled for CStrContent {
-    fn spelling(&self) -> &[u8] {
-        self.compared_bytes()
-    }
-}
-
-impl<'a> Formed<'a> for CStrContent {
+impl<'a> KindForm<'a> for CStrKind {
     type Form = CStr<'a>;
 
-    ghost form_spelling = { c_str_spelling };
-
-    fn borrow(&'a self) -> CStr<'a> {
-        self.form()
+    #[inline(always)]
+    fn lend(content: &'a CStrContent) -> CStr<'a> {
+        match content {
+            ContentOf::Borrowed(text) => *text,
+            ContentOf::Owned(text) => text.as_c_str(),
+        }
     }
 }
 
-impl<'q> LookedUp<'q> for CStrContent {
-    type By = CStr<'q>;
+impl From<CStr<'static>> for CStrContent {
+    ghost use Rattle.intaglio_content.specs.declared.content_of.ContentOf.TheVariants.{Borrowed};
+
+    ghost from_gives = { λ text content. content ≡ Borrowed text };
+
+    fn from(text: CStr<'static>) -> CStrContent {
+        ContentOf::Borrowed(text)
+    }
 }
 
-impl<'a> ToContent<CStrContent> for CStr<'a> {
-    ghost form_spelling = { c_str_spelling };
+impl From<CString> for CStrContent {
+    ghost use Rattle.intaglio_content.specs.declared.content_of.ContentOf.TheVariants.{Owned};
 
-    fn to_content(&self, alloc: Global) -> Result<CStrContent, AllocError> {
-        Ok(CStrContent::Owned(CString::from_c_str(alloc, *self)?))
+    ghost from_gives = { λ text content. content ≡ Owned text };
+
+    fn from(text: CString) -> CStrContent {
+        ContentOf::Owned(text)
     }
-
-    ghost key_of_form = { λ _. refl };
 }

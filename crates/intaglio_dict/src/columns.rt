@@ -1,12 +1,14 @@
 //! The subcommands that translate columns: lines to codes, codes to lines, and codes to other codes.
+use crate::keeping::Keeping;
+use crate::misfit::{no_number, no_string, no_symbol};
 use crate::run::checked;
 use clap::ArgMatches;
 use intaglio_dict_io::input::{STANDARD, STANDARD_INPUT, first_input, meter_of, name_of};
 use intaglio_dict_io::metered::{Meter, Metered};
 use intaglio_dict_io::noticing::Noticing;
-use intaglio_dict_io::output::{Content, refuse_input, write_to};
+use intaglio_dict_io::output::{Content, write_to};
 use intaglio_dict_io::report;
-use intaglio_dict_io::report::Stream;
+use intaglio_dict_io::report::{Stream, Tell};
 use intaglio_dictionary::codes::CodeMap;
 use intaglio_dictionary::columns::{decode, encode, renumber};
 use intaglio_dictionary::error::ColumnError;
@@ -41,6 +43,47 @@ impl Translation<'_, '_> {
             Translation::Renumber(map) => renumber(alloc, *map, input, output),
         }
     }
+
+    // Whether it is made of codes.
+    fn has_codes(&self) -> bool {
+        match self {
+            Translation::Encode(_, _) => false,
+            _ => true,
+        }
+    }
+
+    // Of a line or code that wasn't translated, which is among the bytes that were read last.
+    fn report<R: Tell>(&self, rt: &R, name: &str, fault: ColumnError, read: &[u8]) -> u8 {
+        match fault {
+            ColumnError::NoSymbol(n) => match self {
+                Translation::Encode(table, _) => no_symbol(rt, name, n, *table, read),
+                _ => report::failed(rt, name, ColumnError::NoSymbol(n)),
+            },
+            ColumnError::NoString(n) => self.report_code(rt, name, n, read),
+            ColumnError::ShortCode(n) => report::failed(
+                rt,
+                name,
+                format_args!("code number {n} is cut short"),
+            ),
+            ColumnError::Stream(error) => report::failed(rt, name, ColumnError::Stream(error)),
+        }
+    }
+
+    // Of the code with this number, which has no string, or no other code.
+    fn report_code<R: Tell>(&self, rt: &R, name: &str, number: u64, read: &[u8]) -> u8 {
+        match self {
+            Translation::Decode(table, text) => no_string(
+                rt,
+                name,
+                number,
+                *table,
+                text.is_some(),
+                read,
+            ),
+            Translation::Renumber(map) => no_number(rt, name, number, *map, read),
+            Translation::Encode(_, _) => report::failed(rt, name, ColumnError::NoString(number)),
+        }
+    }
 }
 
 // The translations of several inputs, one after the other.
@@ -52,7 +95,7 @@ struct Column<'a, 't> {
     count: u64,
 }
 
-impl<R: Files + Input + Eprint + AllocGlobal> Content<R> for Column<'_, '_> {
+impl<R: Files + Input + Tell + AllocGlobal> Content<R> for Column<'_, '_> {
     fn write<W: Write>(&mut self, rt: &R, name: &str, output: &mut Noticing<W>) -> Result<(), u8> {
         for input in self.names {
             self.add(rt, input, name, output)?;
@@ -63,47 +106,47 @@ impl<R: Files + Input + Eprint + AllocGlobal> Content<R> for Column<'_, '_> {
 
 impl Column<'_, '_> {
     // Translates one input.
-    fn add<R: Files + Input + Eprint + AllocGlobal, W: Write>(
+    fn add<R: Files + Input + Tell + AllocGlobal, W: Write>(
         &mut self,
         rt: &R,
         input_name: &str,
         name: &str,
         output: &mut Noticing<W>,
     ) -> Result<(), u8> {
-        let mut input = Metered::open(rt, input_name, self.meter)?;
+        let input = Metered::open(rt, input_name, self.meter)?;
+        let mut input = Keeping::new(rt, input, self.translation.has_codes());
         let translated = self.translation.translate(rt.alloc(), &mut input, output);
-        self.meter = input.meter;
-        let (read, written) = ((name_of(input_name), input.error), (name, output.error));
-        let count = count_of(rt, translated, read, written)?;
-        self.count = self.count.saturating_add(count);
-        Ok(())
-    }
-}
-
-// How many were translated from an input to an output, each with its last error.
-fn count_of<R: Eprint + AllocGlobal>(
-    rt: &R,
-    translated: Result<u64, ColumnError>,
-    input: Stream<'_>,
-    output: Stream<'_>,
-) -> Result<u64, u8> {
-    match translated {
-        Ok(count) => Ok(count),
-        Err(ColumnError::Stream(fault)) => Err(report::stopped_one(rt, fault, input, output)),
-        Err(fault) => Err(report::failed(rt, input.0, fault)),
+        self.meter = input.input.meter;
+        match translated {
+            Ok(count) => {
+                self.count = self.count.saturating_add(count);
+                Ok(())
+            }
+            Err(ColumnError::Stream(fault)) => {
+                let (read, written) = (
+                    (name_of(input_name), input.input.error),
+                    (name, output.error),
+                );
+                Err(report::stopped_one(rt, fault, read, written))
+            }
+            Err(fault) => Err(
+                self.translation
+                    .report(rt, name_of(input_name), fault, input.kept()),
+            ),
+        }
     }
 }
 
 /// Writes the code of each line of the inputs. Otherwise the exit status after a message.
-pub fn encode_lines<R: Files + RandomSource + Input + Print + Eprint + AllocGlobal>(
+pub fn encode_lines<R: Files + RandomSource + Input + Print + Tell + AllocGlobal>(
     rt: &R,
     found: &ArgMatches<'_>,
 ) -> Result<(), u8> {
-    let (name, bytes) = first_input(rt, found, "DICT", "FILE")?;
+    let (name, bytes) = first_input(rt, found, "DICT")?;
     encode_by(rt, found, name, &bytes)
 }
 
-fn encode_by<R: Files + RandomSource + Input + Print + Eprint + AllocGlobal>(
+fn encode_by<R: Files + RandomSource + Input + Print + Tell + AllocGlobal>(
     rt: &R,
     found: &ArgMatches<'_>,
     name: &str,
@@ -112,14 +155,14 @@ fn encode_by<R: Files + RandomSource + Input + Print + Eprint + AllocGlobal>(
     match checked(rt, name, bytes) {
         Ok(table) => {
             let translation = Translation::Encode(&table, found.get_flag("MISSING"));
-            translate(rt, found, name, "FILE", translation, "lines encoded")
+            translate(rt, found, "FILE", translation, "lines encoded")
         }
         Err(status) => Err(status),
     }
 }
 
 /// Writes the line of each code of the inputs. Otherwise the exit status after a message.
-pub fn decode_codes<R: Files + RandomSource + Input + Print + Eprint + AllocGlobal>(
+pub fn decode_codes<R: Files + RandomSource + Input + Print + Tell + AllocGlobal>(
     rt: &R,
     found: &ArgMatches<'_>,
 ) -> Result<(), u8> {
@@ -127,11 +170,11 @@ pub fn decode_codes<R: Files + RandomSource + Input + Print + Eprint + AllocGlob
     if missing.is_some_and(|text| text.contains(&b'\n')) {
         return Err(report::line_end(rt));
     }
-    let (name, bytes) = first_input(rt, found, "DICT", "CODES")?;
+    let (name, bytes) = first_input(rt, found, "DICT")?;
     decode_by(rt, found, name, &bytes, missing)
 }
 
-fn decode_by<R: Files + RandomSource + Input + Print + Eprint + AllocGlobal>(
+fn decode_by<R: Files + RandomSource + Input + Print + Tell + AllocGlobal>(
     rt: &R,
     found: &ArgMatches<'_>,
     name: &str,
@@ -141,22 +184,22 @@ fn decode_by<R: Files + RandomSource + Input + Print + Eprint + AllocGlobal>(
     match checked(rt, name, bytes) {
         Ok(table) => {
             let translation = Translation::Decode(&table, missing);
-            translate(rt, found, name, "CODES", translation, "codes decoded")
+            translate(rt, found, "CODES", translation, "codes decoded")
         }
         Err(status) => Err(status),
     }
 }
 
 /// Writes the code at each code of the inputs. Otherwise the exit status after a message.
-pub fn renumber_codes<R: Files + RandomSource + Input + Print + Eprint + AllocGlobal>(
+pub fn renumber_codes<R: Files + RandomSource + Input + Print + Tell + AllocGlobal>(
     rt: &R,
     found: &ArgMatches<'_>,
 ) -> Result<(), u8> {
-    let (name, bytes) = first_input(rt, found, "MAP", "CODES")?;
+    let (name, bytes) = first_input(rt, found, "MAP")?;
     renumber_by(rt, found, name, &bytes)
 }
 
-fn renumber_by<R: Files + RandomSource + Input + Print + Eprint + AllocGlobal>(
+fn renumber_by<R: Files + RandomSource + Input + Print + Tell + AllocGlobal>(
     rt: &R,
     found: &ArgMatches<'_>,
     name: &str,
@@ -165,7 +208,7 @@ fn renumber_by<R: Files + RandomSource + Input + Print + Eprint + AllocGlobal>(
     match CodeMap::of(bytes) {
         Some(map) => {
             let translation = Translation::Renumber(&map);
-            translate(rt, found, name, "CODES", translation, "codes renumbered")
+            translate(rt, found, "CODES", translation, "codes renumbered")
         }
         None => Err(report::failed(
             rt,
@@ -176,24 +219,22 @@ fn renumber_by<R: Files + RandomSource + Input + Print + Eprint + AllocGlobal>(
 }
 
 // Writes what is made of the inputs.
-fn translate<R: Files + RandomSource + Input + Print + Eprint + AllocGlobal>(
+fn translate<R: Files + RandomSource + Input + Print + Tell + AllocGlobal>(
     rt: &R,
     found: &ArgMatches<'_>,
-    first: &str,
     others: &str,
     translation: Translation<'_, '_>,
     done: &str,
 ) -> Result<(), u8> {
     let names = found.get_strs(others).unwrap_or(STANDARD_INPUT);
     let output = found.get_str("OUT").unwrap_or(STANDARD);
-    refuse_input(rt, output, &[first])?;
     let mut column = Column {
         translation,
         names,
         meter: meter_of(rt, names, found.get_flag("PROGRESS")),
         count: 0,
     };
-    write_to(rt, output, names, &mut column)?;
+    write_to(rt, output, &mut column)?;
     if found.get_flag("VERBOSE") {
         report::count(rt, column.count, done);
     }

@@ -4,8 +4,9 @@ use clap::ArgMatches;
 use intaglio_dict_io::input::{STANDARD_INPUT, lines};
 use intaglio_dict_io::keys::keys_of;
 use intaglio_dict_io::noticing::Noticing;
-use intaglio_dict_io::output::{Bytes, Content, are_one, refuse_input, write_to};
+use intaglio_dict_io::output::{Bytes, Content, write_to};
 use intaglio_dict_io::report;
+use intaglio_dict_io::report::Tell;
 use intaglio_dictionary::error::FreezingError;
 use intaglio_dictionary::freezing::{freeze_column, freeze_lines, freeze_lines_with_default_keys};
 use intaglio_frozen::{FreezeError, Kind};
@@ -20,7 +21,6 @@ use std::rt::Files;
 struct Freezing<'a, R> {
     kind: Kind,
     keys: Option<(u64, u64)>,
-    names: &'a [&'a str],
     input: &'a [u8],
     // The output for the codes of the lines.
     codes: Option<&'a str>,
@@ -28,7 +28,7 @@ struct Freezing<'a, R> {
 }
 
 /// Freezes the lines of files or of standard input. Otherwise the exit status after a message.
-pub fn freeze<R: Files + RandomSource + Input + Print + Eprint + AllocGlobal>(
+pub fn freeze<R: Files + RandomSource + Input + Print + Tell + AllocGlobal>(
     rt: &R,
     found: &ArgMatches<'_>,
 ) -> Result<(), u8> {
@@ -36,43 +36,40 @@ pub fn freeze<R: Files + RandomSource + Input + Print + Eprint + AllocGlobal>(
         return Err(2);
     };
     let names = found.get_strs("FILE").unwrap_or(STANDARD_INPUT);
-    let codes = found.get_str("CODES");
-    check_codes(rt, codes, name, names)?;
     let (kind, keys) = (kind_of(found), keys_of(rt, found)?);
     let is_shown = found.get_flag("PROGRESS");
     let input = lines(rt, names, kind == Kind::Text, is_shown)?;
     let freezing = Freezing {
         kind,
         keys,
-        names,
         input: &input,
-        codes,
+        codes: found.get_str("CODES"),
         shown: Shown::new(rt, is_shown),
     };
-    freeze_to(rt, name, freezing)
+    freeze_to(rt, name, freezing, found.get_flag("VERBOSE"))
 }
 
-fn freeze_to<R: Files + RandomSource + Print + Eprint + AllocGlobal>(
+fn freeze_to<R: Files + RandomSource + Print + Tell + AllocGlobal>(
     rt: &R,
     name: &str,
     mut freezing: Freezing<'_, R>,
+    is_counted: bool,
 ) -> Result<(), u8> {
-    let (names, size) = (freezing.names, freezing.input.len());
-    freezing.shown.stage(size, "bytes read");
-    write_to(rt, name, names, &mut freezing)
+    let read = freezing.input.len();
+    freezing.shown.stage(read, "bytes read");
+    write_to(rt, name, &mut freezing)?;
+    if is_counted {
+        report::count(rt, count_of_lines(freezing.input), "lines frozen");
+        report::count(rt, freezing.shown.distinct as u64, "distinct lines");
+    }
+    Ok(())
 }
 
-// Refuses codes that are also the dictionary or an input: then the exit status after a message.
-fn check_codes<R: Files + Eprint>(
-    rt: &R,
-    codes: Option<&str>,
-    name: &str,
-    names: &[&str],
-) -> Result<(), u8> {
-    match codes {
-        Some(codes) if are_one(rt, codes, name) => Err(report::one_output(rt)),
-        Some(codes) => refuse_input(rt, codes, names),
-        None => Ok(()),
+fn count_of_lines(input: &[u8]) -> u64 {
+    let ends = input.iter().filter(|b| **b == b'\n').count() as u64;
+    match input.last() {
+        None | Some(b'\n') => ends,
+        Some(_) => ends.saturating_add(1),
     }
 }
 
@@ -84,7 +81,7 @@ fn kind_of(found: &ArgMatches<'_>) -> Kind {
     }
 }
 
-impl<R: Files + RandomSource + Print + Eprint + AllocGlobal> Content<R> for Freezing<'_, R> {
+impl<R: Files + RandomSource + Print + Tell + AllocGlobal> Content<R> for Freezing<'_, R> {
     // The codes are written before the dictionary has its place: whoever sees that can read them.
     fn write<W: Write>(&mut self, rt: &R, name: &str, output: &mut Noticing<W>) -> Result<(), u8> {
         let Some(codes) = self.codes else {
@@ -93,13 +90,13 @@ impl<R: Files + RandomSource + Print + Eprint + AllocGlobal> Content<R> for Free
         let mut bytes = Noticing::new(Vec::new(rt.alloc()));
         self.write_column(rt, name, output, &mut bytes)?;
         let bytes = bytes.stream;
-        write_to(rt, codes, self.names, &mut Bytes { bytes: &bytes })
+        write_to(rt, codes, &mut Bytes { bytes: &bytes })
     }
 }
 
-impl<R: Eprint> Freezing<'_, R> {
+impl<R: Tell> Freezing<'_, R> {
     // Writes the dictionary.
-    fn write_table<Q: RandomSource + Eprint + AllocGlobal, W: Write>(
+    fn write_table<Q: RandomSource + Tell + AllocGlobal, W: Write>(
         &mut self,
         rt: &Q,
         name: &str,
@@ -121,7 +118,7 @@ impl<R: Eprint> Freezing<'_, R> {
     }
 
     // Writes the dictionary, and the codes to memory.
-    fn write_column<Q: RandomSource + Eprint + AllocGlobal, W: Write>(
+    fn write_column<Q: RandomSource + Tell + AllocGlobal, W: Write>(
         &mut self,
         rt: &Q,
         name: &str,
@@ -142,7 +139,7 @@ impl<R: Eprint> Freezing<'_, R> {
 }
 
 /// The exit status after a dictionary wasn't written to its output.
-pub fn refusal<R: Eprint + AllocGlobal>(
+pub fn refusal<R: Tell + AllocGlobal>(
     rt: &R,
     name: &str,
     refused: FreezingError,
@@ -156,10 +153,12 @@ pub fn refusal<R: Eprint + AllocGlobal>(
 }
 
 // Of lines that have no frozen table under the keys that were tried.
-fn no_places<R: Eprint>(rt: &R) -> u8 {
-    let _ = eprintln!(rt;
-        "intaglio_dict: {}; other keys may do: --random-keys",
-        FreezeError::NoPlaces
-    );
-    1
+fn no_places<R: Tell>(rt: &R) -> u8 {
+    report::of_input(
+        rt,
+        format_args!(
+            "{}; other keys may do: --random-keys",
+            FreezeError::NoPlaces
+        ),
+    )
 }

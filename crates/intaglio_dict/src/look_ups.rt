@@ -6,17 +6,19 @@ use intaglio_dict_io::metered::{Meter, Metered};
 use intaglio_dict_io::noticing::Noticing;
 use intaglio_dict_io::output::OUTPUT;
 use intaglio_dict_io::report;
-use intaglio_dict_io::symbols::asked_symbols;
+use intaglio_dict_io::report::Tell;
+use intaglio_dict_io::symbols::{read_symbols, typed_symbols};
 use intaglio_dictionary::dictionary::Dictionary;
 use intaglio_dictionary::error::DictionaryError;
 use intaglio_dictionary::look_up::{find_lines, write_strings};
 use intaglio_frozen::TrustedFrozen;
+use intaglio_symbol::Symbol;
 use std::io;
 use std::rt::Files;
 
 /// Writes the symbols of lines, and returns the exit status, as `grep` has it: 1 if some lines weren't found, and
 /// 2 after an error.
-pub fn find<R: Files + Input + Print + Eprint + AllocGlobal>(rt: &R, found: &ArgMatches<'_>) -> u8 {
+pub fn find<R: Files + Input + Print + Tell + AllocGlobal>(rt: &R, found: &ArgMatches<'_>) -> u8 {
     match find_all(rt, found) {
         Ok(true) => 0,
         Ok(false) => 1,
@@ -24,16 +26,16 @@ pub fn find<R: Files + Input + Print + Eprint + AllocGlobal>(rt: &R, found: &Arg
     }
 }
 
-fn find_all<R: Files + Input + Print + Eprint + AllocGlobal>(
+fn find_all<R: Files + Input + Print + Tell + AllocGlobal>(
     rt: &R,
     found: &ArgMatches<'_>,
 ) -> Result<bool, u8> {
-    let (name, bytes) = first_input(rt, found, "DICT", "FILE")?;
+    let (name, bytes) = first_input(rt, found, "DICT")?;
     find_by(rt, found, name, &bytes)
 }
 
 // Opens the dictionary in these bytes, and looks the lines up.
-fn find_by<R: Files + Input + Print + Eprint + AllocGlobal>(
+fn find_by<R: Files + Input + Print + Tell + AllocGlobal>(
     rt: &R,
     found: &ArgMatches<'_>,
     name: &str,
@@ -54,7 +56,7 @@ fn find_by<R: Files + Input + Print + Eprint + AllocGlobal>(
 }
 
 // The dictionary in these bytes, after a check of its header. Otherwise the exit status after a message.
-fn trusted<'a, R: Eprint>(rt: &R, name: &str, bytes: &'a [u8]) -> Result<TrustedFrozen<'a>, u8> {
+fn trusted<'a, R: Tell>(rt: &R, name: &str, bytes: &'a [u8]) -> Result<TrustedFrozen<'a>, u8> {
     match TrustedFrozen::open(bytes) {
         Ok(table) => Ok(table),
         Err(fault) => Err(report::failed(rt, name_of(name), fault)),
@@ -62,7 +64,7 @@ fn trusted<'a, R: Eprint>(rt: &R, name: &str, bytes: &'a [u8]) -> Result<Trusted
 }
 
 // Whether all lines of the files were found.
-fn find_in_files<R: Files + Input + Print + Eprint + AllocGlobal, D: Dictionary>(
+fn find_in_files<R: Files + Input + Print + Tell + AllocGlobal, D: Dictionary>(
     rt: &R,
     table: &D,
     names: &[&str],
@@ -75,7 +77,7 @@ fn find_in_files<R: Files + Input + Print + Eprint + AllocGlobal, D: Dictionary>
     Ok(all)
 }
 
-fn find_in<R: Files + Input + Print + Eprint + AllocGlobal, D: Dictionary>(
+fn find_in<R: Files + Input + Print + Tell + AllocGlobal, D: Dictionary>(
     rt: &R,
     table: &D,
     name: &str,
@@ -92,41 +94,47 @@ fn find_in<R: Files + Input + Print + Eprint + AllocGlobal, D: Dictionary>(
 }
 
 /// Writes the strings of symbols. Otherwise the exit status after a message.
-pub fn get<R: Files + Input + Print + Eprint + AllocGlobal>(
+pub fn get<R: Files + Input + Print + Tell + AllocGlobal>(
     rt: &R,
     found: &ArgMatches<'_>,
 ) -> Result<(), u8> {
-    let (name, bytes) = first_input(rt, found, "DICT", "NUMBER")?;
-    get_by(rt, found, name, &bytes)
+    let typed = typed_symbols(rt, found)?;
+    let (name, bytes) = first_input(rt, found, "DICT")?;
+    get_by(rt, found.get_flag("TRUSTED"), name, &bytes, typed)
 }
 
 // Opens the dictionary in these bytes, and writes the strings.
-fn get_by<R: Files + Input + Print + Eprint + AllocGlobal>(
+fn get_by<R: Files + Input + Print + Tell + AllocGlobal>(
     rt: &R,
-    found: &ArgMatches<'_>,
+    is_trusted: bool,
     name: &str,
     bytes: &[u8],
+    typed: Option<Vec<Symbol>>,
 ) -> Result<(), u8> {
-    if found.get_flag("TRUSTED") {
+    if is_trusted {
         match trusted(rt, name, bytes) {
-            Ok(table) => get_from(rt, &table, name, found),
+            Ok(table) => get_from(rt, &table, name, typed),
             Err(status) => Err(status),
         }
     } else {
         match checked(rt, name, bytes) {
-            Ok(table) => get_from(rt, &table, name, found),
+            Ok(table) => get_from(rt, &table, name, typed),
             Err(status) => Err(status),
         }
     }
 }
 
-fn get_from<R: Files + Input + Print + Eprint + AllocGlobal, D: Dictionary>(
+// Writes the strings of these symbols, or of those on standard input.
+fn get_from<R: Files + Input + Print + Tell + AllocGlobal, D: Dictionary>(
     rt: &R,
     table: &D,
     name: &str,
-    found: &ArgMatches<'_>,
+    typed: Option<Vec<Symbol>>,
 ) -> Result<(), u8> {
-    let symbols = asked_symbols(rt, found)?;
+    let symbols = match typed {
+        Some(symbols) => symbols,
+        None => read_symbols(rt)?,
+    };
     let mut output = Noticing::new(io::writer(rt));
     match write_strings(rt.alloc(), table, &symbols, &mut output) {
         Ok(()) => Ok(()),
@@ -136,6 +144,6 @@ fn get_from<R: Files + Input + Print + Eprint + AllocGlobal, D: Dictionary>(
             OUTPUT,
             output.error,
         )),
-        Err(unknown) => Err(report::failed(rt, name_of(name), unknown)),
+        Err(DictionaryError::NoString(number)) => Err(report::no_string(rt, name_of(name), number)),
     }
 }

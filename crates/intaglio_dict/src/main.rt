@@ -6,13 +6,16 @@
 
 mod columns;
 mod freezing;
+mod keeping;
 mod look_ups;
 mod merging;
+mod misfit;
 mod progress;
 mod run;
 
 use intaglio_dict_io::command::matches;
 use intaglio_dict_io::report;
+use intaglio_dict_io::report::Tell;
 use intaglio_dict_io::words::words;
 use std::process::ExitCode;
 use std::random::RandomSource;
@@ -23,14 +26,16 @@ fn main(rt: HostRuntime) -> ExitCode {
 }
 
 // Runs the program on its arguments, and returns the exit status.
-fn serve<R: Files + Env + RandomSource + Input + Print + Eprint + AllocGlobal>(rt: &R) -> u8 {
+fn serve<R: Files + Env + RandomSource + Input + Print + Eprint + Tell + AllocGlobal>(
+    rt: &R,
+) -> u8 {
     match words(rt) {
         Ok(words) => serve_words(rt, &words),
         Err(status) => status,
     }
 }
 
-fn serve_words<R: Files + RandomSource + Input + Print + Eprint + AllocGlobal>(
+fn serve_words<R: Files + RandomSource + Input + Print + Eprint + Tell + AllocGlobal>(
     rt: &R,
     words: &[String],
 ) -> u8 {

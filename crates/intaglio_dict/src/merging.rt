@@ -3,11 +3,13 @@ use crate::freezing::refusal;
 use crate::progress::Shown;
 use crate::run::checked;
 use clap::ArgMatches;
-use intaglio_dict_io::input::{STANDARD, whole_files};
+use intaglio_dict_io::input::whole_files;
 use intaglio_dict_io::keys::keys_of;
+use intaglio_dict_io::maps::{make_folder, map_name};
 use intaglio_dict_io::noticing::Noticing;
-use intaglio_dict_io::output::{Content, make_folder, write_to};
+use intaglio_dict_io::output::{Content, write_to};
 use intaglio_dict_io::report;
+use intaglio_dict_io::report::Tell;
 use intaglio_dictionary::merging::{merge, write_codes};
 use intaglio_frozen::{Frozen, Header, Kind};
 use intaglio_symbol::Symbol;
@@ -20,7 +22,6 @@ use std::rt::Files;
 #[derive(Drop)]
 struct Merging<'a, 't, R> {
     tables: &'a [Frozen<'t>],
-    names: &'a [&'a str],
     kind: Kind,
     keys: Option<(u64, u64)>,
     folder: Option<&'a str>,
@@ -35,7 +36,7 @@ struct Map<'a> {
     codes: &'a [Symbol],
 }
 
-impl<R: Eprint + AllocGlobal> Content<R> for Map<'_> {
+impl<R: Tell + AllocGlobal> Content<R> for Map<'_> {
     fn write<W: Write>(&mut self, rt: &R, name: &str, output: &mut Noticing<W>) -> Result<(), u8> {
         match write_codes(rt.alloc(), self.codes, output) {
             Ok(()) => Ok(()),
@@ -44,7 +45,7 @@ impl<R: Eprint + AllocGlobal> Content<R> for Map<'_> {
     }
 }
 
-impl<R: Files + RandomSource + Print + Eprint + AllocGlobal> Content<R> for Merging<'_, '_, R> {
+impl<R: Files + RandomSource + Print + Tell + AllocGlobal> Content<R> for Merging<'_, '_, R> {
     // The maps are written before the dictionary has its place: whoever sees that can read them.
     fn write<W: Write>(&mut self, rt: &R, name: &str, output: &mut Noticing<W>) -> Result<(), u8> {
         let Ok(builder) = RandomState::new(rt) else {
@@ -71,7 +72,7 @@ impl<R: Files + RandomSource + Print + Eprint + AllocGlobal> Content<R> for Merg
 
 impl<R> Merging<'_, '_, R> {
     // Writes the map of each dictionary to the folder, if one is given.
-    fn write_maps<Q: Files + RandomSource + Print + Eprint + AllocGlobal>(
+    fn write_maps<Q: Files + RandomSource + Print + Tell + AllocGlobal>(
         &self,
         rt: &Q,
         maps: &[Vec<Symbol>],
@@ -81,21 +82,20 @@ impl<R> Merging<'_, '_, R> {
         };
         make_folder(rt, folder)?;
         for (number, codes) in maps.iter().enumerate() {
-            write_map(rt, folder, number, self.names, codes)?;
+            write_map(rt, folder, number, codes)?;
         }
         Ok(())
     }
 }
 
-fn write_map<R: Files + RandomSource + Print + Eprint + AllocGlobal>(
+fn write_map<R: Files + RandomSource + Print + Tell + AllocGlobal>(
     rt: &R,
     folder: &str,
     number: usize,
-    names: &[&str],
     codes: &[Symbol],
 ) -> Result<(), u8> {
-    match format!(in rt.alloc(); "{folder}/{number}.map") {
-        Ok(path) => write_to(rt, path.as_str(), names, &mut Map { codes }),
+    match map_name(rt.alloc(), folder, number) {
+        Ok(path) => write_to(rt, path.as_str(), &mut Map { codes }),
         Err(_) => Err(report::out_of_memory(rt)),
     }
 }
@@ -108,23 +108,20 @@ fn count_of(maps: &[Vec<Symbol>]) -> usize {
 }
 
 /// Merges dictionaries. Otherwise the exit status after a message.
-pub fn merge_dictionaries<R: Files + RandomSource + Input + Print + Eprint + AllocGlobal>(
+pub fn merge_dictionaries<R: Files + RandomSource + Input + Print + Tell + AllocGlobal>(
     rt: &R,
     found: &ArgMatches<'_>,
 ) -> Result<(), u8> {
     let Some(names) = found.get_strs("DICT") else {
         return Err(2);
     };
-    if names.iter().filter(|name| **name == STANDARD).count() > 1 {
-        return Err(report::read_twice(rt));
-    }
     let keys = keys_of(rt, found)?;
     let all = whole_files(rt, names, found.get_flag("PROGRESS"))?;
     merge_files(rt, found, keys, &all)
 }
 
 // Merges the dictionaries in these files.
-fn merge_files<R: Files + RandomSource + Print + Eprint + AllocGlobal>(
+fn merge_files<R: Files + RandomSource + Print + Tell + AllocGlobal>(
     rt: &R,
     found: &ArgMatches<'_>,
     keys: Option<(u64, u64)>,
@@ -136,7 +133,6 @@ fn merge_files<R: Files + RandomSource + Print + Eprint + AllocGlobal>(
     let tables = tables_of(rt, names, all)?;
     let merging = Merging {
         tables: &tables,
-        names,
         kind: common_kind(all),
         keys,
         folder: found.get_str("FOLDER"),
@@ -146,16 +142,15 @@ fn merge_files<R: Files + RandomSource + Print + Eprint + AllocGlobal>(
     merge_to(rt, output, merging, found.get_flag("VERBOSE"))
 }
 
-fn merge_to<R: Files + RandomSource + Print + Eprint + AllocGlobal>(
+fn merge_to<R: Files + RandomSource + Print + Tell + AllocGlobal>(
     rt: &R,
     output: &str,
     mut merging: Merging<'_, '_, R>,
     is_counted: bool,
 ) -> Result<(), u8> {
-    let names = merging.names;
-    write_to(rt, output, names, &mut merging)?;
+    write_to(rt, output, &mut merging)?;
     if is_counted {
-        report::count(rt, names.len() as u64, "dictionaries merged");
+        report::count(rt, merging.tables.len() as u64, "dictionaries merged");
         report::count(rt, merging.count as u64, "strings merged");
         report::count(rt, merging.shown.distinct as u64, "distinct strings");
     }
@@ -163,7 +158,7 @@ fn merge_to<R: Files + RandomSource + Print + Eprint + AllocGlobal>(
 }
 
 // The dictionaries in these files.
-fn tables_of<'a, R: Eprint + AllocGlobal>(
+fn tables_of<'a, R: Tell + AllocGlobal>(
     rt: &R,
     names: &[&str],
     all: &'a [Vec<u8>],

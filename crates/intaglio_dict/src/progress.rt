@@ -1,4 +1,5 @@
 //! How far `freeze` and `merge` are, on standard error.
+use intaglio_dict_io::report::{Tell, say};
 use intaglio_dictionary::progress::Progress;
 
 /// Shows each stage that is reached, if that is asked for. A line that can't be written is lost.
@@ -10,7 +11,7 @@ pub struct Shown<'a, R> {
     pub distinct: usize,
 }
 
-impl<'a, R: Eprint> Shown<'a, R> {
+impl<'a, R: Tell> Shown<'a, R> {
     /// Nothing was shown yet.
     pub fn new(rt: &'a R, is_asked_for: bool) -> Shown<'a, R> {
         Shown {
@@ -23,12 +24,12 @@ impl<'a, R: Eprint> Shown<'a, R> {
     /// Shows a stage by a count.
     pub fn stage(&mut self, count: usize, what: &str) {
         if self.is_asked_for {
-            let _ = eprintln!(self.rt; "intaglio_dict: {count} {what}");
+            say(self.rt, format_args!("{count} {what}"));
         }
     }
 }
 
-impl<R: Eprint> Progress for Shown<'_, R> {
+impl<R: Tell> Progress for Shown<'_, R> {
     fn interned(&mut self, count: usize) {
         self.distinct = count;
         self.stage(count, "distinct lines");

@@ -4,11 +4,13 @@ use crate::freezing::freeze;
 use crate::look_ups::{find, get};
 use crate::merging::merge_dictionaries;
 use clap::ArgMatches;
+use intaglio_dict_io::command::files_of;
 use intaglio_dict_io::input::{name_of, whole};
 use intaglio_dict_io::metered::Meter;
 use intaglio_dict_io::noticing::Noticing;
 use intaglio_dict_io::output::ended;
 use intaglio_dict_io::report;
+use intaglio_dict_io::report::Tell;
 use intaglio_dictionary::look_up::list;
 use intaglio_dictionary::size::size_of_strings;
 use intaglio_frozen::Frozen;
@@ -19,19 +21,34 @@ use std::random::RandomSource;
 use std::rt::Files;
 
 /// Runs the subcommand, and returns the exit status.
-pub fn run<R: Files + RandomSource + Input + Print + Eprint + AllocGlobal>(
+pub fn run<R: Files + RandomSource + Input + Print + Tell + AllocGlobal>(
     rt: &R,
     matches: &ArgMatches<'_>,
 ) -> u8 {
     match matches.subcommand() {
-        Some((name, found)) => run_subcommand(rt, name, found),
+        Some((name, found)) => run_on_files(rt, name, found),
         None => 2,
+    }
+}
+
+// Checks the subcommand's files, and runs it.
+fn run_on_files<R: Files + RandomSource + Input + Print + Tell + AllocGlobal>(
+    rt: &R,
+    name: &str,
+    found: &ArgMatches<'_>,
+) -> u8 {
+    let Ok(files) = files_of(rt.alloc(), name, found) else {
+        return report::out_of_memory(rt);
+    };
+    match files.check(rt) {
+        Ok(()) => run_subcommand(rt, name, found),
+        Err(status) => status,
     }
 }
 
 // Runs the subcommand with this name. Over pairs of a name and its arguments, the proof of the match takes
 // five times as long.
-fn run_subcommand<R: Files + RandomSource + Input + Print + Eprint + AllocGlobal>(
+fn run_subcommand<R: Files + RandomSource + Input + Print + Tell + AllocGlobal>(
     rt: &R,
     name: &str,
     found: &ArgMatches<'_>,
@@ -57,7 +74,7 @@ fn status_of(done: Result<(), u8>) -> u8 {
 }
 
 // Goes on after a file that is no dictionary.
-fn check<R: Files + Input + Eprint + AllocGlobal>(rt: &R, found: &ArgMatches<'_>) -> u8 {
+fn check<R: Files + Input + Tell + AllocGlobal>(rt: &R, found: &ArgMatches<'_>) -> u8 {
     let mut status = 0;
     if let Some(names) = found.get_strs("DICT") {
         for name in names {
@@ -67,20 +84,20 @@ fn check<R: Files + Input + Eprint + AllocGlobal>(rt: &R, found: &ArgMatches<'_>
     status
 }
 
-fn check_one<R: Files + Input + Eprint + AllocGlobal>(rt: &R, name: &str) -> u8 {
+fn check_one<R: Files + Input + Tell + AllocGlobal>(rt: &R, name: &str) -> u8 {
     match whole(rt, name, &mut Meter::silent()) {
         Ok(bytes) => status_of(is_dictionary(rt, name, &bytes)),
         Err(status) => status,
     }
 }
 
-fn is_dictionary<R: Eprint>(rt: &R, name: &str, bytes: &[u8]) -> Result<(), u8> {
+fn is_dictionary<R: Tell>(rt: &R, name: &str, bytes: &[u8]) -> Result<(), u8> {
     checked(rt, name, bytes)?;
     Ok(())
 }
 
 /// The dictionary in these bytes, after a check of all of them. Otherwise the exit status after a message.
-pub fn checked<'a, R: Eprint>(rt: &R, name: &str, bytes: &'a [u8]) -> Result<Frozen<'a>, u8> {
+pub fn checked<'a, R: Tell>(rt: &R, name: &str, bytes: &'a [u8]) -> Result<Frozen<'a>, u8> {
     match Frozen::open(bytes) {
         Ok(table) => Ok(table),
         Err(fault) => Err(report::failed(rt, name_of(name), fault)),
@@ -88,7 +105,7 @@ pub fn checked<'a, R: Eprint>(rt: &R, name: &str, bytes: &'a [u8]) -> Result<Fro
 }
 
 // Opens the dictionary, and runs a command that reads it alone.
-fn on_dictionary<R: Files + Input + Print + Eprint + AllocGlobal>(
+fn on_dictionary<R: Files + Input + Print + Tell + AllocGlobal>(
     rt: &R,
     command: &str,
     found: &ArgMatches<'_>,
@@ -102,12 +119,7 @@ fn on_dictionary<R: Files + Input + Print + Eprint + AllocGlobal>(
     }
 }
 
-fn on_bytes<R: Print + Eprint + AllocGlobal>(
-    rt: &R,
-    command: &str,
-    name: &str,
-    bytes: &[u8],
-) -> u8 {
+fn on_bytes<R: Print + Tell + AllocGlobal>(rt: &R, command: &str, name: &str, bytes: &[u8]) -> u8 {
     match checked(rt, name, bytes) {
         Ok(table) if command == "list" => list_all(rt, &table),
         Ok(table) => stat(rt, &table, bytes.len() as u64),
@@ -115,13 +127,13 @@ fn on_bytes<R: Print + Eprint + AllocGlobal>(
     }
 }
 
-fn list_all<R: Print + Eprint + AllocGlobal>(rt: &R, table: &Frozen<'_>) -> u8 {
+fn list_all<R: Print + Tell + AllocGlobal>(rt: &R, table: &Frozen<'_>) -> u8 {
     let mut output = Noticing::new(io::writer(rt));
     let answer = list(rt.alloc(), table, &mut output);
     ended(rt, answer, output.error)
 }
 
-fn stat<R: Print + Eprint + AllocGlobal>(rt: &R, table: &Frozen<'_>, bytes: u64) -> u8 {
+fn stat<R: Print + Tell + AllocGlobal>(rt: &R, table: &Frozen<'_>, bytes: u64) -> u8 {
     let size = size_of_strings(table);
     let tenths = bytes.saturating_mul(10) / size.count.max(1);
     let mut output = Noticing::new(io::writer(rt));

@@ -1,4 +1,5 @@
 //! The arguments: a row for each subcommand, with a row for each of its arguments.
+use crate::files::CommandFiles;
 use clap::{Arg, ArgAction, ArgMatches, Command};
 use std::alloc::{AllocError, Global};
 
@@ -14,13 +15,17 @@ enum Takes {
     Flag(&'static str),
     // One value, after this option.
     Value(&'static str),
-    // One value, after -o or --output, and whether it is required.
+    // The name of an output, after -o or --output, and whether it is required: otherwise it is standard output.
     Output(bool),
-    // One value, by its position.
+    // The name of another output, after this option.
+    Written(&'static str),
+    // The name of the folder for a map of each input, after this option.
+    Maps(&'static str),
+    // The name of an input, by its position.
     One,
-    // One or more values, by their position, and whether they are required.
+    // The names of inputs, by their position, and whether they are required: otherwise standard input is read.
     Many(bool),
-    // One or more numbers, by their position.
+    // One or more numbers, by their position, which are otherwise read from standard input.
     Numbers,
     // What lines are.
     Kind,
@@ -99,12 +104,13 @@ static SUBCOMMANDS: [Subcommand; 10] = [
             ),
             (
                 "CODES",
-                Takes::Value("codes"),
+                Takes::Written("codes"),
                 "also writes the code of each line, as encode does",
             ),
             KEYS,
             RANDOM_KEYS,
             PROGRESS,
+            VERBOSE,
             FILES,
         ],
     ),
@@ -170,7 +176,7 @@ static SUBCOMMANDS: [Subcommand; 10] = [
             ("OUT", Takes::Output(true), OUT),
             (
                 "FOLDER",
-                Takes::Value("maps"),
+                Takes::Maps("maps"),
                 "also writes the new symbols of each dictionary, to 0.map, 1.map and so on in this folder",
             ),
             KEYS,
@@ -206,6 +212,50 @@ static SUBCOMMANDS: [Subcommand; 10] = [
 /// What these words ask for. The first one is the program's name.
 pub fn matches<'a>(alloc: Global, words: &'a [String]) -> Result<ArgMatches<'a>, clap::Error> {
     command(alloc)?.try_get_matches_from(words)
+}
+
+/// The files that the subcommand with this name reads and writes.
+pub fn files_of<'a>(
+    alloc: Global,
+    name: &str,
+    found: &ArgMatches<'a>,
+) -> Result<CommandFiles<'a>, AllocError> {
+    files_by(alloc, row_of(&SUBCOMMANDS, name), found)
+}
+
+// The row with this name.
+fn row_of<'r>(rows: &'r [Subcommand], name: &str) -> Option<&'r Subcommand> {
+    rows.iter().find(|row| row.0 == name)
+}
+
+fn files_by<'a>(
+    alloc: Global,
+    row: Option<&Subcommand>,
+    found: &ArgMatches<'a>,
+) -> Result<CommandFiles<'a>, AllocError> {
+    let mut files = CommandFiles::new(alloc);
+    if let Some(row) = row {
+        for argument in row.2 {
+            add_files(&mut files, *argument, found)?;
+        }
+    }
+    Ok(files)
+}
+
+// Adds the files that an argument names.
+fn add_files<'a>(
+    files: &mut CommandFiles<'a>,
+    row: Argument,
+    found: &ArgMatches<'a>,
+) -> Result<(), AllocError> {
+    match row.1 {
+        Takes::One | Takes::Many(_) => files.add_inputs(found.get_strs(row.0)),
+        Takes::Numbers if !found.contains_id(row.0) => files.add_inputs(None),
+        Takes::Output(_) => files.add_output(found.get_str(row.0)),
+        Takes::Written(_) => files.add_written(found.get_str(row.0)),
+        Takes::Maps(_) => files.add_folder(found.get_str(row.0)),
+        _ => Ok(()),
+    }
 }
 
 // What the program takes.
@@ -249,15 +299,13 @@ fn argument<'a>(alloc: Global, row: Argument) -> Result<Arg<'a>, AllocError> {
     let argument = Arg::new(alloc, row.0).help(row.2);
     match row.1 {
         Takes::Flag(option) => Ok(argument.long(option).action(ArgAction::SetTrue)),
-        Takes::Value(option) => Ok(argument.long(option)),
+        Takes::Value(option) | Takes::Written(option) | Takes::Maps(option) => Ok(argument.long(
+            option,
+        )),
         Takes::Output(is_required) => Ok(argument.short('o').long("output").required(is_required)),
         Takes::One => Ok(argument.required(true)),
         Takes::Many(is_required) => Ok(argument.num_args(1..).required(is_required)),
-        Takes::Numbers => Ok(
-            argument
-                .num_args(1..)
-                .value_parser(clap::value_parser!(u32)),
-        ),
+        Takes::Numbers => Ok(argument.num_args(1..)),
         Takes::Kind => Ok(
             argument
                 .long("kind")

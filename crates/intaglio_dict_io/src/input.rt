@@ -1,6 +1,8 @@
 //! Inputs, which are files or standard input.
+use crate::files::INPUT_PATH;
 use crate::metered::{Meter, Metered};
 use crate::report;
+use crate::report::Tell;
 use clap::ArgMatches;
 use intaglio_lines::read::read_all;
 use std::alloc::AllocError;
@@ -21,9 +23,9 @@ pub fn name_of<'a>(name: &'a str) -> &'a str {
     if name == STANDARD { INPUT } else { name }
 }
 
-/// The path of an input.
-pub fn path_of<'a>(name: &'a str) -> &'a str {
-    if name == STANDARD { "/dev/stdin" } else { name }
+// The path of an input.
+fn path_of<'a>(name: &'a str) -> &'a str {
+    if name == STANDARD { INPUT_PATH } else { name }
 }
 
 // How many bytes these inputs have together, or 0 if that isn't known: one of them isn't a regular file.
@@ -44,7 +46,7 @@ pub fn meter_of<R: Files>(rt: &R, names: &[&str], is_shown: bool) -> Meter {
 }
 
 /// The bytes of an input, or the exit status after a message.
-pub fn whole<R: Files + Input + Eprint + AllocGlobal>(
+pub fn whole<R: Files + Input + Tell + AllocGlobal>(
     rt: &R,
     name: &str,
     meter: &mut Meter,
@@ -59,7 +61,7 @@ pub fn whole<R: Files + Input + Eprint + AllocGlobal>(
 }
 
 /// The bytes of all files, or the exit status after a message.
-pub fn whole_files<R: Files + Input + Eprint + AllocGlobal>(
+pub fn whole_files<R: Files + Input + Tell + AllocGlobal>(
     rt: &R,
     names: &[&str],
     is_shown: bool,
@@ -76,26 +78,21 @@ pub fn whole_files<R: Files + Input + Eprint + AllocGlobal>(
 
 /// The name and the bytes of the file by which the other inputs are read. Otherwise the exit status after a
 /// message.
-pub fn first_input<'a, R: Files + Input + Eprint + AllocGlobal>(
+pub fn first_input<'a, R: Files + Input + Tell + AllocGlobal>(
     rt: &R,
     found: &ArgMatches<'a>,
     first: &str,
-    others: &str,
 ) -> Result<(&'a str, Vec<u8>), u8> {
     let Some(name) = found.get_str(first) else {
         return Err(2);
     };
-    let names = found.get_strs(others).unwrap_or(STANDARD_INPUT);
-    if name == STANDARD && names.contains(&STANDARD) {
-        return Err(report::read_twice(rt));
-    }
     let bytes = whole(rt, name, &mut Meter::silent())?;
     Ok((name, bytes))
 }
 
 /// The lines of several inputs, or the exit status after a message. The last line of each is ended, but for the
 /// last input's. If they must be texts, the message names the input and the line that isn't UTF-8.
-pub fn lines<R: Files + Input + Eprint + AllocGlobal>(
+pub fn lines<R: Files + Input + Tell + AllocGlobal>(
     rt: &R,
     names: &[&str],
     are_texts: bool,
@@ -118,7 +115,7 @@ pub fn lines<R: Files + Input + Eprint + AllocGlobal>(
 }
 
 /// Whether bytes are UTF-8: otherwise the exit status after a message that names the input and the line.
-pub fn check_text<R: Eprint>(rt: &R, name: &str, bytes: &[u8]) -> Result<(), u8> {
+pub fn check_text<R: Tell>(rt: &R, name: &str, bytes: &[u8]) -> Result<(), u8> {
     match str::from_utf8(bytes) {
         Ok(_) => Ok(()),
         Err(fault) => Err(report::line_not_utf8(

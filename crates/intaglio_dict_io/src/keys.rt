@@ -1,12 +1,14 @@
 //! The keys of a dictionary, as the arguments ask for them.
 use crate::report;
+use crate::report::Tell;
+use crate::symbols::plain_number;
 use clap::ArgMatches;
 use std::io;
 use std::random::RandomSource;
 
 /// The two keys that were asked for, or none if the library is to choose them. Otherwise the exit status
 /// after a message.
-pub fn keys_of<R: RandomSource + Eprint>(
+pub fn keys_of<R: RandomSource + Tell>(
     rt: &R,
     found: &ArgMatches<'_>,
 ) -> Result<Option<(u64, u64)>, u8> {
@@ -35,8 +37,5 @@ fn random_keys<R: RandomSource>(rt: &R) -> io::Result<(u64, u64)> {
 // Two numbers with a comma between them.
 fn two_numbers(text: &str) -> Option<(u64, u64)> {
     let (first, second) = text.split_once(',')?;
-    match (first.parse::<u64>(), second.parse::<u64>()) {
-        (Ok(first), Ok(second)) => Some((first, second)),
-        _ => None,
-    }
+    Some((plain_number(first)?, plain_number(second)?))
 }

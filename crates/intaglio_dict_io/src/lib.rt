@@ -1,9 +1,13 @@
 //! What the program `intaglio_dict` reads and writes: its arguments, inputs, outputs and messages.
 #![tactic(auto)]
 
+pub mod apart;
 pub mod command;
+pub mod files;
+pub mod identity;
 pub mod input;
 pub mod keys;
+pub mod maps;
 pub mod metered;
 pub mod noticing;
 pub mod output;

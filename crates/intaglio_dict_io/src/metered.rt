@@ -3,6 +3,7 @@ ghost use Rattle.std.specs.Prelude.{None};
 
 use crate::input::STANDARD;
 use crate::report;
+use crate::report::Tell;
 use std::io::Read;
 use std::rt::Files;
 use std::{fs, io};
@@ -33,7 +34,7 @@ impl Meter {
     }
 
     // More bytes were read. A line that can't be written is lost.
-    fn add<R: Eprint>(&mut self, rt: &R, count: usize) {
+    fn add<R: Tell>(&mut self, rt: &R, count: usize) {
         self.done = self.done.saturating_add(count as u64);
         if self.total == 0 {
             return;
@@ -41,7 +42,7 @@ impl Meter {
         let (tenths, total) = (self.done.saturating_mul(10) / self.total, self.total);
         if tenths > self.tenths {
             self.tenths = tenths;
-            let _ = eprintln!(rt; "intaglio_dict: {tenths}0 % of {total} bytes read");
+            report::say(rt, format_args!("{tenths}0 % of {total} bytes read"));
         }
     }
 }
@@ -63,7 +64,7 @@ enum Source<I, F> {
     File(F),
 }
 
-impl<'a, R: Files + Input + Eprint + AllocGlobal> Metered<'a, R> {
+impl<'a, R: Files + Input + Tell + AllocGlobal> Metered<'a, R> {
     /// Opens an input, and counts on from this meter. Otherwise the exit status after a message.
     pub fn open(rt: &'a R, name: &str, meter: Meter) -> Result<Metered<'a, R>, u8> {
         let source = if name == STANDARD {
@@ -83,7 +84,7 @@ impl<'a, R: Files + Input + Eprint + AllocGlobal> Metered<'a, R> {
     }
 }
 
-impl<R: Files + Input + Eprint> Read for Metered<'_, R> {
+impl<R: Files + Input + Tell> Read for Metered<'_, R> {
     // What a reader has yet to give is said of none of the inputs.
     ghost remaining = { λ _. None };
 

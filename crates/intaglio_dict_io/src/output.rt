@@ -1,11 +1,13 @@
 //! Outputs, which are files or standard output.
-use crate::input::{STANDARD, name_of, path_of};
+use crate::input::STANDARD;
 use crate::noticing::Noticing;
 use crate::replacing::Place;
 use crate::report;
+use crate::report::Tell;
 use intaglio_lines::error::StreamError;
-use std::io::{ErrorKind, Write};
-use std::os::unix::fs::MetadataExt;
+use std::fs::{OpenFile, OpenOptions};
+use std::io::Write;
+use std::os::unix::fs::FileTypeExt;
 use std::path::Path;
 use std::random::RandomSource;
 use std::rt::Files;
@@ -27,7 +29,7 @@ pub struct Bytes<'a> {
     pub bytes: &'a [u8],
 }
 
-impl<R: Eprint + AllocGlobal> Content<R> for Bytes<'_> {
+impl<R: Tell + AllocGlobal> Content<R> for Bytes<'_> {
     fn write<W: Write>(&mut self, rt: &R, name: &str, output: &mut Noticing<W>) -> Result<(), u8> {
         match write_whole(self.bytes, output) {
             Ok(()) => Ok(()),
@@ -41,24 +43,52 @@ fn write_whole<W: Write>(bytes: &[u8], output: &mut W) -> io::Result<()> {
     output.flush()
 }
 
-/// Writes to standard output, or beside a file, which is replaced when the new one is whole. Otherwise the exit
-/// status after a message. An output that is also one of the inputs is refused.
-pub fn write_to<R: Files + RandomSource + Print + Eprint + AllocGlobal, C: Content<R>>(
+/// Writes to standard output, to a device or a pipe, or beside a file, which is replaced when the new one is whole.
+/// Otherwise the exit status after a message.
+pub fn write_to<R: Files + RandomSource + Print + Tell + AllocGlobal, C: Content<R>>(
     rt: &R,
     name: &str,
-    inputs: &[&str],
     content: &mut C,
 ) -> Result<(), u8> {
-    refuse_input(rt, name, inputs)?;
     if name == STANDARD {
         return content.write(rt, OUTPUT, &mut Noticing::new(io::writer(rt)));
+    }
+    if is_stream(rt, name) {
+        return write_through(rt, name, content);
     }
     let place = Place::of(rt, name)?;
     write_beside(rt, &place, content)
 }
 
+// Whether a device or a pipe is there.
+fn is_stream<R: Files>(rt: &R, name: &str) -> bool {
+    match fs::metadata(rt, name) {
+        Ok(found) => found.file_type().is_char_device() || found.file_type().is_fifo(),
+        Err(_) => false,
+    }
+}
+
+// Writes to a device or a pipe.
+fn write_through<R: Files + Tell + AllocGlobal, C: Content<R>>(
+    rt: &R,
+    name: &str,
+    content: &mut C,
+) -> Result<(), u8> {
+    match open_stream(rt, name) {
+        Ok(file) => content.write(rt, name, &mut Noticing::new(file)),
+        Err(e) => Err(report::of_file(rt, name, e)),
+    }
+}
+
+// Opens a device or a pipe. Like a file that is made, it gets no number of a standard stream that is closed.
+fn open_stream<R: Files>(rt: &R, name: &str) -> io::Result<R::File> {
+    let mut options = OpenOptions::new();
+    options.write(true);
+    options.open(rt, name)?.try_clone()
+}
+
 // Writes beside a file, which is replaced when the new one is whole.
-fn write_beside<R: Files + RandomSource + Eprint + AllocGlobal, C: Content<R>>(
+fn write_beside<R: Files + RandomSource + Tell + AllocGlobal, C: Content<R>>(
     rt: &R,
     place: &Place<'_>,
     content: &mut C,
@@ -72,7 +102,7 @@ fn write_beside<R: Files + RandomSource + Eprint + AllocGlobal, C: Content<R>>(
 }
 
 // Writes to a file, and renames it to its place.
-fn write_and_replace<R: Files + Eprint + AllocGlobal, C: Content<R>>(
+fn write_and_replace<R: Files + Tell + AllocGlobal, C: Content<R>>(
     rt: &R,
     place: &Place<'_>,
     path: Path<'_>,
@@ -84,59 +114,8 @@ fn write_and_replace<R: Files + Eprint + AllocGlobal, C: Content<R>>(
     place.replace(rt, path, output.stream)
 }
 
-/// Refuses an output that is the same regular file as one of the inputs: then the exit status after a message.
-pub fn refuse_input<R: Files + Eprint>(rt: &R, output: &str, inputs: &[&str]) -> Result<(), u8> {
-    let path = if output == STANDARD {
-        "/dev/stdout"
-    } else {
-        output
-    };
-    let Some(replaced) = file_of(rt, path) else {
-        return Ok(());
-    };
-    for name in inputs {
-        if is_file(rt, path_of(name), replaced) {
-            return Err(report::failed(rt, name_of(name), "the input is also the output"));
-        }
-    }
-    Ok(())
-}
-
-/// Whether two outputs have the same name, or are the same regular file.
-pub fn are_one<R: Files>(rt: &R, output: &str, other: &str) -> bool {
-    if output == other {
-        return true;
-    }
-    match file_of(rt, output) {
-        Some(file) => is_file(rt, other, file),
-        None => false,
-    }
-}
-
-// Whether a path leads to this file.
-fn is_file<R: Files>(rt: &R, path: &str, file: (u64, u64)) -> bool {
-    file_of(rt, path) == Some(file)
-}
-
-// The device and the number of a regular file.
-fn file_of<R: Files>(rt: &R, path: &str) -> Option<(u64, u64)> {
-    match fs::metadata(rt, path) {
-        Ok(found) if found.is_file() => Some((found.dev(), found.ino())),
-        _ => None,
-    }
-}
-
-/// Makes a folder if none is there. Otherwise the exit status after a message.
-pub fn make_folder<R: Files + Eprint + AllocGlobal>(rt: &R, name: &str) -> Result<(), u8> {
-    match fs::create_dir(rt, name) {
-        Ok(()) => Ok(()),
-        Err(e) if e.kind() == ErrorKind::AlreadyExists => Ok(()),
-        Err(e) => Err(report::of_file(rt, name, e)),
-    }
-}
-
 /// The exit status after standard output, and a message if it isn't whole.
-pub fn ended<R: Eprint + AllocGlobal>(
+pub fn ended<R: Tell + AllocGlobal>(
     rt: &R,
     answer: Result<(), StreamError>,
     error: Option<io::Error>,

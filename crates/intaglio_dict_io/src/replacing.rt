@@ -3,6 +3,7 @@
 //! The new file is made exclusively, under a name that is drawn at random: this process writes to, renames
 //! and removes no file that another made.
 use crate::report;
+use crate::report::Tell;
 use std::alloc::{AllocError, Global};
 use std::fs::{OpenFile, OpenOptions, Permissions};
 use std::io::ErrorKind;
@@ -34,7 +35,7 @@ pub struct Place<'a> {
 impl<'a> Place<'a> {
     /// The place of this name, or, if that is a symbolic link, the place that it leads to. Otherwise the exit
     /// status after a message: what is there and isn't a regular file, such as a device, isn't replaced.
-    pub fn of<R: Files + Eprint + AllocGlobal>(rt: &R, name: &'a str) -> Result<Place<'a>, u8> {
+    pub fn of<R: Files + Tell + AllocGlobal>(rt: &R, name: &'a str) -> Result<Place<'a>, u8> {
         let mode = match fs::metadata(rt, name) {
             Ok(found) if found.is_file() => Some(found.permissions().mode()),
             Ok(_) => return Err(report::failed(rt, name, "not a regular file")),
@@ -49,7 +50,7 @@ impl<'a> Place<'a> {
 
     /// Makes a file in the folder of the place, and returns its path with it. Otherwise the exit status
     /// after a message.
-    pub fn create_beside<R: Files + RandomSource + Eprint + AllocGlobal>(
+    pub fn create_beside<R: Files + RandomSource + Tell + AllocGlobal>(
         &self,
         rt: &R,
     ) -> Result<(PathBuf, R::File), u8> {
@@ -80,7 +81,7 @@ impl<'a> Place<'a> {
         copy
     }
 
-    fn draw_path<R: RandomSource + Eprint + AllocGlobal>(&self, rt: &R) -> Result<PathBuf, u8> {
+    fn draw_path<R: RandomSource + Tell + AllocGlobal>(&self, rt: &R) -> Result<PathBuf, u8> {
         let mut bytes = [0; 8];
         if rt.fill_bytes(&mut bytes).is_err() {
             return Err(report::no_random_bytes(rt));
@@ -98,7 +99,7 @@ impl<'a> Place<'a> {
 
     /// Renames a file, which is whole, to this place, with the mode of the one that is there. Otherwise the
     /// exit status after a message.
-    pub fn replace<R: Files + Eprint + AllocGlobal>(
+    pub fn replace<R: Files + Tell + AllocGlobal>(
         &self,
         rt: &R,
         path: Path<'_>,
@@ -121,9 +122,13 @@ impl<'a> Place<'a> {
     }
 }
 
-// The path to which symbolic links lead from this one, whether or not a file is there. (The system has
-// refused a circle of links.)
-fn followed<R: Files + AllocGlobal>(rt: &R, name: &str) -> io::Result<PathBuf> {
+/// The path to which symbolic links lead from this one, whether or not a file is there. (The system has refused a
+/// circle of links.)
+///
+/// # Errors
+///
+/// That a link can't be read, or that there is no memory.
+pub fn followed<R: Files + AllocGlobal>(rt: &R, name: &str) -> io::Result<PathBuf> {
     let mut path = PathBuf::from_str(rt.alloc(), name)?;
     for _ in 0..MAX_LINKS {
         match fs::symlink_metadata(rt, path.as_path()) {

@@ -2,44 +2,50 @@
 use crate::input::{INPUT, STANDARD, check_text, whole};
 use crate::metered::Meter;
 use crate::report;
+use crate::report::Tell;
 use clap::ArgMatches;
 use intaglio_symbol::Symbol;
 use std::rt::Files;
 use std::str;
 
-/// The symbols that the arguments name, or those in the lines of standard input. Otherwise the exit status after a message.
-pub fn asked_symbols<R: Files + Input + Eprint + AllocGlobal>(
+/// The symbols among the arguments, or none if they have none. Otherwise the exit status after a message.
+pub fn typed_symbols<R: Tell + AllocGlobal>(
     rt: &R,
     found: &ArgMatches<'_>,
-) -> Result<Vec<Symbol>, u8> {
-    if found.contains_id("NUMBER") {
-        typed_symbols(rt, found)
-    } else {
-        read_symbols(rt)
-    }
-}
-
-// The symbols among the arguments.
-fn typed_symbols<R: Eprint + AllocGlobal>(
-    rt: &R,
-    found: &ArgMatches<'_>,
-) -> Result<Vec<Symbol>, u8> {
+) -> Result<Option<Vec<Symbol>>, u8> {
+    let Some(numbers) = found.get_strs("NUMBER") else {
+        return Ok(None);
+    };
     let mut symbols = Vec::new(rt.alloc());
-    if let Some(numbers) = found.get_many::<u32>("NUMBER") {
-        for number in numbers {
-            let Ok(number) = number else {
-                return Err(2);
-            };
-            if symbols.push(Symbol::new(number)).is_err() {
-                return Err(report::out_of_memory(rt));
-            }
+    for typed in numbers {
+        let Some(symbol) = symbol_of(typed) else {
+            return Err(report::not_a_number(rt, typed));
+        };
+        if symbols.push(symbol).is_err() {
+            return Err(report::out_of_memory(rt));
         }
     }
-    Ok(symbols)
+    Ok(Some(symbols))
 }
 
-// The symbols in the lines of standard input.
-fn read_symbols<R: Files + Input + Eprint + AllocGlobal>(rt: &R) -> Result<Vec<Symbol>, u8> {
+/// A number below 2^64 in digits alone.
+pub fn plain_number(text: &str) -> Option<u64> {
+    if text.bytes().all(|b| b.is_ascii_digit()) {
+        text.parse::<u64>().ok()
+    } else {
+        None
+    }
+}
+
+fn symbol_of(text: &str) -> Option<Symbol> {
+    match u32::try_from(plain_number(text)?) {
+        Ok(number) => Some(Symbol::new(number)),
+        Err(_) => None,
+    }
+}
+
+/// The symbols in the lines of standard input. Otherwise the exit status after a message.
+pub fn read_symbols<R: Files + Input + Tell + AllocGlobal>(rt: &R) -> Result<Vec<Symbol>, u8> {
     let input = whole(rt, STANDARD, &mut Meter::silent())?;
     check_text(rt, STANDARD, &input)?;
     match str::from_utf8(&input) {
@@ -48,13 +54,13 @@ fn read_symbols<R: Files + Input + Eprint + AllocGlobal>(rt: &R) -> Result<Vec<S
     }
 }
 
-fn symbols_in<R: Eprint + AllocGlobal>(rt: &R, text: &str) -> Result<Vec<Symbol>, u8> {
+fn symbols_in<R: Tell + AllocGlobal>(rt: &R, text: &str) -> Result<Vec<Symbol>, u8> {
     let mut symbols = Vec::new(rt.alloc());
     for (before, line) in text.lines().enumerate() {
-        let Ok(number) = line.parse::<u32>() else {
+        let Some(symbol) = symbol_of(line) else {
             return Err(report::not_a_symbol(rt, INPUT, before.saturating_add(1), line));
         };
-        if symbols.push(Symbol::new(number)).is_err() {
+        if symbols.push(symbol).is_err() {
             return Err(report::out_of_memory(rt));
         }
     }

@@ -1,5 +1,6 @@
 //! The words of the command line.
 use crate::report;
+use crate::report::Tell;
 use std::env::FillError;
 use std::io::ErrorKind;
 use std::rt::Env;
@@ -9,7 +10,7 @@ use std::{env, io, str};
 const MAX_SHOWN: usize = 4096;
 
 /// The arguments, and the program's name before them. Otherwise the exit status after a message.
-pub fn words<R: Env + Eprint + AllocGlobal>(rt: &R) -> Result<Vec<String>, u8> {
+pub fn words<R: Env + Tell + AllocGlobal>(rt: &R) -> Result<Vec<String>, u8> {
     match all_words(rt) {
         Ok(words) => Ok(words),
         Err(e) if e.kind() == ErrorKind::OutOfMemory => Err(report::out_of_memory(rt)),
@@ -27,7 +28,7 @@ fn all_words<R: Env + AllocGlobal>(rt: &R) -> io::Result<Vec<String>> {
 }
 
 // Reports an argument that isn't UTF-8. Number 0 is the program's name.
-fn report_not_utf8<R: Env + Eprint>(rt: &R) -> u8 {
+fn report_not_utf8<R: Env + Tell>(rt: &R) -> u8 {
     let mut bytes = [0; MAX_SHOWN];
     for number in 0..usize::MAX {
         match rt.arg(number, &mut bytes) {

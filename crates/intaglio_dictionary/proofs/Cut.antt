@@ -1,11 +1,13 @@
 -- Where the first piece of bytes ends: a line, or a code of four bytes.
-use Rattle.std.proofs.Common.{◌≡◌, ◌∙◌, ap, refl, subst, ℕ, zero, suc, ◌+◌, ◌-◌, ◌*◌, ◌/◌, ◌%◌, ◌<◌, ◌≤◌, eqb, List, [], ◌∷◌, ◌++◌, length, take, drop, get_or, None, Some, option_map, append_assoc, arith}
-use Rattle.std.specs.List.{position, slice_get, AllByRecursion}
-use Rattle.std.proofs.lemmas.List.{length-map, take_rest}
+use Rattle.std.proofs.Common.{◌≡◌, ◌∙◌, sym, ap, refl, subst, ℕ, zero, suc, ◌+◌, ◌-◌, ◌*◌, ◌/◌, ◌%◌, ◌<◌, ◌≤◌, Bool, true, false, eqb, eq-eqb, ltb, lt-ltb, le-ltb, not, cond, length-drop, List, [], ◌∷◌, ◌++◌, length, take, drop, get_or, Option, None, Some, option_map, append_assoc, arith}
+use borrow.Author.Tests.{ltb-true, ltb-false}
+use Rattle.std.specs.List.{position, prefix_len, slice_get, AllByRecursion}
+use Rattle.std.proofs.lemmas.List.{length-map, length-take, take-append-drop, take_rest}
+use Rattle.std.proofs.lemmas.List.Folds.{prefix_len-append}
 use Rattle.std.proofs.lemmas.Option.{slice_get-map}
 use Rattle.intaglio_lines.specs.Lines.{lines_of}
 use Rattle.intaglio_lines.specs.Decoded.{IsLine}
-use Rattle.intaglio_lines.proofs.LineCuts.{lines_cut_at, lines_cut_nowhere, whole_cut_at}
+use Rattle.intaglio_lines.proofs.LineCuts.{lines_cut_at, lines_cut_nowhere, position-None, position-Some, whole_cut_at}
 use Rattle.intaglio_lines.proofs.ByLines.{lines_of-are_lines, lines_of-more}
 use Rattle.intaglio_dictionary.specs.Columns.{code_of, code_pieces, codes_of}
 use Rattle.intaglio_dictionary.specs.Translation.{StartsWith, last_piece}
@@ -21,6 +23,40 @@ line-starts bytes end is more =
 pub line-last : (bytes : List ℕ) → position (λ b. eqb b 10) bytes ≡ None → lines_of bytes ≡ last_piece bytes
 line-last [] is = refl
 line-last (b ∷ bytes) is = lines_cut_nowhere (b ∷ bytes) is (omega arith)
+
+-- a byte 10 behind bytes that have none
+cond-behind : (n m l : ℕ) → cond (ltb (n + m) (n + l)) (Some (n + m)) None ≡ option_map (λ k. n + k) (cond (ltb m l) (Some m) None)
+cond-behind n m l = by-order (ltb m l) refl
+  where
+    by-order : (b : Bool) → ltb m l ≡ b → cond (ltb (n + m) (n + l)) (Some (n + m)) None ≡ option_map (λ k. n + k) (cond (ltb m l) (Some m) None)
+    by-order true is = let more : ltb (n + m) (n + l) ≡ true = lt-ltb (n + m) (n + l) (omega (arith, ltb-true m l is)) in rw (is, more) refl
+    by-order false is = let more : ltb (n + m) (n + l) ≡ false = le-ltb (n + m) (n + l) (omega (arith, ltb-false m l is)) in rw (is, more) refl
+
+pub position-behind : (bytes : List ℕ) (n : ℕ) → n ≤ length bytes → position (λ b. eqb b 10) (take n bytes) ≡ None
+    → position (λ b. eqb b 10) bytes ≡ option_map (λ k. n + k) (position (λ b. eqb b 10) (drop n bytes))
+position-behind bytes n within none =
+    let q : ℕ → Bool = λ b. not (eqb b 10) in
+    let first : prefix_len q (take n bytes) ≡ length (take n bytes) = position-None (λ b. eqb b 10) (take n bytes) none in
+    let long : length (take n bytes) ≡ n = omega (arith, length-take n bytes) in
+    let past : eqb (prefix_len q (take n bytes)) (length (take n bytes)) ≡ true = eq-eqb _ _ first in
+    let all : prefix_len q bytes ≡ n + prefix_len q (drop n bytes) =
+    ap (prefix_len q) (sym (take-append-drop n bytes)) ∙ prefix_len-append q (take n bytes) (drop n bytes) ∙ ap (λ t. cond t (length (take n bytes) + prefix_len q (drop n bytes)) (prefix_len q (take n bytes))) past
+    ∙ ap (λ t. t + prefix_len q (drop n bytes)) long in
+    let size : length bytes ≡ n + length (drop n bytes) = omega (arith, length-drop n bytes) in
+    ap (λ t. cond (ltb t (length bytes)) (Some t) None) all ∙ ap (λ t. cond (ltb (n + prefix_len q (drop n bytes)) t) (Some (n + prefix_len q (drop n bytes))) None) size
+    ∙ cond-behind n (prefix_len q (drop n bytes)) (length (drop n bytes))
+
+-- bytes that are at most one piece have no byte 10
+pub no-end : (bytes : List ℕ) → lines_of bytes ≡ last_piece bytes → position (λ b. eqb b 10) bytes ≡ None
+no-end [] is = refl
+no-end (x ∷ bytes) is = by-end (position (λ b. eqb b 10) (x ∷ bytes)) refl
+  where
+    by-end : (end : Option ℕ) → position (λ b. eqb b 10) (x ∷ bytes) ≡ end → position (λ b. eqb b 10) (x ∷ bytes) ≡ None
+    by-end None at = at
+    by-end (Some end) at =
+        let cut : take end (x ∷ bytes) ∷ lines_of (take (length (x ∷ bytes) - (end + 1)) (drop (end + 1) (x ∷ bytes))) ≡ (x ∷ bytes) ∷ [] = sym (lines_cut_at (x ∷ bytes) end at) ∙ is in
+        let same : take end (x ∷ bytes) ≡ x ∷ bytes = cc in
+        absurd (omega (arith, ap length same, length-take end (x ∷ bytes), (position-Some (λ b. eqb b 10) (x ∷ bytes) end at).1, (position-Some (λ b. eqb b 10) (x ∷ bytes) end at).0))
 
 pub code-starts : (bytes : List ℕ) → 4 ≤ length bytes → StartsWith code_pieces bytes (take 4 bytes ∷ []) (drop 4 bytes)
 code-starts [] long more = absurd (omega arith)

@@ -21,7 +21,7 @@ module _ (fits : List ℕ → Bool) (xs : List (List ℕ)) (i : ℕ) (x : List �
   fit-next before fit =
       rw (next xs i x at) (All-append (λ p. fits p ≡ true) (take i xs) (x ∷ []) before (All-cons (λ p. fits p ≡ true) x [] fit (All-nil (λ p. fits p ≡ true))))
 
-  all : xs ≡ take i xs ++ x ∷ drop (suc i) xs
+  pub all : xs ≡ take i xs ++ x ∷ drop (suc i) xs
   all =
       let value = get_or_from_slice_get xs i x x at in
       sym (take-append-drop i xs) ∙ ap (λ t. take i xs ++ t) (drop-cons xs i x (slice_get_within xs i x at)) ∙ ap (λ v. take i xs ++ v ∷ drop (suc i) xs) value

@@ -1,4 +1,5 @@
 pub mod Listed
+pub mod Parts
 pub mod Grouped
 pub mod Below
 pub mod Found

@@ -1,11 +1,12 @@
 -- What is made of the items of a list, one after the other.
 use Rattle.std.proofs.Common.{◌≡◌, ◌∙◌, ℕ, ◌+◌, List, [], ◌∷◌, ◌++◌, take, Option, Some, refl, ap, sym}
 use Rattle.std.specs.List.{slice_get, flat_map, fold}
-use Rattle.std.specs.Io.KnownBytes.{Appends}
+use Rattle.std.specs.Io.KnownBytes.{Appends, append_known}
 use Rattle.std.proofs.lemmas.List.{append-nil}
 use Rattle.std.proofs.lemmas.Grind.{flat_map-append, fold-append, take_at_read}
 use Rattle.std.proofs.lemmas.Option.{slice_get_within, get_or_from_slice_get}
-use Rattle.intaglio_lines.proofs.Appended.{Appends-append}
+use Rattle.intaglio_lines.specs.Puts.{IsFront}
+use Rattle.intaglio_lines.proofs.Appended.{Appends-append, front-then}
 
 module _ {X : Type 0} (xs : List X) (n : ℕ) (x : X) (at : slice_get xs n ≡ Some x) where
   -- the items so far, and the next one
@@ -22,6 +23,11 @@ module _ {X : Type 0} (xs : List X) (n : ℕ) (x : X) (at : slice_get xs n ≡ S
   pub appends-next : (f : X → List ℕ) (old mid new : Option (List ℕ)) (line : List ℕ) → line ≡ f x
       → Appends old mid (flat_map f (take n xs)) → Appends mid new line → Appends old new (flat_map f (take (n + 1) xs))
   appends-next f old mid new line same before more = rw (flat_map-next f) (Appends-append old mid new _ _ before (rw same at more))
+
+  -- the front of a block, of the lines so far, and of that of one item more
+  pub front-next : (f : X → List ℕ) (old mid new : Option (List ℕ)) (block later : List ℕ) → Appends (append_known old block) (append_known mid later) (flat_map f (take n xs))
+      → IsFront old mid (block ++ flat_map f (take n xs)) → IsFront mid new (later ++ f x) → IsFront old new (block ++ flat_map f (take (n + 1) xs))
+  front-next f old mid new block later before front more = rw (flat_map-next f) (front-then old mid new block later (flat_map f (take n xs)) (f x) before front more)
 
   -- pieces of other items, which are the same so far, and one more
   pub same-next : {Y : Type 0} (h : Y → List ℕ) (ys : List Y) (y : Y) (f : X → List ℕ) → flat_map h ys ≡ flat_map f (take n xs) → h y ≡ f x

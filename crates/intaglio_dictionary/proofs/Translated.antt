@@ -4,10 +4,12 @@ use Rattle.std.specs.List.{flat_map}
 use Rattle.std.specs.Io.KnownBytes.{Appends, Consumes, IsAtEnd, Keeps, append_known}
 use Rattle.std.proofs.lemmas.Grind.{flat_map-append}
 use Rattle.std.proofs.lemmas.List.Elements.{All-nil, All-cons, All-append}
-use Rattle.intaglio_lines.proofs.Appended.{Appends-append}
-use Rattle.intaglio_dictionary.specs.Translation.{AllFit, HasTranslated, IsFailure, IsSplit, ReadsMore, ReportsAmong, ReportsMisfit, ReportsPiece, StartsWith, count_of, last_piece}
+use Rattle.intaglio_lines.specs.Puts.{IsFront}
+use Rattle.intaglio_lines.proofs.Appended.{Appends-append, front-none, front-then, held-none, held-nothing}
+use Rattle.intaglio_dictionary.specs.Translation.{AllFit, HasTranslated, IsFailure, IsSplit, ReadsMore, ReportsAmong, ReportsMisfit, ReportsPiece, StartsWith, WritesPart, count_of, last_piece}
 use Rattle.intaglio_dictionary.specs.declared.translate.TranslateError.{TranslateError}
 use Rattle.intaglio_dictionary.specs.declared.translate.TranslateError.TheVariants.{Misfit, Stream}
+use Rattle.intaglio_dictionary.proofs.Parts.{no-part, part-behind}
 
 module _ (pieces : List ℕ → List (List ℕ)) where
   split-none : (input : Option (List ℕ)) → IsSplit pieces input [] [] input
@@ -46,39 +48,49 @@ module _ (pieces : List ℕ → List (List ℕ)) where
       ∙ ap (λ t. (front ++ piece ∷ []) ++ t) (sym (ap pieces end ∙ none))
 
   module _ (fits : List ℕ → Bool) (translated : List ℕ → List ℕ) where
-    abbrev Done : Option (List ℕ) → Option (List ℕ) → Option (List ℕ) → List ℕ → Option (List ℕ) → ℕ → Type 0
+    abbrev Done : Option (List ℕ) → Option (List ℕ) → Option (List ℕ) → List ℕ → List ℕ → Option (List ℕ) → ℕ → Type 0
     Done = HasTranslated pieces fits translated
 
     -- nothing was read
-    pub none-translated : (input old : Option (List ℕ)) → Appends old old [] → Done input old old [] input 0
-    none-translated input old same = record {
+    pub none-translated : (input old : Option (List ℕ)) (block : List ℕ) → block ≡ [] → Done input old old block [] input 0
+    none-translated input old block empty = record {
       front = [];
       split = split-none input;
       fit = All-nil (λ x. fits x ≡ true);
-      put = same;
+      put = subst (λ t. Appends old (append_known old t) []) (sym empty) (held-none old);
+      written = front-none old [];
       counted = refl;
     }
 
     -- more was read
-    pub read-more : (input old new left later : Option (List ℕ)) (bytes read : List ℕ) (count : ℕ) → Consumes left later read → Done input old new bytes left count
-        → Done input old new (bytes ++ read) later count
-    read-more input old new left later bytes read count takes done =
-        record { front = done.front; split = split-read input left later done.front bytes read takes done.split; fit = done.fit; put = done.put; counted = done.counted }
+    pub read-more : (input old new left later : Option (List ℕ)) (block bytes read : List ℕ) (count : ℕ) → Consumes left later read → Done input old new block bytes left count
+        → Done input old new block (bytes ++ read) later count
+    read-more input old new left later block bytes read count takes done = record {
+      front = done.front;
+      split = split-read input left later done.front bytes read takes done.split;
+      fit = done.fit;
+      put = done.put;
+      written = done.written;
+      counted = done.counted;
+    }
 
-    pub reads-more : (input old new left later : Option (List ℕ)) (before after : List ℕ) (count : ℕ) → ReadsMore left later before after → Done input old new before left count
-        → Done input old new after later count
-    reads-more input old new left later before after count reads done =
-        subst (λ t. Done input old new t later count) (sym reads.1) (read-more input old new left later before reads.0 count reads.2 done)
+    pub reads-more : (input old new left later : Option (List ℕ)) (block before after : List ℕ) (count : ℕ) → ReadsMore left later before after → Done input old new block before left count
+        → Done input old new block after later count
+    reads-more input old new left later block before after count reads done =
+        subst (λ t. Done input old new block t later count) (sym reads.1) (read-more input old new left later block before reads.0 count reads.2 done)
 
     -- pieces more are translated, behind which the rest is
-    behind : (input old mid new left : Option (List ℕ)) (front ps : List (List ℕ)) (rest : List ℕ) (number count : ℕ) → IsSplit pieces input (front ++ ps) rest left
-        → AllFit fits front → Appends old mid (flat_map translated front) → number ≡ count_of front
-        → AllFit fits ps → Appends mid new (flat_map translated ps) → count ≡ min (number + length ps) (2 ^ 64 - 1) → Done input old new rest left count
-    behind input old mid new left front ps rest number count split fit put at fits-ps more next = record {
+    behind : (input old mid new left : Option (List ℕ)) (block later : List ℕ) (front ps : List (List ℕ)) (rest : List ℕ) (number count : ℕ) → IsSplit pieces input (front ++ ps) rest left
+        → AllFit fits front → Appends old (append_known mid block) (flat_map translated front) → IsFront old mid (flat_map translated front) → number ≡ count_of front
+        → AllFit fits ps → Appends (append_known mid block) (append_known new later) (flat_map translated ps) → IsFront mid new (block ++ flat_map translated ps)
+        → count ≡ min (number + length ps) (2 ^ 64 - 1) → Done input old new later rest left count
+    behind input old mid new left block later front ps rest number count split fit put written at fits-ps more part next = record {
       front = front ++ ps;
       split = split;
       fit = All-append (λ x. fits x ≡ true) front ps fit fits-ps;
-      put = rw (flat_map-append translated front ps) (Appends-append old mid new (flat_map translated front) (flat_map translated ps) put more);
+      put = rw (flat_map-append translated front ps) (Appends-append old (append_known mid block) (append_known new later) (flat_map translated front) (flat_map translated ps) put more);
+      written = rw (flat_map-append translated front ps)
+          (front-then old mid new [] block (flat_map translated front) (flat_map translated ps) (held-nothing old (append_known mid block) (flat_map translated front) put) written part);
       counted = omega (arith, next, at, length-append front ps);
     }
 
@@ -89,21 +101,72 @@ module _ (pieces : List ℕ → List (List ℕ)) where
     one-put : (mid new : Option (List ℕ)) (piece : List ℕ) → Appends mid new (translated piece) → Appends mid new (flat_map translated (piece ∷ []))
     one-put mid new piece more = rw (append-nil (translated piece)) more
 
-    pub group-translated : (input old mid new left : Option (List ℕ)) (bytes : List ℕ) (ps : List (List ℕ)) (rest : List ℕ) (number count : ℕ) → StartsWith pieces bytes ps rest
-        → AllFit fits ps → Appends mid new (flat_map translated ps) → count ≡ min (number + length ps) (2 ^ 64 - 1) → Done input old mid bytes left number → Done input old new rest left count
-    group-translated input old mid new left bytes ps rest number count first fit more next done =
-        behind input old mid new left done.front ps rest number count (split-next input left done.front bytes ps rest first done.split) done.fit done.put done.counted fit more next
+    one-front : (mid new : Option (List ℕ)) (block piece : List ℕ) → IsFront mid new (block ++ translated piece) → IsFront mid new (block ++ flat_map translated (piece ∷ []))
+    one-front mid new block piece front = subst (λ t. IsFront mid new (block ++ t)) (sym (append-nil (translated piece))) front
 
-    pub next-translated : (input old mid new left : Option (List ℕ)) (bytes piece rest : List ℕ) (number count : ℕ) → StartsWith pieces bytes (piece ∷ []) rest
-        → fits piece ≡ true → Appends mid new (translated piece) → count ≡ min (number + 1) (2 ^ 64 - 1) → Done input old mid bytes left number → Done input old new rest left count
-    next-translated input old mid new left bytes piece rest number count first fit more next done =
-        group-translated input old mid new left bytes (piece ∷ []) rest number count first (one-fit piece fit) (one-put mid new piece more) next done
+    pub group-translated : (input old mid new left : Option (List ℕ)) (block later bytes : List ℕ) (ps : List (List ℕ)) (rest : List ℕ) (number count : ℕ) → StartsWith pieces bytes ps rest
+        → AllFit fits ps → Appends (append_known mid block) (append_known new later) (flat_map translated ps) → IsFront mid new (block ++ flat_map translated ps)
+        → count ≡ min (number + length ps) (2 ^ 64 - 1) → Done input old mid block bytes left number → Done input old new later rest left count
+    group-translated input old mid new left block later bytes ps rest number count first fit more part next done =
+        behind input old mid new left block later done.front ps rest number count (split-next input left done.front bytes ps rest first done.split) done.fit done.put done.written done.counted
+        fit more part next
 
-    pub last-translated : (input old mid new left : Option (List ℕ)) (piece : List ℕ) (number count : ℕ) → pieces [] ≡ [] → pieces piece ≡ piece ∷ [] → IsAtEnd left
-        → fits piece ≡ true → Appends mid new (translated piece) → count ≡ min (number + 1) (2 ^ 64 - 1) → Done input old mid piece left number → Done input old new [] left count
-    last-translated input old mid new left piece number count none one end fit more next done =
-        behind input old mid new left done.front (piece ∷ []) [] number count (split-last input left done.front piece none one end done.split) done.fit done.put done.counted
-        (one-fit piece fit) (one-put mid new piece more) next
+    pub next-translated : (input old mid new left : Option (List ℕ)) (block later bytes piece rest : List ℕ) (number count : ℕ) → StartsWith pieces bytes (piece ∷ []) rest
+        → fits piece ≡ true → Appends (append_known mid block) (append_known new later) (translated piece) → IsFront mid new (block ++ translated piece)
+        → count ≡ min (number + 1) (2 ^ 64 - 1) → Done input old mid block bytes left number → Done input old new later rest left count
+    next-translated input old mid new left block later bytes piece rest number count first fit more part next done =
+        group-translated input old mid new left block later bytes (piece ∷ []) rest number count first (one-fit piece fit) (one-put (append_known mid block) (append_known new later) piece more)
+        (one-front mid new block piece part) next done
+
+    pub last-translated : (input old mid new left : Option (List ℕ)) (block later piece : List ℕ) (number count : ℕ) → pieces [] ≡ [] → pieces piece ≡ piece ∷ [] → IsAtEnd left
+        → fits piece ≡ true → Appends (append_known mid block) (append_known new later) (translated piece) → IsFront mid new (block ++ translated piece)
+        → count ≡ min (number + 1) (2 ^ 64 - 1) → Done input old mid block piece left number → Done input old new later [] left count
+    last-translated input old mid new left block later piece number count none one end fit more part next done =
+        behind input old mid new left block later done.front (piece ∷ []) [] number count (split-last input left done.front piece none one end done.split) done.fit done.put done.written done.counted
+        (one-fit piece fit) (one-put (append_known mid block) (append_known new later) piece more) (one-front mid new block piece part) next
+
+    -- pieces that were translated, and the part of others that was written
+    group-parts : (input old mid new left : Option (List ℕ)) (block : List ℕ) (front : List (List ℕ)) (bytes : List ℕ) (ps : List (List ℕ)) (rest : List ℕ) → StartsWith pieces bytes ps rest
+        → IsSplit pieces input front bytes left → AllFit fits front → Appends old (append_known mid block) (flat_map translated front) → IsFront old mid (flat_map translated front)
+        → WritesPart fits translated mid block new ps → IfSome input (λ input. WritesPart fits translated old [] new (pieces input))
+    group-parts None old mid new left block front bytes ps rest first split fit put written part = tt
+    group-parts (Some input) old mid new None block front bytes ps rest first split fit put written part = absurd split
+    group-parts (Some input) old mid new (Some left) block front bytes ps rest first split fit put written part =
+        part-behind fits translated old mid new [] block front ps (pieces (rest ++ left)) (pieces input) (split ∙ ap (λ t. front ++ t) (first left)) fit
+        (held-nothing old (append_known mid block) (flat_map translated front) put) written part
+
+    pub group-part : (input old mid new left : Option (List ℕ)) (block bytes : List ℕ) (ps : List (List ℕ)) (rest : List ℕ) (number : ℕ) → StartsWith pieces bytes ps rest
+        → WritesPart fits translated mid block new ps → Done input old mid block bytes left number → IfSome input (λ input. WritesPart fits translated old [] new (pieces input))
+    group-part input old mid new left block bytes ps rest number first part done =
+        group-parts input old mid new left block done.front bytes ps rest first done.split done.fit done.put done.written part
+
+    -- of the block alone
+    pub block-part : (input old mid new left : Option (List ℕ)) (block bytes : List ℕ) (number : ℕ) → IsFront mid new block
+        → Done input old mid block bytes left number → IfSome input (λ input. WritesPart fits translated old [] new (pieces input))
+    block-part input old mid new left block bytes number front done =
+        group-part input old mid new left block bytes [] bytes number (λ more. refl) (no-part fits translated mid new block front) done
+
+    -- nothing more was written
+    pub kept-part : (input old mid left : Option (List ℕ)) (block bytes : List ℕ) (number : ℕ) → Done input old mid block bytes left number
+        → IfSome input (λ input. WritesPart fits translated old [] mid (pieces input))
+    kept-part input old mid left block bytes number done = block-part input old mid mid left block bytes number (front-none mid block) done
+
+    pub none-part : (input old : Option (List ℕ)) → IfSome input (λ input. WritesPart fits translated old [] old (pieces input))
+    none-part input old = kept-part input old old input [] [] 0 (none-translated input old [] refl)
+
+    -- of a last piece
+    last-parts : (input old mid new left : Option (List ℕ)) (block : List ℕ) (front : List (List ℕ)) (piece : List ℕ) → pieces piece ≡ piece ∷ [] → IfSome input (λ input. pieces input ≡ front ++ pieces piece)
+        → AllFit fits front → Appends old (append_known mid block) (flat_map translated front) → IsFront old mid (flat_map translated front)
+        → WritesPart fits translated mid block new (piece ∷ []) → IfSome input (λ input. WritesPart fits translated old [] new (pieces input))
+    last-parts None old mid new left block front piece one all fit put written part = tt
+    last-parts (Some input) old mid new left block front piece one all fit put written part =
+        part-behind fits translated old mid new [] block front (piece ∷ []) [] (pieces input) (all ∙ ap (λ t. front ++ t) one) fit
+        (held-nothing old (append_known mid block) (flat_map translated front) put) written part
+
+    pub last-part : (input old mid new left : Option (List ℕ)) (block piece : List ℕ) (number : ℕ) → pieces piece ≡ piece ∷ [] → IsAtEnd left
+        → WritesPart fits translated mid block new (piece ∷ []) → Done input old mid block piece left number → IfSome input (λ input. WritesPart fits translated old [] new (pieces input))
+    last-part input old mid new left block piece number one end part done =
+        last-parts input old mid new left block done.front piece one (split-end input left done.front piece end done.split) done.fit done.put done.written part
 
     -- a piece that can't be translated is the first
     misfit-at : (input : Option (List ℕ)) (front : List (List ℕ)) (piece : List ℕ) (number : ℕ) (e : TranslateError) → AllFit fits front → number ≡ count_of front → ReportsPiece fits e piece number
@@ -132,9 +195,9 @@ module _ (pieces : List ℕ → List (List ℕ)) where
     parts-next (Some input) None front bytes piece rest first split = absurd split
     parts-next (Some input) (Some left) front bytes piece rest first split = (pieces (rest ++ left), split ∙ ap (λ t. front ++ t) (first left))
 
-    pub next-misfit : (input old mid left : Option (List ℕ)) (bytes piece rest : List ℕ) (number : ℕ) (e : TranslateError) → StartsWith pieces bytes (piece ∷ []) rest
-        → ReportsPiece fits e piece number → Done input old mid bytes left number → IfSome input (λ input. ReportsMisfit fits e (pieces input))
-    next-misfit input old mid left bytes piece rest number e first reports done =
+    pub next-misfit : (input old mid left : Option (List ℕ)) (block bytes piece rest : List ℕ) (number : ℕ) (e : TranslateError) → StartsWith pieces bytes (piece ∷ []) rest
+        → ReportsPiece fits e piece number → Done input old mid block bytes left number → IfSome input (λ input. ReportsMisfit fits e (pieces input))
+    next-misfit input old mid left block bytes piece rest number e first reports done =
         misfit-at input done.front piece number e done.fit done.counted reports (parts-next input left done.front bytes piece rest first done.split)
 
     -- the first of some pieces that can't be translated, whatever pieces fit before these and follow them
@@ -146,9 +209,9 @@ module _ (pieces : List ℕ → List (List ℕ)) where
         let parts : pieces input ≡ front ++ (ps ++ pieces (rest ++ left)) = split ∙ ap (λ t. front ++ t) (first left) in
         subst (ReportsMisfit fits e) (sym parts) (reports (pieces (rest ++ left)))
 
-    pub group-misfit : (input old mid left : Option (List ℕ)) (bytes : List ℕ) (ps : List (List ℕ)) (rest : List ℕ) (number : ℕ) (e : TranslateError) → StartsWith pieces bytes ps rest
-        → ReportsAmong fits e ps number → Done input old mid bytes left number → IfSome input (λ input. ReportsMisfit fits e (pieces input))
-    group-misfit input old mid left bytes ps rest number e first reports done =
+    pub group-misfit : (input old mid left : Option (List ℕ)) (block bytes : List ℕ) (ps : List (List ℕ)) (rest : List ℕ) (number : ℕ) (e : TranslateError) → StartsWith pieces bytes ps rest
+        → ReportsAmong fits e ps number → Done input old mid block bytes left number → IfSome input (λ input. ReportsMisfit fits e (pieces input))
+    group-misfit input old mid left block bytes ps rest number e first reports done =
         among-others input left done.front bytes ps rest e first done.split (λ more. reports done.front more done.fit done.counted)
 
     parts-last : (input : Option (List ℕ)) (front : List (List ℕ)) (piece : List ℕ) → pieces piece ≡ piece ∷ [] → IfSome input (λ input. pieces input ≡ front ++ pieces piece)
@@ -156,9 +219,9 @@ module _ (pieces : List ℕ → List (List ℕ)) where
     parts-last None front piece one all = tt
     parts-last (Some input) front piece one all = ([], all ∙ ap (λ t. front ++ t) one)
 
-    pub last-misfit : (input old mid left : Option (List ℕ)) (piece : List ℕ) (number : ℕ) (e : TranslateError) → pieces piece ≡ piece ∷ [] → IsAtEnd left
-        → ReportsPiece fits e piece number → Done input old mid piece left number → IfSome input (λ input. ReportsMisfit fits e (pieces input))
-    last-misfit input old mid left piece number e one end reports done =
+    pub last-misfit : (input old mid left : Option (List ℕ)) (block piece : List ℕ) (number : ℕ) (e : TranslateError) → pieces piece ≡ piece ∷ [] → IsAtEnd left
+        → ReportsPiece fits e piece number → Done input old mid block piece left number → IfSome input (λ input. ReportsMisfit fits e (pieces input))
+    last-misfit input old mid left block piece number e one end reports done =
         misfit-at input done.front piece number e done.fit done.counted reports (parts-last input done.front piece one (split-end input left done.front piece end done.split))
 
     -- at the end all pieces are translated
@@ -170,9 +233,9 @@ module _ (pieces : List ℕ → List (List ℕ)) where
     if-all None front P all holds = tt
     if-all (Some input) front P all holds = subst P (sym all) holds
 
-    pub all-translated : (input old new left : Option (List ℕ)) (count : ℕ) (P : List (List ℕ) → Type 0) → pieces [] ≡ [] → IsAtEnd left → (done : Done input old new [] left count)
+    pub all-translated : (input old new left : Option (List ℕ)) (block : List ℕ) (count : ℕ) (P : List (List ℕ) → Type 0) → pieces [] ≡ [] → IsAtEnd left → (done : Done input old new block [] left count)
         → P done.front → IfSome input (λ input. P (pieces input))
-    all-translated input old new left count P none end done holds =
+    all-translated input old new left block count P none end done holds =
         if-all input done.front P (all-pieces input done.front none (split-end input left done.front [] end done.split)) holds
 
 -- bytes that may be empty are a piece where they aren't
@@ -186,11 +249,11 @@ of-ok P S (Ok v) q r p f = f v q r p
 of-ok P S (Err e) q r p f = tt
 
 -- a block that was put and is written is written
-pub written-out : (old mid new : Option (List ℕ)) (block bytes : List ℕ) → Appends (append_known old []) (append_known mid block) bytes → Appends mid new block → Appends old new bytes
+pub written-out : (old mid new : Option (List ℕ)) (block bytes : List ℕ) → Appends old (append_known mid block) bytes → Appends mid new block → Appends old new bytes
 written-out None mid new block bytes put out = tt
 written-out (Some x) None new block bytes put out = absurd put
 written-out (Some x) (Some y) None block bytes put out = absurd out
-written-out (Some x) (Some y) (Some z) block bytes put out = out ∙ put ∙ ap (λ t. t ++ bytes) (append-nil x)
+written-out (Some x) (Some y) (Some z) block bytes put out = out ∙ put
 
 -- a read that gave nothing
 pub none-read : (old new : Option (List ℕ)) → Keeps old new → Consumes old new []

@@ -1,5 +1,5 @@
 -- Columns in files: a code is four bytes, little-endian.
-use Rattle.std.specs.Prelude.{◌≡◌, ℕ, ◌+◌, ◌-◌, ◌^◌, ◌<◌, ◌≤◌, ◌==◌, ◌&&◌, ◌||◌, min, Bool, List, [], ◌∷◌, length, map, get_or, slice_get, is_some, unwrap_or, Option}
+use Rattle.std.specs.Prelude.{◌≡◌, ℕ, ◌+◌, ◌-◌, ◌^◌, ◌<◌, ◌≤◌, ◌==◌, ◌&&◌, ◌||◌, min, Bool, List, [], ◌∷◌, length, map, get_or, slice_get, is_some, unwrap_or, position, Option, None}
 use Rattle.std.specs.List.{flat_map}
 use Rattle.std.specs.Int.{w32, to_le_bytes, from_le_bytes}
 use Rattle.intaglio_lines.specs.Lines.{lines_of}
@@ -36,6 +36,10 @@ has_code strings with_missing line = with_missing || is_some (position_in string
 
 abbrev pub code_in : List (List ℕ) → List ℕ → ℕ
 code_in strings line = unwrap_or (position_in strings line) missing
+
+-- no line ends within these bytes
+abbrev pub HasNoEnd : List ℕ → Type 0
+HasNoEnd bytes = position (λ b. b == 10) bytes ≡ None
 
 -- the code of a line, in bytes, and those of the lines of an input
 abbrev pub encoded_line : List (List ℕ) → List ℕ → List ℕ

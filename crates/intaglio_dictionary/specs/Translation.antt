@@ -1,7 +1,8 @@
 -- An input that is translated piece by piece.
 use Rattle.std.specs.Prelude.{◌≡◌, ℕ, ◌-◌, ◌^◌, min, Bool, true, false, List, [], ◌∷◌, ◌++◌, length, Option, None, Some, IfSome, All}
 use Rattle.std.specs.List.{flat_map}
-use Rattle.std.specs.Io.KnownBytes.{Appends, Consumes}
+use Rattle.std.specs.Io.KnownBytes.{Appends, Consumes, append_known}
+use Rattle.intaglio_lines.specs.Puts.{IsFront}
 use Rattle.intaglio_dictionary.specs.declared.translate.TranslateError.{TranslateError}
 use Rattle.intaglio_dictionary.specs.declared.translate.TranslateError.TheVariants.{Misfit, Stream}
 
@@ -60,25 +61,41 @@ abbrev pub IsFailure : TranslateError → Type 0
 IsFailure (Misfit position size) = ⊥
 IsFailure (Stream failure) = Unit {0}
 
--- of an input, the pieces before bytes that were read were translated, so many, and of the input this is left
+-- what is written is the front of a block and of what the first pieces are translated to, each of which can be
+pub record WritesPart (fits : List ℕ → Bool) (translated : List ℕ → List ℕ) (old : Option (List ℕ)) (block : List ℕ) (new : Option (List ℕ))
+    (xs : List (List ℕ)) : Type 0 where
+  pub before : List (List ℕ)
+  pub after : List (List ℕ)
+  pub parts : xs ≡ before ++ after
+  pub fit : AllFit fits before
+  pub front : IsFront old new (block ++ flat_map translated before)
+
+-- of an input, the pieces before bytes that were read were translated, so many, and of the input this is left. What
+-- they are translated to is written or in the block
 pub record HasTranslated (pieces : List ℕ → List (List ℕ)) (fits : List ℕ → Bool) (translated : List ℕ → List ℕ)
-    (input old new : Option (List ℕ)) (bytes : List ℕ) (left : Option (List ℕ)) (count : ℕ) : Type 0 where
+    (input old new : Option (List ℕ)) (block bytes : List ℕ) (left : Option (List ℕ)) (count : ℕ) : Type 0 where
   pub front : List (List ℕ)
   pub split : IsSplit pieces input front bytes left
   pub fit : AllFit fits front
-  pub put : Appends old new (flat_map translated front)
+  pub put : Appends old (append_known new block) (flat_map translated front)
+  pub written : IsFront old new (flat_map translated front)
   pub counted : count ≡ count_of front
 
 module _ (pieces : List ℕ → List (List ℕ)) (fits : List ℕ → Bool) (translated : List ℕ → List ℕ) where
   -- whatever came before: these bytes were translated up to a rest
-  abbrev pub GoesOn : Option (List ℕ) → List ℕ → ℕ → Option (List ℕ) → List ℕ → ℕ → Type 0
-  GoesOn mid bytes number new rest count = (input old left : Option (List ℕ)) → HasTranslated pieces fits translated input old mid bytes left number
-      → HasTranslated pieces fits translated input old new rest left count
+  abbrev pub GoesOn : Option (List ℕ) → List ℕ → List ℕ → ℕ → Option (List ℕ) → List ℕ → List ℕ → ℕ → Type 0
+  GoesOn mid block bytes number new later rest count = (input old left : Option (List ℕ)) → HasTranslated pieces fits translated input old mid block bytes left number
+      → HasTranslated pieces fits translated input old new later rest left count
 
   -- whatever came before: these bytes have the piece that is reported
-  abbrev pub StopsIn : Option (List ℕ) → List ℕ → ℕ → TranslateError → Type 0
-  StopsIn mid bytes number e = (input old left : Option (List ℕ)) → HasTranslated pieces fits translated input old mid bytes left number
+  abbrev pub StopsIn : Option (List ℕ) → List ℕ → List ℕ → ℕ → TranslateError → Type 0
+  StopsIn mid block bytes number e = (input old left : Option (List ℕ)) → HasTranslated pieces fits translated input old mid block bytes left number
       → IfSome input (λ input. ReportsMisfit fits e (pieces input))
+
+  -- whatever came before: what is written is the front of what pieces are translated to that can be
+  abbrev pub WritesIn : Option (List ℕ) → List ℕ → List ℕ → ℕ → Option (List ℕ) → Type 0
+  WritesIn mid block bytes number new = (input old left : Option (List ℕ)) → HasTranslated pieces fits translated input old mid block bytes left number
+      → IfSome input (λ input. WritesPart fits translated old [] new (pieces input))
 
 -- whatever pieces fit before these and follow them: the error reports the first that can't be translated
 abbrev pub ReportsAmong : (List ℕ → Bool) → TranslateError → List (List ℕ) → ℕ → Type 0

@@ -1,7 +1,7 @@
 //! Codes in bytes, and maps of codes.
-ghost use Rattle.std.specs.Prelude.{◌≡◌, ◌==◌, ◌%◌, ◌<◌, ◌≤◌, [], ◌∷◌, drop, is_some, length, slice_get, take, IfSome, None, OnOk};
+ghost use Rattle.std.specs.Prelude.{◌≡◌, ◌==◌, ◌%◌, ◌<◌, ◌≤◌, [], ◌∷◌, ◌++◌, drop, is_some, length, slice_get, take, IfSome, None, OnOk};
 ghost use Rattle.std.specs.List.{flat_map};
-ghost use Rattle.intaglio_lines.specs.Puts.{Puts};
+ghost use Rattle.intaglio_lines.specs.Puts.{Puts, WritesFront};
 ghost use Rattle.intaglio_dictionary.specs.Columns.{code_bytes, code_of, code_pieces, codes_of};
 ghost use Rattle.intaglio_dictionary.specs.Translation.{StartsWith, last_piece};
 
@@ -94,7 +94,8 @@ impl Output for Codes<'_> {
 
 // Writes a code.
 pub(crate) fn put_code<W: Write>(code: u32, block: &mut Vec<u8>, writer: &mut W) -> io::Result<()>
-    ensures { OnOk result (Puts W.contents writer.old block.old writer.new block.new (code_bytes code)) }
+    ensures put { OnOk result (Puts W.contents writer.old block.old writer.new block.new (code_bytes code)) }
+    ensures front { WritesFront W.contents writer.old writer.new (block.old.items ++ code_bytes code) }
 {
     put(&code.to_le_bytes(), block, writer)
 }

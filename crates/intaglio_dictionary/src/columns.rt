@@ -1,12 +1,12 @@
 //! Columns in files: encodes lines, decodes codes, and renumbers them.
-ghost use Rattle.std.specs.Prelude.{◌≡◌, ◌==◌, ◌&&◌, ◌||◌, ℕ, List, Bool, [], false, get_or, is_some, option_map, slice_get, unwrap_or, IfErr, IfOk, IfSome, OnOk};
+ghost use Rattle.std.specs.Prelude.{◌≡◌, ◌==◌, ◌&&◌, ◌||◌, ℕ, List, Bool, [], false, get_or, is_some, option_map, slice_get, unwrap_or, IfErr, IfOk, IfSome, OnErr, OnOk};
 ghost use Rattle.std.proofs.Common.{refl};
 ghost use Rattle.std.specs.Io.KnownBytes.{IsAtEnd};
 ghost use Rattle.intaglio_lines.specs.Lines.{lines_of};
 ghost use Rattle.intaglio_lines.specs.Puts.{Writes};
 ghost use Rattle.intaglio_columns.specs.Columns.{missing};
-ghost use Rattle.intaglio_dictionary.specs.Columns.{DecodesAsBefore, DecodesToInput, ReportsCode, ReportsLine, code_pieces, decoded_column, encoded_column, has_code, has_number, has_string, line_of, renumbered_code, renumbered_column};
-ghost use Rattle.intaglio_dictionary.specs.Translation.{AllFit, ReportsMisfit, count_of};
+ghost use Rattle.intaglio_dictionary.specs.Columns.{DecodesAsBefore, DecodesToInput, ReportsCode, ReportsLine, code_pieces, decoded_column, encoded_column, encoded_line, has_code, has_number, has_string, line_of, renumbered_code, renumbered_column};
+ghost use Rattle.intaglio_dictionary.specs.Translation.{AllFit, ReportsMisfit, WritesPart, count_of};
 
 use crate::codes::{CODE, CodeMap, MISSING, code_of, first_code, put_code};
 use crate::encoding::Encoding;
@@ -56,6 +56,7 @@ impl FrontTranslator for Decoding<'_, '_> {
         &self,
         _alloc: Global,
         bytes: &[u8],
+        _seen: usize,
         number: u64,
         block: &mut Vec<u8>,
         writer: &mut W,
@@ -117,6 +118,7 @@ impl FrontTranslator for Renumbering<'_, '_> {
         &self,
         _alloc: Global,
         bytes: &[u8],
+        _seen: usize,
         number: u64,
         block: &mut Vec<u8>,
         writer: &mut W,
@@ -149,7 +151,7 @@ impl Renumbering<'_, '_> {
 /// # Errors
 ///
 /// `NoSymbol` for the first line that isn't in the table, unless `missing` is true; `Memory`, `Read` or `Write`.
-/// Some codes may be written then.
+/// What was written then is the front of the codes of the lines before that one.
 pub fn encode<R: Read, W: Write>(
     alloc: Global,
     table: &Frozen<'_>,
@@ -166,6 +168,9 @@ pub fn encode<R: Read, W: Write>(
     ensures all_read { OnOk result (IsAtEnd (R.remaining reader.new)) }
     ensures unknown { IfErr result (λ e. IfSome (R.remaining reader.old)
         (λ input. ReportsLine (has_code table.now missing) e (lines_of input))) }
+    ensures part { let Part = WritesPart (has_code table.now missing) (encoded_line table.now) in
+        OnErr result (IfSome (R.remaining reader.old)
+        (λ input. Part (W.contents writer.old) [] (W.contents writer.new) (lines_of input))) }
 
     // What is written is decoded to the input, its last line ended.
     ensures decodes { missing ≡ false → OnOk result (IfSome (R.remaining reader.old)
@@ -187,7 +192,7 @@ pub fn encode<R: Read, W: Write>(
 /// # Errors
 ///
 /// `NoString` for the first code that no string has, `ShortCode` if the input ends within a code; `Memory`, `Read`
-/// or `Write`. Some lines may be written then.
+/// or `Write`. What was written then is the front of the lines of the codes before that one.
 pub fn decode<R: Read, W: Write>(
     alloc: Global,
     table: &Frozen<'_>,
@@ -207,6 +212,10 @@ pub fn decode<R: Read, W: Write>(
     ensures unknown { let text = option_map (λ t. t.now) missing.entry in
         IfErr result (λ e. IfSome (R.remaining reader.old)
         (λ input. ReportsCode (has_string table.now text) e (code_pieces input))) }
+    ensures part { let text = option_map (λ t. t.now) missing.entry in
+        let Part = WritesPart (has_string table.now text) (line_of table.now text) in
+        OnErr result (IfSome (R.remaining reader.old)
+        (λ input. Part (W.contents writer.old) [] (W.contents writer.new) (code_pieces input))) }
 {
     let decoding = Decoding {
         table,
@@ -226,7 +235,7 @@ pub fn decode<R: Read, W: Write>(
 /// # Errors
 ///
 /// `NoString` for the first code that isn't in the map, `ShortCode` if the input ends within a code; `Memory`,
-/// `Read` or `Write`. Some codes may be written then.
+/// `Read` or `Write`. What was written then is the front of the new codes of the codes before that one.
 pub fn renumber<R: Read, W: Write>(
     alloc: Global,
     map: &CodeMap<'_>,
@@ -242,6 +251,9 @@ pub fn renumber<R: Read, W: Write>(
     ensures all_read { OnOk result (IsAtEnd (R.remaining reader.new)) }
     ensures unknown { IfErr result (λ e. IfSome (R.remaining reader.old)
         (λ input. ReportsCode (has_number map.now) e (code_pieces input))) }
+    ensures part { let Part = WritesPart (has_number map.now) (renumbered_code map.now) in
+        OnErr result (IfSome (R.remaining reader.old)
+        (λ input. Part (W.contents writer.old) [] (W.contents writer.new) (code_pieces input))) }
 
     // What is written is decoded under the new dictionary as the input is under the old one.
     ensures decodes { OnOk result (IfSome (R.remaining reader.old) (λ input. DecodesAsBefore map.now input)) }

@@ -1,12 +1,12 @@
 //! Lines to codes, a group of lines at a time.
-ghost use Rattle.std.specs.Prelude.{◌≡◌, ◌+◌, ◌-◌, ◌^◌, ◌<◌, ◌≤◌, ◌==◌, ◌||◌, [], ◌∷◌, true, Ok, drop, is_some, length, map, min, position, take, unwrap_or, IfErr, IfOk, IfSome, None, OnOk};
+ghost use Rattle.std.specs.Prelude.{◌≡◌, ◌+◌, ◌-◌, ◌^◌, ◌<◌, ◌≤◌, ◌==◌, ◌||◌, [], ◌∷◌, ◌++◌, true, false, Ok, drop, is_some, length, map, min, position, take, unwrap_or, IfErr, IfOk, IfSome, None, OnErr, OnOk};
 ghost use Rattle.std.proofs.Common.{refl};
 ghost use Rattle.std.specs.List.{flat_map};
 ghost use Rattle.intaglio_lines.specs.Lines.{lines_of};
-ghost use Rattle.intaglio_lines.specs.Puts.{Puts, held};
+ghost use Rattle.intaglio_lines.specs.Puts.{Puts, WritesFront};
 ghost use Rattle.intaglio_columns.specs.Columns.{missing};
-ghost use Rattle.intaglio_dictionary.specs.Columns.{code_bytes, encoded_line, has_code};
-ghost use Rattle.intaglio_dictionary.specs.Translation.{AllFit, GoesOn, IsFailure, ReportsAmong, ReportsPiece, StartsWith, StopsIn, last_piece};
+ghost use Rattle.intaglio_dictionary.specs.Columns.{HasNoEnd, code_bytes, encoded_line, has_code};
+ghost use Rattle.intaglio_dictionary.specs.Translation.{AllFit, GoesOn, IsFailure, ReportsAmong, ReportsPiece, StartsWith, StopsIn, WritesIn, WritesPart, last_piece};
 ghost use Rattle.intaglio_dictionary.specs.Answers.{position_in};
 
 use crate::codes::{MISSING, put_code};
@@ -43,7 +43,7 @@ impl Translator for Encoding<'_, '_> {
     ghost no_pieces = { refl };
 
     fn first(bytes: &[u8]) -> Option<(usize, usize)> {
-        first_whole_line(bytes)
+        first_whole_line(bytes, 0)
     }
 
     fn put<W: Write>(&self, line: &[u8], block: &mut Vec<u8>, writer: &mut W) -> io::Result<bool> {
@@ -56,44 +56,54 @@ impl FrontTranslator for Encoding<'_, '_> {
         &self,
         alloc: Global,
         bytes: &[u8],
+        seen: usize,
         number: u64,
         block: &mut Vec<u8>,
         writer: &mut W,
     ) -> Result<(usize, u64), TranslateError> {
-        self.put_lines(alloc, bytes, number, block, writer)
+        self.put_lines(alloc, bytes, seen, number, block, writer)
     }
 }
 
 impl Encoding<'_, '_> {
     // Writes the codes of the lines at the front of the bytes, but for a last one that may go on. Returns where that
-    // begins, and how many were written with those before.
+    // begins, and how many were written with those before. Of the bytes so many were searched for a line end before,
+    // and have none.
     fn put_lines<W: Write>(
         &self,
         alloc: Global,
         bytes: &[u8],
+        seen: usize,
         number: u64,
         block: &mut Vec<u8>,
         writer: &mut W,
     ) -> Result<(usize, u64), TranslateError>
+        requires within { seen ≤ length bytes.now }
+        requires seen { HasNoEnd (take seen bytes.now) }
         ensures ok { let On = GoesOn lines_of (has_code self.now.table.now self.now.missing)
             (encoded_line self.now.table.now) in
-            IfOk result (λ end. On (held W.contents writer.old block.old) bytes.now number
-            (held W.contents writer.new block.new) (drop end.0 bytes.now) end.1) }
+            IfOk result (λ end. On (W.contents writer.old) block.old.items bytes.now number
+            (W.contents writer.new) block.new.items (drop end.0 bytes.now) end.1) }
         ensures within { IfOk result (λ end. end.0 ≤ length bytes.now) }
         ensures last { IfOk result (λ end. lines_of (drop end.0 bytes.now) ≡ last_piece (drop end.0 bytes.now)) }
         ensures misfit { let Stops = StopsIn lines_of (has_code self.now.table.now self.now.missing)
             (encoded_line self.now.table.now) in
-            IfErr result (Stops (held W.contents writer.old block.old) bytes.now number) }
+            IfErr result (Stops (W.contents writer.old) block.old.items bytes.now number) }
+        ensures part { let Part = WritesIn lines_of (has_code self.now.table.now self.now.missing)
+            (encoded_line self.now.table.now) in
+            OnErr result (Part (W.contents writer.old) block.old.items bytes.now number (W.contents writer.new)) }
     {
         let mut at = 0;
         let mut count = number;
+        let mut skip = seen;
         while at < bytes.len() {
-            let group = first_lines(alloc, &bytes[at..])?;
+            let group = first_lines(alloc, &bytes[at..], skip)?;
             if group.lines.is_empty() {
                 return Ok((at, count));
             }
             count = self.put_group(alloc, &group.lines, count, block, writer)?;
             at += group.size;
+            skip = 0;
         }
         Ok((at, count))
     }
@@ -114,6 +124,11 @@ impl Encoding<'_, '_> {
         ensures count { IfOk result (λ count. count ≡ min (number + length lines.now) (2 ^ 64 - 1)) }
         ensures misfit { let has_code = has_code self.now.table.now self.now.missing in
             IfErr result (λ e. ReportsAmong has_code e (map (λ line. line.now) lines.now) number) }
+        ensures front { let codes = flat_map (encoded_line self.now.table.now) (map (λ line. line.now) lines.now) in
+            OnOk result (WritesFront W.contents writer.old writer.new (block.old.items ++ codes)) }
+        ensures part { let lines = map (λ line. line.now) lines.now in
+            let Part = WritesPart (has_code self.now.table.now self.now.missing) (encoded_line self.now.table.now) in
+            OnErr result (Part (W.contents writer.old) block.old.items (W.contents writer.new) lines) }
     {
         let Ok(found) = self.table.check_all(alloc, lines) else {
             return Err(TranslateError::Stream(StreamError::Memory));
@@ -138,6 +153,11 @@ impl Encoding<'_, '_> {
         ensures count { IfOk result (λ count. count ≡ min (number + length lines.now) (2 ^ 64 - 1)) }
         ensures misfit { let has_code = has_code self.now.table.now self.now.missing in
             IfErr result (λ e. ReportsAmong has_code e (map (λ line. line.now) lines.now) number) }
+        ensures front { let codes = flat_map (encoded_line self.now.table.now) (map (λ line. line.now) lines.now) in
+            OnOk result (WritesFront W.contents writer.old writer.new (block.old.items ++ codes)) }
+        ensures part { let lines = map (λ line. line.now) lines.now in
+            let Part = WritesPart (has_code self.now.table.now self.now.missing) (encoded_line self.now.table.now) in
+            OnErr result (Part (W.contents writer.old) block.old.items (W.contents writer.new) lines) }
     {
         for i in 0..lines.len() {
             self.put_next(
@@ -167,6 +187,9 @@ impl Encoding<'_, '_> {
             OnOk result (Puts W.contents writer.old block.old writer.new block.new code) }
         ensures misfit { let has_code = has_code self.now.table.now self.now.missing in
             IfErr result (λ e. ReportsPiece has_code e line.now number) }
+        ensures front { has_code self.now.table.now self.now.missing line.now ≡ true → WritesFront W.contents
+            writer.old writer.new (block.old.items ++ encoded_line self.now.table.now line.now) }
+        ensures unfit { has_code self.now.table.now self.now.missing line.now ≡ false → writer.new ≡ writer.old }
     {
         match self.put_found(found, block, writer) {
             Ok(true) => Ok(()),
@@ -186,6 +209,10 @@ impl Encoding<'_, '_> {
         ensures fits { IfOk result (λ fit. fit ≡ (self.now.missing || is_some found)) }
         ensures put { result ≡ Ok true →
             Puts W.contents writer.old block.old writer.new block.new (code_bytes (unwrap_or found missing)) }
+        ensures front { let code = code_bytes (unwrap_or found missing) in
+            (self.now.missing || is_some found) ≡ true →
+            WritesFront W.contents writer.old writer.new (block.old.items ++ code) }
+        ensures unfit { (self.now.missing || is_some found) ≡ false → writer.new ≡ writer.old }
     {
         let code = match found {
             Some(symbol) => symbol.id(),
@@ -201,8 +228,11 @@ impl Encoding<'_, '_> {
     }
 }
 
-// The lines at the front of the bytes: a group of them, or all that are whole if they are fewer.
-fn first_lines<'a>(alloc: Global, bytes: &'a [u8]) -> Result<Lines<'a>, TranslateError>
+// The lines at the front of the bytes: a group of them, or all that are whole if they are fewer. So many bytes at the
+// front have no line end.
+fn first_lines<'a>(alloc: Global, bytes: &'a [u8], seen: usize) -> Result<Lines<'a>, TranslateError>
+    requires within { seen ≤ length bytes.now }
+    requires seen { HasNoEnd (take seen bytes.now) }
     ensures whole { IfOk result (λ group.
         StartsWith lines_of bytes.now (map (λ line. line.now) group.lines.items) (drop group.size bytes.now)) }
     ensures within { IfOk result (λ group. group.size ≤ length bytes.now) }
@@ -213,18 +243,22 @@ fn first_lines<'a>(alloc: Global, bytes: &'a [u8]) -> Result<Lines<'a>, Translat
 {
     let mut lines = Vec::with_capacity(alloc, GROUP)?;
     let mut size = 0;
+    let mut skip = seen;
     while lines.len() < GROUP {
-        let Some((end, next)) = first_whole_line(&bytes[size..]) else {
+        let Some((end, next)) = first_whole_line(&bytes[size..], skip) else {
             return Ok(Lines { lines, size });
         };
         lines.push_reserved(&bytes[size..][..end]);
         size += next;
+        skip = 0;
     }
     Ok(Lines { lines, size })
 }
 
-// Where the first line of the bytes ends, and where the next begins.
-fn first_whole_line(bytes: &[u8]) -> Option<(usize, usize)>
+// Where the first line of the bytes ends, and where the next begins. So many bytes at the front have no line end.
+fn first_whole_line(bytes: &[u8], seen: usize) -> Option<(usize, usize)>
+    requires within { seen ≤ length bytes.now }
+    requires seen { HasNoEnd (take seen bytes.now) }
     ensures whole { IfSome result (λ cut.
         StartsWith lines_of bytes.now (take cut.0 bytes.now ∷ []) (drop cut.1 bytes.now)) }
     ensures order { IfSome result (λ cut. cut.0 ≤ cut.1) }
@@ -232,8 +266,8 @@ fn first_whole_line(bytes: &[u8]) -> Option<(usize, usize)>
     ensures within { IfSome result (λ cut. cut.1 ≤ length bytes.now) }
     ensures none { result ≡ None → lines_of bytes.now ≡ last_piece bytes.now }
 {
-    match end_of_line(bytes) {
-        Some(end) => Some((end, end + 1)),
+    match end_of_line(&bytes[seen..]) {
+        Some(end) => Some((seen + end, seen + end + 1)),
         None => None,
     }
 }

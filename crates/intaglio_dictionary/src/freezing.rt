@@ -1,5 +1,5 @@
 //! Freezes the lines of an input, from bytes read to bytes written.
-ghost use Rattle.std.specs.Prelude.{◌≡◌, ◌≢◌, ◌↔◌, OnOk, IfErr, IfOk, IsTrue, map};
+ghost use Rattle.std.specs.Prelude.{◌≡◌, ◌≢◌, ◌⊎◌, ◌↔◌, OnOk, IfErr, IfOk, IsTrue, map};
 ghost use Rattle.intaglio_bytes.specs.BytesContent.{bytes_content_bytes};
 ghost use Rattle.intaglio_frozen.specs.declared.kind.Kind.{Kind};
 ghost use Rattle.intaglio_lines.specs.Puts.{Writes};
@@ -78,11 +78,13 @@ pub fn freeze_lines_with_default_keys<S: BuildHasher + Drop, W: Write, P: Progre
 }
 
 /// As [`freeze_lines`], or, if no keys are given, as [`freeze_lines_with_default_keys`], and writes the code of each
-/// line to `codes`, as [`encode`](crate::columns::encode) would under the frozen table. The codes are written first.
+/// line to `codes`, as [`encode`](crate::columns::encode) would under the frozen table. The codes are written first:
+/// nothing of the table is written before all of them are.
 ///
 /// # Errors
 ///
-/// Those of [`freeze_lines`]; after each but `Write` nothing was written.
+/// Those of [`freeze_lines`]; after each but `Write` nothing was written. After that either nothing of the table was
+/// written, or all codes were.
 pub fn freeze_column<S: BuildHasher + Drop, W: Write, V: Write, P: Progress>(
     alloc: Global,
     kind: Kind,
@@ -101,6 +103,8 @@ pub fn freeze_column<S: BuildHasher + Drop, W: Write, V: Write, P: Progress>(
     ensures err { IfErr result (IsRefusal kind input.now) }
     ensures nothing_written { IfErr result (λ e. e ≢ Stream WriteFailed → writer.new ≡ writer.old) }
     ensures no_codes { IfErr result (λ e. e ≢ Stream WriteFailed → codes.new ≡ codes.old) }
+    ensures order { let column = encoded_column (distinct_lines input.now) input.now in
+        (writer.new ≡ writer.old) ⊎ Writes V.contents codes.old codes.new column }
 {
     let allowed = is_allowed(kind, input);
     if !allowed {

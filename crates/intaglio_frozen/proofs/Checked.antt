@@ -1,8 +1,11 @@
 -- What is found of strings, batch by batch.
-use Rattle.std.proofs.Common.{◌≡◌, ◌⊎◌, inl, inr, ℕ, ◌+◌, ◌-◌, ◌<◌, ◌≤◌, List, ◌++◌, length, take, length-append, arith}
+use Rattle.std.proofs.Common.{◌≡◌, ◌∙◌, ◌⊎◌, inl, inr, ℕ, ◌+◌, ◌-◌, ◌<◌, ◌≤◌, List, ◌++◌, length, map, take, slice_get, Some, length-append, ap, arith}
 use Rattle.std.proofs.lemmas.Bool.{cases_lt}
-use Rattle.std.proofs.lemmas.List.{length-take-le}
-use Rattle.intaglio_frozen.specs.Checked.{IsFoundAt, AreFoundBelow, AreFoundFrom}
+use Rattle.std.proofs.lemmas.List.{get_or-map, length-take-le}
+use Rattle.std.proofs.lemmas.Option.{slice_get_within, get_or_from_slice_get}
+use Rattle.intaglio_frozen.specs.Layout.{key0, key1, strings}
+use Rattle.intaglio_frozen.specs.LookUp.{hash, hash_under, find, FindsAll}
+use Rattle.intaglio_frozen.specs.Checked.{IsFoundAt, AreFoundBelow, AreFoundFrom, AreHashesFrom}
 
 found-either : (bs : List ℕ) (start n k : ℕ) → AreFoundBelow bs start → AreFoundFrom bs start n → k < start + n → (k < start) ⊎ (start ≤ k) → IsFoundAt bs k
 found-either bs start n k before after l (inl below) = before k below
@@ -18,3 +21,19 @@ found-further bs start n before after = λ k l. found-either bs start n k before
 pub batch-length : (new rest old : List ℕ) (n : ℕ) → length new ≡ length (take n old) → n ≤ length old → length (take n (new ++ rest)) ≡ n
 batch-length new rest old n same within =
     length-take-le n (new ++ rest) (omega (arith, same, length-take-le n old within, length-append new rest))
+
+-- the hashes of the strings of a table under its keys
+pub hashes-of : (bs hs : List ℕ) → hs ≡ map (hash_under (key0 bs) (key1 bs)) (strings bs) → AreHashesFrom bs 0 hs
+unfolding hash
+hashes-of bs hs made = λ k l w is.
+    let f = hash_under (key0 bs) (key1 bs) in
+    let from : 0 + k ≡ k = omega arith in
+    let there : slice_get (strings bs) k ≡ Some w = rw from at is in
+    rw made (get_or-map f (strings bs) k w 0 (slice_get_within (strings bs) k w there) ∙ ap f (get_or_from_slice_get (strings bs) k w w there))
+
+-- all strings, if as many are found as there are
+pub found-all : (bs : List ℕ) (n : ℕ) → n ≡ length (strings bs) → AreFoundFrom bs 0 n → FindsAll bs
+found-all bs n all found = λ i w is.
+    let from : 0 + i ≡ i = omega arith in
+    let here : find bs w ≡ Some (0 + i) = found i (omega (arith, all, slice_get_within (strings bs) i w is)) w (rw from is) in
+    rw from at here

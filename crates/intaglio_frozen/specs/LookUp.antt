@@ -4,9 +4,13 @@ use Rattle.std.specs.Str.{bytes_eq}
 use Rattle.std.specs.Hash.DefaultHasher.{with_keys, write, finish}
 use Rattle.intaglio_frozen.specs.Layout.{key0, key1, places, groups, symbol_of, tag_of, pilot_of, strings}
 
--- the hash of a string: SipHash-1-3 of its bytes
+-- the hash of a string under two keys: SipHash-1-3 of its bytes
+abbrev pub hash_under : ℕ → ℕ → List ℕ → ℕ
+hash_under k0 k1 w = finish (write (with_keys k0 k1) w)
+
+-- the same under the keys of a table
 unfoldable pub hash : List ℕ → List ℕ → ℕ
-hash bs w = finish (write (with_keys (key0 bs) (key1 bs)) w)
+hash bs w = hash_under (key0 bs) (key1 bs) w
 
 -- a number below n, from the upper half of a hash
 abbrev pub scaled : ℕ → ℕ → ℕ

@@ -45,7 +45,7 @@ fn hash_strings(block: &Block<'_>, start: usize, hashes: &mut [u64])
 }
 
 // The first of the strings from `start` on, which have these hashes, that isn't found at its symbol.
-fn first_misplaced(block: &Block<'_>, start: usize, hashes: &[u64]) -> Option<u32>
+pub(crate) fn first_misplaced(block: &Block<'_>, start: usize, hashes: &[u64]) -> Option<u32>
     requires within { start + length hashes.now ≤ length (strings block.now) }
     requires hashes { AreHashesFrom block.now start hashes.now }
     ensures { MatchOption result (AreFoundFrom block.now start (length hashes.now))

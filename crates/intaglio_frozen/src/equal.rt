@@ -2,19 +2,41 @@
 ghost use Rattle.std.specs.Prelude.{◌≤◌, ◌^◌, IfOk, IfSome, IsTrue, MatchOption, length};
 ghost use Rattle.intaglio_frozen.specs.Freezing.{AreEqual, HasNoEqual};
 
+use crate::grouping::Hashed;
 use crate::list::StringList;
-use crate::placing::Hashed;
 use intaglio::packed::bytes::SymbolTable;
 use intaglio_content::same_bytes;
 use intaglio_hash::KeyedState;
 use intaglio_symbol::InternError;
-use std::alloc::Global;
+use std::alloc::{AllocError, Global};
 
 // How many symbols there are.
 const SYMBOLS: usize = 1 << 32;
 
+// Two equal strings whose hashes, which are those of the symbols 0, 1, 2 and so on, follow each other in
+// ascending order.
+pub(crate) fn equal_pair<L: StringList>(
+    alloc: Global,
+    list: &L,
+    hashes: &[u64],
+) -> Result<Option<(u32, u32)>, AllocError>
+    requires { length hashes.now ≤ 2 ^ 31 }
+    ensures { let AreAlike = AreEqual (L.strings list.now) in
+        IfOk result (λ found. IfSome found (λ pair. AreAlike pair.0 pair.1)) }
+{
+    let mut sorted = Vec::with_capacity(alloc, hashes.len())?;
+    for i in 0..hashes.len() {
+        sorted.push_reserved(Hashed {
+            hash: hashes[i],
+            symbol: i as u32,
+        });
+    }
+    sorted.sort()?;
+    Ok(pair_in(list, &sorted))
+}
+
 // Two equal strings whose hashes follow each other.
-pub(crate) fn equal_pair<L: StringList>(list: &L, hashes: &[Hashed]) -> Option<(u32, u32)>
+fn pair_in<L: StringList>(list: &L, hashes: &[Hashed]) -> Option<(u32, u32)>
     ensures { IfSome result (λ pair. AreEqual (L.strings list.now) pair.0 pair.1) }
 {
     for i in 1..hashes.len() {

@@ -1,18 +1,20 @@
 //! How a list of strings is frozen.
-ghost use Rattle.std.specs.Prelude.{◌≡◌, ◌-◌, ◌≤◌, ◌^◌, IfErr, IfOk, IfSome, IsTrue, length, min, sum_by};
+ghost use Rattle.std.specs.Prelude.{◌≡◌, ◌-◌, ◌≤◌, ◌^◌, IfErr, IfOk, IfSome, IsTrue, length, map, min, sum_by};
 ghost use Rattle.intaglio_frozen.specs.Layout.{key0 as key0_of, key1 as key1_of, kind as kind_of, strings};
+ghost use Rattle.intaglio_frozen.specs.LookUp.{FindsAll, hash_under};
 ghost use Rattle.intaglio_frozen.specs.IsFrozen.{IsFrozen, number_of};
 ghost use Rattle.intaglio_frozen.specs.Freezing.{AreAllowed, HasDefaultKeys, HasKeys, IsRefusal, IsTableOf};
 
+use crate::block::Block;
+use crate::checking::first_misplaced;
 use crate::drawing::hash_all;
 use crate::equal::{equal_pair, equal_strings};
 use crate::error::FreezeError;
-use crate::frozen::Frozen;
-use crate::header::{Header, MAGIC, MAX_COUNT, VERSION};
+use crate::header::{HEADER, Header, MAGIC, MAX_COUNT, VERSION};
 use crate::kind::Kind;
 use crate::list::{StringList, first_fault};
 use crate::placing::{Sections, hashes, place_all};
-use intaglio_hash::KeyedState;
+use intaglio_content::same_bytes;
 use std::alloc::{AllocError, Global};
 
 // How many pairs of keys are tried.
@@ -148,12 +150,12 @@ fn freeze_under<L: StringList>(
     ensures second_key { IfOk result (λ found. IfSome found (λ bytes. key1_of bytes.items ≡ key1)) }
     ensures err { IfErr result (IsRefusal kind (L.strings list.now)) }
 {
-    let hashes = hashes(alloc, list, &KeyedState::with_keys(key0, key1))?;
-    if let Some((first, second)) = equal_pair(list, &hashes) {
-        return Err(FreezeError::Equal(first, second));
-    }
+    let hashes = hashes(alloc, list, key0, key1)?;
     let Some(sections) = place_all(alloc, &hashes)? else {
-        return Ok(None);
+        return match equal_pair(alloc, list, &hashes)? {
+            Some((first, second)) => Err(FreezeError::Equal(first, second)),
+            None => Ok(None),
+        };
     };
     let bytes = assemble(
         alloc,
@@ -162,7 +164,7 @@ fn freeze_under<L: StringList>(
         [key0, key1, list.len() as u64],
         &sections,
     )?;
-    if holds(&bytes, list, kind, key0, key1) {
+    if holds(&bytes, list, kind, key0, key1, &hashes) {
         Ok(Some(bytes))
     } else {
         Ok(None)
@@ -180,15 +182,30 @@ fn byte_count<L: StringList>(list: &L) -> u64
     count
 }
 
-// Whether the bytes are a frozen table of these strings under these keys.
-fn holds<L: StringList>(bytes: &[u8], list: &L, kind: Kind, key0: u64, key1: u64) -> bool
-    ensures frozen { IsTrue result → IsFrozen bytes.now }
-    ensures strings { IsTrue result → strings bytes.now ≡ L.strings list.now }
-    ensures kind { IsTrue result → kind_of bytes.now ≡ number_of kind }
+// Whether the bytes are a frozen table of these strings, which have these hashes, under these keys.
+fn holds<L: StringList>(
+    bytes: &[u8],
+    list: &L,
+    kind: Kind,
+    key0: u64,
+    key1: u64,
+    hashes: &[u64],
+) -> bool
+    requires allowed { AreAllowed kind (L.strings list.now) }
+    requires hashes { hashes.now ≡ map (hash_under key0 key1) (L.strings list.now) }
+    ensures table { IsTrue result → IsTableOf kind (L.strings list.now) bytes.now }
     ensures first_key { IsTrue result → key0_of bytes.now ≡ key0 }
     ensures second_key { IsTrue result → key1_of bytes.now ≡ key1 }
 {
-    has_header(bytes, kind, key0, key1) && has_strings(bytes, list)
+    if !has_header(bytes, kind, key0, key1) {
+        return false;
+    }
+    match Block::read(bytes) {
+        Ok(block) => {
+            has_strings(&block, list) && block.has_unused() && finds_all(&block, hashes)
+        }
+        Err(_) => false,
+    }
 }
 
 fn has_header(bytes: &[u8], kind: Kind, key0: u64, key1: u64) -> bool
@@ -202,22 +219,31 @@ fn has_header(bytes: &[u8], kind: Kind, key0: u64, key1: u64) -> bool
     }
 }
 
-fn has_strings<L: StringList>(bytes: &[u8], list: &L) -> bool
-    ensures frozen { IsTrue result → IsFrozen bytes.now }
-    ensures strings { IsTrue result → strings bytes.now ≡ L.strings list.now }
+// Whether these are the strings of a block.
+fn has_strings<L: StringList>(block: &Block<'_>, list: &L) -> bool
+    ensures { IsTrue result → strings block.now ≡ L.strings list.now }
 {
-    let Ok(table) = Frozen::open(bytes) else {
-        return false;
-    };
-    if table.len() != list.len() {
+    if block.len() != list.len() {
         return false;
     }
-    for i in 0..table.len() {
-        if *table.string(i) != *list.string(i) {
+    for i in 0..block.len() {
+        if !same_bytes(block.string(i), list.string(i)) {
             return false;
         }
     }
     true
+}
+
+// Whether each string of a block, which have these hashes, is found at its symbol.
+fn finds_all(block: &Block<'_>, hashes: &[u64]) -> bool
+    requires { let hash = hash_under (key0_of block.now) (key1_of block.now) in
+        hashes.now ≡ map hash (strings block.now) }
+    ensures { IsTrue result → FindsAll block.now }
+{
+    match first_misplaced(block, 0, hashes) {
+        Some(_) => false,
+        None => true,
+    }
 }
 
 // The bytes of all sections. The numbers are the keys and the number of strings.
@@ -228,20 +254,26 @@ fn assemble<L: StringList>(
     numbers: [u64; 3],
     sections: &Sections,
 ) -> Result<Vec<u8>, AllocError> {
-    let mut bytes = Vec::new(alloc);
+    let mut bytes = Vec::with_capacity(alloc, size_of_table(list, sections))?;
     put_header(&mut bytes, kind, numbers)?;
-    for symbol in &sections.symbols {
-        bytes.extend_from_slice(&symbol.to_le_bytes())?;
-    }
+    put_symbols(&mut bytes, &sections.symbols)?;
     put_ends(&mut bytes, list)?;
     for pilot in &sections.pilots {
         bytes.extend_from_slice(&pilot.to_le_bytes())?;
     }
     bytes.extend_from_slice(&sections.tags)?;
-    for i in 0..list.len() {
-        bytes.extend_from_slice(list.string(i))?;
-    }
+    put_text(&mut bytes, list)?;
     Ok(bytes)
+}
+
+// How many bytes all sections have.
+fn size_of_table<L: StringList>(list: &L, sections: &Sections) -> usize {
+    let numbers = (HEADER as u64)
+        .saturating_add((sections.symbols.len() as u64).saturating_mul(4))
+        .saturating_add((list.len() as u64).saturating_mul(4))
+        .saturating_add((sections.pilots.len() as u64).saturating_mul(2))
+        .saturating_add(sections.tags.len() as u64);
+    numbers.saturating_add(byte_count(list)) as usize
 }
 
 fn put_header(bytes: &mut Vec<u8>, kind: Kind, numbers: [u64; 3]) -> Result<(), AllocError> {
@@ -258,11 +290,25 @@ fn put_header(bytes: &mut Vec<u8>, kind: Kind, numbers: [u64; 3]) -> Result<(), 
     bytes.extend_from_slice(&[0u8; 24])
 }
 
+fn put_symbols(bytes: &mut Vec<u8>, symbols: &[u32]) -> Result<(), AllocError> {
+    for symbol in symbols {
+        bytes.extend_from_slice(&symbol.to_le_bytes())?;
+    }
+    Ok(())
+}
+
 fn put_ends<L: StringList>(bytes: &mut Vec<u8>, list: &L) -> Result<(), AllocError> {
     let mut end = 0u32;
     for i in 0..list.len() {
         end = end.wrapping_add((list.string(i).len() % (1 << 32)) as u32);
         bytes.extend_from_slice(&end.to_le_bytes())?;
+    }
+    Ok(())
+}
+
+fn put_text<L: StringList>(bytes: &mut Vec<u8>, list: &L) -> Result<(), AllocError> {
+    for i in 0..list.len() {
+        bytes.extend_from_slice(list.string(i))?;
     }
     Ok(())
 }

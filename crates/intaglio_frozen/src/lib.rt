@@ -9,6 +9,7 @@ mod equal;
 mod error;
 mod freezing;
 mod frozen;
+mod grouping;
 mod header;
 mod iter;
 mod kind;

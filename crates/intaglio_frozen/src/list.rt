@@ -6,7 +6,7 @@ ghost use Rattle.intaglio_frozen.specs.declared.kind.Kind.TheVariants.{Text};
 
 use crate::kind::Kind;
 use intaglio::{Table, TableOver};
-use intaglio_content::{Packed, PackedKind, Spelled};
+use intaglio_content::{Packed, Spelled};
 use intaglio_core::FormInterner;
 use intaglio_symbol::Symbol;
 use std::hash::BuildHasher;
@@ -26,7 +26,7 @@ pub trait StringList {
         ensures { slice_get (strings self.now) i ≡ Some result.now };
 }
 
-impl<K: PackedKind> StringList for Packed<K> {
+impl<K: intaglio_content::Kind> StringList for Packed<K> {
     ghost strings = { λ list. list.list };
 
     #[inline(always)]
@@ -56,7 +56,7 @@ impl<C: Spelled, S: BuildHasher> StringList for Table<C, S> {
     }
 }
 
-impl<K: PackedKind, S: BuildHasher> StringList for TableOver<Packed<K>, S> {
+impl<K: intaglio_content::Kind, S: BuildHasher> StringList for TableOver<Packed<K>, S> {
     ghost strings = { λ table. table.state.contents };
 
     #[inline(always)]

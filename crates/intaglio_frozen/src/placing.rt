@@ -1,8 +1,10 @@
 //! How the strings of a frozen table get their places.
 //!
 //! Of the search only that it is safe and ends is proved: what it makes is checked in the end.
-ghost use Rattle.std.specs.Prelude.{◌≡◌, ◌<◌, ◌≤◌, ◌^◌, IfOk, length, vec_len};
+ghost use Rattle.std.specs.Prelude.{◌≡◌, ◌+◌, ◌*◌, ◌<◌, ◌≤◌, ◌^◌, IfOk, length, map};
+ghost use Rattle.intaglio_frozen.specs.LookUp.{hash_under};
 
+use crate::grouping::{Grouped, Hashed, by_groups, by_size};
 use crate::list::StringList;
 use crate::numbers::{NO_SYMBOL, groups_for, hash_by, mixed, places_for, scaled};
 use intaglio_hash::KeyedState;
@@ -11,19 +13,11 @@ use std::alloc::{AllocError, Global};
 // How many pilots there are.
 const PILOTS: u32 = 1 << 16;
 
-/// The hash of a string, and its symbol.
-#[derive(Debug, Clone, Copy, PartialEq, Eq, PartialOrd, Ord)]
-pub(crate) struct Hashed {
-    pub(crate) hash: u64,
-    pub(crate) symbol: u32,
-}
+// How many pilots are tried together.
+const TOGETHER: u32 = 8;
 
-/// Where the hashes of a group begin in the list of all, and how many they are.
-#[derive(Debug, Clone, Copy, PartialEq, Eq)]
-struct Group {
-    start: usize,
-    size: usize,
-}
+// How many places a word of the bitmap has.
+const WORD: usize = 64;
 
 /// The sections that a look-up reads before the strings.
 #[derive(Drop)]
@@ -33,43 +27,44 @@ pub(crate) struct Sections {
     pub(crate) tags: Vec<u8>,
 }
 
-// The hashes of the strings with their symbols, in ascending order.
+// The hashes of the strings under two keys, in the order of their symbols.
 pub(crate) fn hashes<L: StringList>(
     alloc: Global,
     list: &L,
-    state: &KeyedState,
-) -> Result<Vec<Hashed>, AllocError>
-    requires { length (L.strings list.now) ≤ 2 ^ 31 }
-    ensures { IfOk result (λ hashes. vec_len hashes ≡ length (L.strings list.now)) }
+    key0: u64,
+    key1: u64,
+) -> Result<Vec<u64>, AllocError>
+    ensures { let hash = hash_under key0 key1 in
+        IfOk result (λ hashes. hashes.items ≡ map hash (L.strings list.now)) }
 {
+    let state = KeyedState::with_keys(key0, key1);
     let mut hashes = Vec::with_capacity(alloc, list.len())?;
     for i in 0..list.len() {
-        let hash = hash_by(state, list.string(i));
-        hashes.push(Hashed {
-            hash,
-            symbol: i as u32,
-        })?;
+        hashes.push_reserved(hash_by(&state, list.string(i)));
     }
-    hashes.sort()?;
     Ok(hashes)
 }
 
-// The sections for these hashes, which ascend, or nothing if there is no place for one.
-pub(crate) fn place_all(alloc: Global, hashes: &[Hashed]) -> Result<Option<Sections>, AllocError>
+// The sections for these hashes, which are those of the symbols 0, 1, 2 and so on, or nothing if there is no
+// place for one.
+pub(crate) fn place_all(alloc: Global, hashes: &[u64]) -> Result<Option<Sections>, AllocError>
     requires { length hashes.now ≤ 2 ^ 31 }
 {
     let places = places_for(hashes.len() as u64);
     let groups = groups_for(hashes.len() as u64);
-    let order = groups_of(alloc, hashes, groups)?;
+    let grouped = by_groups(alloc, hashes, groups)?;
+    let order = by_size(alloc, &grouped.ends)?;
+    let mut taken = Vec::from_elem(alloc, 0u64, places as usize / WORD + 1)?;
     let mut sections = Sections {
         symbols: Vec::from_elem(alloc, NO_SYMBOL, places as usize)?,
         pilots: Vec::from_elem(alloc, 0, groups as usize)?,
         tags: Vec::from_elem(alloc, 0, places as usize)?,
     };
     let done = place_groups(
-        hashes,
+        &grouped,
         &order,
         places,
+        &mut taken,
         &mut sections.symbols,
         &mut sections.pilots,
         &mut sections.tags,
@@ -77,121 +72,183 @@ pub(crate) fn place_all(alloc: Global, hashes: &[Hashed]) -> Result<Option<Secti
     Ok(if done { Some(sections) } else { None })
 }
 
-// The groups that have hashes, the larger ones first.
-fn groups_of(alloc: Global, hashes: &[Hashed], groups: u64) -> Result<Vec<Group>, AllocError>
-    requires some { 0 < groups }
-    requires few { groups ≤ 2 ^ 32 }
-{
-    let mut order: Vec<Group> = Vec::new(alloc);
-    let mut start = 0;
-    let mut group = 0;
-    for i in 0..hashes.len() {
-        let next = scaled(groups, hashes[i].hash);
-        if next != group {
-            if start < i {
-                order.push(Group {
-                    start,
-                    size: i - start,
-                })?;
-            }
-            start = i;
-            group = next;
-        }
-    }
-    if start < hashes.len() {
-        order.push(Group {
-            start,
-            size: hashes.len() - start,
-        })?;
-    }
-    order.sort_by_key(|group| usize::MAX - group.size)?;
-    Ok(order)
-}
-
-// Finds a pilot for each group, and whether there is one for all.
+// Finds a pilot for each group, in this order, and whether there is one for all.
 fn place_groups(
-    hashes: &[Hashed],
-    order: &[Group],
+    grouped: &Grouped,
+    order: &[u32],
     places: u64,
+    taken: &mut [u64],
     symbols: &mut [u32],
     pilots: &mut [u16],
     tags: &mut [u8],
 ) -> bool
     requires some { 0 < places }
     requires few { places ≤ 2 ^ 32 }
+    requires taken { places < 64 * length taken.old }
     requires symbols { length symbols.old ≡ places }
     requires tags { length tags.old ≡ places }
-    requires pilots { 0 < length pilots.old }
-    requires few_pilots { length pilots.old ≤ 2 ^ 32 }
 {
     for group in order {
-        let Some(members) = hashes.get(group.start..group.start.saturating_add(group.size)) else {
+        let Some(members) = members_of(&grouped.hashes, &grouped.ends, *group as usize) else {
             return false;
         };
-        let Some(pilot) = find_pilot(symbols, members, places) else {
+        let Some(pilot) = find_pilot(taken, members, places) else {
             return false;
         };
-        if let Some(first) = members.first() {
-            pilots[scaled(pilots.len() as u64, first.hash)] = pilot;
+        if (*group as usize) < pilots.len() {
+            pilots[*group as usize] = pilot;
         }
-        set_tags(tags, members, places, pilot);
+        put_members(symbols, tags, members, places, pilot);
     }
     true
 }
 
-// Writes the tags of these hashes.
-fn set_tags(tags: &mut [u8], members: &[Hashed], places: u64, pilot: u16)
+// The hashes of a group.
+#[inline(always)]
+fn members_of<'a>(hashes: &'a [Hashed], ends: &[u32], group: usize) -> Option<&'a [Hashed]> {
+    if group >= ends.len() {
+        return None;
+    }
+    let start = if group == 0 { 0 } else { ends[group - 1] };
+    hashes.get(start as usize..ends[group] as usize)
+}
+
+// Writes the symbols and the tags of these hashes to their places.
+#[inline(always)]
+fn put_members(symbols: &mut [u32], tags: &mut [u8], members: &[Hashed], places: u64, pilot: u16)
     requires some { 0 < places }
     requires few { places ≤ 2 ^ 32 }
-    requires all { length tags.old ≡ places }
-    ensures { length tags.new ≡ places }
+    requires symbols { length symbols.old ≡ places }
+    requires tags { length tags.old ≡ places }
+    ensures symbols { length symbols.new ≡ places }
+    ensures tags { length tags.new ≡ places }
 {
     for member in members {
-        tags[scaled(places, mixed(member.hash, pilot))] = (member.hash % 256) as u8;
+        let place = scaled(places, mixed(member.hash, pilot));
+        symbols[place] = member.symbol;
+        tags[place] = (member.hash % 256) as u8;
     }
 }
 
 // The least pilot that sends these hashes to places that are free and differ. They are taken.
-fn find_pilot(symbols: &mut [u32], members: &[Hashed], places: u64) -> Option<u16>
+#[inline(always)]
+fn find_pilot(taken: &mut [u64], members: &[Hashed], places: u64) -> Option<u16>
     requires some { 0 < places }
     requires few { places ≤ 2 ^ 32 }
-    requires all { length symbols.old ≡ places }
-    ensures { length symbols.new ≡ places }
+    requires all { places < 64 * length taken.old }
+    ensures { length taken.new ≡ length taken.old }
 {
-    for pilot in 0..PILOTS {
-        if take_places(symbols, members, places, pilot as u16) {
-            return Some(pilot as u16);
+    for turn in 0..PILOTS / TOGETHER {
+        let pilot = turn * TOGETHER;
+        let free = free_together(taken, members, places, pilot);
+        if let Some(found) = take_first(taken, members, places, pilot, free) {
+            return Some(found);
         }
     }
     None
 }
 
-// Takes the places of these hashes under a pilot, or none if not all of them are free.
-fn take_places(symbols: &mut [u32], members: &[Hashed], places: u64, pilot: u16) -> bool
+// Under which of eight pilots, from this one on, the places of the first two hashes are free, a bit for each.
+#[inline(always)]
+fn free_together(taken: &[u64], members: &[Hashed], places: u64, pilot: u32) -> u32
     requires some { 0 < places }
     requires few { places ≤ 2 ^ 32 }
-    requires all { length symbols.old ≡ places }
-    ensures { length symbols.new ≡ places }
+    requires all { places < 64 * length taken.now }
+    requires pilots { pilot + 8 ≤ 2 ^ 16 }
+{
+    match members {
+        [] => (1 << TOGETHER) - 1,
+        [only] => free_under(taken, only.hash, places, pilot),
+        [first, second, ..] => {
+            free_under(taken, first.hash, places, pilot)
+                & free_under(taken, second.hash, places, pilot)
+        }
+    }
+}
+
+// Under which of eight pilots, from this one on, the place of a hash is free, a bit for each.
+#[inline(always)]
+fn free_under(taken: &[u64], hash: u64, places: u64, pilot: u32) -> u32
+    requires some { 0 < places }
+    requires few { places ≤ 2 ^ 32 }
+    requires all { places < 64 * length taken.now }
+    requires pilots { pilot + 8 ≤ 2 ^ 16 }
+{
+    let mut free = 0u32;
+    for i in 0..TOGETHER {
+        let place = scaled(places, mixed(hash, (pilot + i) as u16));
+        if is_free(taken, place) {
+            free |= 1 << i;
+        }
+    }
+    free
+}
+
+// Whether a place is free.
+#[inline(always)]
+fn is_free(taken: &[u64], place: usize) -> bool
+    requires { place < 64 * length taken.now }
+{
+    (taken[place / WORD] >> (place % WORD)) & 1 == 0
+}
+
+// The first pilot with a bit under which the places of these hashes are free and differ. They are taken.
+#[inline(always)]
+fn take_first(
+    taken: &mut [u64],
+    members: &[Hashed],
+    places: u64,
+    pilot: u32,
+    free: u32,
+) -> Option<u16>
+    requires some { 0 < places }
+    requires few { places ≤ 2 ^ 32 }
+    requires all { places < 64 * length taken.old }
+    requires pilots { pilot + 8 ≤ 2 ^ 16 }
+    ensures { length taken.new ≡ length taken.old }
+{
+    let mut left = free;
+    for _ in 0..TOGETHER {
+        if left == 0 {
+            return None;
+        }
+        let found = (pilot + left.trailing_zeros() % TOGETHER) as u16;
+        if take_places(taken, members, places, found) {
+            return Some(found);
+        }
+        left &= left - 1;
+    }
+    None
+}
+
+// Takes the places of these hashes under a pilot, or none if not all of them are free.
+#[inline(always)]
+fn take_places(taken: &mut [u64], members: &[Hashed], places: u64, pilot: u16) -> bool
+    requires some { 0 < places }
+    requires few { places ≤ 2 ^ 32 }
+    requires all { places < 64 * length taken.old }
+    ensures { length taken.new ≡ length taken.old }
 {
     for i in 0..members.len() {
         let place = scaled(places, mixed(members[i].hash, pilot));
-        if symbols[place] != NO_SYMBOL {
-            free_places(symbols, &members[..i], places, pilot);
+        if !is_free(taken, place) {
+            free_places(taken, &members[..i], places, pilot);
             return false;
         }
-        symbols[place] = members[i].symbol;
+        taken[place / WORD] |= 1 << (place % WORD);
     }
     true
 }
 
 // Gives the places of these hashes back.
-fn free_places(symbols: &mut [u32], members: &[Hashed], places: u64, pilot: u16)
+fn free_places(taken: &mut [u64], members: &[Hashed], places: u64, pilot: u16)
     requires some { 0 < places }
     requires few { places ≤ 2 ^ 32 }
-    requires all { length symbols.old ≡ places }
-    ensures { length symbols.new ≡ places }
+    requires all { places < 64 * length taken.old }
+    ensures { length taken.new ≡ length taken.old }
 {
     for member in members {
-        symbols[scaled(places, mixed(member.hash, pilot))] = NO_SYMBOL;
+        let place = scaled(places, mixed(member.hash, pilot));
+        taken[place / WORD] &= !(1 << (place % WORD));
     }
 }

@@ -12,7 +12,8 @@ use intaglio_content::same_bytes;
 use intaglio_symbol::Symbol;
 use std::marker::Model;
 
-/// A frozen table whose bytes are trusted: only its header is checked, so it opens in constant time.
+/// A frozen table whose bytes are trusted: only its header is checked, so it opens in constant time. No clause bears
+/// that, since none can say what a call reads; a test opens a table whose other bytes can't be read.
 ///
 /// Any bytes that have a header and are as long as it requires can be opened. No call panics or reads outside
 /// them, and what a look-up finds is equal to what was sought. Each string is found at its symbol only if the

@@ -24,9 +24,10 @@ const LONG: usize = 64;
 /// state, and its `write` and `finish` are those of that hasher: for the same writes it returns the same
 /// hash.
 ///
-/// It is faster for words because it has a class for each of the lengths 0 to 8, 9 to 32, 33 to 64, and more,
-/// and reads all that a class may need without a branch: a processor can't predict the length of the next
-/// word. Hashing allocates nothing. `Debug` doesn't print the state.
+/// It has a class for each of the lengths 0 to 8, 9 to 32, 33 to 64, and more. In the second and the third it
+/// reads all that the class may need, whatever the length, since a processor can't predict the length of the
+/// next word. A comparison that branches on the same lengths is then predicted. Hashing allocates nothing.
+/// `Debug` doesn't print the state.
 ///
 /// ```
 /// use intaglio_hash::FixedHasher;

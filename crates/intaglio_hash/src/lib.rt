@@ -4,14 +4,15 @@
 //!
 //! A table hashes contents with the hashers of its hash builder. These are the builders to choose from:
 //!
-//! - [`FixedState`] has a fixed seed. Use it where nobody chooses contents to slow the program down: it is
-//!   the fastest. Packed tables have it by default.
-//! - std's `BuildHasherDefault<FoldHasher>`, the default of the other tables, has the same seed and hashes.
-//!   Use it where a type requires it.
+//! - std's `BuildHasherDefault<FoldHasher>`, the default of owned tables, has a fixed seed. Use it where nobody
+//!   chooses contents to slow the program down: hashing alone takes the least time with it.
+//! - [`FixedState`] has the same seed and hashes, computed with fewer branches on the length of a string. Packed
+//!   tables have it by default: their comparison branches on the same lengths, so hash and comparison
+//!   together take less time there.
 //! - [`KeyedState`] has two keys: random ones, or two numbers of yours. Use it where contents come from
 //!   untrusted sources, or where several tables or runs must agree on hashes.
 //! - std's `RandomState` has random keys. Use it where a type requires it. [`KeyedState::from_random`]
-//!   computes its keys from one, and hashes faster.
+//!   computes its keys from one, and takes less time to hash.
 //!
 //! # What keys protect against
 //!

@@ -263,3 +263,42 @@ module _ (v : Placed) (h size : ℕ) (head : Head) (some : 0 < size) (exact : v.
       ((b hash : ℕ) (before behind : List (ℕ × ℕ)) → chain v b ≡ before ++ (head.second % size, hash) ∷ behind → candidate ≡ head_of behind) →
       IsAt h (chain v (h % v.count)) (Some (head.second % size)) candidate
   behind_second candidate first second after = stands candidate o.es refl o.is (first_below first) second after
+
+-- where the number of buckets is a power of two, a word that agrees with a hash is that of a symbol with this hash
+pub nearest_has : (v : Placed) (h size word : ℕ) (head : Head) → 0 < size → IsOccupied v (h % v.count) size head → (head.first / size ≡ h / size → word ≡ head.first) → (head.first / size ≢ h / size → word ≡ head.second) → word / size ≡ h / size → v.count ≡ size → get_or v.hashes (word % size) 0 ≡ h
+nearest_has v h size word head some o first second high exact =
+    elim (eqb_tells (head.first / size) (h / size)) [
+      | inl same ↦
+          (let f = first_found v h size head some o [] (step ∷ []) same.1 (inr exact) refl in
+          rw (first same.1) (hash_placed v (h % v.count) (head.first % size) h f.front f.behind f.split))
+      | inr other ↦
+          (let f = second_found v h size head some o [] (replicate 2 step) other.1 (rw (second other.1) at high) (inr exact) refl in
+          rw (second other.1) (hash_placed v (h % v.count) (head.second % size) h f.front f.behind f.split))
+    ]
+
+-- a walk for the predecessor, behind the first two
+pub at_second : (h : ℕ) (path : List (ℕ × ℕ)) (candidate : Option (ℕ × ℕ)) (second : ℕ) (behind : IsBehind h path second) →
+    ((before rest : List (ℕ × ℕ)) → path ≡ before ++ (second, behind.hash) ∷ rest → candidate ≡ head_of rest) → IsAt h path (Some second) candidate
+at_second h path candidate second behind after =
+    record {
+      front = behind.first ∷ (second, behind.hash) ∷ [];
+      rest = behind.rest;
+      split = behind.split;
+      next = after (behind.first ∷ []) behind.rest behind.split;
+      smaller = (behind.first_smaller, (behind.smaller, tt));
+      last_is = (behind.first ∷ [], behind.hash, refl);
+    }
+
+-- the predecessor and the entry behind it are placed symbols
+module _ (v : Placed) (h last : ℕ) (pred : IsPredecessor h (chain v (h % v.count)) last) where
+  from_last : AllByRecursion (IsEntry v.count (h % v.count) v.hashes) ((last, pred.hash) ∷ pred.behind)
+  from_last = Each-right (IsEntry v.count (h % v.count) v.hashes) pred.front ((last, pred.hash) ∷ pred.behind) (rw pred.split at (chain-entries v (h % v.count)))
+
+  pub last_placed : last < length v.hashes
+  last_placed = from_last.0.0
+
+  pub next_placed : (e : ℕ × ℕ) → ((before behind : List (ℕ × ℕ)) → chain v (h % v.count) ≡ before ++ (last, pred.hash) ∷ behind → Some e ≡ head_of behind) → (e.0 < length v.hashes) × (get_or v.hashes e.0 0 ≡ e.1)
+  next_placed e after =
+      let rest = some_rest pred.behind e (after pred.front pred.behind pred.split) in
+      let entry = (rw rest.1 at from_last.1).0 in
+      (entry.0, entry.1 0)

@@ -1,3 +1,4 @@
+pub mod FirstByte
 pub mod Appended
 pub mod LineCuts
 pub mod ByLines

@@ -28,12 +28,12 @@ cond_none true m is = cc
 cond_none false m is = refl
 
 -- what `position` says, by the first place that passes
-position-Some : (p : ℕ → Bool) (bs : List ℕ) (end : ℕ) → position p bs ≡ Some end → (position_or_len p bs ≡ end) × (position_or_len p bs < length bs)
+pub position-Some : (p : ℕ → Bool) (bs : List ℕ) (end : ℕ) → position p bs ≡ Some end → (position_or_len p bs ≡ end) × (position_or_len p bs < length bs)
 position-Some p bs end is =
     let some = cond_some (ltb (position_or_len p bs) (length bs)) (position_or_len p bs) end is in
     (some.0, ltb-true _ _ some.1)
 
-position-None : (p : ℕ → Bool) (bs : List ℕ) → position p bs ≡ None → position_or_len p bs ≡ length bs
+pub position-None : (p : ℕ → Bool) (bs : List ℕ) → position p bs ≡ None → position_or_len p bs ≡ length bs
 position-None p bs is =
     let past = ltb-false _ _ (cond_none (ltb (position_or_len p bs) (length bs)) (position_or_len p bs) is) in
     omega (arith, prefix_len-le-length (λ x. not (p x)) bs)

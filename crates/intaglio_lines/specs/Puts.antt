@@ -1,10 +1,17 @@
 -- What is written through a block.
-use Rattle.std.specs.Prelude.{◌≡◌, ℕ, List, Vec, Option, Result, OnOk}
+use Rattle.std.specs.Prelude.{◌≡◌, ℕ, List, Vec, Option, Result, OnOk, take}
 use Rattle.std.specs.Io.KnownBytes.{Appends, append_known}
 
 -- these bytes are written, by a writer with these contents
 abbrev pub Writes : {W : Type 0} → (W → Option (List ℕ)) → W → W → List ℕ → Type 0
 Writes contents old new bytes = Appends (contents old) (contents new) bytes
+
+-- the front of these bytes is written: none of them, all, or some of the first
+abbrev pub IsFront : Option (List ℕ) → Option (List ℕ) → List ℕ → Type 0
+IsFront old new bytes = (n : ℕ) × Appends old new (take n bytes)
+
+abbrev pub WritesFront : {W : Type 0} → (W → Option (List ℕ)) → W → W → List ℕ → Type 0
+WritesFront contents old new bytes = IsFront (contents old) (contents new) bytes
 
 -- what was written, and then the block
 abbrev pub held : {W Z : Type 0} → (W → Option (List ℕ)) → W → Vec ℕ Z → Option (List ℕ)

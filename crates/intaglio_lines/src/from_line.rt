@@ -6,15 +6,15 @@ ghost use Rattle.intaglio_cstr.specs.Zeros.{first_zero};
 ghost use Rattle.intaglio_lines.specs.Cuts.{IsUtf8-parts};
 
 use bstr::BStr;
-use intaglio_bytes::b_str::BStrContent;
-use intaglio_bytes::bytes::BytesContent;
-use intaglio_content::{Bytewise, Content, CopiedTo, Keyed, Store, ToContent};
-use intaglio_cstr::{CStrContent, CString};
-use intaglio_path::{Path, PathContent};
-use intaglio_text::StrContent;
-use intaglio_text::osstr::OsStrContent;
-use std::alloc::{AllocError, Global};
-use std::str;
+use intaglio_bytes::b_str::BStrKind;
+use intaglio_bytes::bytes::BytesKind;
+use intaglio_content::{
+    Content, ContentOf, CopiedTo, Keyed, Kind, KindOwned, Packable, Packed, PackedForm, Spelling,
+    Spells, Store,
+};
+use intaglio_cstr::CStrKind;
+use intaglio_path::{Path, PathKind};
+use intaglio_text::Utf8;
 
 /// A content that is interned by a form of a line of an input, into a store of type `L`.
 ///
@@ -42,10 +42,62 @@ where
     ghost allows_nothing: { allows [] };
 }
 
-impl<'a> FromLine<'a, Vec<StrContent>> for StrContent {
+/// A kind whose strings can be lines of an input: what [`FromLine`] says of its contents, wherever they are stored.
+pub trait LineKind<'a>: Kind {
+    /// The form of a line.
+    type Line: Packable<Self> + Copy;
+
+    ghost allows: { List ℕ → Type 0 };
+
+    ghost fits: { List ℕ → Bool };
+
+    /// The form whose spelling is the line, if the line fits. Nothing is copied.
+    fn line_of(line: &'a [u8]) -> Option<Self::Line>
+        requires { allows line.now }
+        ensures spelling { IfSome result (λ form. Self.Line.spelled form ≡ line.now) }
+        ensures fits { is_some result ≡ fits line.now };
+
+    ghost allows_parts: { (line rest : List ℕ) → allows (line ++ 10 ∷ rest) → allows line × allows rest };
+
+    ghost allows_nothing: { allows [] };
+}
+
+impl<'a, K: LineKind<'a> + KindOwned> FromLine<'a, Vec<ContentOf<K>>> for ContentOf<K> {
+    type Line = K::Line;
+
+    ghost allows = { λ bytes. K.allows bytes };
+
+    ghost fits = { λ line. K.fits line };
+
+    ghost allows_parts = { λ line rest text. K.allows_parts line rest text };
+
+    ghost allows_nothing = { K.allows_nothing };
+
+    fn from_line(line: &'a [u8]) -> Option<K::Line> {
+        K::line_of(line)
+    }
+}
+
+impl<'a, K: LineKind<'a>> FromLine<'a, Packed<K>> for Spelling<K> {
+    type Line = K::Line;
+
+    ghost allows = { λ bytes. K.allows bytes };
+
+    ghost fits = { λ line. K.fits line };
+
+    ghost allows_parts = { λ line rest text. K.allows_parts line rest text };
+
+    ghost allows_nothing = { K.allows_nothing };
+
+    fn from_line(line: &'a [u8]) -> Option<K::Line> {
+        K::line_of(line)
+    }
+}
+
+impl<'a, M> LineKind<'a> for Utf8<M> {
     type Line = &'a str;
 
-    ghost allows = { λ bytes. IsUtf8 bytes };
+    ghost allows = { IsUtf8 };
 
     ghost fits = { λ _. true };
 
@@ -53,31 +105,15 @@ impl<'a> FromLine<'a, Vec<StrContent>> for StrContent {
 
     ghost allows_nothing = { IsUtf8-nil };
 
-    fn from_line(line: &'a [u8]) -> Option<&'a str> {
-        Some(unsafe { str::from_utf8_unchecked(line) })
+    fn line_of(line: &'a [u8]) -> Option<&'a str> {
+        Some(Utf8::<M>::form_of(line))
     }
 }
 
-impl<'a> FromLine<'a, Vec<OsStrContent>> for OsStrContent {
-    type Line = &'a str;
-
-    ghost allows = { λ bytes. IsUtf8 bytes };
-
-    ghost fits = { λ _. true };
-
-    ghost allows_parts = { λ line rest text. IsUtf8-parts line rest text };
-
-    ghost allows_nothing = { IsUtf8-nil };
-
-    fn from_line(line: &'a [u8]) -> Option<&'a str> {
-        Some(unsafe { str::from_utf8_unchecked(line) })
-    }
-}
-
-impl<'a> FromLine<'a, Vec<PathContent>> for PathContent {
+impl<'a> LineKind<'a> for PathKind {
     type Line = Path<'a>;
 
-    ghost allows = { λ bytes. IsUtf8 bytes };
+    ghost allows = { IsUtf8 };
 
     ghost fits = { λ _. true };
 
@@ -85,12 +121,12 @@ impl<'a> FromLine<'a, Vec<PathContent>> for PathContent {
 
     ghost allows_nothing = { IsUtf8-nil };
 
-    fn from_line(line: &'a [u8]) -> Option<Path<'a>> {
-        Some(Path::new(unsafe { str::from_utf8_unchecked(line) }))
+    fn line_of(line: &'a [u8]) -> Option<Path<'a>> {
+        Some(PathKind::form_of(line))
     }
 }
 
-impl<'a> FromLine<'a, Vec<BytesContent>> for BytesContent {
+impl<'a> LineKind<'a> for BytesKind {
     type Line = &'a [u8];
 
     ghost allows = { λ _. Unit {0} };
@@ -101,12 +137,12 @@ impl<'a> FromLine<'a, Vec<BytesContent>> for BytesContent {
 
     ghost allows_nothing = { tt };
 
-    fn from_line(line: &'a [u8]) -> Option<&'a [u8]> {
+    fn line_of(line: &'a [u8]) -> Option<&'a [u8]> {
         Some(line)
     }
 }
 
-impl<'a> FromLine<'a, Vec<BStrContent>> for BStrContent {
+impl<'a> LineKind<'a> for BStrKind {
     type Line = BStr<'a>;
 
     ghost allows = { λ _. Unit {0} };
@@ -117,16 +153,28 @@ impl<'a> FromLine<'a, Vec<BStrContent>> for BStrContent {
 
     ghost allows_nothing = { tt };
 
-    fn from_line(line: &'a [u8]) -> Option<BStr<'a>> {
+    fn line_of(line: &'a [u8]) -> Option<BStr<'a>> {
         Some(BStr::new(line))
     }
 }
 
-// The position of the first zero byte, if there is one.
-fn first_zero(bytes: &[u8]) -> Option<usize>
-    ensures { result ≡ first_zero bytes.now }
-{
-    bytes.iter().position(|byte| *byte == 0)
+impl<'a> LineKind<'a> for CStrKind {
+    type Line = Unended<'a>;
+
+    ghost allows = { λ _. Unit {0} };
+
+    ghost fits = { λ line. is_none (first_zero line) };
+
+    ghost allows_parts = { λ _ _ _. (tt, tt) };
+
+    ghost allows_nothing = { tt };
+
+    fn line_of(line: &'a [u8]) -> Option<Unended<'a>> {
+        match first_zero(line) {
+            Some(_) => None,
+            None => Some(Unended { bytes: line }),
+        }
+    }
 }
 
 /// A line without a zero byte: a C string without its final zero.
@@ -140,39 +188,22 @@ impl<'a> Keyed for Unended<'a> {
     ghost key = { λ line. line.bytes.now ∷ [] };
 }
 
-impl<'a> Bytewise for Unended<'a> {
-    fn compared_bytes(&self) -> &[u8] {
+impl<'a> Spells<CStrKind> for Unended<'a> {
+    ghost spelled = { λ line. line.bytes.now };
+
+    #[inline(always)]
+    fn spelled_bytes(&self) -> &[u8] {
         self.bytes
     }
 }
 
-impl<'a> ToContent<CStrContent> for Unended<'a> {
-    ghost form_spelling = { λ line. line.bytes.now };
-
-    fn to_content(&self, alloc: Global) -> Result<CStrContent, AllocError> {
-        let mut bytes = Vec::with_capacity(alloc, self.bytes.len() + 1)?;
-        bytes.extend_from_slice(self.bytes)?;
-        Ok(CStrContent::Owned(CString::new(alloc, bytes).unwrap()))
-    }
-
-    ghost key_of_form = { λ _. refl };
+impl<'a> Packable<CStrKind> for Unended<'a> {
+    ghost key_of_spelled = { λ _. refl };
 }
 
-impl<'a> FromLine<'a, Vec<CStrContent>> for CStrContent {
-    type Line = Unended<'a>;
-
-    ghost allows = { λ _. Unit {0} };
-
-    ghost fits = { λ line. is_none (first_zero line) };
-
-    ghost allows_parts = { λ _ _ _. (tt, tt) };
-
-    ghost allows_nothing = { tt };
-
-    fn from_line(line: &'a [u8]) -> Option<Unended<'a>> {
-        match first_zero(line) {
-            Some(_) => None,
-            None => Some(Unended { bytes: line }),
-        }
-    }
+// The position of the first zero byte, if there is one.
+fn first_zero(bytes: &[u8]) -> Option<usize>
+    ensures { result ≡ first_zero bytes.now }
+{
+    bytes.iter().position(|byte| *byte == 0)
 }

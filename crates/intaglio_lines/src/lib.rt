@@ -10,6 +10,7 @@ pub mod from_line;
 pub mod intern_lines;
 pub mod kind;
 pub mod lines;
+pub mod named;
 pub mod read;
 pub mod tool_error;
 pub mod write;

@@ -1,6 +1,8 @@
-//! The first line of an input.
+//! The first line of an input, and where it ends.
 ghost use Rattle.std.specs.Prelude.{◌≡◌, ◌<◌, ◌==◌, ◌∷◌, length, position, IfSome};
 ghost use Rattle.intaglio_lines.specs.Lines.{lines_of, Splits};
+
+use memchr::memchr;
 
 /// The first line of an input, and what follows it and its byte 10.
 pub fn first_line(input: &[u8]) -> (&[u8], &[u8])
@@ -15,10 +17,10 @@ pub fn first_line(input: &[u8]) -> (&[u8], &[u8])
     }
 }
 
-// The position of the first byte 10.
-fn end_of_line(input: &[u8]) -> Option<usize>
+/// The position of the first byte 10.
+pub fn end_of_line(input: &[u8]) -> Option<usize>
     ensures place { result ≡ position (λ b. b == 10) input.now }
     ensures bound { IfSome result (λ end. end < length input.now) }
 {
-    input.iter().position(|b| *b == b'\n')
+    memchr(b'\n', input)
 }

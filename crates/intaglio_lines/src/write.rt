@@ -1,15 +1,15 @@
 //! Writes outputs through a block of fixed size.
-ghost use Rattle.std.specs.Prelude.{◌≡◌, ◌≢◌, ◌+◌, ◌≤◌, ◌⊎◌, ℕ, List, [], OnOk, IfErr, vec_len, vec_capacity};
+ghost use Rattle.std.specs.Prelude.{◌≡◌, ◌≢◌, ◌+◌, ◌≤◌, ◌⊎◌, ◌++◌, ℕ, List, [], OnOk, OnErr, IfOk, IfErr, length, take, vec_len, vec_capacity};
 ghost use Rattle.std.specs.Io.KnownBytes.{Keeps};
 ghost use Rattle.intaglio_lines.specs.Output.{spelling_line};
-ghost use Rattle.intaglio_lines.specs.Puts.{Puts, Writes, held};
+ghost use Rattle.intaglio_lines.specs.Puts.{Puts, Writes, WritesFront, held};
 ghost use Rattle.intaglio_lines.specs.StreamError.{IsWritingError};
 ghost use Rattle.intaglio_lines.specs.declared.error.StreamError.TheVariants.{Write as WriteFailed};
 
 use crate::error::StreamError;
 use std::alloc::Global;
 use std::io;
-use std::io::Write;
+use std::io::{ErrorKind, Write};
 
 // How many bytes are buffered before they are written.
 const BLOCK: usize = 64 * 1024;
@@ -73,8 +73,9 @@ fn write_through<O: Output, W: Write>(
 ///
 /// Those of the writer.
 pub fn put_line<W: Write>(line: &[u8], block: &mut Vec<u8>, writer: &mut W) -> io::Result<()>
-    ensures { OnOk result
+    ensures put { OnOk result
         (Puts W.contents writer.old block.old writer.new block.new (spelling_line line.now)) }
+    ensures front { WritesFront W.contents writer.old writer.new (block.old.items ++ spelling_line line.now) }
 {
     put(line, block, writer)?;
     put(b"\n", block, writer)
@@ -87,11 +88,12 @@ pub fn put_line<W: Write>(line: &[u8], block: &mut Vec<u8>, writer: &mut W) -> i
 ///
 /// Those of the writer.
 pub fn put<W: Write>(piece: &[u8], block: &mut Vec<u8>, writer: &mut W) -> io::Result<()>
-    ensures { OnOk result (Puts W.contents writer.old block.old writer.new block.new piece.now) }
+    ensures put { OnOk result (Puts W.contents writer.old block.old writer.new block.new piece.now) }
+    ensures front { WritesFront W.contents writer.old writer.new (block.old.items ++ piece.now) }
 {
     make_room(piece.len(), block, writer)?;
     if piece.len() > block.capacity() - block.len() {
-        return writer.write_all(piece);
+        return write_bytes(piece, writer);
     }
     block.extend_from_slice(piece).unwrap();
     Ok(())
@@ -108,10 +110,50 @@ pub fn make_room<W: Write>(count: usize, block: &mut Vec<u8>, writer: &mut W) ->
         (Keeps (held W.contents writer.old block.old) (held W.contents writer.new block.new)) }
     ensures room { OnOk result
         ((block.new.items ≡ []) ⊎ (vec_len block.new + count ≤ vec_capacity block.new)) }
+    ensures front { WritesFront W.contents writer.old writer.new block.old.items }
 {
     if count > block.capacity() - block.len() {
-        writer.write_all(block)?;
+        write_bytes(block, writer)?;
         block.clear();
     }
     Ok(())
+}
+
+/// Writes all bytes, and repeats writes that were interrupted.
+///
+/// # Errors
+///
+/// Those of the writer, or `WriteZero` if it takes no more bytes. Then the front of the bytes is written, up to
+/// where it failed.
+pub fn write_bytes<W: Write>(bytes: &[u8], writer: &mut W) -> io::Result<()>
+    ensures written { OnOk result (Writes W.contents writer.old writer.new bytes.now) }
+    ensures front { WritesFront W.contents writer.old writer.new bytes.now }
+{
+    let mut at = 0;
+    for _ in 0..u64::MAX {
+        if at == bytes.len() {
+            return Ok(());
+        }
+        at += write_some(&bytes[at..], writer)?;
+    }
+    Err(io::Error::from(ErrorKind::Interrupted))
+}
+
+// Writes some bytes, and returns how many: none if the write was interrupted.
+fn write_some<W: Write>(bytes: &[u8], writer: &mut W) -> io::Result<usize>
+    ensures within { IfOk result (λ n. n ≤ length bytes.now) }
+    ensures written { IfOk result (λ n. Writes W.contents writer.old writer.new (take n bytes.now)) }
+    ensures kept { OnErr result (Keeps (W.contents writer.old) (W.contents writer.new)) }
+{
+    match writer.write(bytes) {
+        Ok(0) => Err(io::Error::from(ErrorKind::WriteZero)),
+        Ok(count) => Ok(count),
+        Err(e) => {
+            if e.kind() == ErrorKind::Interrupted {
+                Ok(0)
+            } else {
+                Err(e)
+            }
+        }
+    }
 }

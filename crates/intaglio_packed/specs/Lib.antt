@@ -1,4 +1,5 @@
 -- What the contracts of this crate cite.
 pub mod Strings
 pub mod EndList
+pub mod Growth
 pub mod Buckets

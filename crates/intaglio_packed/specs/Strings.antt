@@ -2,20 +2,22 @@
 use Rattle.std.specs.Prelude.{◌≡◌, ℕ, ◌+◌, ◌<◌, ◌≤◌, List, [], ◌∷◌, length, refl, slice_range, sum_by}
 use Rattle.std.specs.Coded.{Coded, code_by, coded×, coded_ℕ, coded_list}
 
--- the strings, for how many there is room in total, and the room for further bytes
+-- the strings, for how many there is room in total, the room for further bytes, and how many bytes of memory are held
+-- for the strings' bytes
 pub record Strings : Type 0 where
   pub list : List (List ℕ)
   pub most : ℕ
   pub spare_bytes : ℕ
+  pub held_bytes : ℕ
 
 -- it is stored as the tuple of its fields
 abbrev pub strings_code : Coded Strings
 strings_code =
     code_by
-    (List (List ℕ) × (ℕ × ℕ))
-    (coded× (coded_list (coded_list coded_ℕ)) (coded× coded_ℕ coded_ℕ))
-    (λ v. (v.list, (v.most, v.spare_bytes)))
-    (λ p. record { list = p.0; most = p.1.0; spare_bytes = p.1.1 })
+    (List (List ℕ) × (ℕ × (ℕ × ℕ)))
+    (coded× (coded_list (coded_list coded_ℕ)) (coded× coded_ℕ (coded× coded_ℕ coded_ℕ)))
+    (λ v. (v.list, (v.most, (v.spare_bytes, v.held_bytes))))
+    (λ p. record { list = p.0; most = p.1.0; spare_bytes = p.1.1.0; held_bytes = p.1.1.1 })
     (λ _. refl)
 
 -- the strings between a beginning and the ends, which follow each other in the bytes
@@ -33,6 +35,10 @@ pub record HasRoom (n : ℕ) (v : Strings) : Type 0 where
   pub string : length v.list < v.most
   pub bytes : n ≤ v.spare_bytes
 
+-- the number of bytes of all strings
+abbrev pub byte_count_of : Strings → ℕ
+byte_count_of v = sum_by length v.list
+
 -- the room for bytes in total: that of the strings, and what is spare
 abbrev pub byte_room_of : Strings → ℕ
-byte_room_of v = sum_by length v.list + v.spare_bytes
+byte_room_of v = byte_count_of v + v.spare_bytes

@@ -1,8 +1,10 @@
 //! Where the strings of a packed list end.
-ghost use Rattle.std.specs.Prelude.{◌≡◌, ◌+◌, ◌<◌, ◌≤◌, [], ◌∷◌, ◌++◌, length, max, min, take, get_or, true, false};
+ghost use Rattle.std.specs.Prelude.{◌≡◌, ◌⊎◌, ◌+◌, ◌<◌, ◌≤◌, [], ◌∷◌, ◌++◌, length, max, min, take, get_or, true, false};
 ghost use Rattle.std.specs.Prelude.{IfOk, IsOk, OnOk, OnErr};
 ghost use Rattle.intaglio_packed.specs.EndList.{largest_end};
+ghost use Rattle.intaglio_packed.specs.Growth.{Doubles};
 
+use crate::growth::reserve_doubling;
 use std::alloc::{AllocError, Global};
 use std::marker::Model;
 
@@ -96,7 +98,8 @@ impl StringEnds {
     /// The largest number that an end can be.
     #[inline(always)]
     pub fn largest(&self) -> usize
-        ensures { result ≡ self.now.largest }
+        ensures largest { result ≡ self.now.largest }
+        ensures short_or_long { (result ≡ largest_end false) ⊎ (result ≡ largest_end true) }
     {
         if self.is_long {
             usize::MAX
@@ -126,7 +129,7 @@ impl StringEnds {
         self.short[i] as usize
     }
 
-    /// Makes room for this many more ends.
+    /// Makes room for this many more ends. If the list has to grow, its room at least doubles.
     ///
     /// # Errors
     ///
@@ -135,14 +138,15 @@ impl StringEnds {
         ensures list { self.new.list ≡ self.old.list }
         ensures largest { self.new.largest ≡ self.old.largest }
         ensures most { self.old.most ≤ self.new.most }
+        ensures grows { Doubles (length self.old.list + additional) self.old.most self.new.most }
         ensures free { OnOk result (length self.new.list + additional ≤ self.new.most) }
         ensures err { OnErr result (self.new.most ≡ self.old.most) }
         ensures none_needed { length self.old.list + additional ≤ self.old.most → IsOk result }
     {
         if self.is_long {
-            self.long.reserve(additional)
+            reserve_doubling(&mut self.long, additional)
         } else {
-            self.short.reserve(additional)
+            reserve_doubling(&mut self.short, additional)
         }
     }
 

@@ -7,8 +7,10 @@
 
 mod buckets;
 mod end_list;
+mod growth;
 mod string_buffer;
 
 pub use buckets::sparse_buckets;
 pub use end_list::StringEnds;
+pub use growth::reserve_doubling;
 pub use string_buffer::StringBuffer;

@@ -1,7 +1,8 @@
 //! A list of strings in one buffer of bytes, with a list of their ends.
 ghost use Rattle.std.specs.Prelude.{◌≡◌, ◌+◌, ◌<◌, ◌≤◌, [], ◌∷◌, ◌++◌, length, max, min, sum_by, take, slice_get, slice_range, get_or, Some};
 ghost use Rattle.std.specs.Prelude.{IfOk, IsOk, OnOk, OnErr, option_copied};
-ghost use Rattle.intaglio_packed.specs.Strings.{byte_room_of, HasRoom};
+ghost use Rattle.intaglio_packed.specs.Growth.{Doubles, DoublesBytes};
+ghost use Rattle.intaglio_packed.specs.Strings.{byte_count_of, byte_room_of, HasRoom};
 
 use crate::end_list::StringEnds;
 use std::alloc::{AllocError, Global};
@@ -10,17 +11,24 @@ use std::marker::Model;
 // The most bytes that short ends reach.
 const SHORT_BYTES: usize = u32::MAX as usize;
 
+// The least room for bytes after a growth.
+const LEAST_BYTES: usize = 8;
+
 /// A list of strings of bytes. All bytes are in one buffer, so a string costs no allocation of its own.
 ///
-/// A contract sees the list of the strings, and the room for further strings and for further bytes.
+/// A contract sees the list of the strings, the room for further strings and for further bytes, and the
+/// memory that is held for bytes.
 #[derive(Drop)]
 pub struct StringBuffer {
     bytes: Vec<u8>,
+    // For how many bytes there is room in total, within the capacity of `bytes`. It is kept, since no clause
+    // of `extend_from_slice` says that the capacity stays where there is room.
+    room: usize,
     ends: StringEnds,
 }
 
 impl Model for StringBuffer {
-    ghost use Rattle.std.specs.Prelude.{◌-◌, ◌≤◌, length, min, vec_capacity};
+    ghost use Rattle.std.specs.Prelude.{◌-◌, ◌≤◌, length, vec_capacity};
     ghost use Rattle.intaglio_packed.specs.Strings.{Strings, strings_code, strings_from, AreEnds};
 
     ghost Value = { Strings };
@@ -30,21 +38,27 @@ impl Model for StringBuffer {
     ghost view = { λ p. record {
       list = strings_from 0 p.bytes.items p.ends.list;
       most = p.ends.most;
-      spare_bytes = min (vec_capacity p.bytes) p.ends.largest - length p.bytes.items;
+      spare_bytes = p.room - length p.bytes.items;
+      held_bytes = vec_capacity p.bytes;
     } };
 
-    ghost invariant = { λ p.
-        AreEnds 0 (length p.bytes.items) p.ends.list × (length p.bytes.items ≤ p.ends.largest) };
+    ghost invariant = { λ p. record {
+      ends : AreEnds 0 (length p.bytes.items) p.ends.list;
+      within : length p.bytes.items ≤ p.room;
+      held : p.room ≤ vec_capacity p.bytes;
+      reached : p.room ≤ p.ends.largest;
+    } };
 }
 
 #[tactic(auto, using(crate::proofs::Ends::strings_length))]
 impl StringBuffer {
     /// An empty list, which allocates nothing.
     pub fn new(alloc: Global) -> StringBuffer
-        ensures { result ≡ record { list = []; most = 0; spare_bytes = 0 } }
+        ensures { result ≡ record { list = []; most = 0; spare_bytes = 0; held_bytes = 0 } }
     {
         StringBuffer {
             bytes: Vec::new(alloc),
+            room: 0,
             ends: StringEnds::new(alloc),
         }
     }
@@ -60,12 +74,14 @@ impl StringBuffer {
         strings: usize,
         bytes: usize,
     ) -> Result<StringBuffer, AllocError>
-        ensures made { IfOk result (λ p. p ≡ record { list = []; most = strings; spare_bytes = bytes }) }
+        ensures made { IfOk result (λ p.
+            p ≡ record { list = []; most = strings; spare_bytes = bytes; held_bytes = bytes }) }
         ensures none_needed { strings ≡ 0 → bytes ≡ 0 → IsOk result }
     {
         let ends = StringEnds::with_capacity(alloc, strings, bytes > SHORT_BYTES)?;
-        let bytes = Vec::with_capacity(alloc, bytes)?;
-        Ok(StringBuffer { bytes, ends })
+        let room = bytes;
+        let bytes = Vec::with_capacity(alloc, room)?;
+        Ok(StringBuffer { bytes, room, ends })
     }
 
     /// The allocator of the list.
@@ -95,6 +111,13 @@ impl StringBuffer {
         self.bytes.len()
     }
 
+    /// For how many bytes it holds memory: at least those of all strings and the spare ones.
+    pub fn held_bytes(&self) -> usize
+        ensures { result ≡ self.now.held_bytes }
+    {
+        self.bytes.capacity()
+    }
+
     /// A string.
     pub fn get(&self, i: usize) -> Option<&[u8]>
         ensures { option_copied result ≡ slice_get self.now.list i }
@@ -118,7 +141,7 @@ impl StringBuffer {
         part(&self.bytes, start, end)
     }
 
-    /// Makes room for this many more bytes.
+    /// Makes room for this many more bytes. If the buffer has to grow, its room at least doubles.
     ///
     /// # Errors
     ///
@@ -128,31 +151,48 @@ impl StringBuffer {
         ensures most { self.new.most ≡ self.old.most }
         ensures spare_bytes { self.old.spare_bytes ≤ self.new.spare_bytes }
         ensures bytes { OnOk result (bytes ≤ self.new.spare_bytes) }
+        ensures grows { let needed = byte_count_of self.old + bytes in
+            DoublesBytes needed (byte_room_of self.old) (byte_room_of self.new) }
         ensures err { OnErr result (self.new.spare_bytes ≡ self.old.spare_bytes) }
         ensures none_needed { bytes ≤ self.old.spare_bytes → IsOk result }
     {
-        if bytes <= self.ends.largest() - self.bytes.len() {
-            return self.bytes.reserve(bytes);
+        if bytes <= self.room - self.bytes.len() {
+            return Ok(());
         }
-        self.reserve_with_long_ends(bytes)
+        self.grow_bytes(bytes)
     }
 
-    // Makes room for more bytes than the ends can reach. Apart from `reserve_bytes`, so that that is short.
+    // Makes room for more bytes than are spare. Apart from `reserve_bytes`, so that that is short.
+    #[cold]
     #[inline(never)]
-    fn reserve_with_long_ends(&mut self, bytes: usize) -> Result<(), AllocError>
+    fn grow_bytes(&mut self, bytes: usize) -> Result<(), AllocError>
         requires { self.old.spare_bytes < bytes }
         ensures list { self.new.list ≡ self.old.list }
         ensures most { self.new.most ≡ self.old.most }
         ensures bytes { OnOk result (bytes ≤ self.new.spare_bytes) }
+        ensures grows { let needed = byte_count_of self.old + bytes in
+            DoublesBytes needed (byte_room_of self.old) (byte_room_of self.new) }
         ensures err { OnErr result (self.new.spare_bytes ≡ self.old.spare_bytes) }
     {
-        let long = self.ends.to_long(*self.bytes.allocator())?;
-        self.bytes.reserve(bytes)?;
-        self.ends = long;
+        let Some(needed) = self.bytes.len().checked_add(bytes) else {
+            return Err(AllocError);
+        };
+        let doubled = needed.max(2 * self.room).max(LEAST_BYTES);
+        if needed > self.ends.largest() {
+            let long = self.ends.to_long(*self.bytes.allocator())?;
+            self.bytes.reserve_exact(doubled - self.bytes.len())?;
+            self.ends = long;
+            self.room = doubled;
+            return Ok(());
+        }
+        let room = doubled.min(self.ends.largest());
+        self.bytes.reserve_exact(room - self.bytes.len())?;
+        self.room = room;
         Ok(())
     }
 
-    /// Makes room for this many more strings, not for their bytes.
+    /// Makes room for this many more strings, not for their bytes. If the list of ends has to grow, its room
+    /// at least doubles.
     ///
     /// # Errors
     ///
@@ -161,6 +201,7 @@ impl StringBuffer {
         ensures list { self.new.list ≡ self.old.list }
         ensures most { self.old.most ≤ self.new.most }
         ensures spare_bytes { self.new.spare_bytes ≡ self.old.spare_bytes }
+        ensures grows { Doubles (length self.old.list + strings) self.old.most self.new.most }
         ensures strings { OnOk result (length self.new.list + strings ≤ self.new.most) }
         ensures err { OnErr result (self.new.most ≡ self.old.most) }
         ensures none_needed { length self.old.list + strings ≤ self.old.most → IsOk result }
@@ -173,7 +214,8 @@ impl StringBuffer {
         requires { HasRoom (length string.now) self.old }
         ensures list { self.new.list ≡ self.old.list ++ string.now ∷ [] }
         ensures most { self.new.most ≡ self.old.most }
-        ensures spare_bytes { self.old.spare_bytes ≤ self.new.spare_bytes + length string.now }
+        ensures spare_bytes { self.old.spare_bytes ≡ self.new.spare_bytes + length string.now }
+        ensures byte_room { byte_room_of self.new ≡ byte_room_of self.old }
     {
         self.bytes.extend_from_slice(string).unwrap();
         self.ends.push_reserved(self.bytes.len());
@@ -204,12 +246,15 @@ impl StringBuffer {
         ensures most { min min_capacity self.old.most ≤ self.new.most }
         ensures no_more { self.new.most ≤ self.old.most }
         ensures no_more_bytes { self.new.spare_bytes ≤ self.old.spare_bytes }
+        ensures no_more_held { self.new.held_bytes ≤ self.old.held_bytes }
         ensures shrunk { OnOk result (self.new.most ≤ max (length self.old.list) min_capacity) }
         ensures shrunk_bytes { OnOk result (self.new.spare_bytes ≡ 0) }
+        ensures shrunk_held { OnOk result (self.new.held_bytes ≡ byte_count_of self.old) }
         ensures frees { length self.old.list ≡ 0 → min_capacity ≡ 0 → self.new.most ≡ 0 }
         ensures frees_bytes { length self.old.list ≡ 0 → self.new.spare_bytes ≡ 0 }
     {
         self.bytes.shrink_to_fit();
+        self.room = self.room.min(self.bytes.capacity());
         self.ends.shrink_to(min_capacity);
         // Std's shrinks don't report a failed allocation.
         let exact = self.bytes.capacity() == self.bytes.len();

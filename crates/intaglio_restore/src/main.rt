@@ -6,13 +6,20 @@ ghost use Rattle.intaglio_lines.specs.declared.error.StreamError.TheVariants.{Me
 
 use intaglio_decode::serve::serve;
 use intaglio_lines::error::{StreamError, report};
+use intaglio_lines::named::{MAX_NAME, Named, program_name};
 use std::env;
 use std::io::ErrorKind;
 use std::process::ExitCode;
 use std::rt::Env;
 
 fn main(rt: HostRuntime) -> ExitCode {
-    let (mut input, mut output, mut errors) = (rt.stdin(), rt.stdout(), rt.stderr());
+    let mut bytes = [0; MAX_NAME];
+    let name = program_name(&rt, "intaglio_restore", &mut bytes);
+    let (mut input, mut output, mut errors) = (
+        rt.stdin(),
+        rt.stdout(),
+        Named::new(rt.stderr(), name),
+    );
     let status = match has_arguments(&rt) {
         Ok(has_arguments) => serve(
             rt.alloc(),

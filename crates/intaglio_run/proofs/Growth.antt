@@ -71,7 +71,7 @@ module _ {C : Type 0} (key : C → Key) (hash : Key → ℕ) where
   grown : (old next : State C) (adds : List C → List C → Type 0) (i p g : ℕ) → length next.contents ≡ length old.contents + 1 → IsAdded adds old i next → next.buckets ≢ old.buckets → p ≡ length old.contents + 1 → Holds old g → Goes old next p g
   grown old next adds i p g size taken more placements h =
       let full : length old.contents ≡ old.buckets = (taken.growth more).0 in
-      let double : min old.limit (max 4 (2 * old.buckets)) ≤ next.buckets = (taken.growth more).1 in
+      let double : next.buckets ≡ min old.limit (max 4 (2 * old.buckets)) = (taken.growth more).1 in
       let few : g ≤ old.buckets = h.below (omega (arith, taken.below_limit)) in
       let same : next.limit ≡ old.limit = taken.limit in
       record { later = g + length old.contents; holds = record { below = λ lt. omega arith; twice = omega arith }; spent = omega arith }
@@ -80,7 +80,7 @@ module _ {C : Type 0} (key : C → Key) (hash : Key → ℕ) where
   added old next adds i g k now size taken cost h =
       let parts : placed_count now ≡ placed_count cost.search + placed_count cost.growth + 1 =
       rw (cost.parts, placed_count-append (cost.search ++ cost.growth) (placed ∷ []), placed_count-append cost.search cost.growth) (omega arith) in
-      let none : placed_count cost.search ≡ 0 = cost.searches.placements in
+      let none : placed_count cost.search ≡ 0 = cost.searches.0.placements in
       elim (cases_eq next.buckets old.buckets) [
         | inl same ↦
             let nothing : placed_count cost.growth ≡ 0 = rw (cost.grows.only_growth same) refl in
@@ -107,8 +107,8 @@ module _ {C : Type 0} (key : C → Key) (hash : Key → ℕ) where
   added-hashes : (o : Option ℕ) (old next : State C) (k : Key) (now : List Event)
       → MatchOption o (IsAddingCost key hash old k next now) (λ _. SearchCost key hash old k now) → hashed_keys now ≡ k ∷ []
   added-hashes None old next k now cost =
-      rw (cost.parts, hashed_keys-append (cost.search ++ cost.growth) (placed ∷ []), hashed_keys-append cost.search cost.growth, cost.searches.hashings, cost.grows.hashings) refl
-  added-hashes (Some j) old next k now cost = cost.hashings
+      rw (cost.parts, hashed_keys-append (cost.search ++ cost.growth) (placed ∷ []), hashed_keys-append cost.search cost.growth, cost.searches.0.hashings, cost.grows.hashings) refl
+  added-hashes (Some j) old next k now cost = cost.0.hashings
 
 module _ {C Q : Type 0} (key : C → Key) (value_key : Q → Key) (spelling : C → List ℕ) (adds : Q → List C → List C → Type 0) (copies : Bool) (one : (q : Q) (a b : List C) → adds q a b → IsAddedOne key (value_key q) a b) (hash : Key → ℕ) where
   longer : (q : Q) (old next : State C) (i : ℕ) → IsAdded (adds q) old i next → length next.contents ≡ length old.contents + 1
@@ -118,7 +118,7 @@ module _ {C Q : Type 0} (key : C → Key) (value_key : Q → Key) (spelling : C 
       → MatchOption o (IsAdded (adds q) old i next) (λ j. (◌≡◌ {A = Result ℕ InternError} (Ok i) (Ok j)) × (next ≡ old))
       → MatchOption o (IsAddingCost key hash old (value_key q) next now) (λ _. SearchCost key hash old (value_key q) now) → Holds old g → Goes old next (placed_count now) g
   answered None old next q i g now taken cost h = added key hash old next (adds q) i g (value_key q) now (longer q old next i taken) taken cost h
-  answered (Some j) old next q i g now found cost h = unchanged key hash old next (placed_count now) g found.1 cost.placements h
+  answered (Some j) old next q i g now found cost h = unchanged key hash old next (placed_count now) g found.1 cost.0.placements h
 
   refused : (o : Option ℕ) (old next : State C) (p g : ℕ) (B : ℕ → Type 0) → MatchOption o (IsOutOfMemory copies old next) (λ j. B j × (next ≡ old)) → p ≡ 0 → Holds old g → Goes old next p g
   refused None old next p g B h none holds = no_memory key hash copies old next p g h none holds
@@ -126,16 +126,16 @@ module _ {C Q : Type 0} (key : C → Key) (value_key : Q → Key) (spelling : C 
 
   intern-goes : (old next : State C) (q : Q) (r : Reply) (now : List Event) (g : ℕ) → Step key value_key spelling adds copies old (Intern q) r next → StepCost key value_key hash old (Intern q) r next now → Holds old g → Goes old next (placed_count now) g
   intern-goes old next q (reply.Symbol (Some i)) now g made cost h = answered (first key old.contents (value_key q)) old next q i g now made cost h
-  intern-goes old next q reply.Overflow now g made cost h = unchanged key hash old next (placed_count now) g (same-state key hash (first key old.contents (value_key q)) old next _ _ (made (record { private = tt }))) cost.placements h
-  intern-goes old next q reply.NoMemory now g made cost h = refused (first key old.contents (value_key q)) old next (placed_count now) g _ made cost.placements h
+  intern-goes old next q reply.Overflow now g made cost h = unchanged key hash old next (placed_count now) g (same-state key hash (first key old.contents (value_key q)) old next _ _ (made (record { private = tt }))) cost.0.placements h
+  intern-goes old next q reply.NoMemory now g made cost h = refused (first key old.contents (value_key q)) old next (placed_count now) g _ made cost.0.placements h
   intern-goes old next q _ now g made cost h = absurd made
 
   -- an interning or a look-up
   call-goes : (old next : State C) (call : Call Q) (r : Reply) (now : List Event) (g : ℕ) → KeepsContents call → Step key value_key spelling adds copies old call r next → StepCost key value_key hash old call r next now → Holds old g → Goes old next (placed_count now) g
   call-goes old next (Intern q) r now g kept made cost h = intern-goes old next q r now g made cost h
-  call-goes old next (Check q) r now g kept made cost h = unchanged key hash old next (placed_count now) g (check-same key value_key spelling adds copies old next q r made) cost.placements h
-  call-goes old next (GetInterned q) r now g kept made cost h = unchanged key hash old next (placed_count now) g made.1 cost.placements h
-  call-goes old next (IsInterned q) r now g kept made cost h = unchanged key hash old next (placed_count now) g (is_interned-same key value_key spelling adds copies old next q r made) cost.placements h
+  call-goes old next (Check q) r now g kept made cost h = unchanged key hash old next (placed_count now) g (check-same key value_key spelling adds copies old next q r made) cost.0.placements h
+  call-goes old next (GetInterned q) r now g kept made cost h = unchanged key hash old next (placed_count now) g made.1 cost.0.placements h
+  call-goes old next (IsInterned q) r now g kept made cost h = unchanged key hash old next (placed_count now) g (is_interned-same key value_key spelling adds copies old next q r made) cost.0.placements h
   call-goes old next (Contains s) r now g kept made cost h = unchanged key hash old next (placed_count now) g (contains-same key value_key spelling adds copies old next s r made) (rw cost refl) h
   call-goes old next (Get s) r now g kept made cost h = unchanged key hash old next (placed_count now) g made.1 (rw cost refl) h
   call-goes old next Len r now g kept made cost h = unchanged key hash old next (placed_count now) g (len-same key value_key spelling adds copies old next r made) (rw cost refl) h
@@ -149,14 +149,14 @@ module _ {C Q : Type 0} (key : C → Key) (value_key : Q → Key) (spelling : C 
 
   intern-hashes : (old next : State C) (q : Q) (r : Reply) (now : List Event) → StepCost key value_key hash old (Intern q) r next now → hashed_keys now ≡ value_key q ∷ []
   intern-hashes old next q (reply.Symbol (Some i)) now cost = added-hashes key hash (first key old.contents (value_key q)) old next (value_key q) now cost
-  intern-hashes old next q _ now cost = cost.hashings
+  intern-hashes old next q _ now cost = cost.0.hashings
 
   -- a call hashes the key that it looks for
   step-hashes : (old next : State C) (call : Call Q) (r : Reply) (now : List Event) (calls : List (Call Q)) → StepCost key value_key hash old call r next now → hashed_keys now ++ searched_keys value_key calls ≡ searched_keys value_key (call ∷ calls)
   step-hashes old next (Intern q) r now calls cost = rw (intern-hashes old next q r now cost) refl
-  step-hashes old next (Check q) r now calls cost = rw cost.hashings refl
-  step-hashes old next (GetInterned q) r now calls cost = rw cost.hashings refl
-  step-hashes old next (IsInterned q) r now calls cost = rw cost.hashings refl
+  step-hashes old next (Check q) r now calls cost = rw cost.0.hashings refl
+  step-hashes old next (GetInterned q) r now calls cost = rw cost.0.hashings refl
+  step-hashes old next (IsInterned q) r now calls cost = rw cost.0.hashings refl
   step-hashes old next (Reserve n) r now calls cost = rw cost.hashings refl
   step-hashes old next (ShrinkTo n) r now calls cost = rw cost.hashings refl
   step-hashes old next ShrinkToFit r now calls cost = rw cost.hashings refl

@@ -4,4 +4,5 @@ pub mod Issue
 pub mod Growth
 pub mod Room
 pub mod Bytes
+pub mod Growths
 pub mod Alike

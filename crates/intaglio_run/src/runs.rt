@@ -1,6 +1,6 @@
 //! A list of calls, made in order on any table.
-ghost use Rattle.std.specs.Prelude.{◌≡◌, ◌≢◌, ◌<◌, ◌≤◌, [], option_copied, slice_get, IfOk, IsOk, OnOk, OnErr};
-ghost use Rattle.intaglio_content.specs.Store.{byte_room};
+ghost use Rattle.std.specs.Prelude.{◌≡◌, ◌≢◌, ◌+◌, ◌<◌, ◌≤◌, [], length, option_copied, slice_get, IfOk, IsOk, OnOk, OnErr};
+ghost use Rattle.intaglio_content.specs.Store.{Doubles, byte_room};
 ghost use Rattle.intaglio_interner.specs.Bytes.{InternsBytes};
 ghost use Rattle.std.specs.Option.{option_map};
 ghost use Rattle.intaglio_interner.specs.State.{IsValid};
@@ -10,6 +10,7 @@ ghost use Rattle.intaglio_run.specs.Step.{Step, StepCost, found, RepliesPair, Re
 ghost use Rattle.intaglio_run.specs.Step.{RepliesReserved, RepliesShrunk, RepliesTakenBack};
 ghost use Rattle.intaglio_run.specs.Run.{RunsValues, HashesOnce, PlacesFew, HoldsRoom, HonoursRoom};
 ghost use Rattle.intaglio_run.specs.Run.{IssuesInOrder, KeepsRoom, HoldsBytes, HonoursFormRoom, UsesRoom};
+ghost use Rattle.intaglio_run.specs.Growths.{room, CallGrows, GrowsSeldom};
 
 use intaglio_content::{AddedTo, SoughtIn, SpelledStore, Work};
 use intaglio_interner::FormInterner;
@@ -112,6 +113,12 @@ where
     ensures byte_room { IfOk result (λ replies. HonoursFormRoom Q.needs Q.in_store (T.state table.old)
         (T.spare_bytes table.old) calls.items replies.items) }
 
+    // How often the room for contents and the room for bytes grew.
+    ensures growths { let steps = Step T.Content.key Q.key T.Content.spelling Q.adds Q.copies in
+        let old = room (T.state table.old) (T.most table.old) (T.spare_bytes table.old) in
+        let new = room (T.state table.new) (T.most table.new) (T.spare_bytes table.new) in
+        IfOk result (λ replies. GrowsSeldom T.Store.takes Q.needs steps old calls.items replies.items new) }
+
     // If the replies can't be allocated, no call is made.
     ensures err { OnErr result (T.state table.new ≡ T.state table.old) }
     ensures same_bytes { OnErr result (T.spare_bytes table.new ≡ T.spare_bytes table.old) }
@@ -142,6 +149,9 @@ where
         ≤ byte_room T.Store.takes (T.state table.new).contents (T.spare_bytes table.new) }
     ensures room { UsesRoom Q.needs Q.in_store (T.state table.old) (T.spare_bytes table.old) call result
         (T.spare_bytes table.new) }
+    ensures grows { let old = room (T.state table.old) (T.most table.old) (T.spare_bytes table.old) in
+        let new = room (T.state table.new) (T.most table.new) (T.spare_bytes table.new) in
+        CallGrows T.Store.takes Q.needs old call new }
     ensures same_hash { T.hash table.new ≡ T.hash table.old }
     ensures valid { IsValid T.Content.key (T.state table.new) }
 {
@@ -184,6 +194,7 @@ fn intern<H, T: FormInterner, Q: AddedTo<T::Store, H>>(
         interns (T.state table.old) (T.spare_bytes table.old) result (T.state table.new) (T.spare_bytes table.new) }
     ensures none_needed { 0 < (T.state table.old).spare → Q.in_store → Q.needs value ≤ T.spare_bytes table.old →
         IsNotMemory result }
+    ensures grows { Doubles (length (T.state table.old).contents + 1) (T.most table.old) (T.most table.new) }
     ensures same_hash { T.hash table.new ≡ T.hash table.old }
     ensures valid { IsValid T.Content.key (T.state table.new) }
 {
@@ -248,6 +259,7 @@ where
 // Reserves capacity for more contents.
 fn reserve<T: FormInterner>(table: &mut T, additional: usize, work: &mut Work) -> Reply
     ensures reply { RepliesReserved (T.state table.old) additional result (T.state table.new) }
+    ensures grows { Doubles (length (T.state table.old).contents + additional) (T.most table.old) (T.most table.new) }
     ensures bytes { T.spare_bytes table.new ≡ T.spare_bytes table.old }
     ensures cost { Costs work.old work.new (IsRoomCost (T.state table.old)) }
     ensures same_hash { T.hash table.new ≡ T.hash table.old }
@@ -276,6 +288,7 @@ fn shrink<T: FormInterner>(table: &mut T, min_capacity: usize, work: &mut Work) 
 // Drops the contents added after a mark.
 fn take_back<T: FormInterner>(table: &mut T, mark: Mark) -> Reply
     ensures reply { RepliesTakenBack (T.state table.old) mark result (T.state table.new) }
+    ensures most { T.most table.new ≡ T.most table.old }
     ensures byte_room { byte_room T.Store.takes (T.state table.new).contents (T.spare_bytes table.new)
         ≡ byte_room T.Store.takes (T.state table.old).contents (T.spare_bytes table.old) }
     ensures same_hash { T.hash table.new ≡ T.hash table.old }

@@ -1,114 +1,39 @@
-//! Texts as contents.
-ghost use Rattle.std.specs.Prelude.{◌≡◌, [], ◌∷◌, refl, IsUtf8};
-ghost use Rattle.intaglio_text.specs.StrContent.{str_content_bytes};
-ghost use Rattle.intaglio_text.specs.declared.content.StrContent.TheVariants.{Borrowed, Owned};
+//! UTF-8 texts as contents.
+ghost use Rattle.std.specs.Prelude.{[], ◌∷◌, refl, IsUtf8, string_bytes};
 
 use intaglio_content::{
-    Bytewise, Content, Formed, Keyed, LookedUp, Packable, PackedForm, PackedKind, PackedOwned,
-    Spelled, Texts, ToContent, feed_item, same_bytes,
+    ContentOf, Kind, KindForm, KindOwned, Packable, PackedForm, Spells, feed_item, same_bytes,
 };
 use std::alloc::{AllocError, Global};
 use std::hash::Hasher;
+use std::marker::PhantomData;
 use std::str;
 
-/// A text that a table stores. Its spelling is its UTF-8 bytes, and its key is that one item.
-///
-/// It is stored as passed in: nothing is copied, and an owned text keeps its spare capacity.
-///
-/// ```
-/// # use intaglio::StrContent;
-/// assert!(rt; StrContent::from("abc").form() == "abc");
-/// ```
-#[derive(Drop)]
-pub enum StrContent {
-    /// A text with the lifetime `'static`.
-    Borrowed(&'static str),
-    /// An owned text.
-    Owned(String),
+/// The kinds of UTF-8 texts that are compared by their bytes, one for each marker type.
+pub struct Utf8<M> {
+    marker: PhantomData<M>,
 }
 
-impl StrContent {
-    /// The text.
-    pub fn form(&self) -> &str
-        ensures { result.now ≡ str_content_bytes self.now }
-    {
-        match self {
-            Self::Borrowed(text) => text,
-            Self::Owned(text) => text.as_str(),
-        }
-    }
-}
+/// The marker of texts.
+pub struct AsText;
 
-impl From<&'static str> for StrContent {
-    ghost from_gives = { λ text content. content ≡ Borrowed text };
+/// The marker of platform strings.
+pub struct AsOsStr;
 
-    fn from(text: &'static str) -> StrContent {
-        StrContent::Borrowed(text)
-    }
-}
+/// The kind of texts.
+pub type StrKind = Utf8<AsText>;
 
-impl From<String> for StrContent {
-    ghost from_gives = { λ text content. content ≡ Owned text };
+/// The kind of platform strings.
+pub type OsStrKind = Utf8<AsOsStr>;
 
-    fn from(text: String) -> StrContent {
-        StrContent::Owned(text)
-    }
-}
+/// A text that a table stores: a `&'static str` or a `String`. Its spelling is its UTF-8 bytes, and its key is
+/// that one item.
+pub type StrContent = ContentOf<StrKind>;
 
-impl Keyed for StrContent {
-    ghost key = { λ content. str_content_bytes content ∷ [] };
-}
+/// A platform string that a table stores: a `&'static str` or a `String`.
+pub type OsStrContent = ContentOf<OsStrKind>;
 
-impl Content for StrContent {
-    ghost spelling = { str_content_bytes };
-
-    ghost key_of = { λ bytes. bytes ∷ [] };
-
-    ghost key_of_spelling = { λ _. refl };
-}
-
-impl Texts for StrContent {}
-
-impl Bytewise for StrContent {
-    fn compared_bytes(&self) -> &[u8] {
-        self.form().as_bytes()
-    }
-}
-
-impl Spelled for StrContent {
-    fn spelling(&self) -> &[u8] {
-        self.compared_bytes()
-    }
-}
-
-impl<'a> Formed<'a> for StrContent {
-    type Form = &'a str;
-
-    ghost form_spelling = { λ text. text.now };
-
-    fn borrow(&'a self) -> &'a str {
-        self.form()
-    }
-}
-
-impl<'q> LookedUp<'q> for StrContent {
-    type By = &'q str;
-}
-
-impl ToContent<StrContent> for &str {
-    ghost form_spelling = { λ text. text.now };
-
-    fn to_content(&self, alloc: Global) -> Result<StrContent, AllocError> {
-        Ok(StrContent::Owned(String::from_str(alloc, *self)?))
-    }
-
-    ghost key_of_form = { λ _. refl };
-}
-
-/// The kind of texts that are packed.
-pub struct StrKind;
-
-impl PackedKind for StrKind {
+impl<M> Kind for Utf8<M> {
     ghost key_of = { λ bytes. bytes ∷ [] };
 
     ghost is_spelling = { IsUtf8 };
@@ -124,37 +49,48 @@ impl PackedKind for StrKind {
     }
 }
 
-impl Packable<StrKind> for StrContent {
-    ghost packed_spelling = { str_content_bytes };
+impl<M> Spells<Utf8<M>> for &str {
+    ghost spelled = { λ text. text.now };
 
     #[inline(always)]
-    fn packed_bytes(&self) -> &[u8] {
-        self.form().as_bytes()
-    }
-
-    ghost key_of_packed = { λ _. refl };
-}
-
-impl Packable<StrKind> for &str {
-    ghost packed_spelling = { λ text. text.now };
-
-    #[inline(always)]
-    fn packed_bytes(&self) -> &[u8] {
+    fn spelled_bytes(&self) -> &[u8] {
         self.as_bytes()
     }
-
-    ghost key_of_packed = { λ _. refl };
 }
 
-impl Texts for StrKind {}
-
-impl PackedOwned for StrKind {
-    type Owned = StrContent;
+impl<M> Packable<Utf8<M>> for &str {
+    ghost key_of_spelled = { λ _. refl };
 }
 
-impl<'a> PackedForm<'a> for StrKind {
+impl<M> Spells<Utf8<M>> for String {
+    ghost spelled = { string_bytes };
+
+    #[inline(always)]
+    fn spelled_bytes(&self) -> &[u8] {
+        self.as_str().as_bytes()
+    }
+}
+
+impl<M> KindOwned for Utf8<M> {
+    type Static = &'static str;
+
+    type Owned = String;
+
+    fn copy(alloc: Global, spelling: &[u8]) -> Result<String, AllocError> {
+        String::from_str(alloc, unsafe { str::from_utf8_unchecked(spelling) })
+    }
+}
+
+impl<'a, M> KindForm<'a> for Utf8<M> {
     type Form = &'a str;
 
+    #[inline(always)]
+    fn lend(content: &'a ContentOf<Utf8<M>>) -> &'a str {
+        unsafe { str::from_utf8_unchecked(content.spelling()) }
+    }
+}
+
+impl<'a, M> PackedForm<'a> for Utf8<M> {
     #[inline(always)]
     fn form_of(spelling: &'a [u8]) -> &'a str {
         unsafe { str::from_utf8_unchecked(spelling) }

@@ -1,4 +1,5 @@
 //! The calls to make, each by the table's own call or by a run.
+use crate::form_calls::update_name;
 use crate::kinds::{FixedTable, Stored};
 use intaglio::{Call, Mark, Reply};
 use test_hashers::replies::interned;
@@ -19,7 +20,7 @@ impl<C> Ask<C> {
         match self {
             Ask::Intern(_) => "intern",
             Ask::GetInterned(_) => "get_interned",
-            Ask::Update(update) => name_of(*update),
+            Ask::Update(update) => update_name(*update),
         }
     }
 
@@ -30,17 +31,6 @@ impl<C> Ask<C> {
             Ask::GetInterned(content) => Call::GetInterned(content),
             Ask::Update(update) => call_of(update),
         }
-    }
-}
-
-// The name that is printed for the call. Std's own shrink of a list doesn't report a failed allocation, and the
-// list then keeps its capacity, so no call reports it if the last request of a shrink is refused.
-fn name_of(update: Update) -> &'static str {
-    match update {
-        Update::Reserve(_) | Update::TryReserve(_) => "reserve",
-        Update::ShrinkTo(_) | Update::ShrinkToFit => "shrink",
-        Update::Clear => "clear",
-        Update::TakeBack(_) => "take_back",
     }
 }
 

@@ -2,6 +2,7 @@
 use crate::checked_table::tell;
 use crate::fault::Fault;
 use crate::kinds::Stored;
+use crate::outcome::Outcome;
 use intaglio::cstr::{CString, CStringError};
 use intaglio::{Call, Moved, RoomError, Work, run};
 use std::alloc::{AllocError, Global};
@@ -9,29 +10,6 @@ use test_hashers::tables::{Make, make_table};
 
 // One more than the most contents that a table can hold.
 const TOO_MANY: usize = 4294967297;
-
-// The outcome of a constructor.
-#[derive(Clone, Copy)]
-enum Outcome {
-    Right,
-    Wrong,
-    NoMemory,
-    TooLarge,
-}
-
-impl Outcome {
-    fn is_right(self) -> bool {
-        matches!(self, Outcome::Right)
-    }
-
-    fn is_refused(self) -> bool {
-        matches!(self, Outcome::NoMemory)
-    }
-
-    fn is_too_large(self) -> bool {
-        matches!(self, Outcome::TooLarge)
-    }
-}
 
 /// Makes a table by each constructor, and a C string. If one fails, nothing was made, and it is called again.
 pub fn make_all<C: Stored>(rt: &(impl Eprint + AllocGlobal)) -> Result<(), Fault> {

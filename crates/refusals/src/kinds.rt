@@ -3,10 +3,16 @@ use intaglio::bstr::BStrContent;
 use intaglio::bytes::BytesContent;
 use intaglio::cstr::CStrContent;
 use intaglio::osstr::OsStrContent;
+use intaglio::packed::StrKind;
+use intaglio::packed::bstr::BStrKind;
+use intaglio::packed::bytes::BytesKind;
+use intaglio::packed::osstr::OsStrKind;
+use intaglio::packed::path::PathKind;
 use intaglio::path::PathContent;
-use intaglio::{StrContent, Symbol, Table};
+use intaglio::{ContentOf, StrContent, Symbol, Table};
+use intaglio_cstr::CStrKind;
 use test_hashers::builders::Fold;
-use test_hashers::contents::OfSpelling;
+use test_hashers::contents::{KindOfSpelling, OfSpelling};
 
 /// A table with the default builder.
 pub type FixedTable<C> = Table<C, Fold>;
@@ -17,38 +23,50 @@ pub trait Stored: OfSpelling {
     fn check_in(&self, table: &FixedTable<Self>) -> Option<Symbol>;
 }
 
-impl Stored for StrContent {
-    fn check_in(&self, table: &FixedTable<StrContent>) -> Option<Symbol> {
-        table.check_interned(self.form())
+/// The same, as a kind says it of its contents.
+pub trait StoredKind: KindOfSpelling {
+    /// Looks a content up by its borrowed form.
+    fn check_in(content: &ContentOf<Self>, table: &FixedTable<ContentOf<Self>>) -> Option<Symbol>;
+}
+
+impl<K: StoredKind> Stored for ContentOf<K> {
+    fn check_in(&self, table: &FixedTable<ContentOf<K>>) -> Option<Symbol> {
+        K::check_in(self, table)
     }
 }
 
-impl Stored for OsStrContent {
-    fn check_in(&self, table: &FixedTable<OsStrContent>) -> Option<Symbol> {
-        table.check_interned(self.form())
+impl StoredKind for StrKind {
+    fn check_in(content: &StrContent, table: &FixedTable<StrContent>) -> Option<Symbol> {
+        table.check_interned(content.form())
     }
 }
 
-impl Stored for PathContent {
-    fn check_in(&self, table: &FixedTable<PathContent>) -> Option<Symbol> {
-        table.check_interned(self.form())
+impl StoredKind for OsStrKind {
+    fn check_in(content: &OsStrContent, table: &FixedTable<OsStrContent>) -> Option<Symbol> {
+        table.check_interned(content.form())
     }
 }
 
-impl Stored for BytesContent {
-    fn check_in(&self, table: &FixedTable<BytesContent>) -> Option<Symbol> {
-        table.check_interned(self.form())
+impl StoredKind for PathKind {
+    fn check_in(content: &PathContent, table: &FixedTable<PathContent>) -> Option<Symbol> {
+        table.check_interned(content.form())
     }
 }
 
-impl Stored for BStrContent {
-    fn check_in(&self, table: &FixedTable<BStrContent>) -> Option<Symbol> {
-        table.check_interned(self.form())
+impl StoredKind for BytesKind {
+    fn check_in(content: &BytesContent, table: &FixedTable<BytesContent>) -> Option<Symbol> {
+        table.check_interned(content.form())
     }
 }
 
-impl Stored for CStrContent {
-    fn check_in(&self, table: &FixedTable<CStrContent>) -> Option<Symbol> {
-        table.check_interned(self.form())
+impl StoredKind for BStrKind {
+    fn check_in(content: &BStrContent, table: &FixedTable<BStrContent>) -> Option<Symbol> {
+        table.check_interned(content.form())
+    }
+}
+
+impl StoredKind for CStrKind {
+    fn check_in(content: &CStrContent, table: &FixedTable<CStrContent>) -> Option<Symbol> {
+        table.check_interned(content.form())
     }
 }

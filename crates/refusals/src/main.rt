@@ -1,47 +1,71 @@
-//! Makes fixed runs of calls on each of the six tables, and compares every result
+//! Makes fixed runs of calls on each table, of owned contents and in one buffer, and compares every result
 //! with that of a list made before.
 //!
 //! It prints each call to standard error before it makes it, and each failure for memory that a call reports,
 //! so that a harness that refuses requests for memory sees which call reported which. Without arguments it
 //! makes all runs; with a table's name and a run's, that one; with `rows` in place of a table's name, the
-//! rows whose texts are given.
+//! rows whose texts are given, or with `absorb` tables that absorb another one.
 #![tactic(auto)]
 
+mod absorbing;
+mod batches;
 mod change;
 mod checked_table;
 mod constructors;
 mod contents;
 mod fault;
+mod form_calls;
+mod form_runs;
 mod kinds;
+mod outcome;
 mod rows;
 mod runs;
+mod stores;
+mod words;
 
+use absorbing::absorb_each;
 use checked_table::CallStyle;
 use constructors::make_all;
 use fault::Fault;
-use intaglio::StrContent;
-use intaglio::bstr::BStrContent;
-use intaglio::bytes::BytesContent;
-use intaglio::cstr::CStrContent;
-use intaglio::osstr::OsStrContent;
-use intaglio::path::PathContent;
+use form_runs::{watch_forms, watch_quiet};
+use intaglio::packed::Packed;
+use intaglio::{Content, ContentOf, LookedUpIn, SoughtIn};
+use intaglio_bytes::b_str::BStrKind;
+use intaglio_bytes::bytes::BytesKind;
+use intaglio_cstr::CStrKind;
+use intaglio_path::PathKind;
+use intaglio_text::StrKind;
+use intaglio_text::osstr::OsStrKind;
 use kinds::Stored;
 use rows::{intern_first, without_memory};
 use runs::{Calls, watch};
 use std::env;
 use std::process::ExitCode;
 use std::rt::Env;
+use stores::Tried;
+use words::OfDigits;
 
 const TABLES: [&str; 6] = ["text", "osstr", "path", "bytes", "bstr", "cstr"];
 
-const RUNS: [&str; 6] = [
+const RUNS: [&str; 7] = [
     "calls",
     "cut",
     "replies",
     "cut_replies",
     "making",
+    "forms",
     "no_memory",
 ];
+
+const PACKED: [&str; 5] = [
+    "packed_text",
+    "packed_osstr",
+    "packed_path",
+    "packed_bytes",
+    "packed_bstr",
+];
+
+const PACKED_RUNS: [&str; 2] = ["forms", "no_memory"];
 
 fn main(rt: HostRuntime) -> ExitCode {
     match asked(&rt) {
@@ -72,23 +96,55 @@ fn asked<R: Env + Eprint + AllocGlobal>(rt: &R) -> Result<(), Fault> {
 }
 
 fn all(rt: &(impl Eprint + AllocGlobal)) -> Result<(), Fault> {
-    for i in 0..36usize {
-        one(rt, TABLES[i / 6], RUNS[i % 6])?;
+    for i in 0..42usize {
+        one(rt, TABLES[i / 7], RUNS[i % 7])?;
+    }
+    for i in 0..10usize {
+        one(rt, PACKED[i / 2], PACKED_RUNS[i % 2])?;
     }
     one(rt, "rows", "calls")?;
+    one(rt, "rows", "absorb")?;
     one(rt, "rows", "no_memory")
 }
 
 // One run on one table.
 fn one(rt: &(impl Eprint + AllocGlobal), table: &str, run: &str) -> Result<(), Fault> {
+    if run == "forms" {
+        return forms(rt, table);
+    }
     match table {
-        "text" => on::<StrContent>(rt, run),
-        "osstr" => on::<OsStrContent>(rt, run),
-        "path" => on::<PathContent>(rt, run),
-        "bytes" => on::<BytesContent>(rt, run),
-        "bstr" => on::<BStrContent>(rt, run),
-        "cstr" => on::<CStrContent>(rt, run),
+        "text" => on::<ContentOf<StrKind>>(rt, run),
+        "osstr" => on::<ContentOf<OsStrKind>>(rt, run),
+        "path" => on::<ContentOf<PathKind>>(rt, run),
+        "bytes" => on::<ContentOf<BytesKind>>(rt, run),
+        "bstr" => on::<ContentOf<BStrKind>>(rt, run),
+        "cstr" => on::<ContentOf<CStrKind>>(rt, run),
         "rows" => row(rt, run),
+        _ => one_packed(rt, table, run),
+    }
+}
+
+// Calls by borrowed forms on one table.
+fn forms(rt: &(impl Eprint + AllocGlobal), table: &str) -> Result<(), Fault> {
+    match table {
+        "text" => watch_forms::<Vec<ContentOf<StrKind>>>(rt),
+        "osstr" => watch_forms::<Vec<ContentOf<OsStrKind>>>(rt),
+        "path" => watch_forms::<Vec<ContentOf<PathKind>>>(rt),
+        "bytes" => watch_forms::<Vec<ContentOf<BytesKind>>>(rt),
+        "bstr" => watch_forms::<Vec<ContentOf<BStrKind>>>(rt),
+        "cstr" => watch_forms::<Vec<ContentOf<CStrKind>>>(rt),
+        _ => one_packed(rt, table, "forms"),
+    }
+}
+
+// One run on one table in one buffer.
+fn one_packed(rt: &(impl Eprint + AllocGlobal), table: &str, run: &str) -> Result<(), Fault> {
+    match table {
+        "packed_text" => on_packed::<Packed<StrKind>>(rt, run),
+        "packed_osstr" => on_packed::<Packed<OsStrKind>>(rt, run),
+        "packed_path" => on_packed::<Packed<PathKind>>(rt, run),
+        "packed_bytes" => on_packed::<Packed<BytesKind>>(rt, run),
+        "packed_bstr" => on_packed::<Packed<BStrKind>>(rt, run),
         _ => Err(Fault::Words),
     }
 }
@@ -97,7 +153,24 @@ fn one(rt: &(impl Eprint + AllocGlobal), table: &str, run: &str) -> Result<(), F
 fn row(rt: &(impl Eprint + AllocGlobal), run: &str) -> Result<(), Fault> {
     match run {
         "calls" => intern_first(rt),
+        "absorb" => absorb_each(rt),
         "no_memory" => without_memory(rt),
+        _ => Err(Fault::Words),
+    }
+}
+
+fn on_packed<'q, L: Tried + LookedUpIn<'q>>(
+    rt: &(impl Eprint + AllocGlobal),
+    run: &str,
+) -> Result<(), Fault>
+where
+    L::By: OfDigits,
+    L::Content: Content + SoughtIn<L> + Drop,
+    L::Prepared: Drop,
+{
+    match run {
+        "forms" => watch_forms::<L>(rt),
+        "no_memory" => watch_quiet::<L>(rt),
         _ => Err(Fault::Words),
     }
 }

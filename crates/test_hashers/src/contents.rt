@@ -3,8 +3,14 @@ use intaglio::bstr::BStrContent;
 use intaglio::bytes::BytesContent;
 use intaglio::cstr::{CStr, CStrContent, CString};
 use intaglio::osstr::OsStrContent;
+use intaglio::packed::StrKind;
+use intaglio::packed::bstr::BStrKind;
+use intaglio::packed::bytes::BytesKind;
+use intaglio::packed::osstr::OsStrKind;
+use intaglio::packed::path::PathKind;
 use intaglio::path::PathContent;
-use intaglio::{Sought, Spelled, StrContent};
+use intaglio::{ContentOf, KindOwned, Sought, Spelled, StrContent};
+use intaglio_cstr::CStrKind;
 use std::alloc::Global;
 use std::str;
 
@@ -17,11 +23,30 @@ pub trait OfSpelling: Spelled + Sought<Self> + Drop {
     fn borrowed(ended: &'static str) -> Option<Self>;
 }
 
+/// A kind whose contents can be made from any spelling of it.
+pub trait KindOfSpelling: KindOwned {
+    /// An owned content.
+    fn owned(alloc: Global, spelling: &[u8]) -> Option<ContentOf<Self>>;
+
+    /// A borrowed content. A zero follows its spelling.
+    fn borrowed(ended: &'static str) -> Option<ContentOf<Self>>;
+}
+
+impl<K: KindOfSpelling> OfSpelling for ContentOf<K> {
+    fn owned(alloc: Global, spelling: &[u8]) -> Option<ContentOf<K>> {
+        K::owned(alloc, spelling)
+    }
+
+    fn borrowed(ended: &'static str) -> Option<ContentOf<K>> {
+        K::borrowed(ended)
+    }
+}
+
 fn text_of(alloc: Global, spelling: &[u8]) -> Option<String> {
     str::from_utf8(spelling).ok()?.to_string(alloc).ok()
 }
 
-impl OfSpelling for StrContent {
+impl KindOfSpelling for StrKind {
     fn owned(alloc: Global, spelling: &[u8]) -> Option<StrContent> {
         Some(StrContent::from(text_of(alloc, spelling)?))
     }
@@ -31,7 +56,7 @@ impl OfSpelling for StrContent {
     }
 }
 
-impl OfSpelling for OsStrContent {
+impl KindOfSpelling for OsStrKind {
     fn owned(alloc: Global, spelling: &[u8]) -> Option<OsStrContent> {
         Some(OsStrContent::from(text_of(alloc, spelling)?))
     }
@@ -41,7 +66,7 @@ impl OfSpelling for OsStrContent {
     }
 }
 
-impl OfSpelling for PathContent {
+impl KindOfSpelling for PathKind {
     fn owned(alloc: Global, spelling: &[u8]) -> Option<PathContent> {
         Some(PathContent::from(text_of(alloc, spelling)?))
     }
@@ -51,7 +76,7 @@ impl OfSpelling for PathContent {
     }
 }
 
-impl OfSpelling for BytesContent {
+impl KindOfSpelling for BytesKind {
     fn owned(alloc: Global, spelling: &[u8]) -> Option<BytesContent> {
         Some(BytesContent::from(spelling.to_vec(alloc).ok()?))
     }
@@ -61,7 +86,7 @@ impl OfSpelling for BytesContent {
     }
 }
 
-impl OfSpelling for BStrContent {
+impl KindOfSpelling for BStrKind {
     fn owned(alloc: Global, spelling: &[u8]) -> Option<BStrContent> {
         Some(BStrContent::Owned(spelling.to_vec(alloc).ok()?.into()))
     }
@@ -71,7 +96,7 @@ impl OfSpelling for BStrContent {
     }
 }
 
-impl OfSpelling for CStrContent {
+impl KindOfSpelling for CStrKind {
     fn owned(alloc: Global, spelling: &[u8]) -> Option<CStrContent> {
         let bytes = spelling.to_vec(alloc).ok()?;
         Some(CStrContent::from(CString::new(alloc, bytes).ok()?))

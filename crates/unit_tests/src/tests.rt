@@ -1,5 +1,6 @@
 //! Tests of what no contract says: values from outside, the tests of the ported crate, and each public call once.
 
+mod absorbing;
 mod assertions;
 mod buckets;
 mod c_strings;

@@ -1,5 +1,5 @@
 //! Interning by a borrowed form.
-ghost use Rattle.std.specs.Prelude.{◌≡◌, ◌<◌, ◌≤◌, ◌↔◌, None, IfOk, IsTrue};
+ghost use Rattle.std.specs.Prelude.{◌≡◌, ◌+◌, ◌<◌, ◌≤◌, ◌↔◌, None, IfOk, IsTrue, length};
 ghost use Rattle.intaglio_content.specs.Key.{hash_of};
 ghost use Rattle.intaglio_interner.specs.State.{first, IsValid};
 ghost use Rattle.intaglio_interner.specs.Cost.{Costs, KnownInternCost};
@@ -7,6 +7,7 @@ ghost use Rattle.intaglio_interner.specs.Bytes.{InternsBytes};
 ghost use Rattle.intaglio_interner.specs.Change.{InternsValue, InternsForm, IsNotMemory};
 ghost use Rattle.intaglio.specs.Added.{symbol_of};
 ghost use Rattle.intaglio_interner.specs.Lookup.{FindsInterned};
+ghost use Rattle.intaglio_content.specs.Store.{Doubles};
 
 use super::TableOver;
 use intaglio_core::{AddedTo, Content, InternError, LookedUpIn, Store, Symbol, Work};
@@ -48,6 +49,7 @@ where
             interns self.old.state self.old.spare_bytes result self.new.state self.new.spare_bytes }
         ensures none_needed { 0 < self.old.state.spare → L.By.in_store → L.By.needs form ≤ self.old.spare_bytes →
             IsNotMemory result }
+        ensures grows { Doubles (length self.old.state.contents + 1) self.old.most self.new.most }
         ensures hasher { self.new.hasher ≡ self.old.hasher }
         ensures valid { IsValid L.Content.key self.new.state }
     {
@@ -80,6 +82,7 @@ where
             interns self.old.state self.old.spare_bytes (symbol_of result) self.new.state self.new.spare_bytes }
         ensures none_needed { 0 < self.old.state.spare → L.By.in_store → L.By.needs form ≤ self.old.spare_bytes →
             IsNotMemory (symbol_of result) }
+        ensures grows { Doubles (length self.old.state.contents + 1) self.old.most self.new.most }
         ensures hasher { self.new.hasher ≡ self.old.hasher }
         ensures valid { IsValid L.Content.key self.new.state }
     {
@@ -118,6 +121,7 @@ where
             interns self.old.state self.old.spare_bytes result self.new.state self.new.spare_bytes }
         ensures none_needed { 0 < self.old.state.spare → Q.in_store → Q.needs value ≤ self.old.spare_bytes →
             IsNotMemory result }
+        ensures grows { Doubles (length self.old.state.contents + 1) self.old.most self.new.most }
         ensures hasher { self.new.hasher ≡ self.old.hasher }
         ensures valid { IsValid L.Content.key self.new.state }
     {

@@ -2,13 +2,19 @@
 ghost use Rattle.std.specs.Prelude.{◌≡◌, ◌≤◌, ◌^◌, map, length};
 
 use super::TableOver;
-use intaglio_content::{BStrings, Bytestrings, CStrings, OsStrings, Paths, Texts};
+use intaglio_bytes::b_str::BStrKind;
+use intaglio_bytes::bytes::BytesKind;
+use intaglio_content::OfKind;
 use intaglio_core::{Content, Forms, Lends};
+use intaglio_cstr::CStrKind;
+use intaglio_path::PathKind;
+use intaglio_text::StrKind;
+use intaglio_text::osstr::OsStrKind;
 use std::hash::BuildHasher;
 
 impl<'a, L: Lends<'a>, S: BuildHasher> TableOver<L, S>
 where
-    L::Content: Content + Texts,
+    L::Content: Content + OfKind<Kind = StrKind>,
 {
     /// All texts, in the order of their symbols.
     pub fn strings(&'a self) -> Forms<'a, L>
@@ -21,7 +27,7 @@ where
 
 impl<'a, L: Lends<'a>, S: BuildHasher> TableOver<L, S>
 where
-    L::Content: Content + Bytestrings,
+    L::Content: Content + OfKind<Kind = BytesKind>,
 {
     /// All bytes, in the order of their symbols.
     pub fn bytestrings(&'a self) -> Forms<'a, L>
@@ -34,7 +40,7 @@ where
 
 impl<'a, L: Lends<'a>, S: BuildHasher> TableOver<L, S>
 where
-    L::Content: Content + BStrings,
+    L::Content: Content + OfKind<Kind = BStrKind>,
 {
     /// All byte strings, in the order of their symbols.
     pub fn bstrings(&'a self) -> Forms<'a, L>
@@ -47,7 +53,7 @@ where
 
 impl<'a, L: Lends<'a>, S: BuildHasher> TableOver<L, S>
 where
-    L::Content: Content + CStrings,
+    L::Content: Content + OfKind<Kind = CStrKind>,
 {
     /// All C strings, in the order of their symbols.
     pub fn c_strings(&'a self) -> Forms<'a, L>
@@ -60,7 +66,7 @@ where
 
 impl<'a, L: Lends<'a>, S: BuildHasher> TableOver<L, S>
 where
-    L::Content: Content + OsStrings,
+    L::Content: Content + OfKind<Kind = OsStrKind>,
 {
     /// All platform strings, in the order of their symbols.
     pub fn os_strings(&'a self) -> Forms<'a, L>
@@ -73,7 +79,7 @@ where
 
 impl<'a, L: Lends<'a>, S: BuildHasher> TableOver<L, S>
 where
-    L::Content: Content + Paths,
+    L::Content: Content + OfKind<Kind = PathKind>,
 {
     /// All paths, in the order of their symbols.
     pub fn paths(&'a self) -> Forms<'a, L>

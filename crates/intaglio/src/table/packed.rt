@@ -1,5 +1,6 @@
 //! What tables in one buffer have besides.
 ghost use Rattle.std.specs.Prelude.{◌≡◌, ◌≤◌, length, map, sum_by, IsOk, OnErr, OnOk};
+ghost use Rattle.intaglio_content.specs.Store.{DoublesByteRoom};
 ghost use Rattle.intaglio_interner.specs.State.{IsValid};
 
 mod contents;
@@ -21,8 +22,9 @@ where
         self.core.byte_count()
     }
 
-    /// Makes room for this many more bytes of contents. While there is spare capacity too, which
-    /// [`reserve`](TableOver::reserve) makes, to intern a string whose bytes fit never fails for memory.
+    /// Makes room for this many more bytes of contents. If the buffer has to grow, its room at least doubles.
+    /// While there is spare capacity too, which [`reserve`](TableOver::reserve) makes, to intern a string whose
+    /// bytes fit never fails for memory.
     ///
     /// # Errors
     ///
@@ -38,6 +40,9 @@ where
     /// ```
     pub fn reserve_bytes(&mut self, additional: usize) -> Result<(), AllocError>
         ensures state { self.new.state ≡ self.old.state }
+        ensures most { self.new.most ≡ self.old.most }
+        ensures grows { let grows = DoublesByteRoom L.takes additional self.old.state.contents self.old.spare_bytes in
+            grows self.new.state.contents self.new.spare_bytes }
         ensures bytes { OnOk result (additional ≤ self.new.spare_bytes) }
         ensures no_less { self.old.spare_bytes ≤ self.new.spare_bytes }
         ensures err { OnErr result (self.new ≡ self.old) }

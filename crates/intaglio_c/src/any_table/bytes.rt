@@ -169,9 +169,9 @@ impl LookUps for AnyTable {
 
     fn touch(&self, hashes: &[u64]) {
         match self {
-            AnyTable::Owned(_, table) => touch_all(table, hashes, &"".as_bytes()),
-            AnyTable::Path(table) => touch_all(table, hashes, &Path::new("")),
-            AnyTable::Packed(_, table) => touch_all(table, hashes, &"".as_bytes()),
+            AnyTable::Owned(_, table) => touch_all(table, hashes),
+            AnyTable::Path(table) => touch_all(table, hashes),
+            AnyTable::Packed(_, table) => touch_all(table, hashes),
         }
     }
 

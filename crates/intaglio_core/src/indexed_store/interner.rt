@@ -20,6 +20,8 @@ where
 
     ghost state = { λ t. t.state };
 
+    ghost most = { λ t. t.most };
+
     ghost spare_bytes = { λ t. t.spare_bytes };
 
     ghost hash = { λ t. hash_of S.BuildHasher S.Hasher.Hasher t.hasher };
@@ -46,8 +48,8 @@ where
         IndexedStore::search_hashed(self, known_hash, sought, work)
     }
 
-    fn touch_hashed<Q: SoughtIn<L>>(&self, known_hash: u64, sought: &Q) -> u8 {
-        IndexedStore::touch_hashed(self, known_hash, sought)
+    fn touch_hashed(&self, known_hash: u64) -> u8 {
+        IndexedStore::touch_hashed(self, known_hash)
     }
 
     fn search_counted<Q: SoughtIn<L>>(&self, sought: &Q, work: &mut Work) -> Option<Symbol> {

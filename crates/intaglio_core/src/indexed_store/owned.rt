@@ -1,8 +1,8 @@
 //! Tables of owned contents, which are kept in a `Vec`.
-ghost use Rattle.std.specs.Prelude.{◌≡◌, ◌^◌, ◌<◌, ◌≤◌, false, length, slice_get};
+ghost use Rattle.std.specs.Prelude.{◌≡◌, ◌+◌, ◌^◌, ◌<◌, ◌≤◌, false, length, slice_get};
 ghost use Rattle.std.specs.Prelude.{option_copied, None, IfSome, IfOk, IfErr, OnOk, OnErr};
 ghost use Rattle.intaglio_content.specs.Key.{hash_of};
-ghost use Rattle.intaglio_content.specs.Store.{IsMoved};
+ghost use Rattle.intaglio_content.specs.Store.{Doubles, IsMoved};
 ghost use Rattle.intaglio_interner.specs.State.{IsValid};
 ghost use Rattle.intaglio_interner.specs.Change.{Interns};
 ghost use Rattle.intaglio_interner.specs.Lookup.{IsFound, FindsInterned, Keeps, FindsEach, StoresEach};
@@ -52,6 +52,7 @@ impl<C: Keyed, S: BuildHasher> Core<C, S> {
         C: Sought<C> + Drop,
         ensures step { Interns C.key self.old.state content result self.new.state }
         ensures interned { FindsInterned C.key self.old.state (C.key content) result self.new.state }
+        ensures grows { Doubles (length self.old.state.contents + 1) self.old.most self.new.most }
         ensures cost { let hash = hash_of S.BuildHasher S.Hasher.Hasher self.old.hasher in
             let cost = InternCost C.key hash self.old.state in
             Costs work.old work.new (cost (C.key content) result self.new.state) }
@@ -93,9 +94,9 @@ impl<C: Keyed, S: BuildHasher> Core<C, S> {
         ensures refused { OnErr result (self.new.state.contents ≡ self.old.state.contents) }
         ensures overflow { let all = interned_all C.key self.old.state.contents contents.items in
             IfErr result (λ e. IfOverflow e (self.old.state.limit < length all)) }
-        ensures refused_cost { OnErr result (Costs work.old work.new
+        ensures refused_cost { IfErr result (λ e. Costs work.old work.new
             (RefusedCost C.key C.key IsMoved false (hash_of S.BuildHasher S.Hasher.Hasher self.old.hasher) self.old.state
-            contents.items)) }
+            contents.items e)) }
 
         ensures table { StaysValid C.key (hash_of S.BuildHasher S.Hasher.Hasher self.old.hasher) self.old.state
             (hash_of S.BuildHasher S.Hasher.Hasher self.new.hasher) self.new.state }

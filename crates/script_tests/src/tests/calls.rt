@@ -1,10 +1,10 @@
 //! Calls of a table by borrowed forms, whose results are text.
 use super::contents::Shown;
-use super::printed::{reply_text, spelled, symbols_text};
+use super::printed::{inserted_text, reply_text, spelled, symbols_text};
 use crate::replies::interned;
 use intaglio::{
-    Content, Formed, Lends, LookedUp, LookedUpIn, Reply, Sought, SoughtIn, Symbol, Table,
-    TableOver, Work, get_or_intern_all,
+    Content, ContentOf, KindForm, Lends, LookedUpIn, Reply, SoughtIn, Symbol, Table, TableOver,
+    Work, get_or_intern_all,
 };
 use std::alloc::{AllocError, Global};
 use std::process::Abort;
@@ -15,6 +15,8 @@ use test_hashers::builders::HasherCount;
 pub enum Ask {
     /// `get_or_intern`.
     GetOrIntern,
+    /// `insert_full`.
+    InsertFull,
     /// `get_or_intern_all`.
     GetOrInternAll,
     /// The function `get_or_intern_all`.
@@ -34,10 +36,14 @@ pub enum Ask {
 }
 
 // The borrowed forms of contents.
-fn forms<'a, C: Formed<'a>>(rt: &impl Abort, alloc: Global, contents: &'a [C]) -> Vec<C::Form> {
+fn forms<'a, K: KindForm<'a>>(
+    rt: &impl Abort,
+    alloc: Global,
+    contents: &'a [ContentOf<K>],
+) -> Vec<K::Form> {
     let mut forms = Vec::new(alloc);
     for content in contents {
-        forms.push(content.borrow()).expect(rt, "memory");
+        forms.push(content.form()).expect(rt, "memory");
     }
     forms
 }
@@ -47,16 +53,15 @@ fn only<T: Drop>(rt: &impl Abort, mut forms: Vec<T>) -> T {
 }
 
 /// What a table of owned contents returns for a call by the forms of these.
-pub fn answer<'a, C: Formed<'a> + LookedUp<'a, By = <C as Formed<'a>>::Form>, S: HasherCount>(
+pub fn answer<'a, K: KindForm<'a>, S: HasherCount>(
     rt: &impl Abort,
     alloc: Global,
-    table: &'a mut Table<C, S>,
-    contents: &'a [C],
+    table: &'a mut Table<ContentOf<K>, S>,
+    contents: &'a [ContentOf<K>],
     ask: Ask,
 ) -> String
 where
-    C: Sought<C> + Drop,
-    C::Form: Shown,
+    K::Form: Shown,
 {
     match ask {
         Ask::Index(symbol) => reply_text(rt, alloc, &index(alloc, table, symbol)),
@@ -65,15 +70,15 @@ where
 }
 
 /// What any table returns for a call by the forms of these, but for `table[symbol]`.
-pub fn answer_over<'a, L: Lends<'a> + LookedUpIn<'a>, C, S: HasherCount>(
+pub fn answer_over<'a, L: Lends<'a> + LookedUpIn<'a>, K, S: HasherCount>(
     rt: &impl Abort,
     alloc: Global,
     table: &'a mut TableOver<L, S>,
-    contents: &'a [C],
+    contents: &'a [ContentOf<K>],
     ask: Ask,
 ) -> String
 where
-    C: Formed<'a, Form = <L as LookedUpIn<'a>>::By>,
+    K: KindForm<'a, Form = <L as LookedUpIn<'a>>::By>,
     L::Content: Content + SoughtIn<L> + Drop,
     L::Prepared: Drop,
     L::Form: Shown,
@@ -86,6 +91,7 @@ where
             symbols_text(rt, alloc, symbols)
         }
         Ask::CheckAll => found(rt, alloc, table.check_all(&forms)),
+        Ask::InsertFull => inserted_text(rt, alloc, table.insert_full(only(rt, forms))),
         _ => reply_text(rt, alloc, &reply(alloc, table, only(rt, forms), ask)),
     }
 }
@@ -122,16 +128,16 @@ fn found(
     format!(in alloc; "{symbols:?}").expect(rt, "memory")
 }
 
-fn index<'a, C: Formed<'a>, S: HasherCount>(
+fn index<'a, K: KindForm<'a>, S: HasherCount>(
     alloc: Global,
-    table: &'a Table<C, S>,
+    table: &'a Table<ContentOf<K>, S>,
     symbol: Symbol,
 ) -> Reply
 where
-    C::Form: Shown,
+    K::Form: Shown,
 {
     if table.contains(symbol) {
-        spelled(alloc, Some(table[symbol].borrow()))
+        spelled(alloc, Some(table[symbol].form()))
     } else {
         Reply::Spelling(None)
     }

@@ -2,16 +2,23 @@
 use super::calls::{Ask, answer};
 use super::printed::paired;
 use super::steps::{Steps, walk_table};
+use bstr::BStr;
 use intaglio::bstr::BStrContent;
 use intaglio::bytes::BytesContent;
 use intaglio::cstr::{CStr, CStrContent};
 use intaglio::osstr::OsStrContent;
+use intaglio::packed::StrKind;
+use intaglio::packed::bstr::BStrKind;
+use intaglio::packed::bytes::BytesKind;
+use intaglio::packed::osstr::OsStrKind;
+use intaglio::packed::path::PathKind;
 use intaglio::path::{Path, PathContent};
-use intaglio::{Formed, Reply, StrContent, Table};
+use intaglio::{ContentOf, Reply, StrContent, Table};
+use intaglio_cstr::CStrKind;
 use std::alloc::Global;
 use std::process::Abort;
 use test_hashers::builders::HasherCount;
-use test_hashers::contents::OfSpelling;
+use test_hashers::contents::{KindOfSpelling, OfSpelling};
 
 /// What differs between tables of the kinds.
 pub trait TestContent: OfSpelling {
@@ -34,9 +41,70 @@ pub trait TestContent: OfSpelling {
     fn go<R: Abort, S: HasherCount>(rt: &R, alloc: Global, table: &Table<Self, S>, steps: &Steps);
 }
 
-impl TestContent for StrContent {
-    fn pair_in<S: HasherCount>(&self, alloc: Global, table: &Table<StrContent, S>) -> Reply {
-        match table.get_interned(self.form()) {
+/// The same, as a kind says it of its contents.
+pub trait TestKind: KindOfSpelling {
+    /// Whether they are compared as paths.
+    const ARE_PATHS: bool = false;
+
+    /// Looks the borrowed form of a content up, as `get_interned`.
+    fn pair_in<S: HasherCount>(
+        content: &ContentOf<Self>,
+        alloc: Global,
+        table: &Table<ContentOf<Self>, S>,
+    ) -> Reply;
+
+    /// Makes a call by the borrowed forms of contents, and returns its result as text.
+    fn ask<R: Abort, S: HasherCount>(
+        rt: &R,
+        alloc: Global,
+        table: &mut Table<ContentOf<Self>, S>,
+        contents: &[ContentOf<Self>],
+        ask: Ask,
+    ) -> String;
+
+    /// Makes the steps on the iterators of forms.
+    fn go<R: Abort, S: HasherCount>(
+        rt: &R,
+        alloc: Global,
+        table: &Table<ContentOf<Self>, S>,
+        steps: &Steps,
+    );
+}
+
+impl<K: TestKind> TestContent for ContentOf<K> {
+    const ARE_PATHS: bool = K::ARE_PATHS;
+
+    fn pair_in<S: HasherCount>(&self, alloc: Global, table: &Table<ContentOf<K>, S>) -> Reply {
+        K::pair_in(self, alloc, table)
+    }
+
+    fn ask<R: Abort, S: HasherCount>(
+        rt: &R,
+        alloc: Global,
+        table: &mut Table<ContentOf<K>, S>,
+        contents: &[ContentOf<K>],
+        ask: Ask,
+    ) -> String {
+        K::ask(rt, alloc, table, contents, ask)
+    }
+
+    fn go<R: Abort, S: HasherCount>(
+        rt: &R,
+        alloc: Global,
+        table: &Table<ContentOf<K>, S>,
+        steps: &Steps,
+    ) {
+        K::go(rt, alloc, table, steps);
+    }
+}
+
+impl TestKind for StrKind {
+    fn pair_in<S: HasherCount>(
+        content: &StrContent,
+        alloc: Global,
+        table: &Table<StrContent, S>,
+    ) -> Reply {
+        match table.get_interned(content.form()) {
             None => Reply::Pair(None),
             Some((symbol, form)) => paired(alloc, symbol, form),
         }
@@ -52,14 +120,23 @@ impl TestContent for StrContent {
         answer(rt, alloc, table, contents, ask)
     }
 
-    fn go<R: Abort, S: HasherCount>(rt: &R, alloc: Global, table: &Table<Self, S>, steps: &Steps) {
+    fn go<R: Abort, S: HasherCount>(
+        rt: &R,
+        alloc: Global,
+        table: &Table<ContentOf<Self>, S>,
+        steps: &Steps,
+    ) {
         walk_table(rt, alloc, table, table.strings(), steps);
     }
 }
 
-impl TestContent for OsStrContent {
-    fn pair_in<S: HasherCount>(&self, alloc: Global, table: &Table<OsStrContent, S>) -> Reply {
-        match table.get_interned(self.form()) {
+impl TestKind for OsStrKind {
+    fn pair_in<S: HasherCount>(
+        content: &OsStrContent,
+        alloc: Global,
+        table: &Table<OsStrContent, S>,
+    ) -> Reply {
+        match table.get_interned(content.form()) {
             None => Reply::Pair(None),
             Some((symbol, form)) => paired(alloc, symbol, form),
         }
@@ -75,14 +152,23 @@ impl TestContent for OsStrContent {
         answer(rt, alloc, table, contents, ask)
     }
 
-    fn go<R: Abort, S: HasherCount>(rt: &R, alloc: Global, table: &Table<Self, S>, steps: &Steps) {
+    fn go<R: Abort, S: HasherCount>(
+        rt: &R,
+        alloc: Global,
+        table: &Table<ContentOf<Self>, S>,
+        steps: &Steps,
+    ) {
         walk_table(rt, alloc, table, table.os_strings(), steps);
     }
 }
 
-impl TestContent for BytesContent {
-    fn pair_in<S: HasherCount>(&self, alloc: Global, table: &Table<BytesContent, S>) -> Reply {
-        match table.get_interned(self.form()) {
+impl TestKind for BytesKind {
+    fn pair_in<S: HasherCount>(
+        content: &BytesContent,
+        alloc: Global,
+        table: &Table<BytesContent, S>,
+    ) -> Reply {
+        match table.get_interned(content.form()) {
             None => Reply::Pair(None),
             Some((symbol, form)) => paired(alloc, symbol, form),
         }
@@ -98,14 +184,23 @@ impl TestContent for BytesContent {
         answer(rt, alloc, table, contents, ask)
     }
 
-    fn go<R: Abort, S: HasherCount>(rt: &R, alloc: Global, table: &Table<Self, S>, steps: &Steps) {
+    fn go<R: Abort, S: HasherCount>(
+        rt: &R,
+        alloc: Global,
+        table: &Table<ContentOf<Self>, S>,
+        steps: &Steps,
+    ) {
         walk_table(rt, alloc, table, table.bytestrings(), steps);
     }
 }
 
-impl TestContent for BStrContent {
-    fn pair_in<S: HasherCount>(&self, alloc: Global, table: &Table<BStrContent, S>) -> Reply {
-        match table.get_interned(self.form()) {
+impl TestKind for BStrKind {
+    fn pair_in<S: HasherCount>(
+        content: &BStrContent,
+        alloc: Global,
+        table: &Table<BStrContent, S>,
+    ) -> Reply {
+        match table.get_interned(content.form()) {
             None => Reply::Pair(None),
             Some((symbol, form)) => paired(alloc, symbol, form),
         }
@@ -121,14 +216,23 @@ impl TestContent for BStrContent {
         answer(rt, alloc, table, contents, ask)
     }
 
-    fn go<R: Abort, S: HasherCount>(rt: &R, alloc: Global, table: &Table<Self, S>, steps: &Steps) {
+    fn go<R: Abort, S: HasherCount>(
+        rt: &R,
+        alloc: Global,
+        table: &Table<ContentOf<Self>, S>,
+        steps: &Steps,
+    ) {
         walk_table(rt, alloc, table, table.bstrings(), steps);
     }
 }
 
-impl TestContent for CStrContent {
-    fn pair_in<S: HasherCount>(&self, alloc: Global, table: &Table<CStrContent, S>) -> Reply {
-        match table.get_interned(self.form()) {
+impl TestKind for CStrKind {
+    fn pair_in<S: HasherCount>(
+        content: &CStrContent,
+        alloc: Global,
+        table: &Table<CStrContent, S>,
+    ) -> Reply {
+        match table.get_interned(content.form()) {
             None => Reply::Pair(None),
             Some((symbol, form)) => paired(alloc, symbol, form),
         }
@@ -144,16 +248,25 @@ impl TestContent for CStrContent {
         answer(rt, alloc, table, contents, ask)
     }
 
-    fn go<R: Abort, S: HasherCount>(rt: &R, alloc: Global, table: &Table<Self, S>, steps: &Steps) {
+    fn go<R: Abort, S: HasherCount>(
+        rt: &R,
+        alloc: Global,
+        table: &Table<ContentOf<Self>, S>,
+        steps: &Steps,
+    ) {
         walk_table(rt, alloc, table, table.c_strings(), steps);
     }
 }
 
-impl TestContent for PathContent {
+impl TestKind for PathKind {
     const ARE_PATHS: bool = true;
 
-    fn pair_in<S: HasherCount>(&self, alloc: Global, table: &Table<PathContent, S>) -> Reply {
-        match table.get_interned(self.form()) {
+    fn pair_in<S: HasherCount>(
+        content: &PathContent,
+        alloc: Global,
+        table: &Table<PathContent, S>,
+    ) -> Reply {
+        match table.get_interned(content.form()) {
             None => Reply::Pair(None),
             Some((symbol, form)) => paired(alloc, symbol, form),
         }
@@ -169,7 +282,12 @@ impl TestContent for PathContent {
         answer(rt, alloc, table, contents, ask)
     }
 
-    fn go<R: Abort, S: HasherCount>(rt: &R, alloc: Global, table: &Table<Self, S>, steps: &Steps) {
+    fn go<R: Abort, S: HasherCount>(
+        rt: &R,
+        alloc: Global,
+        table: &Table<ContentOf<Self>, S>,
+        steps: &Steps,
+    ) {
         walk_table(rt, alloc, table, table.paths(), steps);
     }
 }
@@ -202,7 +320,7 @@ impl<'a> Shown for &'a [u8] {
     }
 }
 
-impl<'a> Shown for <BStrContent as Formed<'a>>::Form {
+impl<'a> Shown for BStr<'a> {
     fn bytes(&self) -> &[u8] {
         self.as_bytes()
     }

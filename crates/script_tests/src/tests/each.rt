@@ -75,10 +75,7 @@ fn try_packed<K: PackedTests, Q: Trial>(
     rt: &(impl Abort + AllocGlobal),
     trial: &Q,
     _: PhantomData<Buffer<K, FixedState>>,
-)
-where
-    K::Owned: TestContent,
-{
+) {
     trial.try_on::<Buffer<K, FixedState>, _>(rt, rt.alloc());
 }
 

@@ -3,9 +3,14 @@ use super::assertions::same;
 use super::each::{Hashed, try_on_each};
 use super::script::plays;
 use intaglio::path::{Path, PathContent};
-use intaglio::{Keyed, Sought, StrContent, SymbolTable, Work};
+use intaglio::{
+    AddedTo, FormInterner, Keyed, Sought, StrContent, SymbolTable, Work, check_all, packed,
+};
+use intaglio_core::look_ahead;
+use std::alloc::Global;
 use std::hash::RandomState;
-use test_hashers::builders::Counted;
+use std::process::Abort;
+use test_hashers::builders::{Counted, HasherCount};
 
 #[test]
 fn a_call_hashes_once_and_a_growth_never(rt: HostRuntime) {
@@ -25,6 +30,118 @@ shrink_to_fit > done
 hashers > 400",
         },
     );
+}
+
+#[test]
+fn each_call_hashes_once_whether_it_finds_or_adds(rt: HostRuntime) {
+    try_on_each(
+        &rt,
+        &Hashed {
+            capacity: 0,
+            fixed: None,
+            script: "intern a > 0
+hashers > 1
+intern a > 0
+hashers > 2
+get_or_intern b > 1
+hashers > 3
+get_or_intern b > 1
+hashers > 4
+insert_full c > Symbol(2) true
+hashers > 5
+insert_full c > Symbol(2) false
+hashers > 6
+check a > 0
+hashers > 7
+check d > none
+hashers > 8
+is_interned a > true
+hashers > 9
+is_interned d > false
+hashers > 10
+get_interned a > 0 a
+hashers > 11
+get_interned d > none
+hashers > 12",
+        },
+    );
+}
+
+#[test]
+fn each_batch_hashes_each_content_once(rt: HostRuntime) {
+    try_on_each(
+        &rt,
+        &Hashed {
+            capacity: 0,
+            fixed: None,
+            script: "intern_all b a b c > [Symbol(0), Symbol(1), Symbol(0), Symbol(2)]
+hashers > 4
+intern_all a b > [Symbol(1), Symbol(0)]
+hashers > 6
+intern_all > []
+hashers > 6
+check_all a d c > [Some(Symbol(1)), None, Some(Symbol(2))]
+hashers > 9
+check_all > []
+hashers > 9
+get_or_intern_all d a d > [Symbol(3), Symbol(1), Symbol(3)]
+hashers > 12
+get_or_intern_all > []
+hashers > 12
+intaglio::intern_all e a > [Symbol(4), Symbol(1)]
+hashers > 14",
+        },
+    );
+}
+
+#[test]
+fn a_table_made_of_forms_hashes_each_once(rt: HostRuntime) {
+    let words = ["b", "a", "b"].as_slice();
+    let owned = SymbolTable::from_slice(rt.alloc(), Counted::new(None), words);
+    same(&rt, owned.expect(&rt, "memory").hasher().made(), Some(3));
+    let packed = packed::SymbolTable::from_slice(rt.alloc(), Counted::new(None), words);
+    same(&rt, packed.expect(&rt, "memory").hasher().made(), Some(3));
+}
+
+// Makes the calls with a `Work` for the first of these values: two hashings, calls by these hashes, and then three that
+// hash each value once.
+fn makes_counted_calls<H, T: FormInterner, Q: AddedTo<T::Store, H> + Copy>(
+    rt: &impl Abort,
+    alloc: Global,
+    table: &mut T,
+    values: &[Q],
+) {
+    let work = &mut Work::new();
+    let value = values.first().expect(rt, "no value");
+    let hash = table.hash_counted(value, work);
+    same(rt, table.search_hashed(hash, value, work), None);
+    let symbol = table
+        .intern_hashed(hash, *value, work)
+        .expect(rt, "no symbol");
+    let hash = table.hash_counted(value, work);
+    same(rt, table.search_hashed(hash, value, work), Some(symbol));
+    let _byte = table.touch_hashed(hash);
+    same(
+        rt,
+        table.intern_hashed(hash, *value, work).ok(),
+        Some(symbol),
+    );
+    same(rt, table.search_counted(value, work), Some(symbol));
+    let found = check_all(alloc, table, values, work).expect(rt, "memory");
+    same(rt, found.first().copied(), Some(Some(symbol)));
+    look_ahead(table, values, &mut [0; 2], work);
+}
+
+#[test]
+fn a_call_by_a_hash_makes_no_hasher(rt: HostRuntime) {
+    let hasher = Counted::new(None);
+    let mut owned = SymbolTable::with_hasher(rt.alloc(), hasher).expect(&rt, "no table");
+    makes_counted_calls(&rt, rt.alloc(), &mut owned, &["a"]);
+    same(&rt, owned.hasher().made(), Some(5));
+    let hasher = Counted::new(None);
+    let mut packed = packed::SymbolTable::with_hasher(rt.alloc(), hasher).expect(&rt, "no table");
+    makes_counted_calls(&rt, rt.alloc(), &mut packed, &["a"]);
+    same(&rt, packed.hasher().made(), Some(5));
 }
 
 #[test]

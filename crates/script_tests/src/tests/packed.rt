@@ -1,6 +1,6 @@
 //! Tables in one buffer, by the calls of a [`Table`].
 use super::calls::{Ask, answer_over};
-use super::contents::TestContent;
+use super::contents::TestKind;
 use super::printed::paired;
 use super::steps::{Steps, walk_table};
 use super::table::{Counts, Made, Make, Table, Update, counts_of, updated};
@@ -8,9 +8,9 @@ use crate::replies::interned;
 use intaglio::bstr::BStrContent;
 use intaglio::bytes::BytesContent;
 use intaglio::osstr::OsStrContent;
-use intaglio::packed::{Packed, PackedForm, PackedOwned};
+use intaglio::packed::{Packed, PackedForm};
 use intaglio::path::PathContent;
-use intaglio::{AllSymbols, Reply, RoomError, StrContent, TableOver};
+use intaglio::{AllSymbols, ContentOf, Reply, RoomError, StrContent, TableOver};
 use intaglio_bytes::b_str::BStrKind;
 use intaglio_bytes::bytes::BytesKind;
 use intaglio_hash::FixedState;
@@ -25,15 +25,12 @@ use test_hashers::builders::{Counted, HasherCount};
 pub type Buffer<K, S> = TableOver<Packed<K>, S>;
 
 /// A kind of contents that are packed, and what differs between packed tables of the kinds.
-pub trait PackedTests: PackedOwned
-where
-    Self::Owned: TestContent,
-{
+pub trait PackedTests: TestKind {
     /// Looks the borrowed form of a content up, as `get_interned`.
     fn pair_of<S: HasherCount>(
         alloc: Global,
         table: &Buffer<Self, S>,
-        sought: &Self::Owned,
+        sought: &ContentOf<Self>,
     ) -> Reply;
 
     /// Makes a call by the borrowed forms of contents, and returns its result as text.
@@ -41,12 +38,17 @@ where
         rt: &R,
         alloc: Global,
         table: &mut Buffer<Self, S>,
-        contents: &[Self::Owned],
+        contents: &[ContentOf<Self>],
         ask: Ask,
     ) -> String;
 
     /// Makes the steps on the iterators of forms.
-    fn go<R: Abort, S: HasherCount>(rt: &R, alloc: Global, table: &Buffer<Self, S>, steps: &Steps);
+    fn go_packed<R: Abort, S: HasherCount>(
+        rt: &R,
+        alloc: Global,
+        table: &Buffer<Self, S>,
+        steps: &Steps,
+    );
 }
 
 impl PackedTests for StrKind {
@@ -71,7 +73,12 @@ impl PackedTests for StrKind {
         answer_over(rt, alloc, table, contents, ask)
     }
 
-    fn go<R: Abort, S: HasherCount>(rt: &R, alloc: Global, table: &Buffer<Self, S>, steps: &Steps) {
+    fn go_packed<R: Abort, S: HasherCount>(
+        rt: &R,
+        alloc: Global,
+        table: &Buffer<Self, S>,
+        steps: &Steps,
+    ) {
         walk_table(rt, alloc, table, table.strings(), steps);
     }
 }
@@ -98,7 +105,12 @@ impl PackedTests for OsStrKind {
         answer_over(rt, alloc, table, contents, ask)
     }
 
-    fn go<R: Abort, S: HasherCount>(rt: &R, alloc: Global, table: &Buffer<Self, S>, steps: &Steps) {
+    fn go_packed<R: Abort, S: HasherCount>(
+        rt: &R,
+        alloc: Global,
+        table: &Buffer<Self, S>,
+        steps: &Steps,
+    ) {
         walk_table(rt, alloc, table, table.os_strings(), steps);
     }
 }
@@ -125,7 +137,12 @@ impl PackedTests for BytesKind {
         answer_over(rt, alloc, table, contents, ask)
     }
 
-    fn go<R: Abort, S: HasherCount>(rt: &R, alloc: Global, table: &Buffer<Self, S>, steps: &Steps) {
+    fn go_packed<R: Abort, S: HasherCount>(
+        rt: &R,
+        alloc: Global,
+        table: &Buffer<Self, S>,
+        steps: &Steps,
+    ) {
         walk_table(rt, alloc, table, table.bytestrings(), steps);
     }
 }
@@ -152,7 +169,12 @@ impl PackedTests for BStrKind {
         answer_over(rt, alloc, table, contents, ask)
     }
 
-    fn go<R: Abort, S: HasherCount>(rt: &R, alloc: Global, table: &Buffer<Self, S>, steps: &Steps) {
+    fn go_packed<R: Abort, S: HasherCount>(
+        rt: &R,
+        alloc: Global,
+        table: &Buffer<Self, S>,
+        steps: &Steps,
+    ) {
         walk_table(rt, alloc, table, table.bstrings(), steps);
     }
 }
@@ -179,34 +201,47 @@ impl PackedTests for PathKind {
         answer_over(rt, alloc, table, contents, ask)
     }
 
-    fn go<R: Abort, S: HasherCount>(rt: &R, alloc: Global, table: &Buffer<Self, S>, steps: &Steps) {
+    fn go_packed<R: Abort, S: HasherCount>(
+        rt: &R,
+        alloc: Global,
+        table: &Buffer<Self, S>,
+        steps: &Steps,
+    ) {
         walk_table(rt, alloc, table, table.paths(), steps);
     }
 }
 
-impl<K: PackedTests, S: HasherCount> Table for Buffer<K, S>
-where
-    K::Owned: TestContent,
-{
-    type Kind = K::Owned;
+impl<K: PackedTests, S: HasherCount> Table for Buffer<K, S> {
+    type Kind = ContentOf<K>;
 
-    fn put(&mut self, content: K::Owned) -> Reply {
+    fn put(&mut self, content: ContentOf<K>) -> Reply {
         interned(self.intern(content))
     }
 
-    fn put_all<R: Abort>(&mut self, rt: &R, alloc: Global, contents: Vec<K::Owned>) -> String {
+    fn put_all<R: Abort>(&mut self, rt: &R, alloc: Global, contents: Vec<ContentOf<K>>) -> String {
         K::ask_packed(rt, alloc, self, &contents, Ask::GetOrInternAll)
     }
 
-    fn put_counted<R: Abort>(&mut self, rt: &R, alloc: Global, contents: Vec<K::Owned>) -> String {
+    fn put_counted<R: Abort>(
+        &mut self,
+        rt: &R,
+        alloc: Global,
+        contents: Vec<ContentOf<K>>,
+    ) -> String {
         K::ask_packed(rt, alloc, self, &contents, Ask::CountedAll)
     }
 
-    fn pair(&self, alloc: Global, sought: &K::Owned) -> Reply {
+    fn pair(&self, alloc: Global, sought: &ContentOf<K>) -> Reply {
         K::pair_of(alloc, self, sought)
     }
 
-    fn ask<R: Abort>(&mut self, rt: &R, alloc: Global, contents: &[K::Owned], ask: Ask) -> String {
+    fn ask<R: Abort>(
+        &mut self,
+        rt: &R,
+        alloc: Global,
+        contents: &[ContentOf<K>],
+        ask: Ask,
+    ) -> String {
         K::ask_packed(rt, alloc, self, contents, ask)
     }
 
@@ -223,14 +258,11 @@ where
     }
 
     fn go<R: Abort>(&self, rt: &R, alloc: Global, steps: &Steps) {
-        K::go(rt, alloc, self, steps);
+        K::go_packed(rt, alloc, self, steps);
     }
 }
 
-impl<K: PackedTests> Made for Buffer<K, FixedState>
-where
-    K::Owned: TestContent,
-{
+impl<K: PackedTests> Made for Buffer<K, FixedState> {
     type Counting = Buffer<K, Counted>;
 
     fn make(alloc: Global, how: Make) -> Result<Self, RoomError> {

@@ -1,5 +1,5 @@
 //! A plain list of texts, and what a table returns that holds them.
-use super::printed::{reply_text, symbols_text};
+use super::printed::{inserted_text, reply_text, symbols_text};
 use super::script::{Line, size, symbol};
 use intaglio::{InternError, Reply, Symbol, SymbolOverflowError};
 use std::alloc::Global;
@@ -41,6 +41,7 @@ impl Plain {
                 symbols_text(rt, alloc, self.enter_all(rt, alloc, line.word))
             }
             "check_all" => self.find_all(rt, alloc, line.word),
+            "insert_full" => inserted_text(rt, alloc, self.insert(rt, line.word)),
             _ => reply_text(rt, alloc, &self.reply(rt, alloc, line)),
         }
     }
@@ -111,6 +112,19 @@ impl Plain {
         }
         self.texts.push(text).expect(rt, "memory");
         Reply::Symbol(Some(Symbol::new(u32::try_from(count).expect(rt, "too many"))))
+    }
+
+    // The symbol, and whether it is new.
+    fn insert(
+        &mut self,
+        rt: &impl Abort,
+        text: &'static str,
+    ) -> Result<(Symbol, bool), InternError> {
+        let is_new = self.position(text).is_none();
+        match self.enter(rt, text) {
+            Reply::Symbol(Some(symbol)) => Ok((symbol, is_new)),
+            _ => Err(InternError::Overflow(SymbolOverflowError::new())),
+        }
     }
 
     // All or none.

@@ -46,6 +46,18 @@ pub fn symbols_text(
     }
 }
 
+/// A symbol, and whether it is new, as text, or the error.
+pub fn inserted_text(
+    rt: &impl Abort,
+    alloc: Global,
+    inserted: Result<(Symbol, bool), InternError>,
+) -> String {
+    match inserted {
+        Ok((symbol, is_new)) => format!(in alloc; "{symbol:?} {is_new}").expect(rt, "memory"),
+        Err(refused) => reply_text(rt, alloc, &interned(Err(refused))),
+    }
+}
+
 /// A word as text of its own.
 pub fn word(rt: &impl Abort, alloc: Global, word: &str) -> String {
     word.to_string(alloc).expect(rt, "memory")

@@ -25,12 +25,13 @@ enum Argument {
     Count,
 }
 
-static NAMES: [(&str, Argument); 26] = [
+static NAMES: [(&str, Argument); 27] = [
     ("intern", Argument::Text),
     ("intern", Argument::Text),
     ("intern", Argument::Text),
     ("get_or_intern", Argument::Text),
     ("get_or_intern", Argument::Text),
+    ("insert_full", Argument::Text),
     ("check", Argument::Text),
     ("is_interned", Argument::Text),
     ("get_interned", Argument::Text),

@@ -65,12 +65,12 @@ fn a_reservation_grows_the_capacity(rt: HostRuntime) {
         "with_capacity 1 > done
 lend abc\0 > 0
 try_reserve 10 > done
-fits 11 > true
+capacity > 11
 
 with_capacity 1 > done
 lend abc\0 > 0
 reserve 10 > done
-fits 11 > true
+capacity > 11
 lend b\0 > 1
 lend c\0 > 2
 lend d\0 > 3

@@ -129,6 +129,7 @@ fn counts(rt: &impl Abort, counts: Counts, line: Line) -> Option<Reply> {
 fn ask(rt: &impl Abort, line: Line) -> Option<Ask> {
     match line.name {
         "get_or_intern" => Some(Ask::GetOrIntern),
+        "insert_full" => Some(Ask::InsertFull),
         "check" => Some(Ask::CheckInterned),
         "is_interned" => Some(Ask::IsInterned),
         "contains" => Some(Ask::Contains(symbol(rt, line.word))),

@@ -1,6 +1,9 @@
-//! Each public call of `Core`, made once on a table with random keys.
+//! Each public call of `Core`, made once on a table with random keys. All names are those of `intaglio_core`.
 use super::assertions::same;
-use intaglio::{Core, FormInterner, Interner, Mark, RoomError, StrContent, Symbol, Work};
+use intaglio_core::{
+    BytesContent, Call, Core, FormInterner, Interner, Mark, Reply, RoomError, StrContent, Symbol,
+    Work, run,
+};
 use std::alloc::Global;
 use std::hash::RandomState;
 use std::process::Abort;
@@ -105,6 +108,17 @@ fn cuts(rt: &impl Abort, table: &mut Table) {
     same(rt, (table.len(), table.capacity()), (0, 4));
 }
 
+// The list of contents grew from 4 to twice as many.
+#[test]
+fn a_shrink_gives_the_memory_of_the_list_back(rt: HostRuntime) {
+    let hasher = RandomState::new(&rt).expect(&rt, "a seed");
+    let mut table = Core::with_capacity_and_hasher(rt.alloc(), 0, hasher).expect(&rt, "a table");
+    fills(&rt, &mut table, "a b c d e");
+    same(&rt, table.store().capacity(), 8);
+    same(&rt, table.shrink_to_fit(), Ok(()));
+    same(&rt, table.store().capacity(), 5);
+}
+
 #[test]
 fn each_call_is_made_at_random_hashes(rt: HostRuntime) {
     let hasher = RandomState::new(&rt).expect(&rt, "a seed");
@@ -114,4 +128,21 @@ fn each_call_is_made_at_random_hashes(rt: HostRuntime) {
     lends(&rt, &table);
     resizes(&rt, &mut table);
     cuts(&rt, &mut table);
+}
+
+#[test]
+fn a_run_on_a_core_of_bytes_replies_to_each_call(rt: HostRuntime) {
+    let mut table: Core<BytesContent, Fold> = Core::with_capacity(rt.alloc(), 0).expect(
+        &rt, "memory",
+    );
+    let first = Call::Intern(BytesContent::from(b"\xffa".as_slice()));
+    let again = Call::Check(BytesContent::from(b"\xffa".as_slice()));
+    let calls = vec![in rt.alloc(); first, again, Call::Len].expect(&rt, "calls");
+    let replies = run(rt.alloc(), &mut table, calls, &mut Work::new()).expect(&rt, "replies");
+    let wanted = [
+        Reply::Symbol(Some(Symbol::new(0))),
+        Reply::Symbol(Some(Symbol::new(0))),
+        Reply::Count(1),
+    ];
+    assert_eq!(rt; replies.as_slice(), wanted.as_slice());
 }

@@ -28,6 +28,10 @@ impl Counting {
 
 impl Keyed for Counting {
     ghost key = { λ counting. str_content_bytes counting.text ∷ [] };
+
+    fn touch(&self) -> u8 {
+        self.text.touch()
+    }
 }
 
 impl Sought<Counting> for Counting {
@@ -38,9 +42,5 @@ impl Sought<Counting> for Counting {
     fn same_as(&self, stored: &Counting, work: &mut Work) -> bool {
         self.compared.set(self.compared.get().wrapping_add(1));
         self.text.same_as(&stored.text, work)
-    }
-
-    fn touch(&self, stored: &Counting) -> u8 {
-        self.text.touch(&stored.text)
     }
 }

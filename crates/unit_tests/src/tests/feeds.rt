@@ -1,10 +1,11 @@
 //! The bytes that each kind of content writes to a hasher.
+use bstr::BStr;
 use intaglio::bstr::BStrContent;
 use intaglio::bytes::BytesContent;
 use intaglio::cstr::{CStr, CStrContent};
 use intaglio::osstr::OsStrContent;
 use intaglio::path::{Path, PathContent};
-use intaglio::{Formed, Keyed, Sought, StrContent, Work};
+use intaglio::{Keyed, Sought, StrContent, Work};
 use std::mem::size_of;
 use std::process::Abort;
 use test_hashers::expected_writes::ExpectedWrites;
@@ -56,7 +57,7 @@ fn bytes_feed_themselves_and_an_end(rt: HostRuntime) {
 fn byte_strings_feed_their_bytes_and_an_end(rt: HostRuntime) {
     let text = BStrContent::Borrowed(b"abc".as_slice().into());
     feeds::<BStrContent, BStrContent>(&rt, &text, &[b"abc", b"\xff"]);
-    feeds::<BStrContent, <BStrContent as Formed>::Form>(&rt, &text.form(), &[b"abc", b"\xff"]);
+    feeds::<BStrContent, BStr<'_>>(&rt, &text.form(), &[b"abc", b"\xff"]);
     feeds_else::<BStrContent, BStrContent>(&rt, &text, &[b"abc"]);
 }
 

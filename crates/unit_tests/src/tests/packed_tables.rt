@@ -1,8 +1,10 @@
 //! Room in one buffer, and the ends of strings. The other calls of packed tables are made by the scripts.
 use super::assertions::{holds, same};
-use intaglio::Symbol;
 use intaglio::packed::SymbolTable;
+use intaglio::{FormInterner, Symbol};
+use intaglio_core::Store;
 use intaglio_packed::{StringBuffer, StringEnds};
+use std::process::Abort;
 use test_hashers::builders::Fold;
 
 fn makes_room(table: &mut SymbolTable<Fold>) -> bool {
@@ -28,12 +30,39 @@ fn a_packed_table_has_room_and_gives_it_up(rt: HostRuntime) {
     same(&rt, table.check_interned("abc"), Some(Symbol::new(0)));
 }
 
+fn adds(rt: &impl Abort, table: &mut SymbolTable<Fold>, texts: &str) {
+    for text in texts.split(' ') {
+        table.get_or_intern(text).expect(rt, "a symbol");
+    }
+}
+
+// For how many strings, and for how many bytes of them, the store holds memory.
+fn held(table: &SymbolTable<Fold>) -> (usize, usize) {
+    let store = FormInterner::store(table);
+    (store.capacity(), store.strings().held_bytes())
+}
+
+// 5 strings of 15 bytes: each room grew to twice what it was, and a shrink leaves none that isn't used.
+#[test]
+fn a_packed_table_doubles_its_memory_and_gives_it_back(rt: HostRuntime) {
+    let mut table = SymbolTable::with_capacity_and_hasher(rt.alloc(), 0, Fold::new()).expect(
+        &rt, "a table",
+    );
+    adds(&rt, &mut table, "a bc def ghij");
+    same(&rt, held(&table), (4, 16));
+    adds(&rt, &mut table, "klmno");
+    same(&rt, held(&table), (8, 16));
+    same(&rt, table.shrink_to_fit(), Ok(()));
+    same(&rt, held(&table), (5, 15));
+}
+
 #[test]
 fn a_packed_list_gives_up_its_room(rt: HostRuntime) {
     let mut list = StringBuffer::with_capacity(rt.alloc(), 5, 100).expect(&rt, "memory");
     list.push_reserved(b"abc");
     same(&rt, list.shrink_to(2), Ok(()));
     same(&rt, list.capacity(), 2);
+    same(&rt, list.held_bytes(), 3);
     same(&rt, list.get(0), Some(b"abc".as_slice()));
 }
 

@@ -1,24 +1,46 @@
-use Rattle.std.proofs.Common.{map}
-use Rattle.intaglio_interner.proofs.Each.{taken-back}
-use Rattle.intaglio_interner.proofs.Laws.{keeps-front, same_contents-keeps}
-use Rattle.intaglio_columns.proofs.Absorbed.{issued-map-by}
+use Rattle.std.proofs.Common.{◌≡◌, map, inr, arith}
+use Rattle.intaglio_interner.proofs.OnResult.{err-map, ok-map}
+use Rattle.intaglio_columns.proofs.Absorbed.{issued-map-by, ok-both}
 use Rattle.intaglio_columns.proofs.absorbing.absorb.Goals as goal
 
-pub returns-in-Ok-clause-same : goal.returns-in-Ok-clause-same
-returns-in-Ok-clause-same g c = λ keys.
+pub returns-clause-symbols : goal.returns-clause-symbols
+returns-clause-symbols g c =
+    let are : map g.T.Content.Form.CopiedTo.form_spelling c.deref.result.now ≡ g.L.StringList.strings c.args.list.now = rw c.deref.ensures.value c.in_ok-forms.ensures.strings in
+    rw (← are) c.get_or_intern_all.ensures.symbols
+
+pub returns-clause-held : goal.returns-clause-held
+returns-clause-held g c =
+    let are : map g.T.Content.Form.CopiedTo.form_spelling c.deref.result.now ≡ g.L.StringList.strings c.args.list.now = rw c.deref.ensures.value c.in_ok-forms.ensures.strings in
+    rw (← are) c.get_or_intern_all.ensures.held
+
+pub returns-clause-same : goal.returns-clause-same
+returns-clause-same g c = λ keys.
+    let are : map g.T.Content.Form.CopiedTo.form_spelling c.deref.result.now ≡ g.L.StringList.strings c.args.list.now = rw c.deref.ensures.value c.in_ok-forms.ensures.strings in
     let held = map g.T.Content.Content.spelling (g.T.FormInterner.state c.args.table.now).contents in
-    let new = map g.T.Content.Content.spelling (g.T.FormInterner.state c.intern_strings.new.table).contents in
-    issued-map-by g.T.Content.Content.key_of keys held (g.L.StringList.strings c.args.list.now) new c.in-Ok.symbols.items c.in-Ok.ensures.symbols c.in-Ok.ensures.held
+    let new = map g.T.Content.Content.spelling (g.T.FormInterner.state c.get_or_intern_all.new.table).contents in
+    rw (← are) (ok-both _ _ c.get_or_intern_all.result c.get_or_intern_all.ensures.symbols c.get_or_intern_all.ensures.held
+    (λ symbols given after. issued-map-by g.T.Content.Content.key_of keys held (map g.T.Content.Form.CopiedTo.form_spelling c.deref.result.now) new symbols.items given after))
 
-pub returns-in-Err-clause-refused : goal.returns-in-Err-clause-refused
-returns-in-Err-clause-refused g c =
-    let old = g.T.FormInterner.state c.args.table.now in
-    let mid = g.T.FormInterner.state c.intern_strings.new.table in
-    taken-back old mid _ _ c.take_back.result c.mark-mark.ensures.mark (keeps-front g.T.Content.Keyed.key old mid c.intern_strings.ensures.kept) c.take_back.ensures.step
+pub returns-clause-overflow : goal.returns-clause-overflow
+returns-clause-overflow g c =
+    let are : map g.T.Content.Form.CopiedTo.form_spelling c.deref.result.now ≡ g.L.StringList.strings c.args.list.now = rw c.deref.ensures.value c.in_ok-forms.ensures.strings in
+    rw (← are) c.get_or_intern_all.ensures.overflow
 
-pub returns-in-Err-clause-kept : goal.returns-in-Err-clause-kept
-returns-in-Err-clause-kept g c =
-    let old = g.T.FormInterner.state c.args.table.now in
-    let mid = g.T.FormInterner.state c.intern_strings.new.table in
-    same_contents-keeps g.T.Content.Keyed.key old (g.T.FormInterner.state c.take_back.new.self)
-    (taken-back old mid _ _ c.take_back.result c.mark-mark.ensures.mark (keeps-front g.T.Content.Keyed.key old mid c.intern_strings.ensures.kept) c.take_back.ensures.step)
+pub returns-clause-cost : goal.returns-clause-cost
+returns-clause-cost g c =
+    let are : map g.T.Content.Form.CopiedTo.form_spelling c.deref.result.now ≡ g.L.StringList.strings c.args.list.now = rw c.deref.ensures.value c.in_ok-forms.ensures.strings in
+    ok-map _ _ c.get_or_intern_all.result (λ symbols run. (run.0, run.1, (c.deref.result.now, are, run.2))) c.get_or_intern_all.ensures.ok
+
+pub returns-clause-refused_cost : goal.returns-clause-refused_cost
+returns-clause-refused_cost g c =
+    let are : map g.T.Content.Form.CopiedTo.form_spelling c.deref.result.now ≡ g.L.StringList.strings c.args.list.now = rw c.deref.ensures.value c.in_ok-forms.ensures.strings in
+    err-map _ _ c.get_or_intern_all.result (λ e run. (run.0, run.1, inr (c.deref.result.now, are, run.2))) c.get_or_intern_all.ensures.refused_cost
+
+pub returns-clause-bytes : goal.returns-clause-bytes
+returns-clause-bytes g c =
+    let needs = rw (← c.deref.ensures.value) at c.in_ok-forms.ensures.needs in
+    record {
+      taken = omega (arith, c.get_or_intern_all.ensures.bytes.taken, needs);
+      room = c.get_or_intern_all.ensures.bytes.room;
+      refused = c.get_or_intern_all.ensures.bytes.refused;
+    }

@@ -1,6 +1,5 @@
 -- What was translated before these bytes, and of them so far.
 use Rattle.std.proofs.Common.{ℕ, List, Option, ◌-◌, ◌≤◌, drop, length}
-use Rattle.std.specs.Io.KnownBytes.{append_known}
 use Rattle.intaglio_dictionary.specs.Translation.{HasTranslated}
 use Rattle.intaglio_dictionary.proofs.translate.translate_pieces.Given as goal
 
@@ -9,9 +8,9 @@ invariant-loop-size g l = record {
   within : l.at ≤ length l.bytes;
   goes : (input old left : Option (List ℕ))
       → HasTranslated g.T.Translator.pieces (g.T.Translator.fits l.translator) (g.T.Translator.translated l.translator) input old
-      (append_known (g.W.Write.contents l.initial.writer) l.initial.block.items) l.bytes left l.fn.number
+      (g.W.Write.contents l.initial.writer) l.initial.block.items l.bytes left l.fn.number
       → HasTranslated g.T.Translator.pieces (g.T.Translator.fits l.translator) (g.T.Translator.translated l.translator) input old
-      (append_known (g.W.Write.contents l.writer) l.block.items) (drop l.at l.bytes) left l.count;
+      (g.W.Write.contents l.writer) l.block.items (drop l.at l.bytes) left l.count;
 }
 
 abbrev pub decreases-loop-size : goal.decreases-loop-size

@@ -1,5 +1,10 @@
-use Rattle.std.proofs.Common.{◌≡◌, vec_len}
+use Rattle.std.proofs.Common.{◌≡◌, ◌≤◌, length, map, take, vec_len, vec_capacity}
+use Rattle.intaglio_frozen.specs.LookUp.{hash_under}
 use Rattle.intaglio_frozen.proofs.placing.hashes.Given as goal
 
 abbrev pub invariant-loop-i : goal.invariant-loop-i
-invariant-loop-i g l = vec_len l.hashes ≡ l.i
+invariant-loop-i g l = record {
+  hashes : l.hashes.items ≡ map (hash_under l.key0 l.key1) (take l.i (g.L.StringList.strings l.list));
+  count : vec_len l.hashes ≡ l.i;
+  room : length (g.L.StringList.strings l.list) ≤ vec_capacity l.hashes;
+}

@@ -1,4 +1,4 @@
-use Rattle.std.proofs.Common.{◌≡◌, ◌∙◌, [], arith, append_assoc, append-nil, map, refl, sym, rules}
+use Rattle.std.proofs.Common.{◌≡◌, ◌+◌, ◌∙◌, [], arith, append_assoc, append-nil, map, refl, sym, rules}
 use Rattle.std.specs.Vec.Iter.{into_iter_items}
 use Rattle.std.proofs.lemmas.Grind.{common_steps}
 use Rattle.intaglio_run.specs.declared.runs.Call.TheVariants.{Intern}
@@ -8,6 +8,9 @@ use Rattle.intaglio_run.proofs.Room.{Runs-roomier}
 use Rattle.intaglio_run.specs.Run.{KeepsRoom}
 use Rattle.intaglio_run.proofs.Bytes.{All-next, StillRoom-start, StillRoom-push}
 use Rattle.intaglio_run.proofs.InOrder.{Adds-push}
+use Rattle.intaglio_run.specs.Step.{Step}
+use Rattle.intaglio_run.specs.Growths.{room, changes, bytes_of}
+use Rattle.intaglio_run.proofs.Growths.{growing-push, list-growths, byte-growths, call-size, few-growths}
 use Rattle.intaglio_run.proofs.runs.run.Goals as goal
 
 pub loop-call-init : goal.loop-call-init
@@ -17,6 +20,7 @@ loop-call-init g c =
       can = tt;
       finite = tt;
       ran = ([], sym (append-nil _), rw c.in_ok-replies.ensures.items (refl, refl));
+      growths = (0, 0, rw c.in_ok-replies.ensures.items (refl, refl, refl));
       same_hash = refl;
       whole = all;
       room = search rules;
@@ -29,6 +33,15 @@ loop-call-preserved g c = record {
   can = tt;
   finite = tt;
   ran = rw c.push_reserved.ensures.items (Adds-push _ _ _ _ _ _ _ _ _ _ _ c.loop-call.invariant.ran (let spent = rw c.loop-call.invariant.same_hash at c.step.ensures.cost in (spent.0, spent.1, (c.step.ensures.step, spent.2, c.step.ensures.valid))));
+  growths =
+      let so_far = c.loop-call.invariant.growths in
+      let mid = room (g.T.FormInterner.state c.loop-call.table) (g.T.FormInterner.most c.loop-call.table) (g.T.FormInterner.spare_bytes c.loop-call.table) in
+      let next = room (g.T.FormInterner.state c.step.new.table) (g.T.FormInterner.most c.step.new.table) (g.T.FormInterner.spare_bytes c.step.new.table) in (
+        so_far.0 + changes mid.most next.most,
+        so_far.1 + changes (bytes_of g.T.Store.Store.takes mid) (bytes_of g.T.Store.Store.takes next),
+        rw c.push_reserved.ensures.items
+            (growing-push g.T.Store.Store.takes g.Q.AddedTo.needs (Step g.T.Content.Keyed.key g.Q.Keyed.key g.T.Content.Content.spelling g.Q.AddedTo.adds g.Q.AddedTo.copies) _ _ _ so_far.0 so_far.1 mid _ c.step.result next so_far.2 c.step.ensures.step c.step.ensures.grows),
+      );
   same_hash = c.step.ensures.same_hash ∙ c.loop-call.invariant.same_hash;
   whole = rw (append_assoc, ← c.in-Some.ensures.steps.0) c.loop-call.invariant.whole;
   room = omega (arith, c.in-Some.ensures.steps);
@@ -76,3 +89,18 @@ returns-clause-bytes g c = c.loop-call.invariant.bytes
 
 pub returns-clause-byte_room : goal.returns-clause-byte_room
 returns-clause-byte_room g c = λ qs interns few there enough. (c.loop-call.invariant.still qs interns few there enough).0
+
+pub returns-clause-growths : goal.returns-clause-growths
+returns-clause-growths g c =
+    let all : c.loop-call.yielded ≡ c.args.calls.items = grind (arith, common_steps, c.in-None.ensures.steps, c.loop-call.invariant.whole) in
+    let so_far = c.loop-call.invariant.growths in
+    let steps = Step g.T.Content.Keyed.key g.Q.Keyed.key g.T.Content.Content.spelling g.Q.AddedTo.adds g.Q.AddedTo.copies in
+    let run = rw all at so_far.2 in
+    record {
+      g = so_far.0;
+      h = so_far.1;
+      growths = run;
+      list = λ keep. list-growths g.T.Store.Store.takes g.Q.AddedTo.needs steps _ _ _ _ _ _ keep run;
+      few = λ keep. few-growths g.T.Store.Store.takes g.Q.AddedTo.needs steps (λ old next call r kept made. call-size g.T.Content.Keyed.key g.Q.Keyed.key g.T.Content.Content.spelling g.Q.AddedTo.adds g.Q.AddedTo.copies g.met.Q.AddedTo.adds_one old next call r kept made) _ _ _ _ _ _ keep run;
+      bytes = λ keep. byte-growths g.T.Store.Store.takes g.Q.AddedTo.needs steps _ _ _ _ _ _ keep run;
+    }

@@ -1,7 +1,9 @@
-use Rattle.std.proofs.Common.{◌≡◌, ◌++◌, ◌+◌, ◌≤◌, vec_len, vec_capacity}
+use Rattle.std.proofs.Common.{◌≡◌, ℕ, ◌++◌, ◌+◌, ◌≤◌, vec_len, vec_capacity}
 use Rattle.std.specs.Vec.Iter.{into_iter_items, into_iter_len}
 use Rattle.intaglio_interner.specs.Cost.{Adds}
 use Rattle.intaglio_run.specs.Run.{RunsValues, HoldsBytes}
+use Rattle.intaglio_run.specs.Step.{Step}
+use Rattle.intaglio_run.specs.Growths.{room, RunsGrowing}
 use Rattle.intaglio_run.proofs.Bytes.{StillRoom}
 use Rattle.intaglio_run.proofs.runs.run.Given as goal
 
@@ -10,6 +12,7 @@ invariant-loop-call g l = record {
   can : (goal.iterator-loop-call g).can_next l.call-iterator;
   finite : (goal.iterator-loop-call g).is_finite l.call-iterator;
   ran : Adds l.initial.work.events l.work.events (λ cost. RunsValues g.T.Content.Keyed.key g.Q.Keyed.key g.T.Content.Content.spelling g.Q.AddedTo.adds g.Q.AddedTo.copies (g.T.FormInterner.hash l.initial.table) (g.T.FormInterner.state l.initial.table) l.yielded l.replies.items cost (g.T.FormInterner.state l.table));
+  growths : (i j : ℕ) × RunsGrowing g.T.Store.Store.takes g.Q.AddedTo.needs (Step g.T.Content.Keyed.key g.Q.Keyed.key g.T.Content.Content.spelling g.Q.AddedTo.adds g.Q.AddedTo.copies) (room (g.T.FormInterner.state l.initial.table) (g.T.FormInterner.most l.initial.table) (g.T.FormInterner.spare_bytes l.initial.table)) l.yielded l.replies.items i j (room (g.T.FormInterner.state l.table) (g.T.FormInterner.most l.table) (g.T.FormInterner.spare_bytes l.table));
   same_hash : g.T.FormInterner.hash l.table ≡ g.T.FormInterner.hash l.initial.table;
   whole : l.yielded ++ into_iter_items l.call-iterator ≡ l.fn.calls.items;
   room : vec_len l.replies + into_iter_len l.call-iterator ≤ vec_capacity l.replies;

@@ -41,7 +41,7 @@ loop-rest-preserved g c =
       known = known.1;
       put = (
         done.0 ++ spelling_line (get_or spellings (digits_value 10 line) []),
-        Appends-append _ _ _ done.0 (spelling_line (get_or spellings (digits_value 10 line) [])) done.1 (rw spelling at c.in_ok-put_line.ensures),
+        Appends-append _ _ _ done.0 (spelling_line (get_or spellings (digits_value 10 line) [])) done.1 (rw spelling at c.in_ok-put_line.ensures.put),
         decoded-more rest line after c.first_line.ensures.lines written spellings done.0 ∙ done.2,
       );
     }

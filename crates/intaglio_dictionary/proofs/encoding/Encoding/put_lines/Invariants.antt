@@ -1,8 +1,7 @@
 -- The codes of the lines so far were put.
-use Rattle.std.proofs.Common.{◌-◌, ◌≤◌, drop, length}
-use Rattle.std.specs.Io.KnownBytes.{append_known}
+use Rattle.std.proofs.Common.{◌-◌, ◌≤◌, drop, length, take}
 use Rattle.intaglio_lines.specs.Lines.{lines_of}
-use Rattle.intaglio_dictionary.specs.Columns.{encoded_line, has_code}
+use Rattle.intaglio_dictionary.specs.Columns.{HasNoEnd, encoded_line, has_code}
 use Rattle.intaglio_dictionary.specs.Translation.{GoesOn}
 use Rattle.intaglio_dictionary.proofs.encoding.Encoding.put_lines.Given as goal
 
@@ -10,8 +9,10 @@ abbrev pub invariant-loop-at : goal.invariant-loop-at
 invariant-loop-at g l = record {
   within : l.at ≤ length l.bytes;
   goes : GoesOn lines_of (has_code l.self.table.now l.self.missing) (encoded_line l.self.table.now)
-      (append_known (g.W.Write.contents l.initial.writer) l.initial.block.items) l.bytes l.fn.number
-      (append_known (g.W.Write.contents l.writer) l.block.items) (drop l.at l.bytes) l.count;
+      (g.W.Write.contents l.initial.writer) l.initial.block.items l.bytes l.fn.number
+      (g.W.Write.contents l.writer) l.block.items (drop l.at l.bytes) l.count;
+  few : l.skip ≤ length (drop l.at l.bytes);
+  skip : HasNoEnd (take l.skip (drop l.at l.bytes));
 }
 
 abbrev pub decreases-loop-at : goal.decreases-loop-at

@@ -1,0 +1,189 @@
+"""Columns of numpy and pandas from Python, beside plain lists. What isn't there is left out, and named at the end of the output."""
+import os
+import pickle
+import random
+import subprocess
+import sys
+import tempfile
+import unittest
+from array import array
+from pathlib import Path
+
+from intaglio import MISSING, BytesTable, Frozen, Missing, PathTable, SymbolTable, merge, renumber
+
+try:
+    import numpy
+except ImportError:
+    numpy = None
+try:
+    import pandas
+except ImportError:
+    pandas = None
+
+NAN = float("nan")
+STRINGS = ["to", "be", "", "é", "a word that is longer than the others" * 9]
+
+
+def frozen_of(strings):
+    return Frozen.from_bytes((SymbolTable if all(isinstance(it, str) for it in strings) else BytesTable)(strings).freeze())
+
+
+def codes_of(column, symbols):
+    """The codes of a column, by a dict, in which new strings get the next number."""
+    return [MISSING if it is None or it is pandas_na() or it != it else symbols.setdefault(it, len(symbols)) for it in column]
+
+
+def pandas_na():
+    return pandas.NA if pandas else None
+
+
+@unittest.skipUnless(numpy, "numpy isn't there")
+class Arrays(unittest.TestCase):
+    def test_arrays_of_objects_and_of_strings(self):
+        column = ["é", "to", "", "to", "a" * 300, "é"]
+        for given in (numpy.array(column), numpy.array(column, object), numpy.array(column, object)[:], numpy.array(column * 2, object)[:6], numpy.array(column).reshape(6)):
+            symbols, out = {}, numpy.full(8, 9, numpy.uint32)
+            wanted = codes_of(column, symbols)
+            table = SymbolTable()
+            self.assertEqual((list(table.encode(given)), list(table), [type(it) for it in table]), (wanted, [*symbols], [str] * len(symbols)))
+            for call in (table.intern_into, table.encode_into, table.check_into, frozen_of([*symbols]).encode_into):
+                out[:] = 9
+                self.assertEqual((call(given, out), out.tolist()), (6, wanted + [9, 9]))
+            self.assertEqual((table.intern_all(given), table.check_all(given), frozen_of([*symbols]).find_all(given)), (wanted, wanted, wanted))
+            self.assertEqual(list(SymbolTable(given)), [*symbols])
+        self.assertEqual(list(SymbolTable(numpy.array(column * 2, object)[::2])), ["é", "", "a" * 300])
+        self.assertEqual(list(SymbolTable(numpy.array(column)[::-1])), ["é", "a" * 300, "to", ""])
+        data = [b"\xff", b"a", b"\xff", b"a\0b"]
+        for given in (numpy.array(data), numpy.array(data, object)):
+            self.assertEqual((list(BytesTable(given)), list(frozen_of(data[::-1]).encode(given))), ([b"\xff", b"a", b"a\0b"], [1, 2, 1, 0]))
+        self.assertEqual((list(SymbolTable(numpy.array([], object))), list(SymbolTable(numpy.array([], str)))), ([], []))
+        self.assertEqual(list(PathTable(numpy.array(["a//b", Path("a/b"), "c"], object))), ["a//b", "c"])
+
+    def test_arrays_with_what_is_missing(self):
+        for nothing in (None, NAN, numpy.nan, numpy.float64("nan")):
+            column = numpy.array(["b", nothing, "a", nothing, "b"], object)
+            table, out = SymbolTable(), numpy.full(5, 9, numpy.int32)
+            self.assertEqual(list(table.encode(column, missing=MISSING)), [0, MISSING, 1, MISSING, 0])
+            self.assertEqual((table.intern_into(column, out, missing=MISSING), out.tolist()), (5, [0, -1, 1, -1, 0]))
+            self.assertEqual((table.check_into(column, out, missing=7), out.tolist()), (5, [0, 7, 1, 7, 0]))
+            words = frozen_of(["a"])
+            self.assertEqual((words.encode_into(column, out, missing=MISSING), out.tolist()), (5, [-1, -1, 0, -1, -1]))
+            for call in (table.encode, words.encode, table.intern_all, words.find_all):
+                with self.assertRaisesRegex(TypeError, "at position 1"):
+                    call(column[2:])
+        with self.assertRaisesRegex(TypeError, "not float, at position 1$"):
+            SymbolTable().encode(numpy.array(["a", 1.5], object), missing=MISSING)
+        self.assertEqual(list(SymbolTable().encode(numpy.empty(3, object), missing=4)), [4, 4, 4])
+
+    def test_arrays_that_are_no_column_of_strings(self):
+        flat, deep = (numpy.array("abc"), numpy.array("abc", object)), (numpy.array([["a", "b"]]), numpy.array([["a"], ["b"]], object))
+        for given in (*flat, *deep, numpy.zeros(3), numpy.array([1, 2], object), numpy.array(["a"], "S1")):
+            table, words = SymbolTable(), frozen_of(["a"])
+            for call in (table.encode, table.intern_all, table.check_all, words.encode, words.find_all, SymbolTable):
+                with self.assertRaises(TypeError):
+                    call(given)
+            self.assertEqual(len(table), 0)
+
+    def test_codes_of_numpy(self):
+        words = frozen_of(STRINGS)
+        for kind in ("u4", "i4"):
+            codes = numpy.array([3, 0, -1, 1], "i4").astype(kind)
+            self.assertEqual(words.decode(codes, missing=None), ["é", "to", None, "be"])
+            self.assertEqual(SymbolTable(STRINGS).decode(codes[::-2], missing=None), ["be", "to"])
+            numbers = numpy.arange(10, 15, dtype=kind)
+            out = numpy.zeros(4, kind)
+            self.assertIs(renumber(codes, numbers, out=out), out)
+            self.assertEqual(out.astype("u4").tolist(), [13, 10, MISSING, 11])
+            self.assertIs(renumber(codes, numbers, out=codes), codes)
+            self.assertEqual(codes.tolist(), out.tolist())
+        codes = numpy.frombuffer(words.encode(["be", "no", "to"], missing=MISSING), "i4")
+        self.assertEqual(codes.tolist(), [1, -1, 0])
+
+    def test_lines_of_numpy(self):
+        lines = numpy.frombuffer(b"b\na\nb", numpy.uint8)
+        table = SymbolTable()
+        self.assertEqual((list(table.intern_lines(lines)), list(table)), ([0, 1, 0], ["b", "a"]))
+        self.assertEqual(list(frozen_of(["a", "b"]).encode_lines(lines)), [1, 0, 1])
+
+    def test_random_columns(self):
+        chance = random.Random(8)
+        for size in (0, 1, 63, 64, 65, 5_000, 100_000):
+            column = [chance.choice([None, NAN, *map(str, range(200))]) for _ in range(size)]
+            symbols, table = {}, SymbolTable()
+            wanted = codes_of(column, symbols)
+            for given in (column, numpy.array(column, object)):
+                self.assertEqual((list(table.encode(given, missing=MISSING)), list(table)), (wanted, [*symbols]))
+                self.assertEqual(list(frozen_of([*symbols]).encode(given, missing=MISSING)), wanted)
+
+
+@unittest.skipUnless(pandas, "pandas isn't there")
+class Columns(unittest.TestCase):
+    def setUp(self):
+        folder = tempfile.TemporaryDirectory()
+        self.addCleanup(folder.cleanup)
+        self.folder = Path(folder.name)
+
+    def test_columns_of_each_type(self):
+        column = ["b", None, "a", "b", NAN, "é"]
+        for nothing in (column, ["b", pandas.NA, "a", "b", None, "é"]):
+            series = pandas.Series(nothing, dtype=object)
+            others = pandas.Categorical(series), pandas.Index(series), pandas.Series(nothing, index=[5, 3, 2, 4, 1, 0]), series.array
+            for given in (series, series.astype("string"), series.astype("category"), *others):
+                table, out = SymbolTable(), numpy.zeros(6, "i4")
+                self.assertEqual((list(table.encode(given, missing=MISSING)), list(table)), ([0, MISSING, 1, 0, MISSING, 2], ["b", "a", "é"]))
+                self.assertEqual((table.intern_into(given, out, missing=MISSING), out.tolist()), (6, [0, -1, 1, 0, -1, 2]))
+                self.assertEqual(list(frozen_of(["a", "b"]).encode(given, missing=MISSING)), [1, MISSING, 0, 1, MISSING, MISSING])
+                for call in (SymbolTable().encode, frozen_of(["b"]).encode):
+                    with self.assertRaisesRegex(TypeError, "at position 1: missing= gives None, NaN and NA a code$"):
+                        call(given)
+        whole = pandas.Series(["b", "a", "b"])
+        for given in (whole, whole.astype("string"), whole.astype("category"), pandas.DataFrame({"x": whole, "y": ["c", "d", "e"]})["x"]):
+            self.assertEqual((list(SymbolTable(given)), SymbolTable().intern_all(given), frozen_of(["a", "b"]).find_all(given)), (["b", "a"], [0, 1, 0], [1, 0, 1]))
+        with self.assertRaises(Missing) as raised:
+            frozen_of(["b"]).encode(whole)
+        self.assertEqual((raised.exception.string, raised.exception.position), ("a", 1))
+        for other in (pandas.Series([1, 2]), pandas.DataFrame({"x": whole}), pandas.Series([1.5, NAN])):
+            with self.assertRaises(TypeError):
+                SymbolTable().encode(other, missing=MISSING)
+
+    def test_codes_of_pandas(self):
+        words = frozen_of(STRINGS)
+        codes = pandas.Series([1, -1, 0], dtype="int32")
+        self.assertEqual(words.decode(codes, missing=None), ["be", None, "to"])
+        self.assertEqual(list(renumber(codes, pandas.Series([7, 8], dtype="uint32"))), [8, MISSING, 7])
+        with self.assertRaisesRegex(TypeError, "astype"):
+            words.decode(pandas.Series([1, 0]))
+        with self.assertRaisesRegex(TypeError, "astype"):
+            words.decode(pandas.Categorical(["to", "be"]).codes)
+
+    def test_from_a_series_to_a_file_and_back_to_a_categorical(self):
+        chance = random.Random(3)
+        paths = [f"/usr/share/{it % 97}/é{it}" for it in range(3_000)]
+        left, right = ([chance.choice([None, *paths[at:at + 2_000]]) for _ in range(20_000)] for at in (0, 1_000))
+        for name, column in (("left", left), ("right", right)):
+            table = SymbolTable()
+            codes = table.encode(pandas.Series(column), missing=MISSING)
+            table.freeze(self.folder / f"{name}.dict")
+            (self.folder / f"{name}.codes").write_bytes(codes)
+        program = """if True:
+            import pickle, sys
+            import numpy, pandas
+            from intaglio import Frozen
+            words = Frozen(sys.argv[1] + ".dict", kind=str)
+            codes = numpy.fromfile(sys.argv[1] + ".codes", "<i4")
+            column = pandas.Series(pandas.Categorical.from_codes(codes, categories=list(words)))
+            sys.stdout.buffer.write(pickle.dumps(column.astype(object).where(column.notna(), None).tolist()))"""
+        for name, column in (("left", left), ("right", right)):
+            back = subprocess.run([sys.executable, "-c", program, self.folder / name], capture_output=True, check=True, env=os.environ)
+            self.assertEqual(pickle.loads(back.stdout), column)
+        words, maps = merge([self.folder / "left.dict", self.folder / "right.dict"])
+        columns = [renumber(numpy.fromfile(self.folder / f"{name}.codes", "<i4"), numbers) for name, numbers in zip(("left", "right"), maps)]
+        frames = [pandas.DataFrame({"path": pandas.Categorical.from_codes(numpy.frombuffer(codes, "i4"), categories=list(words))}).dropna() for codes in columns]
+        joined = frames[0].drop_duplicates().merge(frames[1].drop_duplicates(), on="path")
+        self.assertEqual(sorted(joined["path"]), sorted({*left} & {*right} - {None}))
+
+
+if __name__ == "__main__":
+    for module, name in ((numpy, "numpy"), (pandas, "pandas")):
+        print(f"{name} {module.__version__}" if module else f"left out: {name} isn't there")
+    unittest.main()

@@ -1,0 +1,206 @@
+#!/usr/bin/env python3
+"""Writes docs/api: a page for each library with its public calls, from the sources.
+
+    checks/api.py [--check]
+
+A call has its signature, the first paragraph of its documentation, what it requires, its errors, and the names of its clauses. With --check
+nothing is written: what differs from the sources is printed, and the status is 1 if anything does. checks/ledger asks for that too.
+"""
+
+import re
+import sys
+import textwrap
+from pathlib import Path
+
+sys.dont_write_bytecode = True
+import arguments
+import interface
+import sources
+from sources import TOP, UNNAMED
+
+FOLDER = TOP / "docs/api"
+WIDTH = 118
+NOTE = "This page is written by `checks/api.py` from the sources: change it there."
+MEANS = ("Each call has its signature, the first paragraph of its documentation, what it requires, its errors, and the names of its clauses, which "
+         "stand below its signature in the source. [CALLING.md](../CALLING.md) has calls by task, and the clauses that callers rely on.")
+# Libraries that are parts of a program, and crates of tests and examples, which no caller needs.
+# (The calls of `intaglio_c` are those of C: bindings/c/intaglio.h documents them.)
+LEFT_OUT = re.compile(r"intaglio_dict_io|intaglio_c|test_hashers|refusals|bench|\w+_tests|example_\w+")
+
+
+def documentation(lines, at):
+    """The lines of documentation above the item at a line, without their marks."""
+    found = []
+    while at > 0 and re.match(r"\s*(///|//|#\[)", lines[at - 1]):
+        at -= 1
+        if line := re.match(r"\s*/// ?(.*)", lines[at]):
+            found.insert(0, line[1])
+    return found
+
+
+def paragraphs(lines):
+    """The paragraphs of documentation by their headings: '' for those before the first heading. Examples are left out."""
+    found, heading, is_code = {"": [""]}, "", False
+    for line in lines:
+        if line.startswith("```"):
+            is_code = not is_code
+        elif not is_code:
+            if line.startswith("# "):
+                heading = line[2:]
+                found[heading] = [""]
+            elif not line.strip():
+                found[heading].append("")
+            else:
+                found[heading][-1] += (" " if found[heading][-1] else "") + line.strip()
+    return {name: [it for it in parts if it] for name, parts in found.items()}
+
+
+def plain(text):
+    """A text of documentation, with its links as the names that they lead to."""
+    text = re.sub(r"\[(`[^`]+`)\]\([^)]*\)", r"\1", text)
+    text = re.sub(r"\[([^\]`]+)\]\(crate[^)]*\)", r"\1", text)
+    return re.sub(r"\[(`[^`]+`)\]", r"\1", text)
+
+
+def wrapped(text, first="", rest=""):
+    # (a name in back quotes stays on one line)
+    kept = re.sub(r"`[^`]+`", lambda it: it[0].replace(" ", "\0"), text)
+    lines = textwrap.fill(kept, WIDTH, initial_indent=first, subsequent_indent=rest, break_long_words=False, break_on_hyphens=False)
+    return lines.replace("\0", " ")
+
+
+def condition(clause):
+    """What a clause says, on one line."""
+    return re.sub(r"\s+", " ", clause.partition("{")[2].rpartition("}")[0]).strip()
+
+
+def signature(function):
+    end = interface.END.search(function.text)
+    return interface.joined(function.text[: end.start()] if end else function.text).removeprefix("pub ")
+
+
+class Call:
+    """A public call: its owner and trait, its signature, what its documentation and its contract say."""
+
+    def __init__(self, every, function):
+        lines = (TOP / function.file).read_text(encoding="utf-8").splitlines()
+        at = next(i for i in range(function.line - 1, len(lines)) if sources.FN.match(lines[i]))
+        said = paragraphs(documentation(lines, at))
+        self.owner, self.trait, self.name = function.owner, function.trait, function.name
+        self.signature = signature(function)
+        self.does = plain(said[""][0]) if said[""] else ""
+        self.errors = " ".join(plain(it) for it in said.get("Errors", []))
+        named = {name: text.split()[0].rstrip("*") for name, text in function.clauses.items()}
+        self.requires = [condition(text) for name, text in function.clauses.items() if named[name] == "requires"]
+        self.clauses = [name for name, word in named.items() if word == "ensures"]
+        own = every.members.get((function.crate, function.owner, function.trait), {})
+        self.clauses += [name for name in own if name.startswith(function.name) or name.endswith("_gives")] if function.trait else []
+
+    def page(self):
+        yield wrapped(f"`{self.signature}`", "- ", "  ")
+        if self.does:
+            yield wrapped(self.does, "  ", "  ")
+        if self.requires:
+            yield wrapped("Requires " + "; ".join(f"`{it}`" for it in self.requires) + ".", "  ", "  ")
+        if self.errors:
+            yield wrapped(f"Errors: {self.errors}", "  ", "  ")
+        if self.clauses and self.clauses != [UNNAMED]:
+            yield wrapped("Clauses: " + ", ".join(f"`{it}`" for it in self.clauses if it != UNNAMED) + ".", "  ", "  ")
+
+
+def module(crate, path):
+    """The public modules in which a file of a crate is, as a prefix of the names in it."""
+    found, at = "", TOP / "crates" / crate / "src"
+    text = (at / "lib.rt").read_text(encoding="utf-8")
+    for part in path.relative_to(at).with_suffix("").parts:
+        if part not in interface.MODULE.findall(text):
+            break
+        found, at = f"{found}{part}::", at / part
+        text = at.with_suffix(".rt").read_text(encoding="utf-8")
+    return found
+
+
+def types_of(crate):
+    """The public types, traits and constants of a crate, each with its documentation."""
+    for path in sorted((TOP / "crates" / crate / "src").glob("**/*.rt")):
+        text = path.read_text(encoding="utf-8")
+        lines = text.splitlines()
+        for found in interface.TYPE.finditer(text):
+            start = text[: found.start(2)].count("\n")
+            said = paragraphs(documentation(lines, start - found[1].count("\n")))[""]
+            name = re.match(r"pub \w+ (\w+)", found[2])
+            yield name[1], module(crate, path), interface.joined(found[2]).removeprefix("pub "), plain(said[0]) if said else ""
+
+
+def about(crate):
+    """What the crate's first lines say of it."""
+    text = (TOP / "crates" / crate / "src/lib.rt").read_text(encoding="utf-8")
+    return plain(paragraphs(re.findall(r"(?m)^//! ?(.*)$", text))[""][0])
+
+
+def heading(owner, trait, place):
+    return f"`{trait}` for `{owner}`" if trait not in ("", owner) else f"`{place}{owner}`" if owner else "Functions"
+
+
+def page_of(every, crate):
+    """The page of a crate: what belongs to no type, then each type with its calls, then the impls of traits."""
+    calls = [Call(every, it) for it in every.functions if it.crate == crate and not it.is_test and every.is_public(it)]
+    yield f"# `{crate}`\n\n{NOTE}\n\n{wrapped(about(crate))}\n"
+    groups = {("", "", ""): []}
+    declared = {}
+    for name, place, head, said in types_of(crate):
+        declared[name, "", place] = head, said
+        groups[name, "", place] = []
+    for call in calls:
+        trait = call.trait if call.trait != call.owner else ""
+        place = next((it for name, of, it in declared if (name, of) == (call.owner, trait)), "")
+        groups.setdefault((call.owner, trait, place), []).append(call)
+    # (what the crate itself has comes before what its modules have)
+    for key, own in sorted(groups.items(), key=lambda it: bool(it[0][2])):
+        if not own and key not in declared:
+            continue
+        yield f"## {heading(*key)}\n"
+        if key in declared:
+            head, said = declared[key]
+            yield wrapped(f"`{head}`") + "\n"
+            if said:
+                yield wrapped(said) + "\n"
+        if own:
+            yield "\n".join(line for call in own for line in call.page()) + "\n"
+
+
+def pages():
+    """Each page of docs/api with what it should have."""
+    every = sources.Sources()
+    crates = [it.name for it in sorted((TOP / "crates").iterdir()) if (it / "src/lib.rt").is_file() and not LEFT_OUT.fullmatch(it.name)]
+    rows = [wrapped(f"[`{crate}`]({crate}.md): {about(crate)}", "- ", "  ") for crate in crates]
+    yield FOLDER / "README.md", f"# Public calls\n\n{NOTE}\n{wrapped(MEANS)}\n\n" + "\n".join(rows) + "\n"
+    for crate in crates:
+        yield FOLDER / f"{crate}.md", "\n".join(page_of(every, crate)).rstrip() + "\n"
+
+
+def wrong():
+    """What differs from the sources."""
+    there = {*FOLDER.glob("*.md")}
+    for path, text in pages():
+        there.discard(path)
+        if not path.is_file() or path.read_text(encoding="utf-8") != text:
+            yield f"{path.relative_to(TOP)}: isn't what checks/api.py writes: run it"
+    for path in sorted(there):
+        yield f"{path.relative_to(TOP)}: there is no such library: remove it"
+
+
+def main():
+    parser = arguments.parser(__doc__)
+    parser.add_argument("--check", action="store_true")
+    if parser.parse_args().check:
+        found = [*wrong()]
+        print("\n".join(found) or "api: all pages are up to date")
+        sys.exit(1 if found else 0)
+    FOLDER.mkdir(exist_ok=True)
+    for path, text in pages():
+        path.write_text(text, encoding="utf-8")
+
+
+if __name__ == "__main__":
+    main()

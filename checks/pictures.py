@@ -1,0 +1,88 @@
+#!/usr/bin/env python3
+"""Draws the pictures of the pages by graphviz (a package of Debian): docs/crates.svg from crates.txt, docs/interning.svg from docs/interning.dot.
+
+    checks/pictures.py [--check]
+
+In crates.svg an arrow leads from a crate to one that it stands on, unless that is reached through another arrow. Crates of tests, examples and
+benchmarks aren't drawn. A picture holds the sum of what it was drawn from: with --check nothing is drawn, and the status is 1 if a picture was
+drawn from something else than what is there.
+"""
+
+import hashlib
+import re
+import shutil
+import subprocess
+import sys
+
+sys.dont_write_bytecode = True
+import arguments
+from sources import TOP
+
+LEFT_OUT = re.compile(r"test_hashers|refusals|bench|\w+_tests|example_\w+")
+# Colours that are read on white, in grey too.
+PROGRAMS, LIBRARIES, INK = "#ffffff", "#e8eef7", "#223344"
+
+
+def listed():
+    """The crates of crates.txt that are drawn, each with those of them that it names, and whether it is a program."""
+    rows = re.findall(r"(?m)^(\w+)[^:#\n]*:([^#\n]*)", (TOP / "crates.txt").read_text(encoding="utf-8"))
+    names = [name for name, _ in rows if not LEFT_OUT.fullmatch(name)]
+    return {name: [it for it in below.split() if it in names] for name, below in rows if name in names}
+
+
+def reduced(crates):
+    """The same without what is reached through another crate."""
+    reach = {}
+    for name, below in crates.items():
+        reach[name] = {*below}.union(*(reach[it] for it in below))
+    return {name: [it for it in below if not any(it in reach[other] for other in below)] for name, below in crates.items()}
+
+
+def graph():
+    crates = listed()
+    lines = [f'rankdir=BT; bgcolor=white; nodesep=.25; ranksep=.4; node [shape=box style="filled,rounded" fontname="sans-serif" fontsize=11 color="{INK}"'
+             f' fontcolor="{INK}" margin=".12,.06" height=.3]; edge [color="{INK}" arrowsize=.6];']
+    for name, below in reduced(crates).items():
+        is_program = (TOP / "crates" / name / "src/main.rt").is_file()
+        lines.append(f'{name} [fillcolor="{PROGRAMS if is_program else LIBRARIES}" label="{name.removeprefix("intaglio_")}"];')
+        lines += [f"{name} -> {it};" for it in below]
+    return "digraph crates {\n" + "\n".join(lines) + "\n}\n"
+
+
+def sources_of():
+    """Each picture with the graph that it is drawn from."""
+    return {TOP / "docs/crates.svg": graph(), TOP / "docs/interning.svg": (TOP / "docs/interning.dot").read_text(encoding="utf-8")}
+
+
+def mark(text):
+    return f"<!-- drawn from {hashlib.sha256(text.encode()).hexdigest()[:16]} by checks/pictures.py -->"
+
+
+def wrong():
+    """What is wrong with the pictures that are there."""
+    for path, text in sources_of().items():
+        if not path.is_file() or mark(text) not in path.read_text(encoding="utf-8"):
+            yield f"{path.relative_to(TOP)}: isn't drawn from its source as that is: run checks/pictures.py"
+
+
+def draw(path, text):
+    drawn = subprocess.run(["dot", "-Tsvg"], input=text, capture_output=True, text=True, check=True).stdout
+    # (the version of graphviz doesn't belong in the file)
+    path.write_text(re.sub(r"(?s)<!DOCTYPE.*?>\s*|<!--.*?-->\s*", "", drawn).rstrip() + f"\n{mark(text)}\n", encoding="utf-8")
+
+
+def main():
+    parser = arguments.parser(__doc__)
+    parser.add_argument("--check", action="store_true")
+    if parser.parse_args().check:
+        found = [*wrong()]
+        print("\n".join(found) or "pictures: all are up to date")
+        sys.exit(1 if found else 0)
+    if not shutil.which("dot"):
+        sys.exit("checks/pictures.py needs graphviz: apt-get install graphviz")
+    for path, text in sources_of().items():
+        draw(path, text)
+
+
+if __name__ == "__main__":
+    main()
