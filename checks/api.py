@@ -63,8 +63,11 @@ def plain(text):
 
 
 def wrapped(text, first="", rest=""):
-    # (a name in back quotes stays on one line)
-    kept = re.sub(r"`[^`]+`", lambda it: it[0].replace(" ", "\0"), text)
+    # (a name in back quotes stays on one line; a signature that is too long for one is cut after its arguments)
+    def whole(found):
+        return re.sub(r" " if len(rest + found[0]) <= WIDTH else r"(?<!,) (?!->)", "\0", found[0])
+
+    kept = re.sub(r"`[^`]+`", whole, text)
     lines = textwrap.fill(kept, WIDTH, initial_indent=first, subsequent_indent=rest, break_long_words=False, break_on_hyphens=False)
     return lines.replace("\0", " ")
 
