@@ -3,8 +3,9 @@
 
     checks/evidence.py [--check]
 
-Which mutants and tests belong to a promise stands in evidence.txt. What a mutant is refused by comes from its block in mutants.txt, the file
-of a test from the sources. With --check nothing is written: what is wrong is printed, and the status is 1. checks/ledger asks for that too.
+Which mutants and tests belong to a promise stands in evidence.txt. What a mutant breaks comes from its block in mutants.txt, the
+file of a test from the sources. With --check nothing is written: what is wrong is printed, and the status is 1 if anything is.
+checks/ledger asks for that too.
 """
 
 import re
@@ -18,6 +19,7 @@ import sources
 from sources import TOP
 
 TABLE, PROMISES, PAGE = TOP / "checks/evidence.txt", TOP / "docs/PROMISES.md", TOP / "docs/EVIDENCE.md"
+WIDTH = 118
 LINK = re.compile(r"\[([\w-]+)\]\(EVIDENCE\.md#([\w-]+)\)")
 HEAD = """# Evidence
 
@@ -32,12 +34,12 @@ is called, `loop` is the invariant of a loop, and `bounds` are the bounds of an 
 
 
 class Evidence(NamedTuple):
-    """What shows a promise, and the reason for which such mutants stay (`kept`), if the block is of those."""
+    """A block of evidence.txt: what shows a promise, or mutants that stay as long as their clauses do, with the reason."""
 
     promise: str
     kept: str
-    mutants: list
-    tests: list
+    mutants: list[str]
+    tests: list[str]
 
 
 def blocks():
@@ -45,13 +47,14 @@ def blocks():
     text = re.sub(r"(?m)^#.*\n", "", TABLE.read_text(encoding="utf-8"))
     for block in re.split(r"\n{2,}", text.strip()):
         parts = {key: value.split() for key, value in re.findall(r"(?ms)^(\w+): (.*?)(?=^\w+: |\Z)", block)}
-        words = lambda key: " ".join(parts.get(key, []))
-        yield Evidence(words("promise"), words("kept"), parts.get("mutants", []), parts.get("tests", []))
+        promise, kept = (" ".join(parts.get(key, [])) for key in ("promise", "kept"))
+        yield Evidence(promise, kept, parts.get("mutants", []), parts.get("tests", []))
 
 
 def promised():
-    """The headings of PROMISES.md, each with the names in the last cells of its rows, in order."""
-    found, heading, seen = {}, "", set()
+    """The headings of PROMISES.md, each with the names in the last cells of its rows that no heading before it has."""
+    found: dict[str, list[str]] = {}
+    seen, heading = set(), ""
     for line in PROMISES.read_text(encoding="utf-8").splitlines():
         heading = line[3:] if line.startswith("## ") else heading
         for name, anchor in LINK.findall(line) if line.startswith("|") else []:
@@ -62,16 +65,21 @@ def promised():
     return found
 
 
+def mutants_of(every):
+    return [it for it in every.edits if it.kind == sources.MUTANT]
+
+
 def named(every, name):
-    """What CRATE/NAME or NAME is of these, or nothing."""
+    """What CRATE/NAME or NAME is of these, or nothing if there are none or several."""
     found = [it for it in every if name in (it.name, f"{it.crate}/{it.name}")]
     return found[0] if len(found) == 1 else None
 
 
-def wrapped(text, first="- ", rest="  "):
+def wrapped(text):
+    # (a name in back quotes stays on one line)
     kept = re.sub(r"`[^`]+`", lambda it: it[0].replace(" ", "\0"), text)
-    lines = textwrap.fill(kept, 118, initial_indent=first, subsequent_indent=rest, break_long_words=False, break_on_hyphens=False)
-    return lines.replace("\0", " ")
+    lines = textwrap.wrap(kept, WIDTH - 2, break_long_words=False, break_on_hyphens=False)
+    return "- " + "\n  ".join(lines).replace("\0", " ")
 
 
 def listed(names):
@@ -80,18 +88,20 @@ def listed(names):
 
 def line_of_mutant(mutant, kept):
     crate = f"[`{mutant.crate}`](../crates/{mutant.crate}/mutants.txt)"
-    reason = f" It stays, since it was {kept}." if kept else ""
     clauses = listed([f"`{it}`" for it in mutant.clauses])
-    return wrapped(f"`{mutant.name}` edits `{mutant.function}` of {crate} and breaks {clauses}, by which {mutant.promise}.{reason}")
+    reason = f" It stays, since it was {kept}." if kept else ""
+    return wrapped(
+        f"`{mutant.name}` edits `{mutant.function}` of {crate} and breaks {clauses}, by which {mutant.promise}.{reason}"
+    )
 
 
 def line_of_test(name, test):
-    return wrapped(f"[`{name}`](../{test.file})" if test else f"[`{name}`](../{name})")
+    return wrapped(f"[`{name}`](../{test.file if test else name})")
 
 
 def page(every):
     """The page as it should be."""
-    of, mutants, tests = {it.promise: it for it in blocks()}, [it for it in every.edits if it.kind == sources.MUTANT], every.tests()
+    of, mutants, tests = {it.promise: it for it in blocks()}, mutants_of(every), every.tests()
     kept = {name: it.kept for it in blocks() if it.kept for name in it.mutants}
     yield HEAD
     for heading, names in promised().items():
@@ -107,15 +117,19 @@ def page(every):
 def wrong(every=None):
     """What is wrong with evidence.txt, and whether the page is another than it says."""
     every = every or sources.Sources()
-    names, own = {it for names in promised().values() for it in names}, [*blocks()]
-    mutants = {f"{it.crate}/{it.name}": it for it in every.edits if it.kind == sources.MUTANT}
+    own, names = [*blocks()], {it for names in promised().values() for it in names}
+    mutants = mutants_of(every)
     of_promises = {name for it in own if it.promise in names for name in it.mutants}
-    yield from (f"checks/evidence.txt: docs/PROMISES.md has no row of {it.promise}" for it in own if not it.kept and it.promise not in names)
-    yield from (f"docs/PROMISES.md: checks/evidence.txt has no block of {it}" for it in sorted(names - {it.promise for it in own}))
     for it in own:
-        yield from (f"checks/evidence.txt: no or several mutants are {name}" for name in it.mutants if not named(mutants.values(), name))
-    for full, it in mutants.items():
-        if not {full, it.name} & of_promises:
+        if not it.kept and it.promise not in names:
+            yield f"checks/evidence.txt: docs/PROMISES.md has no row of {it.promise or 'a block'}"
+        if not (it.kept or it.mutants or it.tests):
+            yield f"checks/evidence.txt: {it.promise} has no mutant and no test"
+        yield from (f"checks/evidence.txt: no or several mutants are {name}" for name in it.mutants if not named(mutants, name))
+    for name in sorted(names - {it.promise for it in own}):
+        yield f"docs/PROMISES.md: checks/evidence.txt has no block of {name}"
+    for it in mutants:
+        if not {it.name, f"{it.crate}/{it.name}"} & of_promises:
             yield f"{it.path}: it belongs to no promise in checks/evidence.txt"
     if not PAGE.is_file() or PAGE.read_text(encoding="utf-8") != "\n".join(page(every)):
         yield "docs/EVIDENCE.md: isn't what checks/evidence.py writes: run it"
