@@ -16,6 +16,7 @@ import sys
 import tempfile
 from concurrent.futures import ThreadPoolExecutor
 from pathlib import Path
+from typing import Any
 
 sys.dont_write_bytecode = True
 TOP = Path(__file__).resolve().parent.parent
@@ -48,6 +49,8 @@ OF_OTHERS = {"invariant_of": "invariant", "requires": "requires", "loop": "loop"
 BROKEN_NAME = re.compile(r"has no field|is not in scope|has no `|was not admitted")
 # The answer by which a function is spoilt.
 SPOILT = re.compile(r": error: `spoilt`: ")
+# The locks on crates that are held until this process ends.
+HELD: list[Any] = []
 
 
 def version():
@@ -63,7 +66,9 @@ def load():
     path = os.path.realpath(found)
     sys.path.insert(0, os.path.dirname(path))
     loader = importlib.machinery.SourceFileLoader("rt", path)
-    module = importlib.util.module_from_spec(importlib.util.spec_from_loader("rt", loader))
+    spec = importlib.util.spec_from_loader("rt", loader)
+    assert spec
+    module = importlib.util.module_from_spec(spec)
     loader.exec_module(module)
     module.Crate.cuts_libraries = True
     module.rtlib.Crate = module.Crate
@@ -244,7 +249,8 @@ class Verdicts:
     def __init__(self, scripts, is_anew, is_beside_ci):
         every = crates() if keeps_verdicts() else []
         # (the files are looked at here, and again as something is kept)
-        self.kept, self.stamps = load().Kept(every, is_anew) if every else NothingKept(), {}
+        self.kept = load().Kept(every, is_anew) if every else NothingKept()
+        self.stamps: dict[str, str] = {}
         for crate in every:
             load().stamp_of(crate, self.stamps)
         self.scripts, self.is_beside_ci = [load().rtlib.sum_of(it) for it in scripts], is_beside_ci
@@ -312,7 +318,7 @@ def standing_on(names):
         crate = every.get(name) or sys.exit(f"crates.txt lists no {name}")
         found += [it for it in [*crate.below(), crate] if it not in found]
     # No other rt works in them until this process ends.
-    standing_on.held = load().rtlib.lock(found)
+    HELD.append(load().rtlib.lock(found))
     return found
 
 
@@ -367,7 +373,7 @@ def copied_proofs(repository, names):
     below it too, and of this version of `rt`. Returns the names of those that are proved there now."""
     here, there = ({it.name: it for it in crates(top)} for top in (TOP, repository))
     # No other rt works in them until this process ends.
-    copied_proofs.held = load().rtlib.lock([*(here[it] for it in names), *(there[it] for it in names)])
+    HELD.append(load().rtlib.lock([*(here[it] for it in names), *(there[it] for it in names)]))
     for name in names:
         mine, theirs = here[name], there[name]
         if mine.is_built() and not theirs.is_built() and mine.stamp() == theirs.stamp():
@@ -392,7 +398,8 @@ def functions_of(crate):
 
 def chains_through(crates):
     """How long the longest chain through each crate is, in functions, in which each waits for the one before it. The crates come lowest first."""
-    below, behind = {}, {}
+    below: dict[str, int] = {}
+    behind: dict[str, int] = {}
     for crate in crates:
         below[crate.name] = functions_of(crate) + max((below.get(it.name, 0) for it in crate.below()), default=0)
     for crate in reversed(crates):
@@ -402,7 +409,7 @@ def chains_through(crates):
 
 def beside(call, *given):
     """What a call gives that runs on what nothing else uses of the processors: in a thread of its own, whose priority is lower, as is that of what it starts."""
-    with ThreadPoolExecutor(1, initializer=os.nice, initargs=[10]) as pool:
+    with ThreadPoolExecutor(1, initializer=os.nice, initargs=(10,)) as pool:
         return pool.submit(call, *given).result()
 
 
