@@ -97,7 +97,7 @@ def renumbered(numbers, codes):
 
 def merged(dictionaries):
     """The distinct strings of several lists in the order of their first occurrences, and a map for each list."""
-    symbols = {}
+    symbols: dict[bytes, int] = {}
     maps = [[symbols.setdefault(it, len(symbols)) for it in strings] for strings in dictionaries]
     return [*symbols], maps
 
@@ -209,17 +209,17 @@ def faults(tool, folder):
     for given, place in ((b"a\nx\n", 2), (b"x", 1), (b"a\n\nccc\ncc", 4), (b"aa\n", 1), (b"\n\n\nA\n", 4), *shows):
         fault = f"line {place} is not in the dictionary: {shown(lines_of(given)[place - 1])}; {CODED}"
         status, wrote, told = run([tool, "encode", table], given)
-        yield f"encode {given[-99:]}", (status, told) == said(1, f"standard input: {fault}")[::2]
-        yield f"what encode wrote of {given[-99:]}", packed(encoded(strings, lines_of(given)[: place - 1])).startswith(wrote)
+        yield f"encode {given[-99:]!r}", (status, told) == said(1, f"standard input: {fault}")[::2]
+        yield f"what encode wrote of {given[-99:]!r}", packed(encoded(strings, lines_of(given)[: place - 1])).startswith(wrote)
         Path(codes).write_bytes(given)
         Path(out).write_bytes(b"as it was")
-        yield f"encode -o {given[-99:]}", run([tool, "encode", table, codes, "-o", out]) == said(1, f"{codes}: {fault}") and read(out) == b"as it was"
+        yield f"encode -o {given[-99:]!r}", run([tool, "encode", table, codes, "-o", out]) == said(1, f"{codes}: {fault}") and read(out) == b"as it was"
         wanted = packed(encoded(strings, lines_of(given), True))
-        yield f"encode --missing {given[-99:]}", run([tool, "encode", "--missing", table], given) == (0, wanted, [])
+        yield f"encode --missing {given[-99:]!r}", run([tool, "encode", "--missing", table], given) == (0, wanted, [])
         lines = [it if it in strings else b"?" for it in lines_of(given)]
-        yield f"decode --missing {given[-99:]}", run([tool, "decode", "--missing", "?", table], wanted) == (0, ended(lines), [])
+        yield f"decode --missing {given[-99:]!r}", run([tool, "decode", "--missing", "?", table], wanted) == (0, ended(lines), [])
         told = said(1, f"standard input: code number {place} is {MISSING}, {LINELESS}")[::2]
-        yield f"decode {given[-99:]}", run([tool, "decode", table], wanted)[::2] == told
+        yield f"decode {given[-99:]!r}", run([tool, "decode", table], wanted)[::2] == told
     of_code = {"decode": "which is no symbol", "renumber": "which isn't in the map"}
     for numbers, place in (([3], 1), ([0, 2, 1, 4], 4), ([2**31], 1), ([0, 2**32 - 2], 2), ([1] * 100_000 + [3], 100_001)):
         for command in (["decode", table], ["decode", "--missing", "?", table], ["renumber", f"{folder}/map"]):
@@ -458,7 +458,8 @@ def unread(command, given):
 
 def example(tool, folder):
     """The worked example, which compares what comes back itself."""
-    for lines in ([], [b"b", b"a", b"b"], [b"w%d" % (it * it % 97) for it in range(500)]):
+    columns: tuple[list[bytes], ...] = ([], [b"b", b"a", b"b"], [b"w%d" % (it * it % 97) for it in range(500)])
+    for lines in columns:
         Path(f"{folder}/lines").write_bytes(ended(lines))
         status, wrote, _ = run(["examples/columns", f"{folder}/lines", "3"], DICT=tool, PATH=os.environ["PATH"])
         yield f"{len(lines)} lines", (status, wrote.split(b"\n")[0]) == (0, b"strings %d" % len({*lines}))
@@ -480,14 +481,14 @@ def made(tool, folder):
     if not shutil.which("make"):
         print("left out: make isn't there")
         return
-    rules = re.search(r"```make\n(.*?)```", Path("docs/COLUMNS.md").read_text(encoding="utf-8"), re.S)[1]
+    rules = re.findall(r"```make\n(.*?)```", Path("docs/COLUMNS.md").read_text(encoding="utf-8"), re.S)[0]
     Path(f"{folder}/Makefile").write_text(rules)
-    parts = [[b"a", b"b", b"a"], [b"c", b"b"], [], [b"", b"a"]]
-    for changed, lines in ((None, None), (1, [b"d", b"a", b"d"])):
-        if lines:
-            parts[changed] = lines
+    parts: list[list[bytes]] = [[b"a", b"b", b"a"], [b"c", b"b"], [], [b"", b"a"]]
+    for changes in ({*range(4)}, {1}):
+        if len(changes) == 1:
+            parts[1] = [b"d", b"a", b"d"]
         for part, each in enumerate(parts):
-            if changed in (None, part):
+            if part in changes:
                 Path(f"{folder}/{part}.lines").write_bytes(ended(each))
         ran = subprocess.run(["make", "-s", "-j4", "-C", folder, f"DICT={tool}"], capture_output=True, timeout=60)
         strings, maps = merged([*dict.fromkeys(it)] for it in parts)

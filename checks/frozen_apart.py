@@ -3,13 +3,14 @@
 The runs are generated. For each command, each pair of an output and an input or another output is one file, which each of the two names in each way
 that it can: by a path, a symbolic or hard link, a dangling link, or as a standard stream that is redirected to it.
 """
+import functools
 import itertools
 import os
 import stat
 import subprocess
 import tempfile
 from pathlib import Path
-from typing import NamedTuple
+from typing import Any, NamedTuple
 
 from frozen_tables import freeze
 from programs import run
@@ -133,7 +134,7 @@ class Room:
 
     def run(self, tool, words, ways, messages=""):
         """How the program ends, what it wrote and said, and whether all is as it was when it began."""
-        streams = {"stdin": subprocess.DEVNULL, "stdout": subprocess.PIPE, "stderr": subprocess.PIPE}
+        streams: dict[str, Any] = {"stdin": subprocess.DEVNULL, "stdout": subprocess.PIPE, "stderr": subprocess.PIPE}
         opened = []
         for way in ways:
             stream = "stdin" if way.mode == "rb" else "stdout"
@@ -212,6 +213,11 @@ def ways_of_map(output, is_there):
             yield f"{output}, a hard link", lambda room: os.link(room.top / "file", room.top / "maps" / output)
 
 
+def prepare_both(first, second, room):
+    first(room)
+    second(room)
+
+
 def two_outputs(tool, command):
     """The same of each two outputs, which are there before or aren't."""
     pairs = itertools.combinations(enumerate(command.outputs), 2)
@@ -228,8 +234,7 @@ def two_outputs(tool, command):
         for first, (called, prepare) in itertools.product(firsts, ways_of_map(other, is_there)):
             yield f"{one} {first.called}, {called}{there}", refused(tool, command, content, {("output", at): first}, prepare)
         for (called, first), (called_second, second) in itertools.product(ways_of_map(one, is_there), ways_of_map(other, is_there)):
-            prepare = lambda room, both=(first, second): [it(room) for it in both]
-            yield f"{called}, {called_second}{there}", refused(tool, command, content, {}, prepare)
+            yield f"{called}, {called_second}{there}", refused(tool, command, content, {}, functools.partial(prepare_both, first, second))
 
 
 def names_of_maps(tool):
@@ -350,11 +355,12 @@ def numbers(tool):
 def wrong_cases(tool):
     """Yields what is wrong with the program."""
     count = 0
-    runs = [(" ".join(command.words), case, case(tool, command)) for command in COMMANDS for case in (apart, inputs_and_outputs, two_outputs, messages, twice, empty)]
-    runs += [("merge", names_of_maps, names_of_maps(tool)), ("merge", stale, stale(tool)), ("get", numbers, numbers(tool))]
-    for words, case, cases in runs:
+    of_each = (apart, inputs_and_outputs, two_outputs, messages, twice, empty)
+    runs = [(" ".join(command.words), case.__name__, case(tool, command)) for command in COMMANDS for case in of_each]
+    runs += [("merge", "names_of_maps", names_of_maps(tool)), ("merge", "stale", stale(tool)), ("get", "numbers", numbers(tool))]
+    for words, name, cases in runs:
         for what, is_right in cases:
             count += 1
             if not is_right:
-                yield f"{tool} {words}: {case.__name__}: {what}"
+                yield f"{tool} {words}: {name}: {what}"
     print(f"{tool}: {count} runs on files that are one, or aren't", flush=True)

@@ -51,6 +51,7 @@ def start(writer, path, given, before=None, **settings):
     started = subprocess.Popen(
         [*writer.command, path], stdin=subprocess.PIPE, stdout=subprocess.PIPE, stderr=subprocess.PIPE, preexec_fn=before, env=settings
     )
+    assert started.stdin
     try:
         started.stdin.write(given)
         started.stdin.flush()
@@ -251,11 +252,11 @@ def names(writer, folder):
         remove(path)
     path = f"{folder}/{'n' * 256}"
     yield "a name that is too long", frozen_to(writer, path) == (1, writer.message(path, os.strerror(errno.ENAMETOOLONG)))
-    path = os.fsencode(folder) + b"/\xff"
+    other = os.fsencode(folder) + b"/\xff"
     if isinstance(writer, Module):
-        yield "a name that isn't UTF-8", frozen_to(writer, path) == DONE and has(path)
+        yield "a name that isn't UTF-8", frozen_to(writer, other) == DONE and has(other)
     else:
-        yield "a name that isn't UTF-8", frozen_to(writer, path) == (2, f"{NAME}: argument 3 isn't UTF-8: '{folder}/\\xff'")
+        yield "a name that isn't UTF-8", frozen_to(writer, other) == (2, f"{NAME}: argument 3 isn't UTF-8: '{folder}/\\xff'")
 
 
 def errors(writer, folder):
@@ -281,7 +282,7 @@ def closed(writer, folder):
     Path(source).write_bytes(writer.given(STRINGS))
     for streams in ((0,), (1,), (2,), (0, 1), (0, 2), (1, 2), (0, 1, 2)):
         command = [*writer.command, path, *words, source]
-        done = subprocess.run(command, preexec_fn=lambda: [os.close(it) for it in streams], capture_output=True, timeout=SECONDS)
+        done = subprocess.run(command, preexec_fn=lambda: [*map(os.close, streams)], capture_output=True, timeout=SECONDS)
         yield f"closed streams {streams}", done.returncode == 0 and has(path)
         remove(path)
     done = subprocess.run([*writer.command, path], preexec_fn=lambda: os.close(0), capture_output=True, timeout=SECONDS)
@@ -324,7 +325,8 @@ def in_folder(case, *arguments):
 
 def wrong_cases(tool, library, count, with_module):
     """Yields what is wrong with the files of this program, and of the Python module: with rounds of several processes."""
-    program, module = Program(tool), Module()
+    program: Program | Module = Program(tool)
+    module: Program | Module = Module()
     for writer in (program, module) if with_module else (program,):
         cases = [it for case in CASES for it in in_folder(case, writer)]
         if writer is program:

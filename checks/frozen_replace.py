@@ -14,7 +14,7 @@ def module_replace():
     """The function, from a package in which nothing else is imported."""
     package, table = types.ModuleType("intaglio"), types.ModuleType("intaglio._table")
     package.__path__ = [PACKAGE]
-    table.__getattr__ = lambda name: None
+    setattr(table, "__getattr__", lambda name: None)
     sys.modules.update({"intaglio": package, "intaglio._table": table})
     from intaglio.frozen import replace
 

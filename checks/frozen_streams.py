@@ -33,7 +33,7 @@ def streams(tool, folder):
     yield "freeze -o - FILE", run([tool, "freeze", "-o", "-", lines]) == done(TABLE)
     yield "freeze FILE - FILE", run([tool, "freeze", "-o", "-", lines, "-", lines], b"other") == done(freeze([*WORDS, b"other"]))
     yield "freeze makes no file -", sorted(os.listdir(folder)) == ["lines", "words"]
-    for command, words, wrote in (("list", [], LINES), ("check", [], b""), ("get", ["3", "0"], WORDS[3] + b"\n" + WORDS[0] + b"\n")):
+    for command, words, wrote in (("list", (), LINES), ("check", (), b""), ("get", ("3", "0"), WORDS[3] + b"\n" + WORDS[0] + b"\n")):
         yield f"{command} -", run([tool, command, "-", *words], TABLE) == done(wrote)
     yield "stat -", run([tool, "stat", "-"], TABLE) == run([tool, "stat", name])
     yield "check -, no table", run([tool, "check", "-"], b"x") == said(1, "standard input: not a frozen table")
@@ -41,8 +41,8 @@ def streams(tool, folder):
     yield "find DICT -", run([tool, "find", name, "-"], WORDS[4]) == done(b"4\n")
     yield "find DICT - FILE", run([tool, "find", name, "-", lines], WORDS[4]) == done(b"4\n" + b"".join(b"%d\n" % it for it in range(20)))
     twice = said(2, "standard input can be only one of the inputs")
-    for words in (["find", "-"], ["find", "-", lines, "-"], ["get", "-"]):
-        yield f"{words}", run([tool, *words], TABLE) == twice
+    for asked in (["find", "-"], ["find", "-", lines, "-"], ["get", "-"]):
+        yield f"{asked}", run([tool, *asked], TABLE) == twice
     full = ["/bin/sh", "-c", 'exec "$0" "$@" > /dev/full', tool, "freeze", "-o", "-", lines]
     yield "freeze -o - to a full device", run(full) == said(1, "standard output: No space left on device")
 
@@ -75,8 +75,8 @@ def symbols(tool, folder):
     """`get` takes symbols from the lines of standard input."""
     name = f"{folder}/words"
     Path(name).write_bytes(TABLE)
-    for given, wanted in ((b"3\n0\n19", [3, 0, 19]), (b"", []), (b"0\n" * 1000, [0] * 1000), (b"007\n", [7])):
-        yield f"get: {given[:9]}", run([tool, "get", name], given) == done(b"".join(WORDS[it] + b"\n" for it in wanted))
+    for given, wanted in ((b"3\n0\n19", (3, 0, 19)), (b"", ()), (b"0\n" * 1000, (0,) * 1000), (b"007\n", (7,))):
+        yield f"get: {given[:9]!r}", run([tool, "get", name], given) == done(b"".join(WORDS[it] + b"\n" for it in wanted))
     for given, what in (
         (b"1\nx\n", "line 2 is no symbol: 'x'"),
         (b"1\n2\n\n", "line 3 is no symbol: ''"),
@@ -84,7 +84,7 @@ def symbols(tool, folder):
         (b"0\n4294967296\n", "line 2 is no symbol: '4294967296'"),
         (b"0\n\xff\n", "line 2 is not UTF-8"),
     ):
-        yield f"get: {given}", run([tool, "get", name], given) == said(1, f"standard input: {what}")
+        yield f"get: {given!r}", run([tool, "get", name], given) == said(1, f"standard input: {what}")
     yield "get: no string", run([tool, "get", name], b"0\n20\n") == said(1, f"{name}: no string has the symbol 20")
     found = run([tool, "find", name], LINES)[1]
     yield "get after find", run([tool, "get", name], found) == done(LINES)
@@ -166,7 +166,7 @@ def usage(tool, folder):
             yield f"messages of {called} {words}", ran.stderr.startswith(f"{shown}: {message}")
     given = [tool, "freeze", "--verbose", "-o", f"{folder}/made"]
     for lines, count, distinct in ((b"b\na\nb", 3, 2), (b"b\n", 1, 1), (b"", 0, 0), (b"\n\n", 2, 1)):
-        yield f"freeze --verbose {lines}", run(given, lines) == (0, b"", [f"{NAME}: {count} lines frozen", f"{NAME}: {distinct} distinct lines"])
+        yield f"freeze --verbose {lines!r}", run(given, lines) == (0, b"", [f"{NAME}: {count} lines frozen", f"{NAME}: {distinct} distinct lines"])
 
 
 CASES = (streams, statuses, symbols, outputs, texts, trusted, progress, usage)
