@@ -10,7 +10,6 @@ nothing is written: what differs from the sources is printed, and the status is 
 import re
 import sys
 import textwrap
-from pathlib import Path
 
 sys.dont_write_bytecode = True
 import arguments
@@ -30,7 +29,7 @@ LEFT_OUT = re.compile(r"intaglio_dict_io|intaglio_c|test_hashers|refusals|bench|
 
 def documentation(lines, at):
     """The lines of documentation above the item at a line, without their marks."""
-    found = []
+    found: list[str] = []
     while at > 0 and re.match(r"\s*(///|//|#\[)", lines[at - 1]):
         at -= 1
         if line := re.match(r"\s*/// ?(.*)", lines[at]):
@@ -128,8 +127,8 @@ def types_of(crate):
         for found in interface.TYPE.finditer(text):
             start = text[: found.start(2)].count("\n")
             said = paragraphs(documentation(lines, start - found[1].count("\n")))[""]
-            name = re.match(r"pub \w+ (\w+)", found[2])
-            yield name[1], module(crate, path), interface.joined(found[2]).removeprefix("pub "), plain(said[0]) if said else ""
+            name = re.findall(r"^pub \w+ (\w+)", found[2])[0]
+            yield name, module(crate, path), interface.joined(found[2]).removeprefix("pub "), plain(said[0]) if said else ""
 
 
 def about(crate):
@@ -146,7 +145,7 @@ def page_of(every, crate):
     """The page of a crate: what belongs to no type, then each type with its calls, then the impls of traits."""
     calls = [Call(every, it) for it in every.functions if it.crate == crate and not it.is_test and every.is_public(it)]
     yield f"# `{crate}`\n\n{NOTE}\n\n{wrapped(about(crate))}\n"
-    groups = {("", "", ""): []}
+    groups: dict[tuple[str, str, str], list[Call]] = {("", "", ""): []}
     declared = {}
     for name, place, head, said in types_of(crate):
         declared[name, "", place] = head, said

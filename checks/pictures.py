@@ -32,7 +32,7 @@ def listed():
 
 def reduced(crates):
     """The same without what is reached through another crate."""
-    reach = {}
+    reach: dict[str, set[str]] = {}
     for name, below in crates.items():
         reach[name] = {*below}.union(*(reach[it] for it in below))
     return {name: [it for it in below if not any(it in reach[other] for other in below)] for name, below in crates.items()}
