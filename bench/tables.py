@@ -52,7 +52,7 @@ def write_results(path, rows):
 
 def read_results(path):
     """The least figure of all turns by run and operation."""
-    least = {}
+    least: dict[tuple[Run, str], float] = {}
     with open(path, newline="") as file:
         for row in csv.DictReader(file):
             run = Run(row["table"], row["hashing"], int(row["capacity"]), int(row["size"]))

@@ -101,7 +101,7 @@ def main():
     if len(sys.argv) not in (4, 5):
         print(__doc__.splitlines()[0], file=sys.stderr)
         sys.exit(2)
-    scheduler, path, out = sys.argv[1], *map(os.path.realpath, sys.argv[2:4])
+    scheduler, path, out = sys.argv[1], os.path.realpath(sys.argv[2]), os.path.realpath(sys.argv[3])
     with Client(scheduler) as client:
         run(client, path, out, sys.argv[4] if sys.argv[4:] else "64 MiB")
 
