@@ -77,8 +77,9 @@ def clauses_from(lines, at, indent):
 
 
 def with_ensures(text, names):
-    """The text of a function with those of its `ensures` alone that have one of these names. The prover names goals by their clauses if there are
-    several: so the shortest other one stays with a single one, and all stay if one has no name or there is one alone."""
+    """The text of a function with those of its `ensures` alone that have one of these names. The prover names goals by their
+    clauses if there are several: so the shortest other one stays with a single one, and all stay if one has no name or there is
+    one alone."""
     lines, depth = text.splitlines(keepends=True), 0
     parts: list[tuple[str, list[str]]] = []
     head, indent = next((i, found[1]) for i, it in enumerate(lines) if (found := FN.match(it)))
@@ -203,7 +204,9 @@ class Sources:
             return False
         text = root.read_text(encoding="utf-8")
         exported = {word for it in re.findall(r"(?ms)^pub use ([^;]+);", text) for word in re.findall(r"\w+", it)}
-        is_in_module = any(re.match(rf"crates/\w+/src/{it}[./]", function.file) for it in re.findall(r"(?m)^pub mod (\w+);", text))
+        is_in_module = any(
+            re.match(rf"crates/\w+/src/{it}[./]", function.file) for it in re.findall(r"(?m)^pub mod (\w+);", text)
+        )
         is_in_root = not function.owner and function.file.endswith("/src/lib.rt")
         return is_in_root or is_in_module or (function.owner or function.name) in exported
 
