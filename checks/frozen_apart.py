@@ -1,7 +1,9 @@
-"""Each output of `intaglio_dict` is a file of its own: the command is refused if one is also an input or another output, and nothing is changed.
+"""Each output of `intaglio_dict` is a file of its own: the command is refused if one is also an input or another output, and
+nothing is changed.
 
-The runs are generated. For each command, each pair of an output and an input or another output is one file, which each of the two names in each way
-that it can: by a path, a symbolic or hard link, a dangling link, or as a standard stream that is redirected to it.
+The runs are generated. For each command, each pair of an output and an input or another output is one file, which each of the two
+names in each way that it can: by a path, a symbolic or hard link, a dangling link, or as a standard stream that is redirected to
+it.
 """
 import functools
 import itertools
@@ -148,7 +150,10 @@ class Room:
         ran = subprocess.run([tool, *words], cwd=self.top, timeout=60, **streams)
         for it in opened:
             it.close()
-        return ran.returncode, ran.stdout or b"", (ran.stderr or b"").decode(errors="replace").splitlines(), before == [*self.seen()]
+        return (
+            ran.returncode, ran.stdout or b"", (ran.stderr or b"").decode(errors="replace").splitlines(),
+            before == [*self.seen()],
+        )
 
 
 def is_refused(ended):
@@ -226,21 +231,28 @@ def two_outputs(tool, command):
         there = "" if is_there else ", not there"
         # A redirection makes the file, which another name is then that of.
         firsts, seconds = (
-            [*ways_of_output(it, is_there), *(() if is_there else (way for way in ways_of_output(it, True) if way.is_standard()))] for it in (one, other)
+            [*ways_of_output(it, is_there), *(() if is_there else (way for way in ways_of_output(it, True) if way.is_standard()))]
+            for it in (one, other)
         )
         for first, second in itertools.product(firsts, seconds):
             called = f"{one} {first.called}, {other} {second.called}{there}"
             yield called, refused(tool, command, content, {("output", at): first, ("output", to): second})
         for first, (called, prepare) in itertools.product(firsts, ways_of_map(other, is_there)):
             yield f"{one} {first.called}, {called}{there}", refused(tool, command, content, {("output", at): first}, prepare)
-        for (called, first), (called_second, second) in itertools.product(ways_of_map(one, is_there), ways_of_map(other, is_there)):
-            yield f"{called}, {called_second}{there}", refused(tool, command, content, {}, functools.partial(prepare_both, first, second))
+        for (called, first), (called_second, second) in itertools.product(
+            ways_of_map(one, is_there), ways_of_map(other, is_there)
+        ):
+            yield f"{called}, {called_second}{there}", refused(
+                tool, command, content, {}, functools.partial(prepare_both, first, second)
+            )
 
 
 def names_of_maps(tool):
     """The dictionary is one of the maps, or their folder, by each name that these have."""
     command = next(it for it in COMMANDS if it.words == ("merge",))
-    for name, folder, is_there in itertools.product(("maps/0.map", "maps/1.map", "./maps/../maps/1.map", "linked/0.map"), ("maps", "linked", "maps/"), (True, False)):
+    for name, folder, is_there in itertools.product(
+        ("maps/0.map", "maps/1.map", "./maps/../maps/1.map", "linked/0.map"), ("maps", "linked", "maps/"), (True, False)
+    ):
 
         def case(room):
             os.symlink("maps", room.top / "linked")
@@ -253,7 +265,9 @@ def names_of_maps(tool):
     for name in ("maps", "./maps", "new", "in0"):
 
         def folder_case(room):
-            words = words_of(command, room, {("output", 0): Way("", ("-o", name)), ("output", 1): Way("", ("--maps", os.path.basename(name)))})
+            words = words_of(
+                command, room, {("output", 0): Way("", ("-o", name)), ("output", 1): Way("", ("--maps", os.path.basename(name)))}
+            )
             return is_refused(room.run(tool, words, ()))
 
         yield f"-o {name} --maps {os.path.basename(name)}", in_room(None, folder_case)
@@ -286,7 +300,9 @@ def apart(tool, command):
         if command.inputs[one] == command.inputs[other]:
             given = {("input", one): Way("", ("file",)), ("input", other): Way("", ("link",))}
             content = CONTENTS[command.inputs[one]]
-            yield f"inputs {one} and {other} are one", in_room(content, lambda room: room.run(tool, words_of(command, room, given), ())[0] == 0)
+            yield f"inputs {one} and {other} are one", in_room(
+                content, lambda room: room.run(tool, words_of(command, room, given), ())[0] == 0
+            )
 
 
 def twice(tool, command):
@@ -298,7 +314,9 @@ def twice(tool, command):
         else:
             given = {("input", one): standard, ("input", other): standard}
         wanted = (2, b"", [f"{NAME}: standard input can be only one of the inputs"], True)
-        yield f"- for {one} and {other}", in_room(WAS, lambda room: room.run(tool, words_of(command, room, given), [standard]) == wanted)
+        yield f"- for {one} and {other}", in_room(
+            WAS, lambda room: room.run(tool, words_of(command, room, given), [standard]) == wanted
+        )
 
 
 def empty(tool, command):
@@ -347,7 +365,11 @@ def numbers(tool):
             wanted = (2, b"", [f"{NAME}: '{typed}' is no symbol: a number below 2^32 is needed, in digits alone"])
             yield f"get {typed!r}", run([tool, "get", name, "0", typed]) == wanted
             given = f"0\n{typed}\n".encode()
-            yield f"get < {typed!r}", run([tool, "get", name], given) == (1, b"", [f"{NAME}: standard input: line 2 is no symbol: '{typed}'"])
+            yield f"get < {typed!r}", run([tool, "get", name], given) == (
+                1,
+                b"",
+                [f"{NAME}: standard input: line 2 is no symbol: '{typed}'"],
+            )
         for typed in ("3", "03", "0000000000003"):
             yield f"get {typed}", run([tool, "get", name, typed]) == (0, WORDS[3] + b"\n", [])
 

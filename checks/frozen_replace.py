@@ -1,6 +1,8 @@
 """Replaces a file as the `freeze` of the Python module does, by the module's function `replace`, without the library.
 
-    python3 checks/frozen_replace.py PATH [--noisy FILE]      by standard input, or by FILE; --noisy writes to the standard streams meanwhile
+    python3 checks/frozen_replace.py PATH [--noisy FILE]      by standard input, or by FILE
+
+--noisy writes to the standard streams meanwhile.
 """
 import os
 import sys
