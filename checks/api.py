@@ -3,8 +3,9 @@
 
     checks/api.py [--check]
 
-A call has its signature, the first paragraph of its documentation, what it requires, its errors, and the names of its clauses. With --check
-nothing is written: what differs from the sources is printed, and the status is 1 if anything does. checks/ledger asks for that too.
+A call has its signature, the first paragraph of its documentation, what it requires, its errors, and the names of its clauses.
+With --check nothing is written: what differs from the sources is printed, and the status is 1 if anything does. checks/ledger
+asks for that too.
 """
 
 import re
@@ -20,8 +21,11 @@ from sources import TOP, UNNAMED
 FOLDER = TOP / "docs/api"
 WIDTH = 118
 NOTE = "This page is written by `checks/api.py` from the sources: change it there."
-MEANS = ("Each call has its signature, the first paragraph of its documentation, what it requires, its errors, and the names of its clauses, which "
-         "stand below its signature in the source. [CALLING.md](../CALLING.md) has calls by task, and the clauses that callers rely on.")
+MEANS = (
+    "Each call has its signature, the first paragraph of its documentation, what it requires, its errors, and the names of its"
+    " clauses, which stand below its signature in the source. [CALLING.md](../CALLING.md) has calls by task, and the clauses that"
+    " callers rely on."
+)
 # Libraries that are parts of a program, and crates of tests and examples, which no caller needs.
 # (The calls of `intaglio_c` are those of C: bindings/c/intaglio.h documents them.)
 LEFT_OUT = re.compile(r"intaglio_dict_io|intaglio_c|test_hashers|refusals|bench|\w+_tests|example_\w+")
@@ -64,7 +68,9 @@ def plain(text):
 def wrapped(text, first="", rest=""):
     # (a name in back quotes stays on one line)
     kept = re.sub(r"`[^`]+`", lambda it: it[0].replace(" ", "\0"), text)
-    lines = textwrap.fill(kept, WIDTH, initial_indent=first, subsequent_indent=rest, break_long_words=False, break_on_hyphens=False)
+    lines = textwrap.fill(
+        kept, WIDTH, initial_indent=first, subsequent_indent=rest, break_long_words=False, break_on_hyphens=False
+    )
     return lines.replace("\0", " ")
 
 
@@ -93,7 +99,9 @@ class Call:
         self.requires = [condition(text) for name, text in function.clauses.items() if named[name] == "requires"]
         self.clauses = [name for name, word in named.items() if word == "ensures"]
         own = every.members.get((function.crate, function.owner, function.trait), {})
-        self.clauses += [name for name in own if name.startswith(function.name) or name.endswith("_gives")] if function.trait else []
+        self.clauses += (
+            [name for name in own if name.startswith(function.name) or name.endswith("_gives")] if function.trait else []
+        )
 
     def page(self):
         yield wrapped(f"`{self.signature}`", "- ", "  ")
@@ -171,7 +179,9 @@ def page_of(every, crate):
 def pages():
     """Each page of docs/api with what it should have."""
     every = sources.Sources()
-    crates = [it.name for it in sorted((TOP / "crates").iterdir()) if (it / "src/lib.rt").is_file() and not LEFT_OUT.fullmatch(it.name)]
+    crates = [
+        it.name for it in sorted((TOP / "crates").iterdir()) if (it / "src/lib.rt").is_file() and not LEFT_OUT.fullmatch(it.name)
+    ]
     rows = [wrapped(f"[`{crate}`]({crate}.md): {about(crate)}", "- ", "  ") for crate in crates]
     yield FOLDER / "README.md", f"# Public calls\n\n{NOTE}\n{wrapped(MEANS)}\n\n" + "\n".join(rows) + "\n"
     for crate in crates:
