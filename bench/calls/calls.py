@@ -53,7 +53,11 @@ def main():
         table = SymbolTable()
         turn("Python: intern_all, check_all", table.intern_all, table.check_all)
         table = SymbolTable()
-        turn("Python: intern_into, check_into", lambda texts: table.intern_into(texts, symbols), lambda texts: table.check_into(texts, found))
+        turn(
+            "Python: intern_into, check_into",
+            lambda texts: table.intern_into(texts, symbols),
+            lambda texts: table.check_into(texts, found),
+        )
         numbers: dict[str, int] = {}
         turn(
             "a dict, in a comprehension",
