@@ -13,8 +13,8 @@ from pathlib import Path
 sys.dont_write_bytecode = True
 sys.path.append(str(Path(__file__).resolve().parent.parent / "checks"))
 
-import arguments  # noqa: E402
-from comparisons import CAPACITIES, COMPARISONS, HASHINGS, HUGE, Run, huge_sides  # noqa: E402
+import arguments
+from comparisons import CAPACITIES, COMPARISONS, HASHINGS, HUGE, Run, huge_sides
 
 OPERATIONS = {
     "new": "intern new owned words",

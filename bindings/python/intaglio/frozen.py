@@ -130,7 +130,7 @@ class Frozen(Sequence):
             mapped = mmap.mmap(file.fileno(), 0, access=mmap.ACCESS_READ) if file.seek(0, 2) else None
             status = os.fstat(file.fileno())
         self._path = None if isinstance(path, int) else os.path.abspath(os.fspath(path))
-        self._stat = status.st_dev, status.st_ino
+        self._stat: tuple[int, int] | None = (status.st_dev, status.st_ino)
         try:
             self._open(memoryview(mapped or b""), mapped, trusted, kind)
         except Refused as error:
@@ -306,11 +306,13 @@ class Frozen(Sequence):
 
     # Whether the path still leads to the file that is mapped.
     def _is_at_path(self):
+        if self._path is None:
+            return False
         try:
-            status = self._path is not None and os.stat(self._path)
+            status = os.stat(self._path)
         except OSError:
             return False
-        return bool(status) and self._stat == (status.st_dev, status.st_ino)
+        return self._stat == (status.st_dev, status.st_ino)
 
     # A checksum of all bytes, or of the header of a trusted file.
     def _checksum(self):
