@@ -1,11 +1,12 @@
 #!/usr/bin/env python3
-"""Draws the pictures of the pages by graphviz (a package of Debian): docs/crates.svg from crates.txt, docs/interning.svg from docs/interning.dot.
+"""Draws the pictures of the pages by graphviz (a package of Debian): docs/crates.svg from crates.txt, docs/interning.svg from
+docs/interning.dot.
 
     checks/pictures.py [--check]
 
-In crates.svg an arrow leads from a crate to one that it stands on, unless that is reached through another arrow. Crates of tests, examples and
-benchmarks aren't drawn. A picture holds the sum of what it was drawn from: with --check nothing is drawn, and the status is 1 if a picture was
-drawn from something else than what is there.
+In crates.svg an arrow leads from a crate to one that it stands on, unless that is reached through another arrow. Crates of tests,
+examples and benchmarks aren't drawn. A picture holds the sum of what it was drawn from: with --check nothing is drawn, and the
+status is 1 if a picture was drawn from something else than what is there.
 """
 
 import hashlib
@@ -32,7 +33,7 @@ def listed():
 
 def reduced(crates):
     """The same without what is reached through another crate."""
-    reach = {}
+    reach: dict[str, set[str]] = {}
     for name, below in crates.items():
         reach[name] = {*below}.union(*(reach[it] for it in below))
     return {name: [it for it in below if not any(it in reach[other] for other in below)] for name, below in crates.items()}
@@ -40,8 +41,10 @@ def reduced(crates):
 
 def graph():
     crates = listed()
-    lines = [f'rankdir=BT; bgcolor=white; nodesep=.25; ranksep=.4; node [shape=box style="filled,rounded" fontname="sans-serif" fontsize=11 color="{INK}"'
-             f' fontcolor="{INK}" margin=".12,.06" height=.3]; edge [color="{INK}" arrowsize=.6];']
+    lines = [
+        'rankdir=BT; bgcolor=white; nodesep=.25; ranksep=.4; node [shape=box style="filled,rounded" fontname="sans-serif"'
+        f' fontsize=11 color="{INK}" fontcolor="{INK}" margin=".12,.06" height=.3]; edge [color="{INK}" arrowsize=.6];'
+    ]
     for name, below in reduced(crates).items():
         is_program = (TOP / "crates" / name / "src/main.rt").is_file()
         lines.append(f'{name} [fillcolor="{PROGRAMS if is_program else LIBRARIES}" label="{name.removeprefix("intaglio_")}"];')
@@ -51,7 +54,10 @@ def graph():
 
 def sources_of():
     """Each picture with the graph that it is drawn from."""
-    return {TOP / "docs/crates.svg": graph(), TOP / "docs/interning.svg": (TOP / "docs/interning.dot").read_text(encoding="utf-8")}
+    return {
+        TOP / "docs/crates.svg": graph(),
+        TOP / "docs/interning.svg": (TOP / "docs/interning.dot").read_text(encoding="utf-8"),
+    }
 
 
 def mark(text):
