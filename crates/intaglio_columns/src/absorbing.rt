@@ -17,7 +17,8 @@ use std::alloc::{AllocError, Global};
 ///
 /// Earlier symbols keep their strings, and what is new comes in the list's order. The strings are read where they
 /// are, and only new ones are copied. They are interned as one batch of forms ([`get_or_intern_all`]), of which a
-/// list is allocated first.
+/// list is allocated first. A table of bytes takes in every string. Whether a table of texts can take in a list,
+/// [`are_texts`](crate::are_texts) says.
 ///
 /// # Errors
 ///
@@ -25,17 +26,18 @@ use std::alloc::{AllocError, Global};
 /// contents of the table are unchanged, its capacity isn't lower, and there is no less room for bytes.
 ///
 /// ```
-/// # use intaglio::{StrContent, SymbolTable, Work};
+/// # use intaglio::Work;
+/// # use intaglio::bytes::{BytesContent, SymbolTable};
 /// # use intaglio_columns::absorb;
 /// # use intaglio_frozen::{Frozen, Kind, freeze};
 /// # let alloc = rt.alloc();
 /// # let mut words = SymbolTable::new(alloc)?;
-/// # words.intern(StrContent::from("b"))?;
-/// # words.intern(StrContent::from("a"))?;
-/// let bytes = freeze(alloc, &words, Kind::Text, 1, 2)?;
+/// # words.intern(BytesContent::from(b"b".as_slice()))?;
+/// # words.intern(BytesContent::from(b"a".as_slice()))?;
+/// let bytes = freeze(alloc, &words, Kind::Bytes, 1, 2)?;
 /// let frozen = Frozen::open(&bytes)?;
 /// let mut table = SymbolTable::new(alloc)?;
-/// let a = table.intern(StrContent::from("a"))?;
+/// let a = table.intern(BytesContent::from(b"a".as_slice()))?;
 /// let map = absorb(alloc, &mut table, &frozen, &mut Work::new())?;
 /// assert!(rt; map.get(1).copied() == Some(a));
 /// ```
