@@ -1,7 +1,8 @@
 //! How a table takes in all strings of a list.
-ghost use Rattle.std.specs.Prelude.{◌≡◌, ◌<◌, ◌≤◌, length, map, sum_by, IfErr, IfOk, OnErr, OnOk};
+ghost use Rattle.std.specs.Prelude.{◌≡◌, ◌+◌, ◌<◌, ◌≤◌, length, map, sum_by, IfErr, IfOk, OnErr, OnOk};
 ghost use Rattle.intaglio_interner.specs.Batch.{IfOverflow, InternsAll, RefusedCost, StaysValid};
-ghost use Rattle.intaglio_interner.specs.Bytes.{KeepsBytes};
+ghost use Rattle.intaglio_content.specs.Store.{byte_room};
+ghost use Rattle.intaglio_interner.specs.Bytes.{GrowsBytes, GrowsFor, KeepsBytes};
 ghost use Rattle.intaglio_interner.specs.Cost.{Costs};
 ghost use Rattle.intaglio_interner.specs.Issue.{interned_all, issue_from};
 ghost use Rattle.intaglio_interner.specs.Lookup.{Keeps};
@@ -77,6 +78,11 @@ where
         FailsAsForms T.Content.Form.form_spelling (L.strings list.now) e cost (λ forms.
         RefusedCost T.Content.key T.Content.Form.key T.Content.Form.adds T.Content.Form.copies (T.hash table.old)
         (T.state table.old) forms e cost))) }
+    ensures grows { let needed = length (T.state table.old).contents + length (L.strings list.now) in
+        GrowsFor needed (T.most table.old) (T.most table.new) }
+    ensures grows_bytes { let room = byte_room T.Store.takes in
+        GrowsBytes (room (T.state table.old).contents (T.spare_bytes table.old))
+        (room (T.state table.new).contents (T.spare_bytes table.new)) }
     ensures table { StaysValid T.Content.key (T.hash table.old) (T.state table.old)
         (T.hash table.new) (T.state table.new) }
     ensures bytes { KeepsBytes T.Store.takes (sum_by length (L.strings list.now)) (T.state table.old).contents
