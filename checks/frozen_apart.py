@@ -2,8 +2,8 @@
 nothing is changed.
 
 The runs are generated. For each command, each pair of an output and an input or another output is one file, which each of the two
-names in each way that it can: by a path, a symbolic or hard link, a dangling link, or as a standard stream that is redirected to
-it.
+names in each way that it can: by a path, a symbolic or hard link, a dangling link, or as a standard stream or another descriptor
+that is open for it.
 """
 import functools
 import itertools
@@ -71,6 +71,9 @@ NAMES = {
     "by a hard link": "hard",
 }
 REDIRECTED = {">": "wb", ">>": "ab"}
+# A descriptor that is passed on, and the name of what it is open for.
+PASSED = 9
+PASSED_NAME = f"/dev/fd/{PASSED}"
 
 
 class Way(NamedTuple):
@@ -80,8 +83,11 @@ class Way(NamedTuple):
     words: tuple
     mode: str = ""
 
+    def is_passed(self):
+        return PASSED_NAME in self.words
+
     def is_standard(self):
-        return bool(self.mode)
+        return bool(self.mode) and not self.is_passed()
 
 
 def ways_of_input(command, number, is_there=True):
@@ -90,6 +96,8 @@ def ways_of_input(command, number, is_there=True):
         yield from (Way(called, (name,)) for called, name in NAMES.items() if is_there or called != "by a hard link")
         yield Way("by - and <", ("-",), "rb")
         yield Way("by /dev/stdin and <", ("/dev/stdin",), "rb")
+        if is_there:
+            yield Way(f"by {PASSED_NAME}", (PASSED_NAME,), "rb")
     if command.reads_standard and number == len(command.inputs) - 1:
         yield Way("by <", (), "rb")
 
@@ -105,6 +113,7 @@ def ways_of_output(output, is_there):
         if option:
             yield Way(f"by - and {sign}", (*option, "-"), mode)
             yield Way(f"by /dev/stdout and {sign}", (*option, "/dev/stdout"), mode)
+            yield Way(f"by {PASSED_NAME} and {sign}", (*option, PASSED_NAME), mode)
         if output in ("-o", "stdout"):
             yield Way(f"by {sign}", (), mode)
 
@@ -140,16 +149,22 @@ class Room:
         opened = []
         for way in ways:
             stream = "stdin" if way.mode == "rb" else "stdout"
-            if way.mode and streams[stream] in (subprocess.DEVNULL, subprocess.PIPE):
+            if way.is_standard() and streams[stream] in (subprocess.DEVNULL, subprocess.PIPE):
                 streams[stream] = open(self.top / "file", way.mode)
                 opened.append(streams[stream])
+        passed = [way for way in ways if way.is_passed()]
+        for way in passed:
+            with open(self.top / "file", way.mode) as file:
+                os.dup2(file.fileno(), PASSED)
         if messages:
             streams["stderr"] = open(self.top / messages, "ab")
             opened.append(streams["stderr"])
         before = [*self.seen()]
-        ran = subprocess.run([tool, *words], cwd=self.top, timeout=60, **streams)
+        ran = subprocess.run([tool, *words], cwd=self.top, timeout=60, pass_fds=[PASSED] if passed else [], **streams)
         for it in opened:
             it.close()
+        if passed:
+            os.close(PASSED)
         return (
             ran.returncode, ran.stdout or b"", (ran.stderr or b"").decode(errors="replace").splitlines(),
             before == [*self.seen()],
@@ -248,7 +263,8 @@ def two_outputs(tool, command):
 
 
 def names_of_maps(tool):
-    """The dictionary is one of the maps, or their folder, by each name that these have."""
+    """The dictionary, or an input, is one of the maps, or their folder, by each name that these have; or a map is a link to the
+    other."""
     command = next(it for it in COMMANDS if it.words == ("merge",))
     for name, folder, is_there in itertools.product(
         ("maps/0.map", "maps/1.map", "./maps/../maps/1.map", "linked/0.map"), ("maps", "linked", "maps/"), (True, False)
@@ -262,6 +278,24 @@ def names_of_maps(tool):
             return is_refused(room.run(tool, words, ()))
 
         yield f"-o {name} --maps {folder}", in_room(None, case)
+    for name, folder in itertools.product(("maps/0.map", "maps/1.map", "linked/1.map"), ("maps", "linked")):
+
+        def input_case(room):
+            os.symlink("maps", room.top / "linked")
+            room.other(name, CONTENTS["dict"])
+            words = words_of(command, room, {("input", 1): Way("", (name,)), ("output", 1): Way("", ("--maps", folder))})
+            return is_refused(room.run(tool, words, ()))
+
+        yield f"the input {name} --maps {folder}", in_room(None, input_case)
+    for number, is_there in itertools.product((0, 1), (True, False)):
+
+        def linked_case(room):
+            os.symlink(f"{1 - number}.map", room.top / f"maps/{number}.map")
+            if is_there:
+                room.other(f"maps/{1 - number}.map", WAS)
+            return is_refused(room.run(tool, words_of(command, room, {}), ()))
+
+        yield f"{number}.map is a link to the other{'' if is_there else ', not there'}", in_room(None, linked_case)
     for name in ("maps", "./maps", "new", "in0"):
 
         def folder_case(room):
