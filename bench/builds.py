@@ -24,14 +24,15 @@ osstr = []
 path = []
 """
 
-# Where Debian's packages of Rust crates put their sources. hashbrown is in librust-hashbrown-dev.
+# Where Debian's packages of Rust crates put their sources: librust-hashbrown-dev and librust-indexmap-dev.
 REGISTRY = Path("/usr/share/cargo/registry")
 
-HASHBROWN = """
-[dependencies.hashbrown]
-version = "0.12"
-features = ["raw"]
-"""
+# The feature of the Rust program that each is for, and how the program depends on it. Both have the same version of hashbrown.
+HASHBROWN, INDEXMAP = "hashbrown-0.12", "indexmap-1"
+DEPENDENCIES = {
+    HASHBROWN: ("rivals", '\n[dependencies.hashbrown]\nversion = "0.12"\nfeatures = ["raw"]\n'),
+    INDEXMAP: ("index_set", '\n[dependencies.indexmap]\nversion = "1.9"\nfeatures = ["std"]\n'),
+}
 
 
 def build_ours(top):
@@ -74,19 +75,28 @@ def build_twin(top, scratch, upstream, name="twin"):
     shutil.rmtree(twin / "src", ignore_errors=True)
     shutil.copytree(top / "bench/rust", twin, dirs_exist_ok=True)
     build = ["cargo", "build", "--release", "--offline"]
-    if hashbrown():
+    for crate in filter(of_debian, DEPENDENCIES):
+        feature, lines = DEPENDENCIES[crate]
         with open(twin / "Cargo.toml", "a") as manifest:
-            manifest.write(HASHBROWN)
-        build += ["--features", "rivals", "--config", 'source.crates-io.replace-with="debian"']
+            manifest.write(lines)
+        build += ["--features", feature]
+    if any(map(of_debian, DEPENDENCIES)):
+        build += ["--config", 'source.crates-io.replace-with="debian"']
         build += ["--config", f'source.debian.directory="{REGISTRY}"']
     (twin / "Cargo.lock").unlink(missing_ok=True)
     run(build, twin, {"RUSTFLAGS": f"-C target-cpu={PROCESSOR}"})
     return twin / "target/release" / name
 
 
-def hashbrown():
-    """Debian's hashbrown by its name and version, or None where it isn't there."""
-    return next((path.name for path in sorted(REGISTRY.glob("hashbrown-0.12.*"))), None)
+def of_debian(crate):
+    """Debian's crate of this name and version, or None where it isn't there."""
+    return next((path.name for path in sorted(REGISTRY.glob(f"{crate}.*"))), None)
+
+
+def absent():
+    """The tables that can't be measured, since what they stand on isn't there."""
+    of_crate = {HASHBROWN: ("boxes", "buffer"), INDEXMAP: ("index_set",)}
+    return {table for crate, tables in of_crate.items() if not of_debian(crate) for table in tables}
 
 
 def run(command, folder, more=None, given=""):

@@ -5,7 +5,7 @@ from typing import NamedTuple
 # The tables by which the programs go: the proved program's by how many words a call takes, the Rust program's by what they
 # are. Rivals are tables that a user would write or pick where there were no crate `intaglio`.
 OURS = ["single", "batch", "packed", "packed_batch"]
-RIVALS = ["boxes", "buffer"]
+RIVALS = ["boxes", "buffer", "index_set"]
 
 # A table begins with no capacity, or with that of all words.
 CAPACITIES = ["grown", "reserved"]
@@ -54,10 +54,8 @@ COMPARISONS = {
         "FoldHasher's hashes on all sides (a fixed seed), packed by FixedState",
         Side("the Rust crate", "crate", "fold"),
         [
-            Side("ours", "single", "fold"),
-            Side("packed", "packed", "fixed"),
-            Side("boxes", "boxes", "fold"),
-            Side("buffer", "buffer", "fold"),
+            Side("ours", "single", "fold"), Side("packed", "packed", "fixed"), Side("boxes", "boxes", "fold"),
+            Side("buffer", "buffer", "fold"), Side("IndexSet", "index_set", "fold"),
             Side("ours by FixedState", "single", "fixed"),
         ],
         is_rounded=True,
@@ -66,22 +64,21 @@ COMPARISONS = {
         "SipHash-1-3 on all sides (random keys), ours by KeyedState",
         Side("the Rust crate", "crate", "std"),
         [
-            Side("ours", "single", "keyed"),
-            Side("packed", "packed", "keyed"),
-            Side("boxes", "boxes", "std"),
-            Side("buffer", "buffer", "std"),
+            Side("ours", "single", "keyed"), Side("packed", "packed", "keyed"), Side("boxes", "boxes", "std"),
+            Side("buffer", "buffer", "std"), Side("IndexSet", "index_set", "std"),
             Side("ours by the toolchain's RandomState", "single", "std"),
         ],
         is_rounded=False,
     ),
     "default": Comparison(
-        "the default of each side: ours FoldHasher, packed FixedState, the Rust crate RandomState, hashbrown ahash",
+        (
+            "the default of each side: ours FoldHasher, packed FixedState, the Rust crate RandomState, hashbrown ahash, IndexSet"
+            " RandomState"
+        ),
         Side("the Rust crate", "crate", "std"),
         [
-            Side("ours", "single", "fold"),
-            Side("packed", "packed", "fixed"),
-            Side("boxes", "boxes", "hashbrown"),
-            Side("buffer", "buffer", "hashbrown"),
+            Side("ours", "single", "fold"), Side("packed", "packed", "fixed"), Side("boxes", "boxes", "hashbrown"),
+            Side("buffer", "buffer", "hashbrown"), Side("IndexSet", "index_set", "std"),
         ],
         is_rounded=True,
     ),
@@ -114,18 +111,18 @@ def huge_runs_of(sizes):
     return [fold.run(side, "grown", size) for size in sizes if size in HUGE_SIZES for side in huge_sides()]
 
 
-def copies_of(sizes, has_rivals):
+def copies_of(sizes, absent):
     """The runs that take one borrowed word a call, once."""
     batches = [side.table for comparison in COMPARISONS.values() for side in comparison.batches()]
-    return [run for run in runs_of(sizes, has_rivals) if run.table not in batches]
+    return [run for run in runs_of(sizes, absent) if run.table not in batches]
 
 
-def runs_of(sizes, has_rivals):
+def runs_of(sizes, absent):
     """Each run that the comparisons need, once."""
     runs = []
     for size in sizes:
         for comparison in COMPARISONS.values():
             for side in [comparison.base, *comparison.sides, *comparison.batches()]:
-                if has_rivals or side.table not in RIVALS:
+                if side.table not in absent:
                     runs += [comparison.run(side, capacity, size) for capacity in CAPACITIES]
     return list(dict.fromkeys(runs))

@@ -4,7 +4,7 @@ import os
 import subprocess
 import sys
 
-from comparisons import CAPACITIES, COMPARISONS, HASHINGS, HUGE, OURS, RIVALS, Run, copies_of, huge_runs_of, runs_of
+from comparisons import CAPACITIES, COMPARISONS, HASHINGS, HUGE, OURS, Run, copies_of, huge_runs_of, runs_of
 
 # How many tables a process fills one after the other, so that each process takes long enough.
 FILLS = {1_000: 20, 10_000: 3, 100_000: 6, 1_000_000: 2, 4_000_000: 1}
@@ -16,10 +16,10 @@ PROCESSES = {1_000: 10, 10_000: 20}
 HUGE_PAGES = {"GLIBC_TUNABLES": "glibc.malloc.hugetlb=1"}
 
 
-def measure(programs, sizes, turns, has_rivals):
+def measure(programs, sizes, turns, absent):
     """Rows of turn, run, operation and its least nanoseconds; and the highest load average meanwhile."""
-    tasks = [("time", run) for run in runs_of(sizes, has_rivals)]
-    tasks += [("copy", run) for run in copies_of(sizes, has_rivals)]
+    tasks = [("time", run) for run in runs_of(sizes, absent)]
+    tasks += [("copy", run) for run in copies_of(sizes, absent)]
     tasks += [("hash", run) for run in HASHINGS.values()]
     runs: list[tuple[str, Run, str, dict[str, str]]] = [(task, run, "", {}) for task, run in tasks]
     runs += [("time", run, HUGE, HUGE_PAGES) for run in huge_runs_of(sizes)]
@@ -54,14 +54,14 @@ def command(programs, task, run):
     return [program, task, run.table, run.hashing, run.capacity, run.size]
 
 
-def memory(programs, sizes, has_rivals):
+def memory(programs, sizes, absent):
     """Rows of bytes for each symbol: resident at the end, and at most; and the texts' own bytes."""
     comparison = COMPARISONS["sip"]
     rows = []
     for size in sizes:
         for capacity in CAPACITIES:
-            for side in [comparison.base, *comparison.sides[:4]]:
-                if has_rivals or side.table not in RIVALS:
+            for side in [comparison.base, *comparison.sides[:5]]:
+                if side.table not in absent:
                     run = comparison.run(side, capacity, size)
                     empty = resident(programs, Run(side.table, side.hashing, 0, 0))
                     full = resident(programs, run)

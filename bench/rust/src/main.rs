@@ -1,7 +1,9 @@
-//! Measures tables of texts on generated words: that of the Rust crate `intaglio`, and two over hashbrown. The program in
-//! `crates/bench` makes the same calls on the same words, and prints the same lines.
+//! Measures tables of texts on generated words: that of the Rust crate `intaglio`, two over hashbrown, and `IndexSet`. The
+//! program in `crates/bench` makes the same calls on the same words, and prints the same lines.
 
 mod fold;
+#[cfg(feature = "index_set")]
+mod index_set;
 mod operations;
 mod plan;
 #[cfg(feature = "rivals")]
@@ -18,7 +20,7 @@ use std::io;
 use table::Table;
 use turn::{copy, hash_alone, hold, turn};
 
-const USAGE: &str = "check|time|hold|hash|copy crate|boxes|buffer fold|std|hashbrown CAPACITY SIZE TURNS";
+const USAGE: &str = "check|time|hold|hash|copy crate|boxes|buffer|index_set fold|std|hashbrown CAPACITY SIZE TURNS";
 
 fn main() -> io::Result<()> {
     let arguments: Vec<String> = std::env::args().collect();
@@ -42,6 +44,8 @@ fn with_builder<S: BuildHasher>(plan: Plan, builder: impl Fn() -> S) -> io::Resu
         Kind::Boxes => run(plan, || rivals::Rival::<rivals::Boxes, S>::new(capacity, builder())),
         #[cfg(feature = "rivals")]
         Kind::Buffer => run(plan, || rivals::Rival::<rivals::Buffer, S>::new(capacity, builder())),
+        #[cfg(feature = "index_set")]
+        Kind::IndexSet => run(plan, || index_set::Indexed::<S>::new(capacity, builder())),
     }
 }
 

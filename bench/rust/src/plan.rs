@@ -24,6 +24,8 @@ pub enum Kind {
     Boxes,
     #[cfg(feature = "rivals")]
     Buffer,
+    #[cfg(feature = "index_set")]
+    IndexSet,
 }
 
 /// Which hashers.
@@ -52,7 +54,7 @@ pub struct Plan {
 }
 
 impl Plan {
-    /// Reads `check|time|hold|hash|copy crate|boxes|buffer fold|std|hashbrown CAPACITY SIZE TURNS`.
+    /// Reads `check|time|hold|hash|copy crate|boxes|buffer|index_set fold|std|hashbrown CAPACITY SIZE TURNS`.
     pub fn read(arguments: &[String]) -> Option<Plan> {
         let [_, task, kind, hashing, capacity, size, turns] = arguments else {
             return None;
@@ -72,6 +74,8 @@ impl Plan {
                 "boxes" => Kind::Boxes,
                 #[cfg(feature = "rivals")]
                 "buffer" => Kind::Buffer,
+                #[cfg(feature = "index_set")]
+                "index_set" => Kind::IndexSet,
                 _ => return None,
             },
             hashing: match hashing.as_str() {
