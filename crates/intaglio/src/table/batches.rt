@@ -90,10 +90,9 @@ where
     /// ```
     pub fn get_or_intern_all(&mut self, forms: &[L::By]) -> Result<Vec<Symbol>, InternError>
         ensures batch { let hash = hash_of S.BuildHasher S.Hasher.Hasher in
-            let seen = map L.Content.spelling in
-            let interns = InternsBatch L.Content.key L.Content.key_of seen (hash self.old.hasher) self.old.state in
-            let keys = map L.By.key forms.now in
-            interns keys (map L.By.form_spelling forms.now) result (hash self.new.hasher) self.new.state }
+            let interns = InternsBatch L.Content.key L.Content.key_of (map L.Content.spelling) in
+            interns (hash self.old.hasher) self.old.state (map L.By.key forms.now)
+            (map L.By.form_spelling forms.now) result (hash self.new.hasher) self.new.state }
         ensures bytes { KeepsBytes L.takes (sum_by L.By.needs forms.now) self.old.state.contents
             self.old.spare_bytes result self.new.state.contents self.new.spare_bytes }
     {
