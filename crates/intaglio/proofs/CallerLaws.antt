@@ -39,7 +39,8 @@ found-or-not : (keys : List Key) (k : Key) (o : Option ℕ) → first_of keys k 
 found-or-not keys k None e = (λ t. cc, λ c. absurd (first_of-misses keys k e c.0 k c.1 c.2))
 found-or-not keys k (Some i) e = (λ t. first_of-contains keys k i e, λ c. refl)
 
-content-at : {C : Type 0} (cs : List C) (i : ℕ) → i < length cs → (c : C) × (slice_get cs i ≡ Some c)
+-- the content at a symbol below the number of contents
+pub content-at : {C : Type 0} (cs : List C) (i : ℕ) → i < length cs → (c : C) × (slice_get cs i ≡ Some c)
 content-at [] i below = absurd (omega arith)
 content-at (c ∷ cs) zero below = (c, refl)
 content-at (c ∷ cs) (suc i) below = content-at cs i (omega arith)

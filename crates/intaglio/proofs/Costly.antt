@@ -3,7 +3,7 @@ use Rattle.std.proofs.Common.{◌≡◌, ◌≢◌, ℕ, suc, ◌+◌, ◌<◌, 
 use Rattle.std.specs.Prelude.{Contains}
 use Rattle.std.proofs.lemmas.List.Elements.{All-nil, All-cons, All-head, All-tail, All-same}
 use Rattle.intaglio_content.specs.Key.{Key}
-use Rattle.intaglio_content.specs.Work.{Event, hashed, compared, step, placed}
+use Rattle.intaglio_content.specs.Work.{Event, hashed, compared, placed}
 use Rattle.intaglio_interner.specs.State.{State, AreDistinct}
 use Rattle.intaglio_interner.specs.Cost.{hashed_keys, sought_keys, stored_keys, placed_count, IsAddingCost}
 use Rattle.intaglio_run.proofs.Growth.{placed_count-append}
@@ -24,23 +24,17 @@ module _ (P : Key → Type 0) where
   hashed-holds : (x : Key) (a b : List Event) → All P (hashed_keys (a ++ hashed x ∷ b)) → P x
   hashed-holds x [] b h = All-head P x (hashed_keys b) h
   hashed-holds x (hashed k ∷ a) b h = hashed-holds x a b (All-tail P k (hashed_keys (a ++ hashed x ∷ b)) h)
-  hashed-holds x (compared k l ∷ a) b h = hashed-holds x a b h
-  hashed-holds x (step ∷ a) b h = hashed-holds x a b h
-  hashed-holds x (placed ∷ a) b h = hashed-holds x a b h
+  hashed-holds x (_ ∷ a) b h = hashed-holds x a b h
 
   sought-holds : (x y : Key) (a b : List Event) → All P (sought_keys (a ++ compared x y ∷ b)) → P x
   sought-holds x y [] b h = All-head P x (sought_keys b) h
-  sought-holds x y (hashed k ∷ a) b h = sought-holds x y a b h
   sought-holds x y (compared k l ∷ a) b h = sought-holds x y a b (All-tail P k (sought_keys (a ++ compared x y ∷ b)) h)
-  sought-holds x y (step ∷ a) b h = sought-holds x y a b h
-  sought-holds x y (placed ∷ a) b h = sought-holds x y a b h
+  sought-holds x y (_ ∷ a) b h = sought-holds x y a b h
 
   stored-holds : (x y : Key) (a b : List Event) → All P (stored_keys (a ++ compared x y ∷ b)) → P y
   stored-holds x y [] b h = All-head P y (stored_keys b) h
-  stored-holds x y (hashed k ∷ a) b h = stored-holds x y a b h
   stored-holds x y (compared k l ∷ a) b h = stored-holds x y a b (All-tail P l (stored_keys (a ++ compared x y ∷ b)) h)
-  stored-holds x y (step ∷ a) b h = stored-holds x y a b h
-  stored-holds x y (placed ∷ a) b h = stored-holds x y a b h
+  stored-holds x y (_ ∷ a) b h = stored-holds x y a b h
 
 pairs-head : (x : Key) (xs : List Key) → AreDistinct (x ∷ xs) → All (λ y. x ≢ y) xs
 pairs-head x xs h k d lt = h 0 (suc k) d (omega arith) (omega arith)
@@ -51,11 +45,9 @@ pairs-tail x xs h i j d lt below = h (suc i) (suc j) d (omega arith) (omega arit
 compared-once : (x x' y : Key) (a b c : List Event) → AreDistinct (stored_keys (a ++ compared x y ∷ b ++ compared x' y ∷ c)) → ⊥
 compared-once x x' y [] b c h =
     absurd (stored-holds (λ (z : Key). y ≢ z) x' y b c (pairs-head y (stored_keys (b ++ compared x' y ∷ c)) h) refl)
-compared-once x x' y (hashed k ∷ a) b c h = compared-once x x' y a b c h
 compared-once x x' y (compared k l ∷ a) b c h =
     compared-once x x' y a b c (pairs-tail l (stored_keys (a ++ compared x y ∷ b ++ compared x' y ∷ c)) h)
-compared-once x x' y (step ∷ a) b c h = compared-once x x' y a b c h
-compared-once x x' y (placed ∷ a) b c h = compared-once x x' y a b c h
+compared-once x x' y (_ ∷ a) b c h = compared-once x x' y a b c h
 
 placed-one : (a b : List Event) → 0 < placed_count (a ++ placed ∷ b)
 placed-one a b = let sum : placed_count (a ++ placed ∷ b) ≡ placed_count a + (1 + placed_count b) = placed_count-append a (placed ∷ b) in omega (arith, sum)

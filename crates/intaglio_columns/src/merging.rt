@@ -8,13 +8,11 @@ use crate::absorbing::absorb;
 use intaglio::TableOver;
 use intaglio_bytes::bytes::BytesKind;
 use intaglio_content::{Packed, Work};
+use intaglio_core::SYMBOLS;
 use intaglio_frozen::StringList;
 use intaglio_symbol::{InternError, RoomError, Symbol};
 use std::alloc::Global;
 use std::hash::BuildHasher;
-
-// How many symbols there are.
-const SYMBOLS: usize = 1 << 32;
 
 /// What lists of strings are merged to.
 #[derive(Drop)]

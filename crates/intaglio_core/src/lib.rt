@@ -11,7 +11,7 @@
 
 pub mod indexed_store;
 
-pub use indexed_store::{Core, IndexedStore};
+pub use indexed_store::{Core, IndexedStore, SYMBOLS};
 pub use intaglio_bytes::bytes::BytesContent;
 pub use intaglio_content::{
     AddedTo, ByteStore, Content, ContentOf, Copied, CopiedTo, Forms, Keyed, Kind, KindForm,

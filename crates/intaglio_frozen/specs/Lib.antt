@@ -2,7 +2,6 @@
 pub mod Strings
 pub mod Layout
 pub mod LookUp
-pub mod Batch
 pub mod Checked
 pub mod IsFrozen
 pub mod Fault

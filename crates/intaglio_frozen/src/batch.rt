@@ -2,7 +2,7 @@
 //! their look-ups will read is read. So the cache misses of these look-ups overlap.
 ghost use Rattle.std.specs.Prelude.{◌≡◌, ◌+◌, [], ◌∷◌, ◌<◌, IfOk, drop, length, map, take};
 ghost use Rattle.intaglio_frozen.specs.LookUp.{find, hash};
-ghost use Rattle.intaglio_frozen.specs.Batch.{AreHashed};
+ghost use Rattle.intaglio_interner.specs.Batch.{AreHashed};
 
 use crate::block::Block;
 use intaglio_core::GROUP;
@@ -51,19 +51,10 @@ fn look_ahead(block: &Block<'_>, strings: &[&[u8]], hashes: &mut [u64])
     ensures places { length hashes.new ≡ length hashes.old }
 {
     let count = hashes.len().min(strings.len());
-    hash_each(block, strings, hashes);
-    touch_each(block, &hashes[..count], &mut [0; GROUP]);
-}
-
-// Hashes the first strings, one for each place.
-fn hash_each(block: &Block<'_>, strings: &[&[u8]], hashes: &mut [u64])
-    ensures hashes { take (length strings.now) hashes.new
-        ≡ map (λ s. hash block.now s.now) (take (length hashes.old) strings.now) }
-    ensures places { length hashes.new ≡ length hashes.old }
-{
-    for place in 0..hashes.len().min(strings.len()) {
+    for place in 0..count {
         hashes[place] = block.hash_sought(strings[place]);
     }
+    touch_each(block, &hashes[..count], &mut [0; GROUP]);
 }
 
 // The bytes that are read are written, and the call isn't inlined, so that the compiler can't leave out the reads.

@@ -8,12 +8,10 @@ use crate::iter::FrozenStrings;
 use intaglio::TableOver;
 use intaglio_bytes::bytes::BytesKind;
 use intaglio_content::Packed;
+use intaglio_core::SYMBOLS;
 use intaglio_symbol::InternError;
 use std::alloc::{AllocError, Global};
 use std::hash::BuildHasher;
-
-// How many symbols there are.
-const SYMBOLS: usize = 1 << 32;
 
 impl<'a> Frozen<'a> {
     /// A packed table of the same strings, with the same symbols. Each string is copied.

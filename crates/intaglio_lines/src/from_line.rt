@@ -12,7 +12,7 @@ use intaglio_content::{
     Content, ContentOf, CopiedTo, Keyed, Kind, KindOwned, Packable, Packed, PackedForm, Spelling,
     Spells, Store,
 };
-use intaglio_cstr::CStrKind;
+use intaglio_cstr::{CStrKind, first_zero};
 use intaglio_path::{Path, PathKind};
 use intaglio_text::Utf8;
 
@@ -199,11 +199,4 @@ impl<'a> Spells<CStrKind> for Unended<'a> {
 
 impl<'a> Packable<CStrKind> for Unended<'a> {
     ghost key_of_spelled = { λ _. refl };
-}
-
-// The position of the first zero byte, if there is one.
-fn first_zero(bytes: &[u8]) -> Option<usize>
-    ensures { result ≡ first_zero bytes.now }
-{
-    bytes.iter().position(|byte| *byte == 0)
 }

@@ -11,12 +11,9 @@ use crate::from_line::FromLine;
 use crate::lines::first_line;
 use crate::tool_error::ToolError;
 use intaglio_content::{Content, Store, Work};
-use intaglio_interner::{FormInterner, get_or_intern_all};
+use intaglio_interner::{FormInterner, GROUP, get_or_intern_all};
 use intaglio_symbol::Symbol;
 use std::alloc::{AllocError, Global};
-
-// How many lines are interned as a batch, so that the cache misses of their look-ups overlap.
-const GROUP: usize = 64;
 
 // Some lines as forms, the input after these lines, and whether the next line fits.
 #[derive(Drop)]

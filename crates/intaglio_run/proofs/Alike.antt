@@ -78,92 +78,43 @@ module _ {C : Type 0} (key : C → Key) (spells : C → List ℕ) where
   plain : (old : State C) (call : Call C) (r : Reply) (new : State C) → seen r ≡ says old.contents old.limit call → new ≡ old → leaves old.contents old.limit call ≡ old.contents → IsPlain old call r new
   plain old call r new e same kept = record { reply = e; contents = same-contents old new same ∙ sym kept; limit = same-limit old new same }
 
-  intern-plain : (old new : State C) (c : C) (r : Reply) → Step key key spells IsMoved false old (Intern c) r new → r ≢ reply.NoMemory → IsPlain old (Intern c) r new
-  intern-plain old new c (reply.Symbol (Some i)) step n =
+  step-plain : (old new : State C) (call : Call C) (r : Reply) → Step key key spells IsMoved false old call r new → r ≢ reply.NoMemory → IsPlain old call r new
+  step-plain old new (Intern c) (reply.Symbol (Some i)) step n =
       let h = taken-plain (first key old.contents (key c)) old new c i step in
       record { reply = h.0; contents = h.1; limit = h.2 }
-  intern-plain old new c reply.Overflow step n =
+  step-plain old new (Intern c) reply.Overflow step n =
       let h = overflow-plain (first key old.contents (key c)) old new c _ (λ j e. cc) (step (record { private = tt })) in
       record { reply = h.0; contents = h.1; limit = h.2 }
-  intern-plain old new c reply.NoMemory step n = absurd (n refl)
-  intern-plain old new c _ step n = absurd step
-
-  check-plain : (old new : State C) (c : C) (r : Reply) → Step key key spells IsMoved false old (Check c) r new → IsPlain old (Check c) r new
-  check-plain old new c (reply.Symbol r) step = plain old (Check c) (reply.Symbol r) new (ap symbol step.0) step.1 refl
-  check-plain old new c _ step = absurd step
-
-  get_interned-plain : (old new : State C) (c : C) (r : Reply) → Step key key spells IsMoved false old (GetInterned c) r new → r ≢ reply.NoMemory → IsPlain old (GetInterned c) r new
-  get_interned-plain old new c (reply.Pair r) step n = plain old (GetInterned c) (reply.Pair r) new (ap pair step.0) step.1 refl
-  get_interned-plain old new c reply.NoMemory step n = absurd (n refl)
-  get_interned-plain old new c _ step n = absurd step.0
-
-  is_interned-plain : (old new : State C) (c : C) (r : Reply) → Step key key spells IsMoved false old (IsInterned c) r new → IsPlain old (IsInterned c) r new
-  is_interned-plain old new c (reply.Bool r) step = plain old (IsInterned c) (reply.Bool r) new (ap bool step.0) step.1 refl
-  is_interned-plain old new c _ step = absurd step
-
-  contains-plain : (old new : State C) (s : ℕ) (r : Reply) → Step key key spells IsMoved false old (Contains s) r new → IsPlain old (Contains s) r new
-  contains-plain old new s (reply.Bool r) step = plain old (Contains s) (reply.Bool r) new (ap bool step.0) step.1 refl
-  contains-plain old new s _ step = absurd step
-
-  get-plain : (old new : State C) (s : ℕ) (r : Reply) → Step key key spells IsMoved false old (Get s) r new → r ≢ reply.NoMemory → IsPlain old (Get s) r new
-  get-plain old new s (reply.Spelling r) step n = plain old (Get s) (reply.Spelling r) new (ap spelling step.0) step.1 refl
-  get-plain old new s reply.NoMemory step n = absurd (n refl)
-  get-plain old new s _ step n = absurd step.0
-
-  len-plain : (old new : State C) (r : Reply) → Step key key spells IsMoved false old Len r new → IsPlain old Len r new
-  len-plain old new (reply.Count r) step = plain old Len (reply.Count r) new (ap count step.0) step.1 refl
-  len-plain old new _ step = absurd step
-
-  is_empty-plain : (old new : State C) (r : Reply) → Step key key spells IsMoved false old IsEmpty r new → IsPlain old IsEmpty r new
-  is_empty-plain old new (reply.Bool r) step = plain old IsEmpty (reply.Bool r) new (ap bool step.0) step.1 refl
-  is_empty-plain old new _ step = absurd step
-
-  clear-plain : (old new : State C) (r : Reply) → Step key key spells IsMoved false old Clear r new → IsPlain old Clear r new
-  clear-plain old new reply.Done step = record { reply = refl; contents = step.contents; limit = step.limit }
-  clear-plain old new _ step = absurd step
-
-  reserve-plain : (old new : State C) (n : ℕ) (r : Reply) → Step key key spells IsMoved false old (Reserve n) r new → r ≢ reply.NoMemory → IsPlain old (Reserve n) r new
-  reserve-plain old new n reply.Done step m =
+  step-plain old new (Intern c) reply.NoMemory step n = absurd (n refl)
+  step-plain old new (Check c) (reply.Symbol r) step _ = plain old (Check c) (reply.Symbol r) new (ap symbol step.0) step.1 refl
+  step-plain old new (GetInterned c) (reply.Pair r) step n = plain old (GetInterned c) (reply.Pair r) new (ap pair step.0) step.1 refl
+  step-plain old new (GetInterned c) reply.NoMemory step n = absurd (n refl)
+  step-plain old new (GetInterned c) _ step n = absurd step.0
+  step-plain old new (IsInterned c) (reply.Bool r) step _ = plain old (IsInterned c) (reply.Bool r) new (ap bool step.0) step.1 refl
+  step-plain old new (Contains s) (reply.Bool r) step _ = plain old (Contains s) (reply.Bool r) new (ap bool step.0) step.1 refl
+  step-plain old new (Get s) (reply.Spelling r) step n = plain old (Get s) (reply.Spelling r) new (ap spelling step.0) step.1 refl
+  step-plain old new (Get s) reply.NoMemory step n = absurd (n refl)
+  step-plain old new (Get s) _ step n = absurd step.0
+  step-plain old new Len (reply.Count r) step _ = plain old Len (reply.Count r) new (ap count step.0) step.1 refl
+  step-plain old new IsEmpty (reply.Bool r) step _ = plain old IsEmpty (reply.Bool r) new (ap bool step.0) step.1 refl
+  step-plain old new Clear reply.Done step _ = record { reply = refl; contents = step.contents; limit = step.limit }
+  step-plain old new (Reserve n) reply.Done step m =
       record { reply = rw (le-ltb old.limit (length old.contents + n) step.within_limit) refl; contents = step.contents; limit = step.limit }
-  reserve-plain old new n reply.CapacityOverflow step m =
+  step-plain old new (Reserve n) reply.CapacityOverflow step m =
       plain old (Reserve n) reply.CapacityOverflow new (rw (lt-ltb old.limit (length old.contents + n) step.0) refl) step.1 refl
-  reserve-plain old new n reply.NoMemory step m = absurd (m refl)
-  reserve-plain old new n _ step m = absurd step
-
-  shrink_to-plain : (old new : State C) (n : ℕ) (r : Reply) → Step key key spells IsMoved false old (ShrinkTo n) r new → r ≢ reply.NoMemory → IsPlain old (ShrinkTo n) r new
-  shrink_to-plain old new n reply.Done step m = record { reply = refl; contents = step.contents; limit = step.limit }
-  shrink_to-plain old new n reply.NoMemory step m = absurd (m refl)
-  shrink_to-plain old new n _ step m = absurd step
-
-  shrink_to_fit-plain : (old new : State C) (r : Reply) → Step key key spells IsMoved false old ShrinkToFit r new → r ≢ reply.NoMemory → IsPlain old ShrinkToFit r new
-  shrink_to_fit-plain old new reply.Done step m = record { reply = refl; contents = step.contents; limit = step.limit }
-  shrink_to_fit-plain old new reply.NoMemory step m = absurd (m refl)
-  shrink_to_fit-plain old new _ step m = absurd step
-
-  take_back-plain : (old new : State C) (n : ℕ) (r : Reply) → Step key key spells IsMoved false old (TakeBack n) r new → IsPlain old (TakeBack n) r new
-  take_back-plain old new n reply.Done step =
+  step-plain old new (Reserve n) reply.NoMemory step m = absurd (m refl)
+  step-plain old new (ShrinkTo n) reply.Done step m = record { reply = refl; contents = step.contents; limit = step.limit }
+  step-plain old new (ShrinkTo n) reply.NoMemory step m = absurd (m refl)
+  step-plain old new ShrinkToFit reply.Done step m = record { reply = refl; contents = step.contents; limit = step.limit }
+  step-plain old new ShrinkToFit reply.NoMemory step m = absurd (m refl)
+  step-plain old new (TakeBack n) reply.Done step _ =
       let some = le-ltb (length old.contents) n step.within in
       record { reply = rw some refl; contents = rw some step.contents; limit = step.limit }
-  take_back-plain old new n reply.Stale step =
+  step-plain old new (TakeBack n) reply.Stale step _ =
       let h = step (record { private = tt }) in
       let none = lt-ltb (length old.contents) n h.0 in
       record { reply = rw none refl; contents = rw none (same-contents old new h.1); limit = same-limit old new h.1 }
-  take_back-plain old new n _ step = absurd step
-
-  step-plain : (old new : State C) (call : Call C) (r : Reply) → Step key key spells IsMoved false old call r new → r ≢ reply.NoMemory → IsPlain old call r new
-  step-plain old new (Intern c) r step n = intern-plain old new c r step n
-  step-plain old new (Check c) r step n = check-plain old new c r step
-  step-plain old new (GetInterned c) r step n = get_interned-plain old new c r step n
-  step-plain old new (IsInterned c) r step n = is_interned-plain old new c r step
-  step-plain old new (Contains s) r step n = contains-plain old new s r step
-  step-plain old new (Get s) r step n = get-plain old new s r step n
-  step-plain old new Len r step n = len-plain old new r step
-  step-plain old new IsEmpty r step n = is_empty-plain old new r step
-  step-plain old new Clear r step n = clear-plain old new r step
-  step-plain old new (Reserve n) r step m = reserve-plain old new n r step m
-  step-plain old new (ShrinkTo n) r step m = shrink_to-plain old new n r step m
-  step-plain old new ShrinkToFit r step m = shrink_to_fit-plain old new r step m
-  step-plain old new (TakeBack n) r step m = take_back-plain old new n r step
+  step-plain old new _ _ step _ = absurd step
 
   -- what calls in order say, and the contents that they leave
   abbrev says_each : List C → ℕ → List (Call C) → List Seen
@@ -177,12 +128,11 @@ module _ {C : Type 0} (key : C → Key) (spells : C → List ℕ) where
   runs-plain : (hash : Key → ℕ) (old new : State C) (calls : List (Call C)) (replies : List Reply) (cost : List Event) → Runs key spells hash old calls replies cost new → HasMemory replies
       → (map seen replies ≡ says_each old.contents old.limit calls) × (new.contents ≡ leaves_all old.contents old.limit calls)
   runs-plain hash old new [] [] cost run memory = (refl, same-contents old new run.1)
-  runs-plain hash old new [] (r ∷ replies) cost run memory = absurd run
-  runs-plain hash old new (call ∷ calls) [] cost run memory = absurd run
   runs-plain hash old new (call ∷ calls) (r ∷ replies) cost run memory =
       let one = step-plain old run.0 call r run.4.0 (memory 0 r (omega arith)) in
       let rest = runs-plain hash run.0 new calls replies run.2 run.5 (λ k d lt. memory (suc k) d (omega arith)) in
       (rw (one.reply, rest.0, one.contents, one.limit) refl, rw (rest.1, one.contents, one.limit) refl)
+  runs-plain hash old new _ _ cost run memory = absurd run
 
   -- two runs of the same calls say the same and leave the same contents
   pub runs-alike : AreAlike key spells

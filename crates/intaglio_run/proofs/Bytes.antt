@@ -10,6 +10,7 @@ use Rattle.intaglio_interner.specs.State.{State, first}
 use Rattle.intaglio_interner.specs.Change.{IsAdded}
 use Rattle.intaglio_run.specs.Step.{Step}
 use Rattle.intaglio_run.specs.Run.{UsesRoom}
+use Rattle.intaglio_run.proofs.LookUps.{same-state}
 use Rattle.intaglio_symbol.specs.declared.error.InternError.{InternError}
 use Rattle.intaglio_run.specs.declared.runs.Call.{Call}
 use Rattle.intaglio_run.specs.declared.runs.Call.TheVariants.{Intern}
@@ -49,14 +50,10 @@ module _ {C Q : Type 0} (key : C → Key) (value_key : Q → Key) (spelling : C 
   added-spare None old next q i h some = (h.spare some).0
   added-spare (Some j) old next q i h some = rw h.1 (omega arith)
 
-  full-spare : (o : Option ℕ) (old next : State C) (A : Type 0) (B : ℕ → Type 0) → MatchOption o (A × (next ≡ old)) (λ j. B j × (next ≡ old)) → old.spare ≤ next.spare + 1
-  full-spare None old next A B h = rw h.1 (omega arith)
-  full-spare (Some j) old next A B h = rw h.1 (omega arith)
-
   -- an interning that doesn't run out of memory uses at most one place
   intern-spare : (old next : State C) (q : Q) (r : Reply) → Step key value_key spelling adds copies old (Intern q) r next → r ≢ reply.NoMemory → 0 < old.spare → old.spare ≤ next.spare + 1
   intern-spare old next q (reply.Symbol (Some i)) step quiet some = added-spare (first key old.contents (value_key q)) old next q i step some
-  intern-spare old next q reply.Overflow step quiet some = full-spare (first key old.contents (value_key q)) old next _ _ (step (record { private = tt }))
+  intern-spare old next q reply.Overflow step quiet some = rw (same-state (first key old.contents (value_key q)) old next _ _ (step (record { private = tt }))) (omega arith)
   intern-spare old next q reply.NoMemory step quiet some = absurd (quiet refl)
   intern-spare old next q _ step quiet some = absurd step
 

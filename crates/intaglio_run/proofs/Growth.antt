@@ -4,14 +4,14 @@ use Rattle.std.proofs.lemmas.Bool.{cases_eq}
 use Rattle.std.proofs.lemmas.List.Elements.{All-cons}
 use Rattle.intaglio_content.specs.Key.{Key}
 use Rattle.intaglio_content.specs.Store.{IsAddedOne}
-use Rattle.intaglio_content.specs.Work.{Event, hashed, compared, step, placed}
+use Rattle.intaglio_content.specs.Work.{Event, placed}
 use Rattle.intaglio_interner.specs.State.{State, first}
 use Rattle.intaglio_interner.specs.Change.{IsAdded, IsRefused, IsOutOfMemory}
 use Rattle.intaglio_interner.specs.Cost.{InOrder, hashed_keys, placed_count, SearchCost, IsAddingCost}
 use Rattle.intaglio_run.specs.Step.{Step, StepCost}
 use Rattle.intaglio_run.specs.Run.{RunsValues, IsCall, KeepsContents, HonoursRoom, searched_keys}
 use Rattle.intaglio_run.proofs.InOrder.{hashed_keys-append, InOrder-hash}
-use Rattle.intaglio_run.proofs.LookUps.{check-same, is_interned-same, contains-same, len-same, is_empty-same}
+use Rattle.intaglio_run.proofs.LookUps.{same-state, check-same, is_interned-same, contains-same, len-same, is_empty-same}
 use Rattle.intaglio_symbol.specs.declared.error.InternError.TheVariants as error
 use Rattle.intaglio_symbol.specs.declared.error.InternError.{InternError}
 use Rattle.intaglio_run.specs.declared.runs.Call.{Call}
@@ -21,10 +21,8 @@ use Rattle.intaglio_run.specs.declared.runs.Reply.TheVariants as reply
 
 pub placed_count-append : (a b : List Event) → placed_count (a ++ b) ≡ placed_count a + placed_count b
 placed_count-append [] b = omega arith
-placed_count-append (hashed k ∷ a) b = placed_count-append a b
-placed_count-append (compared k l ∷ a) b = placed_count-append a b
-placed_count-append (step ∷ a) b = placed_count-append a b
 placed_count-append (placed ∷ a) b = let e : placed_count (a ++ b) ≡ placed_count a + placed_count b = placed_count-append a b in omega arith
+placed_count-append (_ ∷ a) b = placed_count-append a b
 
 -- g symbols have been placed again at most, where buckets can still grow at most as many as there are buckets
 pub record Holds {C : Type 0} (s : State C) (g : ℕ) : Type 0 where
@@ -43,12 +41,11 @@ module _ {C X : Type 0} (OneStep : State C → X → Reply → List Event → St
   places : (old new : State C) (xs : List X) (replies : List Reply) (cost : List Event) (g : ℕ) → All P xs → Holds old g → InOrder OneStep old xs replies cost new
       → g + placed_count cost + length old.contents ≤ 3 * length new.contents
   places old new [] [] cost g all h run = rw (run.0, run.1) (omega (arith, h.twice))
-  places old new [] (r ∷ replies) cost g all h run = absurd run
-  places old new (x ∷ xs) [] cost g all h run = absurd run
   places old new (x ∷ xs) (r ∷ replies) cost g all h run =
       let one = goes old run.0 x r run.1 g (all 0 x (omega arith)) run.4 h in
       let rest = places run.0 new xs replies run.2 one.later (λ k d lt. all (suc k) d (omega arith)) one.holds run.5 in
       rw (run.3, placed_count-append run.1 run.2) (omega (arith, one.spent, rest))
+  places old new _ _ cost g all h run = absurd run
 
   -- placements and contents before are at most three times the contents after
   pub InOrder-place : (old new : State C) (xs : List X) (replies : List Reply) (cost : List Event) → All P xs → InOrder OneStep old xs replies cost new
@@ -95,10 +92,6 @@ module _ {C : Type 0} (key : C → Key) (hash : Key → ℕ) where
             grown old next adds i (placed_count now) g size taken differ (omega arith) h
       ]
 
-  same-state : (o : Option ℕ) (old next : State C) (A : Type 0) (B : ℕ → Type 0) → MatchOption o (A × (next ≡ old)) (λ j. B j × (next ≡ old)) → next ≡ old
-  same-state None old next A B h = h.1
-  same-state (Some j) old next A B h = h.1
-
   no_memory : (copies : Bool) (old next : State C) (p g : ℕ) → IsOutOfMemory copies old next → p ≡ 0 → Holds old g → Goes old next p g
   no_memory false old next p g h none holds = kept old next p g (ap (λ (cs : List C). length cs) h.contents) h.buckets h.limit none holds
   no_memory true old next p g (inl h) none holds = unchanged old next p g h.same none holds
@@ -124,15 +117,12 @@ module _ {C Q : Type 0} (key : C → Key) (value_key : Q → Key) (spelling : C 
   refused None old next p g B h none holds = no_memory key hash copies old next p g h none holds
   refused (Some j) old next p g B h none holds = unchanged key hash old next p g h.1 none holds
 
-  intern-goes : (old next : State C) (q : Q) (r : Reply) (now : List Event) (g : ℕ) → Step key value_key spelling adds copies old (Intern q) r next → StepCost key value_key hash old (Intern q) r next now → Holds old g → Goes old next (placed_count now) g
-  intern-goes old next q (reply.Symbol (Some i)) now g made cost h = answered (first key old.contents (value_key q)) old next q i g now made cost h
-  intern-goes old next q reply.Overflow now g made cost h = unchanged key hash old next (placed_count now) g (same-state key hash (first key old.contents (value_key q)) old next _ _ (made (record { private = tt }))) cost.0.placements h
-  intern-goes old next q reply.NoMemory now g made cost h = refused (first key old.contents (value_key q)) old next (placed_count now) g _ made cost.0.placements h
-  intern-goes old next q _ now g made cost h = absurd made
-
   -- an interning or a look-up
   call-goes : (old next : State C) (call : Call Q) (r : Reply) (now : List Event) (g : ℕ) → KeepsContents call → Step key value_key spelling adds copies old call r next → StepCost key value_key hash old call r next now → Holds old g → Goes old next (placed_count now) g
-  call-goes old next (Intern q) r now g kept made cost h = intern-goes old next q r now g made cost h
+  call-goes old next (Intern q) (reply.Symbol (Some i)) now g kept made cost h = answered (first key old.contents (value_key q)) old next q i g now made cost h
+  call-goes old next (Intern q) reply.Overflow now g kept made cost h = unchanged key hash old next (placed_count now) g (same-state (first key old.contents (value_key q)) old next _ _ (made (record { private = tt }))) cost.0.placements h
+  call-goes old next (Intern q) reply.NoMemory now g kept made cost h = refused (first key old.contents (value_key q)) old next (placed_count now) g _ made cost.0.placements h
+  call-goes old next (Intern q) _ now g kept made cost h = absurd made
   call-goes old next (Check q) r now g kept made cost h = unchanged key hash old next (placed_count now) g (check-same key value_key spelling adds copies old next q r made) cost.0.placements h
   call-goes old next (GetInterned q) r now g kept made cost h = unchanged key hash old next (placed_count now) g made.1 cost.0.placements h
   call-goes old next (IsInterned q) r now g kept made cost h = unchanged key hash old next (placed_count now) g (is_interned-same key value_key spelling adds copies old next q r made) cost.0.placements h
@@ -181,17 +171,16 @@ module _ {C Q : Type 0} (key : C → Key) (value_key : Q → Key) (spelling : C 
   taken-in-room : (old next : State C) (q : Q) (r : Reply) (n : ℕ) → Step key value_key spelling adds false old (Intern q) r next → suc n ≤ old.spare → (r ≢ reply.NoMemory) × (n ≤ next.spare)
   taken-in-room old next q (reply.Symbol (Some i)) n made lt = ((λ e. cc), room-left (first key old.contents (value_key q)) old next q i n made lt)
   taken-in-room old next q reply.Overflow n made lt =
-      ((λ e. cc), let same : next.spare ≡ old.spare = ap (λ (s : State C). s.spare) (same-state key hash (first key old.contents (value_key q)) old next _ _ (made (record { private = tt }))) in omega arith)
+      ((λ e. cc), let same : next.spare ≡ old.spare = ap (λ (s : State C). s.spare) (same-state (first key old.contents (value_key q)) old next _ _ (made (record { private = tt }))) in omega arith)
   taken-in-room old next q reply.NoMemory n made lt = absurd (had-room (first key old.contents (value_key q)) old next made (omega arith))
   taken-in-room old next q _ n made lt = absurd made
 
   in-room : (old new : State C) (qs : List Q) (replies : List Reply) (cost : List Event) → RunsValues key value_key spelling adds false hash old (map Intern qs) replies cost new → length qs ≤ old.spare → All (λ r. r ≢ reply.NoMemory) replies
   in-room old new [] [] cost run le = λ k d lt. absurd (omega arith)
-  in-room old new [] (r ∷ replies) cost run le = absurd run
-  in-room old new (q ∷ qs) [] cost run le = absurd run
   in-room old new (q ∷ qs) (r ∷ replies) cost run le =
       let made = taken-in-room old run.0 q r (length qs) run.4.0 le in
       All-cons (λ (x : Reply). x ≢ reply.NoMemory) r replies made.0 (in-room run.0 new qs replies run.2 run.5 made.1)
+  in-room old new _ _ cost run le = absurd run
 
   -- as many as there is room for are interned without running out of memory, unless they are copied
   pub Runs-room : (copies : Bool) (old new : State C) (calls : List (Call Q)) (replies : List Reply) (cost : List Event) → RunsValues key value_key spelling adds copies hash old calls replies cost new → HonoursRoom copies old calls replies

@@ -1,5 +1,5 @@
 -- How often the memory of a table's contents grows.
-use Rattle.std.proofs.Common.{◌≡◌, ◌≢◌, ℕ, suc, ◌+◌, ◌-◌, ◌*◌, ◌^◌, ◌<◌, ◌≤◌, ◌⊎◌, ◌∙◌, max, Bool, true, false, List, [], ◌∷◌, ◌++◌, length, All, Option, Some, None, Ok, Result, MatchOption, length-append, inl, inr, refl, sym, ap, arith}
+use Rattle.std.proofs.Common.{◌≡◌, ◌≢◌, ℕ, suc, ◌+◌, ◌-◌, ◌*◌, ◌^◌, ◌≤◌, ◌⊎◌, ◌∙◌, max, Bool, true, false, List, [], ◌∷◌, ◌++◌, length, All, Option, Some, None, Ok, Result, MatchOption, length-append, inl, inr, refl, sym, ap, arith}
 use Rattle.std.proofs.lemmas.Bool.{cases_eq, cases_lt, eq-eqb, ne_eqb}
 use Rattle.std.proofs.Math.Nat.{mul-le-mul_left, mul_assoc, mul_comm, pow-suc}
 use Rattle.intaglio_content.specs.Key.{Key}
@@ -9,10 +9,10 @@ use Rattle.intaglio_interner.specs.Change.{IsAdded, IsOutOfMemory}
 use Rattle.intaglio_symbol.specs.declared.error.InternError.{InternError}
 use Rattle.intaglio_run.specs.Step.{Step}
 use Rattle.intaglio_run.specs.Run.{KeepsContents, KeepsRoom}
-use Rattle.intaglio_run.proofs.LookUps.{check-same, is_interned-same, contains-same, len-same, is_empty-same}
+use Rattle.intaglio_run.proofs.LookUps.{same-state, check-same, is_interned-same, contains-same, len-same, is_empty-same}
 use Rattle.intaglio_run.specs.Growths.{Room, changes, bytes_of, CallGrows, RunsGrowing}
 use Rattle.intaglio_run.specs.declared.runs.Call.{Call}
-use Rattle.intaglio_run.specs.declared.runs.Call.TheVariants.{Intern, Check, GetInterned, IsInterned, Contains, Get, Len, IsEmpty, Clear, Reserve, ShrinkTo, ShrinkToFit, TakeBack}
+use Rattle.intaglio_run.specs.declared.runs.Call.TheVariants.{Intern, Check, GetInterned, IsInterned, Contains, Get, Len, IsEmpty, Reserve, ShrinkTo, ShrinkToFit}
 use Rattle.intaglio_run.specs.declared.runs.Reply.{Reply}
 use Rattle.intaglio_run.specs.declared.runs.Reply.TheVariants as reply
 
@@ -40,15 +40,7 @@ module _ {C Q : Type 0} (takes : C → ℕ) (needs : Q → ℕ) where
   list-doubles old next (Reserve n) keep grows differ = let grown = grows.0.grown differ in omega (arith, grown)
   list-doubles old next (ShrinkTo n) keep grows differ = absurd keep
   list-doubles old next ShrinkToFit keep grows differ = absurd keep
-  list-doubles old next (Check q) keep grows differ = absurd (differ grows.0)
-  list-doubles old next (GetInterned q) keep grows differ = absurd (differ grows.0)
-  list-doubles old next (IsInterned q) keep grows differ = absurd (differ grows.0)
-  list-doubles old next (Contains s) keep grows differ = absurd (differ grows.0)
-  list-doubles old next (Get s) keep grows differ = absurd (differ grows.0)
-  list-doubles old next Len keep grows differ = absurd (differ grows.0)
-  list-doubles old next IsEmpty keep grows differ = absurd (differ grows.0)
-  list-doubles old next Clear keep grows differ = absurd (differ grows.0)
-  list-doubles old next (TakeBack n) keep grows differ = absurd (differ grows.0)
+  list-doubles old next _ keep grows differ = absurd (differ grows.0)
 
   -- a growth for an interning makes room for at most twice as many contents as there are, or for 4
   list-within : (old next : Room C) (call : Call Q) → KeepsContents call → CallGrows takes needs old call next → next.most ≢ old.most → next.most ≤ max 4 (2 * length old.state.contents)
@@ -57,14 +49,10 @@ module _ {C Q : Type 0} (takes : C → ℕ) (needs : Q → ℕ) where
         | inl full ↦ let grown = grows.0.grown differ in omega (arith, grown, full)
         | inr enough ↦ absurd (differ (grows.0.enough enough))
       ]
-  list-within old next (Check q) keep grows differ = absurd (differ grows.0)
-  list-within old next (GetInterned q) keep grows differ = absurd (differ grows.0)
-  list-within old next (IsInterned q) keep grows differ = absurd (differ grows.0)
-  list-within old next (Contains s) keep grows differ = absurd (differ grows.0)
-  list-within old next (Get s) keep grows differ = absurd (differ grows.0)
-  list-within old next Len keep grows differ = absurd (differ grows.0)
-  list-within old next IsEmpty keep grows differ = absurd (differ grows.0)
-  list-within old next _ keep grows differ = absurd keep
+  list-within old next (Reserve n) keep grows differ = absurd keep
+  list-within old next (ShrinkTo n) keep grows differ = absurd keep
+  list-within old next ShrinkToFit keep grows differ = absurd keep
+  list-within old next _ keep grows differ = absurd (differ grows.0)
 
   -- room for bytes that changes at least doubles, or ends at the most that short ends reach
   abbrev TwiceOrEnd : ℕ → ℕ → Type 0
@@ -77,26 +65,15 @@ module _ {C Q : Type 0} (takes : C → ℕ) (needs : Q → ℕ) where
         | inl more ↦ inl (omega (arith, more))
         | inr end ↦ inr end
       ]
-  bytes-double old next (Reserve n) keep grows differ = absurd (differ grows.1)
   bytes-double old next (ShrinkTo n) keep grows differ = absurd keep
   bytes-double old next ShrinkToFit keep grows differ = absurd keep
-  bytes-double old next (Check q) keep grows differ = absurd (differ grows.1)
-  bytes-double old next (GetInterned q) keep grows differ = absurd (differ grows.1)
-  bytes-double old next (IsInterned q) keep grows differ = absurd (differ grows.1)
-  bytes-double old next (Contains s) keep grows differ = absurd (differ grows.1)
-  bytes-double old next (Get s) keep grows differ = absurd (differ grows.1)
-  bytes-double old next Len keep grows differ = absurd (differ grows.1)
-  bytes-double old next IsEmpty keep grows differ = absurd (differ grows.1)
-  bytes-double old next Clear keep grows differ = absurd (differ grows.1)
-  bytes-double old next (TakeBack n) keep grows differ = absurd (differ grows.1)
+  bytes-double old next _ keep grows differ = absurd (differ grows.1)
 
   module _ (IsStep : State C → Call Q → Reply → State C → Type 0) where
     -- the room for contents doubled as often as it changed
     pub list-growths : (old : Room C) (calls : List (Call Q)) (replies : List Reply) (g h : ℕ) (new : Room C) → All KeepsRoom calls → RunsGrowing takes needs IsStep old calls replies g h new
         → 2 ^ g * max 1 old.most ≤ max 1 new.most
     list-growths old [] [] g h new keep run = rw (run.0, run.2) (omega arith)
-    list-growths old [] (r ∷ replies) g h new keep run = absurd run
-    list-growths old (call ∷ calls) [] g h new keep run = absurd run
     list-growths old (call ∷ calls) (r ∷ replies) g h new keep run =
         let rest = list-growths run.0 calls replies run.1 run.2 new (λ k d lt. keep (suc k) d (omega arith)) run.7 in
         elim (cases_eq run.0.most old.most) [
@@ -105,6 +82,7 @@ module _ {C Q : Type 0} (takes : C → ℕ) (needs : Q → ℕ) where
               let count : g ≡ suc run.1 = omega (arith, run.3, changes-once old.most run.0.most differ) in
               rw count (twice-more run.1 (max 1 old.most) (max 1 run.0.most) (max 1 new.most) (list-doubles old run.0 call (keep 0 call (omega arith)) run.6 differ) rest)
         ]
+    list-growths old _ _ g h new keep run = absurd run
 
     -- the room for bytes too, but for a growth that ends at the most that short ends reach: there is no other before it
     -- has passed that
@@ -126,8 +104,6 @@ module _ {C Q : Type 0} (takes : C → ℕ) (needs : Q → ℕ) where
     bytes-doubled : (old : Room C) (calls : List (Call Q)) (replies : List Reply) (g h : ℕ) (new : Room C) → All KeepsRoom calls → RunsGrowing takes needs IsStep old calls replies g h new
         → Doubled h (bytes_of takes old) (bytes_of takes new)
     bytes-doubled old [] [] g h new keep run = rw (run.1, run.2) (omega arith, λ far. omega arith)
-    bytes-doubled old [] (r ∷ replies) g h new keep run = absurd run
-    bytes-doubled old (call ∷ calls) [] g h new keep run = absurd run
     bytes-doubled old (call ∷ calls) (r ∷ replies) g h new keep run =
         let rest = bytes-doubled run.0 calls replies run.1 run.2 new (λ k d lt. keep (suc k) d (omega arith)) run.7 in
         elim (cases_eq (bytes_of takes run.0) (bytes_of takes old)) [
@@ -138,6 +114,7 @@ module _ {C Q : Type 0} (takes : C → ℕ) (needs : Q → ℕ) where
               once-more h run.2 (bytes_of takes old) (bytes_of takes run.0) (bytes_of takes new) (omega (arith, run.4, changes-once (bytes_of takes old) (bytes_of takes run.0) differ)) differ
               (bytes-double old run.0 call (keep 0 call (omega arith)) run.6 differ) rest
         ]
+    bytes-doubled old _ _ g h new keep run = absurd run
 
     pub byte-growths : (old : Room C) (calls : List (Call Q)) (replies : List Reply) (g h : ℕ) (new : Room C) → All KeepsRoom calls → RunsGrowing takes needs IsStep old calls replies g h new
         → 2 ^ h * max 1 (bytes_of takes old) ≤ 2 * max 1 (bytes_of takes new)
@@ -149,8 +126,6 @@ module _ {C Q : Type 0} (takes : C → ℕ) (needs : Q → ℕ) where
         → RunsGrowing takes needs IsStep old (calls ++ call ∷ []) (replies ++ r ∷ []) (g + changes mid.most new.most) (h + changes (bytes_of takes mid) (bytes_of takes new)) new
     growing-push old [] [] g h mid call r new run step grows =
         (new, 0, 0, rw (run.0, run.2) (omega arith), rw (run.1, run.2) (omega arith), rw (← run.2) step, rw (← run.2) grows, (refl, refl, refl))
-    growing-push old [] (y ∷ replies) g h mid call r new run step grows = absurd run
-    growing-push old (x ∷ calls) [] g h mid call r new run step grows = absurd run
     growing-push old (x ∷ calls) (y ∷ replies) g h mid call r new run step grows = (
       run.0,
       run.1 + changes mid.most new.most,
@@ -161,13 +136,12 @@ module _ {C Q : Type 0} (takes : C → ℕ) (needs : Q → ℕ) where
       run.6,
       growing-push run.0 calls replies run.1 run.2 mid call r new run.7 step grows,
     )
+    growing-push old _ _ g h mid call r new run step grows = absurd run
 
     module _ (sizes : (old next : State C) (call : Call Q) (r : Reply) → KeepsContents call → IsStep old call r next → length old.contents ≤ length next.contents) where
       few : (old : Room C) (calls : List (Call Q)) (replies : List Reply) (g h : ℕ) (new : Room C) → All KeepsContents calls → RunsGrowing takes needs IsStep old calls replies g h new
           → (length old.state.contents ≤ length new.state.contents) × (new.most ≤ max old.most (max 4 (2 * length new.state.contents)))
       few old [] [] g h new keep run = rw run.2 (omega arith, omega arith)
-      few old [] (r ∷ replies) g h new keep run = absurd run
-      few old (call ∷ calls) [] g h new keep run = absurd run
       few old (call ∷ calls) (r ∷ replies) g h new keep run =
           let rest = few run.0 calls replies run.1 run.2 new (λ k d lt. keep (suc k) d (omega arith)) run.7 in
           let size = sizes old.state run.0.state call r (keep 0 call (omega arith)) run.5 in
@@ -175,6 +149,7 @@ module _ {C Q : Type 0} (takes : C → ℕ) (needs : Q → ℕ) where
             | inl same ↦ (omega (arith, size, rest.0), omega (arith, same, rest.1))
             | inr differ ↦ let more = list-within old run.0 call (keep 0 call (omega arith)) run.6 differ in (omega (arith, size, rest.0), omega (arith, more, size, rest.0, rest.1))
           ]
+      few old _ _ g h new keep run = absurd run
 
       -- there is room for few more contents than there are
       pub few-growths : (old : Room C) (calls : List (Call Q)) (replies : List Reply) (g h : ℕ) (new : Room C) → All KeepsContents calls → RunsGrowing takes needs IsStep old calls replies g h new
@@ -193,10 +168,6 @@ module _ {C Q : Type 0} (key : C → Key) (value_key : Q → Key) (spelling : C 
       rw added.added (omega (arith, length-append old.contents (added.content ∷ [])))
   added-size (Some j) old next q i h = same-size old next h.1
 
-  full-size : (o : Option ℕ) (old next : State C) (A : Type 0) (B : ℕ → Type 0) → MatchOption o (A × (next ≡ old)) (λ j. B j × (next ≡ old)) → length old.contents ≤ length next.contents
-  full-size None old next A B h = same-size old next h.1
-  full-size (Some j) old next A B h = same-size old next h.1
-
   no_memory-size : (copied : Bool) (old next : State C) → IsOutOfMemory copied old next → length old.contents ≤ length next.contents
   no_memory-size false old next h = rw h.contents (omega arith)
   no_memory-size true old next (inl h) = same-size old next h.same
@@ -206,14 +177,11 @@ module _ {C Q : Type 0} (key : C → Key) (value_key : Q → Key) (spelling : C 
   refused-size None old next B h = no_memory-size copies old next h
   refused-size (Some j) old next B h = same-size old next h.1
 
-  intern-size : (old next : State C) (q : Q) (r : Reply) → Step key value_key spelling adds copies old (Intern q) r next → length old.contents ≤ length next.contents
-  intern-size old next q (reply.Symbol (Some i)) made = added-size (first key old.contents (value_key q)) old next q i made
-  intern-size old next q reply.Overflow made = full-size (first key old.contents (value_key q)) old next _ _ (made (record { private = tt }))
-  intern-size old next q reply.NoMemory made = refused-size (first key old.contents (value_key q)) old next _ made
-  intern-size old next q _ made = absurd made
-
   pub call-size : (old next : State C) (call : Call Q) (r : Reply) → KeepsContents call → Step key value_key spelling adds copies old call r next → length old.contents ≤ length next.contents
-  call-size old next (Intern q) r keep made = intern-size old next q r made
+  call-size old next (Intern q) (reply.Symbol (Some i)) keep made = added-size (first key old.contents (value_key q)) old next q i made
+  call-size old next (Intern q) reply.Overflow keep made = same-size old next (same-state (first key old.contents (value_key q)) old next _ _ (made (record { private = tt })))
+  call-size old next (Intern q) reply.NoMemory keep made = refused-size (first key old.contents (value_key q)) old next _ made
+  call-size old next (Intern q) _ keep made = absurd made
   call-size old next (Check q) r keep made = same-size old next (check-same key value_key spelling adds copies old next q r made)
   call-size old next (GetInterned q) r keep made = same-size old next made.1
   call-size old next (IsInterned q) r keep made = same-size old next (is_interned-same key value_key spelling adds copies old next q r made)

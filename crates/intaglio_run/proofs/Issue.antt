@@ -31,8 +31,6 @@ module _ {C Q : Type 0} (key : C → Key) (form_key : Q → Key) (OneStep : Stat
   pub InOrder-issue : (old new : State C) (held qs : List Q) (replies : List Reply) (cost : List Event) → map key old.contents ≡ map form_key held
       → InOrder OneStep old (map Intern qs) replies cost new → All (λ r. ¬ IsRefusal r) replies → replies ≡ map (λ i. reply.Symbol (Some i)) (issue_from form_key held qs)
   InOrder-issue old new held [] [] cost same run none = refl
-  InOrder-issue old new held [] (r ∷ replies) cost same run none = absurd run
-  InOrder-issue old new held (q ∷ qs) [] cost same run none = absurd run
   InOrder-issue old new held (q ∷ qs) (r ∷ replies) cost same run none =
       let given = one old q r run.1 run.0 run.4 (none 0 r (omega arith)) in
       let found : first key old.contents (form_key q) ≡ first form_key held (form_key q) = rw same refl in
@@ -41,6 +39,7 @@ module _ {C Q : Type 0} (key : C → Key) (form_key : Q → Key) (OneStep : Stat
       let after : map key run.0.contents ≡ map form_key (interned form_key held q) =
       given.2.1 ∙ rw found (same-held (first form_key held (form_key q)) held q (map key old.contents) same) in
       rw (given.1, symbol, InOrder-issue run.0 new (interned form_key held q) qs replies run.2 after run.5 (λ k d lt. none (suc k) d (omega arith))) refl
+  InOrder-issue old new held _ _ cost same run none = absurd run
 
 module _ {C Q : Type 0} (key : C → Key) (value_key : Q → Key) (spelling : C → List ℕ) (adds : Q → List C → List C → Type 0) (copies : Bool) (one : (q : Q) (a b : List C) → adds q a b → IsAddedOne key (value_key q) a b) (hash : Key → ℕ) where
   -- a reply that is no refusal gives a symbol

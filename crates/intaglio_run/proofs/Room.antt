@@ -6,7 +6,7 @@ use Rattle.intaglio_content.specs.Store.{IsAddedOne}
 use Rattle.intaglio_content.specs.Work.{Event}
 use Rattle.intaglio_interner.specs.State.{State}
 use Rattle.intaglio_interner.specs.Change.{HasNoLessRoom}
-use Rattle.intaglio_run.specs.Step.{Step, RepliesReserved, RepliesTakenBack}
+use Rattle.intaglio_run.specs.Step.{Step}
 use Rattle.intaglio_run.specs.Run.{RunsValues, IsCall, KeepsRoom}
 use Rattle.intaglio_symbol.specs.declared.error.InternError.TheVariants as intern_error
 use Rattle.intaglio_run.specs.declared.runs.Call.{Call}
@@ -18,35 +18,11 @@ use Rattle.intaglio_run.proofs.LookUps.{check-same, is_interned-same, contains-s
 use Rattle.intaglio_interner.proofs.Room.{same-roomier, kept-roomier, interns-roomier}
 
 module _ {C Q : Type 0} (key : C → Key) (value_key : Q → Key) (spelling : C → List ℕ) (adds : Q → List C → List C → Type 0) (copies : Bool) (one : (q : Q) (a b : List C) → adds q a b → IsAddedOne key (value_key q) a b) where
-  intern-roomier : (old next : State C) (q : Q) (r : Reply) → Step key value_key spelling adds copies old (Intern q) r next → HasNoLessRoom old next
-  intern-roomier old next q (reply.Symbol (Some i)) made = interns-roomier key (adds q) copies (value_key q) (one q) old next (Ok i) made
-  intern-roomier old next q reply.Overflow made = interns-roomier key (adds q) copies (value_key q) (one q) old next (Err (intern_error.Overflow (record { private = tt }))) (made (record { private = tt }))
-  intern-roomier old next q reply.NoMemory made = interns-roomier key (adds q) copies (value_key q) (one q) old next (Err (intern_error.Memory alloc_error)) made
-  intern-roomier old next q _ made = absurd made
-
-  reserve-roomier : (old next : State C) (n : ℕ) (r : Reply) → RepliesReserved old n r next → HasNoLessRoom old next
-  reserve-roomier old next n reply.Done made =
-      elim (cases_lt old.spare n) [
-        | inl missing ↦ let more : n ≤ next.spare = made.spare in kept-roomier key old next made.contents (omega arith)
-        | inr there ↦ same-roomier key old next (made.enough there)
-      ]
-  reserve-roomier old next n reply.CapacityOverflow made = same-roomier key old next made.1
-  reserve-roomier old next n reply.NoMemory made = kept-roomier key old next made.contents made.spare
-  reserve-roomier old next n _ made = absurd made
-
-  clear-roomier : (old next : State C) (r : Reply) → Step key value_key spelling adds copies old Clear r next → HasNoLessRoom old next
-  clear-roomier old next reply.Done made =
-      let none : length next.contents ≡ 0 = ap (λ (cs : List C). length cs) made.contents in
-      let room : next.spare ≡ length old.contents + old.spare = made.spare in omega arith
-  clear-roomier old next _ made = absurd made
-
-  take_back-roomier : (old next : State C) (n : ℕ) (r : Reply) → RepliesTakenBack old n r next → HasNoLessRoom old next
-  take_back-roomier old next n reply.Done made = let same : length next.contents + next.spare ≡ length old.contents + old.spare = made.spare in omega arith
-  take_back-roomier old next n reply.Stale made = same-roomier key old next (made (record { private = tt })).1
-  take_back-roomier old next n _ made = absurd made
-
   call-roomier : (old next : State C) (call : Call Q) (r : Reply) → KeepsRoom call → Step key value_key spelling adds copies old call r next → HasNoLessRoom old next
-  call-roomier old next (Intern q) r keep made = intern-roomier old next q r made
+  call-roomier old next (Intern q) (reply.Symbol (Some i)) keep made = interns-roomier key (adds q) copies (value_key q) (one q) old next (Ok i) made
+  call-roomier old next (Intern q) reply.Overflow keep made = interns-roomier key (adds q) copies (value_key q) (one q) old next (Err (intern_error.Overflow (record { private = tt }))) (made (record { private = tt }))
+  call-roomier old next (Intern q) reply.NoMemory keep made = interns-roomier key (adds q) copies (value_key q) (one q) old next (Err (intern_error.Memory alloc_error)) made
+  call-roomier old next (Intern q) _ keep made = absurd made
   call-roomier old next (Check q) r keep made = same-roomier key old next (check-same key value_key spelling adds copies old next q r made)
   call-roomier old next (GetInterned q) r keep made = same-roomier key old next made.1
   call-roomier old next (IsInterned q) r keep made = same-roomier key old next (is_interned-same key value_key spelling adds copies old next q r made)
@@ -54,9 +30,21 @@ module _ {C Q : Type 0} (key : C → Key) (value_key : Q → Key) (spelling : C 
   call-roomier old next (Get s) r keep made = same-roomier key old next made.1
   call-roomier old next Len r keep made = same-roomier key old next (len-same key value_key spelling adds copies old next r made)
   call-roomier old next IsEmpty r keep made = same-roomier key old next (is_empty-same key value_key spelling adds copies old next r made)
-  call-roomier old next (Reserve n) r keep made = reserve-roomier old next n r made
-  call-roomier old next Clear r keep made = clear-roomier old next r made
-  call-roomier old next (TakeBack n) r keep made = take_back-roomier old next n r made
+  call-roomier old next (Reserve n) reply.Done keep made =
+      elim (cases_lt old.spare n) [
+        | inl missing ↦ let more : n ≤ next.spare = made.spare in kept-roomier key old next made.contents (omega arith)
+        | inr there ↦ same-roomier key old next (made.enough there)
+      ]
+  call-roomier old next (Reserve n) reply.CapacityOverflow keep made = same-roomier key old next made.1
+  call-roomier old next (Reserve n) reply.NoMemory keep made = kept-roomier key old next made.contents made.spare
+  call-roomier old next (Reserve n) _ keep made = absurd made
+  call-roomier old next Clear reply.Done keep made =
+      let none : length next.contents ≡ 0 = ap (λ (cs : List C). length cs) made.contents in
+      let room : next.spare ≡ length old.contents + old.spare = made.spare in omega arith
+  call-roomier old next Clear _ keep made = absurd made
+  call-roomier old next (TakeBack n) reply.Done keep made = let same : length next.contents + next.spare ≡ length old.contents + old.spare = made.spare in omega arith
+  call-roomier old next (TakeBack n) reply.Stale keep made = same-roomier key old next (made (record { private = tt })).1
+  call-roomier old next (TakeBack n) _ keep made = absurd made
   call-roomier old next _ r keep made = absurd keep
 
   -- capacity doesn't fall over a run that shrinks nothing

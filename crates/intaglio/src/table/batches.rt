@@ -1,11 +1,9 @@
 //! Batches of contents or forms.
-ghost use Rattle.std.specs.Prelude.{◌≡◌, ◌+◌, ◌<◌, length, map, sum_by, IfErr, IfOk, OnErr, OnOk};
+ghost use Rattle.std.specs.Prelude.{◌≡◌, ◌+◌, length, map, sum_by, IfOk};
 ghost use Rattle.intaglio_content.specs.Key.{hash_of};
 ghost use Rattle.intaglio_content.specs.Store.{byte_room};
 ghost use Rattle.intaglio_interner.specs.State.{first};
-ghost use Rattle.intaglio_interner.specs.Lookup.{FindsEach, FindsEachKey, Keeps, StoresEach, StoresEachKey};
-ghost use Rattle.intaglio_interner.specs.Issue.{interned_all, issue_from};
-ghost use Rattle.intaglio_interner.specs.Batch.{IfOverflow, StaysValid};
+ghost use Rattle.intaglio_interner.specs.Batch.{InternsBatch};
 ghost use Rattle.intaglio_interner.specs.Bytes.{GrowsBytes, GrowsFor, KeepsBytes};
 
 use super::{Table, TableOver};
@@ -36,21 +34,11 @@ impl<C: Content + Sought<C> + Drop, S: BuildHasher> Table<C, S> {
     /// assert!(rt; symbols.as_slice() == [Symbol::new(0), Symbol::new(1), Symbol::new(0)].as_slice());
     /// ```
     pub fn intern_all(&mut self, contents: Vec<C>) -> Result<Vec<Symbol>, InternError>
-        ensures symbols { IfOk result (λ symbols.
-            symbols.items ≡ issue_from C.key self.old.state.contents contents.items) }
-        ensures held { let all = interned_all C.key self.old.state.contents contents.items in
-            OnOk result (self.new.state.contents ≡ all) }
-        ensures found { IfOk result (λ symbols. FindsEach C.key self.new.state contents.items symbols.items) }
-        ensures stored { IfOk result (λ symbols.
-            StoresEach C.key self.new.state contents.items symbols.items) }
-        ensures kept { Keeps C.key self.old.state self.new.state }
-        ensures refused { OnErr result (self.new.state.contents ≡ self.old.state.contents) }
-        ensures overflow { let all = interned_all C.key self.old.state.contents contents.items in
-            IfErr result (λ e. IfOverflow e (self.old.state.limit < length all)) }
+        ensures batch { let hash = hash_of S.BuildHasher S.Hasher.Hasher in
+            let interns = InternsBatch C.key C.key (λ held. held) (hash self.old.hasher) self.old.state in
+            interns (map C.key contents.items) contents.items result (hash self.new.hasher) self.new.state }
         ensures grows { let needed = length self.old.state.contents + length contents.items in
             GrowsFor needed self.old.most self.new.most }
-        ensures table { let hash = hash_of S.BuildHasher S.Hasher.Hasher in
-            StaysValid C.key (hash self.old.hasher) self.old.state (hash self.new.hasher) self.new.state }
     {
         self.core.intern_all(contents, &mut Work::new())
     }
@@ -104,28 +92,15 @@ where
     /// assert!(rt; symbols.as_slice() == [Symbol::new(0), Symbol::new(1), Symbol::new(0)].as_slice());
     /// ```
     pub fn get_or_intern_all(&mut self, forms: &[L::By]) -> Result<Vec<Symbol>, InternError>
-        ensures symbols { let held = map L.Content.spelling self.old.state.contents in
-            let issued = issue_from L.Content.key_of held (map L.By.form_spelling forms.now) in
-            IfOk result (λ symbols. symbols.items ≡ issued) }
-        ensures held { let held = map L.Content.spelling self.old.state.contents in
-            let all = interned_all L.Content.key_of held (map L.By.form_spelling forms.now) in
-            OnOk result (map L.Content.spelling self.new.state.contents ≡ all) }
-        ensures found { IfOk result (λ symbols.
-            FindsEachKey L.Content.key self.new.state (map L.By.key forms.now) symbols.items) }
-        ensures stored { IfOk result (λ symbols.
-            StoresEachKey L.Content.key self.new.state (map L.By.key forms.now) symbols.items) }
-        ensures kept { Keeps L.Content.key self.old.state self.new.state }
-        ensures refused { OnErr result (self.new.state.contents ≡ self.old.state.contents) }
-        ensures overflow { let held = map L.Content.spelling self.old.state.contents in
-            let all = interned_all L.Content.key_of held (map L.By.form_spelling forms.now) in
-            IfErr result (λ e. IfOverflow e (self.old.state.limit < length all)) }
+        ensures batch { let hash = hash_of S.BuildHasher S.Hasher.Hasher in
+            let interns = InternsBatch L.Content.key L.Content.key_of (map L.Content.spelling) in
+            interns (hash self.old.hasher) self.old.state (map L.By.key forms.now)
+            (map L.By.form_spelling forms.now) result (hash self.new.hasher) self.new.state }
         ensures grows { let needed = length self.old.state.contents + length forms.now in
             GrowsFor needed self.old.most self.new.most }
         ensures grows_bytes { let room = byte_room L.takes in
             GrowsBytes (room self.old.state.contents self.old.spare_bytes)
             (room self.new.state.contents self.new.spare_bytes) }
-        ensures table { let hash = hash_of S.BuildHasher S.Hasher.Hasher in
-            StaysValid L.Content.key (hash self.old.hasher) self.old.state (hash self.new.hasher) self.new.state }
         ensures bytes { KeepsBytes L.takes (sum_by L.By.needs forms.now) self.old.state.contents
             self.old.spare_bytes result self.new.state.contents self.new.spare_bytes }
     {

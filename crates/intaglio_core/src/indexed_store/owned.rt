@@ -1,15 +1,14 @@
 //! Tables of owned contents, which are kept in a `Vec`.
-ghost use Rattle.std.specs.Prelude.{◌≡◌, ◌+◌, ◌^◌, ◌<◌, ◌≤◌, false, length, slice_get};
-ghost use Rattle.std.specs.Prelude.{option_copied, None, IfSome, IfOk, IfErr, OnOk, OnErr};
+ghost use Rattle.std.specs.Prelude.{◌≡◌, ◌+◌, ◌^◌, ◌≤◌, false, length, map, slice_get};
+ghost use Rattle.std.specs.Prelude.{option_copied, IfSome, IfOk, IfErr};
 ghost use Rattle.intaglio_content.specs.Key.{hash_of};
 ghost use Rattle.intaglio_content.specs.Store.{Doubles, IsMoved};
 ghost use Rattle.intaglio_interner.specs.State.{IsValid};
 ghost use Rattle.intaglio_interner.specs.Change.{Interns};
-ghost use Rattle.intaglio_interner.specs.Lookup.{IsFound, FindsInterned, Keeps, FindsEach, StoresEach};
+ghost use Rattle.intaglio_interner.specs.Lookup.{IsFound, FindsInterned};
 ghost use Rattle.intaglio_interner.specs.Cost.{Costs, InternCost};
-ghost use Rattle.intaglio_interner.specs.Issue.{issue_from, interned_all};
 ghost use Rattle.intaglio_interner.specs.Bytes.{GrowsFor};
-ghost use Rattle.intaglio_interner.specs.Batch.{IfOverflow, StaysValid, InternsAll, RefusedCost};
+ghost use Rattle.intaglio_interner.specs.Batch.{InternsAll, InternsBatch, RefusedCost};
 
 use super::Core;
 use intaglio_content::{Content, Keyed, Sought, Work};
@@ -79,30 +78,14 @@ impl<C: Keyed, S: BuildHasher> Core<C, S> {
         ensures ok { IfOk result (λ symbols. Costs work.old work.new (λ cost.
             InternsAll C.key C.key IsMoved false (hash_of S.BuildHasher S.Hasher.Hasher self.old.hasher)
             self.old.state contents.items symbols.items cost self.new.state)) }
-        ensures symbols { IfOk result (λ symbols.
-            symbols.items ≡ issue_from C.key self.old.state.contents contents.items) }
-        ensures held { let all = interned_all C.key self.old.state.contents contents.items in
-            OnOk result (self.new.state.contents ≡ all) }
-
-        // Each is found at its symbol, and earlier contents keep their symbols and are found as before.
-        ensures found { IfOk result (λ symbols.
-            FindsEach C.key self.new.state contents.items symbols.items) }
-        ensures stored { IfOk result (λ symbols.
-            StoresEach C.key self.new.state contents.items symbols.items) }
-        ensures kept { Keeps C.key self.old.state self.new.state }
-
-        // All or none.
-        ensures refused { OnErr result (self.new.state.contents ≡ self.old.state.contents) }
-        ensures overflow { let all = interned_all C.key self.old.state.contents contents.items in
-            IfErr result (λ e. IfOverflow e (self.old.state.limit < length all)) }
+        ensures batch { let hash = hash_of S.BuildHasher S.Hasher.Hasher in
+            let interns = InternsBatch C.key C.key (λ held. held) (hash self.old.hasher) self.old.state in
+            interns (map C.key contents.items) contents.items result (hash self.new.hasher) self.new.state }
         ensures refused_cost { IfErr result (λ e. Costs work.old work.new
             (RefusedCost C.key C.key IsMoved false (hash_of S.BuildHasher S.Hasher.Hasher self.old.hasher) self.old.state
             contents.items e)) }
-
         ensures grows { let needed = length self.old.state.contents + length contents.items in
             GrowsFor needed self.old.most self.new.most }
-        ensures table { StaysValid C.key (hash_of S.BuildHasher S.Hasher.Hasher self.old.hasher) self.old.state
-            (hash_of S.BuildHasher S.Hasher.Hasher self.new.hasher) self.new.state }
     {
         let alloc = self.allocator();
         intern_all(alloc, self, contents, work)

@@ -8,25 +8,25 @@ use Rattle.intaglio_columns.proofs.absorbing.absorb.Goals as goal
 pub returns-clause-symbols : goal.returns-clause-symbols
 returns-clause-symbols g c =
     let are : map g.T.Content.Form.CopiedTo.form_spelling c.deref.result.now ≡ g.L.StringList.strings c.args.list.now = rw c.deref.ensures.value c.in_ok-forms.ensures.strings in
-    rw (← are) c.get_or_intern_all.ensures.symbols
+    rw (← are) c.get_or_intern_all.ensures.batch.symbols
 
 pub returns-clause-held : goal.returns-clause-held
 returns-clause-held g c =
     let are : map g.T.Content.Form.CopiedTo.form_spelling c.deref.result.now ≡ g.L.StringList.strings c.args.list.now = rw c.deref.ensures.value c.in_ok-forms.ensures.strings in
-    rw (← are) c.get_or_intern_all.ensures.held
+    rw (← are) c.get_or_intern_all.ensures.batch.held
 
 pub returns-clause-same : goal.returns-clause-same
 returns-clause-same g c = λ keys.
     let are : map g.T.Content.Form.CopiedTo.form_spelling c.deref.result.now ≡ g.L.StringList.strings c.args.list.now = rw c.deref.ensures.value c.in_ok-forms.ensures.strings in
     let held = map g.T.Content.Content.spelling (g.T.FormInterner.state c.args.table.now).contents in
     let new = map g.T.Content.Content.spelling (g.T.FormInterner.state c.get_or_intern_all.new.table).contents in
-    rw (← are) (ok-both _ _ c.get_or_intern_all.result c.get_or_intern_all.ensures.symbols c.get_or_intern_all.ensures.held
+    rw (← are) (ok-both _ _ c.get_or_intern_all.result c.get_or_intern_all.ensures.batch.symbols c.get_or_intern_all.ensures.batch.held
     (λ symbols given after. issued-map-by g.T.Content.Content.key_of keys held (map g.T.Content.Form.CopiedTo.form_spelling c.deref.result.now) new symbols.items given after))
 
 pub returns-clause-overflow : goal.returns-clause-overflow
 returns-clause-overflow g c =
     let are : map g.T.Content.Form.CopiedTo.form_spelling c.deref.result.now ≡ g.L.StringList.strings c.args.list.now = rw c.deref.ensures.value c.in_ok-forms.ensures.strings in
-    rw (← are) c.get_or_intern_all.ensures.overflow
+    rw (← are) c.get_or_intern_all.ensures.batch.overflow
 
 pub returns-clause-cost : goal.returns-clause-cost
 returns-clause-cost g c =

@@ -1,6 +1,6 @@
 use Rattle.std.proofs.Common.{◌+◌, refl, subst, sym, rules}
 use Rattle.intaglio_frozen.specs.LookUp.{find, hash}
-use Rattle.intaglio_frozen.specs.Batch.{AreHashed}
+use Rattle.intaglio_interner.specs.Batch.{AreHashed}
 use Rattle.intaglio_frozen.proofs.Batched.{behind-place, found-more, from-place, hash-there}
 use Rattle.intaglio_frozen.proofs.batch.find_all.Goals as goal
 

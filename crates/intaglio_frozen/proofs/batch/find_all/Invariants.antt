@@ -1,6 +1,6 @@
 use Rattle.std.proofs.Common.{◌≡◌, ◌≤◌, length, map, take, drop, vec_len, vec_capacity}
 use Rattle.intaglio_frozen.specs.LookUp.{find, hash}
-use Rattle.intaglio_frozen.specs.Batch.{AreHashed}
+use Rattle.intaglio_interner.specs.Batch.{AreHashed}
 use Rattle.intaglio_frozen.proofs.batch.find_all.Given as goal
 
 abbrev pub invariant-loop-place : goal.invariant-loop-place

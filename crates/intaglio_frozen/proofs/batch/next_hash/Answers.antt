@@ -5,18 +5,15 @@ use Rattle.intaglio_frozen.proofs.Batched.{hashed-one}
 use Rattle.intaglio_frozen.proofs.batch.next_hash.Goals.{then-at-eq0, else-at-eq0}
 use Rattle.intaglio_frozen.proofs.batch.next_hash.Goals as goal
 
-pub returns-clause-hash : goal.returns-clause-hash
-returns-clause-hash c =
+pub returns : goal.returns
+returns c =
+    let group = c.if-at-eq0.auto.hashes ∙ c.requires.group in
     let known : IsGroup (λ s. hash c.args.block.now s.now) c.args.place c.args.strings.now c.if-at-eq0.hashes = elim c.if-at-eq0.branch [
       | then-at-eq0 w ↦ rw (w.hashes-is, w.if-at-eq0.true) (rw c.requires.group at w.look_ahead.ensures.hashes)
       | else-at-eq0 w ↦ rw w.hashes-is (c.requires.known w.if-at-eq0.false)
     ] in
-    hashed-one (λ s. hash c.args.block.now s.now) c.args.place c.args.strings.now c.if-at-eq0.hashes (c.if-at-eq0.auto.hashes ∙ c.requires.group) known c.requires.some
-
-pub returns-clause-known : goal.returns-clause-known
-returns-clause-known c =
-    let known : IsGroup (λ s. hash c.args.block.now s.now) c.args.place c.args.strings.now c.if-at-eq0.hashes = elim c.if-at-eq0.branch [
-      | then-at-eq0 w ↦ rw (w.hashes-is, w.if-at-eq0.true) (rw c.requires.group at w.look_ahead.ensures.hashes)
-      | else-at-eq0 w ↦ rw w.hashes-is (c.requires.known w.if-at-eq0.false)
-    ] in
-    hashed-next (λ s. hash c.args.block.now s.now) c.args.place c.args.strings.now c.if-at-eq0.hashes (c.if-at-eq0.auto.hashes ∙ c.requires.group) known
+    record {
+      hash = hashed-one (λ s. hash c.args.block.now s.now) c.args.place c.args.strings.now c.if-at-eq0.hashes group known c.requires.some;
+      known = hashed-next (λ s. hash c.args.block.now s.now) c.args.place c.args.strings.now c.if-at-eq0.hashes group known;
+      group = group;
+    }

@@ -1,7 +1,6 @@
-use Rattle.std.proofs.Common.{◌≡◌, ◌+◌, ◌∙◌, [], arith, append_assoc, append-nil, map, refl, sym, rules}
+use Rattle.std.proofs.Common.{◌≡◌, ◌+◌, ◌∙◌, [], arith, append_assoc, append-nil, refl, sym, rules}
 use Rattle.std.specs.Vec.Iter.{into_iter_items}
 use Rattle.std.proofs.lemmas.Grind.{common_steps}
-use Rattle.intaglio_run.specs.declared.runs.Call.TheVariants.{Intern}
 use Rattle.intaglio_run.proofs.Growth.{Runs-hash, Runs-place, Runs-room}
 use Rattle.intaglio_run.proofs.Issue.{Runs-issue}
 use Rattle.intaglio_run.proofs.Room.{Runs-roomier}
@@ -49,58 +48,40 @@ loop-call-preserved g c = record {
   still = rw c.push_reserved.ensures.items (StillRoom-push g.T.Content.Keyed.key g.Q.Keyed.key g.T.Content.Content.spelling g.Q.AddedTo.adds g.Q.AddedTo.copies g.Q.AddedTo.needs g.Q.AddedTo.in_store (g.T.FormInterner.state c.args.table.now) (g.T.FormInterner.state c.loop-call.table) (g.T.FormInterner.state c.step.new.table) _ _ _ _ _ _ _ _ _ c.step.result c.loop-call.invariant.whole c.in-Some.ensures.steps.0 c.loop-call.invariant.still c.step.ensures.room c.step.ensures.step);
 }
 
-pub returns-clause-ok : goal.returns-clause-ok
-returns-clause-ok g c =
-    let all : c.loop-call.yielded ≡ c.args.calls.items = grind (arith, common_steps, c.in-None.ensures.steps, c.loop-call.invariant.whole) in
-    rw all at c.loop-call.invariant.ran
-
-pub returns-clause-issues : goal.returns-clause-issues
-returns-clause-issues g c = λ cs empty interns none.
-    let e : c.loop-call.yielded ≡ map Intern cs = grind (arith, common_steps, c.in-None.ensures.steps, c.loop-call.invariant.whole) in
+pub returns : goal.returns
+returns g c =
+    let key = g.T.Content.Keyed.key in
+    let value_key = g.Q.Keyed.key in
+    let spelling = g.T.Content.Content.spelling in
+    let adds = g.Q.AddedTo.adds in
+    let copies = g.Q.AddedTo.copies in
+    let one = g.met.Q.AddedTo.adds_one in
+    let hash = g.T.FormInterner.hash c.args.table.now in
+    let steps = Step key value_key spelling adds copies in
     let ran = c.loop-call.invariant.ran in
-    Runs-issue g.T.Content.Keyed.key g.Q.Keyed.key g.T.Content.Content.spelling g.Q.AddedTo.adds g.Q.AddedTo.copies g.met.Q.AddedTo.adds_one (g.T.FormInterner.hash c.args.table.now) _ _ cs _ ran.0 empty (rw e at ran.2) none
-
-pub returns-clause-hashes : goal.returns-clause-hashes
-returns-clause-hashes g c =
-    let ran = c.loop-call.invariant.ran in
-    let all : c.loop-call.yielded ≡ c.args.calls.items = grind (arith, common_steps, c.in-None.ensures.steps, c.loop-call.invariant.whole) in
-    (ran.0, ran.1, rw (← all) (Runs-hash g.T.Content.Keyed.key g.Q.Keyed.key g.T.Content.Content.spelling g.Q.AddedTo.adds g.Q.AddedTo.copies g.met.Q.AddedTo.adds_one (g.T.FormInterner.hash c.args.table.now) _ _ c.loop-call.yielded _ ran.0 ran.2))
-
-pub returns-clause-growth : goal.returns-clause-growth
-returns-clause-growth g c =
-    let ran = c.loop-call.invariant.ran in
-    let all : c.loop-call.yielded ≡ c.args.calls.items = grind (arith, common_steps, c.in-None.ensures.steps, c.loop-call.invariant.whole) in
-    (ran.0, ran.1, λ keep. Runs-place g.T.Content.Keyed.key g.Q.Keyed.key g.T.Content.Content.spelling g.Q.AddedTo.adds g.Q.AddedTo.copies g.met.Q.AddedTo.adds_one (g.T.FormInterner.hash c.args.table.now) _ _ c.loop-call.yielded _ ran.0 (rw all keep) ran.2)
-
-pub returns-clause-room : goal.returns-clause-room
-returns-clause-room g c =
-    let ran = c.loop-call.invariant.ran in
-    let all : c.loop-call.yielded ≡ c.args.calls.items = grind (arith, common_steps, c.in-None.ensures.steps, c.loop-call.invariant.whole) in
-    rw (← all) (Runs-room g.T.Content.Keyed.key g.Q.Keyed.key g.T.Content.Content.spelling g.Q.AddedTo.adds (g.T.FormInterner.hash c.args.table.now) g.Q.AddedTo.copies _ _ c.loop-call.yielded _ ran.0 ran.2)
-
-pub returns-clause-capacity : goal.returns-clause-capacity
-returns-clause-capacity g c =
-    let ran = c.loop-call.invariant.ran in
-    let all : c.loop-call.yielded ≡ c.args.calls.items = grind (arith, common_steps, c.in-None.ensures.steps, c.loop-call.invariant.whole) in
-    λ keep. Runs-roomier g.T.Content.Keyed.key g.Q.Keyed.key g.T.Content.Content.spelling g.Q.AddedTo.adds g.Q.AddedTo.copies g.met.Q.AddedTo.adds_one (g.T.FormInterner.hash c.args.table.now) _ _ c.loop-call.yielded _ ran.0 (rw all keep) ran.2
-
-pub returns-clause-bytes : goal.returns-clause-bytes
-returns-clause-bytes g c = c.loop-call.invariant.bytes
-
-pub returns-clause-byte_room : goal.returns-clause-byte_room
-returns-clause-byte_room g c = λ qs interns few there enough. (c.loop-call.invariant.still qs interns few there enough).0
-
-pub returns-clause-growths : goal.returns-clause-growths
-returns-clause-growths g c =
-    let all : c.loop-call.yielded ≡ c.args.calls.items = grind (arith, common_steps, c.in-None.ensures.steps, c.loop-call.invariant.whole) in
     let so_far = c.loop-call.invariant.growths in
-    let steps = Step g.T.Content.Keyed.key g.Q.Keyed.key g.T.Content.Content.spelling g.Q.AddedTo.adds g.Q.AddedTo.copies in
+    let all : c.loop-call.yielded ≡ c.args.calls.items = grind (arith, common_steps, c.in-None.ensures.steps, c.loop-call.invariant.whole) in
     let run = rw all at so_far.2 in
     record {
-      g = so_far.0;
-      h = so_far.1;
-      growths = run;
-      list = λ keep. list-growths g.T.Store.Store.takes g.Q.AddedTo.needs steps _ _ _ _ _ _ keep run;
-      few = λ keep. few-growths g.T.Store.Store.takes g.Q.AddedTo.needs steps (λ old next call r kept made. call-size g.T.Content.Keyed.key g.Q.Keyed.key g.T.Content.Content.spelling g.Q.AddedTo.adds g.Q.AddedTo.copies g.met.Q.AddedTo.adds_one old next call r kept made) _ _ _ _ _ _ keep run;
-      bytes = λ keep. byte-growths g.T.Store.Store.takes g.Q.AddedTo.needs steps _ _ _ _ _ _ keep run;
+      ok = rw all at ran;
+      issues = λ cs empty interns none. Runs-issue key value_key spelling adds copies one hash _ _ cs _ ran.0 empty (rw (all ∙ interns) at ran.2) none;
+      hashes = (ran.0, ran.1, rw (← all) (Runs-hash key value_key spelling adds copies one hash _ _ c.loop-call.yielded _ ran.0 ran.2));
+      growth = (ran.0, ran.1, λ keep. Runs-place key value_key spelling adds copies one hash _ _ c.loop-call.yielded _ ran.0 (rw all keep) ran.2);
+      capacity = λ keep. Runs-roomier key value_key spelling adds copies one hash _ _ c.loop-call.yielded _ ran.0 (rw all keep) ran.2;
+      room = rw (← all) (Runs-room key value_key spelling adds hash copies _ _ c.loop-call.yielded _ ran.0 ran.2);
+      same_hash = c.loop-call.invariant.same_hash;
+      bytes = c.loop-call.invariant.bytes;
+      byte_room = λ qs interns few there enough. (c.loop-call.invariant.still qs interns few there enough).0;
+      growths = record {
+        g = so_far.0;
+        h = so_far.1;
+        growths = run;
+        list = λ keep. list-growths g.T.Store.Store.takes g.Q.AddedTo.needs steps _ _ _ _ _ _ keep run;
+        few = λ keep. few-growths g.T.Store.Store.takes g.Q.AddedTo.needs steps (λ old next call r kept made. call-size key value_key spelling adds copies one old next call r kept made) _ _ _ _ _ _ keep run;
+        bytes = λ keep. byte-growths g.T.Store.Store.takes g.Q.AddedTo.needs steps _ _ _ _ _ _ keep run;
+      };
+      err = tt;
+      same_bytes = tt;
+      no_cost = tt;
+      none_needed = search rules;
     }

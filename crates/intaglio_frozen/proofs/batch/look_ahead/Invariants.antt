@@ -1,6 +1,6 @@
 use Rattle.std.proofs.Common.{◌≡◌, length, map, take}
 use Rattle.intaglio_frozen.specs.LookUp.{hash}
-use Rattle.intaglio_frozen.proofs.batch.hash_each.Given as goal
+use Rattle.intaglio_frozen.proofs.batch.look_ahead.Given as goal
 
 abbrev pub invariant-loop-place : goal.invariant-loop-place
 invariant-loop-place l = record {
