@@ -12,6 +12,7 @@ use crate::codes::{CODE, CodeMap, MISSING, code_of, first_code, put_code};
 use crate::encoding::Encoding;
 use crate::error::ColumnError;
 use crate::translate::{FrontTranslator, TranslateError, Translator, translate, translate_pieces};
+use intaglio_core::GROUP;
 use intaglio_frozen::Frozen;
 use intaglio_lines::write::put_line;
 use intaglio_symbol::Symbol;
@@ -37,6 +38,13 @@ impl Translator for Decoding<'_, '_> {
 
     fn first(bytes: &[u8]) -> Option<(usize, usize)> {
         first_code(bytes)
+    }
+
+    #[inline(always)]
+    fn look_ahead(&self, bytes: &[u8], at: usize) {
+        if at % (CODE * GROUP) == 0 {
+            self.touch_each(bytes, &mut [0; GROUP]);
+        }
     }
 
     fn put<W: Write>(&self, piece: &[u8], block: &mut Vec<u8>, writer: &mut W) -> io::Result<bool> {
@@ -66,6 +74,27 @@ impl FrontTranslator for Decoding<'_, '_> {
 }
 
 impl<'a> Decoding<'a, '_> {
+    // Reads the first byte of the string of each of the first codes. The bytes that are read are written, and the
+    // call isn't inlined, so that the compiler can't leave out the reads.
+    #[inline(never)]
+    fn touch_each(&self, codes: &[u8], touched: &mut [u8]) {
+        for i in 0..touched.len().min(codes.len() / CODE) {
+            touched[i] = self.touch(&codes[CODE * i..][..CODE]);
+        }
+    }
+
+    // The first byte of the string of a code.
+    #[inline(always)]
+    fn touch(&self, piece: &[u8]) -> u8 {
+        match code_of(piece) {
+            Some(code) => match self.table.get(Symbol::new(code)) {
+                Some([first, ..]) => *first,
+                _ => 0,
+            },
+            None => 0,
+        }
+    }
+
     // The string of a code, or the text of the missing code.
     fn string_of(&self, code: u32) -> Option<&'a [u8]>
         ensures found { let text = option_map (λ t. t.now) self.now.text in
@@ -100,6 +129,10 @@ impl Translator for Renumbering<'_, '_> {
     fn first(bytes: &[u8]) -> Option<(usize, usize)> {
         first_code(bytes)
     }
+
+    // Reads of one code don't wait for those of the code before it.
+    #[inline(always)]
+    fn look_ahead(&self, _bytes: &[u8], _at: usize) {}
 
     fn put<W: Write>(&self, piece: &[u8], block: &mut Vec<u8>, writer: &mut W) -> io::Result<bool> {
         let Some(code) = code_of(piece) else {

@@ -46,6 +46,10 @@ impl Translator for Encoding<'_, '_> {
         first_whole_line(bytes, 0)
     }
 
+    // Lines are looked up in groups.
+    #[inline(always)]
+    fn look_ahead(&self, _bytes: &[u8], _at: usize) {}
+
     fn put<W: Write>(&self, line: &[u8], block: &mut Vec<u8>, writer: &mut W) -> io::Result<bool> {
         self.put_found(self.table.check_interned(line), block, writer)
     }

@@ -1,6 +1,5 @@
 //! Freezes the lines of an input, from bytes read to bytes written.
-ghost use Rattle.std.specs.Prelude.{◌≡◌, ◌≢◌, ◌⊎◌, ◌↔◌, OnOk, IfErr, IfOk, IsTrue, map};
-ghost use Rattle.intaglio_bytes.specs.BytesContent.{bytes_content_bytes};
+ghost use Rattle.std.specs.Prelude.{◌≡◌, ◌≢◌, ◌⊎◌, ◌↔◌, OnOk, IfErr, IfOk, IsTrue};
 ghost use Rattle.intaglio_frozen.specs.declared.kind.Kind.{Kind};
 ghost use Rattle.intaglio_lines.specs.Puts.{Writes};
 ghost use Rattle.intaglio_lines.specs.declared.error.StreamError.TheVariants.{Write as WriteFailed};
@@ -12,8 +11,9 @@ ghost use Rattle.intaglio_dictionary.specs.declared.error.FreezingError.TheVaria
 use crate::codes::Codes;
 use crate::error::FreezingError;
 use crate::progress::Progress;
-use intaglio::Table;
-use intaglio_bytes::bytes::BytesContent;
+use intaglio::TableOver;
+use intaglio_bytes::bytes::BytesKind;
+use intaglio_content::Packed;
 use intaglio_frozen::{FreezeError, Kind, StringList, freeze, freeze_with_default_keys};
 use intaglio_lines::error::StreamError;
 use intaglio_lines::intern_lines::intern_lines;
@@ -201,13 +201,12 @@ fn interned_lines<S: BuildHasher + Drop>(
     alloc: Global,
     builder: S,
     input: &[u8],
-) -> Result<(Table<BytesContent, S>, Vec<Symbol>), FreezingError>
-    ensures lines { IfOk result (λ made.
-        map bytes_content_bytes made.0.state.contents ≡ distinct_lines input.now) }
+) -> Result<(TableOver<Packed<BytesKind>, S>, Vec<Symbol>), FreezingError>
+    ensures lines { IfOk result (λ made. made.0.state.contents ≡ distinct_lines input.now) }
     ensures symbols { IfOk result (λ made. made.1.items ≡ line_symbols input.now) }
     ensures err { IfErr result (λ e. (kind : Kind) → IsRefusal kind input.now e) }
 {
-    let Ok(mut table) = Table::<BytesContent, S>::with_hasher(alloc, builder) else {
+    let Ok(mut table) = TableOver::<Packed<BytesKind>, S>::with_hasher(alloc, builder) else {
         return Err(FreezingError::Stream(StreamError::Memory));
     };
     match intern_lines(alloc, &mut table, input) {

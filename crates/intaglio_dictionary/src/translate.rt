@@ -54,6 +54,10 @@ pub trait Translator {
         ensures within { IfSome result (λ cut. cut.1 ≤ length bytes.now) }
         ensures none { result ≡ None → pieces bytes.now ≡ last_piece bytes.now };
 
+    /// Reads what the translation of pieces that come soon will read, so that their cache misses overlap: these are
+    /// the bytes from `at` on. Called before each piece is translated.
+    fn look_ahead(&self, bytes: &[u8], at: usize);
+
     /// Writes what a piece is translated to, and returns whether it can be translated. If it can't be, nothing is
     /// written.
     fn put<W: Write>(&self, piece: &[u8], block: &mut Vec<u8>, writer: &mut W) -> io::Result<bool>
@@ -249,6 +253,7 @@ pub fn translate_pieces<T: Translator, W: Write>(
     let mut at = 0;
     let mut count = number;
     while let Some((size, next)) = T::first(&bytes[at..]) {
+        translator.look_ahead(&bytes[at..], at);
         count = put_piece(translator, &bytes[at..][..size], count, block, writer)?;
         at += next;
     }
