@@ -18,11 +18,13 @@ HUGE_PAGES = {"GLIBC_TUNABLES": "glibc.malloc.hugetlb=1"}
 
 def measure(programs, sizes, turns, has_rivals):
     """Rows of turn, run, operation and its least nanoseconds; and the highest load average meanwhile."""
-    runs = [("time", run) for run in runs_of(sizes, has_rivals)]
-    runs += [("copy", run) for run in copies_of(sizes, has_rivals)]
-    runs += [("hash", run) for run in HASHINGS.values()]
-    runs = [(task, run, "", {}) for task, run in runs] + [("time", run, HUGE, HUGE_PAGES) for run in huge_runs_of(sizes)]
-    rows, sums, load = [], {}, 0.0
+    tasks = [("time", run) for run in runs_of(sizes, has_rivals)]
+    tasks += [("copy", run) for run in copies_of(sizes, has_rivals)]
+    tasks += [("hash", run) for run in HASHINGS.values()]
+    runs: list[tuple[str, Run, str, dict[str, str]]] = [(task, run, "", {}) for task, run in tasks]
+    runs += [("time", run, HUGE, HUGE_PAGES) for run in huge_runs_of(sizes)]
+    rows, load = [], 0.0
+    sums: dict[tuple[str, int], str] = {}
     for turn in range(1, turns + 1):
         for task, run, word, settings in runs:
             print(f"turn {turn} of {turns}: {word}{task} {' '.join(map(str, run))}", file=sys.stderr)
@@ -34,7 +36,7 @@ def measure(programs, sizes, turns, has_rivals):
 
 def least_times(programs, task, run, sums, settings):
     """The least nanoseconds for each operation. The sum that an operation finds must be the same wherever it is run."""
-    least = {}
+    least: dict[str, float] = {}
     words = [*command(programs, task, run), FILLS[run.size]]
     for line in "".join(output(words, settings) for _ in range(PROCESSES.get(run.size, 1))).splitlines():
         operation, _, nanoseconds, found = line.split()
@@ -73,6 +75,7 @@ def resident(programs, run):
     with subprocess.Popen(
         [str(word) for word in words], stdin=subprocess.PIPE, stdout=subprocess.PIPE, text=True
     ) as process:
+        assert process.stdout
         text = int(process.stdout.readline().split()[2])
         with open(f"/proc/{process.pid}/status") as lines:
             status = dict(line.split(":", 1) for line in lines)

@@ -13,8 +13,8 @@ from pathlib import Path
 sys.dont_write_bytecode = True
 sys.path.append(str(Path(__file__).resolve().parent.parent / "checks"))
 
-import arguments  # noqa: E402
-from comparisons import CAPACITIES, COMPARISONS, HASHINGS, HUGE, Run, huge_sides  # noqa: E402
+import arguments
+from comparisons import CAPACITIES, COMPARISONS, HASHINGS, HUGE, Run, huge_sides
 
 OPERATIONS = {
     "new": "intern new owned words",
@@ -32,8 +32,8 @@ OPERATIONS = {
 
 COLUMNS = ["turn", "table", "hashing", "capacity", "size", "operation", "value"]
 
-LEGEND = """Each cell is the least time of all turns over that of the Rust crate `intaglio` under the hashers that the heading names. Below 1
-it takes less than the Rust crate. In brackets stand the Rust crate's nanoseconds for each word.
+LEGEND = """Each cell is the least time of all turns over that of the Rust crate `intaglio` under the hashers that the heading
+names. Below 1 it takes less than the Rust crate. In brackets stand the Rust crate's nanoseconds for each word.
 
 - ours: the proved table of owned texts; packed: the proved table in one buffer
 - boxes: hashbrown's table of numbers beside a list of boxed strings
@@ -52,7 +52,7 @@ def write_results(path, rows):
 
 def read_results(path):
     """The least figure of all turns by run and operation."""
-    least = {}
+    least: dict[tuple[Run, str], float] = {}
     with open(path, newline="") as file:
         for row in csv.DictReader(file):
             run = Run(row["table"], row["hashing"], int(row["capacity"]), int(row["size"]))
@@ -123,7 +123,12 @@ def huge_table(times, sizes):
     for operation, name in OPERATIONS.items() if held else []:
         runs = [[run._replace(size=size) for _, run in sides] for size in held]
         if (runs[0][0], HUGE + operation) in times:
-            lines.append(row(name, [" / ".join(ratio(times[run, HUGE + operation], times[run, operation]) for run in some) for some in runs]))
+            lines.append(
+                row(
+                    name,
+                    [" / ".join(ratio(times[run, HUGE + operation], times[run, operation]) for run in some) for some in runs],
+                )
+            )
     return [*lines, ""] if held else []
 
 

@@ -3,14 +3,14 @@
 
     checks/api.py [--check]
 
-A call has its signature, the first paragraph of its documentation, what it requires, its errors, and the names of its clauses. With --check
-nothing is written: what differs from the sources is printed, and the status is 1 if anything does. checks/ledger asks for that too.
+A call has its signature, the first paragraph of its documentation, what it requires, its errors, and the names of its clauses.
+With --check nothing is written: what differs from the sources is printed, and the status is 1 if anything does. checks/ledger
+asks for that too.
 """
 
 import re
 import sys
 import textwrap
-from pathlib import Path
 
 sys.dont_write_bytecode = True
 import arguments
@@ -21,8 +21,11 @@ from sources import TOP, UNNAMED
 FOLDER = TOP / "docs/api"
 WIDTH = 118
 NOTE = "This page is written by `checks/api.py` from the sources: change it there."
-MEANS = ("Each call has its signature, the first paragraph of its documentation, what it requires, its errors, and the names of its clauses, which "
-         "stand below its signature in the source. [CALLING.md](../CALLING.md) has calls by task, and the clauses that callers rely on.")
+MEANS = (
+    "Each call has its signature, the first paragraph of its documentation, what it requires, its errors, and the names of its"
+    " clauses, which stand below its signature in the source. [CALLING.md](../CALLING.md) has calls by task, and the clauses that"
+    " callers rely on."
+)
 # Libraries that are parts of a program, and crates of tests and examples, which no caller needs.
 # (The calls of `intaglio_c` are those of C: bindings/c/intaglio.h documents them.)
 LEFT_OUT = re.compile(r"intaglio_dict_io|intaglio_c|test_hashers|refusals|bench|\w+_tests|example_\w+")
@@ -30,7 +33,7 @@ LEFT_OUT = re.compile(r"intaglio_dict_io|intaglio_c|test_hashers|refusals|bench|
 
 def documentation(lines, at):
     """The lines of documentation above the item at a line, without their marks."""
-    found = []
+    found: list[str] = []
     while at > 0 and re.match(r"\s*(///|//|#\[)", lines[at - 1]):
         at -= 1
         if line := re.match(r"\s*/// ?(.*)", lines[at]):
@@ -63,9 +66,14 @@ def plain(text):
 
 
 def wrapped(text, first="", rest=""):
-    # (a name in back quotes stays on one line)
-    kept = re.sub(r"`[^`]+`", lambda it: it[0].replace(" ", "\0"), text)
-    lines = textwrap.fill(kept, WIDTH, initial_indent=first, subsequent_indent=rest, break_long_words=False, break_on_hyphens=False)
+    # (a name in back quotes stays on one line; a signature that is too long for one is cut after its arguments)
+    def whole(found):
+        return re.sub(r" " if len(rest + found[0]) <= WIDTH else r"(?<!,) (?!->)", "\0", found[0])
+
+    kept = re.sub(r"`[^`]+`", whole, text)
+    lines = textwrap.fill(
+        kept, WIDTH, initial_indent=first, subsequent_indent=rest, break_long_words=False, break_on_hyphens=False
+    )
     return lines.replace("\0", " ")
 
 
@@ -94,7 +102,9 @@ class Call:
         self.requires = [condition(text) for name, text in function.clauses.items() if named[name] == "requires"]
         self.clauses = [name for name, word in named.items() if word == "ensures"]
         own = every.members.get((function.crate, function.owner, function.trait), {})
-        self.clauses += [name for name in own if name.startswith(function.name) or name.endswith("_gives")] if function.trait else []
+        self.clauses += (
+            [name for name in own if name.startswith(function.name) or name.endswith("_gives")] if function.trait else []
+        )
 
     def page(self):
         yield wrapped(f"`{self.signature}`", "- ", "  ")
@@ -128,8 +138,8 @@ def types_of(crate):
         for found in interface.TYPE.finditer(text):
             start = text[: found.start(2)].count("\n")
             said = paragraphs(documentation(lines, start - found[1].count("\n")))[""]
-            name = re.match(r"pub \w+ (\w+)", found[2])
-            yield name[1], module(crate, path), interface.joined(found[2]).removeprefix("pub "), plain(said[0]) if said else ""
+            name = re.findall(r"^pub \w+ (\w+)", found[2])[0]
+            yield name, module(crate, path), interface.joined(found[2]).removeprefix("pub "), plain(said[0]) if said else ""
 
 
 def about(crate):
@@ -146,7 +156,7 @@ def page_of(every, crate):
     """The page of a crate: what belongs to no type, then each type with its calls, then the impls of traits."""
     calls = [Call(every, it) for it in every.functions if it.crate == crate and not it.is_test and every.is_public(it)]
     yield f"# `{crate}`\n\n{NOTE}\n\n{wrapped(about(crate))}\n"
-    groups = {("", "", ""): []}
+    groups: dict[tuple[str, str, str], list[Call]] = {("", "", ""): []}
     declared = {}
     for name, place, head, said in types_of(crate):
         declared[name, "", place] = head, said
@@ -172,7 +182,9 @@ def page_of(every, crate):
 def pages():
     """Each page of docs/api with what it should have."""
     every = sources.Sources()
-    crates = [it.name for it in sorted((TOP / "crates").iterdir()) if (it / "src/lib.rt").is_file() and not LEFT_OUT.fullmatch(it.name)]
+    crates = [
+        it.name for it in sorted((TOP / "crates").iterdir()) if (it / "src/lib.rt").is_file() and not LEFT_OUT.fullmatch(it.name)
+    ]
     rows = [wrapped(f"[`{crate}`]({crate}.md): {about(crate)}", "- ", "  ") for crate in crates]
     yield FOLDER / "README.md", f"# Public calls\n\n{NOTE}\n{wrapped(MEANS)}\n\n" + "\n".join(rows) + "\n"
     for crate in crates:

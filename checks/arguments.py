@@ -8,7 +8,8 @@ import re
 
 
 def parser(page):
-    """A parser for a script with this docstring: -h and --help print it, with status 0; wrong arguments end the script with status 2."""
-    usage = re.search(r"(?m)^ {4}(\S.*?)(?: {2,}|$)", page)[1]
-    script, shape = re.search(r"\S+/\S+", usage)[0], argparse.RawDescriptionHelpFormatter
+    """A parser for a script with this docstring: -h and --help print it, with status 0; wrong arguments end the script with
+    status 2."""
+    usage = re.findall(r"(?m)^ {4}(\S.*?)(?: {2,}|$)", page)[0]
+    script, shape = re.findall(r"\S+/\S+", usage)[0], argparse.RawDescriptionHelpFormatter
     return argparse.ArgumentParser(prog=script, usage=usage, description=page, formatter_class=shape, allow_abbrev=False)

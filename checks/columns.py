@@ -1,5 +1,5 @@
-"""A reader and a writer of columns, which are codes and maps in files, written from docs/FROZEN.md alone; and what `intaglio_dict` makes of
-random columns, of damaged ones, and of devices and memory that fail.
+"""A reader and a writer of columns, which are codes and maps in files, written from docs/FROZEN.md alone; and what
+`intaglio_dict` makes of random columns, of damaged ones, and of devices and memory that fail.
 """
 import itertools
 import os
@@ -97,7 +97,7 @@ def renumbered(numbers, codes):
 
 def merged(dictionaries):
     """The distinct strings of several lists in the order of their first occurrences, and a map for each list."""
-    symbols = {}
+    symbols: dict[bytes, int] = {}
     maps = [[symbols.setdefault(it, len(symbols)) for it in strings] for strings in dictionaries]
     return [*symbols], maps
 
@@ -122,14 +122,21 @@ def said(status, *lines, wrote=b""):
 DONE = said(0)
 WAS = b"as it was"
 # What is said where a request for memory, a read or a write fails.
-FAILURES = {"REFUSE": "out of memory", "FAIL_READ": "Input/output error", "FAIL_WRITE": "Input/output error", "FULL": "No space left on device"}
+FAILURES = {
+    "REFUSE": "out of memory", "FAIL_READ": "Input/output error", "FAIL_WRITE": "Input/output error",
+    "FULL": "No space left on device",
+}
 
 
 def random_parts(chance, size, kind=BYTES):
     """The lines of each part of a column of so many: lines are in several parts, some are empty, and some parts have none."""
     count = min(1 + size // 3, DISTINCT)
     texts = [f"{chance.choice(('w', 'é', '漢字 '))}{chance.randrange(size + 1)}".encode() for _ in range(count)]
-    words = [*texts, b""] if kind == TEXT else [*(chance.randbytes(chance.randrange(12)).replace(b"\n", b"") for _ in range(count)), b"", b"\xff"]
+    words = (
+        [*texts, b""]
+        if kind == TEXT
+        else [*(chance.randbytes(chance.randrange(12)).replace(b"\n", b"") for _ in range(count)), b"", b"\xff"]
+    )
     # (each of the seven places at which it is cut may be drawn several times)
     places = [chance.randrange(size + 1) for _ in range(7)]
     cuts = [0, *sorted(chance.choices(places, k=PARTS - 1)), size]
@@ -158,8 +165,14 @@ def of_missing(tool, strings, lines, folder):
     table, source, codes = f"{folder}/0.dict", f"{folder}/others", f"{folder}/others.codes"
     Path(source).write_bytes(ended(lines))
     wanted = encoded(strings, lines, True)
-    yield "encode --missing", run([tool, "encode", "--missing", table, source, "-o", codes]) == DONE and read(codes) == packed(wanted)
-    yield "decode --missing", run([tool, "decode", "--missing", "none", table, codes]) == (0, ended(decoded(strings, wanted, b"none")), [])
+    yield "encode --missing", run([tool, "encode", "--missing", table, source, "-o", codes]) == DONE and read(codes) == packed(
+        wanted
+    )
+    yield "decode --missing", run([tool, "decode", "--missing", "none", table, codes]) == (
+        0,
+        ended(decoded(strings, wanted, b"none")),
+        [],
+    )
     place = next((it for it, code in enumerate(wanted, 1) if code == MISSING), 0)
     said_of = said(1, f"{source}: line {place} is not in the dictionary: {shown(lines[place - 1])}; {CODED}") if place else DONE
     status, wrote, told = run([tool, "encode", table, source])
@@ -168,7 +181,8 @@ def of_missing(tool, strings, lines, folder):
 
 
 def of_column(tool, chance, size, kind, folder):
-    """Yields what the program was asked of a column in parts: each is frozen and encoded, the dictionaries are merged, the codes renumbered."""
+    """Yields what the program was asked of a column in parts: each is frozen and encoded, the dictionaries are merged, the codes
+    renumbered."""
     parts = random_parts(chance, size, kind)
     for part, lines in enumerate(parts):
         for what, is_right in of_part(tool, part, lines, kind, folder):
@@ -182,7 +196,9 @@ def of_column(tool, chance, size, kind, folder):
         yield f"map {part}", read(f"{maps}/{part}.map") == packed(numbers[part])
         codes, again = f"{folder}/{part}.codes", f"{folder}/{part}.new-codes"
         wanted = packed(renumbered(numbers[part], encoded([*dict.fromkeys(lines)], lines)))
-        yield f"renumber {part}", run([tool, "renumber", f"{maps}/{part}.map", codes, "-o", again]) == DONE and read(again) == wanted
+        yield f"renumber {part}", run([tool, "renumber", f"{maps}/{part}.map", codes, "-o", again]) == DONE and read(
+            again
+        ) == wanted
         yield f"decode renumbered {part}", run([tool, "decode", whole, again]) == (0, ended(lines), [])
     files = [f"{folder}/{it}.new-codes" for it in range(PARTS)]
     every = [it for lines in parts for it in lines]
@@ -192,7 +208,9 @@ def of_column(tool, chance, size, kind, folder):
     halves = [f"{folder}/half", f"{folder}/rest"]
     merges = [([*tables[:5]], halves[0]), ([*tables[5:]], halves[1]), (halves, f"{folder}/nested")]
     yield from of_missing(tool, [*dict.fromkeys(parts[0])], parts[-1] + [b"none of them"], folder)
-    yield "merge, nested", all(run([tool, "merge", *some, "-o", out]) == DONE for some, out in merges) and read(f"{folder}/nested") == read(whole)
+    yield "merge, nested", all(run([tool, "merge", *some, "-o", out]) == DONE for some, out in merges) and read(
+        f"{folder}/nested"
+    ) == read(whole)
     yield "no file is left", not left(folder) and not left(maps)
 
 
@@ -209,35 +227,47 @@ def faults(tool, folder):
     for given, place in ((b"a\nx\n", 2), (b"x", 1), (b"a\n\nccc\ncc", 4), (b"aa\n", 1), (b"\n\n\nA\n", 4), *shows):
         fault = f"line {place} is not in the dictionary: {shown(lines_of(given)[place - 1])}; {CODED}"
         status, wrote, told = run([tool, "encode", table], given)
-        yield f"encode {given[-99:]}", (status, told) == said(1, f"standard input: {fault}")[::2]
-        yield f"what encode wrote of {given[-99:]}", packed(encoded(strings, lines_of(given)[: place - 1])).startswith(wrote)
+        yield f"encode {given[-99:]!r}", (status, told) == said(1, f"standard input: {fault}")[::2]
+        yield f"what encode wrote of {given[-99:]!r}", packed(encoded(strings, lines_of(given)[: place - 1])).startswith(wrote)
         Path(codes).write_bytes(given)
         Path(out).write_bytes(b"as it was")
-        yield f"encode -o {given[-99:]}", run([tool, "encode", table, codes, "-o", out]) == said(1, f"{codes}: {fault}") and read(out) == b"as it was"
+        yield f"encode -o {given[-99:]!r}", run([tool, "encode", table, codes, "-o", out]) == said(
+            1, f"{codes}: {fault}"
+        ) and read(out) == b"as it was"
         wanted = packed(encoded(strings, lines_of(given), True))
-        yield f"encode --missing {given[-99:]}", run([tool, "encode", "--missing", table], given) == (0, wanted, [])
+        yield f"encode --missing {given[-99:]!r}", run([tool, "encode", "--missing", table], given) == (0, wanted, [])
         lines = [it if it in strings else b"?" for it in lines_of(given)]
-        yield f"decode --missing {given[-99:]}", run([tool, "decode", "--missing", "?", table], wanted) == (0, ended(lines), [])
+        yield f"decode --missing {given[-99:]!r}", run([tool, "decode", "--missing", "?", table], wanted) == (0, ended(lines), [])
         told = said(1, f"standard input: code number {place} is {MISSING}, {LINELESS}")[::2]
-        yield f"decode {given[-99:]}", run([tool, "decode", table], wanted)[::2] == told
+        yield f"decode {given[-99:]!r}", run([tool, "decode", table], wanted)[::2] == told
     of_code = {"decode": "which is no symbol", "renumber": "which isn't in the map"}
     for numbers, place in (([3], 1), ([0, 2, 1, 4], 4), ([2**31], 1), ([0, 2**32 - 2], 2), ([1] * 100_000 + [3], 100_001)):
         for command in (["decode", table], ["decode", "--missing", "?", table], ["renumber", f"{folder}/map"]):
             fault = f"code number {place} is {numbers[place - 1]}, {of_code[command[0]]}"
             Path(f"{folder}/map").write_bytes(packed([5, 4, 9]))
-            yield f"{command[0]} {numbers[-4:]}", run([tool, *command], packed(numbers))[::2] == said(1, f"standard input: {fault}")[::2]
+            yield f"{command[0]} {numbers[-4:]}", run([tool, *command], packed(numbers))[::2] == said(
+                1, f"standard input: {fault}"
+            )[::2]
             Path(codes).write_bytes(packed(numbers))
             wanted = said(1, f"{codes}: {fault}")
-            yield f"{command[0]} -o {numbers[-4:]}", run([tool, *command, codes, "-o", out]) == wanted and read(out) == b"as it was"
+            yield f"{command[0]} -o {numbers[-4:]}", run([tool, *command, codes, "-o", out]) == wanted and read(
+                out
+            ) == b"as it was"
     for cut in (1, 2, 3):
         for count in (0, 1, 70_000):
             given = packed([1] * count) + bytes(cut)
             for command in (["decode", table], ["renumber", f"{folder}/map"]):
-                yield f"{command[0]}, cut", run([tool, *command], given)[::2] == said(1, f"standard input: code number {count + 1} is cut short")[::2]
+                yield f"{command[0]}, cut", run([tool, *command], given)[::2] == said(
+                    1, f"standard input: code number {count + 1} is cut short"
+                )[::2]
         Path(f"{folder}/short").write_bytes(packed([0, 1]) + bytes(cut))
         wanted = said(1, f"{folder}/short: not a map: its length is no multiple of 4")
         yield "a cut map", run([tool, "renumber", f"{folder}/short"], packed([0])) == wanted
-    yield "missing stay missing", run([tool, "renumber", f"{folder}/map"], packed([0, MISSING, 2])) == (0, packed([5, MISSING, 9]), [])
+    yield "missing stay missing", run([tool, "renumber", f"{folder}/map"], packed([0, MISSING, 2])) == (
+        0,
+        packed([5, MISSING, 9]),
+        [],
+    )
     yield "an empty map", run([tool, "renumber", "/dev/null"]) == DONE
 
 
@@ -259,9 +289,16 @@ def missing_lines(tool, chance, table, strings):
         place = next((it for it, line in enumerate(lines, 1) if line not in strings), 0)
         wanted = packed(encoded(strings, lines[: place - 1] if place else lines))
         status, wrote, told = run([tool, "encode", table], ended(lines))
-        message = [f"{NAME}: standard input: line {place} is not in the dictionary: {shown(lines[place - 1])}; {CODED}"] if place else []
+        message = (
+            [f"{NAME}: standard input: line {place} is not in the dictionary: {shown(lines[place - 1])}; {CODED}"]
+            if place
+            else []
+        )
         is_right = wanted.startswith(wrote) if place else wrote == wanted
-        yield f"encode, {len(lines)} lines, missing {place}: {status}, {told}", (status, told) == (int(bool(place)), message) and is_right
+        yield f"encode, {len(lines)} lines, missing {place}: {status}, {told}", (status, told) == (
+            int(bool(place)),
+            message,
+        ) and is_right
 
 
 def translated(translate, data):
@@ -278,13 +315,16 @@ def translated(translate, data):
 
 
 def damages(tool, chance, folder):
-    """Codes and maps of random bytes: what the program writes, and the first code at which it stops, are what the reader here finds."""
+    """Codes and maps of random bytes: what the program writes, and the first code at which it stops, are what the reader here
+    finds."""
     table, numbers, strings = f"{folder}/table", f"{folder}/map", [b"%d" % it for it in range(200)]
     Path(table).write_bytes(freeze(strings))
     yield from missing_lines(tool, chance, table, strings)
     for turn in range(DAMAGED):
         changed = damage(packed(chance.choices(range(2**32), k=200)), chance)
-        data = damage(packed(chance.choices([*range(200), MISSING][: 200 + turn % 2], k=chance.choice((0, 1, 50, 20_000)))), chance)
+        data = damage(
+            packed(chance.choices([*range(200), MISSING][: 200 + turn % 2], k=chance.choice((0, 1, 50, 20_000)))), chance
+        )
         Path(numbers).write_bytes(changed)
         asked = [
             (["decode", table], lambda codes: ended(decoded(strings, codes))),
@@ -294,7 +334,9 @@ def damages(tool, chance, folder):
         for words, translate in asked:
             status, wrote, told = run([tool, *words], data)
             if words[0] == "renumber" and len(changed) % 4:
-                yield f"{words}, damaged", (status, wrote, told) == said(1, f"{numbers}: not a map: its length is no multiple of 4")
+                yield f"{words}, damaged", (status, wrote, told) == said(
+                    1, f"{numbers}: not a map: its length is no multiple of 4"
+                )
                 continue
             wanted, fault = translated(translate, data)
             message = [f"{NAME}: standard input: code number {fault.args[0]} {fault.args[1]}"] if fault else []
@@ -303,7 +345,8 @@ def damages(tool, chance, folder):
 
 
 def long_lines(tool, folder):
-    """Each command on a line of 100 MiB: what it writes, and its processor time, which would be minutes if it grew with the square of the length."""
+    """Each command on a line of 100 MiB: what it writes, and its processor time, which would be minutes if it grew with the
+    square of the length."""
     table, codes, source, out = (f"{folder}/{it}" for it in ("long.dict", "long.codes", "long.lines", "long.out"))
     line = b"0123456789abcdef" * (LONG // 16)
     lines = line + b"\nb\n"
@@ -338,15 +381,23 @@ def requests(tool, folder):
     Path(f"{folder}/map").write_bytes(numbers)
     yield "merge -o -", run([tool, "merge", *tables, "-o", "-"]) == (0, freeze([b"a", b"b", b"c"]), [])
     yield "merge -", run([tool, "merge", "-", tables[1], "-o", "-"], read(tables[0])) == (0, freeze([b"a", b"b", b"c"]), [])
-    yield "merge one", run([tool, "merge", tables[1], "-o", out, "--maps", f"{folder}/maps"]) == DONE and read(out) == read(tables[1])
+    yield "merge one", run([tool, "merge", tables[1], "-o", out, "--maps", f"{folder}/maps"]) == DONE and read(out) == read(
+        tables[1]
+    )
     yield "merge twice", run([tool, "merge", tables[1], tables[1], "-o", out, "--maps", f"{folder}/maps"]) == DONE
     yield "the maps of equal ones", all(read(f"{folder}/maps/{it}.map") == packed([0, 1, 2]) for it in (0, 1))
     yield "merge --keys", run([tool, "merge", *tables, "-o", "-", "--keys", "5,6"])[1] == freeze([b"a", b"b", b"c"], BYTES, 5, 6)
     yield "encode - DICT", run([tool, "encode", tables[0], "-"], b"b\na") == (0, read(codes), [])
     yield "decode, files", run([tool, "decode", tables[0], codes, "-", codes], packed([1])) == (0, b"b\na\nb\nb\na\n", [])
-    yield "encode, verbose", run([tool, "encode", "--verbose", tables[0]], b"b\na") == said(0, "2 lines encoded", wrote=read(codes))
-    yield "decode, verbose", run([tool, "decode", "--verbose", tables[0], codes, codes]) == said(0, "4 codes decoded", wrote=b"b\na\n" * 2)
-    yield "renumber, verbose", run([tool, "renumber", "--verbose", f"{folder}/map", codes]) == said(0, "2 codes renumbered", wrote=packed([2, 1]))
+    yield "encode, verbose", run([tool, "encode", "--verbose", tables[0]], b"b\na") == said(
+        0, "2 lines encoded", wrote=read(codes)
+    )
+    yield "decode, verbose", run([tool, "decode", "--verbose", tables[0], codes, codes]) == said(
+        0, "4 codes decoded", wrote=b"b\na\n" * 2
+    )
+    yield "renumber, verbose", run([tool, "renumber", "--verbose", f"{folder}/map", codes]) == said(
+        0, "2 codes renumbered", wrote=packed([2, 1])
+    )
     counted = said(0, "2 dictionaries merged", "5 strings merged", "3 distinct strings", wrote=freeze([b"a", b"b", b"c"]))
     yield "merge, verbose", run([tool, "merge", "--verbose", *tables, "-o", "-"]) == counted
     shown = [f"{it}0 % of 8 bytes read" for it in (10,)]
@@ -362,7 +413,9 @@ def requests(tool, folder):
         before = {it: read(f"{folder}/{it}") for it in os.listdir(folder) if os.path.isfile(f"{folder}/{it}")}
         wanted = said(2, f"{name}: this input is also the output {name}; nothing was written")
         yield f"{words[0]}: an output that is an input", run([tool, *words]) == wanted
-        yield f"{words[0]}: after that", before == {it: read(f"{folder}/{it}") for it in os.listdir(folder) if os.path.isfile(f"{folder}/{it}")}
+        yield f"{words[0]}: after that", before == {
+            it: read(f"{folder}/{it}") for it in os.listdir(folder) if os.path.isfile(f"{folder}/{it}")
+        }
     twice = said(2, "standard input can be only one of the inputs")
     for words in (["encode", "-"], ["decode", "-", codes, "-"], ["renumber", "-"], ["merge", "-", tables[0], "-", "-o", out]):
         yield f"{words}", run([tool, *words], read(tables[0])) == twice
@@ -371,7 +424,9 @@ def requests(tool, folder):
         wanted = said(2, f"{two}: this output is also the output {one}; nothing was written")
         yield f"freeze, one output {other}", run([tool, "freeze", "-o", name, "--codes", other], b"a") == wanted
     for text in ("\n", "a\nb", "a\n"):
-        yield f"decode --missing {text!r}", run([tool, "decode", "--missing", text, tables[0]]) == said(2, "the text after --missing has a line end")
+        yield f"decode --missing {text!r}", run([tool, "decode", "--missing", text, tables[0]]) == said(
+            2, "the text after --missing has a line end"
+        )
     for words in (["encode"], ["decode"], ["renumber"], ["merge"], ["merge", tables[0]], ["encode", tables[0], "--no"]):
         status, wrote, told = run([tool, *words])
         yield f"{words}", (status, wrote, bool(told)) == (2, b"", True)
@@ -394,8 +449,8 @@ def are_kept(files, target):
 
 
 def failing(tool, words, given, wanted, files, setting, library, folder):
-    """The N-th request for memory, read or write fails, for each N until none does: the program reports it, and leaves its output as it was,
-    and each of the files beside it as it was or whole."""
+    """The N-th request for memory, read or write fails, for each N until none does: the program reports it, and leaves its output
+    as it was, and each of the files beside it as it was or whole."""
     target = words[words.index("-o") + 1] if "-o" in words else "-"
     for n in itertools.count(1):
         put(files)
@@ -443,7 +498,10 @@ def devices(tool, library, folder):
             shell = ["/bin/sh", "-c", 'exec "$0" "$@" <&-', tool, *words]
             yield f"{words}: a closed input", run(shell)[::2] == said(1, "standard input: Bad file descriptor")[::2]
     absent = said(1, f"{folder}/absent: No such file or directory")
-    for words in (["encode", tables[0]], ["decode", tables[0]], ["renumber", maps], ["merge", "-o", "-"], ["encode"], ["decode"], ["renumber"]):
+    for words in (
+        ["encode", tables[0]], ["decode", tables[0]], ["renumber", maps], ["merge", "-o", "-"], ["encode"], ["decode"],
+        ["renumber"],
+    ):
         yield f"{words}: a missing file", run([tool, *words, f"{folder}/absent"]) == absent
 
 
@@ -458,7 +516,8 @@ def unread(command, given):
 
 def example(tool, folder):
     """The worked example, which compares what comes back itself."""
-    for lines in ([], [b"b", b"a", b"b"], [b"w%d" % (it * it % 97) for it in range(500)]):
+    columns: tuple[list[bytes], ...] = ([], [b"b", b"a", b"b"], [b"w%d" % (it * it % 97) for it in range(500)])
+    for lines in columns:
         Path(f"{folder}/lines").write_bytes(ended(lines))
         status, wrote, _ = run(["examples/columns", f"{folder}/lines", "3"], DICT=tool, PATH=os.environ["PATH"])
         yield f"{len(lines)} lines", (status, wrote.split(b"\n")[0]) == (0, b"strings %d" % len({*lines}))
@@ -468,26 +527,33 @@ def example(tool, folder):
     shutil.copy(f"{folder}/lines", odd)
     settings = {"DICT": f"{odd}/dict", "PATH": os.environ["PATH"], "TMPDIR": odd}
     status, wrote, _ = run(["examples/columns", f"{odd}/lines", "3"], **settings)
-    yield "a folder with a space", (status, wrote.split(b"\n")[0], sorted(os.listdir(odd))) == (0, b"strings %d" % len({*lines}), ["dict", "lines"])
+    yield "a folder with a space", (status, wrote.split(b"\n")[0], sorted(os.listdir(odd))) == (
+        0,
+        b"strings %d" % len({*lines}),
+        ["dict", "lines"],
+    )
     for parts in ("0", "-1", "x", "", "3x", "1.5", "08", " 3", "a[$(touch made)]", "9999999"):
         status, wrote, told = run(["examples/columns", f"{odd}/lines", parts], **settings)
         wanted = f"columns: PARTS is a number from 1 to 999999, and not '{parts}'"
-        yield f"{parts!r} parts", (status, wrote, told[0]) == (2, b"", wanted) and not os.path.exists("made") and sorted(os.listdir(odd)) == ["dict", "lines"]
+        yield f"{parts!r} parts", (status, wrote, told[0]) == (2, b"", wanted) and not os.path.exists("made") and sorted(
+            os.listdir(odd)
+        ) == ["dict", "lines"]
 
 
 def made(tool, folder):
-    """The rules of docs/COLUMNS.md by `make -j`: what they write is what the reader here has, and after a change of one part too."""
+    """The rules of docs/COLUMNS.md by `make -j`: what they write is what the reader here has, and after a change of one part
+    too."""
     if not shutil.which("make"):
         print("left out: make isn't there")
         return
-    rules = re.search(r"```make\n(.*?)```", Path("docs/COLUMNS.md").read_text(encoding="utf-8"), re.S)[1]
+    rules = re.findall(r"```make\n(.*?)```", Path("docs/COLUMNS.md").read_text(encoding="utf-8"), re.S)[0]
     Path(f"{folder}/Makefile").write_text(rules)
-    parts = [[b"a", b"b", b"a"], [b"c", b"b"], [], [b"", b"a"]]
-    for changed, lines in ((None, None), (1, [b"d", b"a", b"d"])):
-        if lines:
-            parts[changed] = lines
+    parts: list[list[bytes]] = [[b"a", b"b", b"a"], [b"c", b"b"], [], [b"", b"a"]]
+    for changes in ({*range(4)}, {1}):
+        if len(changes) == 1:
+            parts[1] = [b"d", b"a", b"d"]
         for part, each in enumerate(parts):
-            if changed in (None, part):
+            if part in changes:
                 Path(f"{folder}/{part}.lines").write_bytes(ended(each))
         ran = subprocess.run(["make", "-s", "-j4", "-C", folder, f"DICT={tool}"], capture_output=True, timeout=60)
         strings, maps = merged([*dict.fromkeys(it)] for it in parts)
@@ -499,7 +565,9 @@ def made(tool, folder):
 def cases(tool, library):
     """Each case, as a function of a folder."""
     for size, (kind, word) in itertools.product(SIZES, ((BYTES, "bytes"), (TEXT, "texts"))):
-        yield f"a column of {size} lines, {word}", lambda folder, size=size, kind=kind: of_column(tool, random.Random(size), size, kind, folder)
+        yield f"a column of {size} lines, {word}", lambda folder, size=size, kind=kind: of_column(
+            tool, random.Random(size), size, kind, folder
+        )
     yield "faults", lambda folder: faults(tool, folder)
     yield "damaged codes and maps", lambda folder: damages(tool, random.Random(1), folder)
     yield "long lines", lambda folder: long_lines(tool, folder)

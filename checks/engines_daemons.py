@@ -1,5 +1,5 @@
-"""Programs that stay, for `engines`: starts them, waits for what they do, and ends them by their numbers. What they start and leave becomes a child
-of this process (`adopt`), which so knows of everything that is still there.
+"""Programs that stay, for `engines`: starts them, waits for what they do, and ends them by their numbers. What they start and
+leave becomes a child of this process (`adopt`), which so knows of everything that is still there.
 """
 import ctypes
 import os
@@ -46,14 +46,17 @@ def children():
         try:
             state, parent, *_ = (process / "stat").read_text(errors="replace").rpartition(")")[2].split()
             if int(parent) == os.getpid() and state not in "ZX":
-                found[int(process.name)] = (process / "cmdline").read_bytes().replace(b"\0", b" ").decode(errors="replace").strip()
+                found[int(process.name)] = (
+                    (process / "cmdline").read_bytes().replace(b"\0", b" ").decode(errors="replace").strip()
+                )
         except OSError:
             continue
     return found
 
 
 def end_children():
-    """Kills this process's children, those that were left to it too, and takes leave of those that ended. Returns what was killed."""
+    """Kills this process's children, those that were left to it too, and takes leave of those that ended. Returns what was
+    killed."""
     found = children()
     for number in found:
         os.kill(number, signal.SIGKILL)
@@ -95,7 +98,10 @@ class Daemons:
     def start(self, name, *command):
         """Starts a program. It ends if this process does."""
         with open(self.folder / f"{name}.out", "w") as out:
-            how = {"stdin": subprocess.DEVNULL, "stdout": out, "stderr": out, "cwd": self.folder, "env": self.environment, "start_new_session": True}
+            how = {
+                "stdin": subprocess.DEVNULL, "stdout": out, "stderr": out, "cwd": self.folder, "env": self.environment,
+                "start_new_session": True,
+            }
             self.running[name] = subprocess.Popen([*map(str, command)], preexec_fn=end_with_parent, **how)
         return self.running[name]
 

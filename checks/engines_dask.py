@@ -33,7 +33,9 @@ async def dask_setup(worker):
 @functools.lru_cache(maxsize=None)
 def python():
     """The interpreter that has dask.distributed, or nothing."""
-    is_there = "import sys; from importlib.util import find_spec; sys.exit(not all(map(find_spec, ('dask', 'distributed', 'fsspec'))))"
+    is_there = (
+        "import sys; from importlib.util import find_spec; sys.exit(not all(map(find_spec, ('dask', 'distributed', 'fsspec'))))"
+    )
     for name in PYTHONS:
         if shutil.which(name) and not subprocess.run([name, "-c", is_there], capture_output=True).returncode:
             return name
@@ -45,7 +47,8 @@ class Dask(Daemons):
 
     def __init__(self, folder, site):
         folder.mkdir()
-        # The folder is their home too, so that they write nothing elsewhere. No worker takes the tasks of another: one has several to be lost with.
+        # The folder is their home too, so that they write nothing elsewhere. No worker takes the tasks of another: one has
+        # several to be lost with.
         of_dask = {"DASK_CONFIG": str(folder), "DASK_DISTRIBUTED__SCHEDULER__WORK_STEALING": "False"}
         of_python = {"PYTHONPATH": str(site), "PYTHONDONTWRITEBYTECODE": "1", "HOME": str(folder)}
         super().__init__(folder, {**os.environ, **of_python, **of_dask})
@@ -66,7 +69,10 @@ class Dask(Daemons):
         return self
 
     def start_module(self, name, module, *flags):
-        return self.start(name, self.python, "-m", f"distributed.cli.{module}", "--host", "127.0.0.1", "--no-dashboard", "--dashboard-address", "127.0.0.1:0", *flags)
+        return self.start(
+            name, self.python, "-m", f"distributed.cli.{module}", "--host", "127.0.0.1", "--no-dashboard", "--dashboard-address",
+            "127.0.0.1:0", *flags,
+        )
 
     def start_worker(self, *flags):
         """Starts a worker, and returns its name."""

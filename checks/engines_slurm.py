@@ -48,7 +48,11 @@ def missing():
         address = socket.gethostbyname(socket.gethostname())
     except OSError:
         return f"the machine's name, {socket.gethostname()}, leads to no address"
-    return None if address.startswith("127.") else f"the machine's name, {socket.gethostname()}, leads to {address}, not to 127.0.0.1"
+    return (
+        None
+        if address.startswith("127.")
+        else f"the machine's name, {socket.gethostname()}, leads to {address}, not to 127.0.0.1"
+    )
 
 
 def free_ports(count):
@@ -69,8 +73,15 @@ class Slurm(Daemons):
         super().__init__(folder, {**os.environ, "PATH": PATH, "SLURM_CONF": f"{folder}/slurm.conf"})
         address, (port, *ports) = socket.gethostbyname(socket.gethostname()), free_ports(1 + NODES)
         self.names = [f"node{number}" for number, _ in enumerate(ports)]
-        nodes = (f"NodeName={name} NodeHostname=localhost NodeAddr={address} Port={it} CPUs={CPUS} State=UNKNOWN\n" for name, it in zip(self.names, ports))
-        text = CONFIGURATION.replace("ADDRESS", address).replace("PORT", str(port)).replace("USER", pwd.getpwuid(os.getuid()).pw_name)
+        nodes = (
+            f"NodeName={name} NodeHostname=localhost NodeAddr={address} Port={it} CPUs={CPUS} State=UNKNOWN\n"
+            for name, it in zip(self.names, ports)
+        )
+        text = (
+            CONFIGURATION.replace("ADDRESS", address)
+            .replace("PORT", str(port))
+            .replace("USER", pwd.getpwuid(os.getuid()).pw_name)
+        )
         (self.folder / "state").mkdir()
         (self.folder / "slurm.conf").write_text("".join(nodes) + text.replace("FOLDER", str(folder)))
         (self.folder / "munge.key").write_bytes(os.urandom(1024))
@@ -94,7 +105,9 @@ class Slurm(Daemons):
         self.wait("slurmctld answers", lambda: self.succeeds("scontrol", "ping"))
         for name in self.names:
             self.start(name, "slurmd", "-D", "-N", name)
-        self.wait("four nodes are idle", lambda: self.asked("sinfo", "--noheader", "--Node", "--format=%t").split() == ["idle"] * NODES)
+        self.wait(
+            "four nodes are idle", lambda: self.asked("sinfo", "--noheader", "--Node", "--format=%t").split() == ["idle"] * NODES
+        )
 
     def __exit__(self, *how):
         """Cancels all jobs, and ends the daemons when their queue is empty."""

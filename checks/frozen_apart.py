@@ -1,15 +1,18 @@
-"""Each output of `intaglio_dict` is a file of its own: the command is refused if one is also an input or another output, and nothing is changed.
+"""Each output of `intaglio_dict` is a file of its own: the command is refused if one is also an input or another output, and
+nothing is changed.
 
-The runs are generated. For each command, each pair of an output and an input or another output is one file, which each of the two names in each way
-that it can: by a path, a symbolic or hard link, a dangling link, or as a standard stream that is redirected to it.
+The runs are generated. For each command, each pair of an output and an input or another output is one file, which each of the two
+names in each way that it can: by a path, a symbolic or hard link, a dangling link, or as a standard stream or another descriptor
+that is open for it.
 """
+import functools
 import itertools
 import os
 import stat
 import subprocess
 import tempfile
 from pathlib import Path
-from typing import NamedTuple
+from typing import Any, NamedTuple
 
 from frozen_tables import freeze
 from programs import run
@@ -68,6 +71,9 @@ NAMES = {
     "by a hard link": "hard",
 }
 REDIRECTED = {">": "wb", ">>": "ab"}
+# A descriptor that is passed on, and the name of what it is open for.
+PASSED = 9
+PASSED_NAME = f"/dev/fd/{PASSED}"
 
 
 class Way(NamedTuple):
@@ -77,8 +83,11 @@ class Way(NamedTuple):
     words: tuple
     mode: str = ""
 
+    def is_passed(self):
+        return PASSED_NAME in self.words
+
     def is_standard(self):
-        return bool(self.mode)
+        return bool(self.mode) and not self.is_passed()
 
 
 def ways_of_input(command, number, is_there=True):
@@ -87,6 +96,8 @@ def ways_of_input(command, number, is_there=True):
         yield from (Way(called, (name,)) for called, name in NAMES.items() if is_there or called != "by a hard link")
         yield Way("by - and <", ("-",), "rb")
         yield Way("by /dev/stdin and <", ("/dev/stdin",), "rb")
+        if is_there:
+            yield Way(f"by {PASSED_NAME}", (PASSED_NAME,), "rb")
     if command.reads_standard and number == len(command.inputs) - 1:
         yield Way("by <", (), "rb")
 
@@ -102,6 +113,7 @@ def ways_of_output(output, is_there):
         if option:
             yield Way(f"by - and {sign}", (*option, "-"), mode)
             yield Way(f"by /dev/stdout and {sign}", (*option, "/dev/stdout"), mode)
+            yield Way(f"by {PASSED_NAME} and {sign}", (*option, PASSED_NAME), mode)
         if output in ("-o", "stdout"):
             yield Way(f"by {sign}", (), mode)
 
@@ -133,21 +145,30 @@ class Room:
 
     def run(self, tool, words, ways, messages=""):
         """How the program ends, what it wrote and said, and whether all is as it was when it began."""
-        streams = {"stdin": subprocess.DEVNULL, "stdout": subprocess.PIPE, "stderr": subprocess.PIPE}
+        streams: dict[str, Any] = {"stdin": subprocess.DEVNULL, "stdout": subprocess.PIPE, "stderr": subprocess.PIPE}
         opened = []
         for way in ways:
             stream = "stdin" if way.mode == "rb" else "stdout"
-            if way.mode and streams[stream] in (subprocess.DEVNULL, subprocess.PIPE):
+            if way.is_standard() and streams[stream] in (subprocess.DEVNULL, subprocess.PIPE):
                 streams[stream] = open(self.top / "file", way.mode)
                 opened.append(streams[stream])
+        passed = [way for way in ways if way.is_passed()]
+        for way in passed:
+            with open(self.top / "file", way.mode) as file:
+                os.dup2(file.fileno(), PASSED)
         if messages:
             streams["stderr"] = open(self.top / messages, "ab")
             opened.append(streams["stderr"])
         before = [*self.seen()]
-        ran = subprocess.run([tool, *words], cwd=self.top, timeout=60, **streams)
+        ran = subprocess.run([tool, *words], cwd=self.top, timeout=60, pass_fds=[PASSED] if passed else [], **streams)
         for it in opened:
             it.close()
-        return ran.returncode, ran.stdout or b"", (ran.stderr or b"").decode(errors="replace").splitlines(), before == [*self.seen()]
+        if passed:
+            os.close(PASSED)
+        return (
+            ran.returncode, ran.stdout or b"", (ran.stderr or b"").decode(errors="replace").splitlines(),
+            before == [*self.seen()],
+        )
 
 
 def is_refused(ended):
@@ -212,6 +233,11 @@ def ways_of_map(output, is_there):
             yield f"{output}, a hard link", lambda room: os.link(room.top / "file", room.top / "maps" / output)
 
 
+def prepare_both(first, second, room):
+    first(room)
+    second(room)
+
+
 def two_outputs(tool, command):
     """The same of each two outputs, which are there before or aren't."""
     pairs = itertools.combinations(enumerate(command.outputs), 2)
@@ -220,22 +246,29 @@ def two_outputs(tool, command):
         there = "" if is_there else ", not there"
         # A redirection makes the file, which another name is then that of.
         firsts, seconds = (
-            [*ways_of_output(it, is_there), *(() if is_there else (way for way in ways_of_output(it, True) if way.is_standard()))] for it in (one, other)
+            [*ways_of_output(it, is_there), *(() if is_there else (way for way in ways_of_output(it, True) if way.is_standard()))]
+            for it in (one, other)
         )
         for first, second in itertools.product(firsts, seconds):
             called = f"{one} {first.called}, {other} {second.called}{there}"
             yield called, refused(tool, command, content, {("output", at): first, ("output", to): second})
         for first, (called, prepare) in itertools.product(firsts, ways_of_map(other, is_there)):
             yield f"{one} {first.called}, {called}{there}", refused(tool, command, content, {("output", at): first}, prepare)
-        for (called, first), (called_second, second) in itertools.product(ways_of_map(one, is_there), ways_of_map(other, is_there)):
-            prepare = lambda room, both=(first, second): [it(room) for it in both]
-            yield f"{called}, {called_second}{there}", refused(tool, command, content, {}, prepare)
+        for (called, first), (called_second, second) in itertools.product(
+            ways_of_map(one, is_there), ways_of_map(other, is_there)
+        ):
+            yield f"{called}, {called_second}{there}", refused(
+                tool, command, content, {}, functools.partial(prepare_both, first, second)
+            )
 
 
 def names_of_maps(tool):
-    """The dictionary is one of the maps, or their folder, by each name that these have."""
+    """The dictionary, or an input, is one of the maps, or their folder, by each name that these have; or a map is a link to the
+    other."""
     command = next(it for it in COMMANDS if it.words == ("merge",))
-    for name, folder, is_there in itertools.product(("maps/0.map", "maps/1.map", "./maps/../maps/1.map", "linked/0.map"), ("maps", "linked", "maps/"), (True, False)):
+    for name, folder, is_there in itertools.product(
+        ("maps/0.map", "maps/1.map", "./maps/../maps/1.map", "linked/0.map"), ("maps", "linked", "maps/"), (True, False)
+    ):
 
         def case(room):
             os.symlink("maps", room.top / "linked")
@@ -245,10 +278,30 @@ def names_of_maps(tool):
             return is_refused(room.run(tool, words, ()))
 
         yield f"-o {name} --maps {folder}", in_room(None, case)
+    for name, folder in itertools.product(("maps/0.map", "maps/1.map", "linked/1.map"), ("maps", "linked")):
+
+        def input_case(room):
+            os.symlink("maps", room.top / "linked")
+            room.other(name, CONTENTS["dict"])
+            words = words_of(command, room, {("input", 1): Way("", (name,)), ("output", 1): Way("", ("--maps", folder))})
+            return is_refused(room.run(tool, words, ()))
+
+        yield f"the input {name} --maps {folder}", in_room(None, input_case)
+    for number, is_there in itertools.product((0, 1), (True, False)):
+
+        def linked_case(room):
+            os.symlink(f"{1 - number}.map", room.top / f"maps/{number}.map")
+            if is_there:
+                room.other(f"maps/{1 - number}.map", WAS)
+            return is_refused(room.run(tool, words_of(command, room, {}), ()))
+
+        yield f"{number}.map is a link to the other{'' if is_there else ', not there'}", in_room(None, linked_case)
     for name in ("maps", "./maps", "new", "in0"):
 
         def folder_case(room):
-            words = words_of(command, room, {("output", 0): Way("", ("-o", name)), ("output", 1): Way("", ("--maps", os.path.basename(name)))})
+            words = words_of(
+                command, room, {("output", 0): Way("", ("-o", name)), ("output", 1): Way("", ("--maps", os.path.basename(name)))}
+            )
             return is_refused(room.run(tool, words, ()))
 
         yield f"-o {name} --maps {os.path.basename(name)}", in_room(None, folder_case)
@@ -281,7 +334,9 @@ def apart(tool, command):
         if command.inputs[one] == command.inputs[other]:
             given = {("input", one): Way("", ("file",)), ("input", other): Way("", ("link",))}
             content = CONTENTS[command.inputs[one]]
-            yield f"inputs {one} and {other} are one", in_room(content, lambda room: room.run(tool, words_of(command, room, given), ())[0] == 0)
+            yield f"inputs {one} and {other} are one", in_room(
+                content, lambda room: room.run(tool, words_of(command, room, given), ())[0] == 0
+            )
 
 
 def twice(tool, command):
@@ -293,7 +348,9 @@ def twice(tool, command):
         else:
             given = {("input", one): standard, ("input", other): standard}
         wanted = (2, b"", [f"{NAME}: standard input can be only one of the inputs"], True)
-        yield f"- for {one} and {other}", in_room(WAS, lambda room: room.run(tool, words_of(command, room, given), [standard]) == wanted)
+        yield f"- for {one} and {other}", in_room(
+            WAS, lambda room: room.run(tool, words_of(command, room, given), [standard]) == wanted
+        )
 
 
 def empty(tool, command):
@@ -342,7 +399,11 @@ def numbers(tool):
             wanted = (2, b"", [f"{NAME}: '{typed}' is no symbol: a number below 2^32 is needed, in digits alone"])
             yield f"get {typed!r}", run([tool, "get", name, "0", typed]) == wanted
             given = f"0\n{typed}\n".encode()
-            yield f"get < {typed!r}", run([tool, "get", name], given) == (1, b"", [f"{NAME}: standard input: line 2 is no symbol: '{typed}'"])
+            yield f"get < {typed!r}", run([tool, "get", name], given) == (
+                1,
+                b"",
+                [f"{NAME}: standard input: line 2 is no symbol: '{typed}'"],
+            )
         for typed in ("3", "03", "0000000000003"):
             yield f"get {typed}", run([tool, "get", name, typed]) == (0, WORDS[3] + b"\n", [])
 
@@ -350,11 +411,12 @@ def numbers(tool):
 def wrong_cases(tool):
     """Yields what is wrong with the program."""
     count = 0
-    runs = [(" ".join(command.words), case, case(tool, command)) for command in COMMANDS for case in (apart, inputs_and_outputs, two_outputs, messages, twice, empty)]
-    runs += [("merge", names_of_maps, names_of_maps(tool)), ("merge", stale, stale(tool)), ("get", numbers, numbers(tool))]
-    for words, case, cases in runs:
+    of_each = (apart, inputs_and_outputs, two_outputs, messages, twice, empty)
+    runs = [(" ".join(command.words), case.__name__, case(tool, command)) for command in COMMANDS for case in of_each]
+    runs += [("merge", "names_of_maps", names_of_maps(tool)), ("merge", "stale", stale(tool)), ("get", "numbers", numbers(tool))]
+    for words, name, cases in runs:
         for what, is_right in cases:
             count += 1
             if not is_right:
-                yield f"{tool} {words}: {case.__name__}: {what}"
+                yield f"{tool} {words}: {name}: {what}"
     print(f"{tool}: {count} runs on files that are one, or aren't", flush=True)

@@ -1,7 +1,9 @@
-"""How `intaglio_dict freeze` and the `freeze` of the Python module replace a file: what they leave in its folder, and what they don't touch.
+"""How `intaglio_dict freeze` and the `freeze` of the Python module replace a file: what they leave in its folder, and what they
+don't touch.
 
-Each case is tried with both, in processes of their own. The Python module's `freeze` makes the bytes by the library, and writes them by its
-function `replace`, which frozen_replace.py runs without the library. bindings/tests/test_frozen.py has the whole `freeze`.
+Each case is tried with both, in processes of their own. The Python module's `freeze` makes the bytes by the library, and writes
+them by its function `replace`, which frozen_replace.py runs without the library. bindings/tests/test_frozen.py has the whole
+`freeze`.
 """
 import errno
 import os
@@ -49,8 +51,10 @@ class Module:
 def start(writer, path, given, before=None, **settings):
     """A process that freezes what it is given to the path, as soon as its input is closed."""
     started = subprocess.Popen(
-        [*writer.command, path], stdin=subprocess.PIPE, stdout=subprocess.PIPE, stderr=subprocess.PIPE, preexec_fn=before, env=settings
+        [*writer.command, path], stdin=subprocess.PIPE, stdout=subprocess.PIPE, stderr=subprocess.PIPE, preexec_fn=before,
+        env=settings,
     )
+    assert started.stdin
     try:
         started.stdin.write(given)
         started.stdin.flush()
@@ -156,7 +160,9 @@ def drawn(writer, library, folder):
         as_file(f"{folder}/.intaglio.{number:016x}.new", folder)
     listed = sorted(os.listdir(folder))
     refused = frozen_to(writer, path, **settings)
-    yield "no name is free", refused == (1, writer.message(path, "no name is free beside it")) and sorted(os.listdir(folder)) == listed
+    yield "no name is free", refused == (1, writer.message(path, "no name is free beside it")) and sorted(
+        os.listdir(folder)
+    ) == listed
 
 
 # The file itself.
@@ -180,7 +186,9 @@ def modes(writer, folder):
     # The process is killed as it writes, and so leaves its file.
     killed, _ = frozen_to(writer, path, before=lambda: limit_files(signal.SIG_DFL))
     left = [f"{folder}/{it}" for it in os.listdir(folder) if it != "dict"]
-    yield "a process that is killed", killed == -signal.SIGXFSZ and Path(path).read_bytes() == WAS and [*map(mode_of, left)] == [0o600]
+    yield "a process that is killed", killed == -signal.SIGXFSZ and Path(path).read_bytes() == WAS and [*map(mode_of, left)] == [
+        0o600
+    ]
     yield "after a process that was killed", frozen_to(writer, path) == DONE and has(path) and all(map(os.path.exists, left))
 
 
@@ -204,14 +212,20 @@ def links(writer, folder):
             Path(target).write_bytes(WAS)
             os.chmod(target, 0o640)
     yield "the mode of what a link leads to", os.path.exists(target) and mode_of(target) == 0o640
-    yield "links: the folders", (os.listdir(f"{folder}/one"), sorted(os.listdir(f"{folder}/two"))) == (["dict"], ["between", "target"])
+    yield "links: the folders", (os.listdir(f"{folder}/one"), sorted(os.listdir(f"{folder}/two"))) == (
+        ["dict"],
+        ["between", "target"],
+    )
     circle = f"{folder}/circle"
     os.symlink("circle", circle)
-    yield "a circle of links", frozen_to(writer, circle) == (1, writer.message(circle, os.strerror(errno.ELOOP))) and leads_to(circle) == "circle"
+    yield "a circle of links", frozen_to(writer, circle) == (1, writer.message(circle, os.strerror(errno.ELOOP))) and leads_to(
+        circle
+    ) == "circle"
 
 
 def irregular(writer, folder):
-    """What is no regular file isn't replaced: the program writes to a device and to a pipe, and the Python module refuses them."""
+    """What is no regular file isn't replaced: the program writes to a device and to a pipe, and the Python module refuses
+    them."""
     path = f"{folder}/there"
     made = {"a pipe": lambda: os.mkfifo(path), "a device": lambda: os.mknod(path, stat.S_IFCHR | 0o666, os.makedev(1, 3))}
     for what, make in made.items():
@@ -224,8 +238,14 @@ def irregular(writer, folder):
         link = f"{folder}/link"
         os.symlink("there", link)
         for called, name in ((what, path), (f"a link to {what}", link)):
-            yield called, is_written(writer, name) if isinstance(writer, Program) else frozen_to(writer, name) == (1, writer.message(name, "not a regular file"))
-            yield f"{called} stays", stat.S_IFMT(os.stat(path).st_mode) == kind and sorted(os.listdir(folder)) == ["link", "there"] and os.path.islink(link)
+            yield called, is_written(writer, name) if isinstance(writer, Program) else frozen_to(writer, name) == (
+                1,
+                writer.message(name, "not a regular file"),
+            )
+            yield f"{called} stays", stat.S_IFMT(os.stat(path).st_mode) == kind and sorted(os.listdir(folder)) == [
+                "link",
+                "there",
+            ] and os.path.islink(link)
         remove(path)
         remove(link)
 
@@ -251,11 +271,11 @@ def names(writer, folder):
         remove(path)
     path = f"{folder}/{'n' * 256}"
     yield "a name that is too long", frozen_to(writer, path) == (1, writer.message(path, os.strerror(errno.ENAMETOOLONG)))
-    path = os.fsencode(folder) + b"/\xff"
+    other = os.fsencode(folder) + b"/\xff"
     if isinstance(writer, Module):
-        yield "a name that isn't UTF-8", frozen_to(writer, path) == DONE and has(path)
+        yield "a name that isn't UTF-8", frozen_to(writer, other) == DONE and has(other)
     else:
-        yield "a name that isn't UTF-8", frozen_to(writer, path) == (2, f"{NAME}: argument 3 isn't UTF-8: '{folder}/\\xff'")
+        yield "a name that isn't UTF-8", frozen_to(writer, other) == (2, f"{NAME}: argument 3 isn't UTF-8: '{folder}/\\xff'")
 
 
 def errors(writer, folder):
@@ -270,7 +290,9 @@ def errors(writer, folder):
     yield "a failed write", status == 1 and re.fullmatch(full, said)
     yield "after a failed write", os.listdir(folder) == ["dict"] and Path(path).read_bytes() == WAS
     status, said = frozen_to(writer, f"{folder}/none/")
-    yield "a folder's name", status == 1 and said.startswith(writer.message(f"{folder}/none/", "")[:-3]) and os.listdir(folder) == ["dict"]
+    yield "a folder's name", status == 1 and said.startswith(writer.message(f"{folder}/none/", "")[:-3]) and os.listdir(
+        folder
+    ) == ["dict"]
 
 
 def closed(writer, folder):
@@ -281,7 +303,7 @@ def closed(writer, folder):
     Path(source).write_bytes(writer.given(STRINGS))
     for streams in ((0,), (1,), (2,), (0, 1), (0, 2), (1, 2), (0, 1, 2)):
         command = [*writer.command, path, *words, source]
-        done = subprocess.run(command, preexec_fn=lambda: [os.close(it) for it in streams], capture_output=True, timeout=SECONDS)
+        done = subprocess.run(command, preexec_fn=lambda: [*map(os.close, streams)], capture_output=True, timeout=SECONDS)
         yield f"closed streams {streams}", done.returncode == 0 and has(path)
         remove(path)
     done = subprocess.run([*writer.command, path], preexec_fn=lambda: os.close(0), capture_output=True, timeout=SECONDS)
@@ -292,8 +314,8 @@ def closed(writer, folder):
 
 
 def rounds(writers, count, folder):
-    """Several processes freeze to one file at the same time, and in each second round one of them fails: the file is always whole, and that
-    of a process that ended with status 0, and nothing else is left. Returns how many rounds were wrong."""
+    """Several processes freeze to one file at the same time, and in each second round one of them fails: the file is always
+    whole, and that of a process that ended with status 0, and nothing else is left. Returns how many rounds were wrong."""
     path, wrong = f"{folder}/dict", 0
     lists = [[b"%d %d" % (it, number) for number in range(1500 + 400 * it)] for it in range(len(writers))]
     wanted = [*map(freeze, lists)]
@@ -324,7 +346,8 @@ def in_folder(case, *arguments):
 
 def wrong_cases(tool, library, count, with_module):
     """Yields what is wrong with the files of this program, and of the Python module: with rounds of several processes."""
-    program, module = Program(tool), Module()
+    program: Program | Module = Program(tool)
+    module: Program | Module = Module()
     for writer in (program, module) if with_module else (program,):
         cases = [it for case in CASES for it in in_folder(case, writer)]
         if writer is program:

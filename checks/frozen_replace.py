@@ -1,6 +1,8 @@
 """Replaces a file as the `freeze` of the Python module does, by the module's function `replace`, without the library.
 
-    python3 checks/frozen_replace.py PATH [--noisy FILE]      by standard input, or by FILE; --noisy writes to the standard streams meanwhile
+    python3 checks/frozen_replace.py PATH [--noisy FILE]      by standard input, or by FILE
+
+--noisy writes to the standard streams meanwhile.
 """
 import os
 import sys
@@ -14,7 +16,7 @@ def module_replace():
     """The function, from a package in which nothing else is imported."""
     package, table = types.ModuleType("intaglio"), types.ModuleType("intaglio._table")
     package.__path__ = [PACKAGE]
-    table.__getattr__ = lambda name: None
+    setattr(table, "__getattr__", lambda name: None)
     sys.modules.update({"intaglio": package, "intaglio._table": table})
     from intaglio.frozen import replace
 

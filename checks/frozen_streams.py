@@ -1,5 +1,6 @@
-"""`intaglio_dict` as a program among others: standard streams by the name `-`, statuses, symbols from standard input, an output that is an
-input (frozen_apart.py has more of that), lines that aren't UTF-8, trusted dictionaries, progress in percents, a closed pipe, and the name in usage lines and messages.
+"""`intaglio_dict` as a program among others: standard streams by the name `-`, statuses, symbols from standard input, an output
+that is an input (frozen_apart.py has more of that), lines that aren't UTF-8, trusted dictionaries, progress in percents, a closed
+pipe, and the name in usage lines and messages.
 """
 import os
 import subprocess
@@ -33,22 +34,29 @@ def streams(tool, folder):
     yield "freeze -o - FILE", run([tool, "freeze", "-o", "-", lines]) == done(TABLE)
     yield "freeze FILE - FILE", run([tool, "freeze", "-o", "-", lines, "-", lines], b"other") == done(freeze([*WORDS, b"other"]))
     yield "freeze makes no file -", sorted(os.listdir(folder)) == ["lines", "words"]
-    for command, words, wrote in (("list", [], LINES), ("check", [], b""), ("get", ["3", "0"], WORDS[3] + b"\n" + WORDS[0] + b"\n")):
+    for command, words, wrote in (
+        ("list", (), LINES),
+        ("check", (), b""),
+        ("get", ("3", "0"), WORDS[3] + b"\n" + WORDS[0] + b"\n"),
+    ):
         yield f"{command} -", run([tool, command, "-", *words], TABLE) == done(wrote)
     yield "stat -", run([tool, "stat", "-"], TABLE) == run([tool, "stat", name])
     yield "check -, no table", run([tool, "check", "-"], b"x") == said(1, "standard input: not a frozen table")
     yield "find - FILE", run([tool, "find", "-", lines], TABLE) == done(b"".join(b"%d\n" % it for it in range(20)))
     yield "find DICT -", run([tool, "find", name, "-"], WORDS[4]) == done(b"4\n")
-    yield "find DICT - FILE", run([tool, "find", name, "-", lines], WORDS[4]) == done(b"4\n" + b"".join(b"%d\n" % it for it in range(20)))
+    yield "find DICT - FILE", run([tool, "find", name, "-", lines], WORDS[4]) == done(
+        b"4\n" + b"".join(b"%d\n" % it for it in range(20))
+    )
     twice = said(2, "standard input can be only one of the inputs")
-    for words in (["find", "-"], ["find", "-", lines, "-"], ["get", "-"]):
-        yield f"{words}", run([tool, *words], TABLE) == twice
+    for asked in (["find", "-"], ["find", "-", lines, "-"], ["get", "-"]):
+        yield f"{asked}", run([tool, *asked], TABLE) == twice
     full = ["/bin/sh", "-c", 'exec "$0" "$@" > /dev/full', tool, "freeze", "-o", "-", lines]
     yield "freeze -o - to a full device", run(full) == said(1, "standard output: No space left on device")
 
 
 def statuses(tool, folder):
-    """`find` says by its status whether some lines weren't found; a closed pipe ends each command in silence, with a status of its own."""
+    """`find` says by its status whether some lines weren't found; a closed pipe ends each command in silence, with a status of
+    its own."""
     name = f"{folder}/words"
     Path(name).write_bytes(TABLE)
     yield "find: all are there", run([tool, "find", name], LINES) == done(b"".join(b"%d\n" % it for it in range(20)))
@@ -75,8 +83,8 @@ def symbols(tool, folder):
     """`get` takes symbols from the lines of standard input."""
     name = f"{folder}/words"
     Path(name).write_bytes(TABLE)
-    for given, wanted in ((b"3\n0\n19", [3, 0, 19]), (b"", []), (b"0\n" * 1000, [0] * 1000), (b"007\n", [7])):
-        yield f"get: {given[:9]}", run([tool, "get", name], given) == done(b"".join(WORDS[it] + b"\n" for it in wanted))
+    for given, wanted in ((b"3\n0\n19", (3, 0, 19)), (b"", ()), (b"0\n" * 1000, (0,) * 1000), (b"007\n", (7,))):
+        yield f"get: {given[:9]!r}", run([tool, "get", name], given) == done(b"".join(WORDS[it] + b"\n" for it in wanted))
     for given, what in (
         (b"1\nx\n", "line 2 is no symbol: 'x'"),
         (b"1\n2\n\n", "line 3 is no symbol: ''"),
@@ -84,7 +92,7 @@ def symbols(tool, folder):
         (b"0\n4294967296\n", "line 2 is no symbol: '4294967296'"),
         (b"0\n\xff\n", "line 2 is not UTF-8"),
     ):
-        yield f"get: {given}", run([tool, "get", name], given) == said(1, f"standard input: {what}")
+        yield f"get: {given!r}", run([tool, "get", name], given) == said(1, f"standard input: {what}")
     yield "get: no string", run([tool, "get", name], b"0\n20\n") == said(1, f"{name}: no string has the symbol 20")
     found = run([tool, "find", name], LINES)[1]
     yield "get after find", run([tool, "get", name], found) == done(LINES)
@@ -101,7 +109,9 @@ def outputs(tool, folder):
             wanted = said(2, f"{words[0]}: this input is also the output {name}; nothing was written")
             yield f"freeze -o {name} {words}", run([tool, "freeze", "-o", name, *words]) == wanted
         shell = ["/bin/sh", "-c", 'exec "$0" "$@" < "$LINES"', tool, "freeze", "-o", name]
-        yield f"freeze -o {name} < lines", run(shell, LINES=lines) == said(2, f"standard input: this input is also the output {name}; nothing was written")
+        yield f"freeze -o {name} < lines", run(shell, LINES=lines) == said(
+            2, f"standard input: this input is also the output {name}; nothing was written"
+        )
     appended = ["/bin/sh", "-c", 'exec "$0" freeze -o - "$LINES" >> "$LINES"', tool]
     wanted = said(2, f"{lines}: this input is also the output standard output; nothing was written")
     yield "freeze -o - lines >> lines", run(appended, LINES=lines) == wanted
@@ -116,7 +126,9 @@ def texts(tool, folder):
     freezes = [tool, "freeze", "--kind", "text", "-o", f"{folder}/made"]
     yield "texts", run([*freezes, good, good]) == done()
     yield "a text that isn't UTF-8", run([*freezes, good, bad, good]) == said(1, f"{bad}: line 3 is not UTF-8")
-    yield "standard input that isn't UTF-8", run([*freezes, good, "-"], b"a\nb\nc\xc3") == said(1, "standard input: line 3 is not UTF-8")
+    yield "standard input that isn't UTF-8", run([*freezes, good, "-"], b"a\nb\nc\xc3") == said(
+        1, "standard input: line 3 is not UTF-8"
+    )
 
 
 def trusted(tool, folder):
@@ -124,7 +136,10 @@ def trusted(tool, folder):
     name, damaged = f"{folder}/words", f"{folder}/damaged"
     Path(name).write_bytes(TABLE)
     others = LINES + b"absent\n\n" + WORDS[0]
-    for words, given in ((["find", name], LINES), (["find", name], others), (["get", name, "19", "0"], b""), (["get", name], b"5\n5\n"), (["get", name, "20"], b"")):
+    for words, given in (
+        (["find", name], LINES), (["find", name], others), (["get", name, "19", "0"], b""), (["get", name], b"5\n5\n"),
+        (["get", name, "20"], b""),
+    ):
         yield f"{words} --trusted", run([tool, words[0], "--trusted", *words[1:]], given) == run([tool, *words], given)
     at = Frozen(TABLE).sections
     for what, start, end in (("places", at.symbols, at.ends), ("ends", at.ends, at.pilots), ("tags", at.tags, at.text)):
@@ -146,7 +161,11 @@ def progress(tool, folder):
     freezes = [tool, "freeze", "--progress", "-o", f"{folder}/made"]
     status, _, told = run([*freezes, lines])
     shown = [f"{NAME}: {it}0 % of {len(given)} bytes read" for it in range(1, 11)]
-    wanted = [f"{NAME}: {len(given)} bytes read", f"{NAME}: 200000 distinct lines", f"{NAME}: {os.path.getsize(f'{folder}/made')} bytes frozen"]
+    wanted = [
+        f"{NAME}: {len(given)} bytes read",
+        f"{NAME}: 200000 distinct lines",
+        f"{NAME}: {os.path.getsize(f'{folder}/made')} bytes frozen",
+    ]
     yield "progress of a file", (status, told) == (0, shown + wanted)
     half = f"{NAME}: 50 % of {2 * len(given)} bytes read"
     yield "progress of two files", half in run([*freezes, lines, lines])[2]
@@ -157,16 +176,28 @@ def progress(tool, folder):
 
 def usage(tool, folder):
     """Usage lines and messages begin with the name by which the program was called."""
-    for called, shown in (("intaglio dict", "intaglio dict"), ("/some/folder/dict", "dict"), ("./intaglio dict", "intaglio dict")):
+    for called, shown in (
+        ("intaglio dict", "intaglio dict"),
+        ("/some/folder/dict", "dict"),
+        ("./intaglio dict", "intaglio dict"),
+    ):
         for words in (["find", "--help"], ["find"], ["find", "--no"]):
             ran = subprocess.run([called, *words], executable=tool, capture_output=True, text=True, timeout=60)
             yield f"usage of {called} {words}", f"Usage: {shown} find " in ran.stdout + ran.stderr
-        for words, message in ((["list", "no"], "no: No such file or directory"), (["freeze", "-o", "no", "--keys", "5"], "--keys '5': "), (["get", "no", "x"], "'x' is no ")):
+        for words, message in (
+            (["list", "no"], "no: No such file or directory"),
+            (["freeze", "-o", "no", "--keys", "5"], "--keys '5': "),
+            (["get", "no", "x"], "'x' is no "),
+        ):
             ran = subprocess.run([called, *words], executable=tool, capture_output=True, text=True, timeout=60, cwd=folder)
             yield f"messages of {called} {words}", ran.stderr.startswith(f"{shown}: {message}")
     given = [tool, "freeze", "--verbose", "-o", f"{folder}/made"]
     for lines, count, distinct in ((b"b\na\nb", 3, 2), (b"b\n", 1, 1), (b"", 0, 0), (b"\n\n", 2, 1)):
-        yield f"freeze --verbose {lines}", run(given, lines) == (0, b"", [f"{NAME}: {count} lines frozen", f"{NAME}: {distinct} distinct lines"])
+        yield f"freeze --verbose {lines!r}", run(given, lines) == (
+            0,
+            b"",
+            [f"{NAME}: {count} lines frozen", f"{NAME}: {distinct} distinct lines"],
+        )
 
 
 CASES = (streams, statuses, symbols, outputs, texts, trusted, progress, usage)

@@ -105,6 +105,9 @@ class Frozen:
     def __len__(self):
         return len(self.ends)
 
+    def __iter__(self):
+        return map(self.__getitem__, range(len(self)))
+
     def __getitem__(self, symbol):
         """The string of a symbol."""
         if not 0 <= symbol < len(self):
@@ -184,10 +187,11 @@ def places_of(hashes):
 
     Groups with more hashes come first."""
     places, groups = places_for(len(hashes)), groups_for(len(hashes))
-    members = {}
+    members: dict[int, list[int]] = {}
     for symbol, number in enumerate(hashes):
         members.setdefault(scaled(groups, number), []).append(symbol)
-    symbols, tags, pilots, taken = [NO_SYMBOL] * places, bytearray(places), [0] * groups, set()
+    symbols, tags, pilots = [NO_SYMBOL] * places, bytearray(places), [0] * groups
+    taken: set[int] = set()
     for group in sorted(members, key=lambda it: (-len(members[it]), it)):
         numbers = [hashes[symbol] for symbol in members[group]]
         if not (found := pilot_of(numbers, taken, places)):

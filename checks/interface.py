@@ -68,7 +68,8 @@ def elided(form):
 
 
 def of_kinds(crate, texts):
-    """What the generic declarations of `ContentOf` say of each alias of contents that a crate has, with the types of its kind in their places."""
+    """What the generic declarations of `ContentOf` say of each alias of contents that a crate has, with the types of its kind in
+    their places."""
     generic, text = TOP / "crates/intaglio_content/src/content_of.rt", "\n".join(texts)
     made = re.findall(r"impl<K: KindOwned<(\w+) = (.*)>> From<(.*)> for ContentOf<K>", generic.read_text(encoding="utf-8"))
     kinds = {name: of for name, of in KIND_ALIAS.findall(text)}
@@ -76,14 +77,22 @@ def of_kinds(crate, texts):
     forms, sought = dict(FORM.findall(text)), PACKABLE.findall(text)
     for content, kind in ALIAS.findall(text):
         kind = kinds.get(kind, kind)
-        for owner, signature in [*calls("intaglio_content", generic), *types(generic.read_text(encoding="utf-8")), ("", "impl Spelled for ContentOf")]:
+        for owner, signature in [
+            *calls("intaglio_content", generic),
+            *types(generic.read_text(encoding="utf-8")),
+            ("", "impl Spelled for ContentOf"),
+        ]:
             if owner not in ("", "ContentOf", "Spelled for ContentOf"):
                 continue
             for part, of in owned[kind].items():
                 signature = signature.replace(f"K::{part}", of)
-            signature = signature.replace("&'a self", "&self").replace("K::Form", elided(forms[kind])).replace("<K: KindOwned>", "")
+            signature = (
+                signature.replace("&'a self", "&self").replace("K::Form", elided(forms[kind])).replace("<K: KindOwned>", "")
+            )
             yield owner.replace("ContentOf", content), signature.replace("ContentOf", content)
-        yield from ((f"From for {content}", f"fn from(text: {of}) -> {content}") for part, of, _ in made if owned[kind][part] == of)
+        yield from (
+            (f"From for {content}", f"fn from(text: {of}) -> {content}") for part, of, _ in made if owned[kind][part] == of
+        )
         for value in [content, *(it for of, it in sought if of == kind)]:
             for owner, signature in calls("intaglio_content", generic):
                 if owner == "Sought for Q":
@@ -91,7 +100,8 @@ def of_kinds(crate, texts):
 
 
 def items(crate):
-    """What a crate declares, as (OWNER, SIGNATURE): also the impls of traits, by their headers, and what a content of a kind has by its generic type."""
+    """What a crate declares, as (OWNER, SIGNATURE): also the impls of traits, by their headers, and what a content of a kind has
+    by its generic type."""
     paths = sorted((TOP / "crates" / crate / "src").glob("**/*.rt"))
     yield from of_kinds(crate, [it.read_text(encoding="utf-8") for it in paths])
     for path in paths:

@@ -1,10 +1,12 @@
 #!/usr/bin/env python3
-"""Draws the pictures of the pages by graphviz (a package of Debian): docs/crates.svg from crates.txt, docs/interning.svg from docs/interning.dot.
+"""Draws the pictures of the pages by graphviz (a package of Debian): docs/crates.svg from crates.txt, docs/interning.svg from
+docs/interning.dot.
 
     checks/pictures.py [--check]
 
-In crates.svg an arrow leads from a crate to one that it stands on, unless that is reached through another arrow. Crates of tests, examples and
-benchmarks aren't drawn. A picture holds the sum of what it was drawn from: with --check nothing is drawn, and the status is 1 if a picture was
+Where the reader's screen is dark, so is a picture. In crates.svg an arrow leads from a crate to one that it stands on, unless
+that is reached through another arrow. Crates of tests, examples and benchmarks aren't drawn. bench/plot.py draws the pictures of
+bench. A picture holds the sum of what it was drawn from: with --check nothing is drawn, and the status is 1 if a picture was
 drawn from something else than what is there.
 """
 
@@ -19,8 +21,12 @@ import arguments
 from sources import TOP
 
 LEFT_OUT = re.compile(r"test_hashers|refusals|bench|\w+_tests|example_\w+")
-# Colours that are read on white, in grey too.
+# Colours that are read on white, in grey too, and what they are in the dark, with those of docs/interning.dot.
 PROGRAMS, LIBRARIES, INK = "#ffffff", "#e8eef7", "#223344"
+DARK = {
+    "white": "#0d1117", PROGRAMS: "#0d1117", LIBRARIES: "#1c2a3f", INK: "#d5dee8", "#fff4d6": "#3d3212", "#f3f6fa": "#161d27",
+    "#d9e6f7": "#1f4068", "#e4f4e4": "#17381d",
+}
 
 
 def listed():
@@ -32,7 +38,7 @@ def listed():
 
 def reduced(crates):
     """The same without what is reached through another crate."""
-    reach = {}
+    reach: dict[str, set[str]] = {}
     for name, below in crates.items():
         reach[name] = {*below}.union(*(reach[it] for it in below))
     return {name: [it for it in below if not any(it in reach[other] for other in below)] for name, below in crates.items()}
@@ -40,8 +46,10 @@ def reduced(crates):
 
 def graph():
     crates = listed()
-    lines = [f'rankdir=BT; bgcolor=white; nodesep=.25; ranksep=.4; node [shape=box style="filled,rounded" fontname="sans-serif" fontsize=11 color="{INK}"'
-             f' fontcolor="{INK}" margin=".12,.06" height=.3]; edge [color="{INK}" arrowsize=.6];']
+    lines = [
+        'rankdir=BT; bgcolor=white; nodesep=.25; ranksep=.4; node [shape=box style="filled,rounded" fontname="sans-serif"'
+        f' fontsize=11 color="{INK}" fontcolor="{INK}" margin=".12,.06" height=.3]; edge [color="{INK}" arrowsize=.6];'
+    ]
     for name, below in reduced(crates).items():
         is_program = (TOP / "crates" / name / "src/main.rt").is_file()
         lines.append(f'{name} [fillcolor="{PROGRAMS if is_program else LIBRARIES}" label="{name.removeprefix("intaglio_")}"];')
@@ -51,11 +59,25 @@ def graph():
 
 def sources_of():
     """Each picture with the graph that it is drawn from."""
-    return {TOP / "docs/crates.svg": graph(), TOP / "docs/interning.svg": (TOP / "docs/interning.dot").read_text(encoding="utf-8")}
+    return {
+        TOP / "docs/crates.svg": graph(),
+        TOP / "docs/interning.svg": (TOP / "docs/interning.dot").read_text(encoding="utf-8"),
+    }
+
+
+def in_the_dark(svg, colours):
+    """The text of a picture with other colours where the reader's screen is dark. Its background is its own, so that it can be
+    read on any page."""
+    rules = []
+    for light, dark in colours.items():
+        for part in ("fill", "stroke"):
+            rules.append(f'[{part}="{light}"], [style*="{part}: {light}"] {{ {part}: {dark} !important }}')
+    style = "<style>@media (prefers-color-scheme: dark) {\n" + "\n".join(rules) + "\n}</style>"
+    return re.sub(r"(<svg[^>]*>)", lambda it: f"{it[1]}\n{style}", svg, count=1)
 
 
 def mark(text):
-    return f"<!-- drawn from {hashlib.sha256(text.encode()).hexdigest()[:16]} by checks/pictures.py -->"
+    return f"<!-- drawn from {hashlib.sha256((text + repr(DARK)).encode()).hexdigest()[:16]} by checks/pictures.py -->"
 
 
 def wrong():
@@ -63,12 +85,25 @@ def wrong():
     for path, text in sources_of().items():
         if not path.is_file() or mark(text) not in path.read_text(encoding="utf-8"):
             yield f"{path.relative_to(TOP)}: isn't drawn from its source as that is: run checks/pictures.py"
+    yield from wrong_of_bench()
+
+
+def wrong_of_bench():
+    """What is wrong with the pictures of bench, which bench/plot.py draws."""
+    ran = subprocess.run(
+        [sys.executable, TOP / "bench/plot.py", "--check"], stdin=subprocess.DEVNULL, capture_output=True, text=True
+    )
+    left_out = [it for it in ran.stdout.splitlines() if it.startswith("left out: ")]
+    print(*left_out, sep="\n", end="\n" * bool(left_out))
+    if ran.returncode:
+        yield from (it for it in (ran.stdout + ran.stderr).splitlines() if it not in left_out)
 
 
 def draw(path, text):
     drawn = subprocess.run(["dot", "-Tsvg"], input=text, capture_output=True, text=True, check=True).stdout
     # (the version of graphviz doesn't belong in the file)
-    path.write_text(re.sub(r"(?s)<!DOCTYPE.*?>\s*|<!--.*?-->\s*", "", drawn).rstrip() + f"\n{mark(text)}\n", encoding="utf-8")
+    drawn = re.sub(r"(?s)<!DOCTYPE.*?>\s*|<!--.*?-->\s*", "", drawn).rstrip()
+    path.write_text(f"{in_the_dark(drawn, DARK)}\n{mark(text)}\n", encoding="utf-8")
 
 
 def main():

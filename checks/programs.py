@@ -1,5 +1,9 @@
 """Runs the built programs with the library that refuses their requests for memory."""
-import os, shutil, subprocess, sys, tempfile
+import os
+import shutil
+import subprocess
+import sys
+import tempfile
 
 TOP = os.path.join(os.path.dirname(os.path.abspath(__file__)), "..")
 SOURCE = "checks/refuse.c"

@@ -1,7 +1,9 @@
-"""All that the scripts here take from the toolchain's own `rt`, which promises none of it: names of its module, and sentences of its prover.
+"""All that the scripts here take from the toolchain's own `rt`, which promises none of it: names of its module, and sentences of
+its prover.
 
-It was written for the `rt version`s below. Under another one `load` stops with a line that says so: see then that each name and each
-sentence still stands, and add to the line. `rt` of the first proves all anew each time and keeps no verdicts; that of the second does (`keeps_verdicts`).
+It was written for the `rt version`s below. Under another one `load` stops with a line that says so: see then that each name and
+each sentence still stands, and add to the line. `rt` of the first proves all anew each time and keeps no verdicts; that of the
+second does (`keeps_verdicts`).
 """
 
 import functools
@@ -16,6 +18,7 @@ import sys
 import tempfile
 from concurrent.futures import ThreadPoolExecutor
 from pathlib import Path
+from typing import Any
 
 sys.dont_write_bytecode = True
 TOP = Path(__file__).resolve().parent.parent
@@ -34,11 +37,14 @@ PROVED = re.compile(r"^proved\b")
 # The last line's word on libraries that were built with what earlier checks kept.
 KEPT_WORK = "incremental=trusted"
 # The function's own goals may all be closed: it can't be told, or is told, while a function that it calls isn't proved.
-CALLS_UNPROVED = re.compile(r"^(not proved; |no proof: )(it calls|the borrow checker's part in its proof is not made yet: a call of)")
+CALLS_UNPROVED = re.compile(
+    r"^(not proved; |no proof: )(it calls|the borrow checker's part in its proof is not made yet: a call of)"
+)
 NOT_PROVED = re.compile(r"^not proved(?:; it calls .* not proved)?$")
 OPEN_GOAL = re.compile(r"^note: \S+:\d+:\d+: it is not proved that")
 LEFT_OPEN = re.compile(r"`search` did not prove (?:`[^`]+`(?:, )?)+")
-# An error in the files of a function's proof: the path of the function, with / for ::. What is wrong may go on in lines that are indented.
+# An error in the files of a function's proof: the path of the function, with / for ::. What is wrong may go on in lines that are
+# indented.
 PROOF_ERROR = re.compile(r"^(?:\./)?proofs/(\S+)/(?:Answers|Invariants|Proof)\.antt:\d+:\d+: error: ")
 # The goal's name in a line of these, and what it is a goal of: of a clause, `clause-NAME`, or else by a word of its name.
 GOAL = re.compile(r"(?:error: `|\(`)([^`]+)`[:)]")
@@ -48,6 +54,8 @@ OF_OTHERS = {"invariant_of": "invariant", "requires": "requires", "loop": "loop"
 BROKEN_NAME = re.compile(r"has no field|is not in scope|has no `|was not admitted")
 # The answer by which a function is spoilt.
 SPOILT = re.compile(r": error: `spoilt`: ")
+# The locks on crates that are held until this process ends.
+HELD: list[Any] = []
 
 
 def version():
@@ -59,11 +67,16 @@ def load():
     """The toolchain's `rt`, as a module. What stands below a crate is read as statements, as under `rt ci`."""
     found = shutil.which("rt") or sys.exit("there is no rt on the PATH")
     if version() not in VERSIONS:
-        sys.exit(f"checks/rt_names.py was written for {' and '.join(map(repr, VERSIONS))}, and rt version says '{version()}': see that what it names still stands")
+        sys.exit(
+            f"checks/rt_names.py was written for {' and '.join(map(repr, VERSIONS))}, and rt version says '{version()}': see that"
+            " what it names still stands"
+        )
     path = os.path.realpath(found)
     sys.path.insert(0, os.path.dirname(path))
     loader = importlib.machinery.SourceFileLoader("rt", path)
-    module = importlib.util.module_from_spec(importlib.util.spec_from_loader("rt", loader))
+    spec = importlib.util.spec_from_loader("rt", loader)
+    assert spec
+    module = importlib.util.module_from_spec(spec)
     loader.exec_module(module)
     module.Crate.cuts_libraries = True
     module.rtlib.Crate = module.Crate
@@ -79,8 +92,9 @@ def keeps_verdicts():
 
 
 def over_kept(verdict):
-    """The pattern of a verdict's last line, where that may end in KEPT_WORK. `rt lib` builds a library with what earlier checks kept, and the last line
-    of all that is proved over it says so. A run of these scripts takes that library as it takes the others that earlier runs left, and `rt ci` takes none."""
+    """The pattern of a verdict's last line, where that may end in KEPT_WORK. `rt lib` builds a library with what earlier checks
+    kept, and the last line of all that is proved over it says so. A run of these scripts takes that library as it takes the
+    others that earlier runs left, and `rt ci` takes none."""
     ends = r"\n\Z"
     if not verdict.pattern.endswith(ends):
         sys.exit("checks/rt_names.py: the pattern of rt's last line doesn't end as it did")
@@ -100,13 +114,15 @@ def is_built(library):
     if stamp.is_file():
         return library.is_built()
     newest = max(os.path.getmtime(file) for file in load().rtlib.files_of(library.folder))
-    # (what `rt ci` builds has no stamp, and can be used over its own libraries alone; a file that it kept from an earlier run is older than its folder here)
+    # (what `rt ci` builds has no stamp, and can be used over its own libraries alone; a file that it kept from an earlier run is
+    # older than its folder here)
     is_of_ci = not any(Path(it.folder, "out/rlib/stamp").is_file() for it in library.below())
     return newest <= made.stat().st_mtime and is_of_ci
 
 
 def build_missing(libraries):
-    """Builds those of these libraries, lowest first, that aren't there or are of other sources: `rt ci` gives back what was built before it."""
+    """Builds those of these libraries, lowest first, that aren't there or are of other sources: `rt ci` gives back what was built
+    before it."""
     for it in libraries:
         if not is_built(it):
             print(f"{it.name} isn't built from the sources as they are: rt lib builds it", flush=True)
@@ -120,8 +136,8 @@ def processors():
 
 
 def with_one_job_each():
-    """The environment of an `rt ci` that proves as many crates side by side as there are processors, each by one job. Several jobs of a check
-    copy the prover, which takes a third to a half more of processors in all."""
+    """The environment of an `rt ci` that proves as many crates side by side as there are processors, each by one job. Several
+    jobs of a check copy the prover, which takes a third to a half more of processors in all."""
     return {**os.environ, "RT_JOBS": str(processors())}
 
 
@@ -145,7 +161,9 @@ def provers_outside(name):
     count = 0
     for process in Path("/proc").glob("[0-9]*"):
         try:
-            if (process / "comm").read_text(errors="replace") == "rattle\n" and not Path(os.readlink(process / "cwd")).name.startswith(name):
+            if (process / "comm").read_text(errors="replace") == "rattle\n" and not Path(
+                os.readlink(process / "cwd")
+            ).name.startswith(name):
                 states = [it.read_text(errors="replace").rpartition(")")[2].split()[0] for it in process.glob("task/*/stat")]
                 count += not {*states}.isdisjoint("RD")
         except OSError:
@@ -154,9 +172,9 @@ def provers_outside(name):
 
 
 def checked(crate, texts, functions, are_spoilt, kept, stubs):
-    """What a check of these functions prints, of a copy of the crate with these texts in place of its own, over what `kept` holds. `functions` has for
-    each the one whose proof it takes, which is another one for a copy. If they are spoilt, their answers have one more, which can't be read.
-    If there are stubs, which are functions too, no other function has a proof."""
+    """What a check of these functions prints, of a copy of the crate with these texts in place of its own, over what `kept`
+    holds. `functions` has for each the one whose proof it takes, which is another one for a copy. If they are spoilt, their
+    answers have one more, which can't be read. If there are stubs, which are functions too, no other function has a proof."""
     rt, only = load(), [word for function in functions for word in ("--only", function)]
     words = [rt.rtlib.RATTLE, "check", *crate.words(["--jobs", "1", *only], keeps=False), "--incremental", kept]
     with tempfile.TemporaryDirectory(prefix=SCRATCH) as room:
@@ -168,16 +186,20 @@ def checked(crate, texts, functions, are_spoilt, kept, stubs):
         for function, whose in functions.items():
             take_proof(Path(room, "proofs"), function, whose)
         if stubs:
-            drop_proofs(Path(room, "proofs"), *({Path(room, "proofs", *it.split("::")) for it in them} for them in (functions, stubs)))
+            drop_proofs(
+                Path(room, "proofs"), *({Path(room, "proofs", *it.split("::")) for it in them} for them in (functions, stubs))
+            )
         for function in functions:
             leave_to_the_prover(Path(room, "proofs", *function.split("::")), are_spoilt)
-        ran = subprocess.run([*rt.rtlib.guarded(), *words], cwd=room, stdin=subprocess.DEVNULL, capture_output=True, errors="replace")
+        ran = subprocess.run(
+            [*rt.rtlib.guarded(), *words], cwd=room, stdin=subprocess.DEVNULL, capture_output=True, errors="replace"
+        )
         return ran.stdout + ran.stderr
 
 
 def is_all_spoilt(words, lines):
-    """Whether the prover says nothing of a spoilt function but that it isn't proved, that it calls others that aren't, and that the one answer can't be
-    read."""
+    """Whether the prover says nothing of a spoilt function but that it isn't proved, that it calls others that aren't, and that
+    the one answer can't be read."""
     return bool(NOT_PROVED.match(words) and lines and all(map(SPOILT.search, lines)))
 
 
@@ -192,8 +214,8 @@ def take_proof(proofs, function, whose):
 
 
 def drop_proofs(proofs, but, stubs):
-    """Leaves no proof of a function, but for those in the first folders. The prover doesn't search for one where there is an empty file, as in those of
-    the stubs."""
+    """Leaves no proof of a function, but for those in the first folders. The prover doesn't search for one where there is an
+    empty file, as in those of the stubs."""
     own = {it.parent for name in ("Answers", "Invariants", "Proof") for it in proofs.glob(f"**/{name}.antt")}
     for folder in (own | stubs) - but:
         folder.mkdir(parents=True, exist_ok=True)
@@ -203,9 +225,10 @@ def drop_proofs(proofs, but, stubs):
 
 
 def leave_to_the_prover(proof, is_spoilt):
-    """Gives a function that has no file of a proof one with no answers: all goals are left to the prover, as without the file. If it is to be
-    spoilt, adds an answer that can't be read. The function can't be proved then, and each other goal is closed or stays open as without it; but the
-    prover doesn't write an answer to start from for each that stays open, with what is known there, which takes a sixth of a check."""
+    """Gives a function that has no file of a proof one with no answers: all goals are left to the prover, as without the file. If
+    it is to be spoilt, adds an answer that can't be read. The function can't be proved then, and each other goal is closed or
+    stays open as without it; but the prover doesn't write an answer to start from for each that stays open, with what is known
+    there, which takes a sixth of a check."""
     answers = proof / "Answers.antt"
     if not any(it.is_file() for it in (answers, proof / "Proof.antt")):
         proof.mkdir(parents=True, exist_ok=True)
@@ -237,14 +260,16 @@ class NothingKept:
 
 
 class Verdicts:
-    """What the prover said of edits, in this run and in earlier ones of any checkout on this machine. It is kept where `rt` keeps what it said of its own
-    edits, if it does, and as `rt` does under a sum of all that it stands on: the kit, the files of the crate and of those below it, the edit and the
-    scripts. So it is never out of date. What was said over the libraries of an `rt ci` is said of all, and no other counts for a run beside an `rt ci`."""
+    """What the prover said of edits, in this run and in earlier ones of any checkout on this machine. It is kept where `rt` keeps
+    what it said of its own edits, if it does, and as `rt` does under a sum of all that it stands on: the kit, the files of the
+    crate and of those below it, the edit and the scripts. So it is never out of date. What was said over the libraries of an `rt
+    ci` is said of all, and no other counts for a run beside an `rt ci`."""
 
     def __init__(self, scripts, is_anew, is_beside_ci):
         every = crates() if keeps_verdicts() else []
         # (the files are looked at here, and again as something is kept)
-        self.kept, self.stamps = load().Kept(every, is_anew) if every else NothingKept(), {}
+        self.kept = load().Kept(every, is_anew) if every else NothingKept()
+        self.stamps: dict[str, str] = {}
         for crate in every:
             load().stamp_of(crate, self.stamps)
         self.scripts, self.is_beside_ci = [load().rtlib.sum_of(it) for it in scripts], is_beside_ci
@@ -312,25 +337,32 @@ def standing_on(names):
         crate = every.get(name) or sys.exit(f"crates.txt lists no {name}")
         found += [it for it in [*crate.below(), crate] if it not in found]
     # No other rt works in them until this process ends.
-    standing_on.held = load().rtlib.lock(found)
+    HELD.append(load().rtlib.lock(found))
     return found
 
 
 def is_proved(crate):
-    """Whether the crate was proved as it is now, with what stands below it: here, or in another checkout on this machine, whose library is then taken."""
+    """Whether the crate was proved as it is now, with what stands below it: here, or in another checkout on this machine, whose
+    library is then taken."""
     if not crate.is_program:
         return crate.is_built() or keeps_verdicts() and load().take_rlib(crate)
-    return os.path.exists(f"{crate.folder}/out/{crate.name}") and load().rtlib.text_of(f"{crate.folder}/out/rlib/stamp") == crate.stamp()
+    return (
+        os.path.exists(f"{crate.folder}/out/{crate.name}")
+        and load().rtlib.text_of(f"{crate.folder}/out/rlib/stamp") == crate.stamp()
+    )
 
 
 def proved(crate, jobs):
-    """The status of proving the crate, and of building a library as `rt lib` leaves it, or a program, from nothing, and what was printed."""
+    """The status of proving the crate, and of building a library as `rt lib` leaves it, or a program, from nothing, and what was
+    printed."""
     rt, stamp = load(), crate.stamp()
     kept, made = f"{crate.folder}/out/rlib", f"out/{crate.name}"
     shutil.rmtree(kept, ignore_errors=True)
     os.makedirs(kept)
     words = crate.words(["--jobs", str(jobs)], keeps=False)
-    more = ["--toolchain", f"{rt.KIT}/toolchain", "--backend", "llvm", "-o", f"{made}.o"] if crate.is_program else ["-o", crate.rlib]
+    more = (
+        ["--toolchain", f"{rt.KIT}/toolchain", "--backend", "llvm", "-o", f"{made}.o"] if crate.is_program else ["-o", crate.rlib]
+    )
     with tempfile.TemporaryFile("w+", errors="replace") as crate.out:
         try:
             status = crate.prove(["build", *words, *more])
@@ -363,11 +395,11 @@ def built_static(name):
 
 
 def copied_proofs(repository, names):
-    """Copies what `rt lib` made of these crates to a repository that has them too, lowest first, where it is of the same sources, of the crates
-    below it too, and of this version of `rt`. Returns the names of those that are proved there now."""
+    """Copies what `rt lib` made of these crates to a repository that has them too, lowest first, where it is of the same sources,
+    of the crates below it too, and of this version of `rt`. Returns the names of those that are proved there now."""
     here, there = ({it.name: it for it in crates(top)} for top in (TOP, repository))
     # No other rt works in them until this process ends.
-    copied_proofs.held = load().rtlib.lock([*(here[it] for it in names), *(there[it] for it in names)])
+    HELD.append(load().rtlib.lock([*(here[it] for it in names), *(there[it] for it in names)]))
     for name in names:
         mine, theirs = here[name], there[name]
         if mine.is_built() and not theirs.is_built() and mine.stamp() == theirs.stamp():
@@ -391,31 +423,37 @@ def functions_of(crate):
 
 
 def chains_through(crates):
-    """How long the longest chain through each crate is, in functions, in which each waits for the one before it. The crates come lowest first."""
-    below, behind = {}, {}
+    """How long the longest chain through each crate is, in functions, in which each waits for the one before it. The crates come
+    lowest first."""
+    below: dict[str, int] = {}
+    behind: dict[str, int] = {}
     for crate in crates:
         below[crate.name] = functions_of(crate) + max((below.get(it.name, 0) for it in crate.below()), default=0)
     for crate in reversed(crates):
-        behind[crate.name] = max((functions_of(it) + behind[it.name] for it in crates if crate.name in {under.name for under in it.below()}), default=0)
+        behind[crate.name] = max(
+            (functions_of(it) + behind[it.name] for it in crates if crate.name in {under.name for under in it.below()}), default=0
+        )
     return {it.name: below[it.name] + behind[it.name] for it in crates}
 
 
 def beside(call, *given):
-    """What a call gives that runs on what nothing else uses of the processors: in a thread of its own, whose priority is lower, as is that of what it starts."""
-    with ThreadPoolExecutor(1, initializer=os.nice, initargs=[10]) as pool:
+    """What a call gives that runs on what nothing else uses of the processors: in a thread of its own, whose priority is lower,
+    as is that of what it starts."""
+    with ThreadPoolExecutor(1, initializer=os.nice, initargs=(10,)) as pool:
         return pool.submit(call, *given).result()
 
 
 # A crate with this many functions or fewer is proved as soon by one job as by several, which each read all libraries.
 FEW = 8
-# The shares of the longest chain from which on a chain would soon be the longest, if its crates had one job each, and if they had what others leave.
+# The shares of the longest chain from which on a chain would soon be the longest, if its crates had one job each, and if they had
+# what others leave.
 NEARLY, LONG = 0.88, 0.8
 
 
 def in_lanes(crates, prove):
-    """Proves these crates side by side, by `prove` of a crate and its jobs, each once those of them below it are proved, and returns whether all are.
-    Those of the longest chain have a job for each processor, since all waits for them, those of a chain nearly as long two, and small ones one; those of
-    short chains run on what these leave."""
+    """Proves these crates side by side, by `prove` of a crate and its jobs, each once those of them below it are proved, and
+    returns whether all are. Those of the longest chain have a job for each processor, since all waits for them, those of a chain
+    nearly as long two, and small ones one; those of short chains run on what these leave."""
     rt, through, most = load(), chains_through(crates), min(4, processors())
     longest = max(through.values(), default=0)
 

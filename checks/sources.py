@@ -5,7 +5,7 @@ It reads files as `rt fmt` lays them out, and nothing else.
 
 import re
 from collections import namedtuple
-from dataclasses import make_dataclass
+from dataclasses import dataclass
 from pathlib import Path
 
 TOP = Path(__file__).resolve().parent.parent
@@ -20,8 +20,21 @@ DEFINED = re.compile(r"(?: *(?:(?:pub|opaque) +)*(?:abbrev|record|data|unfoldabl
 FIELD = re.compile(r" +(?:pub )?(\w+) : ")
 
 
-# A function: where it is, the impl or trait that it stands in, and its clauses by their names.
-Function = make_dataclass("Function", "crate file line owner trait name clauses is_test text".split(), frozen=True, eq=False)
+@dataclass(frozen=True, eq=False)
+class Function:
+    """A function: where it is, the impl or trait that it stands in, and its clauses by their names."""
+
+    crate: str
+    file: str
+    line: int
+    owner: str
+    trait: str
+    name: str
+    clauses: dict[str, str]
+    is_test: bool
+    text: str
+
+
 # An edit, a mutant or a control: the function that it turns, the clauses by which it is refused, and the promise that it breaks.
 Edit = namedtuple("Edit", "crate kind name path function clauses promise beside file pairs")
 MUTANT, CONTROL = "mutant", "control"
@@ -64,11 +77,13 @@ def clauses_from(lines, at, indent):
 
 
 def with_ensures(text, names):
-    """The text of a function with those of its `ensures` alone that have one of these names. The prover names goals by their clauses if there are
-    several: so the shortest other one stays with a single one, and all stay if one has no name or there is one alone."""
-    lines, parts, depth = text.splitlines(keepends=True), [], 0
-    head = next(i for i, it in enumerate(lines) if FN.match(it))
-    end = clauses_from(lines, head, FN.match(lines[head])[1])[1]
+    """The text of a function with those of its `ensures` alone that have one of these names. The prover names goals by their
+    clauses if there are several: so the shortest other one stays with a single one, and all stay if one has no name or there is
+    one alone."""
+    lines, depth = text.splitlines(keepends=True), 0
+    parts: list[tuple[str, list[str]]] = []
+    head, indent = next((i, found[1]) for i, it in enumerate(lines) if (found := FN.match(it)))
+    end = clauses_from(lines, head, indent)[1]
     for line in lines[head + 1 : end]:
         if not depth:
             found = CLAUSE.fullmatch(line.rstrip())
@@ -80,14 +95,17 @@ def with_ensures(text, names):
         return text
     stay = {"", *names}
     if len(ensured.keys() & stay) == 1:
-        stay |= {*sorted(ensured.keys() - stay, key=ensured.get)[:1]}
+        stay |= {*sorted(ensured.keys() - stay, key=ensured.__getitem__)[:1]}
     return "".join([*lines[: head + 1], *(row for name, rows in parts if name in stay for row in rows), *lines[end:]])
 
 
 def functions_in(crate, path):
     """The functions of a file, the ghost members of its impls by owner and trait, and the types that it declares."""
     lines = path.read_text(encoding="utf-8").splitlines()
-    functions, members, types, at, owner, trait = [], {}, set(), 0, "", ""
+    functions: list[Function] = []
+    members: dict[tuple[str, str], dict[str, str]] = {}
+    types: set[str] = set()
+    at, owner, trait = 0, "", ""
     while at < len(lines):
         line = lines[at]
         types |= {it[1] for it in [TYPE.match(line)] if it}
@@ -114,7 +132,8 @@ def functions_in(crate, path):
 
 def definitions_in(path):
     """The definitions of a file of specs, each with its text, and the fields of its records as RECORD.FIELD."""
-    found, name = {}, None
+    found: dict[str, str] = {}
+    name = None
     for line in path.read_text(encoding="utf-8").splitlines():
         if head := DEFINED.match(line):
             name = head[1]
@@ -128,7 +147,10 @@ def definitions_in(path):
 
 def edit_of(crate, path, text):
     """The edit that a block of a file of mutants describes."""
-    line = lambda word: (re.search(rf"^{word}: (.*)$", text, re.M) or ["", ""])[1]
+
+    def line(word):
+        return (re.search(rf"^{word}: (.*)$", text, re.M) or ["", ""])[1]
+
     kind, _, name = text.partition("\n")[0].partition(": ")
     found = re.fullmatch(r"([\w, ]+): (.+)", line("promise"))
     clauses = tuple(found[1].split(", ")) if found else ()
@@ -154,14 +176,18 @@ class Sources:
     """All of them."""
 
     def __init__(self):
-        self.functions, self.members, self.types, self.definitions, self.edits = [], {}, set(), {}, []
+        self.functions: list[Function] = []
+        self.members: dict[tuple[str, str, str], dict[str, str]] = {}
+        self.types: set[str] = set()
+        self.definitions: dict[str, str] = {}
+        self.edits: list[Edit] = []
         for folder in sorted((TOP / "crates").iterdir()):
             for path in sorted(folder.glob("src/**/*.rt")):
                 functions, members, types = functions_in(folder.name, path)
                 self.functions += functions
                 self.types |= types
-                for owner, own in members.items():
-                    self.members.setdefault((folder.name, *owner), {}).update(own)
+                for (owner, trait), own in members.items():
+                    self.members.setdefault((folder.name, owner, trait), {}).update(own)
             for path in sorted(folder.glob("specs/**/*.antt")):
                 self.definitions.update(definitions_in(path))
             self.edits += edits_in(folder.name)
@@ -178,7 +204,9 @@ class Sources:
             return False
         text = root.read_text(encoding="utf-8")
         exported = {word for it in re.findall(r"(?ms)^pub use ([^;]+);", text) for word in re.findall(r"\w+", it)}
-        is_in_module = any(re.match(rf"crates/\w+/src/{it}[./]", function.file) for it in re.findall(r"(?m)^pub mod (\w+);", text))
+        is_in_module = any(
+            re.match(rf"crates/\w+/src/{it}[./]", function.file) for it in re.findall(r"(?m)^pub mod (\w+);", text)
+        )
         is_in_root = not function.owner and function.file.endswith("/src/lib.rt")
         return is_in_root or is_in_module or (function.owner or function.name) in exported
 

@@ -48,7 +48,8 @@ def map_to_whole(merged, position, above):
 
 
 def rewrite(codes, numbers, name):
-    """Writes the codes of a block in the one dictionary. Whoever reads the file has all of it, even if this is run twice at once."""
+    """Writes the codes of a block in the one dictionary. Whoever reads the file has all of it, even if this is run twice at
+    once."""
     new = f"{name}.{os.getpid()}.new"
     Path(new).write_bytes(codes if numbers is None else renumber(codes, numbers))
     os.replace(new, name)
@@ -101,7 +102,7 @@ def main():
     if len(sys.argv) not in (4, 5):
         print(__doc__.splitlines()[0], file=sys.stderr)
         sys.exit(2)
-    scheduler, path, out = sys.argv[1], *map(os.path.realpath, sys.argv[2:4])
+    scheduler, path, out = sys.argv[1], os.path.realpath(sys.argv[2]), os.path.realpath(sys.argv[3])
     with Client(scheduler) as client:
         run(client, path, out, sys.argv[4] if sys.argv[4:] else "64 MiB")
 

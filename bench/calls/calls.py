@@ -53,9 +53,17 @@ def main():
         table = SymbolTable()
         turn("Python: intern_all, check_all", table.intern_all, table.check_all)
         table = SymbolTable()
-        turn("Python: intern_into, check_into", lambda texts: table.intern_into(texts, symbols), lambda texts: table.check_into(texts, found))
-        numbers = {}
-        turn("a dict, in a comprehension", lambda texts: [numbers.setdefault(text, len(numbers)) for text in texts], lambda texts: [numbers.get(text) for text in texts])
+        turn(
+            "Python: intern_into, check_into",
+            lambda texts: table.intern_into(texts, symbols),
+            lambda texts: table.check_into(texts, found),
+        )
+        numbers: dict[str, int] = {}
+        turn(
+            "a dict, in a comprehension",
+            lambda texts: [numbers.setdefault(text, len(numbers)) for text in texts],
+            lambda texts: [numbers.get(text) for text in texts],
+        )
         table = SymbolTable()
         turn("Python: intern, check_interned", one_by_one(table.intern), one_by_one(table.check_interned))
         numbers = {}

@@ -8,8 +8,14 @@
 #include <time.h>
 
 /* A string, with a zero behind it. */
-typedef struct { uint8_t *at; size_t len; } string;
-typedef struct { string *items; size_t count; } strings;
+typedef struct {
+    uint8_t *at;
+    size_t len;
+} string;
+typedef struct {
+    string *items;
+    size_t count;
+} strings;
 
 static strings read_lines(const char *path) {
     strings lines = {NULL, 0};

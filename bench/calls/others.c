@@ -6,7 +6,10 @@
 #include "lines.h"
 
 /* Strings by their numbers. */
-typedef struct { char **items; size_t count, room; } names;
+typedef struct {
+    char **items;
+    size_t count, room;
+} names;
 
 static uint32_t add_name(names *all, char *at) {
     if (all->count == all->room) {
@@ -55,7 +58,10 @@ static void free_names(names *all) {
 #ifdef KHASH
 #include <htslib/khash.h>
 KHASH_MAP_INIT_STR(numbers, uint32_t)
-typedef struct { khash_t(numbers) *numbers; names names; } khash;
+typedef struct {
+    khash_t(numbers) *numbers;
+    names names;
+} khash;
 
 static void *khash_new(void) {
     khash *table = calloc(1, sizeof *table);
@@ -90,8 +96,15 @@ EACH(khash)
 
 #ifdef UTHASH
 #include <uthash.h>
-typedef struct { UT_hash_handle hh; uint32_t number; char at[]; } uthash_entry;
-typedef struct { uthash_entry *first; names names; } uthash;
+typedef struct {
+    UT_hash_handle hh;
+    uint32_t number;
+    char at[];
+} uthash_entry;
+typedef struct {
+    uthash_entry *first;
+    names names;
+} uthash;
 
 static void *ut_new(void) {
     uthash *table = calloc(1, sizeof *table);
@@ -131,7 +144,10 @@ EACH(ut)
 
 #ifdef GLIB
 #include <glib.h>
-typedef struct { GHashTable *numbers; names names; } glib;
+typedef struct {
+    GHashTable *numbers;
+    names names;
+} glib;
 
 static void *glib_new(void) {
     glib *table = calloc(1, sizeof *table);

@@ -67,11 +67,19 @@ extern "C" {
 
 /* A handle, which holds a table of any kind or none. Initialize it with INTAGLIO_TABLE_NONE, or with zeros: then it holds none. The
  * fields are private. The struct may be moved, but after a copy only one of the two may be used. */
-typedef struct { bool live; void *ptr; } intaglio_table;
+typedef struct {
+    bool live;
+    void *ptr;
+} intaglio_table;
+/* clang-format off */
 #define INTAGLIO_TABLE_NONE {false, NULL}
+/* clang-format on */
 
 /* The bytes of a symbol. `at` isn't null, even if `len` is 0. */
-typedef struct { const uint8_t *at; size_t len; } intaglio_spelling;
+typedef struct {
+    const uint8_t *at;
+    size_t len;
+} intaglio_spelling;
 
 /* The kinds. */
 enum {
@@ -91,29 +99,29 @@ typedef uint32_t intaglio_code;
 /* The codes. */
 enum {
     INTAGLIO_DONE = 0,
-    INTAGLIO_NO_TABLE = 1,      /* the handle holds no table */
-    INTAGLIO_FULL = 2,          /* the string is new, and the table holds as many as its limit */
-    INTAGLIO_NO_MEMORY = 3,     /* malloc or realloc returned null */
-    INTAGLIO_TOO_LARGE = 4,     /* a capacity above 2^32 or the limit, or a limit of 0 or above 2^32 */
-    INTAGLIO_STALE = 5,         /* the table has fewer strings than the mark counts */
-    INTAGLIO_NOT_UTF8 = 6,      /* text, path, osstr, packed_text, a frozen table of texts: the bytes aren't UTF-8 */
-    INTAGLIO_INNER_ZERO = 7,    /* cstr: a zero byte before the last byte */
-    INTAGLIO_MISSING_ZERO = 8,  /* cstr: no zero byte at all */
-    INTAGLIO_BAD_ENDS = 9,      /* the ends of a batch decrease or exceed its bytes, or its arrays differ in length */
-    INTAGLIO_NO_SYMBOL = 10,    /* the table has no such symbol */
-    INTAGLIO_NO_SPACE = 11,     /* the buffer is too short */
-    INTAGLIO_NO_KIND = 12,      /* the number is not that of a kind */
-    INTAGLIO_NOT_FROZEN = 13,   /* the bytes don't begin as a frozen table does */
+    INTAGLIO_NO_TABLE = 1,       /* the handle holds no table */
+    INTAGLIO_FULL = 2,           /* the string is new, and the table holds as many as its limit */
+    INTAGLIO_NO_MEMORY = 3,      /* malloc or realloc returned null */
+    INTAGLIO_TOO_LARGE = 4,      /* a capacity above 2^32 or the limit, or a limit of 0 or above 2^32 */
+    INTAGLIO_STALE = 5,          /* the table has fewer strings than the mark counts */
+    INTAGLIO_NOT_UTF8 = 6,       /* text, path, osstr, packed_text, a frozen table of texts: the bytes aren't UTF-8 */
+    INTAGLIO_INNER_ZERO = 7,     /* cstr: a zero byte before the last byte */
+    INTAGLIO_MISSING_ZERO = 8,   /* cstr: no zero byte at all */
+    INTAGLIO_BAD_ENDS = 9,       /* the ends of a batch decrease or exceed its bytes, or its arrays differ in length */
+    INTAGLIO_NO_SYMBOL = 10,     /* the table has no such symbol */
+    INTAGLIO_NO_SPACE = 11,      /* the buffer is too short */
+    INTAGLIO_NO_KIND = 12,       /* the number is not that of a kind */
+    INTAGLIO_NOT_FROZEN = 13,    /* the bytes don't begin as a frozen table does */
     INTAGLIO_OTHER_VERSION = 14, /* a frozen table of another version */
-    INTAGLIO_RESERVED = 15,     /* a reserved byte of a frozen table isn't zero */
-    INTAGLIO_TOO_MANY = 16,     /* more strings than a frozen table can have, which is 2^31 */
-    INTAGLIO_TRUNCATED = 17,    /* the bytes of a frozen table end within its header or a section */
-    INTAGLIO_TEXT_ENDS = 18,    /* the strings of a frozen table don't fill its text */
-    INTAGLIO_UNUSED = 19,       /* a place of a frozen table that no string has isn't empty */
-    INTAGLIO_NOT_FOUND = 20,    /* a string of a frozen table isn't found at its symbol */
-    INTAGLIO_TOO_LONG = 21,     /* the strings have 2^32 bytes or more together, too many for a frozen table */
-    INTAGLIO_EQUAL = 22,        /* two strings are equal: never of a table's strings, but no contract says so */
-    INTAGLIO_NO_PLACES = 23     /* the search for places in a frozen table failed: freeze with other keys */
+    INTAGLIO_RESERVED = 15,      /* a reserved byte of a frozen table isn't zero */
+    INTAGLIO_TOO_MANY = 16,      /* more strings than a frozen table can have, which is 2^31 */
+    INTAGLIO_TRUNCATED = 17,     /* the bytes of a frozen table end within its header or a section */
+    INTAGLIO_TEXT_ENDS = 18,     /* the strings of a frozen table don't fill its text */
+    INTAGLIO_UNUSED = 19,        /* a place of a frozen table that no string has isn't empty */
+    INTAGLIO_NOT_FOUND = 20,     /* a string of a frozen table isn't found at its symbol */
+    INTAGLIO_TOO_LONG = 21,      /* the strings have 2^32 bytes or more together, too many for a frozen table */
+    INTAGLIO_EQUAL = 22,         /* two strings are equal: never of a table's strings, but no contract says so */
+    INTAGLIO_NO_PLACES = 23      /* the search for places in a frozen table failed: freeze with other keys */
 };
 
 /* Returns the text of a code, without a full stop. */
@@ -276,6 +284,7 @@ static inline size_t intaglio_frozen_size(const intaglio_table *table) {
 bool intaglio_frozen_is_text(const uint8_t *bytes, size_t len);
 
 /* The functions on tables for each kind, on a struct of that kind, such as intaglio_text. Initialize it with INTAGLIO_NONE. */
+/* clang-format off */
 #define INTAGLIO_NONE {{false, NULL}}
 #define INTAGLIO_KIND(NAME, KIND) \
     typedef struct { intaglio_table table; } intaglio_##NAME; \
@@ -309,6 +318,7 @@ INTAGLIO_KIND(bstr, INTAGLIO_BSTR)
 INTAGLIO_KIND(packed_text, INTAGLIO_PACKED_TEXT)
 INTAGLIO_KIND(packed_bytes, INTAGLIO_PACKED_BYTES)
 #undef INTAGLIO_KIND
+/* clang-format on */
 
 #ifdef __cplusplus
 }

@@ -18,7 +18,10 @@ from pathlib import Path
 HERE = Path(__file__).resolve().parent
 HEADERS = HERE.parent / "c"
 MODULE = "intaglio/_table" + str(sysconfig.get_config_var("EXT_SUFFIX"))
-FLAGS = ["-O2", "-g0", "-fPIC", "-shared", "-fvisibility=hidden", "-Wall", "-Wextra", "-Wno-missing-field-initializers", "-Wno-cast-function-type"]
+FLAGS = [
+    "-O2", "-g0", "-fPIC", "-shared", "-fvisibility=hidden", "-Wall", "-Wextra", "-Wno-missing-field-initializers",
+    "-Wno-cast-function-type",
+]
 # The library's names stay inside the extension.
 LINKED = ["-Wl,--exclude-libs,ALL", "-Wl,-z,now"]
 MISSING = """libintaglio.a isn't in {}.
@@ -41,12 +44,18 @@ def compile_to(path):
     includes = [f"-I{sysconfig.get_path('include')}", f"-I{HEADERS}"]
     version = f'-DVERSION="{project()["version"]}"'
     flags = [*FLAGS, *shlex.split(os.environ.get("CFLAGS", ""))]
-    subprocess.run([*shlex.split(compiler), *flags, *includes, version, *sorted((HERE / "src").glob("*.c")), archive(), *LINKED, "-o", path], check=True)
+    subprocess.run(
+        [*shlex.split(compiler), *flags, *includes, version, *sorted((HERE / "src").glob("*.c")), archive(), *LINKED, "-o", path],
+        check=True,
+    )
 
 
 def metadata():
     it = project()
-    lines = ["Metadata-Version: 2.1", f"Name: {it['name']}", f"Version: {it['version']}", f"Summary: {it['description']}", f"License: {it['license']['text']}"]
+    lines = [
+        "Metadata-Version: 2.1", f"Name: {it['name']}", f"Version: {it['version']}", f"Summary: {it['description']}",
+        f"License: {it['license']['text']}",
+    ]
     lines += [f"Classifier: {classifier}" for classifier in it["classifiers"]]
     return "\n".join([*lines, f"Requires-Python: {it['requires-python']}", ""])
 
@@ -65,7 +74,11 @@ def build_wheel(wheel_directory, config_settings=None, metadata_directory=None):
     it = project()
     stem = f"{it['name'].replace('-', '_')}-{it['version']}"
     info = f"{stem}.dist-info"
-    files = {f"intaglio/{path.name}": path.read_bytes() for path in sorted((HERE / "intaglio").iterdir()) if path.suffix in (".py", ".pyi", ".typed")}
+    files = {
+        f"intaglio/{path.name}": path.read_bytes()
+        for path in sorted((HERE / "intaglio").iterdir())
+        if path.suffix in (".py", ".pyi", ".typed")
+    }
     with tempfile.TemporaryDirectory() as folder:
         compile_to(Path(folder) / "module.so")
         files[MODULE] = (Path(folder) / "module.so").read_bytes()

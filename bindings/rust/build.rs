@@ -4,8 +4,8 @@ use std::path::Path;
 
 fn main() {
     println!("cargo::rerun-if-env-changed=INTAGLIO_LIB_DIR");
-    let folder = var("INTAGLIO_LIB_DIR")
-        .unwrap_or_else(|_| format!("{}/../out", var("CARGO_MANIFEST_DIR").expect("cargo sets it")));
+    let folder =
+        var("INTAGLIO_LIB_DIR").unwrap_or_else(|_| format!("{}/../out", var("CARGO_MANIFEST_DIR").expect("cargo sets it")));
     println!("cargo::rerun-if-changed={folder}/libintaglio.a");
     // (the documentation is built without the library)
     if !Path::new(&folder).join("libintaglio.a").exists() && var("DOCS_RS").is_err() {

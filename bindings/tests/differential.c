@@ -14,9 +14,9 @@
 
 #define TABLES 12
 #define KINDS ((uint32_t)INTAGLIO_PACKED_BYTES + 1)
-#define MOST 300     /* strings in a table, after which it is cleared */
-#define LONGEST 400  /* bytes of a string */
-#define BATCH 12     /* strings in a batch */
+#define MOST 300    /* strings in a table, after which it is cleared */
+#define LONGEST 400 /* bytes of a string */
+#define BATCH 12    /* strings in a batch */
 
 static uint64_t seed, state;
 static unsigned long long calls;
@@ -65,10 +65,20 @@ static void differs(int line, const char *what) {
     fprintf(stderr, "seed %llu, call %llu, %s: line %d: %s\n", (unsigned long long)seed, calls, call, line, what);
     exit(1);
 }
-#define WANT(CONDITION) do { if (!(CONDITION)) differs(__LINE__, #CONDITION); } while (0)
+#define WANT(CONDITION) \
+    do { \
+        if (!(CONDITION)) differs(__LINE__, #CONDITION); \
+    } while (0)
 
 /* A call of the library: allocations may fail in one of eight. */
-#define IN_LIBRARY(CALL) do { failed = 0; may_fail = one_of(8); in_library = true; CALL; in_library = false; } while (0)
+#define IN_LIBRARY(CALL) \
+    do { \
+        failed = 0; \
+        may_fail = one_of(8); \
+        in_library = true; \
+        CALL; \
+        in_library = false; \
+    } while (0)
 
 static void *block(size_t size) {
     void *made = malloc(size == 0 ? 1 : size);
@@ -77,7 +87,10 @@ static void *block(size_t size) {
 }
 
 /* Bytes in a block of exactly their length, so that a sanitizer sees each access beyond; of no bytes, null in one of two. */
-struct bytes { uint8_t *at; size_t len; };
+struct bytes {
+    uint8_t *at;
+    size_t len;
+};
 static struct bytes copy_of(const uint8_t *at, size_t len) {
     struct bytes made = {NULL, len};
     if (len == 0 && one_of(2)) return made;
@@ -87,7 +100,10 @@ static struct bytes copy_of(const uint8_t *at, size_t len) {
 }
 
 /* ---- the plain list ---- */
-struct entry { struct bytes string, key; const uint8_t *seen; };
+struct entry {
+    struct bytes string, key;
+    const uint8_t *seen;
+};
 struct table {
     intaglio_table handle;
     bool live;
@@ -100,7 +116,7 @@ static struct table tables[TABLES];
 /* The length of the UTF-8 sequence at the start of bytes, or 0 if there is none (RFC 3629, the table of section 4). */
 static size_t sequence(const uint8_t *at, size_t len) {
     uint8_t first = at[0], low = 0x80, high = 0xbf;
-    size_t size = first < 0x80 ? 1 : first < 0xc2 ? 0 : first < 0xe0 ? 2 : first < 0xf0 ? 3 : first < 0xf5 ? 4 : 0;
+    size_t size = first < 0x80 ? 1 : (first < 0xc2 ? 0 : (first < 0xe0 ? 2 : (first < 0xf0 ? 3 : (first < 0xf5 ? 4 : 0))));
     if (first == 0xe0) low = 0xa0;
     if (first == 0xed) high = 0x9f;
     if (first == 0xf0) low = 0x90;
@@ -115,7 +131,7 @@ static size_t sequence(const uint8_t *at, size_t len) {
 static uint32_t fault(uint32_t kind, const uint8_t *at, size_t len) {
     if (kind == INTAGLIO_CSTR) {
         const uint8_t *zero = len == 0 ? NULL : (const uint8_t *)memchr(at, 0, len);
-        return zero == NULL ? INTAGLIO_MISSING_ZERO : zero + 1 < at + len ? INTAGLIO_INNER_ZERO : INTAGLIO_DONE;
+        return zero == NULL ? INTAGLIO_MISSING_ZERO : (zero + 1 < at + len ? INTAGLIO_INNER_ZERO : INTAGLIO_DONE);
     }
     if (kind == INTAGLIO_BYTES || kind == INTAGLIO_BSTR || kind == INTAGLIO_PACKED_BYTES) return INTAGLIO_DONE;
     for (size_t i = 0, size; i < len; i += size)
@@ -261,7 +277,7 @@ static void make(struct table *t) {
     t->limit = is_limit ? size : (size_t)1 << 32;
     t->capacity = is_limit || !t->live ? 0 : size;
     if (kind >= KINDS || is_large) WANT(failed == 0);
-    same_code(t, code, kind >= KINDS ? INTAGLIO_NO_KIND : is_large ? INTAGLIO_TOO_LARGE : INTAGLIO_DONE);
+    same_code(t, code, kind >= KINDS ? INTAGLIO_NO_KIND : (is_large ? INTAGLIO_TOO_LARGE : INTAGLIO_DONE));
     same_sizes(t, true);
 }
 
@@ -340,7 +356,7 @@ static void resize(struct table *t) {
         call = "reserve";
         IN_LIBRARY(code = intaglio_reserve(&t->handle, size));
         if (!t->live || is_large || t->len + size <= t->capacity) WANT(failed == 0);
-        same_code(t, code, !t->live ? INTAGLIO_NO_TABLE : is_large ? INTAGLIO_TOO_LARGE : INTAGLIO_DONE);
+        same_code(t, code, !t->live ? INTAGLIO_NO_TABLE : (is_large ? INTAGLIO_TOO_LARGE : INTAGLIO_DONE));
         bool is_enough = t->len + size <= t->capacity;
         if (code == INTAGLIO_DONE && !is_enough) t->capacity = t->len + size;
         same_sizes(t, is_enough);
@@ -363,13 +379,18 @@ static void take_back(struct table *t) {
     call = "take_back";
     IN_LIBRARY(code = intaglio_take_back(&t->handle, mark));
     WANT(failed == 0);
-    same_code(t, code, !t->live ? INTAGLIO_NO_TABLE : mark > t->len ? INTAGLIO_STALE : INTAGLIO_DONE);
+    same_code(t, code, !t->live ? INTAGLIO_NO_TABLE : (mark > t->len ? INTAGLIO_STALE : INTAGLIO_DONE));
     if (code == INTAGLIO_DONE) cut(t, mark);
     same_sizes(t, true);
 }
 
 /* A random batch, of which one in thirty has ends that are wrong. */
-struct batch { struct bytes bytes; size_t *ends; size_t count; bool is_good; };
+struct batch {
+    struct bytes bytes;
+    size_t *ends;
+    size_t count;
+    bool is_good;
+};
 static struct batch random_batch(uint32_t kind) {
     static uint8_t all[BATCH * (LONGEST + 2)];
     size_t ends[BATCH], len = 0;
@@ -426,7 +447,7 @@ static void check_all(struct table *t) {
     size_t count = places(b.count);
     uint64_t *symbols = count == 0 && one_of(2) ? NULL : (uint64_t *)block(count * sizeof *symbols);
     if (count != 0) memset(symbols, 0xa5, count * sizeof *symbols);
-    uint32_t wanted = !t->live ? INTAGLIO_NO_TABLE : !b.is_good || count != b.count ? INTAGLIO_BAD_ENDS : INTAGLIO_DONE, code;
+    uint32_t wanted = !t->live ? INTAGLIO_NO_TABLE : (!b.is_good || count != b.count ? INTAGLIO_BAD_ENDS : INTAGLIO_DONE), code;
     call = "check_all";
     IN_LIBRARY(code = intaglio_check_all(&t->handle, b.bytes.at, b.bytes.len, b.ends, b.count, symbols, count));
     WANT(failed == 0);
@@ -496,20 +517,38 @@ static void move(struct table *t) {
 }
 
 static void one_call(struct table *t) {
-    if (t->len > MOST - BATCH || one_of(400)) { forget(t); return; }
-    if (one_of(300) || (!t->live && one_of(4))) { make(t); return; }
+    if (t->len > MOST - BATCH || one_of(400)) {
+        forget(t);
+        return;
+    }
+    if (one_of(300) || (!t->live && one_of(4))) {
+        make(t);
+        return;
+    }
     switch (below(16)) {
-        case 0: case 1: case 2: intern(t, false); break;
+        case 0:
+        case 1:
+        case 2: intern(t, false); break;
         case 3: intern(t, true); break;
-        case 4: case 5: check_interned(t); break;
-        case 6: case 7: call = "get"; same_symbol(t, random_symbol(t)); break;
+        case 4:
+        case 5: check_interned(t); break;
+        case 6:
+        case 7:
+            call = "get";
+            same_symbol(t, random_symbol(t));
+            break;
         case 8: copy(t); break;
         case 9: resize(t); break;
         case 10: take_back(t); break;
-        case 11: case 12: intern_all(t); break;
+        case 11:
+        case 12: intern_all(t); break;
         case 13: check_all(t); break;
         case 14: copy_all(t); break;
-        default: move(t); call = "get"; same_table(t); break;
+        default:
+            move(t);
+            call = "get";
+            same_table(t);
+            break;
     }
 }
 

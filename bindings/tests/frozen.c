@@ -11,9 +11,18 @@
 #include <sys/stat.h>
 #include <unistd.h>
 
-enum { LINES = 1 << 16, BYTES = 1 << 22 };
+enum {
+    LINES = 1 << 16,
+    BYTES = 1 << 22
+};
 
-#define WANT(CONDITION) do { if (!(CONDITION)) { fprintf(stderr, "line %d: %s\n", __LINE__, #CONDITION); exit(1); } } while (0)
+#define WANT(CONDITION) \
+    do { \
+        if (!(CONDITION)) { \
+            fprintf(stderr, "line %d: %s\n", __LINE__, #CONDITION); \
+            exit(1); \
+        } \
+    } while (0)
 
 static uint8_t text[BYTES];
 static size_t ends[LINES];
@@ -93,7 +102,7 @@ static void absorb(const uint8_t *bytes, size_t len, uint32_t kind) {
     WANT(intaglio_len(&table) == 1);
     for (int again = 0; again < 2; again++) {
         WANT(intaglio_absorb(&table, bytes, len, map, count) == INTAGLIO_DONE && intaglio_len(&table) == count);
-        for (size_t i = 0; i < count; i++) WANT(map[i] == (i == 0 ? 1 : i == 1 ? 0 : i));
+        for (size_t i = 0; i < count; i++) WANT(map[i] == (i == 0 ? 1 : (i == 1 ? 0 : i)));
         is_map(&table, bytes, len, map);
     }
     WANT(intaglio_with_limit(&table, kind, count - 1, 1, 2) == INTAGLIO_DONE);

@@ -9,7 +9,10 @@
 #include <sys/mman.h>
 #include <unistd.h>
 
-enum { SIZE = 1 << 22, STRINGS = 500 };
+enum {
+    SIZE = 1 << 22,
+    STRINGS = 500
+};
 
 /* While the table is made, memory comes from one block, without reuse. While it is read there is none. */
 static uint8_t *block;
@@ -51,7 +54,13 @@ void __wrap_free(void *old) {
     if (!is_ours(old)) __real_free(old);
 }
 
-#define WANT(CONDITION) do { if (!(CONDITION)) { fprintf(stderr, "line %d, kind %u: %s\n", __LINE__, kind, #CONDITION); exit(1); } } while (0)
+#define WANT(CONDITION) \
+    do { \
+        if (!(CONDITION)) { \
+            fprintf(stderr, "line %d, kind %u: %s\n", __LINE__, kind, #CONDITION); \
+            exit(1); \
+        } \
+    } while (0)
 
 /* String i of a kind, with the zero that a C string ends with. */
 static size_t spell(uint32_t kind, uint32_t i, uint8_t *into) {
@@ -60,12 +69,16 @@ static size_t spell(uint32_t kind, uint32_t i, uint8_t *into) {
 }
 
 /* A call that only reads, on `table`, and what it must return. */
-#define READS(CONDITION) do { \
-    is_reading = true; \
-    bool holds = (CONDITION); \
-    is_reading = false; \
-    if (!holds) { fprintf(stderr, "line %d, kind %u: %s\n", __LINE__, kind, #CONDITION); exit(1); } \
-} while (0)
+#define READS(CONDITION) \
+    do { \
+        is_reading = true; \
+        bool holds = (CONDITION); \
+        is_reading = false; \
+        if (!holds) { \
+            fprintf(stderr, "line %d, kind %u: %s\n", __LINE__, kind, #CONDITION); \
+            exit(1); \
+        } \
+    } while (0)
 
 /* Trusted bytes are opened by their header alone: here no byte behind it can be read. */
 static void open_by_header(const uint8_t *frozen, size_t len, bool is_text, uint32_t kind) {

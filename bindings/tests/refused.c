@@ -25,7 +25,10 @@ static void fail(int line, long nth, const char *what) {
     fprintf(stderr, "line %d, request %ld: %s\n", line, nth, what);
     exit(1);
 }
-#define WANT(CONDITION) do { if (!(CONDITION)) fail(__LINE__, nth, #CONDITION); } while (0)
+#define WANT(CONDITION) \
+    do { \
+        if (!(CONDITION)) fail(__LINE__, nth, #CONDITION); \
+    } while (0)
 
 /* The strings of a table: each is its symbol in decimals. */
 static size_t spell(char *into, uint32_t symbol) { return (size_t)sprintf(into, "%u", symbol); }

@@ -1,4 +1,5 @@
-"""Columns of numpy and pandas from Python, beside plain lists. What isn't there is left out, and named at the end of the output."""
+"""Columns of numpy and pandas from Python, beside plain lists. What isn't there is left out, and named at the end of the
+output."""
 import os
 import pickle
 import random
@@ -6,7 +7,6 @@ import subprocess
 import sys
 import tempfile
 import unittest
-from array import array
 from pathlib import Path
 
 from intaglio import MISSING, BytesTable, Frozen, Missing, PathTable, SymbolTable, merge, renumber
@@ -41,21 +41,30 @@ def pandas_na():
 class Arrays(unittest.TestCase):
     def test_arrays_of_objects_and_of_strings(self):
         column = ["é", "to", "", "to", "a" * 300, "é"]
-        for given in (numpy.array(column), numpy.array(column, object), numpy.array(column, object)[:], numpy.array(column * 2, object)[:6], numpy.array(column).reshape(6)):
+        for given in (
+            numpy.array(column), numpy.array(column, object), numpy.array(column, object)[:], numpy.array(column * 2, object)[:6],
+            numpy.array(column).reshape(6),
+        ):
             symbols, out = {}, numpy.full(8, 9, numpy.uint32)
             wanted = codes_of(column, symbols)
             table = SymbolTable()
-            self.assertEqual((list(table.encode(given)), list(table), [type(it) for it in table]), (wanted, [*symbols], [str] * len(symbols)))
+            self.assertEqual(
+                (list(table.encode(given)), list(table), [type(it) for it in table]), (wanted, [*symbols], [str] * len(symbols))
+            )
             for call in (table.intern_into, table.encode_into, table.check_into, frozen_of([*symbols]).encode_into):
                 out[:] = 9
                 self.assertEqual((call(given, out), out.tolist()), (6, wanted + [9, 9]))
-            self.assertEqual((table.intern_all(given), table.check_all(given), frozen_of([*symbols]).find_all(given)), (wanted, wanted, wanted))
+            self.assertEqual(
+                (table.intern_all(given), table.check_all(given), frozen_of([*symbols]).find_all(given)), (wanted, wanted, wanted)
+            )
             self.assertEqual(list(SymbolTable(given)), [*symbols])
         self.assertEqual(list(SymbolTable(numpy.array(column * 2, object)[::2])), ["é", "", "a" * 300])
         self.assertEqual(list(SymbolTable(numpy.array(column)[::-1])), ["é", "a" * 300, "to", ""])
         data = [b"\xff", b"a", b"\xff", b"a\0b"]
         for given in (numpy.array(data), numpy.array(data, object)):
-            self.assertEqual((list(BytesTable(given)), list(frozen_of(data[::-1]).encode(given))), ([b"\xff", b"a", b"a\0b"], [1, 2, 1, 0]))
+            self.assertEqual(
+                (list(BytesTable(given)), list(frozen_of(data[::-1]).encode(given))), ([b"\xff", b"a", b"a\0b"], [1, 2, 1, 0])
+            )
         self.assertEqual((list(SymbolTable(numpy.array([], object))), list(SymbolTable(numpy.array([], str)))), ([], []))
         self.assertEqual(list(PathTable(numpy.array(["a//b", Path("a/b"), "c"], object))), ["a//b", "c"])
 
@@ -76,7 +85,10 @@ class Arrays(unittest.TestCase):
         self.assertEqual(list(SymbolTable().encode(numpy.empty(3, object), missing=4)), [4, 4, 4])
 
     def test_arrays_that_are_no_column_of_strings(self):
-        flat, deep = (numpy.array("abc"), numpy.array("abc", object)), (numpy.array([["a", "b"]]), numpy.array([["a"], ["b"]], object))
+        flat, deep = (numpy.array("abc"), numpy.array("abc", object)), (
+            numpy.array([["a", "b"]]),
+            numpy.array([["a"], ["b"]], object),
+        )
         for given in (*flat, *deep, numpy.zeros(3), numpy.array([1, 2], object), numpy.array(["a"], "S1")):
             table, words = SymbolTable(), frozen_of(["a"])
             for call in (table.encode, table.intern_all, table.check_all, words.encode, words.find_all, SymbolTable):
@@ -127,18 +139,27 @@ class Columns(unittest.TestCase):
         column = ["b", None, "a", "b", NAN, "é"]
         for nothing in (column, ["b", pandas.NA, "a", "b", None, "é"]):
             series = pandas.Series(nothing, dtype=object)
-            others = pandas.Categorical(series), pandas.Index(series), pandas.Series(nothing, index=[5, 3, 2, 4, 1, 0]), series.array
+            others = (
+                pandas.Categorical(series), pandas.Index(series), pandas.Series(nothing, index=[5, 3, 2, 4, 1, 0]), series.array,
+            )
             for given in (series, series.astype("string"), series.astype("category"), *others):
                 table, out = SymbolTable(), numpy.zeros(6, "i4")
-                self.assertEqual((list(table.encode(given, missing=MISSING)), list(table)), ([0, MISSING, 1, 0, MISSING, 2], ["b", "a", "é"]))
+                self.assertEqual(
+                    (list(table.encode(given, missing=MISSING)), list(table)), ([0, MISSING, 1, 0, MISSING, 2], ["b", "a", "é"])
+                )
                 self.assertEqual((table.intern_into(given, out, missing=MISSING), out.tolist()), (6, [0, -1, 1, 0, -1, 2]))
                 self.assertEqual(list(frozen_of(["a", "b"]).encode(given, missing=MISSING)), [1, MISSING, 0, 1, MISSING, MISSING])
                 for call in (SymbolTable().encode, frozen_of(["b"]).encode):
                     with self.assertRaisesRegex(TypeError, "at position 1: missing= gives None, NaN and NA a code$"):
                         call(given)
         whole = pandas.Series(["b", "a", "b"])
-        for given in (whole, whole.astype("string"), whole.astype("category"), pandas.DataFrame({"x": whole, "y": ["c", "d", "e"]})["x"]):
-            self.assertEqual((list(SymbolTable(given)), SymbolTable().intern_all(given), frozen_of(["a", "b"]).find_all(given)), (["b", "a"], [0, 1, 0], [1, 0, 1]))
+        for given in (
+            whole, whole.astype("string"), whole.astype("category"), pandas.DataFrame({"x": whole, "y": ["c", "d", "e"]})["x"],
+        ):
+            self.assertEqual(
+                (list(SymbolTable(given)), SymbolTable().intern_all(given), frozen_of(["a", "b"]).find_all(given)),
+                (["b", "a"], [0, 1, 0], [1, 0, 1]),
+            )
         with self.assertRaises(Missing) as raised:
             frozen_of(["b"]).encode(whole)
         self.assertEqual((raised.exception.string, raised.exception.position), ("a", 1))
@@ -174,11 +195,21 @@ class Columns(unittest.TestCase):
             column = pandas.Series(pandas.Categorical.from_codes(codes, categories=list(words)))
             sys.stdout.buffer.write(pickle.dumps(column.astype(object).where(column.notna(), None).tolist()))"""
         for name, column in (("left", left), ("right", right)):
-            back = subprocess.run([sys.executable, "-c", program, self.folder / name], capture_output=True, check=True, env=os.environ)
+            back = subprocess.run(
+                [sys.executable, "-c", program, self.folder / name], capture_output=True, check=True, env=os.environ
+            )
             self.assertEqual(pickle.loads(back.stdout), column)
         words, maps = merge([self.folder / "left.dict", self.folder / "right.dict"])
-        columns = [renumber(numpy.fromfile(self.folder / f"{name}.codes", "<i4"), numbers) for name, numbers in zip(("left", "right"), maps)]
-        frames = [pandas.DataFrame({"path": pandas.Categorical.from_codes(numpy.frombuffer(codes, "i4"), categories=list(words))}).dropna() for codes in columns]
+        columns = [
+            renumber(numpy.fromfile(self.folder / f"{name}.codes", "<i4"), numbers)
+            for name, numbers in zip(("left", "right"), maps)
+        ]
+        frames = [
+            pandas.DataFrame(
+                {"path": pandas.Categorical.from_codes(numpy.frombuffer(codes, "i4"), categories=list(words))}
+            ).dropna()
+            for codes in columns
+        ]
         joined = frames[0].drop_duplicates().merge(frames[1].drop_duplicates(), on="path")
         self.assertEqual(sorted(joined["path"]), sorted({*left} & {*right} - {None}))
 

@@ -1,4 +1,5 @@
-"""Columns from Python: strings to codes and back, merged dictionaries, beside plain lists and dicts. With numpy, if it is there."""
+"""Columns from Python: strings to codes and back, merged dictionaries, beside plain lists and dicts. With numpy, if it is
+there."""
 import os
 import pickle
 import random
@@ -37,7 +38,13 @@ class Encoding(unittest.TestCase):
         for strings in (WORDS, [it.encode() for it in WORDS] + [b"\xff"], [], ["x"], [str(it) for it in range(10_000)]):
             words, column = frozen_of(strings), [*strings, *reversed(strings), *strings[:1]]
             codes = words.encode(column)
-            self.assertEqual((codes.typecode, list(codes)), ("I", [strings.index(it) for it in column] if len(strings) < 100 else [*range(10_000), *reversed(range(10_000)), 0]))
+            self.assertEqual(
+                (codes.typecode, list(codes)),
+                (
+                    "I",
+                    [strings.index(it) for it in column] if len(strings) < 100 else [*range(10_000), *reversed(range(10_000)), 0],
+                ),
+            )
             self.assertEqual(words.decode(codes), column)
             self.assertEqual(words.encode(iter(column)), codes)
             self.assertEqual(words.encode(tuple(column)), codes)
@@ -78,7 +85,9 @@ class Encoding(unittest.TestCase):
 
     def test_other_objects_are_no_strings(self):
         texts, data = frozen_of(WORDS), frozen_of([b"a", b"\xff"])
-        for words, other, advice in ((texts, b"to", "kind=bytes"), (texts, None, ""), (texts, 7, ""), (data, "a", "kind=str"), (data, None, "")):
+        for words, other, advice in (
+            (texts, b"to", "kind=bytes"), (texts, None, ""), (texts, 7, ""), (data, "a", "kind=str"), (data, None, ""),
+        ):
             for call in (words.encode, words.find_all):
                 with self.assertRaisesRegex(TypeError, f"at position 1.*{advice}"):
                     call([words[0], other])
@@ -104,7 +113,9 @@ class Encoding(unittest.TestCase):
             words.encode_into(["to", "no"], out)
         with self.assertRaises(intaglio.NoSpace):
             words.encode_into(["to"] * 5, out)
-        for other in (array("H", [0] * 9), array("q", [0] * 9), array("Q", [0] * 9), array("f", [0] * 9), bytearray(99), [0] * 9, None):
+        for other in (
+            array("H", [0] * 9), array("q", [0] * 9), array("Q", [0] * 9), array("f", [0] * 9), bytearray(99), [0] * 9, None,
+        ):
             with self.assertRaisesRegex(TypeError, "^codes are .*4 bytes.*uint32"):
                 words.encode_into(["to"], other)
         signed = array("i", [9] * 4)
@@ -139,7 +150,10 @@ class Encoding(unittest.TestCase):
             self.assertEqual(list(renumber(array("I", [3, 0]), given)), [1, 1])
         self.assertEqual(words.decode(memoryview(codes)[::-2]), ["be", "to"])
         signed = array("i", [1, -1, 3])
-        self.assertEqual((words.decode(signed, missing="?"), list(renumber(signed, array("i", [7, 8, 9, -1])))), (["be", "?", "é"], [8, MISSING, MISSING]))
+        self.assertEqual(
+            (words.decode(signed, missing="?"), list(renumber(signed, array("i", [7, 8, 9, -1])))),
+            (["be", "?", "é"], [8, MISSING, MISSING]),
+        )
         for other in (data, bytearray(data), array("H", [1]), array("q", [1]), array("Q", [1]), array("f", [1]), [1], 1, None):
             for call in (words.decode, lambda it: renumber(it, codes), lambda it: renumber(codes, it)):
                 with self.assertRaisesRegex(TypeError, "^codes are .*4 bytes.*uint32"):
@@ -173,18 +187,30 @@ class Encoding(unittest.TestCase):
             with self.assertRaises(error):
                 renumber(given, numbers, out=out)
         odd = memoryview(bytearray(21))[1:].cast("I")
-        for other, error in ((array("Q", [0] * 9), TypeError), ([0] * 9, TypeError), (memoryview(out).toreadonly(), BufferError), (odd, TypeError)):
+        for other, error in (
+            (array("Q", [0] * 9), TypeError), ([0] * 9, TypeError), (memoryview(out).toreadonly(), BufferError), (odd, TypeError),
+        ):
             with self.assertRaises(error):
                 renumber(codes, numbers, out=other)
         self.assertEqual(list(out), [9] * 4)
 
     def test_lines_of_a_buffer_are_encoded(self):
         chance = random.Random(6)
-        strings = [*dict.fromkeys(["", "a", "é", "x" * 9_000, "y" * 1_100_000, *(str(chance.randrange(10**9)) for _ in range(2_000))])]
+        strings = [
+            *dict.fromkeys(["", "a", "é", "x" * 9_000, "y" * 1_100_000, *(str(chance.randrange(10**9)) for _ in range(2_000))])
+        ]
         words, data = frozen_of(strings), frozen_of([it.encode() for it in strings])
         long = strings[:5]
-        for column in ([], [""], ["a"], ["", ""], long, [chance.choice(strings[:4] + strings[5:]) for _ in range(100_000)], [*long, *long, *strings]):
-            wanted = array("I", [strings.index(it) for it in column] if len(column) < 5_000 else map({it: i for i, it in enumerate(strings)}.get, column))
+        for column in (
+            [], [""], ["a"], ["", ""], long, [chance.choice(strings[:4] + strings[5:]) for _ in range(100_000)],
+            [*long, *long, *strings],
+        ):
+            wanted = array(
+                "I",
+                [strings.index(it) for it in column]
+                if len(column) < 5_000
+                else map({it: i for i, it in enumerate(strings)}.get, column),
+            )
             text = "\n".join(column).encode() + b"\n" * bool(column)
             for given in (text, bytearray(text), memoryview(text)):
                 self.assertEqual((words.encode_lines(given), data.encode_lines(given)), (wanted, wanted))
@@ -232,7 +258,10 @@ class Encoding(unittest.TestCase):
         words = frozen_of(WORDS)
         words.close()
         words.close()
-        for call in (lambda: words.encode(["to"]), lambda: words.decode(array("I", [0])), lambda: words[0], lambda: list(words), lambda: words[:2], lambda: "to" in words):
+        for call in (
+            lambda: words.encode(["to"]), lambda: words.decode(array("I", [0])), lambda: words[0], lambda: list(words),
+            lambda: words[:2], lambda: "to" in words,
+        ):
             with self.assertRaisesRegex(ValueError, "^the Frozen was closed$"):
                 call()
         for call in (words.to_bytes, lambda: SymbolTable().absorb(words), lambda: pickle.dumps(words)):
@@ -258,7 +287,10 @@ class Encoding(unittest.TestCase):
             for _ in range(chance.randrange(3)):
                 data[chance.randrange(len(data))] = chance.randrange(256)
             codes = array("I", bytes(data))
-            for call, other in ((words.decode, lambda: columns.decoded(list(words), list(codes))), (lambda it: list(renumber(it, numbers)), lambda: columns.renumbered(list(numbers), list(codes)))):
+            for call, other in (
+                (words.decode, lambda: columns.decoded(list(words), list(codes))),
+                (lambda it: list(renumber(it, numbers)), lambda: columns.renumbered(list(numbers), list(codes))),
+            ):
                 try:
                     wanted = other()
                 except columns.Damaged as fault:
@@ -279,13 +311,17 @@ class Merging(unittest.TestCase):
         table = SymbolTable(WORDS)
         table.freeze(self.folder / "words", keys=(1, 2))
         data = (self.folder / "words").read_bytes()
-        self.assertEqual((table.freeze(keys=(1, 2)), table.freeze(None, keys=(1, 2)), table.freeze()[:8]), (data, data, b"INTAGLIO"))
+        self.assertEqual(
+            (table.freeze(keys=(1, 2)), table.freeze(None, keys=(1, 2)), table.freeze()[:8]), (data, data, b"INTAGLIO")
+        )
         for given in (data, bytearray(data), memoryview(data), array("B", data)):
             with Frozen.from_bytes(given) as words:
                 self.assertEqual((list(words), words.to_bytes(), words.is_text), (WORDS, data, True))
         with Frozen(self.folder / "words") as words:
             self.assertEqual(words.to_bytes(), data)
-        for wrong, error in ((b"", intaglio.NotFrozen), (data[:-1], intaglio.TextEnds), (data[:30], intaglio.Truncated), ("text", TypeError)):
+        for wrong, error in (
+            (b"", intaglio.NotFrozen), (data[:-1], intaglio.TextEnds), (data[:30], intaglio.Truncated), ("text", TypeError),
+        ):
             with self.assertRaises(error):
                 Frozen.from_bytes(wrong)
 
@@ -304,7 +340,8 @@ class Merging(unittest.TestCase):
             (SymbolTable(["a"], limit=2), frozen_of(["b", "a", "c"]), intaglio.Full, "^at position 2: The string is new"),
             (SymbolTable(["a"]), frozen_of([b"b", b"\xff"]), intaglio.NotUtf8, "^at position 1: The string isn't valid UTF-8.$"),
             (intaglio.CStringTable([b"a"]), frozen_of([b"b\0", b"c"]), intaglio.MissingZero, "^at position 1: "),
-            (SymbolTable(["a"]), frozen_of([]).to_bytes(), TypeError, "^a Frozen, not bytes$"), (SymbolTable(["a"]), None, TypeError, "^a Frozen, not NoneType$"),
+            (SymbolTable(["a"]), frozen_of([]).to_bytes(), TypeError, "^a Frozen, not bytes$"),
+            (SymbolTable(["a"]), None, TypeError, "^a Frozen, not NoneType$"),
         ):
             before = list(table)
             with self.assertRaisesRegex(error, message):
@@ -317,7 +354,10 @@ class Merging(unittest.TestCase):
     def test_tables_are_merged(self):
         one, two = frozen_of(["to", "be"]), self.folder / "two"
         SymbolTable(["or", "to"]).freeze(two)
-        for given, strings, wanted in (([one, two], ["to", "be", "or"], [[0, 1], [2, 0]]), ([two], ["or", "to"], [[0, 1]]), ([two, str(two)], ["or", "to"], [[0, 1]] * 2), ([], [], [])):
+        for given, strings, wanted in (
+            ([one, two], ["to", "be", "or"], [[0, 1], [2, 0]]), ([two], ["or", "to"], [[0, 1]]),
+            ([two, str(two)], ["or", "to"], [[0, 1]] * 2), ([], [], []),
+        ):
             words, maps = merge(iter(given))
             self.assertEqual((list(words), [list(it) for it in maps], words.is_text), (strings, wanted, True))
             out = self.folder / "out"
@@ -329,13 +369,19 @@ class Merging(unittest.TestCase):
 
     def test_texts_and_bytes_are_merged_to_bytes(self):
         words, maps = merge([frozen_of(["é", "a"]), frozen_of([b"\xff", "é".encode()])])
-        self.assertEqual((list(words), [list(it) for it in maps], words.is_text), (["é".encode(), b"a", b"\xff"], [[0, 1], [2, 0]], False))
+        self.assertEqual(
+            (list(words), [list(it) for it in maps], words.is_text), (["é".encode(), b"a", b"\xff"], [[0, 1], [2, 0]], False)
+        )
 
     def test_what_is_not_merged_leaves_the_file(self):
         one, out = self.folder / "one", self.folder / "out"
         one.write_bytes(b"INTAGLIO")
         out.write_bytes(b"as it was")
-        for given, error in (([frozen_of(["a"]), one], intaglio.Truncated), ([frozen_of(["a"]), self.folder / "no"], FileNotFoundError), ([7.5], TypeError)):
+        for given, error in (
+            ([frozen_of(["a"]), one], intaglio.Truncated),
+            ([frozen_of(["a"]), self.folder / "no"], FileNotFoundError),
+            ([7.5], TypeError),
+        ):
             with self.assertRaises(error):
                 merge(given, out)
         self.assertEqual((out.read_bytes(), sorted(it.name for it in self.folder.iterdir())), (b"as it was", ["one", "out"]))
@@ -346,11 +392,13 @@ class Merging(unittest.TestCase):
         data = path.read_bytes()
         for given, message in (
             ((one,), "a list of tables, not a single Frozen"), ((one, one), "a list of tables, not a single Frozen"),
-            ((SymbolTable(["a"]),), "a list of tables, not a single SymbolTable"), ((str(path),), "a list of tables, not a single str"),
-            ((path,), "a list of tables, not a single PosixPath"), ((data,), "a list of tables, not a single bytes"),
-            ((str(path), str(path)), "a list of tables, not a single str"), (([one], one), "out is the path of a new file, not a Frozen"),
-            (([one], SymbolTable()), "out is the path of a new file, not a SymbolTable"), (([one, data],), "at position 1: .*from_bytes"),
-            (([one, bytearray(data)],), "at position 1: .*from_bytes"), (([SymbolTable()],), "at position 0: .*not SymbolTable"), (([7.5],), "at position 0: "),
+            ((SymbolTable(["a"]),), "a list of tables, not a single SymbolTable"),
+            ((str(path),), "a list of tables, not a single str"), ((path,), "a list of tables, not a single PosixPath"),
+            ((data,), "a list of tables, not a single bytes"), ((str(path), str(path)), "a list of tables, not a single str"),
+            (([one], one), "out is the path of a new file, not a Frozen"),
+            (([one], SymbolTable()), "out is the path of a new file, not a SymbolTable"),
+            (([one, data],), "at position 1: .*from_bytes"), (([one, bytearray(data)],), "at position 1: .*from_bytes"),
+            (([SymbolTable()],), "at position 0: .*not SymbolTable"), (([7.5],), "at position 0: "),
         ):
             with self.assertRaisesRegex(TypeError, message):
                 merge(*given)
@@ -361,7 +409,10 @@ class Merging(unittest.TestCase):
         for call in (lambda: merge([one, path]), lambda: merge([one, str(path)])):
             with self.assertRaises(intaglio.NotFrozen) as raised:
                 call()
-            self.assertEqual((os.fsdecode(raised.exception.filename), str(raised.exception)), (str(path), f"{path}: The bytes don't begin as a frozen table does."))
+            self.assertEqual(
+                (os.fsdecode(raised.exception.filename), str(raised.exception)),
+                (str(path), f"{path}: The bytes don't begin as a frozen table does."),
+            )
         self.assertEqual([it.name for it in self.folder.iterdir()], ["one"])
 
     def test_bytes_that_are_read_as_texts_are_merged_to_texts(self):
@@ -389,7 +440,9 @@ class Merging(unittest.TestCase):
                 codes = [words.encode(lines) for words, lines in zip(frozen, parts)]
                 for lines, each in zip(parts, codes):
                     table = (SymbolTable if are_texts else BytesTable)()
-                    self.assertEqual((table.encode(lines), list(table), table.decode(each)), (each, [*dict.fromkeys(lines)], lines))
+                    self.assertEqual(
+                        (table.encode(lines), list(table), table.decode(each)), (each, [*dict.fromkeys(lines)], lines)
+                    )
                 whole, maps = merge(frozen)
                 symbols = {}
                 wanted = [array("I", [symbols.setdefault(it, len(symbols)) for it in words]) for words in frozen]

@@ -50,8 +50,14 @@ class OfFrozen(unittest.TestCase):
                 self.assertEqual((table[0], table[-1], table[1:3]), (strings[0], strings[-1], strings[1:3]))
                 for part in (slice(None), slice(None, None, -2), slice(-2, None), slice(3, 1), slice(0, 99), slice(5, 500, 7)):
                     self.assertEqual(table[part], strings[part])
-                self.assertEqual((list(reversed(table)), table.get_all(iter([0, len(strings) - 1])), table.get_all([])), (strings[::-1], [strings[0], strings[-1]], []))
-                self.assertEqual((next(iter(table)), repr(table)), (strings[0], f"<Frozen of {len(strings)} {'str' if table.is_text else 'bytes'}>"))
+                self.assertEqual(
+                    (list(reversed(table)), table.get_all(iter([0, len(strings) - 1])), table.get_all([])),
+                    (strings[::-1], [strings[0], strings[-1]], []),
+                )
+                self.assertEqual(
+                    (next(iter(table)), repr(table)),
+                    (strings[0], f"<Frozen of {len(strings)} {'str' if table.is_text else 'bytes'}>"),
+                )
                 self.assertTrue(all(table.index(it) == i and table.count(it) == 1 for i, it in enumerate(strings)))
 
     def test_others_are_not_found(self):
@@ -64,7 +70,9 @@ class OfFrozen(unittest.TestCase):
                 with self.assertRaisesRegex(IndexError, f"^no such symbol: {symbol}, and the table has 4 strings$"):
                     table[symbol]
             for symbol in (4, -1, 2**64):
-                with self.assertRaisesRegex(intaglio.NoSymbol, f"^at position 1: no such symbol: {symbol}, and the table has 4 strings$"):
+                with self.assertRaisesRegex(
+                    intaglio.NoSymbol, f"^at position 1: no such symbol: {symbol}, and the table has 4 strings$"
+                ):
                     table.get_all([0, symbol, "x"])
             for symbols in (["0"], 7, [None]):
                 with self.assertRaises(TypeError):
@@ -160,7 +168,8 @@ class OfFrozen(unittest.TestCase):
             (intaglio.SymbolTable, data, 0, intaglio.NoKind), (intaglio.BytesTable, texts, 0, intaglio.NoKind),
             (intaglio.SymbolTable, texts, 3, intaglio.Full), (intaglio.SymbolTable, texts, -1, intaglio.TooLarge),
             (intaglio.PathTable, paths, 0, intaglio.Equal), (intaglio.CStringTable, data, 0, intaglio.MissingZero),
-            (intaglio.Table, texts, 0, TypeError), (int, texts, 0, TypeError), (type("Other", (intaglio.SymbolTable,), {"__new__": lambda cls: 7}), texts, 0, TypeError),
+            (intaglio.Table, texts, 0, TypeError), (int, texts, 0, TypeError),
+            (type("Other", (intaglio.SymbolTable,), {"__new__": lambda cls: 7}), texts, 0, TypeError),
         ):
             with self.assertRaises(error):
                 thaw(kind, frozen, limit)
@@ -173,9 +182,19 @@ class OfFrozen(unittest.TestCase):
         data = [it.encode() for it in TEXTS]
         for strings, wanted in ((data, TEXTS), (TEXTS, TEXTS), (TEXTS, data), (BYTES, BYTES)):
             kind = str if wanted is TEXTS else bytes
-            for table in (Frozen(self.write(strings), kind=kind), Frozen(self.path, kind=kind, trusted=True), Frozen.from_bytes(self.path.read_bytes(), kind=kind)):
-                self.assertEqual((list(table), table.find_all(wanted), wanted[1] in table, table.is_text), (wanted, list(range(len(wanted))), True, kind is str))
-                self.assertEqual((table[1], table[::-1], table.get(2), table.decode(table.encode(wanted)), table.index(wanted[1])), (wanted[1], wanted[::-1], wanted[2], wanted, 1))
+            for table in (
+                Frozen(self.write(strings), kind=kind),
+                Frozen(self.path, kind=kind, trusted=True),
+                Frozen.from_bytes(self.path.read_bytes(), kind=kind),
+            ):
+                self.assertEqual(
+                    (list(table), table.find_all(wanted), wanted[1] in table, table.is_text),
+                    (wanted, list(range(len(wanted))), True, kind is str),
+                )
+                self.assertEqual(
+                    (table[1], table[::-1], table.get(2), table.decode(table.encode(wanted)), table.index(wanted[1])),
+                    (wanted[1], wanted[::-1], wanted[2], wanted, 1),
+                )
                 again = pickle.loads(pickle.dumps(table))
                 self.assertEqual((list(again), again.is_text), (wanted, kind is str))
                 other = wanted[0].encode() if kind is str else wanted[0].decode()
@@ -197,10 +216,20 @@ class OfFrozen(unittest.TestCase):
         for strings in (TEXTS, BYTES, [], [str(number) for number in range(5_000)]):
             path = self.write(strings)
             data = path.read_bytes()
-            for table in (Frozen(path), Frozen(path, trusted=True), Frozen(str(path)), Frozen.from_bytes(data), Frozen.from_bytes(bytearray(data), trusted=True)):
-                for copied in (copy.copy, copy.deepcopy, *(lambda it, protocol=protocol: pickle.loads(pickle.dumps(it, protocol)) for protocol in range(6))):
+            for table in (
+                Frozen(path), Frozen(path, trusted=True), Frozen(str(path)), Frozen.from_bytes(data),
+                Frozen.from_bytes(bytearray(data), trusted=True),
+            ):
+                for copied in (
+                    copy.copy,
+                    copy.deepcopy,
+                    *(lambda it, protocol=protocol: pickle.loads(pickle.dumps(it, protocol)) for protocol in range(6)),
+                ):
                     other = copied(table)
-                    self.assertEqual((type(other), list(other), other.is_text, other.find_all(strings)), (Frozen, strings, table.is_text, list(range(len(strings)))))
+                    self.assertEqual(
+                        (type(other), list(other), other.is_text, other.find_all(strings)),
+                        (Frozen, strings, table.is_text, list(range(len(strings)))),
+                    )
                     self.assertEqual(other._trusted, table._trusted)
                     other.close()
                     self.assertEqual(list(table), strings)
@@ -278,8 +307,10 @@ class OfFrozen(unittest.TestCase):
     def test_the_header_of_a_trusted_file_is_checked(self):
         whole = self.write(TEXTS).read_bytes()
         for damaged, error in (
-            (b"", intaglio.NotFrozen), (b"garbage" * 40, intaglio.NotFrozen), (whole[:40], intaglio.Truncated), (whole[:70], intaglio.Truncated),
-            (whole[:8] + b"\x02" + whole[9:], intaglio.OtherVersion), (whole[:12] + b"\x02" + whole[13:], intaglio.NoKind), (whole[:63] + b"\x01" + whole[64:], intaglio.Reserved), (whole[:39] + b"\x01" + whole[40:], intaglio.TooMany),
+            (b"", intaglio.NotFrozen), (b"garbage" * 40, intaglio.NotFrozen), (whole[:40], intaglio.Truncated),
+            (whole[:70], intaglio.Truncated), (whole[:8] + b"\x02" + whole[9:], intaglio.OtherVersion),
+            (whole[:12] + b"\x02" + whole[13:], intaglio.NoKind), (whole[:63] + b"\x01" + whole[64:], intaglio.Reserved),
+            (whole[:39] + b"\x01" + whole[40:], intaglio.TooMany),
         ):
             self.path.write_bytes(damaged)
             with self.assertRaises(error) as raised:
@@ -316,7 +347,9 @@ class OfFrozen(unittest.TestCase):
         self.path.write_bytes(whole[:-1] + b"\xff")
         with Frozen(self.path, trusted=True) as table:
             self.assertEqual((table[0], table.get(1), "é" in table), ("a", "bc", False))
-            for call in (lambda: table[3], lambda: table.get(3), lambda: list(table), lambda: table[2:], lambda: dict(table.items())):
+            for call in (
+                lambda: table[3], lambda: table.get(3), lambda: list(table), lambda: table[2:], lambda: dict(table.items()),
+            ):
                 with self.assertRaises(UnicodeDecodeError):
                     call()
         # The end of the first string lies behind that of the second.

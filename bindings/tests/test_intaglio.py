@@ -109,7 +109,11 @@ class EachKind:
     def test_a_copy_has_the_strings_at_their_symbols_and_is_another_table(self):
         kind, of = self.kind, self.of
         strings = [of(text) for text in ("b", "a", "é", "", "longer than the rest")]
-        for copied in (copy.copy, copy.deepcopy, *(lambda table, protocol=protocol: pickle.loads(pickle.dumps(table, protocol)) for protocol in range(6))):
+        for copied in (
+            copy.copy,
+            copy.deepcopy,
+            *(lambda table, protocol=protocol: pickle.loads(pickle.dumps(table, protocol)) for protocol in range(6)),
+        ):
             table = kind(strings)
             other = copied(table)
             self.assertIs(type(other), kind)
@@ -168,7 +172,9 @@ class EachKind:
         self.assertEqual((table[-1], table[-5], table[True]), (of("e"), of("a"), of("b")))
         for part in (slice(1, 3), slice(None, None, -2), slice(-2, None), slice(3, 1), slice(0, 99)):
             self.assertEqual(table[part], strings[part])
-        self.assertEqual((list(reversed(table)), table.index(of("c")), table.count(of("c")), table.count(of("x"))), (strings[::-1], 2, 1, 0))
+        self.assertEqual(
+            (list(reversed(table)), table.index(of("c")), table.count(of("c")), table.count(of("x"))), (strings[::-1], 2, 1, 0)
+        )
         for arguments in ((of("x"),), (of("c"), 3), (of("c"), 0, 2)):
             with self.assertRaises(ValueError):
                 table.index(*arguments)
@@ -190,11 +196,16 @@ class EachKind:
         self.assertEqual((table.check_into(map(of, "xb"), found), found.tolist()), (2, [intaglio.MISSING, 1, 9]))
         self.assertEqual((table.check_into(map(of, "xb"), signed), signed.tolist()), (2, [-1, 1, 9]))
         self.assertEqual((table.check_into([of("x"), None, of("a")], signed, missing=7), signed.tolist()), (3, [7, 7, 0]))
-        self.assertEqual((table.encode_into([of("b"), None, float("nan")], signed, missing=intaglio.MISSING), signed.tolist()), (3, [1, -1, -1]))
+        self.assertEqual(
+            (table.encode_into([of("b"), None, float("nan")], signed, missing=intaglio.MISSING), signed.tolist()),
+            (3, [1, -1, -1]),
+        )
         for call, out in ((table.intern_into, symbols), (table.encode_into, symbols), (table.check_into, found)):
             with self.assertRaises(intaglio.NoSpace):
                 call(map(of, "vwxyz"), out)
-            for other in (array("H", [0] * 9), array("f", [0] * 9), bytearray(99), array("q", [0] * 9), array("Q", [0] * 9), [0] * 9):
+            for other in (
+                array("H", [0] * 9), array("f", [0] * 9), bytearray(99), array("q", [0] * 9), array("Q", [0] * 9), [0] * 9,
+            ):
                 with self.assertRaisesRegex(TypeError, "^codes are .*4 bytes.*uint32"):
                     call([of("new")], other)
             with self.assertRaises(BufferError):
@@ -217,7 +228,9 @@ class EachKind:
         for codes, code, position in ((array("I", [0, 3]), 3, 1), (array("i", [-1]), intaglio.MISSING, 0)):
             with self.assertRaises(intaglio.NoSymbol) as raised:
                 table.decode(codes)
-            self.assertEqual((raised.exception.position, str(raised.exception)), (position, f"code {code} at position {position} is no symbol"))
+            self.assertEqual(
+                (raised.exception.position, str(raised.exception)), (position, f"code {code} at position {position} is no symbol")
+            )
         for column in ([of("new"), None], [of("new"), 7], 7):
             with self.assertRaises(TypeError):
                 table.encode(column)
@@ -269,7 +282,9 @@ class EachKind:
             for call in (table.intern_all, table.encode, table.check_all):
                 with self.assertRaisesRegex(TypeError, f"not int, at position {place}$"):
                     call(column)
-            with self.assertRaisesRegex(intaglio.NoSymbol, f"^at position {place}: no such symbol: 1000, and the table has 1000 strings$") as raised:
+            with self.assertRaisesRegex(
+                intaglio.NoSymbol, f"^at position {place}: no such symbol: 1000, and the table has 1000 strings$"
+            ) as raised:
                 table.get_all([*range(place), 1000, 5])
             self.assertEqual(raised.exception.position, place)
         with self.assertRaises(intaglio.Full) as raised:
@@ -291,7 +306,9 @@ class EachKind:
         kind, of = self.kind, self.of
         strings = [of("é" * size) for size in (0, 1, 100, 127, 128, 129, 1_000, 100_000)]
         table = kind(strings)
-        self.assertEqual((list(table), [table.get(number) for number in range(8)], table.get_all(range(8))), (strings, strings, strings))
+        self.assertEqual(
+            (list(table), [table.get(number) for number in range(8)], table.get_all(range(8))), (strings, strings, strings)
+        )
 
     def test_a_subclass_and_a_weak_reference(self):
         kind, of = self.kind, self.of
@@ -392,7 +409,10 @@ class OneKind(unittest.TestCase):
 
     def test_batches_take_what_single_calls_take(self):
         self.assertEqual(PathTable(["a", PurePath("b")]).check_all([PurePath("b"), "a/."]), [1, 0])
-        self.assertEqual(list(BytesTable([b"a", bytearray(b"b"), memoryview(b"xcx")[1:2], memoryview(b"acbd")[::2]])), [b"a", b"b", b"c", b"ab"])
+        self.assertEqual(
+            list(BytesTable([b"a", bytearray(b"b"), memoryview(b"xcx")[1:2], memoryview(b"acbd")[::2]])),
+            [b"a", b"b", b"c", b"ab"],
+        )
         self.assertEqual(SymbolTable(["a"]).check_all(["a", LONE_SURROGATE, "b"]), [0, None, None])
 
     def test_a_list_that_changes_while_its_contents_are_converted(self):
@@ -424,13 +444,20 @@ class OneKind(unittest.TestCase):
             self.assertIn(f"{kind.__name__}(contents=(), *, capacity=None, limit=None, keys=None)", pydoc.render_doc(kind))
             self.assertNotIn("--", kind.__doc__)
         self.assertEqual(str(inspect.signature(intaglio.Frozen)), "(path, *, trusted=False, kind=None)")
-        shown = {"encode": "(self, strings, /, *, missing=None)", "intern_into": "(self, strings, out, /, *, missing=None)", "intern_lines": "(self, lines, /)"}
+        shown = {
+            "encode": "(self, strings, /, *, missing=None)",
+            "intern_into": "(self, strings, out, /, *, missing=None)",
+            "intern_lines": "(self, lines, /)",
+        }
         for method, arguments in shown.items():
             self.assertEqual(str(inspect.signature(getattr(SymbolTable, method))), arguments)
         self.assertEqual(str(inspect.signature(intaglio.renumber)), "(codes, numbers, /, out=None)")
 
     def test_tables_and_frozen_tables_have_the_same_names(self):
-        names = ("encode", "encode_into", "encode_lines", "decode", "get", "get_all", "check_interned", "check_all", "index", "count", "items", "close")
+        names = (
+            "encode", "encode_into", "encode_lines", "decode", "get", "get_all", "check_interned", "check_all", "index", "count",
+            "items", "close",
+        )
         for kind in (SymbolTable, intaglio.Frozen):
             self.assertEqual([it for it in names if not callable(getattr(kind, it, None))], [])
 

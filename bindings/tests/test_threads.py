@@ -114,7 +114,8 @@ class FrozenTables(unittest.TestCase):
         cls.map = array("I", reversed(range(DISTINCT)))
 
     def calls_meanwhile(self, batch):
-        """How many calls another thread makes on the table while a batch runs, and how long the batch and the longest wait of that thread are."""
+        """How many calls another thread makes on the table while a batch runs, and how long the batch and the longest wait of
+        that thread are."""
         done, waits, started = threading.Event(), [], threading.Event()
 
         def look_up():
@@ -158,12 +159,16 @@ class FrozenTables(unittest.TestCase):
         def work(number):
             for turn in range(4):
                 out[number, turn] = (
-                    self.table.encode(part) == wanted, self.table.encode_lines(text) == of_lines, self.table.decode(wanted) == part, self.table.find_all(part) == list(wanted),
-                    renumber(renumber(wanted, self.map), self.map) == wanted, self.table.encode([None, *part], missing=MISSING)[1:] == wanted,
+                    self.table.encode(part) == wanted, self.table.encode_lines(text) == of_lines,
+                    self.table.decode(wanted) == part, self.table.find_all(part) == list(wanted),
+                    renumber(renumber(wanted, self.map), self.map) == wanted,
+                    self.table.encode([None, *part], missing=MISSING)[1:] == wanted,
                 )
 
         self.assertEqual(run(*(lambda number=number: work(number) for number in range(4))), [])
-        self.assertEqual({it: all(found) for it, found in out.items()}, {(number, turn): True for number in range(4) for turn in range(4)})
+        self.assertEqual(
+            {it: all(found) for it, found in out.items()}, {(number, turn): True for number in range(4) for turn in range(4)}
+        )
 
     def test_a_list_that_changes_meanwhile_is_refused_or_read_whole(self):
         for change in (list.clear, lambda it: it.extend(self.words), lambda it: it.__setitem__(slice(None), ["no"] * len(it))):

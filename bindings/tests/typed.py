@@ -30,7 +30,9 @@ with SymbolTable(["a", "b"], capacity=2, keys=(1, 2)) as table:
     decoded: list[str] = table.decode(encoded)
     decoded_or_none: list[str | None] = table.decode(with_missing, missing=None)
     assert (first(table), one, some, other, each, count, encoded == of_lines) == ("a", "b", ["a"], 0, [0, None], 2, True)
-    assert (decoded, decoded_or_none, table.check_into(["b", "z"], buffer), list(buffer)) == (["a", "b"], ["a", None, None], 2, [1, MISSING])
+    assert (decoded, decoded_or_none, table.check_into(["b", "z"], buffer), list(buffer)) == (
+        ["a", "b"], ["a", None, None], 2, [1, MISSING],
+    )
 
 with TemporaryDirectory() as folder:
     path = Path(folder) / "frozen"
@@ -47,7 +49,9 @@ with TemporaryDirectory() as folder:
     first_of_any: bytes | str = of_any_kind[0]
     copied: Frozen[str] = copy(frozen)
     lines_there: "array[int]" = frozen.encode_lines(memoryview(b"b\na"))
-    assert (list(as_told), as_bytes, first_of_any, list(copied), list(lines_there)) == (["a", "b"], [b"a", b"b"], "a", ["a", "b"], [1, 0])
+    assert (list(as_told), as_bytes, first_of_any, list(copied), list(lines_there)) == (
+        ["a", "b"], [b"a", b"b"], "a", ["a", "b"], [1, 0],
+    )
     codes: "array[int]" = frozen.encode(["b", "x"], missing=MISSING)
     strings: list[str] = frozen.decode(codes[:1])
     with_none: list[str | None] = frozen.decode(codes, missing=None)
@@ -57,7 +61,9 @@ with TemporaryDirectory() as folder:
     same: "array[int]" = renumber(codes, maps[2], out=array("I", codes))
     assert same == again and frozen.get_all([1, 0]) == ["b", "a"]
     mapped: "array[int]" = SymbolTable().absorb(frozen)
-    assert (strings, with_none, written, list(codes), len(merged), list(again), list(mapped)) == (["b"], ["b", None], 2, [1, 0], 3, [2, 1], [0, 1])
+    assert (strings, with_none, written, list(codes), len(merged), list(again), list(mapped)) == (
+        ["b"], ["b", None], 2, [1, 0], 3, [2, 1], [0, 1],
+    )
     assert merged.to_bytes() == (Path(folder) / "merged").read_bytes()
     merged.close()
     frozen.close()

@@ -30,8 +30,12 @@ back: list[str] = words.decode(out[:2])
 merged, maps = merge([words])
 same: "numpy.typing.NDArray[numpy.int32]" = renumber(signed, maps[0], out=signed)
 renumbered: "array[int]" = renumber(out[:2], maps[0])
-assert (again, list(of_lines), list(interned), back, same is signed, list(renumbered)) == (4, [1, 0], [0, 1], ["b", "a"], True, [0, 1])
+assert (again, list(of_lines), list(interned), back, same is signed, list(renumbered)) == (
+    4, [1, 0], [0, 1], ["b", "a"], True, [0, 1],
+)
 
 series: Any = pandas.Series(["a", None, "b"])
-category: Any = pandas.Categorical.from_codes(numpy.frombuffer(words.encode(series, missing=MISSING), "i4"), categories=list(words))
+category: Any = pandas.Categorical.from_codes(
+    numpy.frombuffer(words.encode(series, missing=MISSING), "i4"), categories=list(words)
+)
 assert category.tolist()[::2] == ["a", "b"]

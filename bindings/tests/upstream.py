@@ -2,10 +2,10 @@
 
     upstream.py UPSTREAM FOLDER CRATE
 
-UPSTREAM is the folder of the Rust crate's sources, FOLDER is written, CRATE is the folder of `intaglio_proved`. The examples are those of
-the documentation and of the README. Left out are the tests of private items, which `intaglio_proved` hasn't, and tests and
-examples with a hasher, since the library has its own: a line says how many. Byte strings are those of `intaglio_proved::bstr` in place of the
-crate `bstr`'s. Properties are tried on fixed values, as quickcheck isn't there.
+UPSTREAM is the folder of the Rust crate's sources, FOLDER is written, CRATE is the folder of `intaglio_proved`. The examples are
+those of the documentation and of the README. Left out are the tests of private items, which `intaglio_proved` hasn't, and tests
+and examples with a hasher, since the library has its own: a line says how many. Byte strings are those of `intaglio_proved::bstr`
+in place of the crate `bstr`'s. Properties are tried on fixed values, as quickcheck isn't there.
 """
 import re
 import sys
@@ -179,7 +179,9 @@ def main():
     (folder / "tests").mkdir()
     (folder / "Cargo.toml").write_text(MANIFEST.format(crate.resolve()))
     for file, part in unit_tests(upstream):
-        (folder / "tests" / file.removesuffix(".rs").replace("/", "_")).with_suffix(".rs").write_text(f"#![allow(unused)]\n{part}")
+        (folder / "tests" / file.removesuffix(".rs").replace("/", "_")).with_suffix(".rs").write_text(
+            f"#![allow(unused)]\n{part}"
+        )
     docs = [
         "\n".join(f"/// {line}".rstrip() for line in ["```", *example.splitlines(), "```"]) + f"\npub mod {name} {{}}\n"
         for name, example in examples(upstream)

@@ -35,7 +35,9 @@ CALLS(osstr)
 CALLS(bstr)
 CALLS(packed_text)
 CALLS(packed_bytes)
+/* clang-format off */
 #define KIND(KIND) {#KIND, KIND##_make, KIND##_intern, KIND##_check, KIND##_get, KIND##_len, KIND##_free}
+/* clang-format on */
 static const struct calls kinds[] = {KIND(text), KIND(bytes), KIND(cstr), KIND(path), KIND(osstr), KIND(bstr), KIND(packed_text), KIND(packed_bytes)};
 
 static int fail(const char *what, uint32_t code) {

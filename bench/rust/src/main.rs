@@ -18,8 +18,7 @@ use std::io;
 use table::Table;
 use turn::{copy, hash_alone, hold, turn};
 
-const USAGE: &str =
-    "check|time|hold|hash|copy crate|boxes|buffer fold|std|hashbrown CAPACITY SIZE TURNS";
+const USAGE: &str = "check|time|hold|hash|copy crate|boxes|buffer fold|std|hashbrown CAPACITY SIZE TURNS";
 
 fn main() -> io::Result<()> {
     let arguments: Vec<String> = std::env::args().collect();
@@ -38,17 +37,11 @@ fn main() -> io::Result<()> {
 fn with_builder<S: BuildHasher>(plan: Plan, builder: impl Fn() -> S) -> io::Result<()> {
     let capacity = plan.capacity;
     match plan.kind {
-        Kind::Crate => run(plan, || {
-            SymbolTable::with_capacity_and_hasher(capacity, builder())
-        }),
+        Kind::Crate => run(plan, || SymbolTable::with_capacity_and_hasher(capacity, builder())),
         #[cfg(feature = "rivals")]
-        Kind::Boxes => run(plan, || {
-            rivals::Rival::<rivals::Boxes, S>::new(capacity, builder())
-        }),
+        Kind::Boxes => run(plan, || rivals::Rival::<rivals::Boxes, S>::new(capacity, builder())),
         #[cfg(feature = "rivals")]
-        Kind::Buffer => run(plan, || {
-            rivals::Rival::<rivals::Buffer, S>::new(capacity, builder())
-        }),
+        Kind::Buffer => run(plan, || rivals::Rival::<rivals::Buffer, S>::new(capacity, builder())),
     }
 }
 

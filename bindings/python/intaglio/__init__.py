@@ -10,36 +10,40 @@ A SymbolTable gives each distinct string a small number, its symbol, and returns
     >>> list(table), len(table), "c" in table
     (['b', 'a'], 2, False)
 
-The other kinds take the same calls: BytesTable, CStringTable, PathTable, OsStringTable and ByteStringTable. A table is a sequence of
-its strings, each at its symbol: table[-1] is the last, and table[1:3] a list. `get` and `get_all` take symbols, which aren't negative.
+The other kinds take the same calls: BytesTable, CStringTable, PathTable, OsStringTable and ByteStringTable. A table is a sequence
+of its strings, each at its symbol: table[-1] is the last, and table[1:3] a list. `get` and `get_all` take symbols, which aren't
+negative.
 
-intern_all, check_all and get_all make one call for many strings. encode and decode turn a column of strings into codes, which are symbols in 4 bytes each, and back;
-encode_into writes them to a buffer, and encode_lines takes the lines of one. What is missing has the code MISSING, the last number of 4 bytes: as an integer with a
-sign it is -1.
+intern_all, check_all and get_all make one call for many strings. encode and decode turn a column of strings into codes, which are
+symbols in 4 bytes each, and back; encode_into writes them to a buffer, and encode_lines takes the lines of one. What is missing
+has the code MISSING, the last number of 4 bytes: as an integer with a sign it is -1.
 
-table.freeze(path) writes the strings to a file, and Frozen(path) maps it: a read-only sequence of them, each at its symbol, with the same calls. merge makes one Frozen
-of several, and renumber turns codes of each into its own. Both kinds of tables can be copied and pickled.
+table.freeze(path) writes the strings to a file, and Frozen(path) maps it: a read-only sequence of them, each at its symbol, with
+the same calls. merge makes one Frozen of several, and renumber turns codes of each into its own. Both kinds of tables can be
+copied and pickled.
 
-A call that fails raises a subclass of Refused, named after the reason, and leaves the strings unchanged. `position` says which string of
-several it is about, and `filename` which file.
+A call that fails raises a subclass of Refused, named after the reason, and leaves the strings unchanged. `position` says which
+string of several it is about, and `filename` which file.
 
 A table may be used by several threads. A batch of internings or look-ups holds the interpreter's lock until it is done: no other
 thread sees a part of it. Batches on a Frozen let other threads run. An interpreter without that lock can't import the module.
 """
 from collections.abc import Sequence
 
-from intaglio._table import MISSING, BytesTable, ByteStringTable, CStringTable, OsStringTable, PathTable, SymbolTable, Table, __version__, renumber
+from intaglio._table import (
+    MISSING, BytesTable, ByteStringTable, CStringTable, OsStringTable, PathTable, SymbolTable, Table, __version__, renumber,
+)
 from intaglio.errors import (
-    REFUSALS, BadEnds, Equal, Full, InnerZero, Missing, MissingZero, NoKind, NoMemory, NoPlaces, NoSpace, NoSymbol, NotFound, NotFrozen, NotUtf8, NoTable, OtherVersion,
-    Refused, Reserved, Stale, TextEnds, TooLarge, TooLong, TooMany, Truncated, Unused,
+    REFUSALS, BadEnds, Equal, Full, InnerZero, Missing, MissingZero, NoKind, NoMemory, NoPlaces, NoSpace, NoSymbol, NotFound,
+    NotFrozen, NotUtf8, NoTable, OtherVersion, Refused, Reserved, Stale, TextEnds, TooLarge, TooLong, TooMany, Truncated, Unused,
 )
 from intaglio.frozen import Frozen, merge
 
 __all__ = [
-    "SymbolTable", "BytesTable", "CStringTable", "PathTable", "OsStringTable", "ByteStringTable", "Table", "Frozen", "merge", "renumber", "MISSING", "Missing",
-    "Refused", "NoTable", "Full", "NoMemory", "TooLarge", "Stale", "NotUtf8", "InnerZero", "MissingZero", "BadEnds", "NoSymbol", "NoSpace", "NoKind",
-    "NotFrozen", "OtherVersion", "Reserved", "TooMany", "Truncated", "TextEnds", "Unused", "NotFound", "TooLong", "Equal", "NoPlaces",
-    "REFUSALS", "__version__",
+    "SymbolTable", "BytesTable", "CStringTable", "PathTable", "OsStringTable", "ByteStringTable", "Table", "Frozen", "merge",
+    "renumber", "MISSING", "Missing", "Refused", "NoTable", "Full", "NoMemory", "TooLarge", "Stale", "NotUtf8", "InnerZero",
+    "MissingZero", "BadEnds", "NoSymbol", "NoSpace", "NoKind", "NotFrozen", "OtherVersion", "Reserved", "TooMany", "Truncated",
+    "TextEnds", "Unused", "NotFound", "TooLong", "Equal", "NoPlaces", "REFUSALS", "__version__",
 ]
 
 Sequence.register(Table)

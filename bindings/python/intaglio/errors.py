@@ -5,7 +5,8 @@ import os
 class Refused(Exception):
     """A call failed, and the strings of the table are unchanged. The subclass says why.
 
-    `position` is that of the string or code that it is about, from 0, if the call took several; `filename` is the file that it is about.
+    `position` is that of the string or code that it is about, from 0, if the call took several; `filename` is the file that it is
+    about.
     """
 
     code: int

@@ -13,8 +13,9 @@ import zlib
 from collections.abc import Sequence
 
 from intaglio._table import (
-    BytesTable, SymbolTable, Table, frozen_check, frozen_check_header, frozen_check_texts, frozen_decode, frozen_encode, frozen_encode_into, frozen_encode_lines, frozen_find,
-    frozen_find_all, frozen_get, frozen_get_all, frozen_is_text, frozen_len, frozen_slice,
+    BytesTable, SymbolTable, Table, frozen_check, frozen_check_header, frozen_check_texts, frozen_decode, frozen_encode,
+    frozen_encode_into, frozen_encode_lines, frozen_find, frozen_find_all, frozen_get, frozen_get_all, frozen_is_text, frozen_len,
+    frozen_slice,
 )
 from intaglio.errors import Refused, name_file, no_such_symbol
 
@@ -64,7 +65,8 @@ def create_beside(path, mode):
 def replace(path, data):
     """Writes the bytes to a new file beside the path, syncs it, and renames it to the path.
 
-    A symbolic link is followed, and the mode of the file that is replaced is kept. The new file is written, renamed and removed only here.
+    A symbolic link is followed, and the mode of the file that is replaced is kept. The new file is written, renamed and removed
+    only here.
     """
     path = os.fsdecode(path)
     mode = mode_at(path)
@@ -94,18 +96,18 @@ def refuse_bytes(path):
 
 
 class Frozen(Sequence):
-    """A read-only table in a file, as Table.freeze and `intaglio_dict freeze` write it. The file is mapped. It is a sequence of its strings,
-    each at its symbol.
+    """A read-only table in a file, as Table.freeze and `intaglio_dict freeze` write it. The file is mapped. It is a sequence of
+    its strings, each at its symbol.
 
     Frozen(path, *, trusted=False, kind=None)
 
-    kind: `str` or `bytes`, what the strings are. By default they are `str` if the file says that they are texts, and else `bytes`. A file of
-    bytes is opened as `str` if all are UTF-8.
+    kind: `str` or `bytes`, what the strings are. By default they are `str` if the file says that they are texts, and else
+    `bytes`. A file of bytes is opened as `str` if all are UTF-8.
 
-    trusted: the file is known to be whole, and only its header is checked, so that opening takes the same time for each file. Otherwise all
-    bytes are. In a damaged file a string that is found is still equal to the one that was sought, but one that is there may not be found, and
-    what returns strings (`get`, `[]`, iterating, `items`, `decode`) may raise UnicodeDecodeError, or have no string at a symbol below the
-    length. The file must not be made shorter while it is mapped.
+    trusted: the file is known to be whole, and only its header is checked, so that opening takes the same time for each file.
+    Otherwise all bytes are. In a damaged file a string that is found is still equal to the one that was sought, but one that is
+    there may not be found, and what returns strings (`get`, `[]`, iterating, `items`, `decode`) may raise UnicodeDecodeError, or
+    have no string at a symbol below the length. The file must not be made shorter while it is mapped.
 
     A column of strings is stored as its codes, the symbol of each string in 4 bytes:
 
@@ -114,10 +116,11 @@ class Frozen(Sequence):
     >>> codes, words.decode(codes)
     (array('I', [1, 0, 1]), ['be', 'to', 'be'])
 
-    It can be copied, and pickled: a mapped one by its path, and one in memory by its bytes. Batches (encode, find_all, decode and their kin)
-    let other threads run meanwhile.
+    It can be copied, and pickled: a mapped one by its path, and one in memory by its bytes. Batches (encode, find_all, decode and
+    their kin) let other threads run meanwhile.
 
-    Raises NotFrozen, OtherVersion, NoKind, Reserved, TooMany, Truncated, TextEnds, Unused, NotFound, NotUtf8, which name the file, OSError.
+    Raises NotFrozen, OtherVersion, NoKind, Reserved, TooMany, Truncated, TextEnds, Unused, NotFound, NotUtf8, which name the
+    file, OSError.
     """
 
     def __init__(self, path, *, trusted=False, kind=None):
@@ -127,7 +130,7 @@ class Frozen(Sequence):
             mapped = mmap.mmap(file.fileno(), 0, access=mmap.ACCESS_READ) if file.seek(0, 2) else None
             status = os.fstat(file.fileno())
         self._path = None if isinstance(path, int) else os.path.abspath(os.fspath(path))
-        self._stat = status.st_dev, status.st_ino
+        self._stat: tuple[int, int] | None = (status.st_dev, status.st_ino)
         try:
             self._open(memoryview(mapped or b""), mapped, trusted, kind)
         except Refused as error:
@@ -136,7 +139,8 @@ class Frozen(Sequence):
 
     @classmethod
     def from_bytes(cls, data, *, trusted=False, kind=None):
-        """A table over its bytes in memory, as freeze and to_bytes return them: any buffer, which must not change. Raises what Frozen raises."""
+        """A table over its bytes in memory, as freeze and to_bytes return them: any buffer, which must not change. Raises what
+        Frozen raises."""
         frozen = cls.__new__(cls)
         frozen._path = frozen._stat = None
         frozen._open(memoryview(data).cast("B"), None, trusted, kind)
@@ -175,9 +179,9 @@ class Frozen(Sequence):
     def encode(self, strings, /, *, missing=None):
         """The codes of strings, which are their symbols, as an array('I').
 
-        With `missing`, such as MISSING, that is the code of a string that isn't in the table, and of None, NaN and pandas.NA. Without it,
-        raises Missing, a KeyError with the first such string and its position, or TypeError. The strings are in any iterable: numpy's arrays
-        of objects and pandas' columns are read where they are.
+        With `missing`, such as MISSING, that is the code of a string that isn't in the table, and of None, NaN and pandas.NA.
+        Without it, raises Missing, a KeyError with the first such string and its position, or TypeError. The strings are in any
+        iterable: numpy's arrays of objects and pandas' columns are read where they are.
 
         >>> words = Frozen.from_bytes(SymbolTable(["to", "be"]).freeze())
         >>> words.encode(["be", "or", None], missing=MISSING)
@@ -189,14 +193,15 @@ class Frozen(Sequence):
         return frozen_encode(self._data, self._is_text, strings, missing)
 
     def encode_into(self, strings, out, /, *, missing=None):
-        """Writes the codes of strings to the start of a buffer of integers of 4 bytes, such as an array('I') or a numpy array of uint32 or
-        int32, and returns how many there are. Raises what encode raises, and NoSpace if the buffer is too short; it is then unchanged.
+        """Writes the codes of strings to the start of a buffer of integers of 4 bytes, such as an array('I') or a numpy array of
+        uint32 or int32, and returns how many there are. Raises what encode raises, and NoSpace if the buffer is too short; it is
+        then unchanged.
         """
         return frozen_encode_into(self._data, self._is_text, strings, out, missing)
 
     def encode_lines(self, lines, /, *, missing=None):
-        """The codes of the lines of a buffer, as an array('I'). No object is made of a line. A line ends before b"\\n", and the last one
-        needs none; of a table of texts they are UTF-8. The buffer must not change meanwhile. Raises what encode raises.
+        """The codes of the lines of a buffer, as an array('I'). No object is made of a line. A line ends before b"\\n", and the
+        last one needs none; of a table of texts they are UTF-8. The buffer must not change meanwhile. Raises what encode raises.
 
         >>> words = Frozen.from_bytes(SymbolTable(["to", "be"]).freeze())
         >>> words.encode_lines(b"be\\nto\\nbe\\n")
@@ -205,10 +210,11 @@ class Frozen(Sequence):
         return frozen_encode_lines(self._data, self._is_text, lines, missing)
 
     def decode(self, codes, /, *, missing=NOTHING):
-        """A list of the strings of codes: any buffer of integers of 4 bytes, such as an array('I') or a numpy array of uint32 or int32.
+        """A list of the strings of codes: any buffer of integers of 4 bytes, such as an array('I') or a numpy array of uint32 or
+        int32.
 
-        `missing` is what the list has for the code MISSING. Raises NoSymbol, an IndexError, with the position of the first code that is
-        no symbol, and UnicodeDecodeError if the file is trusted, of texts, and damaged.
+        `missing` is what the list has for the code MISSING. Raises NoSymbol, an IndexError, with the position of the first code
+        that is no symbol, and UnicodeDecodeError if the file is trusted, of texts, and damaged.
 
         >>> words = Frozen.from_bytes(SymbolTable(["to", "be"]).freeze())
         >>> words.decode(words.encode(["be", "or"], missing=MISSING), missing=None)
@@ -218,7 +224,8 @@ class Frozen(Sequence):
         return frozen_decode(self._data, self._is_text, codes, *given)
 
     def get(self, symbol, default=None, /):
-        """The string of a symbol, or the default if there is none. Raises UnicodeDecodeError if the file is trusted, of texts, and damaged."""
+        """The string of a symbol, or the default if there is none. Raises UnicodeDecodeError if the file is trusted, of texts,
+        and damaged."""
         string = frozen_get(self._data, self._is_text, symbol)
         return default if string is None else string
 
@@ -246,7 +253,8 @@ class Frozen(Sequence):
         return bytes(self._data)
 
     def close(self):
-        """Unmaps the file, if no copy has it. Calls that read it then raise ValueError. Raises BufferError while another thread reads it."""
+        """Unmaps the file, if no copy has it. Calls that read it then raise ValueError. Raises BufferError while another thread
+        reads it."""
         self._data.release()
         if self._map is not None:
             with contextlib.suppress(BufferError):
@@ -298,11 +306,13 @@ class Frozen(Sequence):
 
     # Whether the path still leads to the file that is mapped.
     def _is_at_path(self):
+        if self._path is None:
+            return False
         try:
-            status = self._path is not None and os.stat(self._path)
+            status = os.stat(self._path)
         except OSError:
             return False
-        return bool(status) and self._stat == (status.st_dev, status.st_ino)
+        return self._stat == (status.st_dev, status.st_ino)
 
     # A checksum of all bytes, or of the header of a trusted file.
     def _checksum(self):
@@ -365,11 +375,12 @@ def absorbed(merged, position, table):
 
 
 def merge(tables, /, out=None, *, keys=(0, 0)):
-    """Merges frozen tables. Returns a Frozen of all their strings in the order of their first occurrences, and a list with a map for each
-    table: an array('I') with the new symbol of each of its strings, by which renumber turns codes of that table into codes of the new one.
+    """Merges frozen tables. Returns a Frozen of all their strings in the order of their first occurrences, and a list with a map
+    for each table: an array('I') with the new symbol of each of its strings, by which renumber turns codes of that table into
+    codes of the new one.
 
-    The tables are in a list or another iterable, and each is a Frozen or a path. The new one is written to the path `out`, as Table.freeze
-    does, or else held in memory. It is of texts if all are. Raises what Frozen, Table.absorb and Table.freeze raise.
+    The tables are in a list or another iterable, and each is a Frozen or a path. The new one is written to the path `out`, as
+    Table.freeze does, or else held in memory. It is of texts if all are. Raises what Frozen, Table.absorb and Table.freeze raise.
 
     >>> one, two = (Frozen.from_bytes(SymbolTable(words).freeze()) for words in (["to", "be"], ["or", "to"]))
     >>> both, maps = merge([one, two])

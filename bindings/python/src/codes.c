@@ -119,7 +119,7 @@ static int decode_into(PyObject *list, const void *of, StringOf string_of, PyObj
     for (size_t i = 0; i < codes->count; i++) {
         uint32_t code = code_at(codes, i);
         PyObject *known = made && code < len ? made[code] : NULL;
-        PyObject *string = known ? Py_NewRef(known) : code == MISSING && missing ? Py_NewRef(missing) : string_of(of, code);
+        PyObject *string = known ? Py_NewRef(known) : (code == MISSING && missing ? Py_NewRef(missing) : string_of(of, code));
         if (!string && !PyErr_Occurred()) raise_by("no_symbol", "(In)", (unsigned int)code, (Py_ssize_t)i);
         if (!string) return -1;
         if (made && code < len) made[code] = string;

@@ -327,7 +327,7 @@ static int open_codes_of(Encoder *encoder, const Source *source) {
 /* Encodes the strings of an open source, and closes it. */
 static int encode_and_close(Encoder *encoder, Source *source) {
     size_t count = (size_t)(source->is_lines ? source->view.len : source->count);
-    size_t bytes = source->is_lines ? count : count < BLOCK ? count * LINE : BLOCK_BYTES;
+    size_t bytes = source->is_lines ? count : (count < BLOCK ? count * LINE : BLOCK_BYTES);
     int status = open_codes_of(encoder, source) < 0 || open_block(encoder, count, bytes) < 0 ? -1 : encode_source(encoder, source);
     encoder->codes.count = (size_t)source->position;
     close_source(source);

@@ -25,7 +25,7 @@ enum {
 /* Ends the message about what is missing, where `missing` may be passed. */
 #define ADVICE_ON_MISSING ": missing= gives None, NaN and NA a code"
 
-#define FAST(FUNCTION) (PyCFunction)(void (*)(void))FUNCTION
+#define FAST(FUNCTION) (PyCFunction)(void (*)(void)) FUNCTION
 
 /* Errors: errors.c. Each raises an exception, and returns null. */
 
@@ -87,7 +87,14 @@ Py_ssize_t read_symbol(PyObject *number);
 
 /* What comes next: a string; an item for which None, NaN or NA stands, and that is skipped; the end; an item that isn't native, or that
  * has no UTF-8, with an exception; or something failed, with an exception. */
-typedef enum { STRING, SKIPPED, END, NOT_NATIVE, NOT_SPELLED, FAILED } Next;
+typedef enum {
+    STRING,
+    SKIPPED,
+    END,
+    NOT_NATIVE,
+    NOT_SPELLED,
+    FAILED
+} Next;
 
 /* The strings of a batch in order: the items of a list, a tuple or an array of objects, or the lines of a buffer. */
 typedef struct {

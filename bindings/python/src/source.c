@@ -48,7 +48,7 @@ bool is_skipped(const Source *source, PyObject *item) { return source->skips && 
 static int find_na(PyObject **na) {
     PyObject *name = PyUnicode_FromString("pandas"), *pandas = name ? PyImport_GetModule(name) : NULL;
     *na = NULL;
-    int status = pandas ? find_attribute(pandas, "NA", na) : PyErr_Occurred() ? -1 : 0;
+    int status = pandas ? find_attribute(pandas, "NA", na) : (PyErr_Occurred() ? -1 : 0);
     Py_XDECREF(pandas);
     Py_XDECREF(name);
     return status < 0 ? -1 : 0;
@@ -113,8 +113,8 @@ static int open_column(Source *source, PyObject *contents) {
 int open_items(Source *source, uint32_t kind, PyObject *contents, bool skips) {
     *source = (Source){.kind = kind, .skips = skips};
     bool is_array = PyObject_CheckBuffer(contents) && !PyBytes_Check(contents);
-    int status = PyList_CheckExact(contents) || PyTuple_CheckExact(contents) ? own_list(source, contents)
-               : is_array ? open_array(source, contents) : open_column(source, contents);
+    bool is_list = PyList_CheckExact(contents) || PyTuple_CheckExact(contents);
+    int status = is_list ? own_list(source, contents) : (is_array ? open_array(source, contents) : open_column(source, contents));
     return status == 0 && skips ? find_na(&source->na) : status;
 }
 

@@ -457,7 +457,7 @@ static uint32_t *codes_of(uint64_t *found, size_t count, const Stand *stand) {
     for (size_t i = 0; i < count; i++) {
         uint64_t number;
         memcpy(&number, at + i * sizeof number, sizeof number);
-        uint32_t code = number != INTAGLIO_ABSENT ? (uint32_t)number : stand->is_given ? stand->code : MISSING;
+        uint32_t code = number != INTAGLIO_ABSENT ? (uint32_t)number : (stand->is_given ? stand->code : MISSING);
         memcpy(at + i * sizeof code, &code, sizeof code);
     }
     return (uint32_t *)found;
@@ -909,9 +909,21 @@ PyDoc_STRVAR(table_doc, "Table" SIGNATURE "What the kinds of tables share: a seq
 "Raises TooLarge, NoMemory, and what intern raises.");
 
 static PyType_Slot base_slots[] = {
-    {Py_tp_doc, (void *)table_doc}, {Py_tp_new, new_base}, {Py_tp_init, table_init}, {Py_tp_dealloc, table_dealloc}, {Py_tp_repr, table_repr}, {Py_tp_iter, PySeqIter_New},
-    {Py_tp_methods, methods}, {Py_tp_members, members}, {Py_tp_getset, properties}, {Py_mp_length, table_len}, {Py_mp_subscript, table_subscript},
-    {Py_sq_length, table_len}, {Py_sq_item, lookup_or_raise}, {Py_sq_contains, table_contains}, {0, NULL},
+    {Py_tp_doc, (void *)table_doc},
+    {Py_tp_new, new_base},
+    {Py_tp_init, table_init},
+    {Py_tp_dealloc, table_dealloc},
+    {Py_tp_repr, table_repr},
+    {Py_tp_iter, PySeqIter_New},
+    {Py_tp_methods, methods},
+    {Py_tp_members, members},
+    {Py_tp_getset, properties},
+    {Py_mp_length, table_len},
+    {Py_mp_subscript, table_subscript},
+    {Py_sq_length, table_len},
+    {Py_sq_item, lookup_or_raise},
+    {Py_sq_contains, table_contains},
+    {0, NULL},
 };
 static PyType_Spec base = {"intaglio.Table", sizeof(Table), 0, Py_TPFLAGS_DEFAULT | Py_TPFLAGS_BASETYPE | Py_TPFLAGS_SEQUENCE, base_slots};
 

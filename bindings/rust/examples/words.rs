@@ -48,8 +48,12 @@ fn main() -> Result<(), Box<dyn Error>> {
             let lines = lines().map(CString::new).collect::<Result<Vec<_>, _>>()?;
             encode(lines.iter().map(CString::as_c_str), cstr::SymbolTable::new(), |line| line.to_bytes())
         }
-        Some("osstr") => encode(str::from_utf8(input)?.split('\n').map(OsStr::new), osstr::SymbolTable::new(), OsStr::as_encoded_bytes),
-        Some("path") => encode(str::from_utf8(input)?.split('\n').map(Path::new), path::SymbolTable::new(), |path| path.as_os_str().as_encoded_bytes()),
+        Some("osstr") => {
+            encode(str::from_utf8(input)?.split('\n').map(OsStr::new), osstr::SymbolTable::new(), OsStr::as_encoded_bytes)
+        }
+        Some("path") => encode(str::from_utf8(input)?.split('\n').map(Path::new), path::SymbolTable::new(), |path| {
+            path.as_os_str().as_encoded_bytes()
+        }),
         Some("packed_text") => encode(str::from_utf8(input)?.split('\n'), packed::SymbolTable::new(), str::as_bytes),
         Some("packed_bytes") => encode(lines(), packed::bytes::SymbolTable::new(), |bytes| bytes),
         _ => Err("usage: words text|bytes|bstr|cstr|osstr|path|packed_text|packed_bytes".into()),

@@ -45,13 +45,38 @@ unsafe extern "C" {
     fn intaglio_shrink_to(table: *mut RawHandle, min_capacity: usize) -> u32;
     fn intaglio_clear(table: *mut RawHandle);
     fn intaglio_take_back(table: *mut RawHandle, mark: usize) -> u32;
-    fn intaglio_intern_all(table: *mut RawHandle, bytes: *const u8, len: usize, ends: *const usize, count: usize, symbols: *mut u32, symbols_count: usize) -> u32;
-    fn intaglio_check_all(table: *mut RawHandle, bytes: *const u8, len: usize, ends: *const usize, count: usize, symbols: *mut u64, symbols_count: usize) -> u32;
+    fn intaglio_intern_all(
+        table: *mut RawHandle,
+        bytes: *const u8,
+        len: usize,
+        ends: *const usize,
+        count: usize,
+        symbols: *mut u32,
+        symbols_count: usize,
+    ) -> u32;
+    fn intaglio_check_all(
+        table: *mut RawHandle,
+        bytes: *const u8,
+        len: usize,
+        ends: *const usize,
+        count: usize,
+        symbols: *mut u64,
+        symbols_count: usize,
+    ) -> u32;
     fn intaglio_absorb(table: *mut RawHandle, frozen: *const u8, len: usize, symbols: *mut u32, symbols_count: usize) -> u32;
     fn intaglio_freeze(table: *mut RawHandle, key0: u64, key1: u64, buffer: *mut u8, size: usize, len: *mut usize) -> u32;
     fn intaglio_frozen_check(bytes: *const u8, len: usize) -> u32;
     fn intaglio_frozen_find(bytes: *const u8, len: usize, string: *const u8, string_len: usize, symbol: *mut u32) -> bool;
-    fn intaglio_frozen_find_all(bytes: *const u8, len: usize, strings: *const u8, strings_len: usize, ends: *const usize, count: usize, symbols: *mut u64, symbols_count: usize) -> u32;
+    fn intaglio_frozen_find_all(
+        bytes: *const u8,
+        len: usize,
+        strings: *const u8,
+        strings_len: usize,
+        ends: *const usize,
+        count: usize,
+        symbols: *mut u64,
+        symbols_count: usize,
+    ) -> u32;
     fn intaglio_frozen_get(bytes: *const u8, len: usize, symbol: u32, out: *mut RawSpelling) -> bool;
     fn intaglio_frozen_len(bytes: *const u8, len: usize) -> usize;
     fn intaglio_frozen_is_text(bytes: *const u8, len: usize) -> bool;
@@ -102,7 +127,8 @@ impl Kind for Text {
     }
 
     unsafe fn content(bytes: &[u8]) -> &str {
-        // SAFETY: A table of texts accepts only UTF-8, which is proved. That `get` returns the bytes that were accepted is tested.
+        // SAFETY: A table of texts accepts only UTF-8, which is proved. That `get` returns the bytes that were accepted is
+        // tested.
         unsafe { core::str::from_utf8_unchecked(bytes) }
     }
 }
@@ -297,8 +323,8 @@ pub struct RawTable<K: Kind> {
     kind: PhantomData<K>,
 }
 
-// SAFETY: A table is a few blocks of memory that nothing else points to. The library's only other data are constants and a byte of
-// which only the address is used, and C's allocator accepts a block from any thread.
+// SAFETY: A table is a few blocks of memory that nothing else points to. The library's only other data are constants and a
+// byte of which only the address is used, and C's allocator accepts a block from any thread.
 unsafe impl<K: Kind> Send for RawTable<K> {}
 
 // SAFETY: What takes `&self` calls the library with a handle of its own, and only reads the table.
@@ -341,8 +367,8 @@ impl<K: Kind> RawTable<K> {
     pub fn intern(&mut self, content: &K::Content) -> Result<u32, Refusal> {
         let bytes = K::bytes(content);
         let mut symbol = 0;
-        // SAFETY: The handle is one that the library wrote, and this is the one call on it. A slice's pointer isn't null even if the
-        // slice is empty, and `symbol` isn't in it.
+        // SAFETY: The handle is one that the library wrote, and this is the one call on it. A slice's pointer isn't null even if
+        // the slice is empty, and `symbol` isn't in it.
         Refusal::check(unsafe { intaglio_intern(&mut self.handle, bytes.as_ptr(), bytes.len(), &mut symbol) })?;
         Ok(symbol)
     }
@@ -404,7 +430,15 @@ impl<K: Kind> RawTable<K> {
         let mut symbols = vec![0; ends.len()];
         // SAFETY: As in `intern`. The three are vectors of their own.
         let code = unsafe {
-            intaglio_intern_all(&mut self.handle, bytes.as_ptr(), bytes.len(), ends.as_ptr(), ends.len(), symbols.as_mut_ptr(), symbols.len())
+            intaglio_intern_all(
+                &mut self.handle,
+                bytes.as_ptr(),
+                bytes.len(),
+                ends.as_ptr(),
+                ends.len(),
+                symbols.as_mut_ptr(),
+                symbols.len(),
+            )
         };
         Refusal::check(code)?;
         Ok(symbols)
@@ -415,7 +449,15 @@ impl<K: Kind> RawTable<K> {
         let mut symbols = vec![0; ends.len()];
         // SAFETY: As in `len`. The three are vectors of their own.
         let code = self.read(|handle| unsafe {
-            intaglio_check_all(handle, bytes.as_ptr(), bytes.len(), ends.as_ptr(), ends.len(), symbols.as_mut_ptr(), symbols.len())
+            intaglio_check_all(
+                handle,
+                bytes.as_ptr(),
+                bytes.len(),
+                ends.as_ptr(),
+                ends.len(),
+                symbols.as_mut_ptr(),
+                symbols.len(),
+            )
         });
         assert!(code == 0, "the ends ascend, and there is a place for each symbol");
         symbols.into_iter().map(|symbol| u32::try_from(symbol).ok()).collect()
@@ -435,13 +477,15 @@ impl<K: Kind> RawTable<K> {
     fn freeze_into(&self, keys: (u64, u64), buffer: &mut [u8]) -> (u32, usize) {
         let mut len = 0;
         // SAFETY: As in `len`. The buffer is a slice that nothing else has.
-        let code = self.read(|handle| unsafe { intaglio_freeze(handle, keys.0, keys.1, buffer.as_mut_ptr(), buffer.len(), &mut len) });
+        let code =
+            self.read(|handle| unsafe { intaglio_freeze(handle, keys.0, keys.1, buffer.as_mut_ptr(), buffer.len(), &mut len) });
         (code, len)
     }
 
     /// The bytes of a frozen table of the strings, or the error's code.
     pub fn freeze(&self, keys: (u64, u64)) -> Result<Vec<u8>, u32> {
-        let text = (0..self.len()).filter_map(|id| self.get(u32::try_from(id).ok()?)).map(|content| K::bytes(content).len()).sum();
+        let text =
+            (0..self.len()).filter_map(|id| self.get(u32::try_from(id).ok()?)).map(|content| K::bytes(content).len()).sum();
         let mut bytes = vec![0; frozen_size(self.len(), text)];
         let (mut code, mut len) = self.freeze_into(keys, &mut bytes);
         if code == NO_SPACE {
@@ -492,7 +536,8 @@ impl<'a> RawFrozen<'a> {
     pub fn find(self, string: &[u8]) -> Option<u32> {
         let mut symbol = 0;
         // SAFETY: As in `check`. `symbol` is in neither slice.
-        let found = unsafe { intaglio_frozen_find(self.bytes.as_ptr(), self.bytes.len(), string.as_ptr(), string.len(), &mut symbol) };
+        let found =
+            unsafe { intaglio_frozen_find(self.bytes.as_ptr(), self.bytes.len(), string.as_ptr(), string.len(), &mut symbol) };
         found.then_some(symbol)
     }
 
@@ -502,7 +547,14 @@ impl<'a> RawFrozen<'a> {
         // SAFETY: As in `check`. The three are vectors of their own.
         let _code = unsafe {
             intaglio_frozen_find_all(
-                self.bytes.as_ptr(), self.bytes.len(), bytes.as_ptr(), bytes.len(), ends.as_ptr(), ends.len(), symbols.as_mut_ptr(), symbols.len(),
+                self.bytes.as_ptr(),
+                self.bytes.len(),
+                bytes.as_ptr(),
+                bytes.len(),
+                ends.as_ptr(),
+                ends.len(),
+                symbols.as_mut_ptr(),
+                symbols.len(),
             )
         };
         symbols.into_iter().map(|symbol| u32::try_from(symbol).ok()).collect()

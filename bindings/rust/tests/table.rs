@@ -67,7 +67,8 @@ fn byte_strings_need_not_be_utf8() {
 #[test]
 fn byte_strings_are_compared_hashed_and_converted_as_their_bytes() {
     let (string, bytes) = (BString::from("a"), BStr::new(b"a"));
-    assert!(string == bytes && bytes == string && string == "a" && "a" == string && *bytes == b"a"[..] && string == vec![b'a']);
+    assert!(string == bytes && string == "a" && *bytes == b"a"[..] && string == vec![b'a']);
+    assert!(bytes == string && "a" == string);
     assert!(bytes < BStr::new("b") && string != "b" && BString::default().is_empty());
     assert_eq!((bytes.to_owned(), Vec::from(string.clone())), (BString::new(vec![b'a']), vec![b'a']));
     assert!(HashSet::from([string]).contains(bytes));

@@ -1,7 +1,8 @@
 //! How a table takes in all strings of a list.
-ghost use Rattle.std.specs.Prelude.{◌≡◌, ◌<◌, ◌≤◌, length, map, sum_by, IfErr, IfOk, OnErr, OnOk};
+ghost use Rattle.std.specs.Prelude.{◌≡◌, ◌+◌, ◌<◌, ◌≤◌, length, map, sum_by, IfErr, IfOk, OnErr, OnOk};
 ghost use Rattle.intaglio_interner.specs.Batch.{IfOverflow, InternsAll, RefusedCost, StaysValid};
-ghost use Rattle.intaglio_interner.specs.Bytes.{KeepsBytes};
+ghost use Rattle.intaglio_content.specs.Store.{byte_room};
+ghost use Rattle.intaglio_interner.specs.Bytes.{GrowsBytes, GrowsFor, KeepsBytes};
 ghost use Rattle.intaglio_interner.specs.Cost.{Costs};
 ghost use Rattle.intaglio_interner.specs.Issue.{interned_all, issue_from};
 ghost use Rattle.intaglio_interner.specs.Lookup.{Keeps};
@@ -17,7 +18,8 @@ use std::alloc::{AllocError, Global};
 ///
 /// Earlier symbols keep their strings, and what is new comes in the list's order. The strings are read where they
 /// are, and only new ones are copied. They are interned as one batch of forms ([`get_or_intern_all`]), of which a
-/// list is allocated first.
+/// list is allocated first. A table of bytes takes in every string. Whether a table of texts can take in a list,
+/// [`are_texts`](crate::are_texts) says.
 ///
 /// # Errors
 ///
@@ -25,17 +27,18 @@ use std::alloc::{AllocError, Global};
 /// contents of the table are unchanged, its capacity isn't lower, and there is no less room for bytes.
 ///
 /// ```
-/// # use intaglio::{StrContent, SymbolTable, Work};
+/// # use intaglio::Work;
+/// # use intaglio::bytes::{BytesContent, SymbolTable};
 /// # use intaglio_columns::absorb;
 /// # use intaglio_frozen::{Frozen, Kind, freeze};
 /// # let alloc = rt.alloc();
 /// # let mut words = SymbolTable::new(alloc)?;
-/// # words.intern(StrContent::from("b"))?;
-/// # words.intern(StrContent::from("a"))?;
-/// let bytes = freeze(alloc, &words, Kind::Text, 1, 2)?;
+/// # words.intern(BytesContent::from(b"b".as_slice()))?;
+/// # words.intern(BytesContent::from(b"a".as_slice()))?;
+/// let bytes = freeze(alloc, &words, Kind::Bytes, 1, 2)?;
 /// let frozen = Frozen::open(&bytes)?;
 /// let mut table = SymbolTable::new(alloc)?;
-/// let a = table.intern(StrContent::from("a"))?;
+/// let a = table.intern(BytesContent::from(b"a".as_slice()))?;
 /// let map = absorb(alloc, &mut table, &frozen, &mut Work::new())?;
 /// assert!(rt; map.get(1).copied() == Some(a));
 /// ```
@@ -75,6 +78,11 @@ where
         FailsAsForms T.Content.Form.form_spelling (L.strings list.now) e cost (λ forms.
         RefusedCost T.Content.key T.Content.Form.key T.Content.Form.adds T.Content.Form.copies (T.hash table.old)
         (T.state table.old) forms e cost))) }
+    ensures grows { let needed = length (T.state table.old).contents + length (L.strings list.now) in
+        GrowsFor needed (T.most table.old) (T.most table.new) }
+    ensures grows_bytes { let room = byte_room T.Store.takes in
+        GrowsBytes (room (T.state table.old).contents (T.spare_bytes table.old))
+        (room (T.state table.new).contents (T.spare_bytes table.new)) }
     ensures table { StaysValid T.Content.key (T.hash table.old) (T.state table.old)
         (T.hash table.new) (T.state table.new) }
     ensures bytes { KeepsBytes T.Store.takes (sum_by length (L.strings list.now)) (T.state table.old).contents

@@ -1,11 +1,12 @@
 //! Batches of contents or forms.
-ghost use Rattle.std.specs.Prelude.{◌≡◌, ◌<◌, length, map, sum_by, IfErr, IfOk, OnErr, OnOk};
+ghost use Rattle.std.specs.Prelude.{◌≡◌, ◌+◌, ◌<◌, length, map, sum_by, IfErr, IfOk, OnErr, OnOk};
 ghost use Rattle.intaglio_content.specs.Key.{hash_of};
+ghost use Rattle.intaglio_content.specs.Store.{byte_room};
 ghost use Rattle.intaglio_interner.specs.State.{first};
 ghost use Rattle.intaglio_interner.specs.Lookup.{FindsEach, FindsEachKey, Keeps, StoresEach, StoresEachKey};
 ghost use Rattle.intaglio_interner.specs.Issue.{interned_all, issue_from};
 ghost use Rattle.intaglio_interner.specs.Batch.{IfOverflow, StaysValid};
-ghost use Rattle.intaglio_interner.specs.Bytes.{KeepsBytes};
+ghost use Rattle.intaglio_interner.specs.Bytes.{GrowsBytes, GrowsFor, KeepsBytes};
 
 use super::{Table, TableOver};
 use intaglio_core::{
@@ -46,6 +47,8 @@ impl<C: Content + Sought<C> + Drop, S: BuildHasher> Table<C, S> {
         ensures refused { OnErr result (self.new.state.contents ≡ self.old.state.contents) }
         ensures overflow { let all = interned_all C.key self.old.state.contents contents.items in
             IfErr result (λ e. IfOverflow e (self.old.state.limit < length all)) }
+        ensures grows { let needed = length self.old.state.contents + length contents.items in
+            GrowsFor needed self.old.most self.new.most }
         ensures table { let hash = hash_of S.BuildHasher S.Hasher.Hasher in
             StaysValid C.key (hash self.old.hasher) self.old.state (hash self.new.hasher) self.new.state }
     {
@@ -116,6 +119,11 @@ where
         ensures overflow { let held = map L.Content.spelling self.old.state.contents in
             let all = interned_all L.Content.key_of held (map L.By.form_spelling forms.now) in
             IfErr result (λ e. IfOverflow e (self.old.state.limit < length all)) }
+        ensures grows { let needed = length self.old.state.contents + length forms.now in
+            GrowsFor needed self.old.most self.new.most }
+        ensures grows_bytes { let room = byte_room L.takes in
+            GrowsBytes (room self.old.state.contents self.old.spare_bytes)
+            (room self.new.state.contents self.new.spare_bytes) }
         ensures table { let hash = hash_of S.BuildHasher S.Hasher.Hasher in
             StaysValid L.Content.key (hash self.old.hasher) self.old.state (hash self.new.hasher) self.new.state }
         ensures bytes { KeepsBytes L.takes (sum_by L.By.needs forms.now) self.old.state.contents

@@ -8,6 +8,7 @@ ghost use Rattle.intaglio_interner.specs.Change.{Interns};
 ghost use Rattle.intaglio_interner.specs.Lookup.{IsFound, FindsInterned, Keeps, FindsEach, StoresEach};
 ghost use Rattle.intaglio_interner.specs.Cost.{Costs, InternCost};
 ghost use Rattle.intaglio_interner.specs.Issue.{issue_from, interned_all};
+ghost use Rattle.intaglio_interner.specs.Bytes.{GrowsFor};
 ghost use Rattle.intaglio_interner.specs.Batch.{IfOverflow, StaysValid, InternsAll, RefusedCost};
 
 use super::Core;
@@ -98,6 +99,8 @@ impl<C: Keyed, S: BuildHasher> Core<C, S> {
             (RefusedCost C.key C.key IsMoved false (hash_of S.BuildHasher S.Hasher.Hasher self.old.hasher) self.old.state
             contents.items e)) }
 
+        ensures grows { let needed = length self.old.state.contents + length contents.items in
+            GrowsFor needed self.old.most self.new.most }
         ensures table { StaysValid C.key (hash_of S.BuildHasher S.Hasher.Hasher self.old.hasher) self.old.state
             (hash_of S.BuildHasher S.Hasher.Hasher self.new.hasher) self.new.state }
     {

@@ -1,4 +1,6 @@
-use Rattle.std.proofs.Common.{◌≡◌, map, inr, arith}
+use Rattle.std.proofs.Common.{◌≡◌, ◌∙◌, length, map, inr, sym, ap, arith}
+use Rattle.std.proofs.lemmas.List.{length-map}
+use Rattle.intaglio_interner.proofs.Room.{bytes-none, grows-none}
 use Rattle.intaglio_interner.proofs.OnResult.{err-map, ok-map}
 use Rattle.intaglio_columns.proofs.Absorbed.{issued-map-by, ok-both}
 use Rattle.intaglio_columns.proofs.absorbing.absorb.Goals as goal
@@ -35,6 +37,18 @@ pub returns-clause-refused_cost : goal.returns-clause-refused_cost
 returns-clause-refused_cost g c =
     let are : map g.T.Content.Form.CopiedTo.form_spelling c.deref.result.now ≡ g.L.StringList.strings c.args.list.now = rw c.deref.ensures.value c.in_ok-forms.ensures.strings in
     err-map _ _ c.get_or_intern_all.result (λ e run. (run.0, run.1, inr (c.deref.result.now, are, run.2))) c.get_or_intern_all.ensures.refused_cost
+
+pub returns-clause-grows : goal.returns-clause-grows
+returns-clause-grows g c =
+    let are : map g.T.Content.Form.CopiedTo.form_spelling c.deref.result.now ≡ g.L.StringList.strings c.args.list.now = rw c.deref.ensures.value c.in_ok-forms.ensures.strings in
+    let many : length c.deref.result.now ≡ length (g.L.StringList.strings c.args.list.now) = sym (length-map c.deref.result.now g.T.Content.Form.CopiedTo.form_spelling) ∙ ap length are in
+    rw many at c.get_or_intern_all.ensures.grows
+
+pub returns-in_err-forms-clause-grows : goal.returns-in_err-forms-clause-grows
+returns-in_err-forms-clause-grows g c = grows-none _ _
+
+pub returns-in_err-forms-clause-grows_bytes : goal.returns-in_err-forms-clause-grows_bytes
+returns-in_err-forms-clause-grows_bytes g c = bytes-none _
 
 pub returns-clause-bytes : goal.returns-clause-bytes
 returns-clause-bytes g c =
