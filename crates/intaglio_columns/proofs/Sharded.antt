@@ -1,6 +1,5 @@
 -- Where the strings of shards stand when the shards are joined.
-use Rattle.std.proofs.Common.{◌≡◌, ◌≢◌, ◌∙◌, ℕ, zero, suc, ◌+◌, ◌-◌, ◌<◌, ◌≤◌, Bool, true, false, cond, List, [], ◌∷◌, ◌++◌, get_or, length, map, take, drop, Option, Some, None, option_map, refl, sym, ap, subst, arith, append-nil, ◌==◌, ◌⊎◌, inl, inr}
-use Rattle.std.specs.List.{filter, flat_map}
+use Rattle.std.proofs.Common.{◌≡◌, ◌≢◌, ◌∙◌, ℕ, zero, suc, ◌+◌, ◌-◌, ◌<◌, ◌≤◌, true, false, cond, List, [], ◌∷◌, ◌++◌, get_or, length, map, take, drop, Option, Some, None, option_map, refl, sym, ap, arith, append-nil, ◌==◌, ◌⊎◌, inl, inr}
 use Rattle.std.specs.Prelude.{slice_get}
 use Rattle.std.proofs.Math.Seq.{take-length}
 use Rattle.std.proofs.lemmas.List.{length-append, length-map}
@@ -9,11 +8,10 @@ use Rattle.std.proofs.lemmas.List.Elements.{filter-append}
 use Rattle.std.proofs.lemmas.Bool.{eq-eqb}
 use Rattle.std.proofs.lemmas.Bool.Decides.{eqb_tells}
 use Rattle.std.proofs.Math.Dec.{eqb}
-use Rattle.intaglio_content.specs.Key.{Key}
-use Rattle.intaglio_interner.specs.State.{first, key_eq}
+use Rattle.intaglio_interner.specs.State.{first}
 use Rattle.intaglio_interner.proofs.First.{first-append, key_eq-unequal, or_at, some-below}
 use Rattle.intaglio_columns.specs.Columns.{string_key}
-use Rattle.intaglio_columns.specs.Shards.{AreShards, BelongTo, joined, shard, shard_of, starts_from}
+use Rattle.intaglio_columns.specs.Shards.{AreShards, joined, shard, shard_of, starts_from}
 use Rattle.intaglio_columns.proofs.Absorbed.{next-string}
 
 -- the numbers of the first strings, when a shard comes behind the others

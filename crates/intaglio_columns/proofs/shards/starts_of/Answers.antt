@@ -1,8 +1,7 @@
-use Rattle.std.proofs.Common.{◌≡◌, ◌∙◌, ◌+◌, ◌++◌, [], ◌∷◌, Some, ap, arith, inr, length, rules, slice_get, sym, take}
+use Rattle.std.proofs.Common.{◌≡◌, ◌∙◌, ◌+◌, ◌++◌, [], ◌∷◌, ap, arith, inr, length, rules, sym, take}
 use Rattle.std.proofs.lemmas.Grind.{take_at_read}
 use Rattle.intaglio_columns.specs.Shards.{joined, starts_from}
 use Rattle.intaglio_columns.proofs.Sharded.{joined-front, joined-next, shard-read, starts-push}
-use Rattle.intaglio_columns.proofs.Absorbed.{next-string}
 use Rattle.intaglio_columns.proofs.shards.starts_of.Goals as goal
 
 pub returns-then-count-gt-MOST-clause-err : goal.returns-then-count-gt-MOST-clause-err

@@ -1,4 +1,4 @@
-use Rattle.std.proofs.Common.{◌≡◌, ◌∙◌, ◌-◌, ◌+◌, ◌<◌, ◌≤◌, Some, ap, arith, length, slice_get, sym, take}
+use Rattle.std.proofs.Common.{◌≡◌, ◌-◌, ◌+◌, Some, ap, arith, length, slice_get}
 use Rattle.intaglio_columns.specs.Shards.{joined}
 use Rattle.intaglio_columns.proofs.Sharded.{all-taken, shard-read, start-read, starts-length}
 use Rattle.intaglio_columns.proofs.shards.Shards.len.Goals as goal
