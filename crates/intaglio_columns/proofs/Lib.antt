@@ -1,2 +1,4 @@
 pub mod Absorbed
+pub mod Filtered
 pub mod Renumbered
+pub mod Sharded

@@ -1,7 +1,8 @@
 -- What merging and renumbering keep.
-use Rattle.std.specs.Prelude.{◌≡◌, ℕ, ◌≤◌, List, ◌∷◌, ◌++◌, length}
+use Rattle.std.specs.Prelude.{◌≡◌, ℕ, ◌≤◌, List, ◌∷◌, ◌++◌, length, map}
 use Rattle.intaglio_interner.specs.State.{Distinct}
 use Rattle.intaglio_columns.specs.Columns.{decode, missing, renumber, string_key, union, IsMap}
+use Rattle.intaglio_columns.specs.Shards.{shard}
 
 -- renumbered codes have the strings that the codes had
 abbrev pub RenumberingKeepsStrings : Type 0
@@ -21,3 +22,7 @@ MapsAreUnique = (old new : List (List ℕ)) (numbers others : List ℕ) → Dist
 -- lists that are merged first, and then with others, have the union that they have at once
 abbrev pub MergingNests : Type 0
 MergingNests = (before nested after : List (List (List ℕ))) → union (before ++ union nested ∷ after) ≡ union (before ++ nested ++ after)
+
+-- a shard of a union is the union of that shard of each list
+abbrev pub ShardsMerge : Type 0
+ShardsMerge = (count s : ℕ) (lists : List (List (List ℕ))) → shard count (union lists) s ≡ union (map (λ strings. shard count strings s) lists)

@@ -1,7 +1,7 @@
 //! Laws for proofs of callers: what merging and renumbering keep.
 //!
 //! The functions do nothing: the contract of each is a law.
-ghost use Rattle.intaglio_columns.specs.Laws.{RenumberingKeepsStrings, MapsCompose, MapsAreUnique, MergingNests};
+ghost use Rattle.intaglio_columns.specs.Laws.{RenumberingKeepsStrings, MapsCompose, MapsAreUnique, MergingNests, ShardsMerge};
 
 /// Decoding renumbered codes under the merged dictionary gives what decoding the codes under the old one gave, also
 /// where a code is no symbol. The merged dictionary has fewer strings than the number of the missing code, 2^32 - 1,
@@ -34,6 +34,14 @@ pub fn one_map_law()
 /// Merging is the same whichever way it is nested: lists may be merged first, and then their union with others.
 pub fn nesting_law()
     ensures { MergingNests }
+{
+    // The contract is the law.
+}
+
+/// The shards of a union are the unions of shards: so shards can be merged each by itself, and the numbering depends
+/// only on the lists in their order and on the number of shards.
+pub fn sharding_law()
+    ensures { ShardsMerge }
 {
     // The contract is the law.
 }

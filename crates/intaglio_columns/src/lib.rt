@@ -6,10 +6,16 @@
 #![tactic(auto)]
 
 mod absorbing;
+mod error;
 mod from_string;
 pub mod laws;
 mod merging;
+mod sharding;
+mod shards;
 
 pub use absorbing::absorb;
+pub use error::ShardsError;
 pub use from_string::{FromString, are_texts};
 pub use merging::{Merged, merge_tables};
+pub use sharding::{shard_of, split};
+pub use shards::Shards;

@@ -40,6 +40,20 @@ impl<K: intaglio_content::Kind> StringList for Packed<K> {
     }
 }
 
+impl StringList for Vec<&[u8]> {
+    ghost strings = { λ list. map (λ w. w.now) list.items };
+
+    #[inline(always)]
+    fn len(&self) -> usize {
+        Vec::len(self)
+    }
+
+    #[inline(always)]
+    fn string(&self, i: usize) -> &[u8] {
+        self[i]
+    }
+}
+
 impl<C: Spelled, S: BuildHasher> StringList for Table<C, S> {
     ghost strings = { λ table. map C.spelling table.state.contents };
 

@@ -17,4 +17,5 @@ mod frozen_tables;
 mod hashes;
 mod packed_tables;
 mod searches;
+mod sharding;
 mod symbols_to_come;

@@ -1,0 +1,7 @@
+-- The strings of the shards so far belong to them.
+use Rattle.std.proofs.Common.{◌≡◌, ℕ, List, ◌<◌, Some, slice_get}
+use Rattle.intaglio_columns.specs.Shards.{BelongTo}
+use Rattle.intaglio_columns.proofs.shards.check_each.Given as goal
+
+abbrev pub invariant-loop-shard : goal.invariant-loop-shard
+invariant-loop-shard l = (t : ℕ) (ws : List (List ℕ)) → t < l.shard → slice_get l.tables t ≡ Some ws → BelongTo l.count t ws

@@ -1,0 +1,52 @@
+-- Shards: a list of strings in parts, where the part of a string is known from the string.
+use Rattle.std.specs.Prelude.{◌≡◌, ℕ, zero, suc, ◌+◌, ◌<◌, ◌≢◌, ◌⊎◌, ◌==◌, List, [], ◌∷◌, ◌++◌, length, slice_get, Some, ⊤}
+use Rattle.std.specs.List.{filter, flat_map}
+use Rattle.intaglio_frozen.specs.LookUp.{hash_under, scaled}
+use Rattle.intaglio_columns.specs.Columns.{missing}
+use Rattle.intaglio_columns.specs.declared.error.ShardsError.{ShardsError}
+use Rattle.intaglio_columns.specs.declared.error.ShardsError.TheVariants.{Empty, Misplaced, TooMany, Memory}
+
+-- the shard of a string, of so many: from its hash under fixed keys
+unfoldable pub shard_of : ℕ → List ℕ → ℕ
+shard_of count w = scaled count (hash_under 0x7368_6172_6473_2e30 0x7368_6172_6473_2e31 w)
+
+-- the strings of a list that belong to a shard, in the list's order
+abbrev pub shard : ℕ → List (List ℕ) → ℕ → List (List ℕ)
+shard count strings s = filter (λ w. shard_of count w == s) strings
+
+-- the first shards of a list
+abbrev pub first_shards : ℕ → List (List ℕ) → ℕ → List (List (List ℕ))
+first_shards count strings zero = []
+first_shards count strings (suc s) = first_shards count strings s ++ shard count strings s ∷ []
+
+-- all shards of a list
+abbrev pub shards : ℕ → List (List ℕ) → List (List (List ℕ))
+shards count strings = first_shards count strings count
+
+-- the strings of all shards, those of one shard after those of the other
+abbrev pub joined : List (List (List ℕ)) → List (List ℕ)
+joined shards = flat_map (λ strings. strings) shards
+
+-- the number of the first string of each shard, where those before the shards are n
+abbrev pub starts_from : ℕ → List (List (List ℕ)) → List ℕ
+starts_from n [] = []
+starts_from n (strings ∷ shards) = n ∷ starts_from (n + length strings) shards
+
+-- each string of these belongs to shard s of so many
+abbrev pub BelongTo : ℕ → ℕ → List (List ℕ) → Type 0
+BelongTo count s strings = (i : ℕ) (w : List ℕ) → slice_get strings i ≡ Some w → shard_of count w ≡ s
+
+-- each string of each shard belongs there
+abbrev pub AreShards : List (List (List ℕ)) → Type 0
+AreShards shards = (s : ℕ) (strings : List (List ℕ)) → slice_get shards s ≡ Some strings → BelongTo (length shards) s strings
+
+-- the string at i of these belongs to another shard than s
+abbrev pub IsMisplaced : ℕ → ℕ → List (List ℕ) → ℕ → Type 0
+IsMisplaced count s strings i = (w : List ℕ) × (slice_get strings i ≡ Some w) × (shard_of count w ≢ s)
+
+-- why lists aren't shards
+abbrev pub IsShardsFault : List (List (List ℕ)) → ShardsError → Type 0
+IsShardsFault shards Empty = shards ≡ []
+IsShardsFault shards (Misplaced s i) = (strings : List (List ℕ)) × (slice_get shards s ≡ Some strings) × IsMisplaced (length shards) s strings i
+IsShardsFault shards TooMany = (missing < length shards) ⊎ (missing < length (joined shards))
+IsShardsFault shards Memory = ⊤

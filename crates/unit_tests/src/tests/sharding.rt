@@ -1,0 +1,81 @@
+//! What `split` and `Shards` do with strings of a list: each is in its shard, and is found at its number in all.
+use super::assertions::{holds, same};
+use intaglio::packed::bytes::SymbolTable;
+use intaglio_columns::{Shards, ShardsError, shard_of, split};
+use intaglio_core::Symbol;
+use intaglio_frozen::{Frozen, Kind, freeze};
+use intaglio_hash::FixedState;
+use std::alloc::Global;
+use std::process::Abort;
+
+const COUNT: u32 = 3;
+
+// A list of the numbers below 50, as text.
+fn numbers(rt: &impl Abort, alloc: Global) -> SymbolTable {
+    let mut list = SymbolTable::with_hasher(alloc, FixedState).expect(rt, "memory");
+    for number in 0..50 {
+        let text = format!(in alloc; "{number}").expect(rt, "memory");
+        let _ = list.get_or_intern(text.as_bytes()).expect(rt, "memory");
+    }
+    list
+}
+
+// The frozen tables of the shards of a list.
+fn frozen_shards(rt: &impl Abort, alloc: Global, list: &SymbolTable) -> Vec<Vec<u8>> {
+    let mut blocks = Vec::new(alloc);
+    for shard in split(alloc, list, COUNT).expect(rt, "memory") {
+        let block = freeze(alloc, &shard, Kind::Bytes, 1, 2).expect(rt, "a frozen table");
+        blocks.push(block).expect(rt, "memory");
+    }
+    blocks
+}
+
+// Tables of these blocks, without the first ones.
+fn tables_from<'a>(
+    rt: &impl Abort,
+    alloc: Global,
+    blocks: &'a [Vec<u8>],
+    first: usize,
+) -> Vec<Frozen<'a>> {
+    let mut tables = Vec::new(alloc);
+    for block in blocks.iter().skip(first) {
+        let table = Frozen::open(block).expect(rt, "a frozen table");
+        tables.push(table).expect(rt, "memory");
+    }
+    tables
+}
+
+#[test]
+fn strings_are_found_in_their_shards(rt: HostRuntime) {
+    let alloc = rt.alloc();
+    let list = numbers(&rt, alloc);
+    let blocks = frozen_shards(&rt, alloc, &list);
+    let shards = Shards::open(alloc, tables_from(&rt, alloc, &blocks, 0)).expect(&rt, "shards");
+    same(&rt, shards.count(), 3);
+    same(&rt, shards.len(), 50);
+    for (_, string) in list.iter() {
+        let symbol = shards.check_interned(string).expect(&rt, "a symbol");
+        same(&rt, shards.get(symbol), Some(string));
+    }
+    same(&rt, shards.check_interned(b"50"), None);
+    same(&rt, shards.get(Symbol::new(50)), None);
+}
+
+#[test]
+fn tables_in_another_order_are_no_shards(rt: HostRuntime) {
+    let alloc = rt.alloc();
+    let list = numbers(&rt, alloc);
+    let blocks = frozen_shards(&rt, alloc, &list);
+    let refused = Shards::open(alloc, tables_from(&rt, alloc, &blocks, 1)).err();
+    holds(&rt, matches!(refused, Some(ShardsError::Misplaced(_, _))));
+    let refused = Shards::open(alloc, tables_from(&rt, alloc, &blocks, 3)).err();
+    holds(&rt, matches!(refused, Some(ShardsError::Empty)));
+}
+
+#[test]
+fn the_shard_of_a_string_is_that_of_every_version(rt: HostRuntime) {
+    same(&rt, shard_of(b"", 1000), 881);
+    same(&rt, shard_of(b"a", 1000), 812);
+    same(&rt, shard_of(b"rose", 1000), 861);
+    same(&rt, shard_of(b"lily", 1000), 16);
+}
