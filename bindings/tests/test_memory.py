@@ -1,9 +1,12 @@
 """The Python module with each allocation of Python's refused in turn: a call then raises MemoryError, or does as it does otherwise, and leaves the
 strings. The library's own allocations are refused in bindings/tests/refused.c. Left out where Python has no _testcapi."""
+import sys
+import types
 import unittest
 from array import array
+from unittest import mock
 
-from intaglio import MISSING, BytesTable, CStringTable, Frozen, Full, Missing, NoSymbol, NotUtf8, Stale, SymbolTable, renumber
+from intaglio import MISSING, BytesTable, CStringTable, Frozen, Full, Missing, NoSymbol, NotUtf8, Stale, SymbolTable, merge, renumber
 
 try:
     import _testcapi
@@ -15,7 +18,14 @@ OUT_OF_MEMORY = (MemoryError, SystemError)
 MOST = 150
 
 
+class Categorical:
+    """What a Categorical of pandas is to the module."""
+
+    codes, categories = array("b", [2, 0, -1, 2]), ["w1", "unused", "w5"]
+
+
 @unittest.skipUnless(_testcapi, "_testcapi isn't there")
+@mock.patch.dict(sys.modules, pandas=types.SimpleNamespace(Categorical=Categorical, NA=object()))
 class Memory(unittest.TestCase):
     def results(self, call):
         """What each call with one more allocation before the one that is refused returns or raises."""
@@ -48,6 +58,9 @@ class Memory(unittest.TestCase):
             (lambda: table.get_all(codes), words), (lambda: table.take_back(99), Stale), (lambda: table.encode(["new", "\ud800"]), NotUtf8),
             (lambda: list(SymbolTable(words)), words), (lambda: list(CStringTable().intern_lines(lines)), [*codes]),
             (lambda: SymbolTable().absorb(frozen), codes), (lambda: SymbolTable(words, limit=2), Full),
+            (lambda: table.encode(Categorical(), missing=9), array("I", [5, 1, 9, 5])), (lambda: frozen.encode(Categorical(), missing=9), array("I", [5, 1, 9, 5])),
+            (lambda: table.encode(Categorical()), TypeError), (lambda: table.check_into(Categorical(), out, missing=9), 4), (lambda: frozen.encode(Categorical()), TypeError),
+            (lambda: list(merge([frozen, frozen])[0]), words),
         )):
             results = list(self.results(call))
             self.assertEqual([it for it in results if it not in OUT_OF_MEMORY and it != wanted], [], number)
