@@ -24,7 +24,7 @@ _Content = TypeVar("_Content", covariant=True)
 # What a table takes as a content: more than it returns.
 _Given = TypeVar("_Given", contravariant=True)
 _Default = TypeVar("_Default")
-_Out = TypeVar("_Out")
+_Out = TypeVar("_Out", bound=Writeable)
 _Table = TypeVar("_Table", bound="Table[Any, Any]")
 
 class Table(Sequence[_Content], Generic[_Content, _Given]):
