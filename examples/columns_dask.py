@@ -9,7 +9,6 @@ tasks again, on others.
 """
 import os
 import sys
-from array import array
 from itertools import count
 from pathlib import Path
 
@@ -25,9 +24,8 @@ WIDTH = 8
 
 def encode(block):
     """The dictionary and the codes of a block. The same block gives the same again."""
-    lines = block.removesuffix(b"\n").split(b"\n") if block else []
     table = BytesTable()
-    codes = array("I", table.intern_all(lines))
+    codes = table.encode_lines(block)
     return table.freeze(), codes
 
 

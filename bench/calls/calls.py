@@ -1,12 +1,12 @@
 """Times calls of the Python module as calls.c does, with the same arguments and output, and a dict's beside them.
 
-The strings are made anew before each measurement, since a str keeps its hash, which a dict uses again.
+The strings are made anew before each measurement, since a str keeps its hash, which a dict uses again. The times are processor time.
 """
 import gc
 import sys
 from array import array
 from pathlib import Path
-from time import perf_counter
+from time import process_time
 
 from intaglio import SymbolTable
 
@@ -15,9 +15,9 @@ FRESH, SHUFFLED, ABSENT = (Path(word).read_bytes() for word in sys.argv[1:4])
 
 def measure(row, column, lines, call):
     texts = lines.decode().splitlines()
-    start = perf_counter()
+    start = process_time()
     call(texts)
-    print(f"{row};{column};{(perf_counter() - start) * 1e9 / len(texts):.1f}")
+    print(f"{row};{column};{(process_time() - start) * 1e9 / len(texts):.1f}")
 
 
 def one_by_one(call):

@@ -9,7 +9,7 @@ import tempfile
 import unittest
 from pathlib import Path
 
-from intaglio import MISSING, BytesTable, Frozen, Missing, PathTable, SymbolTable, merge, renumber
+from intaglio import MISSING, BytesTable, Frozen, Full, Missing, NoSpace, NotUtf8, PathTable, SymbolTable, merge, renumber
 
 try:
     import numpy
@@ -166,6 +166,75 @@ class Columns(unittest.TestCase):
         for other in (pandas.Series([1, 2]), pandas.DataFrame({"x": whole}), pandas.Series([1.5, NAN])):
             with self.assertRaises(TypeError):
                 SymbolTable().encode(other, missing=MISSING)
+
+    def test_categoricals_are_encoded_as_their_strings(self):
+        chance = random.Random(9)
+        for count, rows in ((0, 0), (0, 3), (1, 1), (5, 40), (300, 2_000), (40_000, 100_000)):
+            categories = [f"é {number}" for number in chance.sample(range(10 * count), count)]
+            codes = numpy.array([chance.randrange(-1, count) if chance.randrange(3) else -1 for _ in range(rows)], "i4")
+            whole = pandas.Categorical.from_codes(codes, categories=categories)
+            plain = [None if code < 0 else categories[code] for code in codes]
+            for given, column in ((whole, plain), (pandas.Series(whole), plain), (pandas.Index(whole), plain), (whole[::-3], plain[::-3]), (pandas.Series(whole)[1:], plain[1:])):
+                begun = {"x": 0, categories[0] if count else "y": 1}
+                symbols, table, out = dict(begun), SymbolTable(begun), numpy.full(rows + 1, 9, "i4")
+                wanted = codes_of(column, symbols)
+                self.assertEqual((list(table.encode(given, missing=MISSING)), list(table)), (wanted, [*symbols]))
+                self.assertEqual(list(frozen_of([*symbols]).encode(given, missing=MISSING)), wanted)
+                self.assertEqual(list(frozen_of([*begun]).encode(given, missing=7)), [begun.get(it, 7) for it in column])
+                signed = [it if it != MISSING else -1 for it in wanted]
+                for call in (table.encode_into, table.check_into, frozen_of([*symbols]).encode_into):
+                    out[:] = 9
+                    self.assertEqual((call(given, out, missing=MISSING), out.tolist()), (len(column), signed + [9] * (rows + 1 - len(column))))
+            dense, present = whole[codes >= 0], [it for it in plain if it]
+            table, words = SymbolTable(), frozen_of([*dict.fromkeys(present)])
+            self.assertEqual((table.intern_all(dense), list(table), list(SymbolTable(dense))), (codes_of(present, {}), [*words], [*words]))
+            self.assertEqual((table.check_all(dense), words.find_all(dense), words.check_all(dense)), ([*map(words.index, present)],) * 3 if count < 10_000 else (table.intern_all(present),) * 3)
+
+    def test_what_is_wrong_in_a_categorical_is_named_with_its_row(self):
+        def column(*strings, kind="category"):
+            return pandas.Series(strings, dtype=kind)
+
+        for position, given in ((0, column(None, "a")), (2, column("a", "a", None, "b")), (1, column("a", None).array)):
+            for call in (SymbolTable().encode, SymbolTable().intern_all, SymbolTable().check_all, SymbolTable, frozen_of(["a"]).encode, frozen_of(["a"]).find_all):
+                with self.assertRaisesRegex(TypeError, f"a string, not float, at position {position}"):
+                    call(given)
+            for call in (SymbolTable().encode, frozen_of(["a"]).encode):
+                with self.assertRaisesRegex(TypeError, f"at position {position}: missing= gives None, NaN and NA a code$"):
+                    call(given)
+        rows = column("a", "b", "a", None, "b", "c", "c")
+        for call, given, error, position in (
+            (SymbolTable(limit=2).encode, column("a", "b", "a", "b", "c", "c"), Full, 4), (frozen_of(["a"]).encode, rows, Missing, 1), (frozen_of(["b"]).encode, rows[1:], Missing, 1),
+        ):
+            with self.assertRaisesRegex(error, f"at position {position}") as raised:
+                call(given)
+            self.assertEqual(raised.exception.position, position)
+        with self.assertRaisesRegex(TypeError, "at position 3"):
+            frozen_of(["b", "a"]).encode(rows)
+        table, lone = SymbolTable(["b"]), column("b", "b", "\ud800", "a")
+        for call in (table.encode, table.intern_all, lambda it: table.encode_into(it, array("I", bytes(99 * 4)))):
+            with self.assertRaises(NotUtf8) as raised:
+                call(lone)
+            self.assertEqual((raised.exception.position, list(table)), (2, ["b"]))
+        self.assertEqual((list(frozen_of(["b"]).encode(lone, missing=5)), table.check_all(lone)), ([0, 0, 5, 5], [0, 0, None, None]))
+        for call in (table.encode_into, table.check_into, frozen_of(["b"]).encode_into):
+            with self.assertRaises(NoSpace):
+                call(column("b", "b", "b"), array("I", [0] * 2))
+        for other in (column(1, 2, 1), column(*pandas.to_datetime(["2020-01-01", "2020-01-02"]))):
+            with self.assertRaisesRegex(TypeError, "a string, not .*, at position 0"):
+                table.encode(other)
+        self.assertEqual((list(BytesTable(column(b"b", b"a", b"b"))), list(table)), ([b"b", b"a"], ["b"]))
+
+    def test_each_category_is_read_once(self):
+        read = []
+
+        class Counted(Path().__class__):
+            def __fspath__(self):
+                read.append(str(self))
+                return str(self)
+
+        paths = pandas.Categorical.from_codes([2, 0, 2, 2, 0] * 1_000, categories=[Counted("b"), Counted("unused"), Counted("a/c")])
+        table = PathTable()
+        self.assertEqual((list(table.encode(paths)), list(table), read), ([0, 1, 0, 0, 1] * 1_000, ["a/c", "b"], ["a/c", "b"]))
 
     def test_codes_of_pandas(self):
         words = frozen_of(STRINGS)

@@ -10,7 +10,7 @@ import unittest
 from array import array
 
 import intaglio
-from intaglio import MISSING, Frozen, SymbolTable, renumber
+from intaglio import MISSING, Frozen, SymbolTable, merge, renumber
 from intaglio._table import frozen_slice
 
 CALLS = 60_000
@@ -20,6 +20,7 @@ CLEARS = 20_000
 LARGE = ["a" * 100_000, "b" * 100_000]
 # How many strings a batch has, and how many words there are, so that one takes some tenths of a second.
 LONG, DISTINCT = 1_000_000, 100_000
+TRIES = 9
 
 
 def run(*calls):
@@ -112,6 +113,8 @@ class FrozenTables(unittest.TestCase):
         cls.column = [cls.words[number] for number in cls.numbers]
         cls.lines = "\n".join(cls.column).encode()
         cls.map = array("I", reversed(range(DISTINCT)))
+        cls.long_table = SymbolTable(f"{number} of many" for number in range(LONG))
+        cls.long = Frozen.from_bytes(cls.long_table.freeze(), trusted=True)
 
     def calls_meanwhile(self, batch):
         """How many calls another thread makes on the table while a batch runs, and how long the batch and the longest wait of
@@ -131,27 +134,48 @@ class FrozenTables(unittest.TestCase):
         thread.start()
         started.wait()
         start = time.perf_counter()
-        batch()
+        result = batch()
         length = time.perf_counter() - start
         done.set()
         thread.join()
+        # (to free a long list takes its time too)
+        del result
         return len(waits), length, max(waits)
+
+    def assert_lets_run(self, name, batch, share=4):
+        """Another thread's calls wait for less than this share of a batch. A machine that is busy may let them wait longer, so there are several tries."""
+        tries = []
+        for _ in range(TRIES):
+            calls, length, wait = self.calls_meanwhile(batch)
+            # (a batch that held the lock would leave one call, which waits as long as the batch)
+            if calls > 100 and wait < length / share:
+                return
+            tries.append((calls, length, wait))
+        self.fail((name, tries))
+
+    def setUp(self):
+        self.addCleanup(sys.setswitchinterval, sys.getswitchinterval())
+        sys.setswitchinterval(1e-4)
 
     def test_another_threads_call_does_not_wait_for_a_batch(self):
         out = array("I", bytes(4 * LONG))
         for name, batch in (
             ("encode", lambda: self.table.encode(self.column)), ("encode_into", lambda: self.table.encode_into(self.column, out)),
             ("find_all", lambda: self.table.find_all(self.column)), ("encode_lines", lambda: self.table.encode_lines(self.lines)),
-            ("decode", lambda: self.table.decode(self.numbers)), ("iterating", lambda: [list(self.table) for _ in range(9)]),
-            ("a slice", lambda: frozen_slice(self.table._data, True, 0, 2 * LONG, 0)),
+            ("decode", lambda: self.table.decode(self.numbers)), ("iterating", lambda: [list(self.table) for _ in range(9)]), ("all of it", lambda: list(self.long)),
+            ("a slice", lambda: frozen_slice(self.table._data, True, 0, 2 * LONG, 0)), ("get_all", lambda: self.table.get_all(self.numbers)),
+            ("merge", lambda: merge([self.table] * 9)), ("to intern all for merge", lambda: SymbolTable()._absorb_alone(self.long)),
+            ("to freeze for merge", lambda: self.long_table._freeze_alone((0, 0))),
         ):
-            calls, length, wait = self.calls_meanwhile(batch)
-            # (a batch that held the lock would leave one call, which waits as long as the batch)
-            self.assertTrue(calls > 100 and wait < length / 2, (name, calls, length, wait))
+            self.assert_lets_run(name, batch)
+
+    def test_the_list_of_find_all_is_made_in_turns(self):
+        # (to look this word up takes little, so that the list is a large part)
+        column = [self.words[300]] * LONG
+        self.assert_lets_run("find_all", lambda: self.table.find_all(column), share=10)
 
     def test_batches_of_several_threads_agree(self):
         sys.setswitchinterval(1e-6)
-        self.addCleanup(sys.setswitchinterval, 0.005)
         part, text = self.column[:100_000], self.lines[:1_000_000].rpartition(b"\n")[0]
         wanted, of_lines = self.numbers[:100_000], self.numbers[:text.count(b"\n") + 1]
         out = {}
@@ -159,10 +183,9 @@ class FrozenTables(unittest.TestCase):
         def work(number):
             for turn in range(4):
                 out[number, turn] = (
-                    self.table.encode(part) == wanted, self.table.encode_lines(text) == of_lines,
-                    self.table.decode(wanted) == part, self.table.find_all(part) == list(wanted),
-                    renumber(renumber(wanted, self.map), self.map) == wanted,
-                    self.table.encode([None, *part], missing=MISSING)[1:] == wanted,
+                    self.table.encode(part) == wanted, self.table.encode_lines(text) == of_lines, self.table.decode(wanted) == part, self.table.find_all(part) == list(wanted),
+                    renumber(renumber(wanted, self.map), self.map) == wanted, self.table.encode([None, *part], missing=MISSING)[1:] == wanted,
+                    self.table.get_all(wanted) == part, merge([self.table, self.table])[1][1] == array("I", range(DISTINCT)),
                 )
 
         self.assertEqual(run(*(lambda number=number: work(number) for number in range(4))), [])

@@ -116,7 +116,7 @@ class Frozen(Sequence):
     >>> codes, words.decode(codes)
     (array('I', [1, 0, 1]), ['be', 'to', 'be'])
 
-    It can be copied, and pickled: a mapped one by its path, and one in memory by its bytes. Batches (encode, find_all, decode and
+    It can be copied, and pickled: a mapped one by its path, and one in memory by its bytes. Batches (encode, find_all, decode, get_all and
     their kin) let other threads run meanwhile.
 
     Raises NotFrozen, OtherVersion, NoKind, Reserved, TooMany, Truncated, TextEnds, Unused, NotFound, NotUtf8, which name the
@@ -179,9 +179,9 @@ class Frozen(Sequence):
     def encode(self, strings, /, *, missing=None):
         """The codes of strings, which are their symbols, as an array('I').
 
-        With `missing`, such as MISSING, that is the code of a string that isn't in the table, and of None, NaN and pandas.NA.
-        Without it, raises Missing, a KeyError with the first such string and its position, or TypeError. The strings are in any
-        iterable: numpy's arrays of objects and pandas' columns are read where they are.
+        With `missing`, such as MISSING, that is the code of a string that isn't in the table, and of None, NaN and pandas.NA. Without it,
+        raises Missing, a KeyError with the first such string and its position, or TypeError. The strings are in any iterable: numpy's arrays
+        of objects and pandas' columns of objects are read where they are, and of a Categorical its categories.
 
         >>> words = Frozen.from_bytes(SymbolTable(["to", "be"]).freeze())
         >>> words.encode(["be", "or", None], missing=MISSING)
@@ -371,7 +371,7 @@ def is_text_at(position, table):
 def absorbed(merged, position, table):
     """The map of a frozen table, or of that of a path, into a table."""
     with opened(table, position, False) as frozen:
-        return merged.absorb(frozen)
+        return merged._absorb_alone(frozen)
 
 
 def merge(tables, /, out=None, *, keys=(0, 0)):
@@ -379,8 +379,9 @@ def merge(tables, /, out=None, *, keys=(0, 0)):
     for each table: an array('I') with the new symbol of each of its strings, by which renumber turns codes of that table into
     codes of the new one.
 
-    The tables are in a list or another iterable, and each is a Frozen or a path. The new one is written to the path `out`, as
-    Table.freeze does, or else held in memory. It is of texts if all are. Raises what Frozen, Table.absorb and Table.freeze raise.
+    The tables are in a list or another iterable, and each is a Frozen or a path. The new one is written to the path `out`, as Table.freeze
+    does, or else held in memory. It is of texts if all are. Other threads run meanwhile. Raises what Frozen, Table.absorb and Table.freeze
+    raise.
 
     >>> one, two = (Frozen.from_bytes(SymbolTable(words).freeze()) for words in (["to", "be"], ["or", "to"]))
     >>> both, maps = merge([one, two])
@@ -397,5 +398,8 @@ def merge(tables, /, out=None, *, keys=(0, 0)):
     are_texts = [is_text_at(*it) for it in enumerate(tables)]
     with (SymbolTable if all(are_texts) else BytesTable)() as merged:
         maps = [absorbed(merged, *it) for it in enumerate(tables)]
-        frozen = merged.freeze(out, keys=keys)
-    return Frozen(out) if out is not None else Frozen.from_bytes(frozen, trusted=True), maps
+        data = merged._freeze_alone(keys)
+    if out is None:
+        return Frozen.from_bytes(data, trusted=True), maps
+    replace(out, data)
+    return Frozen(out), maps

@@ -163,20 +163,58 @@ static PyObject *no_string(const Reader *reader, PyObject *symbol, Py_ssize_t po
     return position < 0 ? raise_by("no_such_symbol", "(On)", symbol, (Py_ssize_t)len) : raise_by("no_such_symbol", "(Onn)", symbol, (Py_ssize_t)len, position);
 }
 
+/* A list to be filled, which other threads run meanwhile: until then none finds it. */
+static PyObject *new_list(Py_ssize_t count) {
+    PyObject *list = PyList_New(count);
+    if (list) PyObject_GC_UnTrack(list);
+    return list;
+}
+
+/* The list, or null if it wasn't filled. */
+static PyObject *filled(PyObject *list, int status) {
+    if (status < 0) Py_CLEAR(list);
+    else PyObject_GC_Track(list);
+    return list;
+}
+
+/* Puts an object into a list, and lets other threads run from time to time. Returns -1 for null. */
+static int put(PyObject *list, Py_ssize_t i, PyObject *object) {
+    if (!object) return -1;
+    PyList_SET_ITEM(list, i, object);
+    if (i % TURN == TURN - 1) give_turn();
+    return 0;
+}
+
+/* Adds the string of a symbol to a list. Returns -1 and an exception. */
+static int get_to(PyObject *list, const Reader *reader, PyObject *number) {
+    Py_ssize_t symbol = read_symbol(number), i = PyList_GET_SIZE(list);
+    PyObject *string = symbol < 0 && PyErr_Occurred() ? NULL : string_at(reader, symbol);
+    if (!string && !PyErr_Occurred()) no_string(reader, number, i);
+    int status = string ? PyList_Append(list, string) : -1;
+    Py_XDECREF(string);
+    if (i % TURN == TURN - 1) give_turn();
+    return status;
+}
+
+/* The same for the symbols of an iterator. */
+static int get_each(PyObject *list, const Reader *reader, PyObject *symbols) {
+    PyObject *number;
+    int status = 0;
+    while (status == 0 && (number = PyIter_Next(symbols))) {
+        status = get_to(list, reader, number);
+        Py_DECREF(number);
+    }
+    return status == 0 && PyErr_Occurred() ? -1 : status;
+}
+
 PyDoc_STRVAR(frozen_get_all_doc, "frozen_get_all(data, is_text, symbols, /)\n--\n\nThe strings of symbols.");
 static PyObject *frozen_get_all(PyObject *Py_UNUSED(module), PyObject *const *args, Py_ssize_t count) {
     Py_buffer view;
     Reader reader = {.view = &view};
     if (open_frozen(args, count, 3, &view, &reader.is_text) < 0) return NULL;
-    PyObject *own = PySequence_Tuple(args[2]), *list = own ? PyList_New(PyTuple_GET_SIZE(own)) : NULL;
-    for (Py_ssize_t i = 0; list && i < PyTuple_GET_SIZE(own); i++) {
-        Py_ssize_t symbol = read_symbol(PyTuple_GET_ITEM(own, i));
-        PyObject *string = symbol < 0 && PyErr_Occurred() ? NULL : string_at(&reader, symbol);
-        if (!string && !PyErr_Occurred()) no_string(&reader, PyTuple_GET_ITEM(own, i), i);
-        if (string) PyList_SET_ITEM(list, i, string);
-        else Py_CLEAR(list);
-    }
-    Py_XDECREF(own);
+    PyObject *symbols = PyObject_GetIter(args[2]), *list = symbols ? new_list(0) : NULL;
+    if (list) list = filled(list, get_each(list, &reader, symbols));
+    Py_XDECREF(symbols);
     PyBuffer_Release(&view);
     return list;
 }
@@ -189,10 +227,8 @@ static int slice_into(PyObject *list, const Reader *reader, Py_ssize_t symbol, P
             PyObject *number = PyErr_Occurred() ? NULL : PyLong_FromSsize_t(symbol);
             if (number) no_string(reader, number, -1);
             Py_XDECREF(number);
-            return -1;
         }
-        PyList_SET_ITEM(list, i, string);
-        if (i % TURN == TURN - 1) give_turn();
+        if (put(list, i, string) < 0) return -1;
     }
     return 0;
 }
@@ -203,13 +239,8 @@ static PyObject *frozen_slice(PyObject *Py_UNUSED(module), PyObject *const *args
     Reader reader = {.view = &view};
     if (open_frozen(args, given, 5, &view, &reader.is_text) < 0) return NULL;
     Py_ssize_t symbol = PyLong_AsSsize_t(args[2]), count = PyLong_AsSsize_t(args[3]), step = PyLong_AsSsize_t(args[4]);
-    PyObject *list = PyErr_Occurred() ? NULL : PyList_New(count);
-    if (list) {
-        /* While it is filled no other thread finds it. */
-        PyObject_GC_UnTrack(list);
-        if (slice_into(list, &reader, symbol, step) < 0) Py_CLEAR(list);
-        else PyObject_GC_Track(list);
-    }
+    PyObject *list = PyErr_Occurred() ? NULL : new_list(count);
+    if (list) list = filled(list, slice_into(list, &reader, symbol, step));
     PyBuffer_Release(&view);
     return list;
 }
@@ -259,7 +290,7 @@ static uint32_t find_block(Encoder *encoder, bool stays) {
 }
 
 /* Raises Missing for a string of a block. A line that is no text is named as bytes. */
-static int missing_in(const Encoder *encoder, size_t i) {
+static int missing_in(const Encoder *encoder, const Source *source, size_t i) {
     const Group *block = &encoder->block;
     size_t start = i ? block->ends[i - 1] : 0, len = block->ends[i] - start;
     PyObject *string = object_of(encoder->is_text, block->at + start, len);
@@ -267,7 +298,7 @@ static int missing_in(const Encoder *encoder, size_t i) {
         PyErr_Clear();
         string = object_of(false, block->at + start, len);
     }
-    if (string) raise_by("Missing", "(Nn)", string, block->places[i]);
+    if (string) raise_by("Missing", "(Nn)", string, place_of(source, block->places[i]));
     return -1;
 }
 
@@ -282,7 +313,7 @@ static Next encode_block(Encoder *encoder, Source *source) {
     if (code) return refused(code), FAILED;
     for (size_t i = 0; i < block->count; i++) {
         bool is_found = encoder->found[i] != INTAGLIO_ABSENT;
-        if (!is_found && !encoder->stand.is_given) return missing_in(encoder, i), FAILED;
+        if (!is_found && !encoder->stand.is_given) return missing_in(encoder, source, i), FAILED;
         encoder->codes.at[block->places[i]] = is_found ? (uint32_t)encoder->found[i] : encoder->stand.code;
     }
     return block->count && next != END ? STRING : next;
@@ -290,13 +321,13 @@ static Next encode_block(Encoder *encoder, Source *source) {
 
 /* Encodes an item that isn't native, or that has no UTF-8, with an exception, and is in no table. */
 static Next encode_item(Encoder *encoder, Source *source, Next next) {
-    Py_ssize_t i = source->position;
+    Py_ssize_t i = source->position, place = place_of(source, i);
     PyObject *item = Py_NewRef(source->items[i] ? source->items[i] : Py_None), *own = NULL, *symbol = NULL;
-    if (next == NOT_NATIVE) own = native(source->kind, item, i, encoder->stand.is_given || !is_missing(item) ? advice_on(encoder->is_text, item) : ADVICE_ON_MISSING);
+    if (next == NOT_NATIVE) own = native(source->kind, item, place, encoder->stand.is_given || !is_missing(item) ? advice_on(encoder->is_text, item) : ADVICE_ON_MISSING);
     else if (is_absent()) symbol = Py_NewRef(Py_None);
     if (own) symbol = find_in(&encoder->view, source->kind, own);
     next = symbol ? STRING : FAILED;
-    if (symbol == Py_None && !encoder->stand.is_given) raise_by("Missing", "(On)", own ? own : item, i), next = FAILED;
+    if (symbol == Py_None && !encoder->stand.is_given) raise_by("Missing", "(On)", own ? own : item, place), next = FAILED;
     else if (symbol) encoder->codes.at[i] = symbol == Py_None ? encoder->stand.code : (uint32_t)PyLong_AsUnsignedLong(symbol);
     Py_XDECREF(symbol);
     Py_XDECREF(own);
@@ -330,6 +361,7 @@ static int encode_and_close(Encoder *encoder, Source *source) {
     size_t bytes = source->is_lines ? count : (count < BLOCK ? count * LINE : BLOCK_BYTES);
     int status = open_codes_of(encoder, source) < 0 || open_block(encoder, count, bytes) < 0 ? -1 : encode_source(encoder, source);
     encoder->codes.count = (size_t)source->position;
+    if (status == 0) spread(source, &encoder->codes, encoder->stand.code);
     close_source(source);
     return status;
 }
@@ -341,18 +373,22 @@ static int encode_items(Encoder *encoder, PyObject *strings, bool skips) {
     return status < 0 ? close_source(&source), -1 : encode_and_close(encoder, &source);
 }
 
+/* Puts codes into a list, with None for MISSING. Returns -1 and an exception. */
+static int numbers_into(PyObject *list, const Numbers *codes) {
+    for (size_t i = 0; i < codes->count; i++) {
+        uint32_t code = codes->at[i];
+        if (put(list, (Py_ssize_t)i, code == MISSING ? Py_NewRef(Py_None) : PyLong_FromUnsignedLong(code)) < 0) return -1;
+    }
+    return 0;
+}
+
 PyDoc_STRVAR(frozen_find_all_doc, "frozen_find_all(data, is_text, strings, /)\n--\n\nThe symbol of each string, or None.");
 static PyObject *frozen_find_all(PyObject *Py_UNUSED(module), PyObject *const *args, Py_ssize_t count) {
     Encoder encoder = {.stand = {.is_given = true, .code = MISSING}};
     if (open_frozen(args, count, 3, &encoder.view, &encoder.is_text) < 0) return NULL;
     bool is_done = encode_items(&encoder, args[2], false) == 0;
-    PyObject *list = is_done ? PyList_New((Py_ssize_t)encoder.codes.count) : NULL;
-    for (size_t i = 0; list && i < encoder.codes.count; i++) {
-        uint32_t code = encoder.codes.at[i];
-        PyObject *number = code == MISSING ? Py_NewRef(Py_None) : PyLong_FromUnsignedLong(code);
-        if (number) PyList_SET_ITEM(list, (Py_ssize_t)i, number);
-        else Py_CLEAR(list);
-    }
+    PyObject *list = is_done ? new_list((Py_ssize_t)encoder.codes.count) : NULL;
+    if (list) list = filled(list, numbers_into(list, &encoder.codes));
     close_encoder(&encoder);
     PyBuffer_Release(&encoder.view);
     return list;

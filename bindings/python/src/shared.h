@@ -114,10 +114,26 @@ typedef struct {
     /* Whether None, NaN and NA are skipped; pandas.NA, if it was imported. */
     bool skips;
     PyObject *na;
+    /* Of a Categorical, whose items are the categories that it uses: the item of each row, or MISSING; how many rows there are; the first row of
+     * each item. Of others null. */
+    uint32_t *rows;
+    size_t row_count;
+    Py_ssize_t *firsts;
 } Source;
 
+/* The position that a caller knows an item by. */
+static inline Py_ssize_t place_of(const Source *source, Py_ssize_t position) { return source->firsts && position >= 0 ? source->firsts[position] : position; }
+/* How many numbers come of the items. */
+static inline size_t rows_of(const Source *source) { return source->rows ? source->row_count : (size_t)source->count; }
+
+/* Stores an attribute, and returns 1; or 0 if there is none, with null; or -1 and an exception. */
+int find_attribute(PyObject *object, const char *name, PyObject **attribute);
 /* Calls a method without arguments: 1 and its result, 0 and null if there is none, or -1, null and an exception. */
 int call_if_there(PyObject *object, const char *name, PyObject **result);
+/* Makes the items of a list or another iterable those of the source. */
+int own_list(Source *source, PyObject *contents);
+/* The same of a column of pandas or of another library, which gives its array: for objects that is no copy. */
+int open_column(Source *source, PyObject *contents);
 int open_items(Source *source, uint32_t kind, PyObject *contents, bool skips);
 int open_lines(Source *source, uint32_t kind, PyObject *buffer);
 void close_source(Source *source);
@@ -178,8 +194,18 @@ typedef struct {
     size_t count, room;
 } Numbers;
 
-/* Makes room for `count` numbers, and sets those that are new if they are to stand for what is skipped. */
+/* Makes room for `count` numbers. */
 int reserve_numbers(Numbers *numbers, size_t count);
+
+/* Categoricals: categories.c */
+
+/* Opens the source over the categories that a Categorical uses, or a column of pandas that has one. Returns 1, 0 if it is none, or -1 and an
+ * exception. */
+int open_categorical(Source *source, PyObject *contents, bool skips);
+/* Makes numbers of the rows from those of the items, with one for what is missing. Does nothing if the source is no Categorical. */
+void spread(Source *source, Numbers *numbers, uint32_t missing);
+/* The same of numbers of 8 bytes. Returns -1 and an exception if there is no memory. */
+int spread_found(const Source *source, uint64_t **numbers);
 
 /* Codes in buffers: codes.c */
 

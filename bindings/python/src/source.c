@@ -3,8 +3,7 @@
 #include <string.h>
 #include "shared.h"
 
-/* Stores an attribute, and returns 1; or 0 if there is none, with null; or -1 and an exception. */
-static int find_attribute(PyObject *object, const char *name, PyObject **attribute) {
+int find_attribute(PyObject *object, const char *name, PyObject **attribute) {
     *attribute = PyObject_GetAttrString(object, name);
     if (*attribute) return 1;
     if (!PyErr_ExceptionMatches(PyExc_AttributeError)) return -1;
@@ -81,7 +80,7 @@ static int borrow_objects(Source *source, PyObject *array) {
     return 0;
 }
 
-static int own_list(Source *source, PyObject *contents) {
+int own_list(Source *source, PyObject *contents) {
     source->owner = PySequence_Fast(contents, "an iterable of strings");
     if (!source->owner) return -1;
     source->items = PySequence_Fast_ITEMS(source->owner);
@@ -101,8 +100,7 @@ static int open_array(Source *source, PyObject *array) {
     return status;
 }
 
-/* A column of pandas or of another library gives its array, which for objects is no copy. */
-static int open_column(Source *source, PyObject *contents) {
+int open_column(Source *source, PyObject *contents) {
     PyObject *array;
     if (call_if_there(contents, "to_numpy", &array) == 0) return own_list(source, contents);
     int status = array ? open_array(source, array) : -1;
@@ -112,9 +110,10 @@ static int open_column(Source *source, PyObject *contents) {
 
 int open_items(Source *source, uint32_t kind, PyObject *contents, bool skips) {
     *source = (Source){.kind = kind, .skips = skips};
-    bool is_array = PyObject_CheckBuffer(contents) && !PyBytes_Check(contents);
-    bool is_list = PyList_CheckExact(contents) || PyTuple_CheckExact(contents);
-    int status = is_list ? own_list(source, contents) : (is_array ? open_array(source, contents) : open_column(source, contents));
+    bool is_array = PyObject_CheckBuffer(contents) && !PyBytes_Check(contents), is_list = PyList_CheckExact(contents) || PyTuple_CheckExact(contents);
+    int is_categorical = is_list || is_array ? 0 : open_categorical(source, contents, skips);
+    if (is_categorical) return is_categorical < 0 ? -1 : 0;
+    int status = is_list ? own_list(source, contents) : is_array ? open_array(source, contents) : open_column(source, contents);
     return status == 0 && skips ? find_na(&source->na) : status;
 }
 
@@ -123,7 +122,11 @@ void close_source(Source *source) {
     Py_CLEAR(source->owner);
     Py_CLEAR(source->na);
     PyMem_Free(source->zeroed);
+    PyMem_Free(source->rows);
+    PyMem_Free(source->firsts);
     source->zeroed = NULL;
+    source->rows = NULL;
+    source->firsts = NULL;
 }
 
 /* A new list of the items. */
@@ -139,7 +142,7 @@ int convert_items(Source *source, bool takes_missing) {
     for (Py_ssize_t i = 0; list && i < PyList_GET_SIZE(list); i++) {
         PyObject *item = PyList_GET_ITEM(list, i);
         if (is_native(source->kind, item) || is_skipped(source, item)) continue;
-        item = native(source->kind, item, i, takes_missing && is_missing(item) ? ADVICE_ON_MISSING : "");
+        item = native(source->kind, item, place_of(source, i), takes_missing && is_missing(item) ? ADVICE_ON_MISSING : "");
         if (!item || PyList_SetItem(list, i, item) < 0) Py_CLEAR(list);
     }
     if (!list) return -1;

@@ -4,6 +4,7 @@
  * caller's own. A batch of internings or of look-ups runs no code of Python's between its first call of the library and its last:
  * contents become str or bytes objects before, results become objects after. So no other thread sees a part of it. Slices and
  * get_all copy string by string. An interpreter without that lock is refused. Frozen tables are read-only: frozen.c says when they release it.
+ * A table that no other thread knows, such as that of merge, is interned into and frozen without it.
  */
 #include <stdarg.h>
 #include <stddef.h>
@@ -198,8 +199,8 @@ static Next intern_source(Table *self, Source *source, Group *group, Numbers *nu
     Py_ssize_t place = code ? refused_place(self, source, group, one_by_one) : -1;
     if (!code && are_codes && before > MISSING) code = INTAGLIO_FULL;
     if (next != END || code) (void)!intaglio_take_back(&self->handle, mark);
-    if (code) refused_at(code, place);
-    else if (next == NOT_SPELLED) not_spelled(source->position);
+    if (code) refused_at(code, place_of(source, place));
+    else if (next == NOT_SPELLED) not_spelled(place_of(source, source->position));
     return code || next == NOT_SPELLED ? FAILED : next;
 }
 
@@ -226,7 +227,7 @@ static const Wanted SYMBOLS = {.most = PY_SSIZE_T_MAX};
 
 /* Whether there is room for the numbers of all items. */
 static int check_count(const Source *source, const Wanted *wanted) {
-    if ((size_t)source->count <= wanted->most) return 0;
+    if (rows_of(source) <= wanted->most) return 0;
     refused(INTAGLIO_NO_SPACE);
     return -1;
 }
@@ -245,6 +246,7 @@ static int intern_items(Table *self, PyObject *contents, const Wanted *wanted, N
     Next next = open_items(&source, self->kind, contents, wanted->stand.is_given) < 0 ? FAILED : intern_opened(self, &source, wanted, numbers);
     if (next == NOT_NATIVE) next = convert_items(&source, wanted->are_codes && !wanted->stand.is_given) < 0 ? FAILED : intern_opened(self, &source, wanted, numbers);
     numbers->count = (size_t)source.position;
+    if (next == END) spread(&source, numbers, wanted->stand.code);
     close_source(&source);
     return next == END ? 0 : -1;
 }
@@ -319,7 +321,8 @@ static int find_items(Table *self, PyObject *contents, const Wanted *wanted, uin
     *numbers = NULL;
     Next next = open_items(&source, self->kind, contents, wanted->stand.is_given) < 0 ? FAILED : find_opened(self, &source, wanted, numbers);
     if (next == NOT_NATIVE) next = convert_items(&source, wanted->are_codes && !wanted->stand.is_given) < 0 ? FAILED : find_opened(self, &source, wanted, numbers);
-    *count = (size_t)source.count;
+    *count = rows_of(&source);
+    if (next == END && spread_found(&source, numbers) < 0) next = FAILED;
     close_source(&source);
     return next == END ? 0 : -1;
 }
@@ -375,7 +378,8 @@ static PyObject *table_intern_all(Table *self, PyObject *contents) {
 PyDoc_STRVAR(encode_doc, "encode($self, strings, /, *, missing=None)\n--\n\n"
 "Interns all strings or none, and returns their codes, which are their symbols, as an array('I'). With `missing`, such as MISSING, that is\n"
 "the code of None, NaN and pandas.NA; without it they raise TypeError. The strings are in any iterable: numpy's arrays of objects and\n"
-"pandas' columns are read where they are. Raises what intern raises, with the position of the string.\n\n"
+"pandas' columns of objects are read where they are, and of a Categorical its categories. Raises what intern raises, with the position\n"
+"of the string.\n\n"
 ">>> table = SymbolTable()\n"
 ">>> table.encode([\"b\", None, \"a\", \"b\"], missing=MISSING)\n"
 "array('I', [0, 4294967295, 1, 0])");
@@ -635,12 +639,14 @@ static PyObject *table_close(Table *self, PyObject *Py_UNUSED(none)) {
     Py_RETURN_NONE;
 }
 
-/* The strings as a frozen table, whose hash function has these keys. */
-static PyObject *freeze(Table *self, const uint64_t keys[2], uint32_t *code) {
+/* The strings as a frozen table, whose hash function has these keys. No other thread may know the table if it `is_alone`: they run meanwhile. */
+static PyObject *freeze(Table *self, const uint64_t keys[2], uint32_t *code, bool is_alone) {
     size_t len = 0, size = intaglio_frozen_size(&self->handle);
     PyObject *bytes = PyBytes_FromStringAndSize(NULL, (Py_ssize_t)size);
     if (!bytes) return NULL;
+    PyThreadState *state = is_alone ? PyEval_SaveThread() : NULL;
     *code = intaglio_freeze(&self->handle, keys[0], keys[1], (uint8_t *)PyBytes_AS_STRING(bytes), size, &len);
+    if (state) PyEval_RestoreThread(state);
     if (*code) Py_CLEAR(bytes);
     else if (len != size) _PyBytes_Resize(&bytes, (Py_ssize_t)len);
     return bytes;
@@ -658,7 +664,7 @@ static PyObject *table_freeze(Table *self, PyObject *args, PyObject *named) {
     uint64_t keys[2] = {0, 0};
     uint32_t code = INTAGLIO_DONE;
     if (!PyArg_ParseTupleAndKeywords(args, named, "|O$O:freeze", names, &path, &passed) || (passed && read_keys(passed, keys) < 0)) return NULL;
-    PyObject *bytes = freeze(self, keys, &code);
+    PyObject *bytes = freeze(self, keys, &code, false);
     if (!bytes) return code ? refused(code) : NULL;
     if (path == Py_None) return bytes;
     PyObject *module = PyImport_ImportModule("intaglio.frozen");
@@ -691,14 +697,16 @@ static Py_ssize_t refused_symbol(Table *self, const uint8_t *bytes, size_t size)
     return -1;
 }
 
-/* Interns all strings of frozen bytes or none, and returns their symbols. */
-static PyObject *absorb(Table *self, const Py_buffer *view) {
+/* Interns all strings of frozen bytes or none, and returns their symbols. No other thread may know the table if it `is_alone`, as of freeze. */
+static PyObject *absorb(Table *self, const Py_buffer *view, bool is_alone) {
     size_t count = intaglio_frozen_len(view->buf, (size_t)view->len), mark = intaglio_len(&self->handle);
     uint32_t *symbols = PyMem_Malloc((count + 1) * sizeof *symbols);
     if (!symbols) return PyErr_NoMemory();
+    PyThreadState *state = is_alone ? PyEval_SaveThread() : NULL;
     uint32_t code = intaglio_absorb(&self->handle, view->buf, (size_t)view->len, symbols, count);
     Py_ssize_t place = code ? refused_symbol(self, view->buf, (size_t)view->len) : -1;
     if (code) (void)!intaglio_take_back(&self->handle, mark);
+    if (state) PyEval_RestoreThread(state);
     PyObject *array = code ? refused_at(code, place) : array_of(symbols, count);
     PyMem_Free(symbols);
     return array;
@@ -712,15 +720,32 @@ PyDoc_STRVAR(absorb_doc, "absorb($self, frozen, /)\n--\n\n"
 "array('I', [1, 0])\n"
 ">>> list(table)\n"
 "['b', 'a']");
-static PyObject *table_absorb(Table *self, PyObject *frozen) {
+static PyObject *absorb_frozen(Table *self, PyObject *frozen, bool is_alone) {
     Py_buffer view;
     PyObject *symbols = NULL, *data = bytes_of_frozen(frozen);
     if (data && PyObject_GetBuffer(data, &view, PyBUF_SIMPLE) == 0) {
-        symbols = absorb(self, &view);
+        symbols = absorb(self, &view, is_alone);
         PyBuffer_Release(&view);
     }
     Py_XDECREF(data);
     return symbols;
+}
+
+static PyObject *table_absorb(Table *self, PyObject *frozen) { return absorb_frozen(self, frozen, false); }
+
+/* What merge makes its own table by. */
+
+PyDoc_STRVAR(absorb_alone_doc, "_absorb_alone($self, frozen, /)\n--\n\n"
+"As absorb, of a table that no other thread knows: they run meanwhile.");
+static PyObject *table_absorb_alone(Table *self, PyObject *frozen) { return absorb_frozen(self, frozen, true); }
+
+PyDoc_STRVAR(freeze_alone_doc, "_freeze_alone($self, keys, /)\n--\n\n"
+"The bytes of a frozen table, as freeze returns them. No other thread may know the table: they run meanwhile.");
+static PyObject *table_freeze_alone(Table *self, PyObject *passed) {
+    uint64_t keys[2];
+    uint32_t code = INTAGLIO_DONE;
+    PyObject *bytes = read_keys(passed, keys) < 0 ? NULL : freeze(self, keys, &code, true);
+    return bytes || !code ? bytes : refused(code);
 }
 
 static PyObject *table_enter(PyObject *self, PyObject *Py_UNUSED(none)) { return Py_NewRef(self); }
@@ -732,11 +757,11 @@ PyDoc_STRVAR(reduce_doc, "__reduce__($self, /)\n--\n\n"
 static PyObject *table_reduce(Table *self, PyObject *Py_UNUSED(none)) {
     uint64_t keys[2] = {0, 0};
     uint32_t code = INTAGLIO_DONE;
-    PyObject *bytes = freeze(self, keys, &code), *reduced = NULL;
+    PyObject *bytes = freeze(self, keys, &code, false), *reduced = NULL;
     /* Strings that were chosen to collide under these keys. */
     for (int i = 1; code == INTAGLIO_NO_PLACES && i < FREEZINGS; i++) {
         if (read_keys(Py_None, keys) < 0) return NULL;
-        bytes = freeze(self, keys, &code);
+        bytes = freeze(self, keys, &code, false);
     }
     if (!bytes) return code ? refused(code) : NULL;
     PyObject *module = PyImport_ImportModule("intaglio._table");
@@ -881,6 +906,8 @@ static PyMethodDef methods[] = {
     {"shrink_to", FAST(table_shrink_to), METH_FASTCALL, shrink_to_doc},
     {"freeze", FAST(table_freeze), METH_VARARGS | METH_KEYWORDS, freeze_doc},
     {"absorb", (PyCFunction)table_absorb, METH_O, absorb_doc},
+    {"_absorb_alone", (PyCFunction)table_absorb_alone, METH_O, absorb_alone_doc},
+    {"_freeze_alone", (PyCFunction)table_freeze_alone, METH_O, freeze_alone_doc},
     {"close", (PyCFunction)table_close, METH_NOARGS, close_doc},
     {"__enter__", table_enter, METH_NOARGS, NULL},
     {"__exit__", (PyCFunction)table_exit, METH_VARARGS, NULL},
