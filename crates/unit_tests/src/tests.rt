@@ -18,4 +18,5 @@ mod hashes;
 mod packed_tables;
 mod searches;
 mod sharding;
+mod slots;
 mod symbols_to_come;

@@ -1,0 +1,8 @@
+use Rattle.intaglio_slots.specs.Search.{IsSearch, LeavesAll}
+use Rattle.intaglio_slots.proofs.search.Candidates.next.Given as goal
+
+abbrev pub invariant-loop-self : goal.invariant-loop-self
+invariant-loop-self l = record { search : IsSearch l.self; left : LeavesAll l.fn.self l.self }
+
+abbrev pub decreases-loop-self : goal.decreases-loop-self
+decreases-loop-self l = l.self.next
