@@ -5,6 +5,7 @@ ghost use Rattle.std.specs.Prelude.{◌≡◌, IfErr};
 ghost use Rattle.intaglio_lines.specs.declared.tool_error.ToolError.TheVariants.{Memory};
 
 use intaglio_encode::serve::serve;
+use intaglio_hash::KeyedState;
 use intaglio_lines::error::report;
 use intaglio_lines::named::{MAX_NAME, Named, program_name};
 use intaglio_lines::tool_error::ToolError;
@@ -12,10 +13,11 @@ use std::env;
 use std::hash::RandomState;
 use std::io::ErrorKind;
 use std::process::ExitCode;
+use std::random::RandomSource;
 use std::rt::Env;
 
 fn main(rt: HostRuntime) -> ExitCode {
-    let builder = RandomState::new(&rt).ok();
+    let builder = random_builder(&rt);
     let mut bytes = [0; MAX_NAME];
     let name = program_name(&rt, "intaglio_tool", &mut bytes);
     let (mut input, mut output, mut faults) = (
@@ -35,6 +37,14 @@ fn main(rt: HostRuntime) -> ExitCode {
         Err(fault) => report(fault, &mut faults),
     };
     ExitCode::from(status)
+}
+
+// A hash builder with random keys, if the system gives random bytes.
+fn random_builder<R: RandomSource>(rt: &R) -> Option<KeyedState> {
+    match RandomState::new(rt) {
+        Ok(random) => Some(KeyedState::from_random(&random)),
+        Err(_) => None,
+    }
 }
 
 // The arguments after the program's name. If one of them isn't text, there are
