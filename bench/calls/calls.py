@@ -1,6 +1,7 @@
 """Times calls of the Python module as calls.c does, with the same arguments and output, and a dict's beside them.
 
-The strings are made anew before each measurement, since a str keeps its hash, which a dict uses again. The times are processor time.
+The strings are made anew before each measurement, since a str keeps its hash, which a dict uses again. The times are processor
+time.
 """
 import gc
 import sys

@@ -7,6 +7,7 @@ import subprocess
 import sys
 import tempfile
 import unittest
+from array import array
 from pathlib import Path
 
 from intaglio import MISSING, BytesTable, Frozen, Full, Missing, NoSpace, NotUtf8, PathTable, SymbolTable, merge, renumber
@@ -174,7 +175,10 @@ class Columns(unittest.TestCase):
             codes = numpy.array([chance.randrange(-1, count) if chance.randrange(3) else -1 for _ in range(rows)], "i4")
             whole = pandas.Categorical.from_codes(codes, categories=categories)
             plain = [None if code < 0 else categories[code] for code in codes]
-            for given, column in ((whole, plain), (pandas.Series(whole), plain), (pandas.Index(whole), plain), (whole[::-3], plain[::-3]), (pandas.Series(whole)[1:], plain[1:])):
+            for given, column in (
+                (whole, plain), (pandas.Series(whole), plain), (pandas.Index(whole), plain), (whole[::-3], plain[::-3]),
+                (pandas.Series(whole)[1:], plain[1:]),
+            ):
                 begun = {"x": 0, categories[0] if count else "y": 1}
                 symbols, table, out = dict(begun), SymbolTable(begun), numpy.full(rows + 1, 9, "i4")
                 wanted = codes_of(column, symbols)
@@ -184,18 +188,28 @@ class Columns(unittest.TestCase):
                 signed = [it if it != MISSING else -1 for it in wanted]
                 for call in (table.encode_into, table.check_into, frozen_of([*symbols]).encode_into):
                     out[:] = 9
-                    self.assertEqual((call(given, out, missing=MISSING), out.tolist()), (len(column), signed + [9] * (rows + 1 - len(column))))
+                    self.assertEqual(
+                        (call(given, out, missing=MISSING), out.tolist()), (len(column), signed + [9] * (rows + 1 - len(column)))
+                    )
             dense, present = whole[codes >= 0], [it for it in plain if it]
             table, words = SymbolTable(), frozen_of([*dict.fromkeys(present)])
-            self.assertEqual((table.intern_all(dense), list(table), list(SymbolTable(dense))), (codes_of(present, {}), [*words], [*words]))
-            self.assertEqual((table.check_all(dense), words.find_all(dense), words.check_all(dense)), ([*map(words.index, present)],) * 3 if count < 10_000 else (table.intern_all(present),) * 3)
+            self.assertEqual(
+                (table.intern_all(dense), list(table), list(SymbolTable(dense))), (codes_of(present, {}), [*words], [*words])
+            )
+            self.assertEqual(
+                (table.check_all(dense), words.find_all(dense), words.check_all(dense)),
+                ([*map(words.index, present)],) * 3 if count < 10_000 else (table.intern_all(present),) * 3,
+            )
 
     def test_what_is_wrong_in_a_categorical_is_named_with_its_row(self):
         def column(*strings, kind="category"):
             return pandas.Series(strings, dtype=kind)
 
         for position, given in ((0, column(None, "a")), (2, column("a", "a", None, "b")), (1, column("a", None).array)):
-            for call in (SymbolTable().encode, SymbolTable().intern_all, SymbolTable().check_all, SymbolTable, frozen_of(["a"]).encode, frozen_of(["a"]).find_all):
+            for call in (
+                SymbolTable().encode, SymbolTable().intern_all, SymbolTable().check_all, SymbolTable, frozen_of(["a"]).encode,
+                frozen_of(["a"]).find_all,
+            ):
                 with self.assertRaisesRegex(TypeError, f"a string, not float, at position {position}"):
                     call(given)
             for call in (SymbolTable().encode, frozen_of(["a"]).encode):
@@ -203,7 +217,8 @@ class Columns(unittest.TestCase):
                     call(given)
         rows = column("a", "b", "a", None, "b", "c", "c")
         for call, given, error, position in (
-            (SymbolTable(limit=2).encode, column("a", "b", "a", "b", "c", "c"), Full, 4), (frozen_of(["a"]).encode, rows, Missing, 1), (frozen_of(["b"]).encode, rows[1:], Missing, 1),
+            (SymbolTable(limit=2).encode, column("a", "b", "a", "b", "c", "c"), Full, 4),
+            (frozen_of(["a"]).encode, rows, Missing, 1), (frozen_of(["b"]).encode, rows[1:], Missing, 1),
         ):
             with self.assertRaisesRegex(error, f"at position {position}") as raised:
                 call(given)
@@ -215,7 +230,9 @@ class Columns(unittest.TestCase):
             with self.assertRaises(NotUtf8) as raised:
                 call(lone)
             self.assertEqual((raised.exception.position, list(table)), (2, ["b"]))
-        self.assertEqual((list(frozen_of(["b"]).encode(lone, missing=5)), table.check_all(lone)), ([0, 0, 5, 5], [0, 0, None, None]))
+        self.assertEqual(
+            (list(frozen_of(["b"]).encode(lone, missing=5)), table.check_all(lone)), ([0, 0, 5, 5], [0, 0, None, None])
+        )
         for call in (table.encode_into, table.check_into, frozen_of(["b"]).encode_into):
             with self.assertRaises(NoSpace):
                 call(column("b", "b", "b"), array("I", [0] * 2))
@@ -232,7 +249,9 @@ class Columns(unittest.TestCase):
                 read.append(str(self))
                 return str(self)
 
-        paths = pandas.Categorical.from_codes([2, 0, 2, 2, 0] * 1_000, categories=[Counted("b"), Counted("unused"), Counted("a/c")])
+        paths = pandas.Categorical.from_codes(
+            [2, 0, 2, 2, 0] * 1_000, categories=[Counted("b"), Counted("unused"), Counted("a/c")]
+        )
         table = PathTable()
         self.assertEqual((list(table.encode(paths)), list(table), read), ([0, 1, 0, 0, 1] * 1_000, ["a/c", "b"], ["a/c", "b"]))
 

@@ -1,12 +1,15 @@
-"""The Python module with each allocation of Python's refused in turn: a call then raises MemoryError, or does as it does otherwise, and leaves the
-strings. The library's own allocations are refused in bindings/tests/refused.c. Left out where Python has no _testcapi."""
+"""The Python module with each allocation of Python's refused in turn: a call then raises MemoryError, or does as it does
+otherwise, and leaves the strings. The library's own allocations are refused in bindings/tests/refused.c. Left out where Python
+has no _testcapi."""
 import sys
 import types
 import unittest
 from array import array
 from unittest import mock
 
-from intaglio import MISSING, BytesTable, CStringTable, Frozen, Full, Missing, NoSymbol, NotUtf8, Stale, SymbolTable, merge, renumber
+from intaglio import (
+    MISSING, BytesTable, CStringTable, Frozen, Full, Missing, NoSymbol, NotUtf8, Stale, SymbolTable, merge, renumber,
+)
 
 try:
     import _testcapi
@@ -48,24 +51,36 @@ class Memory(unittest.TestCase):
             Frozen.from_bytes(BytesTable([b"a"]).freeze()),
         )
         codes, lines, out = array("I", range(20)), "\n".join(words).encode(), array("I", bytes(80))
-        for number, (call, wanted) in enumerate((
-            (lambda: frozen.encode([*words]), codes), (lambda: frozen.encode(iter(words)), codes), (lambda: frozen.encode(["w1", None, "no"], missing=7), array("I", [1, 7, 7])),
-            (lambda: frozen.encode(["w1", "no"]), Missing), (lambda: frozen.encode(["w1", None]), TypeError), (lambda: frozen.encode(["\ud800"]), Missing),
-            (lambda: data.encode([bytearray(b"a"), bytearray(b"b")], missing=1), array("I", [0, 1])), (lambda: frozen.encode_into(words, out), 20),
-            (lambda: frozen.encode_lines(lines), codes), (lambda: frozen.encode_lines(b"no"), Missing), (lambda: frozen.find_all(words), [*codes]),
-            (lambda: frozen.decode(codes), words), (lambda: frozen.decode(array("I", [99])), NoSymbol), (lambda: frozen.get_all(codes), words), (lambda: frozen[:], words),
-            (lambda: [*frozen.items()], [*enumerate(words)]), (lambda: frozen[99], NoSymbol), (lambda: renumber(codes, codes), codes),
-            (lambda: renumber(memoryview(codes)[::2], codes), codes[::2]), (lambda: renumber(codes, array("I")), NoSymbol),
-            (lambda: table.encode([*words]), codes), (lambda: table.encode([None, "w1"], missing=MISSING), array("I", [MISSING, 1])), (lambda: table.encode(["new", 7]), TypeError),
-            (lambda: table.intern_all(words), [*codes]), (lambda: table.intern_lines(lines), codes), (lambda: table.intern_lines(b"new\n\xff"), NotUtf8),
-            (lambda: table.intern_into(words, out), 20), (lambda: table.check_all(words), [*codes]), (lambda: table.check_into(words, out), 20), (lambda: table.decode(codes), words),
-            (lambda: table.get_all(codes), words), (lambda: table.take_back(99), Stale), (lambda: table.encode(["new", "\ud800"]), NotUtf8),
-            (lambda: list(SymbolTable(words)), words), (lambda: list(CStringTable().intern_lines(lines)), [*codes]),
-            (lambda: SymbolTable().absorb(frozen), codes), (lambda: SymbolTable(words, limit=2), Full),
-            (lambda: table.encode(Categorical(), missing=9), array("I", [5, 1, 9, 5])), (lambda: frozen.encode(Categorical(), missing=9), array("I", [5, 1, 9, 5])),
-            (lambda: table.encode(Categorical()), TypeError), (lambda: table.check_into(Categorical(), out, missing=9), 4), (lambda: frozen.encode(Categorical()), TypeError),
-            (lambda: list(merge([frozen, frozen])[0]), words),
-        )):
+        for number, (call, wanted) in enumerate(
+            (
+                (lambda: frozen.encode([*words]), codes), (lambda: frozen.encode(iter(words)), codes),
+                (lambda: frozen.encode(["w1", None, "no"], missing=7), array("I", [1, 7, 7])),
+                (lambda: frozen.encode(["w1", "no"]), Missing), (lambda: frozen.encode(["w1", None]), TypeError),
+                (lambda: frozen.encode(["\ud800"]), Missing),
+                (lambda: data.encode([bytearray(b"a"), bytearray(b"b")], missing=1), array("I", [0, 1])),
+                (lambda: frozen.encode_into(words, out), 20), (lambda: frozen.encode_lines(lines), codes),
+                (lambda: frozen.encode_lines(b"no"), Missing), (lambda: frozen.find_all(words), [*codes]),
+                (lambda: frozen.decode(codes), words), (lambda: frozen.decode(array("I", [99])), NoSymbol),
+                (lambda: frozen.get_all(codes), words), (lambda: frozen[:], words),
+                (lambda: [*frozen.items()], [*enumerate(words)]), (lambda: frozen[99], NoSymbol),
+                (lambda: renumber(codes, codes), codes), (lambda: renumber(memoryview(codes)[::2], codes), codes[::2]),
+                (lambda: renumber(codes, array("I")), NoSymbol), (lambda: table.encode([*words]), codes),
+                (lambda: table.encode([None, "w1"], missing=MISSING), array("I", [MISSING, 1])),
+                (lambda: table.encode(["new", 7]), TypeError), (lambda: table.intern_all(words), [*codes]),
+                (lambda: table.intern_lines(lines), codes), (lambda: table.intern_lines(b"new\n\xff"), NotUtf8),
+                (lambda: table.intern_into(words, out), 20), (lambda: table.check_all(words), [*codes]),
+                (lambda: table.check_into(words, out), 20), (lambda: table.decode(codes), words),
+                (lambda: table.get_all(codes), words), (lambda: table.take_back(99), Stale),
+                (lambda: table.encode(["new", "\ud800"]), NotUtf8), (lambda: list(SymbolTable(words)), words),
+                (lambda: list(CStringTable().intern_lines(lines)), [*codes]), (lambda: SymbolTable().absorb(frozen), codes),
+                (lambda: SymbolTable(words, limit=2), Full),
+                (lambda: table.encode(Categorical(), missing=9), array("I", [5, 1, 9, 5])),
+                (lambda: frozen.encode(Categorical(), missing=9), array("I", [5, 1, 9, 5])),
+                (lambda: table.encode(Categorical()), TypeError),
+                (lambda: table.check_into(Categorical(), out, missing=9), 4),
+                (lambda: frozen.encode(Categorical()), TypeError), (lambda: list(merge([frozen, frozen])[0]), words),
+            )
+        ):
             results = list(self.results(call))
             self.assertEqual([it for it in results if it not in OUT_OF_MEMORY and it != wanted], [], number)
             self.assertIn(wanted, results, number)

@@ -143,7 +143,8 @@ class FrozenTables(unittest.TestCase):
         return len(waits), length, max(waits)
 
     def assert_lets_run(self, name, batch, share=4):
-        """Another thread's calls wait for less than this share of a batch. A machine that is busy may let them wait longer, so there are several tries."""
+        """Another thread's calls wait for less than this share of a batch. A machine that is busy may let them wait longer, so
+        there are several tries."""
         tries = []
         for _ in range(TRIES):
             calls, length, wait = self.calls_meanwhile(batch)
@@ -162,9 +163,11 @@ class FrozenTables(unittest.TestCase):
         for name, batch in (
             ("encode", lambda: self.table.encode(self.column)), ("encode_into", lambda: self.table.encode_into(self.column, out)),
             ("find_all", lambda: self.table.find_all(self.column)), ("encode_lines", lambda: self.table.encode_lines(self.lines)),
-            ("decode", lambda: self.table.decode(self.numbers)), ("iterating", lambda: [list(self.table) for _ in range(9)]), ("all of it", lambda: list(self.long)),
-            ("a slice", lambda: frozen_slice(self.table._data, True, 0, 2 * LONG, 0)), ("get_all", lambda: self.table.get_all(self.numbers)),
-            ("merge", lambda: merge([self.table] * 9)), ("to intern all for merge", lambda: SymbolTable()._absorb_alone(self.long)),
+            ("decode", lambda: self.table.decode(self.numbers)), ("iterating", lambda: [list(self.table) for _ in range(9)]),
+            ("all of it", lambda: list(self.long)),
+            ("a slice", lambda: frozen_slice(self.table._data, True, 0, 2 * LONG, 0)),
+            ("get_all", lambda: self.table.get_all(self.numbers)), ("merge", lambda: merge([self.table] * 9)),
+            ("to intern all for merge", lambda: SymbolTable()._absorb_alone(self.long)),
             ("to freeze for merge", lambda: self.long_table._freeze_alone((0, 0))),
         ):
             self.assert_lets_run(name, batch)
@@ -183,8 +186,10 @@ class FrozenTables(unittest.TestCase):
         def work(number):
             for turn in range(4):
                 out[number, turn] = (
-                    self.table.encode(part) == wanted, self.table.encode_lines(text) == of_lines, self.table.decode(wanted) == part, self.table.find_all(part) == list(wanted),
-                    renumber(renumber(wanted, self.map), self.map) == wanted, self.table.encode([None, *part], missing=MISSING)[1:] == wanted,
+                    self.table.encode(part) == wanted, self.table.encode_lines(text) == of_lines,
+                    self.table.decode(wanted) == part, self.table.find_all(part) == list(wanted),
+                    renumber(renumber(wanted, self.map), self.map) == wanted,
+                    self.table.encode([None, *part], missing=MISSING)[1:] == wanted,
                     self.table.get_all(wanted) == part, merge([self.table, self.table])[1][1] == array("I", range(DISTINCT)),
                 )
 

@@ -116,8 +116,8 @@ class Frozen(Sequence):
     >>> codes, words.decode(codes)
     (array('I', [1, 0, 1]), ['be', 'to', 'be'])
 
-    It can be copied, and pickled: a mapped one by its path, and one in memory by its bytes. Batches (encode, find_all, decode, get_all and
-    their kin) let other threads run meanwhile.
+    It can be copied, and pickled: a mapped one by its path, and one in memory by its bytes. Batches (encode, find_all, decode,
+    get_all and their kin) let other threads run meanwhile.
 
     Raises NotFrozen, OtherVersion, NoKind, Reserved, TooMany, Truncated, TextEnds, Unused, NotFound, NotUtf8, which name the
     file, OSError.
@@ -179,9 +179,10 @@ class Frozen(Sequence):
     def encode(self, strings, /, *, missing=None):
         """The codes of strings, which are their symbols, as an array('I').
 
-        With `missing`, such as MISSING, that is the code of a string that isn't in the table, and of None, NaN and pandas.NA. Without it,
-        raises Missing, a KeyError with the first such string and its position, or TypeError. The strings are in any iterable: numpy's arrays
-        of objects and pandas' columns of objects are read where they are, and of a Categorical its categories.
+        With `missing`, such as MISSING, that is the code of a string that isn't in the table, and of None, NaN and pandas.NA.
+        Without it, raises Missing, a KeyError with the first such string and its position, or TypeError. The strings are in any
+        iterable: numpy's arrays of objects and pandas' columns of objects are read where they are, and of a Categorical its
+        categories.
 
         >>> words = Frozen.from_bytes(SymbolTable(["to", "be"]).freeze())
         >>> words.encode(["be", "or", None], missing=MISSING)
@@ -379,9 +380,9 @@ def merge(tables, /, out=None, *, keys=(0, 0)):
     for each table: an array('I') with the new symbol of each of its strings, by which renumber turns codes of that table into
     codes of the new one.
 
-    The tables are in a list or another iterable, and each is a Frozen or a path. The new one is written to the path `out`, as Table.freeze
-    does, or else held in memory. It is of texts if all are. Other threads run meanwhile. Raises what Frozen, Table.absorb and Table.freeze
-    raise.
+    The tables are in a list or another iterable, and each is a Frozen or a path. The new one is written to the path `out`, as
+    Table.freeze does, or else held in memory. It is of texts if all are. Other threads run meanwhile. Raises what Frozen,
+    Table.absorb and Table.freeze raise.
 
     >>> one, two = (Frozen.from_bytes(SymbolTable(words).freeze()) for words in (["to", "be"], ["or", "to"]))
     >>> both, maps = merge([one, two])

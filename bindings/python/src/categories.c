@@ -20,7 +20,7 @@ typedef struct {
 /* Stores the Categorical that an object is, or that a column of pandas has. Returns 1, 0 if there is none, or -1 and an exception. */
 static int find_categorical(PyObject *contents, PyObject **categorical) {
     PyObject *name = PyUnicode_FromString("pandas"), *pandas = name ? PyImport_GetModule(name) : NULL, *type = NULL;
-    int is_one = pandas ? find_attribute(pandas, "Categorical", &type) : PyErr_Occurred() ? -1 : 0;
+    int is_one = pandas ? find_attribute(pandas, "Categorical", &type) : (PyErr_Occurred() ? -1 : 0);
     *categorical = NULL;
     if (is_one == 1) is_one = PyObject_IsInstance(contents, type);
     if (is_one == 1) *categorical = Py_NewRef(contents);

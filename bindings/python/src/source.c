@@ -113,7 +113,7 @@ int open_items(Source *source, uint32_t kind, PyObject *contents, bool skips) {
     bool is_array = PyObject_CheckBuffer(contents) && !PyBytes_Check(contents), is_list = PyList_CheckExact(contents) || PyTuple_CheckExact(contents);
     int is_categorical = is_list || is_array ? 0 : open_categorical(source, contents, skips);
     if (is_categorical) return is_categorical < 0 ? -1 : 0;
-    int status = is_list ? own_list(source, contents) : is_array ? open_array(source, contents) : open_column(source, contents);
+    int status = is_list ? own_list(source, contents) : (is_array ? open_array(source, contents) : open_column(source, contents));
     return status == 0 && skips ? find_na(&source->na) : status;
 }
 
