@@ -4,8 +4,8 @@
     checks/api.py [--check]
 
 A call has its signature, the first paragraph of its documentation, what it requires, its errors, and the names of its clauses.
-With --check nothing is written: what differs from the sources is printed, and the status is 1 if anything does. checks/ledger
-asks for that too.
+With --check nothing is written: what differs from the sources is printed, and the status is 1 if anything does.
+checks/consistency asks for that too.
 """
 
 import re

@@ -5,7 +5,7 @@
 
 Which mutants and tests belong to a promise stands in evidence.txt. What a mutant breaks comes from its block in mutants.txt, the
 file of a test from the sources. With --check nothing is written: what is wrong is printed, and the status is 1 if anything is.
-checks/ledger asks for that too.
+checks/consistency asks for that too.
 """
 
 import re

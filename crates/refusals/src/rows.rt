@@ -1,4 +1,4 @@
-//! Runs of a few calls on tables of texts, with the texts and the results of docs/ROWS.md.
+//! Runs of a few calls on tables of texts, with the texts and the results of docs/TESTS.md.
 use crate::checked_table::tell;
 use crate::fault::Fault;
 use intaglio::{InternError, Mark, StrContent, Symbol, SymbolTable};

@@ -26,7 +26,7 @@ VERSIONS = ("rattle-kit-13b logic dac8208d650f15bf", "rattle-kit-13f logic dac82
 # The variable of the environment that says to a check that others run beside it.
 BESIDE = "INTAGLIO_BESIDE"
 # How the names of the folders begin in which edits are tried.
-SCRATCH = "together-"
+SCRATCH = "mutants-"
 
 # What `rt ci` says of a crate that it has proved, now or in an earlier run, and at its end where all went well.
 PROVED_CRATE = re.compile(r"^rt: (\w+) (?:proved$|is kept: )", re.M)
@@ -68,8 +68,8 @@ def load():
     found = shutil.which("rt") or sys.exit("there is no rt on the PATH")
     if version() not in VERSIONS:
         sys.exit(
-            f"checks/rt_names.py was written for {' and '.join(map(repr, VERSIONS))}, and rt version says '{version()}': see that"
-            " what it names still stands"
+            f"checks/toolchain.py was written for {' and '.join(map(repr, VERSIONS))}, and rt version says '{version()}': see"
+            " that what it names still stands"
         )
     path = os.path.realpath(found)
     sys.path.insert(0, os.path.dirname(path))
@@ -97,7 +97,7 @@ def over_kept(verdict):
     others that earlier runs left, and `rt ci` takes none."""
     ends = r"\n\Z"
     if not verdict.pattern.endswith(ends):
-        sys.exit("checks/rt_names.py: the pattern of rt's last line doesn't end as it did")
+        sys.exit("checks/toolchain.py: the pattern of rt's last line doesn't end as it did")
     return re.compile(verdict.pattern.removesuffix(ends) + f"(?: {KEPT_WORK})?{ends}", verdict.flags)
 
 
