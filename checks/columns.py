@@ -520,16 +520,17 @@ def example(tool, folder):
     for lines in columns:
         Path(f"{folder}/lines").write_bytes(ended(lines))
         status, wrote, _ = run(["examples/columns", f"{folder}/lines", "3"], DICT=tool, PATH=os.environ["PATH"])
-        yield f"{len(lines)} lines", (status, wrote.split(b"\n")[0]) == (0, b"strings %d" % len({*lines}))
+        yield f"{len(lines)} lines", (status, wrote.split(b"\n")[:2]) == (0, [b"kind bytes", b"strings %d" % len({*lines})])
     odd = f"{folder}/a folder, 5% 'odd'"
     os.mkdir(odd)
     os.symlink(tool, f"{odd}/dict")
     shutil.copy(f"{folder}/lines", odd)
     settings = {"DICT": f"{odd}/dict", "PATH": os.environ["PATH"], "TMPDIR": odd}
     status, wrote, _ = run(["examples/columns", f"{odd}/lines", "3"], **settings)
-    yield "a folder with a space", (status, wrote.split(b"\n")[0], sorted(os.listdir(odd))) == (
+    yield "a folder with a space", (status, wrote.split(b"
+")[:2], sorted(os.listdir(odd))) == (
         0,
-        b"strings %d" % len({*lines}),
+        [b"kind bytes", b"strings %d" % len({*lines})],
         ["dict", "lines"],
     )
     for parts in ("0", "-1", "x", "", "3x", "1.5", "08", " 3", "a[$(touch made)]", "9999999"):

@@ -13,7 +13,7 @@ use intaglio_dict_io::report;
 use intaglio_dict_io::report::Tell;
 use intaglio_dictionary::look_up::list;
 use intaglio_dictionary::size::size_of_strings;
-use intaglio_frozen::Frozen;
+use intaglio_frozen::{Frozen, Header, Kind};
 use intaglio_lines::error::StreamError;
 use std::io;
 use std::io::Write;
@@ -122,7 +122,7 @@ fn on_dictionary<R: Files + Input + Print + Tell + AllocGlobal>(
 fn on_bytes<R: Print + Tell + AllocGlobal>(rt: &R, command: &str, name: &str, bytes: &[u8]) -> u8 {
     match checked(rt, name, bytes) {
         Ok(table) if command == "list" => list_all(rt, &table),
-        Ok(table) => stat(rt, &table, bytes.len() as u64),
+        Ok(table) => stat(rt, &table, bytes),
         Err(status) => status,
     }
 }
@@ -133,15 +133,17 @@ fn list_all<R: Print + Tell + AllocGlobal>(rt: &R, table: &Frozen<'_>) -> u8 {
     ended(rt, answer, output.error)
 }
 
-fn stat<R: Print + Tell + AllocGlobal>(rt: &R, table: &Frozen<'_>, bytes: u64) -> u8 {
+fn stat<R: Print + Tell + AllocGlobal>(rt: &R, table: &Frozen<'_>, bytes: &[u8]) -> u8 {
     let size = size_of_strings(table);
-    let tenths = bytes.saturating_mul(10) / size.count.max(1);
+    let length = bytes.len() as u64;
+    let tenths = length.saturating_mul(10) / size.count.max(1);
     let mut output = Noticing::new(io::writer(rt));
     let written = writeln!(
         &mut output,
-        "strings {}\nbytes {}\nbytes a string {}.{}\nlongest {}",
+        "kind {}\nstrings {}\nbytes {}\nbytes a string {}.{}\nlongest {}",
+        kind_of(bytes),
         size.count,
-        bytes,
+        length,
         tenths / 10,
         tenths % 10,
         size.longest
@@ -151,4 +153,12 @@ fn stat<R: Print + Tell + AllocGlobal>(rt: &R, table: &Frozen<'_>, bytes: u64) -
         Err(_) => Err(StreamError::Write),
     };
     ended(rt, answer, output.error)
+}
+
+// What freeze calls the kind of these strings.
+fn kind_of(bytes: &[u8]) -> &'static str {
+    match Header::read(bytes) {
+        Ok(header) if header.kind == Kind::Text => "text",
+        _ => "bytes",
+    }
 }

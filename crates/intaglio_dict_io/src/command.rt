@@ -204,7 +204,7 @@ static SUBCOMMANDS: [Subcommand; 10] = [
     ),
     (
         "stat",
-        "Writes how many strings there are, the bytes of the file, and the longest string's",
+        "Writes the kind of the strings, how many there are, the bytes of the file, and the longest string's",
         &[DICT],
     ),
 ];
