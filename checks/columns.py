@@ -527,8 +527,7 @@ def example(tool, folder):
     shutil.copy(f"{folder}/lines", odd)
     settings = {"DICT": f"{odd}/dict", "PATH": os.environ["PATH"], "TMPDIR": odd}
     status, wrote, _ = run(["examples/columns", f"{odd}/lines", "3"], **settings)
-    yield "a folder with a space", (status, wrote.split(b"
-")[:2], sorted(os.listdir(odd))) == (
+    yield "a folder with a space", (status, wrote.split(b"\n")[:2], sorted(os.listdir(odd))) == (
         0,
         [b"kind bytes", b"strings %d" % len({*lines})],
         ["dict", "lines"],
