@@ -37,8 +37,9 @@ impl Column<'_> {
         requires { of.old ≡ replicate (strings self.now) 0 }
         ensures { AreCounts (strings self.now) (codes self.now) of.new result }
     {
+        let rows = self.len();
         let mut missing = 0u64;
-        for row in 0..self.len() {
+        for row in 0..rows {
             let code = self.read(row);
             if code == MISSING {
                 missing += 1;

@@ -7,7 +7,7 @@ pub loop-row-preserved-then-code : goal.loop-row-preserved-then-code
 loop-row-preserved-then-code c =
     let bs = c.args.self.now in
     tally_missing (strings bs) (codes bs) c.loop-row.row c.loop-row.of c.loop-row.missing c.read-code.result c.read-code.ensures c.loop-row.invariant
-    c.if-code.true (omega (arith, c.len-row-end.ensures.few))
+    c.if-code.true (omega (arith, c.len-rows.ensures.few))
 
 pub loop-row-preserved-then-code-of : goal.loop-row-preserved-then-code-of
 loop-row-preserved-then-code-of c =
