@@ -109,7 +109,7 @@ fn tells_apart(rt: &impl Abort, alloc: Global, builder: impl HasherCount, row: &
     finds(rt, alloc, &table, row);
 }
 
-static ROWS: [Row<'static>; 4] = [
+static TESTS: [Row<'static>; 4] = [
     Row {
         hash: Some(7),
         capacity: 4096,
@@ -154,7 +154,7 @@ static ROWS: [Row<'static>; 4] = [
 
 #[test]
 fn equal_hashes_alone_are_compared(rt: HostRuntime) {
-    for row in ROWS {
+    for row in TESTS {
         tells_apart(&rt, rt.alloc(), Counted::new(row.hash), &row);
     }
 }

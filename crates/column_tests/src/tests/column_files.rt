@@ -1,0 +1,170 @@
+//! Column files of each width, whole and damaged.
+use intaglio_column_file::{
+    Column, ColumnError, ColumnHeader, ColumnWriteError, DictionaryId, MISSING, Width, column_bytes,
+};
+use intaglio_symbol::Symbol;
+use std::process::Abort;
+
+// The column of the codes 0, 2, 2, missing, 1 under the dictionary of `abc`, the empty string and `xy`, as
+// `checks/frozen_columns.py` writes it.
+const COLUMN: [u8; 69] = [
+    73, 78, 84, 137, 67, 79, 76, 10, 1, 0, 0, 0, 0, 0, 0, 0, 248, 104, 127, 193, 74, 28, 227, 176,
+    246, 76, 199, 177, 197, 138, 104, 50, 3, 0, 0, 0, 0, 0, 0, 0, 5, 0, 0, 0, 0, 0, 0, 0, 1, 0, 0,
+    0, 0, 0, 0, 0, 0, 0, 0, 0, 0, 0, 0, 0, 0, 2, 2, 255, 1,
+];
+
+const ID: DictionaryId = DictionaryId {
+    is_text: false,
+    count: 3,
+    hash0: 12_746_062_477_788_145_912,
+    hash1: 3_632_305_681_170_124_022,
+};
+
+// As it writes columns under dictionaries of 256 and of 65,536 texts, whose hashes are given as 5 and 6.
+const TWO: [u8; 70] = [
+    73, 78, 84, 137, 67, 79, 76, 10, 1, 0, 0, 0, 1, 0, 0, 0, 5, 0, 0, 0, 0, 0, 0, 0, 6, 0, 0, 0, 0,
+    0, 0, 0, 0, 1, 0, 0, 0, 0, 0, 0, 3, 0, 0, 0, 0, 0, 0, 0, 2, 0, 0, 0, 0, 0, 0, 0, 0, 0, 0, 0, 0,
+    0, 0, 0, 255, 0, 255, 255, 1, 0,
+];
+
+const FOUR: [u8; 72] = [
+    73, 78, 84, 137, 67, 79, 76, 10, 1, 0, 0, 0, 1, 0, 0, 0, 5, 0, 0, 0, 0, 0, 0, 0, 6, 0, 0, 0, 0,
+    0, 0, 0, 0, 0, 1, 0, 0, 0, 0, 0, 2, 0, 0, 0, 0, 0, 0, 0, 4, 0, 0, 0, 0, 0, 0, 0, 0, 0, 0, 0, 0,
+    0, 0, 0, 255, 255, 0, 0, 255, 255, 255, 255,
+];
+
+fn opened<'a>(rt: &impl Abort, bytes: &'a [u8]) -> Column<'a> {
+    Column::open(bytes).expect(rt, "no column")
+}
+
+// The column with one byte changed.
+fn changed(at: usize, byte: u8) -> [u8; 69] {
+    let mut bytes = COLUMN;
+    if at < bytes.len() {
+        bytes[at] = byte;
+    }
+    bytes
+}
+
+fn fault(bytes: &[u8]) -> Option<ColumnError> {
+    match Column::open(bytes) {
+        Ok(_) => None,
+        Err(fault) => Some(fault),
+    }
+}
+
+#[test]
+fn a_column_has_the_codes_that_another_writer_wrote(rt: HostRuntime) {
+    let column = opened(&rt, &COLUMN);
+    assert_eq!(&rt; column.len(), 5);
+    assert!(&rt; column.width() == Width::One);
+    assert!(&rt; column.id() == ID);
+    assert_eq!(&rt; column.code(0), Some(0));
+    assert_eq!(&rt; column.code(2), Some(2));
+    assert_eq!(&rt; column.code(3), Some(MISSING));
+    assert_eq!(&rt; column.code(4), Some(1));
+    assert_eq!(&rt; column.code(5), None);
+}
+
+#[test]
+fn a_column_is_written_as_another_writer_does(rt: HostRuntime) {
+    let codes = [0, 2, 2, MISSING, 1].map(Symbol::new);
+    let bytes = column_bytes(rt.alloc(), ID, &codes.as_slice()).expect(&rt, "memory");
+    assert!(&rt; bytes.as_slice() == COLUMN.as_slice());
+}
+
+#[test]
+fn wider_codes_are_widened(rt: HostRuntime) {
+    let two = opened(&rt, &TWO);
+    assert!(&rt; two.width() == Width::Two);
+    assert_eq!(&rt; two.code(0), Some(255));
+    assert_eq!(&rt; two.code(1), Some(MISSING));
+    assert_eq!(&rt; two.code(2), Some(1));
+    let four = opened(&rt, &FOUR);
+    assert!(&rt; four.width() == Width::Four);
+    assert_eq!(&rt; four.code(0), Some(65_535));
+    assert_eq!(&rt; four.code(1), Some(MISSING));
+}
+
+#[test]
+fn wider_columns_are_written_as_another_writer_does(rt: HostRuntime) {
+    let mut id = ColumnHeader::read(&TWO).expect(&rt, "no header").id;
+    let codes = [255, MISSING, 1].map(Symbol::new);
+    let bytes = column_bytes(rt.alloc(), id, &codes.as_slice()).expect(&rt, "memory");
+    assert!(&rt; bytes.as_slice() == TWO.as_slice());
+    id.count = 65_536;
+    let codes = [65_535, MISSING].map(Symbol::new);
+    let bytes = column_bytes(rt.alloc(), id, &codes.as_slice()).expect(&rt, "memory");
+    assert!(&rt; bytes.as_slice() == FOUR.as_slice());
+}
+
+#[test]
+fn each_fault_of_a_column_is_named(rt: HostRuntime) {
+    assert!(&rt; fault(&COLUMN).is_none());
+    assert!(&rt; fault(&COLUMN[..7]) == Some(ColumnError::Magic));
+    assert!(&rt; fault(&changed(3, 0)) == Some(ColumnError::Magic));
+    assert!(&rt; fault(&COLUMN[..63]) == Some(ColumnError::Header));
+    assert!(&rt; fault(&changed(8, 2)) == Some(ColumnError::Version));
+    assert!(&rt; fault(&changed(12, 2)) == Some(ColumnError::Kind));
+    assert!(&rt; fault(&changed(36, 1)) == Some(ColumnError::TooMany));
+    assert!(&rt; fault(&changed(48, 2)) == Some(ColumnError::Width));
+    assert!(&rt; fault(&changed(33, 1)) == Some(ColumnError::Width));
+    assert!(&rt; fault(&changed(52, 1)) == Some(ColumnError::Reserved));
+    assert!(&rt; fault(&changed(63, 1)) == Some(ColumnError::Reserved));
+}
+
+#[test]
+fn rows_and_codes_that_are_wrong_are_named(rt: HostRuntime) {
+    assert!(&rt; fault(&COLUMN[..68]) == Some(ColumnError::Truncated));
+    assert!(&rt; fault(&changed(40, 6)) == Some(ColumnError::Truncated));
+    assert!(&rt; fault(&changed(47, 128)) == Some(ColumnError::Truncated));
+    assert!(&rt; fault(&changed(40, 4)) == Some(ColumnError::TooLong));
+    assert!(&rt; fault(&TWO[..69]) == Some(ColumnError::Truncated));
+    assert!(&rt; fault(&changed(66, 3)) == Some(ColumnError::NoString(2)));
+    assert!(&rt; fault(&changed(68, 254)) == Some(ColumnError::NoString(4)));
+}
+
+#[test]
+fn trusted_codes_are_read_as_they_are(rt: HostRuntime) {
+    let bytes = changed(66, 3);
+    let column = Column::open_trusted(&bytes).expect(&rt, "no column");
+    assert_eq!(&rt; column.code(2), Some(3));
+    let counts = column.counts(rt.alloc()).expect(&rt, "memory");
+    assert!(&rt; counts.of.as_slice() == [1, 1, 1].as_slice());
+    assert_eq!(&rt; counts.missing, 1);
+    assert!(&rt; Column::open_trusted(&COLUMN[..68]).is_err());
+}
+
+#[test]
+fn rows_of_a_column_are_found_and_counted(rt: HostRuntime) {
+    let column = opened(&rt, &COLUMN);
+    let rows = column.rows_of(rt.alloc(), 2).expect(&rt, "memory");
+    assert!(&rt; rows.as_slice() == [1, 2].as_slice());
+    let rows = column.rows_of(rt.alloc(), MISSING).expect(&rt, "memory");
+    assert!(&rt; rows.as_slice() == [3].as_slice());
+    let rows = column.rows_of(rt.alloc(), 3).expect(&rt, "memory");
+    assert!(&rt; rows.is_empty());
+    let counts = column.counts(rt.alloc()).expect(&rt, "memory");
+    assert!(&rt; counts.of.as_slice() == [1, 1, 2].as_slice());
+    assert_eq!(&rt; counts.missing, 1);
+}
+
+#[test]
+fn codes_without_a_string_make_no_column(rt: HostRuntime) {
+    let codes = [0, 3].map(Symbol::new);
+    let refused = column_bytes(rt.alloc(), ID, &codes.as_slice()).err();
+    assert!(&rt; refused == Some(ColumnWriteError::NoString(1)));
+    let mut many = ID;
+    many.count = (1 << 31) + 1;
+    let refused = column_bytes(rt.alloc(), many, &codes.as_slice()).err();
+    assert!(&rt; refused == Some(ColumnWriteError::TooMany));
+}
+
+#[test]
+fn a_dictionary_has_the_hashes_that_another_writer_has(rt: HostRuntime) {
+    let ends = [3, 0, 0, 0, 3, 0, 0, 0, 5, 0, 0, 0];
+    assert!(&rt; DictionaryId::of(false, 3, &ends, b"abcxy") == ID);
+    let text = DictionaryId::of(true, 3, &ends, b"abcxy");
+    assert_eq!(&rt; text.hash0, 14_495_310_751_434_826_559);
+    assert_eq!(&rt; text.hash1, 2_988_094_485_908_791_214);
+}

@@ -1,0 +1,6 @@
+-- Lemmas on the bytes of a column.
+pub mod Codes
+pub mod Widths
+pub mod Counted
+pub mod Selected
+pub mod Written

@@ -1,0 +1,10 @@
+-- What the contracts of this crate cite.
+pub mod Numbers
+pub mod Width
+pub mod Layout
+pub mod Id
+pub mod IsColumn
+pub mod Fault
+pub mod Read
+pub mod Rows
+pub mod Writing

@@ -1,0 +1,155 @@
+//! A column.
+ghost use Rattle.std.specs.Prelude.{◌≡◌, ◌^◌, ◌<◌, ◌≤◌, length, slice_get, IfErr, IfOk, IsOk, MatchOption};
+ghost use Rattle.intaglio_column_file.specs.Layout.{codes, rows as rows_of, strings, width as width_of};
+ghost use Rattle.intaglio_column_file.specs.IsColumn.{AreCodes, Describes, HasHeader, HasRows, IsColumn};
+ghost use Rattle.intaglio_column_file.specs.Fault.{HasNoString, IsFault};
+
+use crate::error::ColumnError;
+use crate::header::{ColumnHeader, HEADER};
+use crate::id::DictionaryId;
+use crate::numbers::MISSING;
+use crate::width::Width;
+use std::marker::Model;
+
+/// A column: a list of codes, and which dictionary they belong to. A contract sees its bytes.
+#[derive(Drop)]
+pub struct Column<'a> {
+    bytes: &'a [u8],
+    id: DictionaryId,
+    width: Width,
+    rows: usize,
+}
+
+impl<'a> Model for Column<'a> {
+    ghost use Rattle.std.specs.Prelude.{ℕ, List};
+    ghost use Rattle.intaglio_column_file.specs.Read.{IsRead};
+
+    ghost Value = { List ℕ };
+
+    ghost view = { λ c. c.bytes.now };
+
+    ghost invariant = { IsRead };
+}
+
+impl<'a> Column<'a> {
+    /// The column in these bytes, after a check of the header and of each code.
+    ///
+    /// # Errors
+    ///
+    /// What is wrong with the bytes, if they are no column.
+    pub fn open(bytes: &'a [u8]) -> Result<Column<'a>, ColumnError>
+        ensures bytes { IfOk result (λ c. c ≡ bytes.now) }
+        ensures column { IfOk result (λ _. IsColumn bytes.now) }
+        ensures only { IsColumn bytes.now → IsOk result }
+        ensures err { IfErr result (IsFault bytes.now) }
+    {
+        let column = Column::open_trusted(bytes)?;
+        match column.first_fault() {
+            Some(row) => Err(ColumnError::NoString(row as u64)),
+            None => Ok(column),
+        }
+    }
+
+    /// The column in these bytes, after a check of the header and of how many bytes there are: then a code may be
+    /// that of no string. Nothing behind the header is read.
+    ///
+    /// # Errors
+    ///
+    /// What is wrong with the header, or that there are fewer or more bytes than the rows have.
+    pub fn open_trusted(bytes: &'a [u8]) -> Result<Column<'a>, ColumnError>
+        ensures bytes { IfOk result (λ c. c ≡ bytes.now) }
+        ensures rows { IfOk result (λ _. HasRows bytes.now) }
+        ensures only { HasRows bytes.now → IsOk result }
+        ensures err { IfErr result (IsFault bytes.now) }
+    {
+        let header = ColumnHeader::read(bytes)?;
+        let rows = rows_within(bytes, header.width, header.rows)?;
+        Ok(Column {
+            bytes,
+            id: header.id,
+            width: header.width,
+            rows,
+        })
+    }
+
+    /// The number of rows.
+    #[inline]
+    pub fn len(&self) -> usize
+        ensures count { result ≡ rows_of self.now }
+        ensures length { result ≡ length (codes self.now) }
+        ensures few { strings self.now ≤ 2 ^ 31 }
+    {
+        self.rows
+    }
+
+    /// The dictionary of the column.
+    pub fn id(&self) -> DictionaryId
+        ensures { Describes self.now result }
+    {
+        self.id
+    }
+
+    /// How many bytes a code has.
+    pub fn width(&self) -> Width
+        ensures { result ≡ width_of self.now }
+    {
+        self.width
+    }
+
+    /// The code of a row, counted from 0: a symbol, or [`MISSING`]. If the bytes were trusted, it may be that of no
+    /// string.
+    #[inline]
+    pub fn code(&self, row: usize) -> Option<u32>
+        ensures { result ≡ slice_get (codes self.now) row }
+    {
+        if row >= self.rows {
+            return None;
+        }
+        Some(self.read(row))
+    }
+
+    // The code of a row that is there.
+    #[inline(always)]
+    pub(crate) fn read(&self, row: usize) -> u32
+        requires { row < rows_of self.now }
+        ensures { slice_get (codes self.now) row ≡ Some result }
+    {
+        self.width
+            .read(self.bytes, HEADER + self.width.bytes() * row)
+    }
+
+    // The first row whose code is neither that of a string nor the missing one.
+    fn first_fault(&self) -> Option<usize>
+        ensures { let n = strings self.now in
+            MatchOption result (AreCodes n (codes self.now)) (HasNoString n (codes self.now)) }
+    {
+        for row in 0..self.rows {
+            let code = self.read(row);
+            if code as u64 >= self.id.count && code != MISSING {
+                return Some(row);
+            }
+        }
+        None
+    }
+}
+
+// How many rows there are, if the bytes end where the last one does.
+fn rows_within(bytes: &[u8], width: Width, rows: u64) -> Result<usize, ColumnError>
+    requires header { HasHeader bytes.now }
+    requires width { width ≡ width_of bytes.now }
+    requires rows { rows ≡ rows_of bytes.now }
+    ensures rows { IfOk result (λ n. n ≡ rows) }
+    ensures ok { IfOk result (λ _. HasRows bytes.now) }
+    ensures only { HasRows bytes.now → IsOk result }
+    ensures err { IfErr result (IsFault bytes.now) }
+{
+    let room = bytes.len() - HEADER;
+    let whole = width.codes_in(room);
+    if (whole as u64) < rows {
+        return Err(ColumnError::Truncated);
+    }
+    if rows as usize * width.bytes() != room {
+        return Err(ColumnError::TooLong);
+    }
+    Ok(rows as usize)
+}

@@ -1,0 +1,106 @@
+//! The header of a column.
+ghost use Rattle.std.specs.Prelude.{◌≡◌, IfErr, IfOk, IsOk};
+ghost use Rattle.intaglio_column_file.specs.Id.{kind_number};
+ghost use Rattle.intaglio_column_file.specs.Layout.{kind, rows, width};
+ghost use Rattle.intaglio_column_file.specs.IsColumn.{Describes, HasHeader, HasKind, HasWidth};
+ghost use Rattle.intaglio_column_file.specs.Fault.{IsFault};
+
+use crate::error::ColumnError;
+use crate::id::DictionaryId;
+use crate::numbers::{read_u32, read_u64};
+use crate::width::Width;
+
+// How many bytes the header has.
+pub(crate) const HEADER: usize = 64;
+// The letters INT, the byte 0x89, the letters COL, and a line end.
+pub(crate) const MAGIC: u64 = 0x0a4c_4f43_8954_4e49;
+
+pub(crate) const VERSION: u32 = 1;
+
+pub(crate) const MAX_COUNT: u64 = 1 << 31;
+
+/// What the header of a column says.
+#[derive(Debug, Clone, Copy, PartialEq, Eq)]
+pub struct ColumnHeader {
+    /// The dictionary of the column.
+    pub id: DictionaryId,
+    /// How many bytes a code has.
+    pub width: Width,
+    /// How many rows there are.
+    pub rows: u64,
+}
+
+impl ColumnHeader {
+    /// Reads the header at the beginning of these bytes. Nothing behind it is read.
+    ///
+    /// # Errors
+    ///
+    /// What is wrong with the header.
+    pub fn read(bytes: &[u8]) -> Result<ColumnHeader, ColumnError>
+        ensures id { IfOk result (λ header. Describes bytes.now header.id) }
+        ensures width { IfOk result (λ header. header.width ≡ width bytes.now) }
+        ensures rows { IfOk result (λ header. header.rows ≡ rows bytes.now) }
+        ensures ok { IfOk result (λ _. HasHeader bytes.now) }
+        ensures only { HasHeader bytes.now → IsOk result }
+        ensures err { IfErr result (IsFault bytes.now) }
+    {
+        let is_text = read_kind(bytes)?;
+        let count = read_u64(bytes, 32);
+        let width = check_width(bytes)?;
+        if read_u32(bytes, 52) != 0 || read_u64(bytes, 56) != 0 {
+            return Err(ColumnError::Reserved);
+        }
+        Ok(ColumnHeader {
+            id: DictionaryId {
+                is_text,
+                count,
+                hash0: read_u64(bytes, 16),
+                hash1: read_u64(bytes, 24),
+            },
+            width,
+            rows: read_u64(bytes, 40),
+        })
+    }
+}
+
+// Whether the dictionary is of texts, after the magic and the version.
+fn read_kind(bytes: &[u8]) -> Result<bool, ColumnError>
+    ensures kind { IfOk result (λ is_text. kind_number is_text ≡ kind bytes.now) }
+    ensures ok { IfOk result (λ _. HasKind bytes.now) }
+    ensures only { HasKind bytes.now → IsOk result }
+    ensures err { IfErr result (IsFault bytes.now) }
+{
+    if bytes.len() < 8 || read_u64(bytes, 0) != MAGIC {
+        return Err(ColumnError::Magic);
+    }
+    if bytes.len() < HEADER {
+        return Err(ColumnError::Header);
+    }
+    if read_u32(bytes, 8) != VERSION {
+        return Err(ColumnError::Version);
+    }
+    match read_u32(bytes, 12) {
+        0 => Ok(false),
+        1 => Ok(true),
+        _ => Err(ColumnError::Kind),
+    }
+}
+
+// Reads the width of codes, and checks that it is that of the number of strings.
+fn check_width(bytes: &[u8]) -> Result<Width, ColumnError>
+    requires { HasKind bytes.now }
+    ensures width { IfOk result (λ found. found ≡ width bytes.now) }
+    ensures ok { IfOk result (λ _. HasWidth bytes.now) }
+    ensures only { HasWidth bytes.now → IsOk result }
+    ensures err { IfErr result (IsFault bytes.now) }
+{
+    let count = read_u64(bytes, 32);
+    if count > MAX_COUNT {
+        return Err(ColumnError::TooMany);
+    }
+    let width = Width::of(count);
+    if read_u32(bytes, 48) as usize != width.bytes() {
+        return Err(ColumnError::Width);
+    }
+    Ok(width)
+}
