@@ -1,4 +1,5 @@
 //! The subcommand that writes a dictionary.
+use crate::hashing::random_builder;
 use crate::progress::Shown;
 use clap::ArgMatches;
 use intaglio_dict_io::input::{STANDARD_INPUT, lines};
@@ -10,7 +11,6 @@ use intaglio_dict_io::report::Tell;
 use intaglio_dictionary::error::FreezingError;
 use intaglio_dictionary::freezing::{freeze_column, freeze_lines, freeze_lines_with_default_keys};
 use intaglio_frozen::{FreezeError, Kind};
-use std::hash::RandomState;
 use std::io;
 use std::io::Write;
 use std::random::RandomSource;
@@ -102,9 +102,7 @@ impl<R: Tell> Freezing<'_, R> {
         name: &str,
         output: &mut Noticing<W>,
     ) -> Result<(), u8> {
-        let Ok(builder) = RandomState::new(rt) else {
-            return Err(report::no_random_bytes(rt));
-        };
+        let builder = random_builder(rt)?;
         let (alloc, kind, input) = (rt.alloc(), self.kind, self.input);
         let shown = &mut self.shown;
         let written = match self.keys {
@@ -125,9 +123,7 @@ impl<R: Tell> Freezing<'_, R> {
         output: &mut Noticing<W>,
         codes: &mut Noticing<Vec<u8>>,
     ) -> Result<(), u8> {
-        let Ok(builder) = RandomState::new(rt) else {
-            return Err(report::no_random_bytes(rt));
-        };
+        let builder = random_builder(rt)?;
         let (alloc, kind, keys, input) = (rt.alloc(), self.kind, self.keys, self.input);
         let shown = &mut self.shown;
         match freeze_column(alloc, kind, keys, builder, input, output, codes, shown) {

@@ -6,6 +6,7 @@
 
 mod columns;
 mod freezing;
+mod hashing;
 mod keeping;
 mod look_ups;
 mod merging;

@@ -1,5 +1,6 @@
 //! The subcommand that merges dictionaries.
 use crate::freezing::refusal;
+use crate::hashing::random_builder;
 use crate::progress::Shown;
 use crate::run::checked;
 use clap::ArgMatches;
@@ -13,7 +14,6 @@ use intaglio_dict_io::report::Tell;
 use intaglio_dictionary::merging::{merge, write_codes};
 use intaglio_frozen::{Frozen, Header, Kind};
 use intaglio_symbol::Symbol;
-use std::hash::RandomState;
 use std::io::Write;
 use std::random::RandomSource;
 use std::rt::Files;
@@ -48,9 +48,7 @@ impl<R: Tell + AllocGlobal> Content<R> for Map<'_> {
 impl<R: Files + RandomSource + Print + Tell + AllocGlobal> Content<R> for Merging<'_, '_, R> {
     // The maps are written before the dictionary has its place: whoever sees that can read them.
     fn write<W: Write>(&mut self, rt: &R, name: &str, output: &mut Noticing<W>) -> Result<(), u8> {
-        let Ok(builder) = RandomState::new(rt) else {
-            return Err(report::no_random_bytes(rt));
-        };
+        let builder = random_builder(rt)?;
         let (tables, kind, keys) = (self.tables, self.kind, self.keys);
         match merge(
             rt.alloc(),
