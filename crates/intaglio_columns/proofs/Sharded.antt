@@ -83,7 +83,7 @@ found-in shard w m (us ∷ shards) zero ws placed is at =
 found-in shard w m (us ∷ shards) (suc s) ws placed is at =
     let here = others-differ shard w us (λ i v stands e. let is-there = placed 0 us refl i v stands in absurd (omega (arith, is-there, e, is))) in
     let placed-rest : (t : ℕ) (vs : List (List ℕ)) → slice_get shards t ≡ Some vs → (i : ℕ) (v : List ℕ) → slice_get vs i ≡ Some v → shard v ≡ m + 1 + t =
-        λ t vs there i v stands. omega (arith, placed (suc t) vs there i v stands) in
+    λ t vs there i v stands. omega (arith, placed (suc t) vs there i v stands) in
     let rest = found-in shard w (m + 1) shards s ws placed-rest (omega (arith, is)) at in
     let count : length us + length (joined (take s shards)) ≡ length (us ++ joined (take s shards)) = sym (length-append us (joined (take s shards))) in
     first-append string_key us (joined shards) (string_key w)

@@ -1,7 +1,8 @@
 //! Frozen tables as the shards of one dictionary.
-ghost use Rattle.std.specs.Prelude.{◌≡◌, ◌<◌, ◌≤◌, length, slice_get, option_copied, IfErr, IfOk, MatchOption, OnOk};
+ghost use Rattle.std.specs.Prelude.{◌≡◌, ◌+◌, ◌^◌, ◌<◌, ◌≤◌, length, slice_get, option_copied, IfErr, IfOk, MatchOption, OnOk};
 ghost use Rattle.intaglio_interner.specs.State.{first};
 ghost use Rattle.intaglio_columns.specs.Columns.{missing, string_key};
+ghost use Rattle.intaglio_columns.specs.declared.error.ShardsError.TheVariants.{TooMany};
 ghost use Rattle.intaglio_columns.specs.Shards.{AreShards, BelongTo, IsMisplaced, IsShardsFault, joined, starts_from};
 
 use crate::error::ShardsError;
@@ -167,10 +168,22 @@ fn starts_of(alloc: Global, tables: &[Frozen<'_>]) -> Result<Vec<u32>, ShardsErr
     let mut count = 0usize;
     for i in 0..tables.len() {
         starts.push_reserved(count as u32);
-        count += tables[i].len();
-        if count > MOST {
-            return Err(ShardsError::TooMany);
-        }
+        count = with_more(count, tables[i].len())?;
     }
     Ok(starts)
+}
+
+// How many strings there are with these, if they aren't too many.
+fn with_more(count: usize, more: usize) -> Result<usize, ShardsError>
+    requires count { count ≤ missing }
+    requires more { more ≤ 2 ^ 32 }
+    ensures sum { IfOk result (λ sum. sum ≡ count + more) }
+    ensures few { IfOk result (λ sum. sum ≤ missing) }
+    ensures err { IfErr result (λ e. (e ≡ TooMany) × (missing < count + more)) }
+{
+    let sum = count + more;
+    if sum > MOST {
+        return Err(ShardsError::TooMany);
+    }
+    Ok(sum)
 }

@@ -9,6 +9,7 @@ pub mod dictionary;
 mod encoding;
 pub mod error;
 pub mod freezing;
+pub mod identity;
 pub mod look_up;
 pub mod merging;
 pub mod progress;

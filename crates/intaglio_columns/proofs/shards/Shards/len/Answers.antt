@@ -19,7 +19,7 @@ count c =
     omega (arith, start, c.len.ensures.count, all)
 
 pub returns-clause-count : goal.returns-clause-count
-returns-clause-count c = rw (← c.self.view_is) (count c)
+returns-clause-count c = omega (arith, count c, ap (λ t. length (joined t)) c.self.view_is)
 
 pub returns-clause-few : goal.returns-clause-few
 returns-clause-few c = omega (arith, count c, c.self.invariant.numbered)
