@@ -47,8 +47,8 @@ def map_to_whole(merged, position, above):
 
 def rewrite(codes, numbers, name):
     """Writes the codes of a block in the one dictionary. Whoever reads the file has all of it, even if this is run twice at
-    once."""
-    new = f"{name}.{os.getpid()}.new"
+    once, by processes of two machines that have the same number."""
+    new = f"{name}.{os.urandom(8).hex()}.new"
     Path(new).write_bytes(codes if numbers is None else renumber(codes, numbers))
     os.replace(new, name)
 
