@@ -65,7 +65,7 @@ def beside(client, function, futures, *others):
 def await_all(what, futures):
     """Says how many of these are done, until all are."""
     for number, future in enumerate(as_completed(futures), 1):
-        if future.status == "error":
+        if future.status != "finished":
             future.result()
         print(f"\r{number} of {len(futures)} {what}", end="", file=sys.stderr, flush=True)
     print(file=sys.stderr)
