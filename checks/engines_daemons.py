@@ -1,6 +1,7 @@
 """Programs that stay, for `engines`: starts them, waits for what they do, and ends them by their numbers. What they start and
 leave becomes a child of this process (`adopt`), which so knows of everything that is still there.
 """
+import contextlib
 import ctypes
 import os
 import signal
@@ -55,24 +56,35 @@ def children():
 
 
 def end_children():
-    """Kills this process's children, those that were left to it too, and takes leave of those that ended. Returns what was
-    killed."""
-    found = children()
-    for number in found:
-        os.kill(number, signal.SIGKILL)
+    """Kills this process's children, those that were left to it too, until there are none, and takes leave of those that ended.
+    Returns what was killed."""
+    killed = []
+    while found := children():
+        killed += found.values()
+        for number in found:
+            os.kill(number, signal.SIGKILL)
+            os.waitpid(number, 0)
     try:
-        while os.waitpid(-1, 0)[0]:
+        while os.waitpid(-1, os.WNOHANG)[0]:
             pass
     except ChildProcessError:
-        return [*found.values()]
+        pass
+    return killed
+
+
+def sockets(number):
+    """The sockets that a process has, which may close others of its files meanwhile."""
+    for file in Path(f"/proc/{number}/fd").iterdir():
+        with contextlib.suppress(FileNotFoundError):
+            yield os.readlink(file)
 
 
 def listened(number):
     """The addresses at which a process listens, as /proc has them: in hexadecimal, the first byte last."""
-    sockets = {os.readlink(it) for it in Path(f"/proc/{number}/fd").iterdir()}
-    for table in ("tcp", "tcp6"):
-        for _, address, _, state, *words in map(str.split, Path(f"/proc/net/{table}").read_text().splitlines()[1:]):
-            if state == LISTENS and f"socket:[{words[5]}]" in sockets:
+    own = {*sockets(number)}
+    for table in filter(Path.is_file, map(Path, ("/proc/net/tcp", "/proc/net/tcp6"))):
+        for _, address, _, state, *words in map(str.split, table.read_text().splitlines()[1:]):
+            if state == LISTENS and f"socket:[{words[5]}]" in own:
                 yield address.partition(":")[0]
 
 

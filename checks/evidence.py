@@ -8,6 +8,7 @@ file of a test from the sources. With --check nothing is written: what is wrong 
 checks/consistency asks for that too.
 """
 
+import collections
 import re
 import sys
 import textwrap
@@ -126,6 +127,9 @@ def wrong(every=None):
         if not (it.kept or it.mutants or it.tests):
             yield f"checks/evidence.txt: {it.promise} has no mutant and no test"
         yield from (f"checks/evidence.txt: no or several mutants are {name}" for name in it.mutants if not named(mutants, name))
+    for name, count in collections.Counter(it.promise for it in own if it.promise).items():
+        if count > 1:
+            yield f"checks/evidence.txt: {name} has {count} blocks, and not one"
     for name in sorted(names - {it.promise for it in own}):
         yield f"docs/PROMISES.md: checks/evidence.txt has no block of {name}"
     for it in mutants:

@@ -71,8 +71,9 @@ NAMES = {
     "by a hard link": "hard",
 }
 REDIRECTED = {">": "wb", ">>": "ab"}
-# A descriptor that is passed on, and the name of what it is open for.
-PASSED = 9
+# A descriptor that is passed on, and the name of what it is open for. Its number is kept for it from here on, so that nothing
+# else has it: not the pipes of a pool of processes.
+PASSED = os.open(os.devnull, os.O_RDONLY)
 PASSED_NAME = f"/dev/fd/{PASSED}"
 
 
@@ -163,8 +164,6 @@ class Room:
         ran = subprocess.run([tool, *words], cwd=self.top, timeout=60, pass_fds=[PASSED] if passed else [], **streams)
         for it in opened:
             it.close()
-        if passed:
-            os.close(PASSED)
         return (
             ran.returncode, ran.stdout or b"", (ran.stderr or b"").decode(errors="replace").splitlines(),
             before == [*self.seen()],

@@ -96,7 +96,8 @@ def wrong_of_bench():
     left_out = [it for it in ran.stdout.splitlines() if it.startswith("left out: ")]
     print(*left_out, sep="\n", end="\n" * bool(left_out))
     if ran.returncode:
-        yield from (it for it in (ran.stdout + ran.stderr).splitlines() if it not in left_out)
+        said = [it for it in (ran.stdout + ran.stderr).splitlines() if it not in left_out]
+        yield from said or [f"bench/plot.py: ended with status {ran.returncode}"]
 
 
 def draw(path, text):

@@ -47,8 +47,8 @@ def map_to_whole(merged, position, above):
 
 def rewrite(codes, numbers, name):
     """Writes the codes of a block in the one dictionary. Whoever reads the file has all of it, even if this is run twice at
-    once."""
-    new = f"{name}.{os.getpid()}.new"
+    once, by processes of two machines that have the same number."""
+    new = f"{name}.{os.urandom(8).hex()}.new"
     Path(new).write_bytes(codes if numbers is None else renumber(codes, numbers))
     os.replace(new, name)
 
@@ -65,7 +65,7 @@ def beside(client, function, futures, *others):
 def await_all(what, futures):
     """Says how many of these are done, until all are."""
     for number, future in enumerate(as_completed(futures), 1):
-        if future.status == "error":
+        if future.status != "finished":
             future.result()
         print(f"\r{number} of {len(futures)} {what}", end="", file=sys.stderr, flush=True)
     print(file=sys.stderr)

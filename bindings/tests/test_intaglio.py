@@ -94,6 +94,17 @@ class EachKind:
             with self.assertRaises(intaglio.TooLarge):
                 kind(**sizes)
 
+    def test_numbers_that_python_does_not_write_in_digits(self):
+        kind, of = self.kind, self.of
+        table, number = kind([of("a")]), 10**5000
+        with self.assertRaisesRegex(intaglio.TooLarge, "not a number of thousands of digits$"):
+            table.reserve(number)
+        with self.assertRaisesRegex(intaglio.Stale, ": a number of thousands of digits, and the table has 1 strings$"):
+            table.take_back(number)
+        for call in (lambda: table[number], lambda: table.get_all([0, number])):
+            with self.assertRaisesRegex(intaglio.NoSymbol, "no such symbol: a number of thousands of digits, and "):
+                call()
+
     def test_a_closed_table_has_no_strings(self):
         kind, of = self.kind, self.of
         with kind([of("a")]) as table:

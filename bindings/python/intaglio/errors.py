@@ -169,6 +169,14 @@ class Missing(KeyError):
 REFUSALS: dict[int, type[Refused]] = {refusal.code: refusal for refusal in Refused.__subclasses__()}
 
 
+def shown(number: int) -> str:
+    """A number as messages have it: Python writes none of thousands of digits."""
+    try:
+        return str(number)
+    except ValueError:
+        return "a number of thousands of digits"
+
+
 def at(position: int | None, message: str) -> str:
     """The message about a string or code at a position of a batch, or about the only one."""
     return message if position is None else f"at position {position}: {message}"
@@ -194,17 +202,17 @@ def lone_surrogate(position: int | None = None) -> Refused:
 
 def no_such_symbol(symbol: int, length: int, position: int | None = None) -> Refused:
     """The error of a number that is no symbol."""
-    return placed(NoSymbol, f"no such symbol: {symbol}, and the table has {length} strings", position)
+    return placed(NoSymbol, f"no such symbol: {shown(symbol)}, and the table has {length} strings", position)
 
 
 def no_size(number: int) -> TooLarge:
     """The error of a number that isn't one of strings."""
-    return TooLarge(f"a number of strings is from 0 to 2**32, not {number}")
+    return TooLarge(f"a number of strings is from 0 to 2**32, not {shown(number)}")
 
 
 def no_length(length: int, strings: int) -> Stale:
     """The error of a length that a table can't be rolled back to."""
-    return Stale(f"no length to roll back to: {length}, and the table has {strings} strings")
+    return Stale(f"no length to roll back to: {shown(length)}, and the table has {strings} strings")
 
 
 def no_symbol(code: int, position: int) -> NoSymbol:

@@ -643,6 +643,7 @@ static PyObject *table_close(Table *self, PyObject *Py_UNUSED(none)) {
 static PyObject *freeze(Table *self, const uint64_t keys[2], uint32_t *code, bool is_alone) {
     size_t len = 0, size = intaglio_frozen_size(&self->handle);
     PyObject *bytes = PyBytes_FromStringAndSize(NULL, (Py_ssize_t)size);
+    *code = INTAGLIO_DONE;
     if (!bytes) return NULL;
     PyThreadState *state = is_alone ? PyEval_SaveThread() : NULL;
     *code = intaglio_freeze(&self->handle, keys[0], keys[1], (uint8_t *)PyBytes_AS_STRING(bytes), size, &len);
