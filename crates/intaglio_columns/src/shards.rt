@@ -54,7 +54,7 @@ impl<'a> Shards<'a> {
     /// 2^32 strings, or shards, or more, `Memory` if an allocation fails.
     ///
     /// ```
-    /// # use intaglio::{StrContent, SymbolTable};
+    /// # use intaglio::{StrContent, Symbol, SymbolTable};
     /// # use intaglio_columns::Shards;
     /// # use intaglio_frozen::{Frozen, Kind, freeze};
     /// # let alloc = rt.alloc();
@@ -64,8 +64,9 @@ impl<'a> Shards<'a> {
     /// let mut tables = Vec::new(alloc);
     /// tables.push(Frozen::open(&bytes)?)?;
     /// let shards = Shards::open(alloc, tables)?;
-    /// let symbol = shards.check_interned(b"rose");
-    /// assert!(rt; symbol.and_then(|symbol| shards.get(symbol)) == Some(b"rose".as_slice()));
+    /// let rose = Symbol::new(0);
+    /// assert!(rt; shards.check_interned(b"rose") == Some(rose));
+    /// assert!(rt; shards.get(rose) == Some(b"rose".as_slice()));
     /// ```
     pub fn open(alloc: Global, tables: Vec<Frozen<'a>>) -> Result<Shards<'a>, ShardsError>
         ensures strings { IfOk result (λ shards. shards ≡ tables.entry.items) }

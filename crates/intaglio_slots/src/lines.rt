@@ -171,7 +171,7 @@ impl Lines {
         self.lines[first].set_next(number as u32);
     }
 
-    /// Removes the newest entry, which has this hash. The lines are then as they were before it was placed.
+    /// Removes the newest entry, which has this hash. The lines then have the entries that they had before.
     pub fn remove_newest(&mut self, hash: u64)
         requires { EndWith hash self.old }
         ensures removed { IsRemoved hash self.old self.new }
