@@ -53,7 +53,7 @@ impl<'a> Shards<'a> {
     /// `Empty` if there is no table, `Misplaced` for a string that belongs to another shard, `TooMany` if there are
     /// 2^32 strings, or shards, or more, `Memory` if an allocation fails.
     ///
-    /// ```ignore (the borrow checker doesn't read tables that are lent from a list of one function)
+    /// ```ignore (the borrow checker doesn't cover this function yet)
     /// # use intaglio::{StrContent, Symbol, SymbolTable};
     /// # use intaglio_columns::Shards;
     /// # use intaglio_frozen::{Frozen, Kind, freeze};
