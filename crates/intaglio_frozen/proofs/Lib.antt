@@ -13,3 +13,9 @@ pub mod Used
 pub mod HashBelow
 pub mod SameTable
 pub mod Distinct
+pub mod Bits
+pub mod Searches
+pub mod Pilots
+pub mod Sorted
+pub mod Placed
+pub mod Written

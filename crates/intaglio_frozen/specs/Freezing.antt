@@ -1,5 +1,5 @@
 -- The keys of the table that strings are given, and why strings have no frozen table, or weren't given one.
-use Rattle.std.specs.Prelude.{◌≡◌, ℕ, ◌+◌, ◌-◌, ◌%◌, ◌^◌, ◌<◌, ◌≤◌, ◌⊎◌, List, length, sum_by, slice_get, Some}
+use Rattle.std.specs.Prelude.{◌≡◌, ℕ, ◌+◌, ◌-◌, ◌%◌, ◌^◌, ◌<◌, ◌≤◌, ◌⊎◌, List, length, map, sum_by, slice_get, Some}
 use Rattle.std.specs.Hash.{u64}
 use Rattle.std.specs.Hash.DefaultHasher.{with_keys, write, finish}
 use Rattle.std.specs.List.{fold}
@@ -7,7 +7,9 @@ use Rattle.std.specs.declared.hash.DefaultHasher.{DefaultHasher}
 use Rattle.intaglio_frozen.specs.declared.kind.Kind.{Kind}
 use Rattle.intaglio_frozen.specs.declared.kind.Kind.TheVariants.{Text}
 use Rattle.intaglio_frozen.specs.IsFrozen.{AreTexts, IsFrozen, number_of}
-use Rattle.intaglio_frozen.specs.Layout.{key0, key1, kind as kind_of, strings}
+use Rattle.intaglio_frozen.specs.Layout.{key0, key1, kind as kind_of, strings, pilot_of}
+use Rattle.intaglio_frozen.specs.LookUp.{hash_under}
+use Rattle.intaglio_frozen.specs.Pilots.{ArePilots, HavePlaces}
 use Rattle.intaglio_frozen.specs.Fault.{IsNoText}
 use Rattle.intaglio_frozen.specs.declared.error.FreezeError.{FreezeError}
 use Rattle.intaglio_frozen.specs.declared.error.FreezeError.TheVariants.{TooMany, TooLong, Equal, NotUtf8, NoPlaces, Memory}
@@ -22,6 +24,33 @@ pub record IsTableOf (wanted : Kind) (ws : List (List ℕ)) (bs : List ℕ) : Ty
 pub record HasKeys (k0 k1 : ℕ) (bs : List ℕ) : Type 0 where
   pub first : (key0 bs + (2 ^ 64 - k0)) % 2 ^ 64 < 8
   pub second : key1 bs ≡ k1
+
+-- the hashes of all strings under two keys, in their order
+abbrev pub hashes_under : ℕ → ℕ → List (List ℕ) → List ℕ
+hashes_under k0 k1 ws = map (hash_under k0 k1) ws
+
+-- the bytes are the table of this kind of these strings under these keys, with the least pilots
+pub record IsLeastTable (wanted : Kind) (ws : List (List ℕ)) (k0 k1 : ℕ) (bs : List ℕ) : Type 0 where
+  pub table : IsTableOf wanted ws bs
+  pub key0 : key0 bs ≡ k0
+  pub key1 : key1 bs ≡ k1
+  pub pilots : ArePilots (hashes_under k0 k1 ws) (pilot_of bs)
+
+-- under the n-th pair of keys from k0 and k1 on, not each string has a place
+abbrev pub LacksPlaces : List (List ℕ) → ℕ → ℕ → ℕ → Type 0
+LacksPlaces ws k0 k1 n = ¬ HavePlaces (hashes_under ((k0 + n) % 2 ^ 64) k1 ws)
+
+-- of eight pairs of keys from k0 and k1 on, none has a place for each string
+abbrev pub LackAllPlaces : List (List ℕ) → ℕ → ℕ → Type 0
+LackAllPlaces ws k0 k1 = (n : ℕ) → n < 8 → LacksPlaces ws k0 k1 n
+
+-- the bytes are the table that is written of these strings: that with the least pilots, under the first of eight pairs
+-- of keys, from k0 and k1 on, that have a place for each string
+pub record IsWritten (wanted : Kind) (ws : List (List ℕ)) (k0 k1 : ℕ) (bs : List ℕ) : Type 0 where
+  pub pair : ℕ
+  pub few : pair < 8
+  pub first : (n : ℕ) → n < pair → LacksPlaces ws k0 k1 n
+  pub table : IsLeastTable wanted ws ((k0 + pair) % 2 ^ 64) k1 bs
 
 -- a hasher after a string: its length, in eight bytes, and its bytes
 abbrev pub after_string : DefaultHasher → List ℕ → DefaultHasher
@@ -42,6 +71,15 @@ drawn_key1 ws = hash_all (drawn_key0 ws) 0 ws
 -- or the next ones
 abbrev pub HasDefaultKeys : List (List ℕ) → List ℕ → Type 0
 HasDefaultKeys ws bs = HasKeys 0 0 bs ⊎ HasKeys (drawn_key0 ws) (drawn_key1 ws) bs
+
+-- neither 0 and 0, nor the drawn keys, nor the seven pairs after either have a place for each string
+abbrev pub LackDefaultPlaces : List (List ℕ) → Type 0
+LackDefaultPlaces ws = LackAllPlaces ws 0 0 × LackAllPlaces ws (drawn_key0 ws) (drawn_key1 ws)
+
+-- the bytes are the table that is written of these strings if no keys are given
+abbrev pub IsWrittenWithDefaultKeys : Kind → List (List ℕ) → List ℕ → Type 0
+IsWrittenWithDefaultKeys wanted ws bs =
+    IsWritten wanted ws 0 0 bs ⊎ (LackAllPlaces ws 0 0 × IsWritten wanted ws (drawn_key0 ws) (drawn_key1 ws) bs)
 
 -- the strings at i and at j, which is greater, are equal
 abbrev pub AreEqual : List (List ℕ) → ℕ → ℕ → Type 0

@@ -58,7 +58,8 @@ pub enum FreezeError {
     /// No places were found for the strings under any of the keys that were tried.
     #[error("no places were found for the strings")]
     NoPlaces,
-    /// An allocation failed.
+    /// An allocation failed. A check of what was sorted or written would return this too, if it failed. It isn't
+    /// proved that none ever fails.
     #[error("out of memory")]
     Memory,
 }

@@ -1,19 +1,23 @@
 //! How a list of strings is frozen.
-ghost use Rattle.std.specs.Prelude.{◌≡◌, ◌-◌, ◌≤◌, ◌^◌, IfErr, IfOk, IfSome, IsTrue, length, map, min, sum_by};
+ghost use Rattle.std.specs.Prelude.{◌≡◌, ◌≢◌, ◌-◌, ◌≤◌, ◌^◌, IfErr, IfOk, IfSome, IsTrue, MatchOption, length, min, sum_by};
 ghost use Rattle.intaglio_frozen.specs.Layout.{key0 as key0_of, key1 as key1_of, kind as kind_of, strings};
-ghost use Rattle.intaglio_frozen.specs.LookUp.{FindsAll, hash_under};
+ghost use Rattle.intaglio_frozen.specs.LookUp.{FindsAll};
 ghost use Rattle.intaglio_frozen.specs.IsFrozen.{IsFrozen, number_of};
-ghost use Rattle.intaglio_frozen.specs.Freezing.{AreAllowed, HasDefaultKeys, HasKeys, IsRefusal, IsTableOf};
+ghost use Rattle.intaglio_frozen.specs.Checked.{HasPilots};
+ghost use Rattle.intaglio_frozen.specs.Pilots.{HavePlaces};
+ghost use Rattle.intaglio_frozen.specs.Freezing.{AreAllowed, HasDefaultKeys, HasKeys, IsLeastTable, IsRefusal, IsTableOf, IsWritten, IsWrittenWithDefaultKeys, LackAllPlaces, LackDefaultPlaces, hashes_under};
+ghost use Rattle.intaglio_frozen.specs.declared.error.FreezeError.TheVariants.{NoPlaces};
 
 use crate::block::Block;
 use crate::checking::first_misplaced;
 use crate::drawing::hash_all;
 use crate::equal::{equal_pair, equal_strings};
 use crate::error::FreezeError;
+use crate::hashing::hashes;
 use crate::header::{HEADER, Header, MAGIC, MAX_COUNT, VERSION};
 use crate::kind::Kind;
 use crate::list::{StringList, first_fault};
-use crate::placing::{Sections, hashes, place_all};
+use crate::placing::{Sections, place_all};
 use intaglio_content::same_bytes;
 use std::alloc::{AllocError, Global};
 
@@ -24,7 +28,9 @@ const ATTEMPTS: u64 = 8;
 /// symbol.
 ///
 /// The hashes are keyed by these numbers, or, if a string gets no place under them, by `key1` and one of the
-/// seven numbers after `key0`, modulo 2^64. The same arguments always give the same bytes.
+/// seven numbers after `key0`, modulo 2^64. The same strings under the same keys always give the same bytes:
+/// the table with the least pilots, under the first of these pairs of keys that has a place for each string
+/// (`IsWritten`).
 ///
 /// # Errors
 ///
@@ -43,7 +49,10 @@ pub fn freeze<L: StringList>(
     ensures strings { IfOk result (λ bytes. strings bytes.items ≡ L.strings list.now) }
     ensures kind { IfOk result (λ bytes. kind_of bytes.items ≡ number_of kind) }
     ensures keys { IfOk result (λ bytes. HasKeys key0 key1 bytes.items) }
+    ensures written { let IsWritten = IsWritten kind (L.strings list.now) key0 key1 in
+        IfOk result (λ bytes. IsWritten bytes.items) }
     ensures err { IfErr result (IsRefusal kind (L.strings list.now)) }
+    ensures no_places { IfErr result (λ error. error ≡ NoPlaces → LackAllPlaces (L.strings list.now) key0 key1) }
 {
     check_strings(kind, list)?;
     match freeze_near(alloc, list, kind, key0, key1)? {
@@ -68,7 +77,10 @@ pub fn freeze_with_default_keys<L: StringList>(
     ensures strings { IfOk result (λ bytes. strings bytes.items ≡ L.strings list.now) }
     ensures kind { IfOk result (λ bytes. kind_of bytes.items ≡ number_of kind) }
     ensures keys { IfOk result (λ bytes. HasDefaultKeys (L.strings list.now) bytes.items) }
+    ensures written { let IsWritten = IsWrittenWithDefaultKeys kind (L.strings list.now) in
+        IfOk result (λ bytes. IsWritten bytes.items) }
     ensures err { IfErr result (IsRefusal kind (L.strings list.now)) }
+    ensures no_places { IfErr result (λ error. error ≡ NoPlaces → LackDefaultPlaces (L.strings list.now)) }
 {
     check_strings(kind, list)?;
     if let Some(bytes) = freeze_near(alloc, list, kind, 0, 0)? {
@@ -86,6 +98,7 @@ pub fn freeze_with_default_keys<L: StringList>(
 fn check_strings<L: StringList>(kind: Kind, list: &L) -> Result<(), FreezeError>
     ensures allowed { IfOk result (λ _. AreAllowed kind (L.strings list.now)) }
     ensures err { IfErr result (IsRefusal kind (L.strings list.now)) }
+    ensures others { IfErr result (λ error. error ≢ NoPlaces) }
 {
     if list.len() > MAX_COUNT as usize {
         return Err(FreezeError::TooMany);
@@ -122,10 +135,11 @@ fn freeze_near<L: StringList>(
     key1: u64,
 ) -> Result<Option<Vec<u8>>, FreezeError>
     requires { AreAllowed kind (L.strings list.now) }
-    ensures table { let IsTable = IsTableOf kind (L.strings list.now) in
-        IfOk result (λ found. IfSome found (λ bytes. IsTable bytes.items)) }
-    ensures keys { IfOk result (λ found. IfSome found (λ bytes. HasKeys key0 key1 bytes.items)) }
+    ensures written { let IsWritten = IsWritten kind (L.strings list.now) key0 key1 in
+        let lacking = LackAllPlaces (L.strings list.now) key0 key1 in
+        IfOk result (λ found. MatchOption found lacking (λ bytes. IsWritten bytes.items)) }
     ensures err { IfErr result (IsRefusal kind (L.strings list.now)) }
+    ensures others { IfErr result (λ error. error ≢ NoPlaces) }
 {
     for attempt in 0..ATTEMPTS {
         if let Some(bytes) = freeze_under(alloc, list, kind, key0.wrapping_add(attempt), key1)? {
@@ -144,11 +158,11 @@ fn freeze_under<L: StringList>(
     key1: u64,
 ) -> Result<Option<Vec<u8>>, FreezeError>
     requires { AreAllowed kind (L.strings list.now) }
-    ensures table { let IsTable = IsTableOf kind (L.strings list.now) in
-        IfOk result (λ found. IfSome found (λ bytes. IsTable bytes.items)) }
-    ensures first_key { IfOk result (λ found. IfSome found (λ bytes. key0_of bytes.items ≡ key0)) }
-    ensures second_key { IfOk result (λ found. IfSome found (λ bytes. key1_of bytes.items ≡ key1)) }
+    ensures written { let IsTable = IsLeastTable kind (L.strings list.now) key0 key1 in
+        let lacking = ¬ HavePlaces (hashes_under key0 key1 (L.strings list.now)) in
+        IfOk result (λ found. MatchOption found lacking (λ bytes. IsTable bytes.items)) }
     ensures err { IfErr result (IsRefusal kind (L.strings list.now)) }
+    ensures others { IfErr result (λ error. error ≢ NoPlaces) }
 {
     let hashes = hashes(alloc, list, key0, key1)?;
     let Some(sections) = place_all(alloc, &hashes)? else {
@@ -164,10 +178,11 @@ fn freeze_under<L: StringList>(
         [key0, key1, list.len() as u64],
         &sections,
     )?;
-    if holds(&bytes, list, kind, key0, key1, &hashes) {
+    if holds(&bytes, list, kind, key0, key1, &hashes, &sections.pilots) {
         Ok(Some(bytes))
     } else {
-        Ok(None)
+        // This is never so, but it isn't proved that it never is.
+        Err(FreezeError::Memory)
     }
 }
 
@@ -182,7 +197,8 @@ fn byte_count<L: StringList>(list: &L) -> u64
     count
 }
 
-// Whether the bytes are a frozen table of these strings, which have these hashes, under these keys.
+// Whether the bytes are a frozen table of these strings, which have these hashes, under these keys, and with these
+// pilots.
 fn holds<L: StringList>(
     bytes: &[u8],
     list: &L,
@@ -190,19 +206,24 @@ fn holds<L: StringList>(
     key0: u64,
     key1: u64,
     hashes: &[u64],
+    pilots: &[u16],
 ) -> bool
     requires allowed { AreAllowed kind (L.strings list.now) }
-    requires hashes { hashes.now ≡ map (hash_under key0 key1) (L.strings list.now) }
+    requires hashes { hashes.now ≡ hashes_under key0 key1 (L.strings list.now) }
     ensures table { IsTrue result → IsTableOf kind (L.strings list.now) bytes.now }
     ensures first_key { IsTrue result → key0_of bytes.now ≡ key0 }
     ensures second_key { IsTrue result → key1_of bytes.now ≡ key1 }
+    ensures pilots { IsTrue result → HasPilots bytes.now pilots.now }
 {
     if !has_header(bytes, kind, key0, key1) {
         return false;
     }
     match Block::read(bytes) {
         Ok(block) => {
-            has_strings(&block, list) && block.has_unused() && finds_all(&block, hashes)
+            has_strings(&block, list)
+                && block.has_pilots(pilots)
+                && block.has_unused()
+                && finds_all(&block, hashes)
         }
         Err(_) => false,
     }
@@ -236,8 +257,7 @@ fn has_strings<L: StringList>(block: &Block<'_>, list: &L) -> bool
 
 // Whether each string of a block, which have these hashes, is found at its symbol.
 fn finds_all(block: &Block<'_>, hashes: &[u64]) -> bool
-    requires { let hash = hash_under (key0_of block.now) (key1_of block.now) in
-        hashes.now ≡ map hash (strings block.now) }
+    requires { hashes.now ≡ hashes_under (key0_of block.now) (key1_of block.now) (strings block.now) }
     ensures { IsTrue result → FindsAll block.now }
 {
     match first_misplaced(block, 0, hashes) {

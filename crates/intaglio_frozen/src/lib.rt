@@ -2,7 +2,9 @@
 #![tactic(auto)]
 
 mod batch;
+mod bitmap;
 mod block;
+mod certifying;
 mod checking;
 mod drawing;
 mod equal;
@@ -10,6 +12,7 @@ mod error;
 mod freezing;
 mod frozen;
 mod grouping;
+mod hashing;
 mod header;
 mod iter;
 mod kind;
@@ -18,6 +21,7 @@ mod layout;
 mod list;
 mod numbers;
 mod placing;
+mod searching;
 mod thawing;
 mod trusted;
 

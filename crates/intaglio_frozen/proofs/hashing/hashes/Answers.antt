@@ -1,8 +1,8 @@
-use Rattle.std.proofs.Common.{◌≡◌, get_or, arith, rules, sym, ap, ◌∙◌}
+use Rattle.std.proofs.Common.{◌≡◌, get_or, rules}
 use Rattle.std.proofs.lemmas.Option.{slice_get_within, get_or_from_slice_get}
 use Rattle.intaglio_frozen.specs.LookUp.{hash_under}
 use Rattle.intaglio_frozen.proofs.Batched.{found-more}
-use Rattle.intaglio_frozen.proofs.placing.hashes.Goals as goal
+use Rattle.intaglio_frozen.proofs.hashing.hashes.Goals as goal
 
 pub loop-i-preserved : goal.loop-i-preserved
 loop-i-preserved g c =

@@ -1,0 +1,6 @@
+use Rattle.std.proofs.Common.{ℕ, ◌<◌}
+use Rattle.intaglio_frozen.specs.Freezing.{LacksPlaces}
+use Rattle.intaglio_frozen.proofs.freezing.freeze_near.Given as goal
+
+abbrev pub invariant-loop-attempt : goal.invariant-loop-attempt
+invariant-loop-attempt g l = (n : ℕ) → n < l.attempt → LacksPlaces (g.L.StringList.strings l.list) l.key0 l.key1 n
