@@ -4,3 +4,6 @@ pub mod Widths
 pub mod Counted
 pub mod Selected
 pub mod Written
+pub mod Overlaid
+pub mod SameStrings
+pub mod SameDictionary

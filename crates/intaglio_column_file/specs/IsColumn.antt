@@ -11,6 +11,10 @@ use Rattle.intaglio_column_file.specs.declared.id.DictionaryId.{DictionaryId}
 abbrev pub magic : ℕ
 magic = 0x0a4c_4f43_8954_4e49
 
+-- its first four bytes
+abbrev pub magic_start : ℕ
+magic_start = 0x8954_4e49
+
 -- it begins with the magic
 abbrev pub HasMagic : List ℕ → Type 0
 HasMagic bs = (8 ≤ length bs) × (u64_at bs 0 ≡ magic)

@@ -16,6 +16,12 @@ rows_of code cs = rows_from (λ c. c == code) 0 cs
 abbrev pub count_of : ℕ → List ℕ → ℕ
 count_of code cs = count_by (λ c. c == code) cs
 
+-- a list over the places of another, as far as those go, and what was in the others
+abbrev pub overlaid : List ℕ → List ℕ → List ℕ
+overlaid [] places = places
+overlaid (n ∷ ns) [] = []
+overlaid (n ∷ ns) (place ∷ places) = n ∷ overlaid ns places
+
 -- so often each of n strings occurs in codes, and the missing code
 pub record AreCounts (n : ℕ) (cs counts : List ℕ) (gone : ℕ) : Type 0 where
   pub strings : length counts ≡ n

@@ -33,7 +33,7 @@ impl Column<'_> {
     }
 
     // Adds the counts, and returns how many rows are missing.
-    fn count_into(&self, of: &mut [u64]) -> u64
+    pub(crate) fn count_into(&self, of: &mut [u64]) -> u64
         requires { of.old ≡ replicate (strings self.now) 0 }
         ensures { AreCounts (strings self.now) (codes self.now) of.new result }
     {

@@ -1,8 +1,9 @@
 //! The header of a column.
-ghost use Rattle.std.specs.Prelude.{◌≡◌, IfErr, IfOk, IsOk};
+ghost use Rattle.std.specs.Prelude.{◌≡◌, ◌==◌, ◌&&◌, IfErr, IfOk, IsOk, length, nat_le};
 ghost use Rattle.intaglio_column_file.specs.Id.{kind_number};
 ghost use Rattle.intaglio_column_file.specs.Layout.{kind, rows, width};
-ghost use Rattle.intaglio_column_file.specs.IsColumn.{Describes, HasHeader, HasKind, HasWidth};
+ghost use Rattle.intaglio_column_file.specs.IsColumn.{Describes, HasHeader, HasKind, HasWidth, magic_start};
+ghost use Rattle.intaglio_column_file.specs.Numbers.{u32_at};
 ghost use Rattle.intaglio_column_file.specs.Fault.{IsFault};
 
 use crate::error::ColumnError;
@@ -14,6 +15,9 @@ use crate::width::Width;
 pub(crate) const HEADER: usize = 64;
 // The letters INT, the byte 0x89, the letters COL, and a line end.
 pub(crate) const MAGIC: u64 = 0x0a4c_4f43_8954_4e49;
+
+// Its first four bytes. As a plain code, they are no symbol and not the missing code.
+const MAGIC_START: u32 = 0x8954_4e49;
 
 pub(crate) const VERSION: u32 = 1;
 
@@ -61,6 +65,13 @@ impl ColumnHeader {
             rows: read_u64(bytes, 40),
         })
     }
+}
+
+/// Whether these bytes begin as those of a column do, by the first four: those of no plain code.
+pub fn begins_as_column(bytes: &[u8]) -> bool
+    ensures { result ≡ (nat_le 4 (length bytes.now) && (u32_at bytes.now 0 == magic_start)) }
+{
+    bytes.len() >= 4 && read_u32(bytes, 0) == MAGIC_START
 }
 
 // Whether the dictionary is of texts, after the magic and the version.

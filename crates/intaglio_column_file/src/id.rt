@@ -10,6 +10,7 @@ use std::hash::Hasher;
 ///
 /// It is the same for a dictionary that is frozen again under other keys. That two dictionaries with equal ones are
 /// equal is an assumption.
+#[repr(C)]
 #[derive(Debug, Clone, Copy, PartialEq, Eq)]
 pub struct DictionaryId {
     /// Whether the strings are texts. Otherwise they are any bytes.

@@ -2,10 +2,14 @@
 #![tactic(auto)]
 
 mod column;
+mod copying;
 mod counting;
 mod error;
+mod filter;
 mod header;
 mod id;
+mod identity;
+pub mod laws;
 mod list;
 mod numbers;
 mod selecting;
@@ -15,8 +19,10 @@ mod writing;
 pub use column::Column;
 pub use counting::Counts;
 pub use error::{ColumnError, ColumnWriteError};
-pub use header::ColumnHeader;
+pub use filter::RowFilter;
+pub use header::{ColumnHeader, begins_as_column};
 pub use id::DictionaryId;
+pub use identity::id_of_table;
 pub use list::CodeList;
 pub use numbers::MISSING;
 pub use width::Width;

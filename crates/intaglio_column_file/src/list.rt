@@ -32,3 +32,17 @@ impl CodeList for &[Symbol] {
         self[i].id()
     }
 }
+
+impl CodeList for &[u32] {
+    ghost codes = { λ list. list.now };
+
+    #[inline(always)]
+    fn len(&self) -> usize {
+        <[u32]>::len(self)
+    }
+
+    #[inline(always)]
+    fn code(&self, i: usize) -> u32 {
+        self[i]
+    }
+}
