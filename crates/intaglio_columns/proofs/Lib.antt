@@ -1,4 +1,6 @@
 pub mod Absorbed
 pub mod Filtered
+pub mod Joined
+pub mod Numbered
 pub mod Renumbered
 pub mod Sharded

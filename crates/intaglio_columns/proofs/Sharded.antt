@@ -173,7 +173,7 @@ all-taken shards s ws at last =
     let all : take (s + 1) shards ≡ shards = ap (λ n. take n shards) (sym last) ∙ take-length shards in
     omega (arith, joined-next shards s ws at, ap (λ t. length (joined t)) all)
 
-differ : (a b : ℕ) → (a ≡ b → ⊥) → ((eqb a b ≡ true) × (a ≡ b)) ⊎ ((eqb a b ≡ false) × (a ≢ b)) → eqb a b ≡ false
+pub differ : (a b : ℕ) → (a ≡ b → ⊥) → ((eqb a b ≡ true) × (a ≡ b)) ⊎ ((eqb a b ≡ false) × (a ≢ b)) → eqb a b ≡ false
 differ a b not (inl same) = absurd (not same.1)
 differ a b not (inr other) = other.0
 

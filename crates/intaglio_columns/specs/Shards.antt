@@ -1,8 +1,8 @@
 -- Shards: a list of strings in parts, where the part of a string is known from the string.
-use Rattle.std.specs.Prelude.{◌≡◌, ℕ, zero, suc, ◌+◌, ◌<◌, ◌≢◌, ◌⊎◌, ◌==◌, List, [], ◌∷◌, ◌++◌, length, slice_get, Some, ⊤}
+use Rattle.std.specs.Prelude.{◌≡◌, ℕ, zero, suc, ◌+◌, ◌<◌, ◌≢◌, ◌⊎◌, ◌==◌, List, [], ◌∷◌, ◌++◌, length, map, get_or, slice_get, All, Some, ⊤}
 use Rattle.std.specs.List.{filter, flat_map}
 use Rattle.intaglio_frozen.specs.LookUp.{hash_under, scaled}
-use Rattle.intaglio_columns.specs.Columns.{missing}
+use Rattle.intaglio_columns.specs.Columns.{missing, IsMap}
 use Rattle.intaglio_columns.specs.declared.error.ShardsError.{ShardsError}
 use Rattle.intaglio_columns.specs.declared.error.ShardsError.TheVariants.{Empty, Misplaced, TooMany, Memory}
 
@@ -50,3 +50,36 @@ IsShardsFault shards Empty = shards ≡ []
 IsShardsFault shards (Misplaced s i) = (strings : List (List ℕ)) × (slice_get shards s ≡ Some strings) × IsMisplaced (length shards) s strings i
 IsShardsFault shards TooMany = (missing < length shards) ⊎ (missing < length (joined shards))
 IsShardsFault shards Memory = ⊤
+
+-- each string of the shards before this one stands at its number among these
+abbrev pub AreNumbered : List (List ℕ) → List ℕ → List (List ℕ) → ℕ → List ℕ → Type 0
+AreNumbered strings shards placed number numbers = (i : ℕ) (w : List ℕ) → slice_get strings i ≡ Some w → get_or shards i 0 < number
+    → slice_get placed (get_or numbers i 0) ≡ Some w
+
+-- maps of shards as one map, where each shard has so many strings and those before the first one n: the numbers of a
+-- shard are counted on from the end of the shards before it
+abbrev pub joined_map : ℕ → List ℕ → List (List ℕ) → List ℕ
+joined_map n [] maps = []
+joined_map n (count ∷ counts) [] = []
+joined_map n (count ∷ counts) (numbers ∷ maps) = map (λ k. n + k) numbers ++ joined_map (n + count) counts maps
+
+-- how many strings the shards have together
+abbrev pub sum_of : List ℕ → ℕ
+sum_of [] = 0
+sum_of (count ∷ counts) = count + sum_of counts
+
+-- the numbers of each map are those of strings, where each shard has so many
+abbrev pub AreWithin : List ℕ → List (List ℕ) → Type 0
+AreWithin [] [] = ⊤
+AreWithin (count ∷ counts) [] = ⊤
+AreWithin [] (numbers ∷ maps) = ⊥
+AreWithin (count ∷ counts) (numbers ∷ maps) = All (λ k. k < count) numbers × AreWithin counts maps
+
+-- each map leads from a shard of one dictionary to that shard of the other
+abbrev pub AreShardMaps : List (List (List ℕ)) → List (List (List ℕ)) → List (List ℕ) → Type 0
+AreShardMaps [] [] [] = ⊤
+AreShardMaps [] [] (numbers ∷ maps) = ⊥
+AreShardMaps [] (new ∷ news) maps = ⊥
+AreShardMaps (old ∷ olds) [] maps = ⊥
+AreShardMaps (old ∷ olds) (new ∷ news) [] = ⊥
+AreShardMaps (old ∷ olds) (new ∷ news) (numbers ∷ maps) = IsMap old new numbers × AreShardMaps olds news maps

@@ -17,5 +17,5 @@ pub use absorbing::absorb;
 pub use error::ShardsError;
 pub use from_string::{FromString, are_texts};
 pub use merging::{Merged, merge_tables};
-pub use sharding::{shard_of, split};
+pub use sharding::{shard_of, split, split_map};
 pub use shards::Shards;

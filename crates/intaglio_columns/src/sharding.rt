@@ -1,10 +1,12 @@
 //! Which shard a string belongs to, and the strings of each shard.
-ghost use Rattle.std.specs.Prelude.{◌≡◌, ◌<◌, ◌≤◌, ◌==◌, ◌^◌, length, map, IfOk};
+ghost use Rattle.std.specs.Prelude.{◌≡◌, ◌+◌, ◌<◌, ◌≤◌, ◌==◌, ◌^◌, ℕ, get_or, length, map, IfOk};
 ghost use Rattle.std.specs.List.{filter};
-ghost use Rattle.intaglio_columns.specs.Shards.{shard, shards, shard_of};
+ghost use Rattle.intaglio_columns.specs.Columns.{IsMap, missing};
+ghost use Rattle.intaglio_columns.specs.Shards.{AreNumbered, joined, first_shards, shard, shards, shard_of};
 
 use intaglio_frozen::StringList;
 use intaglio_hash::KeyedState;
+use intaglio_symbol::Symbol;
 use std::alloc::{AllocError, Global};
 use std::hash::{BuildHasher, Hasher};
 
@@ -72,10 +74,65 @@ pub fn split<'s, L: StringList>(
     Ok(split)
 }
 
+/// The map from a list to its shards, one behind the other: the new symbol of each string.
+///
+/// # Errors
+///
+/// [`AllocError`] if an allocation fails.
+pub fn split_map<L: StringList>(
+    alloc: Global,
+    list: &L,
+    count: u32,
+) -> Result<Vec<Symbol>, AllocError>
+    requires some { 0 < count }
+    requires few { length (L.strings list.now) ≤ missing }
+    ensures { IfOk result (λ numbers. IsMap (L.strings list.now)
+        (joined (shards count (L.strings list.now))) numbers.items) }
+{
+    let shards = shards_of(alloc, list, count)?;
+    let mut numbers = Vec::from_elem(alloc, Symbol::new(0), shards.len())?;
+    let mut next = 0;
+    for number in 0..count {
+        next = number_shard(list, count, &shards, number, next, &mut numbers);
+    }
+    Ok(numbers)
+}
+
+// Numbers the strings of one shard from this number on, and returns the next number.
+fn number_shard<L: StringList>(
+    _list: &L,
+    _count: u32,
+    shards: &[u32],
+    number: u32,
+    start: u32,
+    numbers: &mut [Symbol],
+) -> u32
+    requires shards { shards.now ≡ map (shard_of _count) (L.strings _list.now) }
+    requires few { length (L.strings _list.now) ≤ missing }
+    requires len { length numbers.old ≡ length shards.now }
+    requires start { start ≡ length (joined (first_shards _count (L.strings _list.now) number)) }
+    requires numbered { let strings = L.strings _list.now in
+        AreNumbered strings shards.now (joined (first_shards _count strings number)) number numbers.old }
+    ensures next { result ≡ length (joined (first_shards _count (L.strings _list.now) (number + 1))) }
+    ensures numbered { let strings = L.strings _list.now in
+        AreNumbered strings shards.now (joined (first_shards _count strings (number + 1))) (number + 1) numbers.new }
+    ensures len { length numbers.new ≡ length numbers.old }
+{
+    let mut next = start;
+    for place in 0..shards.len() {
+        if number == shards[place] {
+            numbers[place] = Symbol::new(next);
+            next += 1;
+        }
+    }
+    next
+}
+
 // The shard of each string.
 fn shards_of<L: StringList>(alloc: Global, list: &L, count: u32) -> Result<Vec<u32>, AllocError>
     requires { 0 < count }
-    ensures { IfOk result (λ shards. shards.items ≡ map (shard_of count) (L.strings list.now)) }
+    ensures shards { IfOk result (λ shards. shards.items ≡ map (shard_of count) (L.strings list.now)) }
+    ensures below { IfOk result (λ shards. (i : ℕ) → i < length shards.items → get_or shards.items i 0 < count) }
 {
     let mut shards = Vec::with_capacity(alloc, list.len())?;
     for i in 0..list.len() {

@@ -1,5 +1,5 @@
 //! Frozen tables as the shards of one dictionary.
-ghost use Rattle.std.specs.Prelude.{◌≡◌, ◌+◌, ◌^◌, ◌<◌, ◌≤◌, length, slice_get, option_copied, IfErr, IfOk, MatchOption, OnOk};
+ghost use Rattle.std.specs.Prelude.{◌≡◌, ◌+◌, ◌^◌, ◌<◌, ◌≤◌, length, map, slice_get, option_copied, IfErr, IfOk, MatchOption, OnOk};
 ghost use Rattle.intaglio_interner.specs.State.{first};
 ghost use Rattle.intaglio_columns.specs.Columns.{missing, string_key};
 ghost use Rattle.intaglio_columns.specs.declared.error.ShardsError.TheVariants.{TooMany};
@@ -9,7 +9,7 @@ use crate::error::ShardsError;
 use crate::sharding::shard_of;
 use intaglio_frozen::{Frozen, StringList};
 use intaglio_symbol::Symbol;
-use std::alloc::Global;
+use std::alloc::{AllocError, Global};
 use std::marker::Model;
 
 // How many strings there may be: fewer than the code of a missing string.
@@ -128,6 +128,26 @@ impl<'a> Shards<'a> {
             Some(symbol) => Some(Symbol::new(self.starts[shard] + symbol.id())),
             None => None,
         }
+    }
+
+    /// The symbol of each string of a batch, where it is in the dictionary.
+    ///
+    /// # Errors
+    ///
+    /// [`AllocError`] if the allocation of the list fails.
+    pub fn check_all(
+        &self,
+        alloc: Global,
+        strings: &[&[u8]],
+    ) -> Result<Vec<Option<Symbol>>, AllocError>
+        ensures { IfOk result (λ found. found.items
+            ≡ map (λ w. first string_key (joined self.now) (string_key w.now)) strings.now) }
+    {
+        let mut found = Vec::with_capacity(alloc, strings.len())?;
+        for i in 0..strings.len() {
+            found.push_reserved(self.check_interned(strings[i]));
+        }
+        Ok(found)
     }
 }
 

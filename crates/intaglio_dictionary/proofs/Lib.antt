@@ -5,4 +5,5 @@ pub mod Below
 pub mod Found
 pub mod Translated
 pub mod Coded
+pub mod Counted
 pub mod Cut

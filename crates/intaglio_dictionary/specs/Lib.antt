@@ -3,4 +3,3 @@ pub mod Answers
 pub mod Frozen
 pub mod Translation
 pub mod Columns
-pub mod Identity

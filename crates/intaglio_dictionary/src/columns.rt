@@ -9,11 +9,11 @@ ghost use Rattle.intaglio_dictionary.specs.Columns.{DecodesAsBefore, DecodesToIn
 ghost use Rattle.intaglio_dictionary.specs.Translation.{AllFit, ReportsMisfit, WritesPart, count_of};
 
 use crate::codes::{CODE, CodeMap, MISSING, code_of, first_code, put_code};
+use crate::dictionary::WholeDictionary;
 use crate::encoding::Encoding;
 use crate::error::ColumnError;
 use crate::translate::{FrontTranslator, TranslateError, Translator, translate, translate_pieces};
 use intaglio_core::GROUP;
-use intaglio_frozen::Frozen;
 use intaglio_lines::write::put_line;
 use intaglio_symbol::Symbol;
 use std::alloc::Global;
@@ -22,17 +22,17 @@ use std::io::{Read, Write};
 
 // Codes to lines.
 #[derive(Drop)]
-pub struct Decoding<'a, 't> {
-    table: &'a Frozen<'t>,
+pub struct Decoding<'a, D> {
+    table: &'a D,
     text: Option<&'a [u8]>,
 }
 
-impl Translator for Decoding<'_, '_> {
+impl<D: WholeDictionary> Translator for Decoding<'_, D> {
     ghost pieces = { code_pieces };
 
-    ghost fits = { λ decoding piece. has_string decoding.table.now (option_map (λ t. t.now) decoding.text) piece };
+    ghost fits = { λ decoding piece. has_string (D.strings decoding.table.now) (option_map (λ t. t.now) decoding.text) piece };
 
-    ghost translated = { λ decoding piece. line_of decoding.table.now (option_map (λ t. t.now) decoding.text) piece };
+    ghost translated = { λ decoding piece. line_of (D.strings decoding.table.now) (option_map (λ t. t.now) decoding.text) piece };
 
     ghost no_pieces = { refl };
 
@@ -59,7 +59,7 @@ impl Translator for Decoding<'_, '_> {
     }
 }
 
-impl FrontTranslator for Decoding<'_, '_> {
+impl<D: WholeDictionary> FrontTranslator for Decoding<'_, D> {
     fn put_front<W: Write>(
         &self,
         _alloc: Global,
@@ -73,7 +73,7 @@ impl FrontTranslator for Decoding<'_, '_> {
     }
 }
 
-impl<'a> Decoding<'a, '_> {
+impl<'a, D: WholeDictionary> Decoding<'a, D> {
     // Reads the first byte of the string of each of the first codes. The bytes that are read are written, and the
     // call isn't inlined, so that the compiler can't leave out the reads.
     #[inline(never)]
@@ -87,7 +87,7 @@ impl<'a> Decoding<'a, '_> {
     #[inline(always)]
     fn touch(&self, piece: &[u8]) -> u8 {
         match code_of(piece) {
-            Some(code) => match self.table.get(Symbol::new(code)) {
+            Some(code) => match self.table.string_of(Symbol::new(code)) {
                 Some([first, ..]) => *first,
                 _ => 0,
             },
@@ -98,13 +98,13 @@ impl<'a> Decoding<'a, '_> {
     // The string of a code, or the text of the missing code.
     fn string_of(&self, code: u32) -> Option<&'a [u8]>
         ensures found { let text = option_map (λ t. t.now) self.now.text in
-            let strings = self.now.table.now in
+            let strings = D.strings self.now.table.now in
             is_some result ≡ (is_some (slice_get strings code) || (is_some text && (code == missing))) }
         ensures string { let text = option_map (λ t. t.now) self.now.text in
-            let strings = self.now.table.now in
+            let strings = D.strings self.now.table.now in
             IfSome result (λ s. s.now ≡ unwrap_or (slice_get strings code) (unwrap_or text [])) }
     {
-        match self.table.get(Symbol::new(code)) {
+        match self.table.string_of(Symbol::new(code)) {
             Some(string) => Some(string),
             None => { if code == MISSING { self.text } else { None } }
         }
@@ -185,32 +185,32 @@ impl Renumbering<'_, '_> {
 ///
 /// `NoSymbol` for the first line that isn't in the table, unless `missing` is true; `Memory`, `Read` or `Write`.
 /// What was written then is the front of the codes of the lines before that one.
-pub fn encode<R: Read, W: Write>(
+pub fn encode<D: WholeDictionary, R: Read, W: Write>(
     alloc: Global,
-    table: &Frozen<'_>,
+    table: &D,
     missing: bool,
     reader: &mut R,
     writer: &mut W,
 ) -> Result<u64, ColumnError>
     ensures written { OnOk result (IfSome (R.remaining reader.old)
-        (λ input. Writes W.contents writer.old writer.new (encoded_column table.now input))) }
+        (λ input. Writes W.contents writer.old writer.new (encoded_column (D.strings table.now) input))) }
     ensures known { OnOk result (IfSome (R.remaining reader.old)
-        (λ input. AllFit (has_code table.now missing) (lines_of input))) }
+        (λ input. AllFit (has_code (D.strings table.now) missing) (lines_of input))) }
     ensures count { IfOk result (λ count. IfSome (R.remaining reader.old)
         (λ input. count ≡ count_of (lines_of input))) }
     ensures all_read { OnOk result (IsAtEnd (R.remaining reader.new)) }
     ensures unknown { IfErr result (λ e. IfSome (R.remaining reader.old)
-        (λ input. ReportsLine (has_code table.now missing) e (lines_of input))) }
-    ensures part { let Part = WritesPart (has_code table.now missing) (encoded_line table.now) in
+        (λ input. ReportsLine (has_code (D.strings table.now) missing) e (lines_of input))) }
+    ensures part { let Part = WritesPart (has_code (D.strings table.now) missing) (encoded_line (D.strings table.now)) in
         OnErr result (IfSome (R.remaining reader.old)
         (λ input. Part (W.contents writer.old) [] (W.contents writer.new) (lines_of input))) }
 
     // What is written is decoded to the input, its last line ended.
     ensures decodes { missing ≡ false → OnOk result (IfSome (R.remaining reader.old)
-        (λ input. DecodesToInput table.now input)) }
+        (λ input. DecodesToInput (D.strings table.now) input)) }
 {
     // The number of strings is at most 2^32.
-    let _count = table.len();
+    let _count = table.count();
     match translate(alloc, &Encoding { table, missing }, reader, writer) {
         Ok(count) => Ok(count),
         Err(stopped) => Err(line_error(stopped)),
@@ -226,27 +226,43 @@ pub fn encode<R: Read, W: Write>(
 ///
 /// `NoString` for the first code that no string has, `ShortCode` if the input ends within a code; `Memory`, `Read`
 /// or `Write`. What was written then is the front of the lines of the codes before that one.
-pub fn decode<R: Read, W: Write>(
+///
+/// ```
+/// # use intaglio::SymbolTable;
+/// # use intaglio_dictionary::columns::decode;
+/// # use intaglio_frozen::{Frozen, Kind, freeze};
+/// # let mut table = SymbolTable::new(rt.alloc())?;
+/// # let _rose = table.get_or_intern("rose")?;
+/// # let _thorn = table.get_or_intern("thorn")?;
+/// let bytes = freeze(rt.alloc(), &table, Kind::Text, 0, 0)?;
+/// let dictionary = Frozen::open(&bytes)?;
+/// let codes = [1, 0, 0, 0, 0xff, 0xff, 0xff, 0xff, 0, 0, 0, 0];
+/// let mut lines = Vec::new(rt.alloc());
+/// let count = decode(rt.alloc(), &dictionary, Some(b"?"), &mut codes.as_slice(), &mut lines)?;
+/// assert!(rt; count == 3);
+/// assert!(rt; lines.as_slice() == b"thorn\n?\nrose\n".as_slice());
+/// ```
+pub fn decode<D: WholeDictionary, R: Read, W: Write>(
     alloc: Global,
-    table: &Frozen<'_>,
+    table: &D,
     missing: Option<&[u8]>,
     reader: &mut R,
     writer: &mut W,
 ) -> Result<u64, ColumnError>
     ensures written { let text = option_map (λ t. t.now) missing.entry in
         OnOk result (IfSome (R.remaining reader.old)
-        (λ input. Writes W.contents writer.old writer.new (decoded_column table.now text input))) }
+        (λ input. Writes W.contents writer.old writer.new (decoded_column (D.strings table.now) text input))) }
     ensures known { let text = option_map (λ t. t.now) missing.entry in
         OnOk result (IfSome (R.remaining reader.old)
-        (λ input. AllFit (has_string table.now text) (code_pieces input))) }
+        (λ input. AllFit (has_string (D.strings table.now) text) (code_pieces input))) }
     ensures count { IfOk result (λ count. IfSome (R.remaining reader.old)
         (λ input. count ≡ count_of (code_pieces input))) }
     ensures all_read { OnOk result (IsAtEnd (R.remaining reader.new)) }
     ensures unknown { let text = option_map (λ t. t.now) missing.entry in
         IfErr result (λ e. IfSome (R.remaining reader.old)
-        (λ input. ReportsCode (has_string table.now text) e (code_pieces input))) }
+        (λ input. ReportsCode (has_string (D.strings table.now) text) e (code_pieces input))) }
     ensures part { let text = option_map (λ t. t.now) missing.entry in
-        let Part = WritesPart (has_string table.now text) (line_of table.now text) in
+        let Part = WritesPart (has_string (D.strings table.now) text) (line_of (D.strings table.now) text) in
         OnErr result (IfSome (R.remaining reader.old)
         (λ input. Part (W.contents writer.old) [] (W.contents writer.new) (code_pieces input))) }
 {

@@ -10,9 +10,9 @@ ghost use Rattle.intaglio_dictionary.specs.Translation.{AllFit, GoesOn, IsFailur
 ghost use Rattle.intaglio_dictionary.specs.Answers.{position_in};
 
 use crate::codes::{MISSING, put_code};
+use crate::dictionary::WholeDictionary;
 use crate::translate::{FrontTranslator, TranslateError, Translator};
 use intaglio_core::GROUP;
-use intaglio_frozen::Frozen;
 use intaglio_lines::error::StreamError;
 use intaglio_symbol::Symbol;
 use std::alloc::Global;
@@ -21,8 +21,8 @@ use std::io::Write;
 
 // Lines to codes.
 #[derive(Drop)]
-pub struct Encoding<'a, 't> {
-    pub table: &'a Frozen<'t>,
+pub struct Encoding<'a, D> {
+    pub table: &'a D,
     pub missing: bool,
 }
 
@@ -33,12 +33,12 @@ struct Lines<'a> {
     size: usize,
 }
 
-impl Translator for Encoding<'_, '_> {
+impl<D: WholeDictionary> Translator for Encoding<'_, D> {
     ghost pieces = { lines_of };
 
-    ghost fits = { λ encoding line. has_code encoding.table.now encoding.missing line };
+    ghost fits = { λ encoding line. has_code (D.strings encoding.table.now) encoding.missing line };
 
-    ghost translated = { λ encoding line. encoded_line encoding.table.now line };
+    ghost translated = { λ encoding line. encoded_line (D.strings encoding.table.now) line };
 
     ghost no_pieces = { refl };
 
@@ -51,11 +51,11 @@ impl Translator for Encoding<'_, '_> {
     fn look_ahead(&self, _bytes: &[u8], _at: usize) {}
 
     fn put<W: Write>(&self, line: &[u8], block: &mut Vec<u8>, writer: &mut W) -> io::Result<bool> {
-        self.put_found(self.table.check_interned(line), block, writer)
+        self.put_found(self.table.symbol_of(line), block, writer)
     }
 }
 
-impl FrontTranslator for Encoding<'_, '_> {
+impl<D: WholeDictionary> FrontTranslator for Encoding<'_, D> {
     fn put_front<W: Write>(
         &self,
         alloc: Global,
@@ -69,7 +69,7 @@ impl FrontTranslator for Encoding<'_, '_> {
     }
 }
 
-impl Encoding<'_, '_> {
+impl<D: WholeDictionary> Encoding<'_, D> {
     // Writes the codes of the lines at the front of the bytes, but for a last one that may go on. Returns where that
     // begins, and how many were written with those before. Of the bytes so many were searched for a line end before,
     // and have none.
@@ -84,17 +84,17 @@ impl Encoding<'_, '_> {
     ) -> Result<(usize, u64), TranslateError>
         requires within { seen ≤ length bytes.now }
         requires seen { HasNoEnd (take seen bytes.now) }
-        ensures ok { let On = GoesOn lines_of (has_code self.now.table.now self.now.missing)
-            (encoded_line self.now.table.now) in
+        ensures ok { let On = GoesOn lines_of (has_code (D.strings self.now.table.now) self.now.missing)
+            (encoded_line (D.strings self.now.table.now)) in
             IfOk result (λ end. On (W.contents writer.old) block.old.items bytes.now number
             (W.contents writer.new) block.new.items (drop end.0 bytes.now) end.1) }
         ensures within { IfOk result (λ end. end.0 ≤ length bytes.now) }
         ensures last { IfOk result (λ end. lines_of (drop end.0 bytes.now) ≡ last_piece (drop end.0 bytes.now)) }
-        ensures misfit { let Stops = StopsIn lines_of (has_code self.now.table.now self.now.missing)
-            (encoded_line self.now.table.now) in
+        ensures misfit { let Stops = StopsIn lines_of (has_code (D.strings self.now.table.now) self.now.missing)
+            (encoded_line (D.strings self.now.table.now)) in
             IfErr result (Stops (W.contents writer.old) block.old.items bytes.now number) }
-        ensures part { let Part = WritesIn lines_of (has_code self.now.table.now self.now.missing)
-            (encoded_line self.now.table.now) in
+        ensures part { let Part = WritesIn lines_of (has_code (D.strings self.now.table.now) self.now.missing)
+            (encoded_line (D.strings self.now.table.now)) in
             OnErr result (Part (W.contents writer.old) block.old.items bytes.now number (W.contents writer.new)) }
     {
         let mut at = 0;
@@ -121,20 +121,20 @@ impl Encoding<'_, '_> {
         block: &mut Vec<u8>,
         writer: &mut W,
     ) -> Result<u64, TranslateError>
-        ensures fit { let has_code = has_code self.now.table.now self.now.missing in
+        ensures fit { let has_code = has_code (D.strings self.now.table.now) self.now.missing in
             OnOk result (AllFit has_code (map (λ line. line.now) lines.now)) }
-        ensures put { let codes = flat_map (encoded_line self.now.table.now) (map (λ line. line.now) lines.now) in
+        ensures put { let codes = flat_map (encoded_line (D.strings self.now.table.now)) (map (λ line. line.now) lines.now) in
             OnOk result (Puts W.contents writer.old block.old writer.new block.new codes) }
         ensures count { IfOk result (λ count. count ≡ min (number + length lines.now) (2 ^ 64 - 1)) }
-        ensures misfit { let has_code = has_code self.now.table.now self.now.missing in
+        ensures misfit { let has_code = has_code (D.strings self.now.table.now) self.now.missing in
             IfErr result (λ e. ReportsAmong has_code e (map (λ line. line.now) lines.now) number) }
-        ensures front { let codes = flat_map (encoded_line self.now.table.now) (map (λ line. line.now) lines.now) in
+        ensures front { let codes = flat_map (encoded_line (D.strings self.now.table.now)) (map (λ line. line.now) lines.now) in
             OnOk result (WritesFront W.contents writer.old writer.new (block.old.items ++ codes)) }
         ensures part { let lines = map (λ line. line.now) lines.now in
-            let Part = WritesPart (has_code self.now.table.now self.now.missing) (encoded_line self.now.table.now) in
+            let Part = WritesPart (has_code (D.strings self.now.table.now) self.now.missing) (encoded_line (D.strings self.now.table.now)) in
             OnErr result (Part (W.contents writer.old) block.old.items (W.contents writer.new) lines) }
     {
-        let Ok(found) = self.table.check_all(alloc, lines) else {
+        let Ok(found) = self.table.symbols_of(alloc, lines) else {
             return Err(TranslateError::Stream(StreamError::Memory));
         };
         self.put_each(lines, &found, number, block, writer)
@@ -149,18 +149,18 @@ impl Encoding<'_, '_> {
         block: &mut Vec<u8>,
         writer: &mut W,
     ) -> Result<u64, TranslateError>
-        requires { found.now ≡ map (λ line. position_in self.now.table.now line.now) lines.now }
-        ensures fit { let has_code = has_code self.now.table.now self.now.missing in
+        requires { found.now ≡ map (λ line. position_in (D.strings self.now.table.now) line.now) lines.now }
+        ensures fit { let has_code = has_code (D.strings self.now.table.now) self.now.missing in
             OnOk result (AllFit has_code (map (λ line. line.now) lines.now)) }
-        ensures put { let codes = flat_map (encoded_line self.now.table.now) (map (λ line. line.now) lines.now) in
+        ensures put { let codes = flat_map (encoded_line (D.strings self.now.table.now)) (map (λ line. line.now) lines.now) in
             OnOk result (Puts W.contents writer.old block.old writer.new block.new codes) }
         ensures count { IfOk result (λ count. count ≡ min (number + length lines.now) (2 ^ 64 - 1)) }
-        ensures misfit { let has_code = has_code self.now.table.now self.now.missing in
+        ensures misfit { let has_code = has_code (D.strings self.now.table.now) self.now.missing in
             IfErr result (λ e. ReportsAmong has_code e (map (λ line. line.now) lines.now) number) }
-        ensures front { let codes = flat_map (encoded_line self.now.table.now) (map (λ line. line.now) lines.now) in
+        ensures front { let codes = flat_map (encoded_line (D.strings self.now.table.now)) (map (λ line. line.now) lines.now) in
             OnOk result (WritesFront W.contents writer.old writer.new (block.old.items ++ codes)) }
         ensures part { let lines = map (λ line. line.now) lines.now in
-            let Part = WritesPart (has_code self.now.table.now self.now.missing) (encoded_line self.now.table.now) in
+            let Part = WritesPart (has_code (D.strings self.now.table.now) self.now.missing) (encoded_line (D.strings self.now.table.now)) in
             OnErr result (Part (W.contents writer.old) block.old.items (W.contents writer.new) lines) }
     {
         for i in 0..lines.len() {
@@ -185,15 +185,15 @@ impl Encoding<'_, '_> {
         block: &mut Vec<u8>,
         writer: &mut W,
     ) -> Result<(), TranslateError>
-        requires { found ≡ position_in self.now.table.now line.now }
-        ensures fits { OnOk result (has_code self.now.table.now self.now.missing line.now ≡ true) }
-        ensures put { let code = encoded_line self.now.table.now line.now in
+        requires { found ≡ position_in (D.strings self.now.table.now) line.now }
+        ensures fits { OnOk result (has_code (D.strings self.now.table.now) self.now.missing line.now ≡ true) }
+        ensures put { let code = encoded_line (D.strings self.now.table.now) line.now in
             OnOk result (Puts W.contents writer.old block.old writer.new block.new code) }
-        ensures misfit { let has_code = has_code self.now.table.now self.now.missing in
+        ensures misfit { let has_code = has_code (D.strings self.now.table.now) self.now.missing in
             IfErr result (λ e. ReportsPiece has_code e line.now number) }
-        ensures front { has_code self.now.table.now self.now.missing line.now ≡ true → WritesFront W.contents
-            writer.old writer.new (block.old.items ++ encoded_line self.now.table.now line.now) }
-        ensures unfit { has_code self.now.table.now self.now.missing line.now ≡ false → writer.new ≡ writer.old }
+        ensures front { has_code (D.strings self.now.table.now) self.now.missing line.now ≡ true → WritesFront W.contents
+            writer.old writer.new (block.old.items ++ encoded_line (D.strings self.now.table.now) line.now) }
+        ensures unfit { has_code (D.strings self.now.table.now) self.now.missing line.now ≡ false → writer.new ≡ writer.old }
     {
         match self.put_found(found, block, writer) {
             Ok(true) => Ok(()),

@@ -1,10 +1,12 @@
 //! Errors.
 ghost use Rattle.std.specs.Prelude.{◌≡◌};
 ghost use Rattle.intaglio_dictionary.specs.declared.error.DictionaryError.TheVariants.{Stream};
+ghost use Rattle.intaglio_dictionary.specs.declared.error.MapError.TheVariants.{Memory};
 ghost use Rattle.intaglio_dictionary.specs.declared.error.FreezingError.TheVariants.{Table, Stream as FreezingStopped};
 
 use intaglio_frozen::FreezeError;
 use intaglio_lines::error::StreamError;
+use std::alloc::AllocError;
 use thiserror::Error;
 
 /// Why nothing, or not all, was written.
@@ -71,4 +73,26 @@ pub enum ColumnError {
     /// An allocation, a read or a write failed.
     #[error(transparent)]
     Stream(StreamError),
+}
+
+/// Why maps of shards weren't joined.
+#[derive(Clone, Copy, Debug, PartialEq, Eq, Error)]
+pub enum MapError {
+    /// The map of this shard has a number that no string of the shard has.
+    #[error("the map of shard {0} has a number that is no symbol")]
+    NoString(usize),
+    /// The shards have 2^32 strings or more.
+    #[error("too many strings")]
+    TooMany,
+    /// An allocation failed.
+    #[error("out of memory")]
+    Memory,
+}
+
+impl From<AllocError> for MapError {
+    ghost from_gives = { λ _ error. error ≡ Memory };
+
+    fn from(_error: AllocError) -> MapError {
+        MapError::Memory
+    }
 }

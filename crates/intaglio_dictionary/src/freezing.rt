@@ -85,6 +85,40 @@ pub fn freeze_lines_with_default_keys<S: BuildHasher + Drop, W: Write, P: Progre
 ///
 /// Those of [`freeze_lines`]; after each but `Write` nothing was written. After that either nothing of the table was
 /// written, or all codes were.
+///
+/// ```
+/// use anyhow::Result;
+/// use intaglio_dictionary::columns::decode;
+/// use intaglio_dictionary::freezing::freeze_column;
+/// use intaglio_dictionary::progress::Progress;
+/// use intaglio_frozen::{Frozen, Kind};
+/// use intaglio_hash::FixedState;
+///
+/// // Says nothing of how far the freezing is.
+/// #[derive(Drop)]
+/// struct Quiet;
+///
+/// impl Progress for Quiet {
+///     fn interned(&mut self, _count: usize) {}
+///
+///     fn frozen(&mut self, _size: usize) {}
+/// }
+///
+/// fn main(rt: HostRuntime) -> Result<()> {
+///     let lines = b"rose\nthorn\nrose\n";
+///     let (mut table, mut codes) = (Vec::new(rt.alloc()), Vec::new(rt.alloc()));
+///     let builder = FixedState;
+///     freeze_column(rt.alloc(), Kind::Text, None, builder, lines, &mut table, &mut codes, &mut Quiet)?;
+///     assert!(rt; codes.as_slice() == [0, 0, 0, 0, 1, 0, 0, 0, 0, 0, 0, 0].as_slice());
+///
+///     let dictionary = Frozen::open(&table)?;
+///     let mut decoded = Vec::new(rt.alloc());
+///     let count = decode(rt.alloc(), &dictionary, None, &mut codes.as_slice(), &mut decoded)?;
+///     assert!(rt; count == 3);
+///     assert!(rt; decoded.as_slice() == lines.as_slice());
+///     Ok(())
+/// }
+/// ```
 pub fn freeze_column<S: BuildHasher + Drop, W: Write, V: Write, P: Progress>(
     alloc: Global,
     kind: Kind,
@@ -179,8 +213,12 @@ fn frozen_column<S: BuildHasher + Drop, P: Progress>(
     }
 }
 
-// The bytes of a frozen table of these strings.
-pub(crate) fn freeze_table<L: StringList>(
+/// The bytes of a frozen table of these strings, under these keys, or under those that the library chooses.
+///
+/// # Errors
+///
+/// Why the strings have no frozen table of this kind, or `Memory`.
+pub fn freeze_table<L: StringList>(
     alloc: Global,
     list: &L,
     kind: Kind,
@@ -196,8 +234,12 @@ pub(crate) fn freeze_table<L: StringList>(
     }
 }
 
-// A table of the distinct lines, and the symbol of each line.
-fn interned_lines<S: BuildHasher + Drop>(
+/// A table of the distinct lines of an input, and the symbol of each line.
+///
+/// # Errors
+///
+/// `Table` if there are too many lines, `Memory` if an allocation fails.
+pub fn interned_lines<S: BuildHasher + Drop>(
     alloc: Global,
     builder: S,
     input: &[u8],

@@ -10,6 +10,7 @@ mod encoding;
 pub mod error;
 pub mod freezing;
 pub mod identity;
+pub mod joining;
 pub mod look_up;
 pub mod merging;
 pub mod progress;

@@ -11,10 +11,9 @@ ghost use Rattle.intaglio_dictionary.specs.Answers.{answers, unknown, AreSymbols
 ghost use Rattle.intaglio_dictionary.specs.declared.error.DictionaryError.TheVariants.{Stream};
 
 use crate::answer::{Answers, look_up_lines};
-use crate::dictionary::Dictionary;
+use crate::dictionary::{Dictionary, WholeDictionary};
 use crate::error::DictionaryError;
 use crate::strings::{Listing, Selection, strings_of};
-use intaglio_frozen::Frozen;
 use intaglio_lines::error::StreamError;
 use intaglio_lines::read::read_all;
 use intaglio_lines::write::write_output;
@@ -101,9 +100,13 @@ fn first_from(symbols: &[Symbol], count: usize) -> Option<Symbol>
 /// # Errors
 ///
 /// `Memory`, before anything is written, or `Write`.
-pub fn list<W: Write>(alloc: Global, table: &Frozen<'_>, writer: &mut W) -> Result<(), StreamError>
+pub fn list<D: WholeDictionary, W: Write>(
+    alloc: Global,
+    table: &D,
+    writer: &mut W,
+) -> Result<(), StreamError>
     ensures written { OnOk result
-        (Writes W.contents writer.old writer.new (flat_map spelling_line table.now)) }
+        (Writes W.contents writer.old writer.new (flat_map spelling_line (D.strings table.now))) }
     ensures nothing_written { IfErr result (λ e. e ≢ WriteFailed → writer.new ≡ writer.old) }
     ensures err { IfErr result IsWritingError }
 {

@@ -2,7 +2,7 @@
 ghost use Rattle.std.specs.Prelude.{◌≡◌, ◌-◌, ◌^◌, length, min};
 ghost use Rattle.intaglio_dictionary.specs.Answers.{longest, total};
 
-use intaglio_frozen::Frozen;
+use crate::dictionary::WholeDictionary;
 use intaglio_symbol::Symbol;
 
 /// How large the strings of a dictionary are.
@@ -17,18 +17,18 @@ pub struct Size {
 }
 
 /// The sizes of all strings. Each is looked at once.
-pub fn size_of_strings(table: &Frozen<'_>) -> Size
-    ensures count { result.count ≡ length table.now }
-    ensures bytes { result.bytes ≡ min (total table.now) (2 ^ 64 - 1) }
-    ensures longest { result.longest ≡ longest table.now }
+pub fn size_of_strings<D: WholeDictionary>(table: &D) -> Size
+    ensures count { result.count ≡ length (D.strings table.now) }
+    ensures bytes { result.bytes ≡ min (total (D.strings table.now)) (2 ^ 64 - 1) }
+    ensures longest { result.longest ≡ longest (D.strings table.now) }
 {
     let mut size = Size {
-        count: table.len() as u64,
+        count: table.count() as u64,
         bytes: 0,
         longest: 0,
     };
-    for number in 0..table.len() {
-        let string = table.get(Symbol::new(number as u32)).unwrap();
+    for number in 0..table.count() {
+        let string = table.string_of(Symbol::new(number as u32)).unwrap();
         size.bytes = size.bytes.saturating_add(string.len() as u64);
         size.longest = size.longest.max(string.len() as u64);
     }

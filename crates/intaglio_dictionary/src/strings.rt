@@ -7,9 +7,8 @@ ghost use Rattle.intaglio_lines.specs.declared.error.StreamError.TheVariants.{Me
 ghost use Rattle.intaglio_dictionary.specs.Answers.{AreSymbols};
 ghost use Rattle.intaglio_dictionary.specs.declared.error.DictionaryError.TheVariants.{Stream};
 
-use crate::dictionary::Dictionary;
+use crate::dictionary::{Dictionary, WholeDictionary};
 use crate::error::DictionaryError;
-use intaglio_frozen::Frozen;
 use intaglio_lines::error::StreamError;
 use intaglio_lines::write::{Output, put_line};
 use intaglio_symbol::Symbol;
@@ -19,19 +18,19 @@ use std::io::Write;
 
 /// The output: all strings in the order of their symbols, each on a line.
 #[derive(Drop)]
-pub struct Listing<'a, 't> {
-    /// The table.
-    pub table: &'a Frozen<'t>,
+pub struct Listing<'a, D> {
+    /// The dictionary.
+    pub table: &'a D,
 }
 
-impl Output for Listing<'_, '_> {
-    ghost bytes = { λ output. flat_map spelling_line output.table.now };
+impl<D: WholeDictionary> Output for Listing<'_, D> {
+    ghost bytes = { λ output. flat_map spelling_line (D.strings output.table.now) };
 
     ghost is_ready = { λ _. Unit {0} };
 
     fn put_all<W: Write>(&self, block: &mut Vec<u8>, writer: &mut W) -> io::Result<()> {
-        for number in 0..self.table.len() {
-            let string = self.table.get(Symbol::new(number as u32)).unwrap();
+        for number in 0..self.table.count() {
+            let string = self.table.string_of(Symbol::new(number as u32)).unwrap();
             put_line(string, block, writer)?;
         }
         Ok(())

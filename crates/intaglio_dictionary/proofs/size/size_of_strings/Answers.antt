@@ -4,10 +4,10 @@ use Rattle.intaglio_dictionary.proofs.Listed.{fold-next}
 use Rattle.intaglio_dictionary.proofs.size.size_of_strings.Goals as goal
 
 pub loop-number-preserved : goal.loop-number-preserved
-loop-number-preserved c =
-    let table = c.args.table.now in
+loop-number-preserved g c =
+    let table = g.D.WholeDictionary.strings c.args.table.now in
     let string = c.unwrap-string.result.now in
-    let at = rw c.new.ensures at (sym c.get.ensures ∙ ap option_copied c.unwrap-string.ensures) in
+    let at = rw c.new.ensures at (sym c.string_of.ensures ∙ ap option_copied c.unwrap-string.ensures) in
     let bytes = fold-next table c.loop-number.number string at (λ b s. b + length s) 0 in
     let most = fold-next table c.loop-number.number string at (λ m s. max m (length s)) 0 in
     record {

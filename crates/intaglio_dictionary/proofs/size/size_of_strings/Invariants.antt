@@ -4,8 +4,8 @@ use Rattle.intaglio_dictionary.specs.Answers.{longest, total}
 use Rattle.intaglio_dictionary.proofs.size.size_of_strings.Given as goal
 
 abbrev pub invariant-loop-number : goal.invariant-loop-number
-invariant-loop-number l = record {
-  count : l.size.count ≡ length l.table;
-  bytes : l.size.bytes ≡ min (total (take l.number l.table)) (2 ^ 64 - 1);
-  longest : l.size.longest ≡ longest (take l.number l.table);
+invariant-loop-number g l = record {
+  count : l.size.count ≡ length (g.D.WholeDictionary.strings l.table);
+  bytes : l.size.bytes ≡ min (total (take l.number (g.D.WholeDictionary.strings l.table))) (2 ^ 64 - 1);
+  longest : l.size.longest ≡ longest (take l.number (g.D.WholeDictionary.strings l.table));
 }

@@ -11,7 +11,7 @@ use Rattle.intaglio_dictionary.proofs.encoding.Encoding.put_lines.Goals as goal
 pub loop-at-preserved : goal.loop-at-preserved
 loop-at-preserved g c =
     let bytes = c.args.bytes.now in
-    let table = c.args.self.now.table.now in
+    let table = g.D.WholeDictionary.strings c.args.self.now.table.now in
     let at = c.loop-at.at in
     let group = c.in_ok-group.group in
     let rest = take (length bytes - at) (drop at bytes) in
@@ -36,7 +36,7 @@ loop-at-preserved g c =
 pub returns-in_err-count-clause-misfit : goal.returns-in_err-count-clause-misfit
 returns-in_err-count-clause-misfit g c =
     let bytes = c.args.bytes.now in
-    let table = c.args.self.now.table.now in
+    let table = g.D.WholeDictionary.strings c.args.self.now.table.now in
     let at = c.loop-at.at in
     let group = c.in_ok-group.group in
     let rest = take (length bytes - at) (drop at bytes) in
@@ -51,7 +51,7 @@ returns-in_err-count-clause-misfit g c =
 
 pub returns-in_err-group-clause-misfit : goal.returns-in_err-group-clause-misfit
 returns-in_err-group-clause-misfit g c =
-    let table = c.args.self.now.table.now in
+    let table = g.D.WholeDictionary.strings c.args.self.now.table.now in
     let passed = err_from_is_err_and c.from_residual.result c.from_residual.ensures.1 in
     rw (passed.1, passed.2) (λ input old left before. failure-reports lines_of (has_code table c.args.self.now.missing) (encoded_line table) input c.in_err-group.field-0.0 c.in_err-group.ensures.err)
 
@@ -64,7 +64,7 @@ first_lines-requires-clause-seen g c = subst (λ t. HasNoEnd (take c.loop-at.ski
 pub returns-in_err-count-clause-part : goal.returns-in_err-count-clause-part
 returns-in_err-count-clause-part g c =
     let bytes = c.args.bytes.now in
-    let table = c.args.self.now.table.now in
+    let table = g.D.WholeDictionary.strings c.args.self.now.table.now in
     let at = c.loop-at.at in
     let group = c.in_ok-group.group in
     let rest = take (length bytes - at) (drop at bytes) in
@@ -79,4 +79,4 @@ returns-in_err-count-clause-part g c =
 
 pub returns-in_err-group-clause-part : goal.returns-in_err-group-clause-part
 returns-in_err-group-clause-part g c = on-err c.from_residual.result (λ input old left before.
-    kept-part lines_of (has_code c.args.self.now.table.now c.args.self.now.missing) (encoded_line c.args.self.now.table.now) input old _ left _ _ c.loop-at.count (c.loop-at.invariant.goes input old left before))
+    kept-part lines_of (has_code (g.D.WholeDictionary.strings c.args.self.now.table.now) c.args.self.now.missing) (encoded_line (g.D.WholeDictionary.strings c.args.self.now.table.now)) input old _ left _ _ c.loop-at.count (c.loop-at.invariant.goes input old left before))

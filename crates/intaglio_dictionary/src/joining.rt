@@ -1,0 +1,97 @@
+//! Maps of shards, as one map.
+ghost use Rattle.std.specs.Prelude.{◌≡◌, ◌+◌, ◌++◌, ◌<◌, ◌≤◌, get_or, length, map, All, OnOk, IfOk};
+ghost use Rattle.intaglio_columns.specs.Columns.{missing, renumber};
+ghost use Rattle.intaglio_columns.specs.Shards.{AreWithin, joined_map};
+ghost use Rattle.intaglio_dictionary.specs.declared.error.MapError.TheVariants.{Memory};
+
+use crate::codes::{CodeMap, MISSING};
+use crate::error::MapError;
+use intaglio_symbol::Symbol;
+use std::alloc::{AllocError, Global};
+
+// How many symbols there may be: fewer than the code of a missing string.
+const MOST: usize = u32::MAX as usize;
+
+/// The map from one dictionary in shards to another, by the map of each shard and the number of strings of each new one:
+/// what [`renumber`](crate::columns::renumber) takes for codes of the first one. By
+/// [`joining_law`](intaglio_columns::laws::joining_law) it leads to the same strings.
+///
+/// # Errors
+///
+/// `NoString` for the first map with a number that isn't below the number of strings of its shard, `TooMany` if the
+/// shards have 2^32 strings or more, or a map has as many codes, `Memory` if an allocation fails.
+pub fn join_maps(
+    alloc: Global,
+    maps: &[CodeMap<'_>],
+    counts: &[usize],
+) -> Result<Vec<Symbol>, MapError>
+    requires { length maps.now ≡ length counts.now }
+    ensures joined { IfOk result (λ joined. joined.items ≡ joined_map 0 counts.now maps.now) }
+    ensures within { OnOk result (AreWithin counts.now maps.now) }
+{
+    let mut joined = Vec::new(alloc);
+    let mut start = 0;
+    for i in 0..maps.len() {
+        start = add_map(&maps[i], i, start, counts[i], &mut joined)?;
+    }
+    Ok(joined)
+}
+
+/// The code at each code of a map, or the missing code if the map hasn't that one.
+///
+/// # Errors
+///
+/// [`AllocError`] if the allocation of the list fails.
+pub fn renumbered(
+    alloc: Global,
+    map: &[Symbol],
+    codes: &[Symbol],
+) -> Result<Vec<Symbol>, AllocError>
+    ensures { IfOk result (λ new. new.items ≡ renumber map.now codes.now) }
+{
+    let mut new = Vec::with_capacity(alloc, codes.len())?;
+    for i in 0..codes.len() {
+        new.push_reserved(at_code(map, codes[i]));
+    }
+    Ok(new)
+}
+
+// The code at a code of a map.
+fn at_code(map: &[Symbol], code: Symbol) -> Symbol
+    ensures { result ≡ get_or map.now code missing }
+{
+    let place = code.id() as usize;
+    if place < map.len() {
+        map[place]
+    } else {
+        Symbol::new(MISSING)
+    }
+}
+
+// Adds the numbers of a map, counted on from a start, and returns where the next shard starts.
+fn add_map(
+    numbers: &CodeMap<'_>,
+    shard: usize,
+    start: usize,
+    count: usize,
+    joined: &mut Vec<Symbol>,
+) -> Result<usize, MapError>
+    requires { start ≤ missing }
+    ensures next { IfOk result (λ next. next ≡ start + count) }
+    ensures few { IfOk result (λ next. next ≤ missing) }
+    ensures added { OnOk result (joined.new.items ≡ joined.old.items ++ map (λ k. start + k) numbers.now) }
+    ensures within { OnOk result (All (λ k. k < count) numbers.now) }
+{
+    if count > MOST - start || numbers.len() > MOST {
+        return Err(MapError::TooMany);
+    }
+    joined.reserve(numbers.len())?;
+    for code in 0..numbers.len() {
+        let number = numbers.get(code as u32).unwrap() as usize;
+        if number >= count {
+            return Err(MapError::NoString(shard));
+        }
+        joined.push_reserved(Symbol::new((start + number) as u32));
+    }
+    Ok(start + count)
+}
