@@ -66,7 +66,7 @@ extern "C" {
 #endif
 
 /* A handle, which holds a table of any kind or none. Initialize it with INTAGLIO_TABLE_NONE, or with zeros: then it holds none. The
- * fields are private. The struct may be moved, but after a copy only one of the two may be used. */
+ * fields are private. The struct may be moved. Of two copies only one may be used once a call has changed the table. */
 typedef struct {
     bool live;
     void *ptr;
@@ -80,6 +80,15 @@ typedef struct {
     const uint8_t *at;
     size_t len;
 } intaglio_spelling;
+
+/* What the dictionary of a column is: whether its strings are texts, how many there are, and two hashes of them. The library writes it,
+ * and no field may be changed. */
+typedef struct {
+    bool is_text;
+    uint64_t count;
+    uint64_t hash0;
+    uint64_t hash1;
+} intaglio_dictionary_id;
 
 /* The kinds. */
 enum {
@@ -108,20 +117,23 @@ enum {
     INTAGLIO_INNER_ZERO = 7,     /* cstr: a zero byte before the last byte */
     INTAGLIO_MISSING_ZERO = 8,   /* cstr: no zero byte at all */
     INTAGLIO_BAD_ENDS = 9,       /* the ends of a batch decrease or exceed its bytes, or its arrays differ in length */
-    INTAGLIO_NO_SYMBOL = 10,     /* the table has no such symbol */
+    INTAGLIO_NO_SYMBOL = 10,     /* the table has no such symbol; a code of a column is none */
     INTAGLIO_NO_SPACE = 11,      /* the buffer is too short */
     INTAGLIO_NO_KIND = 12,       /* the number is not that of a kind */
     INTAGLIO_NOT_FROZEN = 13,    /* the bytes don't begin as a frozen table does */
-    INTAGLIO_OTHER_VERSION = 14, /* a frozen table of another version */
-    INTAGLIO_RESERVED = 15,      /* a reserved byte of a frozen table isn't zero */
+    INTAGLIO_OTHER_VERSION = 14, /* a frozen table or a column of another version */
+    INTAGLIO_RESERVED = 15,      /* a reserved byte of a frozen table or a column isn't zero */
     INTAGLIO_TOO_MANY = 16,      /* more strings than a frozen table can have, which is 2^31 */
-    INTAGLIO_TRUNCATED = 17,     /* the bytes of a frozen table end within its header or a section */
+    INTAGLIO_TRUNCATED = 17,     /* the bytes of a frozen table end within its header or a section, or those of a column before its last row */
     INTAGLIO_TEXT_ENDS = 18,     /* the strings of a frozen table don't fill its text */
     INTAGLIO_UNUSED = 19,        /* a place of a frozen table that no string has isn't empty */
     INTAGLIO_NOT_FOUND = 20,     /* a string of a frozen table isn't found at its symbol */
     INTAGLIO_TOO_LONG = 21,      /* the strings have 2^32 bytes or more together, too many for a frozen table */
     INTAGLIO_EQUAL = 22,         /* two strings are equal: never of a table's strings, but no contract says so */
-    INTAGLIO_NO_PLACES = 23      /* the search for places in a frozen table failed: freeze with other keys */
+    INTAGLIO_NO_PLACES = 23,     /* the search for places in a frozen table failed: freeze with other keys */
+    INTAGLIO_NOT_COLUMN = 24,    /* the bytes don't begin as a column does */
+    INTAGLIO_BAD_WIDTH = 25,     /* the codes of a column haven't the least width that serves its dictionary */
+    INTAGLIO_TRAILING_BYTES = 26 /* there are bytes behind the last row of a column */
 };
 
 /* Returns the text of a code, without a full stop. */
@@ -141,16 +153,19 @@ static inline const char *intaglio_message(intaglio_code code) {
         case INTAGLIO_NO_SPACE: return "the buffer is too short";
         case INTAGLIO_NO_KIND: return "no such kind of table";
         case INTAGLIO_NOT_FROZEN: return "not a frozen table";
-        case INTAGLIO_OTHER_VERSION: return "a frozen table of another version";
-        case INTAGLIO_RESERVED: return "a reserved byte of the frozen table is not zero";
+        case INTAGLIO_OTHER_VERSION: return "a file of another version";
+        case INTAGLIO_RESERVED: return "a reserved byte is not zero";
         case INTAGLIO_TOO_MANY: return "too many strings for a frozen table";
-        case INTAGLIO_TRUNCATED: return "the frozen table is truncated";
+        case INTAGLIO_TRUNCATED: return "the bytes are truncated";
         case INTAGLIO_TEXT_ENDS: return "the strings of the frozen table do not fill its text";
         case INTAGLIO_UNUSED: return "a place of the frozen table without a string is not empty";
         case INTAGLIO_TOO_LONG: return "the strings are too long for a frozen table";
         case INTAGLIO_EQUAL: return "two strings are equal";
         case INTAGLIO_NO_PLACES: return "no places were found for the strings under these keys";
         case INTAGLIO_NOT_FOUND: return "a string of the frozen table is not found at its symbol";
+        case INTAGLIO_NOT_COLUMN: return "not a column";
+        case INTAGLIO_BAD_WIDTH: return "the codes do not have the width of the dictionary";
+        case INTAGLIO_TRAILING_BYTES: return "there are bytes behind the last row";
         default: return "unknown code";
     }
 }
@@ -282,6 +297,65 @@ static inline size_t intaglio_frozen_size(const intaglio_table *table) {
 
 /* Returns whether the strings are texts, which frozen_check has found to be UTF-8, or false if the header is invalid. */
 bool intaglio_frozen_is_text(const uint8_t *bytes, size_t len);
+
+/* A column is a list of codes in one block of bytes, such as a mapped file, that says which dictionary they belong to: docs/COLUMN-FILES.md has
+ * the format. The dictionary is a frozen table, and the code of a row is the symbol of its string there, or INTAGLIO_MISSING. As a frozen
+ * table, a column has no handle, and any number of threads may read one at the same time.
+ *
+ * column_check says whether bytes are a column. The functions below it never read outside the bytes, whatever these are; of bytes that
+ * weren't checked, a code may be that of no string. Rows are counted from 0. */
+
+/* The code of a row whose string the dictionary doesn't have. It is never a symbol. */
+#define INTAGLIO_MISSING UINT32_MAX
+
+/* Checks that these bytes are a column. All of them are read.
+ * Errors: NOT_COLUMN, OTHER_VERSION, NO_KIND, TOO_MANY, BAD_WIDTH, RESERVED, TRUNCATED, TRAILING_BYTES, NO_SYMBOL. */
+INTAGLIO_MUST_USE intaglio_code intaglio_column_check(const uint8_t *bytes, size_t len);
+
+/* Returns the number of rows, or 0 if the header is invalid or doesn't agree with the number of bytes. */
+size_t intaglio_column_len(const uint8_t *bytes, size_t len);
+
+/* Returns how many bytes a code has, 1, 2 or 4, or 0 as column_len. The codes begin at byte 64, little-endian; the greatest of 1 or 2 bytes
+ * stands for INTAGLIO_MISSING. */
+size_t intaglio_column_width(const uint8_t *bytes, size_t len);
+
+/* Stores which dictionary a column belongs to, and which dictionary a frozen table is; of that, the ends and the text are read. A column
+ * fits a frozen table if both are the same by intaglio_same_dictionary.
+ * Errors: those of column_check and frozen_check that a header, or the number of bytes, can have. *id is then unchanged. */
+INTAGLIO_MUST_USE intaglio_code intaglio_column_id(const uint8_t *bytes, size_t len, intaglio_dictionary_id *id);
+INTAGLIO_MUST_USE intaglio_code intaglio_frozen_id(const uint8_t *bytes, size_t len, intaglio_dictionary_id *id);
+
+/* Returns whether two dictionaries have the same strings in the same order, and the same kind, as far as their hashes say: two hashes of
+ * eight bytes, which aren't made to resist strings that somebody chose. */
+static inline bool intaglio_same_dictionary(const intaglio_dictionary_id *one, const intaglio_dictionary_id *other) {
+    return one->is_text == other->is_text && one->count == other->count && one->hash0 == other->hash0 && one->hash1 == other->hash1;
+}
+
+/* Stores the code of a row. Returns false if there is no such row; *code is then unchanged. */
+bool intaglio_column_code(const uint8_t *bytes, size_t len, size_t row, uint32_t *code);
+
+/* Stores the codes of the rows from `from` on, as many as there are places and rows, and returns how many that is. */
+size_t intaglio_column_codes(const uint8_t *bytes, size_t len, size_t from, uint32_t *codes, size_t count);
+
+/* Returns how many rows have a code, and stores the first of them in ascending order, as many as there are places. With a count of 0 the
+ * rows are only counted. */
+size_t intaglio_column_rows(const uint8_t *bytes, size_t len, uint32_t code, uint64_t *rows, size_t count);
+
+/* Stores how many rows have the code of each string of the dictionary, and in *missing how many have INTAGLIO_MISSING. `count` must be the
+ * number of the dictionary's strings. Errors: BAD_ENDS, and those of column_id. Nothing is then written. */
+INTAGLIO_MUST_USE intaglio_code intaglio_column_counts(const uint8_t *bytes, size_t len, uint64_t *counts, size_t count, uint64_t *missing);
+
+/* Makes a column of codes: stores the number of its bytes in *len, and copies them to the start of the buffer if it has space for all of
+ * them, as it has with intaglio_column_size. The same codes under the same dictionary give the same bytes.
+ * Errors: NO_SYMBOL, TOO_MANY, NO_MEMORY; nothing is then written. NO_SPACE, with *len. */
+INTAGLIO_MUST_USE intaglio_code intaglio_column_write(const intaglio_dictionary_id *id, const uint32_t *codes, size_t count, uint8_t *buffer, size_t size, size_t *len);
+
+/* Returns how many bytes a column of so many codes has. No contract covers this function, but column_write returns NO_SPACE if the number is
+ * too small. */
+static inline size_t intaglio_column_size(const intaglio_dictionary_id *id, size_t count) {
+    size_t width = id->count <= 255 ? 1 : (id->count <= 65535 ? 2 : 4);
+    return 64 + width * count;
+}
 
 /* The functions on tables for each kind, on a struct of that kind, such as intaglio_text. Initialize it with INTAGLIO_NONE. */
 /* clang-format off */

@@ -10,7 +10,9 @@ import unittest
 from array import array
 from pathlib import Path
 
-from intaglio import MISSING, BytesTable, Frozen, Full, Missing, NoSpace, NotUtf8, PathTable, SymbolTable, merge, renumber
+from intaglio import (
+    MISSING, BytesTable, Column, Frozen, Full, Missing, NoSpace, NotUtf8, PathTable, SymbolTable, merge, renumber,
+)
 
 try:
     import numpy
@@ -264,6 +266,29 @@ class Columns(unittest.TestCase):
             words.decode(pandas.Series([1, 0]))
         with self.assertRaisesRegex(TypeError, "astype"):
             words.decode(pandas.Categorical(["to", "be"]).codes)
+
+    def test_from_a_series_to_a_column_file_and_back_to_a_categorical(self):
+        chance = random.Random(4)
+        for count in (100, 200, 3_000, 70_000):
+            words = frozen_of([f"s{it}" for it in range(count)])
+            lines = [chance.choice([None, words[chance.randrange(count)]]) for _ in range(5_000)]
+            words.write_column(self.folder / "column", words.encode(pandas.Series(lines), missing=MISSING))
+            column = Column(self.folder / "column", words)
+            codes = numpy.frombuffer(column.codes, f"u{column.width}")
+            self.assertFalse(codes.flags.owndata or codes.flags.writeable)
+            self.assertEqual((codes == column.missing).sum(), lines.count(None))
+            signed = numpy.frombuffer(column.widened(), "i4")
+            self.assertEqual(numpy.where(codes == column.missing, -1, codes.astype("i8")).tolist(), signed.tolist())
+            back = pandas.Series(pandas.Categorical.from_codes(signed, categories=list(words)))
+            self.assertEqual(back.astype(object).where(back.notna(), None).tolist(), lines)
+            wanted = pandas.Series(lines).value_counts(dropna=False)
+            self.assertEqual({None if it != it else it: n for it, n in wanted.items()}, column.counts())
+            words.write_column(self.folder / "again", signed)
+            self.assertEqual((self.folder / "again").read_bytes(), column.to_bytes())
+            if count <= 127:
+                self.assertEqual(numpy.frombuffer(column.codes, "i1").tolist(), signed.tolist())
+            column.close()
+            self.assertEqual(codes[:5].tolist(), [column.missing if it == -1 else it for it in signed[:5].tolist()])
 
     def test_from_a_series_to_a_file_and_back_to_a_categorical(self):
         chance = random.Random(3)

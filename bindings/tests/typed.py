@@ -1,11 +1,14 @@
 """A program whose types `mypy --strict` must accept, and which runs."""
 from array import array
+from collections import Counter
 from collections.abc import Sequence
 from copy import copy
 from pathlib import Path, PurePath
 from tempfile import TemporaryDirectory
 
-from intaglio import MISSING, BytesTable, Frozen, Missing, NoSymbol, PathTable, Refused, SymbolTable, merge, renumber
+from intaglio import (
+    MISSING, BytesTable, Column, Frozen, Missing, NoSymbol, OtherDictionary, PathTable, Refused, SymbolTable, merge, renumber,
+)
 
 
 def first(strings: Sequence[str]) -> str:
@@ -65,6 +68,23 @@ with TemporaryDirectory() as folder:
         ["b"], ["b", None], 2, [1, 0], 3, [2, 1], [0, 1],
     )
     assert merged.to_bytes() == (Path(folder) / "merged").read_bytes()
+    frozen.write_column(Path(folder) / "column", frozen.encode(["b", "a", None], missing=MISSING))
+    with Column(Path(folder) / "column", frozen, trusted=True) as column:
+        cell: str | None = column[0]
+        cells: list[str | None] = column[1:]
+        rows: "array[int]" = column.rows_of("b")
+        tally: Counter[str | None] = column.counts()
+        words: Frozen[str] = column.dictionary
+        raw: memoryview = column.codes
+        as_strings: Sequence[str | None] = column
+        assert (cell, cells, list(rows), tally[None], words[0], raw.tolist(), len(as_strings), column.widened()[2]) == (
+            "b", ["a", None], [0], 1, "a", [1, 0, 255], 3, MISSING,
+        )
+    try:
+        Column(Path(folder) / "column", Path(folder) / "merged")
+    except OtherDictionary as other:
+        names: tuple[str, str] = (other.column, other.dictionary)
+        assert names == (f"{folder}/column", f"{folder}/merged")
     merged.close()
     frozen.close()
 

@@ -1,12 +1,14 @@
 """A program with arrays of numpy and columns of pandas whose types `mypy --strict` must accept, and which runs."""
 from array import array
+from pathlib import Path
+from tempfile import TemporaryDirectory
 from typing import Any
 
 import numpy
 import numpy.typing
 import pandas  # type: ignore[import]
 
-from intaglio import MISSING, BytesTable, Frozen, SymbolTable, merge, renumber
+from intaglio import MISSING, BytesTable, Column, Frozen, SymbolTable, merge, renumber
 
 column: "numpy.typing.NDArray[numpy.object_]" = numpy.array(["b", None, "a", "b"], object)
 texts: "numpy.typing.NDArray[numpy.str_]" = numpy.array(["b", "a"])
@@ -39,3 +41,10 @@ category: Any = pandas.Categorical.from_codes(
     numpy.frombuffer(words.encode(series, missing=MISSING), "i4"), categories=list(words)
 )
 assert category.tolist()[::2] == ["a", "b"]
+
+with TemporaryDirectory() as folder:
+    words.write_column(Path(folder) / "column", signed)
+    column_file: Column[str] = Column(Path(folder) / "column", words)
+shared: "numpy.typing.NDArray[numpy.uint8]" = numpy.frombuffer(column_file.codes, numpy.uint8)
+wide: "numpy.typing.NDArray[numpy.int32]" = numpy.frombuffer(column_file.widened(), numpy.int32)
+assert (shared.tolist(), wide.tolist()) == ([0, 255, 1, 0], [0, -1, 1, 0])

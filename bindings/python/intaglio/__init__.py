@@ -19,11 +19,14 @@ symbols in 4 bytes each, and back; encode_into writes them to a buffer, and enco
 has the code MISSING, the last number of 4 bytes: as an integer with a sign it is -1.
 
 table.freeze(path) writes the strings to a file, and Frozen(path) maps it: a read-only sequence of them, each at its symbol, with
-the same calls. merge makes one Frozen of several, and renumber turns codes of each into its own. Both kinds of tables can be
-copied and pickled.
+the same calls. merge makes one Frozen of several, and renumber turns codes of each into its own. Tables and Frozens can be copied
+and pickled.
 
-A call that fails raises a subclass of Refused, named after the reason, and leaves the strings unchanged. `position` says which
-string of several it is about, and `filename` which file.
+frozen.write_column(path, codes) writes codes to a file that says which table they belong to, and Column(path, frozen) maps it: a
+read-only sequence of strings, which finds the rows of a string and counts strings by their codes alone.
+
+A call that the library refuses raises a subclass of Refused, named after the reason, and leaves the strings unchanged. `position`
+says which string of several it is about, and `filename` which file. A string that isn't in a Frozen raises Missing, a KeyError.
 
 A table may be used by several threads. A batch of internings or look-ups holds the interpreter's lock until it is done: no other
 thread sees a part of it. Batches on a Frozen let other threads run. An interpreter without that lock can't import the module.
@@ -33,17 +36,20 @@ from collections.abc import Sequence
 from intaglio._table import (
     MISSING, BytesTable, ByteStringTable, CStringTable, OsStringTable, PathTable, SymbolTable, Table, __version__, renumber,
 )
+from intaglio.column import Column
 from intaglio.errors import (
-    REFUSALS, BadEnds, Equal, Full, InnerZero, Missing, MissingZero, NoKind, NoMemory, NoPlaces, NoSpace, NoSymbol, NotFound,
-    NotFrozen, NotUtf8, NoTable, OtherVersion, Refused, Reserved, Stale, TextEnds, TooLarge, TooLong, TooMany, Truncated, Unused,
+    REFUSALS, BadEnds, BadWidth, Equal, Full, InnerZero, Missing, MissingZero, NoKind, NoMemory, NoPlaces, NoSpace, NoSymbol,
+    NotColumn, NotFound, NotFrozen, NotUtf8, NoTable, OtherDictionary, OtherVersion, Refused, Reserved, Stale, TextEnds, TooLarge,
+    TooLong, TooMany, TrailingBytes, Truncated, Unused,
 )
 from intaglio.frozen import Frozen, merge
 
 __all__ = [
-    "SymbolTable", "BytesTable", "CStringTable", "PathTable", "OsStringTable", "ByteStringTable", "Table", "Frozen", "merge",
-    "renumber", "MISSING", "Missing", "Refused", "NoTable", "Full", "NoMemory", "TooLarge", "Stale", "NotUtf8", "InnerZero",
-    "MissingZero", "BadEnds", "NoSymbol", "NoSpace", "NoKind", "NotFrozen", "OtherVersion", "Reserved", "TooMany", "Truncated",
-    "TextEnds", "Unused", "NotFound", "TooLong", "Equal", "NoPlaces", "REFUSALS", "__version__",
+    "SymbolTable", "BytesTable", "CStringTable", "PathTable", "OsStringTable", "ByteStringTable", "Table", "Frozen", "Column",
+    "merge", "renumber", "MISSING", "Missing", "Refused", "NoTable", "Full", "NoMemory", "TooLarge", "Stale", "NotUtf8",
+    "InnerZero", "MissingZero", "BadEnds", "NoSymbol", "NoSpace", "NoKind", "NotFrozen", "OtherVersion", "Reserved", "TooMany",
+    "Truncated", "TextEnds", "Unused", "NotFound", "TooLong", "Equal", "NoPlaces", "NotColumn", "BadWidth", "TrailingBytes",
+    "OtherDictionary", "REFUSALS", "__version__",
 ]
 
 Sequence.register(Table)

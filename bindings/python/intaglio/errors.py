@@ -96,13 +96,13 @@ class NotFrozen(Refused, ValueError):
 
 
 class OtherVersion(Refused, ValueError):
-    """A frozen table of another version."""
+    """A frozen table or a column of another version."""
 
     code = 14
 
 
 class Reserved(Refused, ValueError):
-    """A reserved byte of a frozen table isn't zero."""
+    """A reserved byte of a frozen table or a column isn't zero."""
 
     code = 15
 
@@ -114,7 +114,7 @@ class TooMany(Refused, ValueError):
 
 
 class Truncated(Refused, ValueError):
-    """The bytes of a frozen table end within its header or a section."""
+    """The bytes of a frozen table end within its header or a section, or those of a column before its last row."""
 
     code = 17
 
@@ -153,6 +153,35 @@ class NoPlaces(Refused, ValueError):
     """No places were found for the strings under these keys."""
 
     code = 23
+
+
+class NotColumn(Refused, ValueError):
+    """The bytes don't begin as a column does."""
+
+    code = 24
+
+
+class BadWidth(Refused, ValueError):
+    """The codes of a column haven't the width of its dictionary."""
+
+    code = 25
+
+
+class TrailingBytes(Refused, ValueError):
+    """There are bytes behind the last row of a column."""
+
+    code = 26
+
+
+class OtherDictionary(ValueError):
+    """A column belongs to another dictionary than the one that it is to be read with: the names of the two."""
+
+    def __init__(self, column: str, dictionary: str) -> None:
+        super().__init__(column, dictionary)
+        self.column, self.dictionary = column, dictionary
+
+    def __str__(self) -> str:
+        return f"{self.column}: a column of another dictionary than {self.dictionary}"
 
 
 class Missing(KeyError):

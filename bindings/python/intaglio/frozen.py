@@ -13,9 +13,9 @@ import zlib
 from collections.abc import Sequence
 
 from intaglio._table import (
-    BytesTable, SymbolTable, Table, frozen_check, frozen_check_header, frozen_check_texts, frozen_decode, frozen_encode,
-    frozen_encode_into, frozen_encode_lines, frozen_find, frozen_find_all, frozen_get, frozen_get_all, frozen_is_text, frozen_len,
-    frozen_slice,
+    BytesTable, SymbolTable, Table, column_bytes, frozen_check, frozen_check_header, frozen_check_texts, frozen_decode,
+    frozen_encode, frozen_encode_into, frozen_encode_lines, frozen_find, frozen_find_all, frozen_get, frozen_get_all, frozen_id,
+    frozen_is_text, frozen_len, frozen_slice,
 )
 from intaglio.errors import Refused, name_file, no_such_symbol
 
@@ -28,7 +28,7 @@ MAGIC, HEADER = b"INTAGLIO", 64
 # How many strings are made at once while a table is gone through.
 CHUNK = 256
 # What a Frozen has by itself: other attributes are a subclass's.
-OWN = ("_data", "_map", "_path", "_stat", "_trusted", "_is_text", "_len", "_sum")
+OWN = ("_data", "_map", "_path", "_stat", "_trusted", "_is_text", "_len", "_sum", "_id")
 
 
 def mode_at(path):
@@ -89,6 +89,14 @@ def replace(path, data):
         raise
 
 
+def map_file(path):
+    """The bytes of a file as a memoryview, the map that they are in, or None for an empty file, and the file's status."""
+    with open(path, "rb") as file:
+        # (an empty file can't be mapped)
+        mapped = mmap.mmap(file.fileno(), 0, access=mmap.ACCESS_READ) if file.seek(0, 2) else None
+        return memoryview(mapped or b""), mapped, os.fstat(file.fileno())
+
+
 def refuse_bytes(path):
     """Raises TypeError for the bytes of a table in place of its path."""
     if isinstance(path, (bytearray, memoryview)) or isinstance(path, bytes) and path.startswith(MAGIC):
@@ -125,14 +133,11 @@ class Frozen(Sequence):
 
     def __init__(self, path, *, trusted=False, kind=None):
         refuse_bytes(path)
-        with open(path, "rb") as file:
-            # (an empty file can't be mapped)
-            mapped = mmap.mmap(file.fileno(), 0, access=mmap.ACCESS_READ) if file.seek(0, 2) else None
-            status = os.fstat(file.fileno())
+        data, mapped, status = map_file(path)
         self._path = None if isinstance(path, int) else os.path.abspath(os.fspath(path))
         self._stat: tuple[int, int] | None = (status.st_dev, status.st_ino)
         try:
-            self._open(memoryview(mapped or b""), mapped, trusted, kind)
+            self._open(data, mapped, trusted, kind)
         except Refused as error:
             name_file(error, path if isinstance(path, int) else os.fspath(path))
             raise
@@ -148,7 +153,7 @@ class Frozen(Sequence):
 
     # Takes the bytes, and closes what holds them if they are no frozen table.
     def _open(self, data, mapped, trusted, kind):
-        self._data, self._map, self._trusted, self._sum = data, mapped, bool(trusted), None
+        self._data, self._map, self._trusted, self._sum, self._id = data, mapped, bool(trusted), None, None
         try:
             if kind not in (None, str, bytes):
                 raise TypeError(f"kind is str, bytes or None, not {kind!r}")
@@ -195,14 +200,15 @@ class Frozen(Sequence):
 
     def encode_into(self, strings, out, /, *, missing=None):
         """Writes the codes of strings to the start of a buffer of integers of 4 bytes, such as an array('I') or a numpy array of
-        uint32 or int32, and returns how many there are. Raises what encode raises, and NoSpace if the buffer is too short; it is
-        then unchanged.
+        uint32 or int32, and returns how many there are. `missing` is as in encode. Raises what encode raises, and NoSpace if the
+        buffer is too short; it is then unchanged.
         """
         return frozen_encode_into(self._data, self._is_text, strings, out, missing)
 
     def encode_lines(self, lines, /, *, missing=None):
         """The codes of the lines of a buffer, as an array('I'). No object is made of a line. A line ends before b"\\n", and the
-        last one needs none; of a table of texts they are UTF-8. The buffer must not change meanwhile. Raises what encode raises.
+        last one needs none; of a table of texts they are UTF-8. The buffer must not change meanwhile. `missing` is as in encode.
+        Raises what encode raises.
 
         >>> words = Frozen.from_bytes(SymbolTable(["to", "be"]).freeze())
         >>> words.encode_lines(b"be\\nto\\nbe\\n")
@@ -223,6 +229,15 @@ class Frozen(Sequence):
         """
         given = () if missing is NOTHING else (missing,)
         return frozen_decode(self._data, self._is_text, codes, *given)
+
+    def write_column(self, path, codes, /):
+        """Writes codes to a file that says that they belong to this table, which Column reads: any buffer of integers of 4 bytes,
+        as decode takes it, with MISSING for what is missing. The file has 1, 2 or 4 bytes for each.
+
+        A file at the path is replaced at once, as by Table.freeze, and keeps its mode. Raises NoSymbol, with the position of the
+        first code that is neither a symbol nor MISSING, and OSError. There is then no new file.
+        """
+        replace(path, column_bytes(self._identity(), codes))
 
     def get(self, symbol, default=None, /):
         """The string of a symbol, or the default if there is none. Raises UnicodeDecodeError if the file is trusted, of texts,
@@ -304,6 +319,16 @@ class Frozen(Sequence):
     # What a subclass or a caller has set.
     def _attributes(self):
         return {name: value for name, value in self.__dict__.items() if name not in OWN}
+
+    # What the table is to columns: its strings and whether the file says that they are texts. All strings are read once.
+    def _identity(self):
+        if self._id is None:
+            self._id = frozen_id(self._data)
+        return self._id
+
+    # What messages call it.
+    def _name(self):
+        return repr(self) if self._path is None else os.fsdecode(self._path)
 
     # Whether the path still leads to the file that is mapped.
     def _is_at_path(self):

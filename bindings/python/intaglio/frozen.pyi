@@ -1,5 +1,7 @@
 from array import array
 from collections.abc import Iterable, Iterator, Sequence
+from mmap import mmap
+from os import stat_result
 from types import TracebackType
 from typing import Any, Generic, SupportsIndex, TypeVar, overload
 
@@ -11,7 +13,10 @@ from intaglio._table import Readable, Writeable
 _Content = TypeVar("_Content", str, bytes, covariant=True)
 _Default = TypeVar("_Default")
 
+CHUNK: int
+
 def replace(path: StrOrBytesPath, data: ReadableBuffer) -> None: ...
+def map_file(path: StrOrBytesPath | int) -> tuple[memoryview, mmap | None, stat_result]: ...
 
 class Frozen(Sequence[_Content], Generic[_Content]):
     # Without `kind` the file says what the strings are, so their type isn't known before it is opened.
@@ -50,6 +55,7 @@ class Frozen(Sequence[_Content], Generic[_Content]):
     def decode(self, codes: Readable, /) -> list[_Content]: ...
     @overload
     def decode(self, codes: Readable, /, *, missing: _Default) -> list[_Content | _Default]: ...
+    def write_column(self, path: StrOrBytesPath, codes: Readable, /) -> None: ...
     @overload
     def get(self, symbol: SupportsIndex, /) -> _Content | None: ...
     @overload

@@ -48,10 +48,10 @@ PyObject *write_codes(const Py_buffer *view, const uint32_t *codes, size_t count
     return PyLong_FromSize_t(count);
 }
 
-PyObject *array_of(const uint32_t *numbers, size_t count) {
+PyObject *typed_array(char type, const void *numbers, size_t size) {
     PyObject *module = PyImport_ImportModule("array");
-    PyObject *array = module ? PyObject_CallMethod(module, "array", "s", "I") : NULL;
-    PyObject *view = array ? PyMemoryView_FromMemory(count ? (char *)numbers : "", (Py_ssize_t)(count * sizeof *numbers), PyBUF_READ) : NULL;
+    PyObject *array = module ? PyObject_CallMethod(module, "array", "C", type) : NULL;
+    PyObject *view = array ? PyMemoryView_FromMemory(size ? (char *)numbers : "", (Py_ssize_t)size, PyBUF_READ) : NULL;
     PyObject *none = view ? PyObject_CallMethod(array, "frombytes", "O", view) : NULL;
     if (!none) Py_CLEAR(array);
     Py_XDECREF(none);
@@ -60,15 +60,9 @@ PyObject *array_of(const uint32_t *numbers, size_t count) {
     return array;
 }
 
-/* Codes of a buffer, or a copy of them if they aren't aligned and one behind the other. */
-typedef struct {
-    Py_buffer view;
-    const uint32_t *at;
-    size_t count;
-    uint32_t *own;
-} Codes;
+PyObject *array_of(const uint32_t *numbers, size_t count) { return typed_array('I', numbers, count * sizeof *numbers); }
 
-static void close_codes(Codes *codes) {
+void close_codes(Codes *codes) {
     PyMem_Free(codes->own);
     PyBuffer_Release(&codes->view);
 }
@@ -94,17 +88,13 @@ static int open_buffer(Codes *codes, PyObject *buffer) {
     return -1;
 }
 
-/* The codes of a buffer, or of a column of pandas or of another library, which gives its array. */
-static int open_codes(Codes *codes, PyObject *given) {
+int open_codes(Codes *codes, PyObject *given) {
     PyObject *array;
     if (PyObject_CheckBuffer(given) || call_if_there(given, "to_numpy", &array) == 0) return open_buffer(codes, given);
     int status = array ? open_buffer(codes, array) : -1;
     Py_XDECREF(array);
     return status;
 }
-
-/* One code, which is read once: a thread that doesn't hold the interpreter's lock may write to the buffer. */
-static inline uint32_t code_at(const Codes *codes, size_t i) { return __atomic_load_n(codes->at + i, __ATOMIC_RELAXED); }
 
 void give_turn(void) {
     Py_BEGIN_ALLOW_THREADS
@@ -117,7 +107,7 @@ void give_turn(void) {
  * Returns -1 and an exception. */
 static int decode_into(PyObject *list, const void *of, StringOf string_of, PyObject **made, size_t len, bool yields, const Codes *codes, PyObject *missing) {
     for (size_t i = 0; i < codes->count; i++) {
-        uint32_t code = code_at(codes, i);
+        uint32_t code = load_code(codes, i);
         PyObject *known = made && code < len ? made[code] : NULL;
         PyObject *string = known ? Py_NewRef(known) : (code == MISSING && missing ? Py_NewRef(missing) : string_of(of, code));
         if (!string && !PyErr_Occurred()) raise_by("no_symbol", "(In)", (unsigned int)code, (Py_ssize_t)i);
@@ -150,9 +140,9 @@ PyObject *decode_by(const void *of, StringOf string_of, size_t len, bool yields,
  * one: the place of the first that hasn't, or all. */
 static size_t renumber_to(uint32_t *out, const Codes *numbers, const Codes *codes) {
     for (size_t i = 0; i < codes->count; i++) {
-        uint32_t code = code_at(codes, i);
+        uint32_t code = load_code(codes, i);
         if (code >= numbers->count && code != MISSING) return i;
-        if (out) out[i] = code == MISSING ? MISSING : code_at(numbers, code);
+        if (out) out[i] = code == MISSING ? MISSING : load_code(numbers, code);
     }
     return codes->count;
 }
@@ -164,7 +154,7 @@ static int renumber_all(uint32_t *out, const Codes *numbers, const Codes *codes)
     done = renumber_to(out, numbers, codes);
     Py_END_ALLOW_THREADS
     if (done == codes->count) return 0;
-    raise_by("no_symbol", "(In)", (unsigned int)code_at(codes, done), (Py_ssize_t)done);
+    raise_by("no_symbol", "(In)", (unsigned int)load_code(codes, done), (Py_ssize_t)done);
     return -1;
 }
 

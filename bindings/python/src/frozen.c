@@ -104,6 +104,19 @@ static PyObject *frozen_is_text(PyObject *Py_UNUSED(module), PyObject *data) {
     return PyBool_FromLong(is_text);
 }
 
+PyDoc_STRVAR(frozen_id_doc, "frozen_id(data, /)\n--\n\nWhat the dictionary in the bytes is. Raises what is wrong with the header.");
+static PyObject *frozen_id(PyObject *Py_UNUSED(module), PyObject *data) {
+    Py_buffer view;
+    intaglio_dictionary_id id;
+    uint32_t code;
+    if (borrow_frozen(data, &view) < 0) return NULL;
+    Py_BEGIN_ALLOW_THREADS
+    code = intaglio_frozen_id(view.buf, (size_t)view.len, &id);
+    Py_END_ALLOW_THREADS
+    PyBuffer_Release(&view);
+    return id_or_refused(code, &id);
+}
+
 /* One string */
 
 /* The symbol of a native string or None, or null and an exception. */
@@ -450,6 +463,7 @@ PyMethodDef frozen_functions[] = {
     {"frozen_check_texts", frozen_check_texts, METH_O, frozen_check_texts_doc},
     {"frozen_len", frozen_len, METH_O, frozen_len_doc},
     {"frozen_is_text", frozen_is_text, METH_O, frozen_is_text_doc},
+    {"frozen_id", frozen_id, METH_O, frozen_id_doc},
     {"frozen_find", FAST(frozen_find), METH_FASTCALL, frozen_find_doc},
     {"frozen_find_all", FAST(frozen_find_all), METH_FASTCALL, frozen_find_all_doc},
     {"frozen_get", FAST(frozen_get), METH_FASTCALL, frozen_get_doc},

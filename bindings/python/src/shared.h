@@ -222,6 +222,22 @@ int borrow_codes(PyObject *buffer, Py_buffer *view);
 PyObject *write_codes(const Py_buffer *view, const uint32_t *codes, size_t count);
 /* An array('I') of numbers, or null and an exception. */
 PyObject *array_of(const uint32_t *numbers, size_t count);
+/* The same with another type, such as 'Q', of so many bytes. */
+PyObject *typed_array(char type, const void *numbers, size_t size);
+
+/* Codes of a buffer, or a copy of them if they aren't aligned and one behind the other. */
+typedef struct {
+    Py_buffer view;
+    const uint32_t *at;
+    size_t count;
+    uint32_t *own;
+} Codes;
+
+/* The codes of a buffer, or of a column of pandas or of another library, which gives its array. Returns -1 and an exception. */
+int open_codes(Codes *codes, PyObject *given);
+void close_codes(Codes *codes);
+/* One code, which is read once: a thread that doesn't hold the interpreter's lock may write to the buffer. */
+static inline uint32_t load_code(const Codes *codes, size_t i) { return __atomic_load_n(codes->at + i, __ATOMIC_RELAXED); }
 /* The string of a symbol as an object; null without an exception if there is none, or with one. */
 typedef PyObject *(*StringOf)(const void *of, uint32_t symbol);
 /* A list of the strings of codes in a buffer, with `missing` for MISSING unless that is null. If `yields`, other threads may run meanwhile. */
@@ -233,5 +249,11 @@ extern PyMethodDef codes_functions[];
 /* Frozen tables: frozen.c */
 
 extern PyMethodDef frozen_functions[];
+
+/* Columns: columns.c */
+
+/* What a dictionary is, as a tuple, or null and the exception of an error code. */
+PyObject *id_or_refused(uint32_t code, const intaglio_dictionary_id *id);
+extern PyMethodDef columns_functions[];
 
 #endif

@@ -606,7 +606,7 @@ static PyObject *table_clear(Table *self, PyObject *Py_UNUSED(none)) {
 }
 
 PyDoc_STRVAR(take_back_doc, "take_back($self, length, /)\n--\n\n"
-"Rolls the table back to its first strings, `length` of them. Raises Stale, NoTable.");
+"Keeps the first `length` strings, and drops the rest. Raises Stale, NoTable.");
 static PyObject *table_take_back(Table *self, PyObject *length) {
     size_t mark;
     bool is_read = read_number(length, &mark) == 0;
@@ -987,6 +987,7 @@ static int add_types(PyObject *module) {
 
 static int execute(PyObject *module) {
     if (PyModule_AddFunctions(module, frozen_functions) < 0 || PyModule_AddFunctions(module, codes_functions) < 0) return -1;
+    if (PyModule_AddFunctions(module, columns_functions) < 0) return -1;
 #ifdef Py_GIL_DISABLED
     PyErr_SetString(PyExc_ImportError, "intaglio needs an interpreter with a global lock: its tables have none of their own");
     return -1;

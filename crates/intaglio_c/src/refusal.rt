@@ -1,9 +1,11 @@
 //! Errors and their codes, and results as C gets them.
 ghost use Rattle.std.specs.Prelude.{◌≡◌};
 ghost use Rattle.intaglio_c.specs.Answers.{answer_code, mark_answer, refusal_code, room_answer, room_refusal, symbol_answer, IsWritten};
+ghost use Rattle.intaglio_c.specs.Columns.{column_refusal, write_refusal};
 ghost use Rattle.intaglio_c.specs.Frozen.{freeze_refusal, frozen_refusal};
 ghost use Rattle.intaglio_c.specs.declared.refusal.Refusal.TheVariants.{NoMemory};
 
+use intaglio_column_file::{ColumnError, ColumnWriteError};
 use intaglio_core::{InternError, RoomError, StaleMark, Symbol};
 use intaglio_frozen::{FreezeError, FrozenError};
 use std::alloc::AllocError;
@@ -29,7 +31,7 @@ pub enum Refusal {
     MissingZero = 8,
     /// The ends of a batch decrease or exceed its bytes, or its lists differ in length.
     BadEnds = 9,
-    /// The table has no content for a symbol.
+    /// The table has no content for a symbol, or a code of a column is no symbol.
     NoSymbol = 10,
     /// The buffer is too short.
     NoSpace = 11,
@@ -37,13 +39,13 @@ pub enum Refusal {
     NoKind = 12,
     /// The bytes don't begin as a frozen table does.
     NotFrozen = 13,
-    /// A frozen table of another version.
+    /// A frozen table or a column of another version.
     OtherVersion = 14,
-    /// A reserved byte of a frozen table isn't 0.
+    /// A reserved byte of a frozen table or of a column isn't 0.
     Reserved = 15,
     /// There are more strings than a frozen table can have.
     TooMany = 16,
-    /// The bytes of a frozen table end within its header or a section.
+    /// The bytes of a frozen table end within its header or a section, or those of a column before its last row.
     Truncated = 17,
     /// The strings of a frozen table don't fill its text.
     TextEnds = 18,
@@ -57,6 +59,12 @@ pub enum Refusal {
     Equal = 22,
     /// No places were found for the strings of a frozen table.
     NoPlaces = 23,
+    /// The bytes don't begin as a column does.
+    NotColumn = 24,
+    /// The width of a column isn't the least that serves its dictionary.
+    BadWidth = 25,
+    /// There are bytes behind the last row of a column.
+    TrailingBytes = 26,
 }
 
 impl Refusal {
@@ -102,6 +110,37 @@ impl From<FrozenError> for Refusal {
             FrozenError::Unused => Refusal::Unused,
             FrozenError::NotFound(_) => Refusal::NotFound,
             FrozenError::NotUtf8(_) => Refusal::NotUtf8,
+        }
+    }
+}
+
+impl From<ColumnError> for Refusal {
+    ghost from_gives = { λ error refusal. refusal ≡ column_refusal error };
+
+    fn from(error: ColumnError) -> Refusal {
+        match error {
+            ColumnError::Magic => Refusal::NotColumn,
+            ColumnError::Header => Refusal::Truncated,
+            ColumnError::Version => Refusal::OtherVersion,
+            ColumnError::Kind => Refusal::NoKind,
+            ColumnError::TooMany => Refusal::TooMany,
+            ColumnError::Width => Refusal::BadWidth,
+            ColumnError::Reserved => Refusal::Reserved,
+            ColumnError::Truncated => Refusal::Truncated,
+            ColumnError::TooLong => Refusal::TrailingBytes,
+            ColumnError::NoString(_) => Refusal::NoSymbol,
+        }
+    }
+}
+
+impl From<ColumnWriteError> for Refusal {
+    ghost from_gives = { λ error refusal. refusal ≡ write_refusal error };
+
+    fn from(error: ColumnWriteError) -> Refusal {
+        match error {
+            ColumnWriteError::TooMany => Refusal::TooMany,
+            ColumnWriteError::NoString(_) => Refusal::NoSymbol,
+            ColumnWriteError::Memory => Refusal::NoMemory,
         }
     }
 }
