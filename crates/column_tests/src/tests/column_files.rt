@@ -1,6 +1,7 @@
 //! Column files of each width, whole and damaged.
 use intaglio_column_file::{
-    Column, ColumnError, ColumnHeader, ColumnWriteError, DictionaryId, MISSING, Width, column_bytes,
+    Column, ColumnError, ColumnHeader, ColumnWriteError, DictionaryId, MISSING, Width,
+    begins_as_column, column_bytes,
 };
 use intaglio_symbol::Symbol;
 use std::process::Abort;
@@ -147,6 +148,61 @@ fn rows_of_a_column_are_found_and_counted(rt: HostRuntime) {
     let counts = column.counts(rt.alloc()).expect(&rt, "memory");
     assert!(&rt; counts.of.as_slice() == [1, 1, 2].as_slice());
     assert_eq!(&rt; counts.missing, 1);
+}
+
+#[test]
+fn a_filter_selects_rows(rt: HostRuntime) {
+    let column = opened(&rt, &COLUMN);
+    let mut filter = column.no_rows(rt.alloc()).expect(&rt, "memory");
+    assert_eq!(&rt; column.count_rows(&filter), 0);
+    filter.inverts = true;
+    assert_eq!(&rt; column.count_rows(&filter), 5);
+    filter.missing = true;
+    assert_eq!(&rt; column.count_rows(&filter), 4);
+    filter.inverts = false;
+    assert_eq!(&rt; column.count_rows(&filter), 1);
+    filter.strings = Vec::from_elem(rt.alloc(), true, 3).expect(&rt, "memory");
+    filter.missing = false;
+    assert_eq!(&rt; column.count_rows(&filter), 4);
+    assert!(&rt; filter.selects(2));
+    assert!(&rt; !filter.selects(3));
+    assert!(&rt; !filter.selects(MISSING));
+}
+
+#[test]
+fn four_bytes_begin_a_column(rt: HostRuntime) {
+    assert!(&rt; begins_as_column(&COLUMN));
+    assert!(&rt; begins_as_column(&COLUMN[..4]));
+    assert!(&rt; !begins_as_column(&COLUMN[..3]));
+    assert!(&rt; !begins_as_column(&changed(3, 0)));
+    assert!(&rt; begins_as_column(&changed(4, 0)));
+}
+
+#[test]
+fn codes_rows_and_counts_are_written_over_places(rt: HostRuntime) {
+    let column = opened(&rt, &COLUMN);
+    let mut codes = [7u32; 4];
+    assert_eq!(&rt; column.codes_into(2, &mut codes), 3);
+    assert!(&rt; codes.as_slice() == [2, MISSING, 1, 7].as_slice());
+    assert_eq!(&rt; column.codes_into(1, &mut codes[..1]), 1);
+    assert!(&rt; codes.as_slice() == [2, MISSING, 1, 7].as_slice());
+    assert_eq!(&rt; column.codes_into(6, &mut codes), 0);
+    let mut rows = [7u64; 3];
+    assert_eq!(&rt; column.rows_into(2, &mut rows[..1]), 2);
+    assert!(&rt; rows.as_slice() == [1, 7, 7].as_slice());
+    assert_eq!(&rt; column.rows_into(2, &mut rows), 2);
+    assert!(&rt; rows.as_slice() == [1, 2, 7].as_slice());
+    assert!(&rt; column.id().count == 3);
+    let mut counts = [7u64; 3];
+    assert_eq!(&rt; column.counts_into(&mut counts), 1);
+    assert!(&rt; counts.as_slice() == [1, 1, 2].as_slice());
+}
+
+#[test]
+fn numbers_are_made_the_column_of_these_symbols(rt: HostRuntime) {
+    let codes = [0, 2, 2, MISSING, 1];
+    let bytes = column_bytes(rt.alloc(), ID, &codes.as_slice()).expect(&rt, "memory");
+    assert!(&rt; bytes.as_slice() == COLUMN.as_slice());
 }
 
 #[test]

@@ -8,7 +8,7 @@ use intaglio::{
 };
 use std::alloc::{AllocError, Global};
 use std::process::Abort;
-use test_hashers::builders::HasherCount;
+use test_support::builders::HasherCount;
 
 /// A call by borrowed forms, or one that borrows what is stored.
 #[derive(Clone, Copy)]

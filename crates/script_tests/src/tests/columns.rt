@@ -14,7 +14,7 @@ use intaglio::{
 use intaglio_hash::FixedState;
 use std::alloc::Global;
 use std::process::Abort;
-use test_hashers::builders::{Fold, HasherCount};
+use test_support::builders::{Fold, HasherCount};
 
 // On a table over this store, with this limit.
 fn runs_over<H, L: SpelledStore + Drop, S: HasherCount, Q: AddedTo<L, H>>(

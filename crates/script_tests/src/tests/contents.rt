@@ -17,8 +17,8 @@ use intaglio::{ContentOf, Reply, StrContent, Table};
 use intaglio_cstr::CStrKind;
 use std::alloc::Global;
 use std::process::Abort;
-use test_hashers::builders::HasherCount;
-use test_hashers::contents::{KindOfSpelling, OfSpelling};
+use test_support::builders::HasherCount;
+use test_support::contents::{KindOfSpelling, OfSpelling};
 
 /// What differs between tables of the kinds.
 pub trait TestContent: OfSpelling {

@@ -18,7 +18,7 @@ use intaglio_hash::FixedState;
 use std::alloc::Global;
 use std::marker::PhantomData;
 use std::process::Abort;
-use test_hashers::builders::{Counted, hash_of};
+use test_support::builders::{Counted, hash_of};
 
 /// What can be tried on tables of any kind.
 pub trait Trial {

@@ -10,7 +10,7 @@ use intaglio_core::look_ahead;
 use std::alloc::Global;
 use std::hash::RandomState;
 use std::process::Abort;
-use test_hashers::builders::{Counted, HasherCount};
+use test_support::builders::{Counted, HasherCount};
 
 #[test]
 fn a_call_hashes_once_and_a_growth_never(rt: HostRuntime) {

@@ -19,7 +19,7 @@ use intaglio_text::StrKind;
 use intaglio_text::osstr::OsStrKind;
 use std::alloc::Global;
 use std::process::Abort;
-use test_hashers::builders::{Counted, HasherCount};
+use test_support::builders::{Counted, HasherCount};
 
 /// A table in one buffer.
 pub type Buffer<K, S> = TableOver<Packed<K>, S>;

@@ -8,7 +8,7 @@ use std::alloc::Global;
 use std::fmt::Write;
 use std::hash::{BuildHasher, RandomState};
 use std::process::Abort;
-use test_hashers::builders::Counted;
+use test_support::builders::Counted;
 
 // How many scripts there are for each kind of table, and how many calls each makes.
 const SCRIPTS: usize = 63;

@@ -5,7 +5,7 @@ use super::script::same_text;
 use intaglio::{AllSymbols, Content, Forms, Lends, Pairs, Symbol, TableOver};
 use std::alloc::Global;
 use std::process::Abort;
-use test_hashers::builders::HasherCount;
+use test_support::builders::HasherCount;
 
 /// Scripts whose lines have the steps on an iterator and their expected results.
 #[derive(Clone, Copy)]

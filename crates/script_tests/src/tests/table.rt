@@ -7,9 +7,9 @@ use crate::replies::interned;
 use intaglio::{AllSymbols, Mark, Reply, RoomError, Store, TableOver, Work, intern_all};
 use std::alloc::Global;
 use std::process::Abort;
-use test_hashers::builders::{Counted, Fold, HasherCount};
-use test_hashers::tables::make_table;
-pub use test_hashers::tables::{Make, Update, updated};
+use test_support::builders::{Counted, Fold, HasherCount};
+use test_support::tables::make_table;
+pub use test_support::tables::{Make, Update, updated};
 
 /// The numbers of a table.
 #[derive(Drop)]

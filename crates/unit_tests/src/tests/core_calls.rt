@@ -7,7 +7,7 @@ use intaglio_core::{
 use std::alloc::Global;
 use std::hash::RandomState;
 use std::process::Abort;
-use test_hashers::builders::Fold;
+use test_support::builders::Fold;
 
 type Table = Core<StrContent, RandomState>;
 

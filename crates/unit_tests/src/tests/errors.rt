@@ -5,7 +5,7 @@ use std::alloc::{AllocError, AllocFailed};
 use std::cmp::Ordering;
 use std::fmt::Display;
 use std::process::Abort;
-use test_hashers::builders::hash_of;
+use test_support::builders::hash_of;
 
 #[test]
 fn max_capacity_is_the_number_of_symbols(rt: HostRuntime) {

@@ -8,7 +8,7 @@ use intaglio::path::{Path, PathContent};
 use intaglio::{Keyed, Sought, StrContent, Work};
 use std::mem::size_of;
 use std::process::Abort;
-use test_hashers::expected_writes::ExpectedWrites;
+use test_support::expected_writes::ExpectedWrites;
 
 // The hash by a builder that expects these writes: 1 if it gets exactly them.
 fn hash<C: Keyed, Q: Sought<C>>(sought: &Q, writes: &'static [&'static [u8]]) -> u64 {

@@ -5,7 +5,7 @@ use intaglio::{FormInterner, Symbol};
 use intaglio_core::Store;
 use intaglio_packed::{StringBuffer, StringEnds};
 use std::process::Abort;
-use test_hashers::builders::Fold;
+use test_support::builders::Fold;
 
 fn makes_room(table: &mut SymbolTable<Fold>) -> bool {
     table.reserve(3).is_ok() && table.reserve_bytes(1000).is_ok() && table.capacity() >= 3

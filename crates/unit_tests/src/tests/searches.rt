@@ -5,8 +5,8 @@ use intaglio::{Core, Symbol, Work};
 use std::alloc::Global;
 use std::fmt::Write;
 use std::process::Abort;
-use test_hashers::builders::{Counted, HasherCount};
-use test_hashers::expected_writes::ExpectedWrites;
+use test_support::builders::{Counted, HasherCount};
+use test_support::expected_writes::ExpectedWrites;
 
 // Texts, many of which share a bucket, and what their searches do.
 #[derive(Clone, Copy)]

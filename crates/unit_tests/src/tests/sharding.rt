@@ -1,7 +1,7 @@
 //! What `split` and `Shards` do with strings of a list: each is in its shard, and is found at its number in all.
 use super::assertions::{holds, same};
 use intaglio::packed::bytes::SymbolTable;
-use intaglio_columns::{Shards, ShardsError, shard_of, split};
+use intaglio_columns::{Shards, ShardsError, shard_of, split, split_map};
 use intaglio_core::Symbol;
 use intaglio_frozen::{Frozen, Kind, freeze};
 use intaglio_hash::FixedState;
@@ -59,6 +59,45 @@ fn strings_are_found_in_their_shards(rt: HostRuntime) {
     }
     same(&rt, shards.check_interned(b"50"), None);
     same(&rt, shards.get(Symbol::new(50)), None);
+}
+
+#[test]
+fn the_map_of_a_split_leads_to_the_strings(rt: HostRuntime) {
+    let alloc = rt.alloc();
+    let list = numbers(&rt, alloc);
+    let blocks = frozen_shards(&rt, alloc, &list);
+    let shards = Shards::open(alloc, tables_from(&rt, alloc, &blocks, 0)).expect(&rt, "shards");
+    assert!(&rt; list.len() == 50);
+    let map = split_map(alloc, &list, COUNT).expect(&rt, "memory");
+    same(&rt, map.len(), 50);
+    for ((_, string), symbol) in list.iter().zip(map.iter()) {
+        same(&rt, shards.get(*symbol), Some(string));
+    }
+    // These were computed by another program.
+    for (place, number) in [28, 29, 0, 15, 30, 1, 2, 3, 31, 4].iter().enumerate() {
+        same(&rt, map.get(place).copied(), Some(Symbol::new(*number)));
+    }
+}
+
+#[test]
+fn a_batch_of_strings_is_found_in_its_shards(rt: HostRuntime) {
+    let alloc = rt.alloc();
+    let list = numbers(&rt, alloc);
+    let blocks = frozen_shards(&rt, alloc, &list);
+    let shards = Shards::open(alloc, tables_from(&rt, alloc, &blocks, 0)).expect(&rt, "shards");
+    let batch = [
+        b"0".as_slice(),
+        b"50".as_slice(),
+        b"3".as_slice(),
+        b"2".as_slice(),
+        b"0".as_slice(),
+    ];
+    let found = shards.check_all(alloc, &batch).expect(&rt, "memory");
+    let numbers = [Some(28), None, Some(15), Some(0), Some(28)];
+    same(&rt, found.len(), 5);
+    for (symbol, number) in found.iter().zip(numbers.iter()) {
+        same(&rt, *symbol, number.map(|it| Symbol::new(it)));
+    }
 }
 
 #[test]

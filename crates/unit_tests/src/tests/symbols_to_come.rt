@@ -1,7 +1,7 @@
 //! What the iterator over the symbols of a table has beside the steps that the scripts make.
 use super::assertions::{copy_of, holds, same};
 use intaglio::{AllSymbols, Symbol};
-use test_hashers::builders::hash_of;
+use test_support::builders::hash_of;
 
 #[test]
 fn the_last_symbol_of_a_full_table(rt: HostRuntime) {

@@ -3,7 +3,7 @@ use crate::checked_table::{CallStyle, CheckedTable, tell};
 use crate::constructors::make_without_memory;
 use crate::fault::Fault;
 use crate::kinds::Stored;
-use test_hashers::tables::Update;
+use test_support::tables::Update;
 
 /// Which calls are made.
 #[derive(Clone, Copy)]

@@ -8,7 +8,7 @@ use crate::stores::Tried;
 use crate::words::{OfDigits, forms_of};
 use intaglio::{Content, LookedUpIn, SoughtIn, TableOver};
 use std::alloc::Global;
-use test_hashers::tables::{Make, Update};
+use test_support::tables::{Make, Update};
 
 // The calls of a run, each with how often it is made. The table is empty at first, and at the last call.
 const CALLS: [(FormCall, usize); 20] = [

@@ -11,8 +11,8 @@ use intaglio::packed::path::PathKind;
 use intaglio::path::PathContent;
 use intaglio::{ContentOf, StrContent, Symbol, Table};
 use intaglio_cstr::CStrKind;
-use test_hashers::builders::Fold;
-use test_hashers::contents::{KindOfSpelling, OfSpelling};
+use test_support::builders::Fold;
+use test_support::contents::{KindOfSpelling, OfSpelling};
 
 /// A table with the default builder.
 pub type FixedTable<C> = Table<C, Fold>;

@@ -9,9 +9,9 @@ use intaglio::{
 use intaglio_frozen::{FreezeError, Frozen, Kind, StringList, freeze};
 use intaglio_hash::FixedState;
 use std::alloc::Global;
-use test_hashers::builders::{Fold, HasherCount};
-use test_hashers::contents::OfSpelling;
-use test_hashers::tables::{Make, make_table};
+use test_support::builders::{Fold, HasherCount};
+use test_support::contents::OfSpelling;
+use test_support::tables::{Make, make_table};
 
 /// A store whose tables are tried.
 pub trait Tried: Store + Drop

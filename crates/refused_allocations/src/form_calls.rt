@@ -4,7 +4,7 @@ use crate::outcome::Outcome;
 use crate::stores::Tried;
 use intaglio::{Content, InternError, LookedUpIn, Reply, RoomError, SoughtIn, TableOver};
 use std::alloc::Global;
-use test_hashers::tables::{Make, Update, updated};
+use test_support::tables::{Make, Update, updated};
 
 /// A call that can be repeated. The forms are those of numbers; the table holds the first of them.
 #[derive(Clone, Copy)]

@@ -5,7 +5,7 @@ use crate::fault::Fault;
 use crate::kinds::{FixedTable, Stored};
 use intaglio::{FormInterner, Interner, Reply, Symbol, Work, run};
 use std::alloc::Global;
-use test_hashers::tables::{Make, Update, make_table};
+use test_support::tables::{Make, Update, make_table};
 
 /// How the calls are made.
 #[derive(Clone, Copy)]

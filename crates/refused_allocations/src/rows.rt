@@ -4,7 +4,7 @@ use crate::fault::Fault;
 use intaglio::{InternError, Mark, StrContent, Symbol, SymbolTable};
 use std::alloc::Global;
 use std::hash::BuildHasher;
-use test_hashers::builders::Counted;
+use test_support::builders::Counted;
 
 const NEW: [&str; 10] = ["b", "c", "d", "e", "f", "g", "h", "i", "j", "k"];
 

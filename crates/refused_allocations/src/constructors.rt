@@ -6,7 +6,7 @@ use crate::outcome::Outcome;
 use intaglio::cstr::{CString, CStringError};
 use intaglio::{Call, Moved, RoomError, Work, run};
 use std::alloc::{AllocError, Global};
-use test_hashers::tables::{Make, make_table};
+use test_support::tables::{Make, make_table};
 
 // One more than the most contents that a table can hold.
 const TOO_MANY: usize = 4294967297;

@@ -2,8 +2,8 @@
 use crate::form_calls::update_name;
 use crate::kinds::{FixedTable, Stored};
 use intaglio::{Call, Mark, Reply};
-use test_hashers::replies::interned;
-use test_hashers::tables::{Update, updated};
+use test_support::replies::interned;
+use test_support::tables::{Update, updated};
 
 /// A call.
 #[derive(Drop)]
