@@ -29,7 +29,8 @@ This page is written by `checks/evidence.py` from `checks/evidence.txt` and the 
 It names the mutants and the tests that show each promise of [PROMISES.md](PROMISES.md). A mutant is a wrong edit of a
 function, which the prover must refuse. Its line names the function, the clauses that the edit breaks, and what those
 clauses say. `ensures` is a clause without a name, `invariant` is that of a type, `requires` is one of a function that
-is called, `loop` is the invariant of a loop, and `bounds` are the bounds of an index.
+is called, `loop` is the invariant of a loop, and `bounds` are the bounds of an index. A mutant that 'stays' isn't
+removed while its clause is there.
 [checks/README.md](../checks/README.md#mutants-and-controls) follows a mutant from its edit to its verdict.
 """
 

@@ -20,7 +20,7 @@ sys.dont_write_bytecode = True
 import arguments
 from sources import TOP
 
-LEFT_OUT = re.compile(r"test_hashers|refusals|bench|\w+_tests|example_\w+")
+LEFT_OUT = re.compile(r"test_support|refused_allocations|bench|\w+_tests|example_\w+")
 # Colours that are read on white, in grey too, and what they are in the dark, with those of docs/interning.dot.
 PROGRAMS, LIBRARIES, INK = "#ffffff", "#e8eef7", "#223344"
 DARK = {
@@ -47,7 +47,7 @@ def reduced(crates):
 def graph():
     crates = listed()
     lines = [
-        'rankdir=BT; bgcolor=white; nodesep=.25; ranksep=.4; node [shape=box style="filled,rounded" fontname="sans-serif"'
+        'rankdir=TB; bgcolor=white; nodesep=.25; ranksep=.4; node [shape=box style="filled,rounded" fontname="sans-serif"'
         f' fontsize=11 color="{INK}" fontcolor="{INK}" margin=".12,.06" height=.3]; edge [color="{INK}" arrowsize=.6];'
     ]
     for name, below in reduced(crates).items():
