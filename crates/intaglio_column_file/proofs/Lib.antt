@@ -5,5 +5,4 @@ pub mod Counted
 pub mod Selected
 pub mod Written
 pub mod Overlaid
-pub mod SameStrings
 pub mod SameDictionary

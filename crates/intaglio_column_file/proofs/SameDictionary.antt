@@ -6,7 +6,7 @@ use Rattle.intaglio_frozen.proofs.Places.{strings_length, end_is}
 use Rattle.intaglio_frozen.proofs.SameBytes.{AreBytes, AreSameAt, u32s_same}
 use Rattle.intaglio_frozen.specs.IsFrozen.{IsFrozen}
 use Rattle.intaglio_frozen.specs.Layout.{u32_at, count, ends_at, pilots_at, text_at, ends, strings}
-use Rattle.intaglio_column_file.proofs.SameStrings.{same_strings}
+use Rattle.intaglio_frozen.proofs.SameTable.{same_strings}
 use Rattle.intaglio_column_file.specs.Id.{IsIdOf}
 use Rattle.intaglio_column_file.specs.Identity.{ends_section, is_text_number, text_section}
 use Rattle.intaglio_column_file.specs.declared.id.DictionaryId.{DictionaryId}

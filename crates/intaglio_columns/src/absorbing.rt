@@ -9,7 +9,7 @@ ghost use Rattle.intaglio_interner.specs.Lookup.{Keeps};
 ghost use Rattle.intaglio_columns.specs.Columns.{AreAccepted, AreKeys, FailsAsForms, IsMap, OfForms};
 
 use crate::from_string::FromString;
-use intaglio_core::{Content, FormInterner, InternError, Store, Symbol, Work, get_or_intern_all};
+use intaglio_core::{BaseInterner, Content, InternError, Store, Symbol, Work, get_or_intern_all};
 use intaglio_frozen::StringList;
 use std::alloc::{AllocError, Global};
 
@@ -42,7 +42,7 @@ use std::alloc::{AllocError, Global};
 /// let map = absorb(alloc, &mut table, &frozen, &mut Work::new())?;
 /// assert!(rt; map.get(1).copied() == Some(a));
 /// ```
-pub fn absorb<'s, L: StringList, T: FormInterner>(
+pub fn absorb<'s, L: StringList, T: BaseInterner>(
     alloc: Global,
     table: &mut T,
     list: &'s L,

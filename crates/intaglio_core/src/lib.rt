@@ -2,7 +2,7 @@
 //!
 //! [`IndexedStore`] gives each distinct content the next number, and returns the content for its number. The
 //! contents may be in any [`Store`]; [`Core`] keeps owned ones, in a `Vec`. Each table of the crate `intaglio` is a
-//! thin type over an `IndexedStore`. It does what [`FormInterner`] says of every table, and `Core` what
+//! thin type over an `IndexedStore`. It does what [`BaseInterner`] says of every table, and `Core` what
 //! [`Interner`] says too.
 //!
 //! What a caller of a `Core` needs is here too: contents of texts and of bytes, and [`run`], which makes a list of
@@ -20,7 +20,7 @@ pub use intaglio_content::{
 };
 pub use intaglio_index::Index;
 pub use intaglio_interner::{
-    FormInterner, GROUP, Interner, check_all, get_or_intern_all, intern_all, look_ahead, touch_all,
+    BaseInterner, GROUP, Interner, check_all, get_or_intern_all, intern_all, look_ahead, touch_all,
 };
 pub use intaglio_run::{Call, Reply, run};
 pub use intaglio_symbol::{

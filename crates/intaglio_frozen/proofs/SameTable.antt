@@ -78,7 +78,8 @@ same_range xs ys at e k same l m =
     let y = get_or-between ys at e (k - at) 0 (omega arith) in
     rw pos at (sym x ∙ ap (λ r. get_or r (k - at) 0) same ∙ y)
 
-same_strings : (at n m : ℕ) (xs ys es fs : List ℕ) → AreEnds at n es → AreEnds at m fs → length xs ≡ n → length ys ≡ m → strings_from at xs es ≡ strings_from at ys fs →
+-- strings that follow each other are the same in two lists of bytes only if their ends and bytes are
+pub same_strings : (at n m : ℕ) (xs ys es fs : List ℕ) → AreEnds at n es → AreEnds at m fs → length xs ≡ n → length ys ≡ m → strings_from at xs es ≡ strings_from at ys fs →
     (es ≡ fs) × (n ≡ m) × ((k : ℕ) → at ≤ k → k < n → AreSameAt xs ys k)
 same_strings at n m xs ys [] [] he hf lx ly s = (refl, omega (arith, he, hf), λ k l r. absurd (omega (arith, he, l, r)))
 same_strings at n m xs ys [] (f ∷ fs) he hf lx ly s = cc

@@ -7,7 +7,7 @@ ghost use Rattle.intaglio_frozen.specs.declared.kind.Kind.TheVariants.{Text};
 use crate::kind::Kind;
 use intaglio::{Table, TableOver};
 use intaglio_content::{Packed, Spelled};
-use intaglio_core::FormInterner;
+use intaglio_core::BaseInterner;
 use intaglio_symbol::Symbol;
 use std::hash::BuildHasher;
 use std::str;
@@ -80,7 +80,7 @@ impl<K: intaglio_content::Kind, S: BuildHasher> StringList for TableOver<Packed<
 
     #[inline(always)]
     fn string(&self, i: usize) -> &[u8] {
-        FormInterner::store(self).string(i)
+        BaseInterner::store(self).string(i)
     }
 }
 

@@ -1,6 +1,6 @@
 //! What every symbol table does, whatever its contents are kept in and however they are found.
 //!
-//! [`FormInterner`] says it of all tables, and [`Interner`] what those with owned contents do besides; batches of
+//! [`BaseInterner`] says it of all tables, and [`Interner`] what those with owned contents do besides; batches of
 //! look-ups and internings are made on any of them.
 #![tactic(auto)]
 
@@ -8,4 +8,4 @@ mod batch;
 mod interner;
 
 pub use batch::{GROUP, check_all, get_or_intern_all, intern_all, look_ahead, touch_all};
-pub use interner::{FormInterner, Interner};
+pub use interner::{BaseInterner, Interner};

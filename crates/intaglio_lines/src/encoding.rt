@@ -13,7 +13,7 @@ use crate::intern_lines::intern_lines;
 use crate::tool_error::ToolError;
 use crate::write::{Output, make_room, put, put_line, write_output};
 use intaglio_content::{Content, SpelledStore, Store};
-use intaglio_interner::FormInterner;
+use intaglio_interner::BaseInterner;
 use intaglio_symbol::Symbol;
 use std::alloc::Global;
 use std::io;
@@ -31,7 +31,7 @@ const NUMBER_LINE: usize = 11;
 ///
 /// Those of [`intern_lines`], `Memory` if the block can't be allocated, and `Write` if a write fails. After
 /// each but `Write` nothing was written.
-pub fn encode_lines<'a, T: FormInterner + Drop, W: Write>(
+pub fn encode_lines<'a, T: BaseInterner + Drop, W: Write>(
     alloc: Global,
     mut table: T,
     input: &'a [u8],

@@ -11,7 +11,7 @@ use crate::from_line::FromLine;
 use crate::lines::first_line;
 use crate::tool_error::ToolError;
 use intaglio_content::{Content, Store, Work};
-use intaglio_interner::{FormInterner, GROUP, get_or_intern_all};
+use intaglio_interner::{BaseInterner, GROUP, get_or_intern_all};
 use intaglio_symbol::Symbol;
 use std::alloc::{AllocError, Global};
 
@@ -30,7 +30,7 @@ struct Group<'a, F> {
 ///
 /// `ZeroByte` for the first line that doesn't fit, `Overflow` if there are more distinct lines than the table
 /// can hold, `Memory` if an allocation failed.
-pub fn intern_lines<'a, T: FormInterner>(
+pub fn intern_lines<'a, T: BaseInterner>(
     alloc: Global,
     table: &mut T,
     input: &'a [u8],

@@ -1,6 +1,6 @@
 //! Lists of calls, made in order on any table.
 //!
-//! [`run`] makes them, on everything that implements `FormInterner` of `intaglio_interner`.
+//! [`run`] makes them, on everything that implements `BaseInterner` of `intaglio_interner`.
 #![tactic(auto)]
 
 mod runs;

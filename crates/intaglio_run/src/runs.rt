@@ -13,7 +13,7 @@ ghost use Rattle.intaglio_run.specs.Run.{IssuesInOrder, KeepsRoom, HoldsBytes, H
 ghost use Rattle.intaglio_run.specs.Growths.{room, CallGrows, GrowsSeldom};
 
 use intaglio_content::{AddedTo, SoughtIn, SpelledStore, Work};
-use intaglio_interner::FormInterner;
+use intaglio_interner::BaseInterner;
 use intaglio_symbol::{InternError, Mark, RoomError, Symbol};
 use std::alloc::{AllocError, Global};
 
@@ -82,7 +82,7 @@ pub enum Reply {
 /// # Errors
 ///
 /// [`AllocError`] if the list of replies can't be allocated. Then no call was made.
-pub fn run<H, T: FormInterner, Q: AddedTo<T::Store, H>>(
+pub fn run<H, T: BaseInterner, Q: AddedTo<T::Store, H>>(
     alloc: Global,
     table: &mut T,
     calls: Vec<Call<Q>>,
@@ -133,7 +133,7 @@ where
 }
 
 // Makes one call.
-fn step<H, T: FormInterner, Q: AddedTo<T::Store, H>>(
+fn step<H, T: BaseInterner, Q: AddedTo<T::Store, H>>(
     alloc: Global,
     table: &mut T,
     call: Call<Q>,
@@ -180,7 +180,7 @@ where
 }
 
 // Interns a value.
-fn intern<H, T: FormInterner, Q: AddedTo<T::Store, H>>(
+fn intern<H, T: BaseInterner, Q: AddedTo<T::Store, H>>(
     table: &mut T,
     value: Q,
     work: &mut Work,
@@ -203,7 +203,7 @@ fn intern<H, T: FormInterner, Q: AddedTo<T::Store, H>>(
 }
 
 // Looks a value up, and copies the stored spelling.
-fn get_interned<T: FormInterner, Q: SoughtIn<T::Store>>(
+fn get_interned<T: BaseInterner, Q: SoughtIn<T::Store>>(
     alloc: Global,
     table: &T,
     sought: &Q,
@@ -230,7 +230,7 @@ where
 }
 
 // Copies the spelling of a symbol.
-fn get<T: FormInterner>(alloc: Global, table: &T, symbol: Symbol) -> Reply
+fn get<T: BaseInterner>(alloc: Global, table: &T, symbol: Symbol) -> Reply
 where
     T::Store: SpelledStore,
     ensures reply { RepliesSpelling T.Content.spelling (slice_get (T.state table.now).contents symbol) result }
@@ -246,7 +246,7 @@ where
 }
 
 // The bytes of a symbol's content.
-fn spelling<T: FormInterner>(table: &T, symbol: Symbol) -> Option<&[u8]>
+fn spelling<T: BaseInterner>(table: &T, symbol: Symbol) -> Option<&[u8]>
 where
     T::Store: SpelledStore,
     ensures spelling { option_copied result
@@ -257,7 +257,7 @@ where
 }
 
 // Reserves capacity for more contents.
-fn reserve<T: FormInterner>(table: &mut T, additional: usize, work: &mut Work) -> Reply
+fn reserve<T: BaseInterner>(table: &mut T, additional: usize, work: &mut Work) -> Reply
     ensures reply { RepliesReserved (T.state table.old) additional result (T.state table.new) }
     ensures grows { Doubles (length (T.state table.old).contents + additional) (T.most table.old) (T.most table.new) }
     ensures bytes { T.spare_bytes table.new ≡ T.spare_bytes table.old }
@@ -273,7 +273,7 @@ fn reserve<T: FormInterner>(table: &mut T, additional: usize, work: &mut Work) -
 }
 
 // Shrinks the capacity.
-fn shrink<T: FormInterner>(table: &mut T, min_capacity: usize, work: &mut Work) -> Reply
+fn shrink<T: BaseInterner>(table: &mut T, min_capacity: usize, work: &mut Work) -> Reply
     ensures reply { RepliesShrunk (T.state table.old) min_capacity result (T.state table.new) }
     ensures cost { Costs work.old work.new (IsRoomCost (T.state table.old)) }
     ensures same_hash { T.hash table.new ≡ T.hash table.old }
@@ -286,7 +286,7 @@ fn shrink<T: FormInterner>(table: &mut T, min_capacity: usize, work: &mut Work) 
 }
 
 // Drops the contents added after a mark.
-fn take_back<T: FormInterner>(table: &mut T, mark: Mark) -> Reply
+fn take_back<T: BaseInterner>(table: &mut T, mark: Mark) -> Reply
     ensures reply { RepliesTakenBack (T.state table.old) mark result (T.state table.new) }
     ensures most { T.most table.new ≡ T.most table.old }
     ensures byte_room { byte_room T.Store.takes (T.state table.new).contents (T.spare_bytes table.new)

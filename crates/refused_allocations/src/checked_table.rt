@@ -3,7 +3,7 @@ use crate::change::{Ask, own};
 use crate::contents::Contents;
 use crate::fault::Fault;
 use crate::kinds::{FixedTable, Stored};
-use intaglio::{FormInterner, Interner, Reply, Symbol, Work, run};
+use intaglio::{BaseInterner, Interner, Reply, Symbol, Work, run};
 use std::alloc::Global;
 use test_support::tables::{Make, Update, make_table};
 

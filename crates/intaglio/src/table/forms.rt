@@ -98,7 +98,7 @@ where
     L::Prepared: Drop,
 {
     /// As [`get_or_intern`](TableOver::get_or_intern), for a content or a form whose hash is known: nothing is
-    /// hashed. Records in `work` what it does, as the call of the same name of `FormInterner` does.
+    /// hashed. Records in `work` what it does, as the call of the same name of `BaseInterner` does.
     ///
     /// # Errors
     ///

@@ -13,7 +13,7 @@ use crate::ahead::LookUps;
 use crate::kind::text_of;
 use crate::refusal::{Refusal, symbol_answer};
 use intaglio_bytes::bytes::BytesContent;
-use intaglio_core::{FormInterner, Sought, Symbol, Work, touch_all};
+use intaglio_core::{BaseInterner, Sought, Symbol, Work, touch_all};
 use intaglio_hash::KeyedState;
 use intaglio_path::{Path, PathContent};
 

@@ -3,11 +3,11 @@ ghost use Rattle.intaglio_content.specs.Key.{hash_of};
 
 use super::{Core, IndexedStore};
 use intaglio_content::{AddedTo, Content, Sought, SoughtIn, Store, Work};
-use intaglio_interner::{FormInterner, Interner};
+use intaglio_interner::{BaseInterner, Interner};
 use intaglio_symbol::{InternError, Mark, RoomError, StaleMark, Symbol};
 use std::hash::BuildHasher;
 
-impl<L: Store, S: BuildHasher> FormInterner for IndexedStore<L, S>
+impl<L: Store, S: BuildHasher> BaseInterner for IndexedStore<L, S>
 where
     L::Content: Content + SoughtIn<L> + Drop,
     L::Prepared: Drop,
@@ -57,11 +57,11 @@ where
     }
 
     fn reserve_counted(&mut self, additional: usize, work: &mut Work) -> Result<(), RoomError> {
-        self.reserve_with(additional, work)
+        IndexedStore::reserve_counted(self, additional, work)
     }
 
     fn shrink_counted(&mut self, min_capacity: usize, work: &mut Work) -> Result<(), RoomError> {
-        self.shrink_with(min_capacity, work)
+        IndexedStore::shrink_counted(self, min_capacity, work)
     }
 
     fn store(&self) -> &L {

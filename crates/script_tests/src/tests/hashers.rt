@@ -4,7 +4,7 @@ use super::each::{Hashed, try_on_each};
 use super::script::plays;
 use intaglio::path::{Path, PathContent};
 use intaglio::{
-    AddedTo, FormInterner, Keyed, Sought, StrContent, SymbolTable, Work, check_all, packed,
+    AddedTo, BaseInterner, Keyed, Sought, StrContent, SymbolTable, Work, check_all, packed,
 };
 use intaglio_core::look_ahead;
 use std::alloc::Global;
@@ -105,7 +105,7 @@ fn a_table_made_of_forms_hashes_each_once(rt: HostRuntime) {
 
 // Makes the calls with a `Work` for the first of these values: two hashings, calls by these hashes, and then three that
 // hash each value once.
-fn makes_counted_calls<H, T: FormInterner, Q: AddedTo<T::Store, H> + Copy>(
+fn makes_counted_calls<H, T: BaseInterner, Q: AddedTo<T::Store, H> + Copy>(
     rt: &impl Abort,
     alloc: Global,
     table: &mut T,

@@ -3,12 +3,12 @@ use super::assertions::same;
 use super::contents::{TestContent, content};
 use super::printed::reply_text;
 use super::script::{Line, line_of, same_text, size, symbol};
-use intaglio::{AddedTo, Call, FormInterner, Mark, Reply, RoomError, SpelledStore, Work, run};
+use intaglio::{AddedTo, Call, BaseInterner, Mark, Reply, RoomError, SpelledStore, Work, run};
 use std::alloc::Global;
 use std::process::Abort;
 
 /// Makes the calls of a script in one run on a new table.
-pub fn runs<H, T: FormInterner + Drop, Q: AddedTo<T::Store, H>>(
+pub fn runs<H, T: BaseInterner + Drop, Q: AddedTo<T::Store, H>>(
     rt: &impl Abort,
     alloc: Global,
     made: Result<T, RoomError>,

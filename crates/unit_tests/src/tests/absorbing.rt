@@ -5,7 +5,7 @@ use super::assertions::{holds, same};
 use intaglio::packed::bytes::SymbolTable;
 use intaglio::{bytes, packed};
 use intaglio_columns::{FromString, absorb, are_texts};
-use intaglio_core::{FormInterner, InternError, Symbol, Work};
+use intaglio_core::{BaseInterner, InternError, Symbol, Work};
 use intaglio_frozen::StringList;
 use intaglio_hash::FixedState;
 use std::alloc::Global;
@@ -21,7 +21,7 @@ fn list_of(rt: &impl Abort, alloc: Global, strings: &[&[u8]]) -> SymbolTable {
 }
 
 // Asserts that an empty table that holds two contents takes in two strings, and not a third one.
-fn absorbs<'s, L: StringList, T: FormInterner>(
+fn absorbs<'s, L: StringList, T: BaseInterner>(
     rt: &impl Abort,
     alloc: Global,
     mut table: T,
@@ -47,7 +47,7 @@ where
 }
 
 // Asserts that a table can't hold the strings of a list, and is left with so many contents.
-fn refuses<'s, L: StringList, T: FormInterner>(
+fn refuses<'s, L: StringList, T: BaseInterner>(
     rt: &impl Abort,
     alloc: Global,
     table: &mut T,

@@ -1,7 +1,7 @@
 //! Each public call of `Core`, made once on a table with random keys. All names are those of `intaglio_core`.
 use super::assertions::same;
 use intaglio_core::{
-    BytesContent, Call, Core, FormInterner, Interner, Mark, Reply, RoomError, StrContent, Symbol,
+    BytesContent, Call, Core, BaseInterner, Interner, Mark, Reply, RoomError, StrContent, Symbol,
     Work, run,
 };
 use std::alloc::Global;
@@ -80,14 +80,14 @@ fn resizes(rt: &impl Abort, table: &mut Table) {
         (table.try_reserve(1000), table.capacity() >= 1004),
         (Ok(()), true),
     );
-    let reserved = table.reserve_with(10_000, &mut Work::new());
+    let reserved = table.reserve_counted(10_000, &mut Work::new());
     same(rt, (reserved, table.capacity() >= 10_004), (Ok(()), true));
     same(
         rt,
         (table.shrink_to(5000), table.capacity()),
         (Ok(()), 5000),
     );
-    let shrunk = table.shrink_with(50, &mut Work::new());
+    let shrunk = table.shrink_counted(50, &mut Work::new());
     same(rt, (shrunk, table.capacity()), (Ok(()), 50));
     same(rt, (table.shrink_to_fit(), table.capacity()), (Ok(()), 4));
 }
@@ -96,7 +96,7 @@ fn resizes(rt: &impl Abort, table: &mut Table) {
 fn cuts(rt: &impl Abort, table: &mut Table) {
     same(
         rt,
-        (table.mark(), FormInterner::mark(table)),
+        (table.mark(), BaseInterner::mark(table)),
         (Mark::new(4), Mark::new(4)),
     );
     same(

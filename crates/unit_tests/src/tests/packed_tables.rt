@@ -1,7 +1,7 @@
 //! Room in one buffer, and the ends of strings. The other calls of packed tables are made by the scripts.
 use super::assertions::{holds, same};
 use intaglio::packed::SymbolTable;
-use intaglio::{FormInterner, Symbol};
+use intaglio::{BaseInterner, Symbol};
 use intaglio_core::Store;
 use intaglio_packed::{StringBuffer, StringEnds};
 use std::process::Abort;
@@ -38,7 +38,7 @@ fn adds(rt: &impl Abort, table: &mut SymbolTable<Fold>, texts: &str) {
 
 // For how many strings, and for how many bytes of them, the store holds memory.
 fn held(table: &SymbolTable<Fold>) -> (usize, usize) {
-    let store = FormInterner::store(table);
+    let store = BaseInterner::store(table);
     (store.capacity(), store.strings().held_bytes())
 }
 

@@ -18,8 +18,8 @@ returns-clause-held g c =
 pub returns-clause-same : goal.returns-clause-same
 returns-clause-same g c = λ keys.
     let are : map g.T.Content.Form.CopiedTo.form_spelling c.deref.result.now ≡ g.L.StringList.strings c.args.list.now = rw c.deref.ensures.value c.in_ok-forms.ensures.strings in
-    let held = map g.T.Content.Content.spelling (g.T.FormInterner.state c.args.table.now).contents in
-    let new = map g.T.Content.Content.spelling (g.T.FormInterner.state c.get_or_intern_all.new.table).contents in
+    let held = map g.T.Content.Content.spelling (g.T.BaseInterner.state c.args.table.now).contents in
+    let new = map g.T.Content.Content.spelling (g.T.BaseInterner.state c.get_or_intern_all.new.table).contents in
     rw (← are) (ok-both _ _ c.get_or_intern_all.result c.get_or_intern_all.ensures.batch.symbols c.get_or_intern_all.ensures.batch.held
     (λ symbols given after. issued-map-by g.T.Content.Content.key_of keys held (map g.T.Content.Form.CopiedTo.form_spelling c.deref.result.now) new symbols.items given after))
 

@@ -8,8 +8,8 @@ use Rattle.intaglio_lines.proofs.intern_lines.intern_lines.Goals as goal
 pub loop-rest-preserved : goal.loop-rest-preserved
 loop-rest-preserved g c =
     let spell = g.T.Content.Line.CopiedTo.form_spelling in
-    let held = map g.T.Content.Content.spelling (g.T.FormInterner.state c.loop-rest.table).contents in
-    let new = map g.T.Content.Content.spelling (g.T.FormInterner.state c.get_or_intern_all.new.table).contents in
+    let held = map g.T.Content.Content.spelling (g.T.BaseInterner.state c.loop-rest.table).contents in
+    let new = map g.T.Content.Content.spelling (g.T.BaseInterner.state c.get_or_intern_all.new.table).contents in
     let forms = c.in_ok-group.group.forms.items in
     let parts = c.in_ok-group.ensures.lines in
     let behind = lines_of c.in_ok-group.group.rest.now in
@@ -31,7 +31,7 @@ loop-rest-preserved g c =
 pub returns-in_err-taken-clause-overflow : goal.returns-in_err-taken-clause-overflow
 returns-in_err-taken-clause-overflow g c = λ overflow.
     let spell = g.T.Content.Line.CopiedTo.form_spelling in
-    let held = map g.T.Content.Content.spelling (g.T.FormInterner.state c.loop-rest.table).contents in
+    let held = map g.T.Content.Content.spelling (g.T.BaseInterner.state c.loop-rest.table).contents in
     let group = map spell c.in_ok-group.group.forms.items in
-    let over : (g.T.FormInterner.state c.loop-rest.table).limit < length (interned_all g.T.Content.Content.key_of held group) = search rules in
-    rw c.loop-rest.invariant.held (rw c.loop-rest.invariant.limit at (group-over g.T.Content.Content.key_of held group _ _ c.in_ok-group.ensures.lines (g.T.FormInterner.state c.loop-rest.table).limit over))
+    let over : (g.T.BaseInterner.state c.loop-rest.table).limit < length (interned_all g.T.Content.Content.key_of held group) = search rules in
+    rw c.loop-rest.invariant.held (rw c.loop-rest.invariant.limit at (group-over g.T.Content.Content.key_of held group _ _ c.in_ok-group.ensures.lines (g.T.BaseInterner.state c.loop-rest.table).limit over))

@@ -9,10 +9,10 @@ abbrev pub invariant-loop-rest : goal.invariant-loop-rest
 invariant-loop-rest g l = record {
   allowed : g.T.Content.FromLine.allows l.rest;
   symbols : issue g.T.Content.Content.key_of (lines_of l.input)
-      ≡ l.symbols.items ++ issue_from g.T.Content.Content.key_of (map g.T.Content.Content.spelling (g.T.FormInterner.state l.table).contents) (lines_of l.rest);
+      ≡ l.symbols.items ++ issue_from g.T.Content.Content.key_of (map g.T.Content.Content.spelling (g.T.BaseInterner.state l.table).contents) (lines_of l.rest);
   held : interned_all g.T.Content.Content.key_of [] (lines_of l.input)
-      ≡ interned_all g.T.Content.Content.key_of (map g.T.Content.Content.spelling (g.T.FormInterner.state l.table).contents) (lines_of l.rest);
-  limit : (g.T.FormInterner.state l.table).limit ≡ (g.T.FormInterner.state l.initial.table).limit;
+      ≡ interned_all g.T.Content.Content.key_of (map g.T.Content.Content.spelling (g.T.BaseInterner.state l.table).contents) (lines_of l.rest);
+  limit : (g.T.BaseInterner.state l.table).limit ≡ (g.T.BaseInterner.state l.initial.table).limit;
   fit : position_or_len (λ x. not (g.T.Content.FromLine.fits x)) (lines_of l.input) ≡ l.number + position_or_len (λ x. not (g.T.Content.FromLine.fits x)) (lines_of l.rest);
   count : length (lines_of l.input) ≡ l.number + length (lines_of l.rest);
   room : l.number + length l.rest ≤ length l.input;

@@ -24,7 +24,7 @@ loop-call-init g c =
       whole = all;
       room = search rules;
       bytes = λ keep. omega arith;
-      still = rw (all, c.in_ok-replies.ensures.items) (StillRoom-start g.T.Content.Keyed.key g.Q.Keyed.key g.T.Content.Content.spelling g.Q.AddedTo.adds g.Q.AddedTo.copies g.Q.AddedTo.needs g.Q.AddedTo.in_store (g.T.FormInterner.state c.args.table.now) (g.T.FormInterner.spare_bytes c.args.table.now) c.args.calls.items);
+      still = rw (all, c.in_ok-replies.ensures.items) (StillRoom-start g.T.Content.Keyed.key g.Q.Keyed.key g.T.Content.Content.spelling g.Q.AddedTo.adds g.Q.AddedTo.copies g.Q.AddedTo.needs g.Q.AddedTo.in_store (g.T.BaseInterner.state c.args.table.now) (g.T.BaseInterner.spare_bytes c.args.table.now) c.args.calls.items);
     }
 
 pub loop-call-preserved : goal.loop-call-preserved
@@ -34,8 +34,8 @@ loop-call-preserved g c = record {
   ran = rw c.push_reserved.ensures.items (Adds-push _ _ _ _ _ _ _ _ _ _ _ c.loop-call.invariant.ran (let spent = rw c.loop-call.invariant.same_hash at c.step.ensures.cost in (spent.0, spent.1, (c.step.ensures.step, spent.2, c.step.ensures.valid))));
   growths =
       let so_far = c.loop-call.invariant.growths in
-      let mid = room (g.T.FormInterner.state c.loop-call.table) (g.T.FormInterner.most c.loop-call.table) (g.T.FormInterner.spare_bytes c.loop-call.table) in
-      let next = room (g.T.FormInterner.state c.step.new.table) (g.T.FormInterner.most c.step.new.table) (g.T.FormInterner.spare_bytes c.step.new.table) in (
+      let mid = room (g.T.BaseInterner.state c.loop-call.table) (g.T.BaseInterner.most c.loop-call.table) (g.T.BaseInterner.spare_bytes c.loop-call.table) in
+      let next = room (g.T.BaseInterner.state c.step.new.table) (g.T.BaseInterner.most c.step.new.table) (g.T.BaseInterner.spare_bytes c.step.new.table) in (
         so_far.0 + changes mid.most next.most,
         so_far.1 + changes (bytes_of g.T.Store.Store.takes mid) (bytes_of g.T.Store.Store.takes next),
         rw c.push_reserved.ensures.items
@@ -45,7 +45,7 @@ loop-call-preserved g c = record {
   whole = rw (append_assoc, ← c.in-Some.ensures.steps.0) c.loop-call.invariant.whole;
   room = omega (arith, c.in-Some.ensures.steps);
   bytes = λ keep. omega (arith, c.loop-call.invariant.bytes keep, c.step.ensures.bytes (All-next KeepsRoom _ _ _ _ _ c.loop-call.invariant.whole c.in-Some.ensures.steps.0 keep));
-  still = rw c.push_reserved.ensures.items (StillRoom-push g.T.Content.Keyed.key g.Q.Keyed.key g.T.Content.Content.spelling g.Q.AddedTo.adds g.Q.AddedTo.copies g.Q.AddedTo.needs g.Q.AddedTo.in_store (g.T.FormInterner.state c.args.table.now) (g.T.FormInterner.state c.loop-call.table) (g.T.FormInterner.state c.step.new.table) _ _ _ _ _ _ _ _ _ c.step.result c.loop-call.invariant.whole c.in-Some.ensures.steps.0 c.loop-call.invariant.still c.step.ensures.room c.step.ensures.step);
+  still = rw c.push_reserved.ensures.items (StillRoom-push g.T.Content.Keyed.key g.Q.Keyed.key g.T.Content.Content.spelling g.Q.AddedTo.adds g.Q.AddedTo.copies g.Q.AddedTo.needs g.Q.AddedTo.in_store (g.T.BaseInterner.state c.args.table.now) (g.T.BaseInterner.state c.loop-call.table) (g.T.BaseInterner.state c.step.new.table) _ _ _ _ _ _ _ _ _ c.step.result c.loop-call.invariant.whole c.in-Some.ensures.steps.0 c.loop-call.invariant.still c.step.ensures.room c.step.ensures.step);
 }
 
 pub returns : goal.returns
@@ -56,7 +56,7 @@ returns g c =
     let adds = g.Q.AddedTo.adds in
     let copies = g.Q.AddedTo.copies in
     let one = g.met.Q.AddedTo.adds_one in
-    let hash = g.T.FormInterner.hash c.args.table.now in
+    let hash = g.T.BaseInterner.hash c.args.table.now in
     let steps = Step key value_key spelling adds copies in
     let ran = c.loop-call.invariant.ran in
     let so_far = c.loop-call.invariant.growths in
