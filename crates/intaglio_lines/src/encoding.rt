@@ -51,27 +51,27 @@ where
     ensures err { IfErr result IsInterningOrWritingError }
 {
     let symbols = intern_lines(alloc, &mut table, input)?;
-    let encoding = Encoding {
+    let lines = EncodedLines {
         symbols: &symbols,
         contents: table.store(),
     };
-    write_output(alloc, &encoding, writer)?;
+    write_output(alloc, &lines, writer)?;
     Ok(())
 }
 
 // Each line's symbol, an empty line, and the spelling of each content.
 #[derive(Drop)]
-struct Encoding<'a, L> {
+struct EncodedLines<'a, L> {
     symbols: &'a [Symbol],
     contents: &'a L,
 }
 
-impl<L: SpelledStore> Output for Encoding<'_, L>
+impl<L: SpelledStore> Output for EncodedLines<'_, L>
 where
     L::Content: Content,
 {
-    ghost bytes = { λ encoding. output_of encoding.symbols.now
-        (map L.Content.spelling (L.contents encoding.contents.now)) };
+    ghost bytes = { λ lines. output_of lines.symbols.now
+        (map L.Content.spelling (L.contents lines.contents.now)) };
 
     ghost is_ready = { λ _. Unit {0} };
 
