@@ -37,7 +37,7 @@ names. Below 1 it takes less than the Rust crate. In brackets stand the Rust cra
 
 - ours: the proved table of owned texts; packed: the proved table in one buffer
 - boxes: hashbrown's table of numbers beside a list of boxed strings
-- buffer: hashbrown's table of numbers beside one buffer of text, as the crates `string-interner` and `lasso` have it
+- buffer: hashbrown's table of numbers beside one buffer of text, as `StringBackend` of the crate `string-interner` has it
 - IndexSet: `IndexSet<Box<str>>` of the crate `indexmap`, version 1, which hashes a new borrowed word twice
 - grown: the table begins with no capacity; reserved: it begins with that of all words
 """

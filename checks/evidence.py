@@ -26,7 +26,7 @@ HEAD = """# Evidence
 
 This page is written by `checks/evidence.py` from `checks/evidence.txt` and the sources: change it there.
 
-It names the mutants and the tests that show each promise of [PROMISES.md](PROMISES.md). A mutant is a wrong edit of a
+It names the mutants and the tests that probe each promise of [PROMISES.md](PROMISES.md). A mutant is a wrong edit of a
 function, which the prover must refuse. Its line names the function, the clauses that the edit breaks, and what those
 clauses say. `ensures` is a clause without a name, `invariant` is that of a type, `requires` is one of a function that
 is called, `loop` is the invariant of a loop, and `bounds` are the bounds of an index. A mutant that 'stays' isn't
