@@ -59,18 +59,24 @@ def build_dict(top):
     return top / "crates/intaglio_dict/out/intaglio_dict"
 
 
-def build_twin(top, scratch, upstream, name="twin"):
-    """Lays the Rust crate out in the scratch folder, and builds the twin's program of that name over it."""
+def lay_out(scratch, upstream):
+    """Writes the Rust crate's sources, which are text files in UPSTREAM, as a crate in the scratch folder."""
     crate = scratch / "intaglio"
     shutil.rmtree(crate, ignore_errors=True)
     files = sorted(upstream.glob("src--src--*.rs.txt"))
     if not files:
-        sys.exit(f"bench/run: no sources in {upstream}")
+        sys.exit(f"bench: no sources of the Rust crate in {upstream}")
     for file in files:
         path = crate / file.name.removesuffix(".txt").removeprefix("src--").replace("--", "/")
         path.parent.mkdir(parents=True, exist_ok=True)
         shutil.copyfile(file, path)
     (crate / "Cargo.toml").write_text(MANIFEST)
+    return crate
+
+
+def build_twin(top, scratch, upstream, name="twin"):
+    """Lays the Rust crate out in the scratch folder, and builds the twin's program of that name over it."""
+    lay_out(scratch, upstream)
     twin = scratch / "twin"
     shutil.rmtree(twin / "src", ignore_errors=True)
     shutil.copytree(top / "bench/rust", twin, dirs_exist_ok=True)
