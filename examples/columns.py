@@ -1,9 +1,10 @@
 #!/usr/bin/env python3
-"""Encodes a file of lines in parts side by side, and merges the parts: examples/columns.py FILE [PARTS]
+"""Shows how a file of lines is encoded in parts, and keeps nothing: examples/columns.py FILE [PARTS]
 
 The steps of examples/columns with the Python module: each part gets a dictionary and codes, by a process of its own. The
 dictionaries are merged, the codes of each part are renumbered, again side by side, and what they are decoded to is
-compared with the file. Processes share nothing but files and maps.
+compared with the file. Processes share nothing but files and maps. All parts are encoded at once, so memory must hold what
+each needs. docs/COLUMNS.md has recipes that keep what they write, also for files that are larger than the memory.
 """
 import os
 import sys

@@ -6,6 +6,9 @@ The dictionaries are merged in a tree, on the workers, and the maps go back to t
 them. OUT is a new folder, which all workers see as they see the file. It gets the one dictionary, and for each block its
 codes: `intaglio_dict decode OUT/whole.dict OUT/*.codes` writes the lines of the file. If a worker is lost, Dask runs its
 tasks again, on others.
+
+SCHEDULER is the scheduler's address, such as tcp://HOST:8786. This program and each worker need the module `intaglio`,
+dask, distributed and fsspec. Start workers with --nthreads 1, since a call on a table holds the interpreter's lock.
 """
 import os
 import sys
