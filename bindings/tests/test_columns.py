@@ -314,6 +314,9 @@ class Merging(unittest.TestCase):
         self.assertEqual(
             (table.freeze(keys=(1, 2)), table.freeze(None, keys=(1, 2)), table.freeze()[:8]), (data, data, b"INTAGLIO")
         )
+        drawn = [table.freeze(keys=None) for _ in range(2)]
+        self.assertNotEqual(*drawn)
+        self.assertEqual([list(Frozen.from_bytes(it)) for it in drawn], [list(table)] * 2)
         for given in (data, bytearray(data), memoryview(data), array("B", data)):
             with Frozen.from_bytes(given) as words:
                 self.assertEqual((list(words), words.to_bytes(), words.is_text), (WORDS, data, True))

@@ -406,8 +406,8 @@ def merge(tables, /, out=None, *, keys=(0, 0)):
     codes of the new one.
 
     The tables are in a list or another iterable, and each is a Frozen or a path. The new one is written to the path `out`, as
-    Table.freeze does, or else held in memory. It is of texts if all are. Other threads run meanwhile. Raises what Frozen,
-    Table.absorb and Table.freeze raise.
+    Table.freeze does, or else held in memory. It is of texts if all are. With keys=None random ones are drawn. Other threads run
+    meanwhile. Raises what Frozen, Table.absorb and Table.freeze raise.
 
     >>> one, two = (Frozen.from_bytes(SymbolTable(words).freeze()) for words in (["to", "be"], ["or", "to"]))
     >>> both, maps = merge([one, two])

@@ -656,6 +656,7 @@ static PyObject *freeze(Table *self, const uint64_t keys[2], uint32_t *code, boo
 PyDoc_STRVAR(freeze_doc, "freeze($self, path=None, /, *, keys=(0, 0))\n--\n\n"
 "Writes the strings, each at its symbol, to a file with a frozen table, which Frozen reads; without a path returns its bytes. The keys are those of its hash function,\n"
 "or, if a string gets no place under them, the first is one of the seven after it: the same strings and keys give the same bytes.\n"
+"With keys=None random ones are drawn, for strings that somebody may have chosen.\n"
 "All is written to a new file in the same folder, synced, and renamed: so several processes may freeze to one file. It keeps its mode,\n"
 "a symbolic link is followed, and what is no regular file isn't replaced. The strings of a CStringTable end with a zero there.\n"
 "Raises TooMany, TooLong, NoPlaces, NoMemory, NoTable, OSError.");
