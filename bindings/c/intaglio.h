@@ -66,7 +66,8 @@ extern "C" {
 #endif
 
 /* A handle, which holds a table of any kind or none. Initialize it with INTAGLIO_TABLE_NONE, or with zeros: then it holds none. The
- * fields are private. The struct may be moved. Of two copies only one may be used once a call has changed the table. */
+ * fields are private. The struct may be moved. If it is copied and the table is then changed through one of the two, the other must never
+ * be used again. */
 typedef struct {
     bool live;
     void *ptr;
