@@ -3,13 +3,13 @@
  * A symbol table assigns each distinct string a number, its symbol, and returns the string of a symbol. Symbols count up from
  * 0. There are eight kinds of tables with the same functions:
  *
- *   intaglio_text          UTF-8 texts
+ *   intaglio_text          UTF-8 strings
  *   intaglio_bytes         bytes
  *   intaglio_cstr          C strings: bytes whose only zero is the last one, which is included in the length
- *   intaglio_path          paths: UTF-8 texts that are equal if their components are, as "a//b" and "a/./b"
- *   intaglio_osstr         platform strings: UTF-8 texts
+ *   intaglio_path          paths: UTF-8 strings that are equal if their components are, as "a//b" and "a/./b"
+ *   intaglio_osstr         OS strings: UTF-8 here
  *   intaglio_bstr          byte strings: bytes that are text by convention
- *   intaglio_packed_text   UTF-8 texts in one buffer
+ *   intaglio_packed_text   UTF-8 strings in one buffer
  *   intaglio_packed_bytes  bytes in one buffer
  *
  * A packed table takes less memory, but the pointer of its get is valid only until the next call that interns or shrinks.
@@ -82,7 +82,7 @@ typedef struct {
     size_t len;
 } intaglio_spelling;
 
-/* What the dictionary of a column is: whether its strings are texts, how many there are, and two hashes of them. The library writes it,
+/* What the dictionary of a column is: whether its strings are UTF-8, how many there are, and two hashes of them. The library writes it,
  * and no field may be changed. */
 typedef struct {
     bool is_text;
@@ -114,7 +114,7 @@ enum {
     INTAGLIO_NO_MEMORY = 3,      /* malloc or realloc returned null */
     INTAGLIO_TOO_LARGE = 4,      /* a capacity above 2^32 or the limit, or a limit of 0 or above 2^32 */
     INTAGLIO_STALE = 5,          /* the table has fewer strings than the mark counts */
-    INTAGLIO_NOT_UTF8 = 6,       /* text, path, osstr, packed_text, a frozen table of texts: the bytes aren't UTF-8 */
+    INTAGLIO_NOT_UTF8 = 6,       /* text, path, osstr, packed_text, a frozen table of UTF-8 strings: the bytes aren't UTF-8 */
     INTAGLIO_INNER_ZERO = 7,     /* cstr: a zero byte before the last byte */
     INTAGLIO_MISSING_ZERO = 8,   /* cstr: no zero byte at all */
     INTAGLIO_BAD_ENDS = 9,       /* the ends of a batch decrease or exceed its bytes, or its arrays differ in length */
@@ -271,7 +271,7 @@ bool intaglio_frozen_get(const uint8_t *bytes, size_t len, uint32_t symbol, inta
 size_t intaglio_frozen_len(const uint8_t *bytes, size_t len);
 
 /* Freezes a table: stores the number of bytes in *len, and copies them to the start of the buffer if it has space for all of them. The
- * strings are those of the table, with their symbols; a C string keeps its zero. They are texts if the kind is text, path, osstr or
+ * strings are those of the table, with their symbols; a C string keeps its zero. They are UTF-8 if the kind is text, path, osstr or
  * packed_text. The keys are those of the hash function in the frozen table; if a string gets no place under them, key0 is one of the seven
  * numbers after it. The same strings under the same keys give the same bytes. NO_PLACES: other keys may serve, but strings can be chosen so
  * that known keys don't. Errors: NO_TABLE; NO_SPACE, with *len; TOO_MANY, TOO_LONG, NO_PLACES, NO_MEMORY, NOT_UTF8, EQUAL. But for NO_SPACE
@@ -296,7 +296,7 @@ static inline size_t intaglio_frozen_size(const intaglio_table *table) {
     return size;
 }
 
-/* Returns whether the strings are texts, which frozen_check has found to be UTF-8, or false if the header is invalid. */
+/* Returns whether the table is one of UTF-8 strings, which frozen_check has then found them to be, or false if the header is invalid. */
 bool intaglio_frozen_is_text(const uint8_t *bytes, size_t len);
 
 /* A column is a list of codes in one block of bytes, such as a mapped file, that says which dictionary they belong to: docs/COLUMN-FILES.md has

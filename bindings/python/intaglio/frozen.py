@@ -109,7 +109,7 @@ class Frozen(Sequence):
 
     Frozen(path, *, trusted=False, kind=None)
 
-    kind: `str` or `bytes`, what the strings are. By default they are `str` if the file says that they are texts, and else
+    kind: `str` or `bytes`, what the strings are. By default they are `str` if the file says that they are UTF-8, and else
     `bytes`. A file of bytes is opened as `str` if all are UTF-8.
 
     trusted: the file is known to be whole, and only its header is checked, so that opening takes the same time for each file.
@@ -207,7 +207,7 @@ class Frozen(Sequence):
 
     def encode_lines(self, lines, /, *, missing=None):
         """The codes of the lines of a buffer, as an array('I'). No object is made of a line. A line ends before b"\\n", and the
-        last one needs none; of a table of texts they are UTF-8. The buffer must not change meanwhile. `missing` is as in encode.
+        last one needs none; those of a table of str are UTF-8. The buffer must not change meanwhile. `missing` is as in encode.
         Raises what encode raises.
 
         >>> words = Frozen.from_bytes(SymbolTable(["to", "be"]).freeze())
@@ -221,7 +221,7 @@ class Frozen(Sequence):
         int32.
 
         `missing` is what the list has for the code MISSING. Raises NoSymbol, an IndexError, with the position of the first code
-        that is no symbol, and UnicodeDecodeError if the file is trusted, of texts, and damaged.
+        that is no symbol, and UnicodeDecodeError if the file is trusted, of str, and damaged.
 
         >>> words = Frozen.from_bytes(SymbolTable(["to", "be"]).freeze())
         >>> words.decode(words.encode(["be", "or"], missing=MISSING), missing=None)
@@ -240,7 +240,7 @@ class Frozen(Sequence):
         replace(path, column_bytes(self._identity(), codes))
 
     def get(self, symbol, default=None, /):
-        """The string of a symbol, or the default if there is none. Raises UnicodeDecodeError if the file is trusted, of texts,
+        """The string of a symbol, or the default if there is none. Raises UnicodeDecodeError if the file is trusted, of str,
         and damaged."""
         string = frozen_get(self._data, self._is_text, symbol)
         return default if string is None else string
@@ -320,7 +320,7 @@ class Frozen(Sequence):
     def _attributes(self):
         return {name: value for name, value in self.__dict__.items() if name not in OWN}
 
-    # What the table is to columns: its strings and whether the file says that they are texts. All strings are read once.
+    # What the table is to columns: its strings and whether the file says that they are UTF-8. All strings are read once.
     def _identity(self):
         if self._id is None:
             self._id = frozen_id(self._data)
@@ -389,7 +389,7 @@ def opened(table, position, trusted):
 
 
 def is_text_at(position, table):
-    """Whether a frozen table, or that of a path, is of texts."""
+    """Whether a frozen table, or that of a path, is of UTF-8 strings."""
     with opened(table, position, True) as frozen:
         return frozen.is_text
 
@@ -406,8 +406,8 @@ def merge(tables, /, out=None, *, keys=(0, 0)):
     codes of the new one.
 
     The tables are in a list or another iterable, and each is a Frozen or a path. The new one is written to the path `out`, as
-    Table.freeze does, or else held in memory. It is of texts if all are. With keys=None random ones are drawn. Other threads run
-    meanwhile. Raises what Frozen, Table.absorb and Table.freeze raise.
+    Table.freeze does, or else held in memory. It is of UTF-8 strings if all are. With keys=None random ones are drawn. Other
+    threads run meanwhile. Raises what Frozen, Table.absorb and Table.freeze raise.
 
     >>> one, two = (Frozen.from_bytes(SymbolTable(words).freeze()) for words in (["to", "be"], ["or", "to"]))
     >>> both, maps = merge([one, two])

@@ -27,7 +27,7 @@ static const char *advice_on(bool is_text, PyObject *object) {
     return PyUnicode_Check(object) ? ADVICE_ON_BYTES : "";
 }
 
-/* Reads the arguments of a function: the bytes, whether they are of texts, and so many others. */
+/* Reads the arguments of a function: the bytes, whether they are of UTF-8 strings, and so many others. */
 static int open_frozen(PyObject *const *args, Py_ssize_t count, Py_ssize_t wanted, Py_buffer *view, bool *is_text) {
     if (count != wanted) return PyErr_Format(PyExc_TypeError, "takes %zd arguments (%zd given)", wanted, count), -1;
     int truth = PyObject_IsTrue(args[1]);
@@ -95,7 +95,7 @@ static PyObject *frozen_len(PyObject *Py_UNUSED(module), PyObject *data) {
     return PyLong_FromSize_t(len);
 }
 
-PyDoc_STRVAR(frozen_is_text_doc, "frozen_is_text(data, /)\n--\n\nWhether the header says that the strings are texts.");
+PyDoc_STRVAR(frozen_is_text_doc, "frozen_is_text(data, /)\n--\n\nWhether the header says that the strings are UTF-8.");
 static PyObject *frozen_is_text(PyObject *Py_UNUSED(module), PyObject *data) {
     Py_buffer view;
     if (borrow_frozen(data, &view) < 0) return NULL;

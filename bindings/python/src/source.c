@@ -88,7 +88,7 @@ int own_list(Source *source, PyObject *contents) {
     return 0;
 }
 
-/* The items of an array of another type, such as one of texts of a fixed width, become objects all at once. */
+/* The items of an array of another type, such as one of str of a fixed width, become objects all at once. */
 static int open_array(Source *source, PyObject *array) {
     PyObject *list;
     int is_borrowed = borrow_objects(source, array);

@@ -423,7 +423,7 @@ static PyObject *table_intern_into(Table *self, PyObject *args, PyObject *named)
 
 PyDoc_STRVAR(intern_lines_doc, "intern_lines($self, lines, /)\n--\n\n"
 "Interns all lines of a buffer or none, and returns their codes as an array('I'). No object is made of a line. A line ends before b\"\\n\",\n"
-"and the last one needs none; of a table of texts they are UTF-8. The buffer must not change meanwhile. Raises what intern raises, with the\n"
+"and the last one needs none; those of a table of str are UTF-8. The buffer must not change meanwhile. Raises what intern raises, with the\n"
 "position of the line. encode_lines is the same.\n\n"
 ">>> SymbolTable().intern_lines(b\"b\\na\\nb\\n\")\n"
 "array('I', [0, 1, 0])");
@@ -960,12 +960,12 @@ static PyType_Spec base = {"intaglio.Table", sizeof(Table), 0, Py_TPFLAGS_DEFAUL
     static PyObject *new_##NAME(PyTypeObject *type, PyObject *Py_UNUSED(args), PyObject *Py_UNUSED(named)) { return new_table(type, NUMBER); } \
     static PyType_Slot slots_of_##NAME[] = {{Py_tp_doc, (void *)(CLASS SIGNATURE DOC "\n\nhelp(intaglio.Table) describes the arguments.")}, {Py_tp_new, new_##NAME}, {0, NULL}}; \
     static PyType_Spec spec_of_##NAME = {"intaglio." CLASS, sizeof(Table), 0, Py_TPFLAGS_DEFAULT | Py_TPFLAGS_BASETYPE | Py_TPFLAGS_SEQUENCE, slots_of_##NAME};
-/* Strings are copied into a table and out of it, so the texts and the bytes are in one buffer each. */
-KIND(text, INTAGLIO_PACKED_TEXT, "SymbolTable", "A table of texts.")
+/* Strings are copied into a table and out of it, so strings and bytes are in one buffer each. */
+KIND(text, INTAGLIO_PACKED_TEXT, "SymbolTable", "A table of strings.")
 KIND(bytes, INTAGLIO_PACKED_BYTES, "BytesTable", "A table of bytes.")
 KIND(cstr, INTAGLIO_CSTR, "CStringTable", "A table of bytes without a zero, which the library holds as C strings. Raises InnerZero.")
 KIND(path, INTAGLIO_PATH, "PathTable", "A table of paths, which are equal if their components are, as \"a//b\" and \"a/./b\".")
-KIND(osstr, INTAGLIO_OSSTR, "OsStringTable", "A table of platform strings that are texts.")
+KIND(osstr, INTAGLIO_OSSTR, "OsStringTable", "A table of OS strings, which are UTF-8.")
 KIND(bstr, INTAGLIO_BSTR, "ByteStringTable", "A table of bytes that are text by convention.")
 
 static PyMethodDef functions[] = {

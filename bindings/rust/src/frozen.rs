@@ -120,7 +120,7 @@ pub enum AbsorbError {
     Full,
     /// Out of memory.
     NoMemory,
-    /// A string isn't UTF-8, and the table is one of texts or of paths.
+    /// A string isn't UTF-8, and the table is one of UTF-8 strings or of paths.
     NotUtf8,
     /// A string isn't a C string with its zero, and the table is one of C strings.
     NotCString,
@@ -216,7 +216,7 @@ impl<'a> Frozen<'a> {
         self.len() == 0
     }
 
-    /// Whether the strings are texts. [`open`](Frozen::open) has then found them to be UTF-8.
+    /// Whether the table is one of UTF-8 strings, which [`open`](Frozen::open) has then found them to be.
     #[must_use]
     pub fn is_text(&self) -> bool {
         self.raw.is_text()

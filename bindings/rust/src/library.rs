@@ -111,7 +111,7 @@ pub trait Kind: sealed::Sealed {
     }
 }
 
-/// UTF-8 texts.
+/// UTF-8 strings.
 #[derive(Debug)]
 pub enum Text {}
 
@@ -127,7 +127,7 @@ impl Kind for Text {
     }
 
     unsafe fn content(bytes: &[u8]) -> &str {
-        // SAFETY: A table of texts accepts only UTF-8, which is proved. That `get` returns the bytes that were accepted is
+        // SAFETY: A table of strings accepts only UTF-8, which is proved. That `get` returns the bytes that were accepted is
         // tested.
         unsafe { core::str::from_utf8_unchecked(bytes) }
     }
@@ -237,7 +237,7 @@ impl Kind for Path {
     }
 }
 
-/// Platform strings. They are bytes to the library, so that those that aren't UTF-8 can be interned too.
+/// OS strings. They are bytes to the library, so that those that aren't UTF-8 can be interned too.
 #[derive(Debug)]
 pub enum Osstr {}
 
@@ -257,7 +257,7 @@ impl Kind for Osstr {
     }
 }
 
-/// UTF-8 texts in one buffer.
+/// UTF-8 strings in one buffer.
 #[derive(Debug)]
 pub enum PackedText {}
 
