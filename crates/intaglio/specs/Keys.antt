@@ -14,7 +14,7 @@ use Rattle.intaglio.specs.Types.{StrContent, OsStrContent, BytesContent, BStrCon
 abbrev pub str_key : StrContent → Key
 str_key content = str_content_bytes content ∷ []
 
--- a platform string's bytes
+-- an OS string's bytes
 abbrev pub os_str_key : OsStrContent → Key
 os_str_key content = os_str_content_bytes content ∷ []
 

@@ -1,7 +1,7 @@
 //! Symbol tables: each distinct string gets a small stable number, and the number gives the string back.
 //!
 //! [`SymbolTable`] interns texts. The modules [`bytes`], [`bstr`], [`cstr`], [`osstr`] and [`path`] have
-//! a table each, for bytes, byte strings, C strings, platform strings and paths. Each is a [`Table`] of
+//! a table each, for bytes, byte strings, C strings, OS strings and paths. Each is a [`Table`] of
 //! one kind of content. [`packed`] has tables in one buffer, of each kind but C strings. It is proved that a
 //! table behaves as a plain list of distinct contents, whose symbols are their positions.
 #![tactic(auto)]

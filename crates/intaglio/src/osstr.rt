@@ -1,20 +1,20 @@
-//! The table of platform strings, which are UTF-8 texts here.
+//! The table of OS strings, which are UTF-8 here.
 use crate::{Forms, Pairs, Table};
 pub use intaglio_symbol::AllSymbols;
 pub use intaglio_text::osstr::OsStrContent;
 use std::hash::{BuildHasherDefault, FoldHasher};
 
-/// The platform strings of a table, in the order of their symbols.
+/// The OS strings of a table, in the order of their symbols.
 pub type OsStrings<'a> = Forms<'a, Vec<OsStrContent>>;
 
-/// The symbols and platform strings of a table, in order.
+/// The symbols and OS strings of a table, in order.
 pub type Iter<'a> = Pairs<'a, Vec<OsStrContent>>;
 
-/// A table of distinct platform strings, each with a [`Symbol`](crate::Symbol).
+/// A table of distinct OS strings, each with a [`Symbol`](crate::Symbol).
 /// Its calls are those of [`Table`].
 ///
-/// A platform string is a UTF-8 text here. It is stored as a `&'static str` or a `String`, and looked up by a
-/// `&str`. Platform strings are equal if their bytes are.
+/// An OS string is UTF-8 here. It is stored as a `&'static str` or a `String`, and looked up by a
+/// `&str`. OS strings are equal if their bytes are.
 ///
 /// ```
 /// # use intaglio::osstr::{OsStrContent, SymbolTable};

@@ -1,4 +1,4 @@
-//! The tables of texts, bytes, C strings, paths, platform strings and byte strings for C, and packed tables of texts
+//! The tables of texts, bytes, C strings, paths, OS strings and byte strings for C, and packed tables of texts
 //! and of bytes.
 //!
 //! C sees bytes. It holds a [`Handle`], which owns an [`AnyTable`]: one of three stores, with what its strings are.

@@ -11,7 +11,7 @@ use intaglio_content::Content;
 use std::hash::BuildHasher;
 
 /// A look-up in a table finds what a look-up in the list of its spellings finds, which is what a frozen table is,
-/// if a content's key is its spelling: for texts, bytes, byte strings and platform strings.
+/// if a content's key is its spelling: for texts, bytes, byte strings and OS strings.
 ///
 /// The function does nothing: where a proof needs the law, the code calls it there.
 ///

@@ -13,7 +13,7 @@ pub enum Kind {
     BStr,
     /// C strings.
     CStr,
-    /// Platform strings.
+    /// OS strings.
     OsStr,
     /// Paths, compared by their components.
     Path,

@@ -17,20 +17,20 @@ pub struct Utf8<M> {
 /// The marker of texts.
 pub struct AsText;
 
-/// The marker of platform strings.
+/// The marker of OS strings.
 pub struct AsOsStr;
 
 /// The kind of texts.
 pub type StrKind = Utf8<AsText>;
 
-/// The kind of platform strings.
+/// The kind of OS strings.
 pub type OsStrKind = Utf8<AsOsStr>;
 
 /// A text that a table stores: a `&'static str` or a `String`. Its spelling is its UTF-8 bytes, and its key is
 /// that one item.
 pub type StrContent = ContentOf<StrKind>;
 
-/// A platform string that a table stores: a `&'static str` or a `String`.
+/// An OS string that a table stores: a `&'static str` or a `String`.
 pub type OsStrContent = ContentOf<OsStrKind>;
 
 impl<M> Kind for Utf8<M> {

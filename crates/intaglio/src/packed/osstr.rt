@@ -1,16 +1,16 @@
-//! The table of platform strings, which are UTF-8 texts here, in one buffer.
+//! The table of OS strings, which are UTF-8 here, in one buffer.
 use super::Packed;
 use crate::{Forms, Pairs, TableOver};
 use intaglio_hash::FixedState;
 pub use intaglio_text::osstr::OsStrKind;
 
-/// The platform strings of a table, in the order of their symbols.
+/// The OS strings of a table, in the order of their symbols.
 pub type OsStrings<'a> = Forms<'a, Packed<OsStrKind>>;
 
-/// The symbols and platform strings of a table, in order.
+/// The symbols and OS strings of a table, in order.
 pub type Iter<'a> = Pairs<'a, Packed<OsStrKind>>;
 
-/// A table of distinct platform strings in one buffer, each with a [`Symbol`](crate::Symbol).
+/// A table of distinct OS strings in one buffer, each with a [`Symbol`](crate::Symbol).
 /// Its calls are those of [`TableOver`].
 ///
 /// ```

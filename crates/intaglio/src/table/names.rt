@@ -68,7 +68,7 @@ impl<'a, L: Lends<'a>, S: BuildHasher> TableOver<L, S>
 where
     L::Content: Content + OfKind<Kind = OsStrKind>,
 {
-    /// All platform strings, in the order of their symbols.
+    /// All OS strings, in the order of their symbols.
     pub fn os_strings(&'a self) -> Forms<'a, L>
         ensures all { result ≡ map L.Content.spelling self.now.state.contents }
         ensures bound { length result ≤ 2 ^ 32 }
