@@ -1,6 +1,7 @@
 -- Strings between ends.
 use Rattle.std.proofs.Common.{sym, ◌≡◌, ℕ, ◌+◌, ◌-◌, ◌<◌, ◌≤◌, suc, zero, List, [], ◌∷◌, ◌++◌, length, take, drop, get_or, slice_get, slice_range, Some, refl, ap, ◌∙◌, arith, length-drop, take_all, length-take-le, sum_by}
-use Rattle.std.proofs.lemmas.List.{drop_all, take-append-le, drop-append-le, drop-take, take-take}
+use Rattle.std.specs.List.{concat}
+use Rattle.std.proofs.lemmas.List.{drop_all, drop-drop, take-append-drop, take-append-le, drop-append-le, drop-take, take-take}
 use Rattle.std.proofs.lemmas.List.Sums.{sum_by-cons}
 use Rattle.intaglio_packed.specs.Strings.{strings_from, AreEnds}
 
@@ -101,3 +102,10 @@ byte_room-is capacity bytes es h within = omega (arith, sum-lengths 0 bytes es h
 pub no_bytes : (all : ℕ) (es : List ℕ) → AreEnds 0 all es → length es ≡ 0 → all ≡ 0
 no_bytes all [] h none = sym h
 no_bytes all (e ∷ es) h none = absurd (omega (arith, none))
+
+-- all strings, one behind the other, are the bytes from the beginning on
+pub concat-strings : (at : ℕ) (bytes es : List ℕ) → AreEnds at (length bytes) es → concat (strings_from at bytes es) ≡ drop at bytes
+concat-strings at bytes [] h = sym (drop_all at bytes (omega (arith, h)))
+concat-strings at bytes (e ∷ es) h =
+    let rest : drop (e - at) (drop at bytes) ≡ drop e bytes = drop-drop (e - at) at bytes ∙ ap (λ n. drop n bytes) (omega (arith, h.0)) in
+    ap (λ xs. slice_range bytes at e ++ xs) (concat-strings e bytes es h.1 ∙ sym rest) ∙ take-append-drop (e - at) (drop at bytes)

@@ -1,6 +1,7 @@
 //! A list of strings in one buffer of bytes, with a list of their ends.
 ghost use Rattle.std.specs.Prelude.{◌≡◌, ◌+◌, ◌<◌, ◌≤◌, [], ◌∷◌, ◌++◌, length, max, min, sum_by, take, slice_get, slice_range, get_or, Some};
 ghost use Rattle.std.specs.Prelude.{IfOk, IsOk, OnOk, OnErr, option_copied};
+ghost use Rattle.std.specs.List.{concat};
 ghost use Rattle.intaglio_packed.specs.Growth.{Doubles, DoublesBytes};
 ghost use Rattle.intaglio_packed.specs.Strings.{byte_count_of, byte_room_of, HasRoom};
 
@@ -111,6 +112,13 @@ impl StringBuffer {
         self.bytes.len()
     }
 
+    /// How many bytes there is room for in total.
+    pub fn byte_room(&self) -> usize
+        ensures { result ≡ byte_room_of self.now }
+    {
+        self.room
+    }
+
     /// For how many bytes it holds memory: at least those of all strings and the spare ones.
     pub fn held_bytes(&self) -> usize
         ensures { result ≡ self.now.held_bytes }
@@ -139,6 +147,14 @@ impl StringBuffer {
         let end = self.ends.end(i);
         let start = self.ends.start(i);
         part(&self.bytes, start, end)
+    }
+
+    /// The bytes of all strings, one string behind the other.
+    #[inline(always)]
+    pub fn bytes(&self) -> &[u8]
+        ensures { result.now ≡ concat self.now.list }
+    {
+        &self.bytes
     }
 
     /// Makes room for this many more bytes. If the buffer has to grow, its room at least doubles.
@@ -218,6 +234,20 @@ impl StringBuffer {
         ensures byte_room { byte_room_of self.new ≡ byte_room_of self.old }
     {
         self.bytes.extend_from_slice(string).unwrap();
+        self.ends.push_reserved(self.bytes.len());
+    }
+
+    /// Adds a string that comes in two parts, for which there is room.
+    #[inline(always)]
+    pub fn push_parts(&mut self, front: &[u8], rest: &[u8])
+        requires { HasRoom (length front.now + length rest.now) self.old }
+        ensures list { self.new.list ≡ self.old.list ++ (front.now ++ rest.now) ∷ [] }
+        ensures most { self.new.most ≡ self.old.most }
+        ensures spare_bytes { self.old.spare_bytes ≡ self.new.spare_bytes + (length front.now + length rest.now) }
+        ensures byte_room { byte_room_of self.new ≡ byte_room_of self.old }
+    {
+        self.bytes.extend_from_slice(front).unwrap();
+        self.bytes.extend_from_slice(rest).unwrap();
         self.ends.push_reserved(self.bytes.len());
     }
 

@@ -2,12 +2,13 @@
 use Rattle.std.proofs.Common.{◌≡◌, ◌≢◌, ℕ, zero, suc, ◌+◌, ◌<◌, ◌≤◌, ◌==◌, List, [], ◌∷◌, ◌++◌, length, get_or, cond, refl, sym, subst, ap, ◌∙◌, arith, inl, inr}
 use Rattle.std.specs.Int.{bit_at}
 use Rattle.std.proofs.lemmas.Bool.{cases_eq, cases_lt, cond-true, cond-false, ne_eqb}
+use Rattle.std.proofs.lemmas.Nat.Bits.{bit_at-lt}
 use Rattle.std.proofs.lemmas.Bool.Decides.{eqb_tells}
 use Rattle.intaglio_slots.specs.declared.line.Line.{Line}
 use Rattle.intaglio_slots.specs.Line.{Entry, tag_of, AreIn, IsLine}
 use Rattle.intaglio_slots.specs.Chains.{Overflow, newest, no_line, AreBehind}
 use Rattle.intaglio_slots.specs.declared.search.Candidates.{Candidates}
-use Rattle.intaglio_slots.specs.Search.{slots_with, overflow_slots, picked, IsLeft}
+use Rattle.intaglio_slots.specs.Search.{slots_with, overflow_slots, picked, bits_below, IsLeft}
 
 -- no bit is set
 pub picked-none : (bits : ℕ) (slots : List ℕ) (n : ℕ) → ((i : ℕ) → i < n → bit_at bits i ≡ 0) → picked bits slots n ≡ []
@@ -90,3 +91,26 @@ next-inside search left is more =
     let some : 0 < newest is.base is.class is.behind = omega (arith, is.next, more) in
     let there = next-line is.base is.class search.tag search.lines.now is.behind is.lines some in
     omega (arith, is.next, there.6, there.5, is.size (omega (arith, there.5)))
+
+-- at most n of n bits are set
+pub bits-few : (bits n : ℕ) → bits_below bits n ≤ n
+bits-few bits zero = omega arith
+bits-few bits (suc n) = omega (arith, bits-few bits n, bit_at-lt bits n)
+
+bits-same : (bits fewer n : ℕ) → ((i : ℕ) → i < n → bit_at fewer i ≡ bit_at bits i) → bits_below fewer n ≡ bits_below bits n
+bits-same bits fewer zero same = refl
+bits-same bits fewer (suc n) same = omega (arith, bits-same bits fewer n (λ i l. same i (omega (arith, l))), same n (omega arith))
+
+-- fewer are set once one of them is cleared
+pub bits-fewer : (bits fewer p n : ℕ) → p < n → bit_at bits p ≡ 1 → bit_at fewer p ≡ 0
+    → ((i : ℕ) → i < n → i ≢ p → bit_at fewer i ≡ bit_at bits i) → bits_below fewer n < bits_below bits n
+bits-fewer bits fewer p zero lt here gone others = absurd (omega (arith, lt))
+bits-fewer bits fewer p (suc n) lt here gone others = elim (cases_eq n p) [
+  | inl last ↦
+      (let here' : bit_at bits n ≡ 1 = subst (λ k. bit_at bits k ≡ 1) (sym last) here in
+      let gone' : bit_at fewer n ≡ 0 = subst (λ k. bit_at fewer k ≡ 0) (sym last) gone in
+      omega (arith, here', gone', bits-same bits fewer n (λ i l. others i (omega (arith, l)) (λ at. absurd (omega (arith, l, at, last))))))
+  | inr other ↦
+      (let low : p < n = omega (arith, lt, other) in
+      omega (arith, others n (omega arith) other, bits-fewer bits fewer p n low here gone (λ i l. others i (omega (arith, l)))))
+]

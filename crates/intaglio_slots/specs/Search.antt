@@ -1,5 +1,5 @@
 -- What a search by a hash finds: the slots of the entries that may have it.
-use Rattle.std.specs.Prelude.{◌≡◌, ℕ, zero, suc, ◌+◌, ◌%◌, ◌<◌, ◌≤◌, ◌==◌, ◌&&◌, List, [], ◌∷◌, ◌++◌, cond, length, get_or, Option, MatchOption}
+use Rattle.std.specs.Prelude.{◌≡◌, ℕ, zero, suc, ◌+◌, ◌*◌, ◌%◌, ◌<◌, ◌≤◌, ◌==◌, ◌&&◌, List, [], ◌∷◌, ◌++◌, cond, length, get_or, Option, MatchOption}
 use Rattle.std.specs.Int.{bit_at}
 use Rattle.std.specs.List.Sorted.{IsPermutation}
 use Rattle.intaglio_slots.specs.declared.lines.Lines.{Lines}
@@ -80,3 +80,12 @@ abbrev pub GivesNext : Candidates → Option ℕ → Candidates → Type 0
 GivesNext old result new =
     (left : List ℕ) → IsLeft old left →
     MatchOption result (left ≡ []) (λ slot. (rest : List ℕ) × (left ≡ slot ∷ rest) × IsLeft new rest)
+
+-- how many of the first n bits are set
+abbrev pub bits_below : ℕ → ℕ → ℕ
+bits_below bits zero = 0
+bits_below bits (suc n) = bits_below bits n + bit_at bits n
+
+-- no more slots than this are left: it falls with each one that a search gives, so a loop over them ends
+unfoldable pub most_left : Candidates → ℕ
+most_left search = 12 * search.next + bits_below search.equal 11

@@ -1,6 +1,6 @@
 //! Searches by a hash.
-ghost use Rattle.std.specs.Prelude.{◌≡◌, ◌≢◌, ◌<◌};
-ghost use Rattle.intaglio_slots.specs.Search.{IsSearch, LeavesAll, GivesNext};
+ghost use Rattle.std.specs.Prelude.{◌≡◌, ◌≢◌, ◌<◌, IfSome};
+ghost use Rattle.intaglio_slots.specs.Search.{IsSearch, LeavesAll, GivesNext, most_left};
 
 use crate::line::Line;
 
@@ -21,7 +21,8 @@ impl<'a> Candidates<'a> {
     #[inline(always)]
     pub fn next(&mut self) -> Option<u32>
         requires { IsSearch self.old }
-        ensures { GivesNext self.old result self.new }
+        ensures gives { GivesNext self.old result self.new }
+        ensures fewer { IfSome result (λ _. most_left self.new < most_left self.old) }
     {
         while self.equal == 0 {
             if self.next == 0 {

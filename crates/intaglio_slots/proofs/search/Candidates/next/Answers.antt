@@ -3,12 +3,12 @@ use Rattle.std.specs.Int.{bit_at, trailing_zeros}
 use Rattle.std.proofs.lemmas.Bool.{cases_eq}
 use Rattle.std.proofs.lemmas.Nat.Bits.{bit_at-zero, bit_at-trailing_zeros, bit_at_clear_same, bit_at_clear_other}
 use Rattle.intaglio_slots.specs.Chains.{no_line}
-use Rattle.intaglio_slots.specs.Search.{overflow_slots, picked}
-use Rattle.intaglio_slots.proofs.Searching.{picked-none, picked-first, overflow-none}
+use Rattle.intaglio_slots.specs.Search.{overflow_slots, picked, most_left}
+use Rattle.intaglio_slots.proofs.Searching.{picked-none, picked-first, overflow-none, bits-few, bits-fewer}
 use Rattle.intaglio_slots.proofs.search.Candidates.next.Goals as goal
 
-pub returns-then-self-eq0 : goal.returns-then-self-eq0
-returns-then-self-eq0 c left was =
+pub returns-then-self-eq0-clause-gives : goal.returns-then-self-eq0-clause-gives
+returns-then-self-eq0-clause-gives c left was =
     let s = c.loop-self.self in
     let is = c.loop-self.invariant.left left was in
     let old = picked-none s.equal (get_or s.lines.now s.line no_line).slots is.count (λ i lt. ap (λ n. bit_at n i) c.loop-self-test.true ∙ bit_at-zero i) in
@@ -20,8 +20,8 @@ slot-requires c =
     let low = bit_at-trailing_zeros w64 c.loop-self.self.equal (omega (arith, c.loop-self-test.false)) (omega arith) in
     omega (arith, is.bits (trailing_zeros w64 c.loop-self.self.equal) low.0 low.1, is.few)
 
-pub returns : goal.returns
-returns c left was =
+pub returns-clause-gives : goal.returns-clause-gives
+returns-clause-gives c left was =
     let s = c.loop-self.self in
     let is = c.loop-self.invariant.left left was in
     let some : 0 < s.equal = omega (arith, c.loop-self-test.false) in
@@ -54,3 +54,24 @@ returns c left was =
         left_is = refl;
       },
     )
+
+pub loop-self-preserved : goal.loop-self-preserved
+unfolding most_left
+loop-self-preserved c =
+    let old = c.loop-self.invariant in
+    record {
+      search = (old.search.0, c.advance.ensures.left old.search.0 old.search.1);
+      left = λ left is. c.advance.ensures.left left (old.left left is);
+      fewer = omega (arith, old.fewer, c.advance.ensures.older, bits-few c.advance.new.self.equal 11);
+    }
+
+pub returns-clause-fewer : goal.returns-clause-fewer
+unfolding most_left
+returns-clause-fewer c =
+    let s = c.loop-self.self in
+    let is = c.loop-self.invariant.search.1 in
+    let p = trailing_zeros w64 s.equal in
+    let low = bit_at-trailing_zeros w64 s.equal (omega (arith, c.loop-self-test.false)) (omega arith) in
+    let gone : bit_at (bit_and s.equal (2 ^ 64 - 1 - 1 * 2 ^ p % 2 ^ 64)) p ≡ 0 = bit_at_clear_same w64 s.equal p low.0 in
+    let fewer = bits-fewer s.equal (bit_and s.equal (2 ^ 64 - 1 - 1 * 2 ^ p % 2 ^ 64)) p 11 (omega (arith, is.bits p low.0 low.1, is.few)) low.1 gone (λ i l. bit_at_clear_other w64 s.equal p low.0 i (omega (arith, l))) in
+    omega (arith, fewer, c.loop-self.invariant.fewer)

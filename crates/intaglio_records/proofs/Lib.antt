@@ -1,0 +1,3 @@
+-- Lemmas on records.
+pub mod RecordLemmas
+pub mod EntryLemmas

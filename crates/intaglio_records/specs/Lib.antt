@@ -1,0 +1,4 @@
+-- What the contracts of this crate cite.
+pub mod Header
+pub mod Records
+pub mod Entries
