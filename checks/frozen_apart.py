@@ -14,6 +14,7 @@ import tempfile
 from pathlib import Path
 from typing import Any, NamedTuple
 
+from frozen_columns import column, id_of
 from frozen_tables import freeze
 from programs import run
 
@@ -33,6 +34,7 @@ CONTENTS = {
     "numbers": b"3\n0\n",
     "codes": codes_of([1, 0, 19]),
     "map": codes_of(range(20)),
+    "column": column(id_of(freeze(WORDS)), [1, 0, 19]),
 }
 
 
@@ -48,6 +50,7 @@ class Command(NamedTuple):
 COMMANDS = [
     Command(("freeze",), ("lines",), ("-o!", "--codes")),
     Command(("freeze",), ("lines", "lines"), ("-o!", "--codes"), False),
+    Command(("freeze",), ("lines",), ("-o!", "--column")),
     Command(("find",), ("dict", "lines"), ("stdout",)),
     Command(("find", "--trusted"), ("dict", "lines", "lines"), ("stdout",), False),
     Command(("get",), ("dict", "numbers"), ("stdout",)),
@@ -58,6 +61,12 @@ COMMANDS = [
     Command(("encode",), ("dict", "lines"), ("-o",)),
     Command(("encode",), ("dict", "lines", "lines"), ("-o",), False),
     Command(("decode",), ("dict", "codes"), ("-o",)),
+    Command(("encode",), ("dict", "lines"), ("--column",)),
+    Command(("decode",), ("dict", "column"), ("-o",)),
+    Command(("rows",), ("dict", "column", "numbers"), ("stdout",), False),
+    Command(("count",), ("dict", "column"), ("stdout",), False),
+    Command(("match",), ("dict", "column", "numbers"), ("stdout",), False),
+    Command(("check",), ("dict", "column"), ("stdout",), False),
     Command(("renumber",), ("map", "codes"), ("-o",)),
     Command(("merge",), ("dict", "dict"), ("-o!", "maps", "0.map", "1.map"), False),
 ]
@@ -186,7 +195,7 @@ def words_of(command, room, given):
             words += way.words
         elif output == "maps":
             words += ["--maps", "maps"]
-        elif output in ("-o!", "-o", "--codes"):
+        elif output in ("-o!", "-o", "--codes", "--column"):
             words += [output.rstrip("!"), f"out{number}"]
     for number, what in enumerate(command.inputs):
         way = given.get(("input", number))

@@ -3,7 +3,12 @@ use crate::keeping::Keeping;
 use crate::misfit::{no_number, no_string, no_symbol};
 use crate::run::checked;
 use clap::ArgMatches;
-use intaglio_dict_io::input::{STANDARD, STANDARD_INPUT, first_input, meter_of, name_of};
+use intaglio_column_file::begins_as_column;
+use intaglio_dict_columns::decoding::decode_column;
+use intaglio_dict_columns::opening::Pair;
+use intaglio_dict_columns::rows::missing_text;
+use intaglio_dict_columns::writing::write_column;
+use intaglio_dict_io::input::{STANDARD, STANDARD_INPUT, first_input, meter_of, name_of, rest_of};
 use intaglio_dict_io::metered::{Meter, Metered};
 use intaglio_dict_io::noticing::Noticing;
 use intaglio_dict_io::output::{Content, write_to};
@@ -23,8 +28,9 @@ use std::rt::Files;
 enum Translation<'a, 't> {
     // The code of each line, also of one that isn't in the dictionary if that is asked for.
     Encode(&'a Frozen<'t>, bool),
-    // The line of each code, and this text for a line that wasn't in the dictionary.
-    Decode(&'a Frozen<'t>, Option<&'a [u8]>),
+    // The line of each code, and this text for a line that wasn't in the dictionary. A column is compared with the
+    // name and the bytes of the dictionary.
+    Decode(&'a Frozen<'t>, Option<&'a [u8]>, &'a str, &'a [u8]),
     // The code at each code.
     Renumber(&'a CodeMap<'t>),
 }
@@ -39,7 +45,9 @@ impl Translation<'_, '_> {
     ) -> Result<u64, ColumnError> {
         match self {
             Translation::Encode(table, missing) => encode(alloc, *table, *missing, input, output),
-            Translation::Decode(table, missing) => decode(alloc, *table, *missing, input, output),
+            Translation::Decode(table, missing, _, _) => {
+                decode(alloc, *table, *missing, input, output)
+            }
             Translation::Renumber(map) => renumber(alloc, *map, input, output),
         }
     }
@@ -72,7 +80,7 @@ impl Translation<'_, '_> {
     // Of the code with this number, which has no string, or no other code.
     fn report_code<R: Tell>(&self, rt: &R, name: &str, number: u64, read: &[u8]) -> u8 {
         match self {
-            Translation::Decode(table, text) => no_string(
+            Translation::Decode(table, text, _, _) => no_string(
                 rt,
                 name,
                 number,
@@ -113,7 +121,10 @@ impl Column<'_, '_> {
         name: &str,
         output: &mut Noticing<W>,
     ) -> Result<(), u8> {
-        let input = Metered::open(rt, input_name, self.meter)?;
+        let mut input = Metered::open(rt, input_name, self.meter)?;
+        if self.is_column(&mut input, input_name)? {
+            return self.add_column(rt, input_name, &mut input, name, output);
+        }
         let mut input = Keeping::new(rt, input, self.translation.has_codes());
         let translated = self.translation.translate(rt.alloc(), &mut input, output);
         self.meter = input.input.meter;
@@ -137,6 +148,47 @@ impl Column<'_, '_> {
     }
 }
 
+impl Column<'_, '_> {
+    // Whether an input is a column that is decoded.
+    fn is_column<R: Files + Input + Tell + AllocGlobal>(
+        &self,
+        input: &mut Metered<'_, R>,
+        name: &str,
+    ) -> Result<bool, u8> {
+        match self.translation {
+            Translation::Decode(_, _, _, _) => {
+                Ok(begins_as_column(input.look_ahead(name_of(name))?))
+            }
+            _ => Ok(false),
+        }
+    }
+
+    // Decodes a column.
+    fn add_column<R: Files + Input + Tell + AllocGlobal, W: Write>(
+        &mut self,
+        rt: &R,
+        input_name: &str,
+        input: &mut Metered<'_, R>,
+        name: &str,
+        output: &mut Noticing<W>,
+    ) -> Result<(), u8> {
+        let Translation::Decode(table, text, dictionary, bytes) = self.translation else {
+            return Err(2);
+        };
+        let file = rest_of(rt, input_name, input)?;
+        self.meter = input.meter;
+        let pair = Pair {
+            dictionary,
+            table: bytes,
+            name: input_name,
+            bytes: &file,
+        };
+        let rows = decode_column(rt, table, pair, text, name, output)?;
+        self.count = self.count.saturating_add(rows);
+        Ok(())
+    }
+}
+
 /// Writes the code of each line of the inputs. Otherwise the exit status after a message.
 pub fn encode_lines<R: Files + RandomSource + Input + Print + Tell + AllocGlobal>(
     rt: &R,
@@ -155,10 +207,38 @@ fn encode_by<R: Files + RandomSource + Input + Print + Tell + AllocGlobal>(
     match checked(rt, name, bytes) {
         Ok(table) => {
             let translation = Translation::Encode(&table, found.get_flag("MISSING"));
-            translate(rt, found, "FILE", translation, "lines encoded")
+            match found.get_str("COLUMN") {
+                Some(output) => encode_column(rt, found, name, bytes, output, translation),
+                None => translate(rt, found, "FILE", translation, "lines encoded"),
+            }
         }
         Err(status) => Err(status),
     }
+}
+
+// Writes the column of the lines of the inputs.
+fn encode_column<R: Files + RandomSource + Input + Print + Tell + AllocGlobal>(
+    rt: &R,
+    found: &ArgMatches<'_>,
+    name: &str,
+    bytes: &[u8],
+    output: &str,
+    translation: Translation<'_, '_>,
+) -> Result<(), u8> {
+    let names = found.get_strs("FILE").unwrap_or(STANDARD_INPUT);
+    let mut column = Column {
+        translation,
+        names,
+        meter: meter_of(rt, names, found.get_flag("PROGRESS")),
+        count: 0,
+    };
+    let mut codes = Noticing::new(Vec::new(rt.alloc()));
+    column.write(rt, output, &mut codes)?;
+    write_column(rt, name, bytes, &codes.stream, output)?;
+    if found.get_flag("VERBOSE") {
+        report::count(rt, column.count, "lines encoded");
+    }
+    Ok(())
 }
 
 /// Writes the line of each code of the inputs. Otherwise the exit status after a message.
@@ -166,10 +246,7 @@ pub fn decode_codes<R: Files + RandomSource + Input + Print + Tell + AllocGlobal
     rt: &R,
     found: &ArgMatches<'_>,
 ) -> Result<(), u8> {
-    let missing = found.get_str("TEXT").map(|text| text.as_bytes());
-    if missing.is_some_and(|text| text.contains(&b'\n')) {
-        return Err(report::line_end(rt));
-    }
+    let missing = missing_text(rt, found)?;
     let (name, bytes) = first_input(rt, found, "DICT")?;
     decode_by(rt, found, name, &bytes, missing)
 }
@@ -183,7 +260,7 @@ fn decode_by<R: Files + RandomSource + Input + Print + Tell + AllocGlobal>(
 ) -> Result<(), u8> {
     match checked(rt, name, bytes) {
         Ok(table) => {
-            let translation = Translation::Decode(&table, missing);
+            let translation = Translation::Decode(&table, missing, name, bytes);
             translate(rt, found, "CODES", translation, "codes decoded")
         }
         Err(status) => Err(status),

@@ -9,7 +9,9 @@ use intaglio_dict_io::output::{Bytes, Content, write_to};
 use intaglio_dict_io::report;
 use intaglio_dict_io::report::Tell;
 use intaglio_dictionary::error::FreezingError;
-use intaglio_dictionary::freezing::{freeze_column, freeze_lines, freeze_lines_with_default_keys};
+use intaglio_dictionary::freezing::{
+    freeze_column, freeze_column_file, freeze_lines, freeze_lines_with_default_keys,
+};
 use intaglio_frozen::{FreezeError, Kind};
 use std::io;
 use std::io::Write;
@@ -22,8 +24,9 @@ struct Freezing<'a, R> {
     kind: Kind,
     keys: Option<(u64, u64)>,
     input: &'a [u8],
-    // The output for the codes of the lines.
+    // The output for the codes of the lines, and whether they are written as a column.
     codes: Option<&'a str>,
+    is_column: bool,
     shown: Shown<'a, R>,
 }
 
@@ -43,7 +46,8 @@ pub fn freeze<R: Files + RandomSource + Input + Print + Tell + AllocGlobal>(
         kind,
         keys,
         input: &input,
-        codes: found.get_str("CODES"),
+        codes: found.get_str("COLUMN").or(found.get_str("CODES")),
+        is_column: found.get_str("COLUMN").is_some(),
         shown: Shown::new(rt, is_shown),
     };
     freeze_to(rt, name, freezing, found.get_flag("VERBOSE"))
@@ -115,7 +119,7 @@ impl<R: Tell> Freezing<'_, R> {
         }
     }
 
-    // Writes the dictionary, and the codes to memory.
+    // Writes the dictionary, and the codes or the column to memory.
     fn write_column<Q: RandomSource + Tell + AllocGlobal, W: Write>(
         &mut self,
         rt: &Q,
@@ -126,7 +130,12 @@ impl<R: Tell> Freezing<'_, R> {
         let builder = random_builder(rt)?;
         let (alloc, kind, keys, input) = (rt.alloc(), self.kind, self.keys, self.input);
         let shown = &mut self.shown;
-        match freeze_column(alloc, kind, keys, builder, input, output, codes, shown) {
+        let written = if self.is_column {
+            freeze_column_file(alloc, kind, keys, builder, input, output, codes, shown)
+        } else {
+            freeze_column(alloc, kind, keys, builder, input, output, codes, shown)
+        };
+        match written {
             Ok(()) => Ok(()),
             Err(_) if codes.error.is_some() => Err(report::out_of_memory(rt)),
             Err(refused) => Err(refusal(rt, name, refused, output.error)),

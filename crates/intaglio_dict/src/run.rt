@@ -4,6 +4,11 @@ use crate::freezing::freeze;
 use crate::look_ups::{find, get};
 use crate::merging::merge_dictionaries;
 use clap::ArgMatches;
+use intaglio_column_file::begins_as_column;
+use intaglio_dict_columns::checking::{LastDictionary, check_column, stat_column};
+use intaglio_dict_columns::counting::count;
+use intaglio_dict_columns::matching::match_rows;
+use intaglio_dict_columns::rows::rows;
 use intaglio_dict_io::command::files_of;
 use intaglio_dict_io::input::{name_of, whole};
 use intaglio_dict_io::metered::Meter;
@@ -61,6 +66,9 @@ fn run_subcommand<R: Files + RandomSource + Input + Print + Tell + AllocGlobal>(
         "decode" => status_of(decode_codes(rt, found)),
         "merge" => status_of(merge_dictionaries(rt, found)),
         "renumber" => status_of(renumber_codes(rt, found)),
+        "rows" => status_of(rows(rt, found)),
+        "count" => status_of(count(rt, found)),
+        "match" => match_rows(rt, found),
         "check" => check(rt, found),
         _ => on_dictionary(rt, name, found),
     }
@@ -73,20 +81,32 @@ fn status_of(done: Result<(), u8>) -> u8 {
     }
 }
 
-// Goes on after a file that is no dictionary.
+// Goes on after a file that is no dictionary, nor a column of the last dictionary before it.
 fn check<R: Files + Input + Tell + AllocGlobal>(rt: &R, found: &ArgMatches<'_>) -> u8 {
     let mut status = 0;
+    let mut last = None;
     if let Some(names) = found.get_strs("DICT") {
         for name in names {
-            status = check_one(rt, name).max(status);
+            status = check_one(rt, name, &mut last).max(status);
         }
     }
     status
 }
 
-fn check_one<R: Files + Input + Tell + AllocGlobal>(rt: &R, name: &str) -> u8 {
+fn check_one<'a, R: Files + Input + Tell + AllocGlobal>(
+    rt: &R,
+    name: &'a str,
+    last: &mut Option<LastDictionary<'a>>,
+) -> u8 {
     match whole(rt, name, &mut Meter::silent()) {
-        Ok(bytes) => status_of(is_dictionary(rt, name, &bytes)),
+        Ok(bytes) if begins_as_column(&bytes) => {
+            status_of(check_column(rt, last.as_ref(), name, &bytes))
+        }
+        Ok(bytes) => {
+            let checked = is_dictionary(rt, name, &bytes);
+            *last = Some(LastDictionary { name, table: bytes });
+            status_of(checked)
+        }
         Err(status) => status,
     }
 }
@@ -114,6 +134,7 @@ fn on_dictionary<R: Files + Input + Print + Tell + AllocGlobal>(
         return 2;
     };
     match whole(rt, name, &mut Meter::silent()) {
+        Ok(bytes) if command == "stat" && begins_as_column(&bytes) => stat_column(rt, name, &bytes),
         Ok(bytes) => on_bytes(rt, command, name, &bytes),
         Err(status) => status,
     }

@@ -6,7 +6,8 @@ use std::alloc::{AllocError, Global};
 const NOTES: &str = "A file that is called - is standard input, or as the output standard output.
 
 The status is 0 if all went well, 1 after an error, 2 after wrong arguments, and 141 if nobody reads the output.
-That of find is 1 if some lines aren't in the dictionary, and 2 after an error.";
+That of find is 1 if some lines aren't in the dictionary, that of match is 1 if no row is selected, and both are 2
+after an error.";
 
 // What an argument takes.
 #[derive(Clone, Copy)]
@@ -17,8 +18,14 @@ enum Takes {
     Value(&'static str),
     // The name of an output, after -o or --output, and whether it is required: otherwise it is standard output.
     Output(bool),
+    // The same, which isn't required, or the value of another argument as the name of the output.
+    OutputOr(&'static str),
     // The name of another output, after this option.
     Written(&'static str),
+    // The same, and no value of another argument with it.
+    WrittenInstead(&'static str, &'static str),
+    // The name of the output, after this option, in place of the value of another argument.
+    OutputInstead(&'static str, &'static str),
     // The name of the folder for a map of each input, after this option.
     Maps(&'static str),
     // The name of an input, by its position.
@@ -27,6 +34,8 @@ enum Takes {
     Many(bool),
     // One or more numbers, by their position, which are otherwise read from standard input.
     Numbers,
+    // One or more words, by their position.
+    Words,
     // What lines are.
     Kind,
     // The keys of the hash.
@@ -57,6 +66,14 @@ const CODES: Argument = (
     "files of codes; without any, standard input",
 );
 
+const COLUMN: Argument = ("COLUMN", Takes::One, "a column of this dictionary");
+
+const MISSING_TEXT: Argument = (
+    "TEXT",
+    Takes::Value("missing"),
+    "the line of missing lines, whose code is 4294967295, without a line end",
+);
+
 const OUT: &str = "the output, which is replaced when the new one is whole; - is standard output";
 
 const OUTPUT: Argument = ("OUT", Takes::Output(false), OUT);
@@ -85,13 +102,19 @@ const TRUSTED: Argument = (
     "checks the dictionary's header alone, for one that was checked before",
 );
 
+const TRUSTED_PAIR: Argument = (
+    "TRUSTED",
+    Takes::Flag("trusted"),
+    "checks headers alone, and of the dictionary only its kind and number of strings",
+);
+
 const VERBOSE: Argument = (
     "VERBOSE",
     Takes::Flag("verbose"),
     "shows on standard error how many there were",
 );
 
-static SUBCOMMANDS: [Subcommand; 10] = [
+static SUBCOMMANDS: [Subcommand; 13] = [
     (
         "freeze",
         "Writes a dictionary of the distinct lines, numbered from 0 in the order of their first occurrences",
@@ -106,6 +129,11 @@ static SUBCOMMANDS: [Subcommand; 10] = [
                 "CODES",
                 Takes::Written("codes"),
                 "also writes the code of each line, as encode does",
+            ),
+            (
+                "COLUMN",
+                Takes::WrittenInstead("column", "CODES"),
+                "also writes a column of the lines, which knows its dictionary",
             ),
             KEYS,
             RANDOM_KEYS,
@@ -146,7 +174,12 @@ static SUBCOMMANDS: [Subcommand; 10] = [
                 Takes::Flag("missing"),
                 "writes 4294967295 for a line that isn't in the dictionary",
             ),
-            OUTPUT,
+            ("OUT", Takes::OutputOr("COLUMN"), OUT),
+            (
+                "COLUMN",
+                Takes::OutputInstead("column", "OUT"),
+                "writes a column of the lines, which knows its dictionary, in place of the codes",
+            ),
             PROGRESS,
             VERBOSE,
             DICT,
@@ -155,18 +188,67 @@ static SUBCOMMANDS: [Subcommand; 10] = [
     ),
     (
         "decode",
-        "Writes the line of each code",
+        "Writes the line of each code, or of each row of a column",
         &[
-            (
-                "TEXT",
-                Takes::Value("missing"),
-                "the line of the code 4294967295, without a line end",
-            ),
+            MISSING_TEXT,
             OUTPUT,
             PROGRESS,
             VERBOSE,
             DICT,
-            CODES,
+            (
+                "CODES",
+                Takes::Many(false),
+                "files of codes, or columns of this dictionary; without any, standard input",
+            ),
+        ],
+    ),
+    (
+        "rows",
+        "Writes the lines of rows of a column, by their numbers from 0",
+        &[
+            TRUSTED_PAIR,
+            MISSING_TEXT,
+            DICT,
+            COLUMN,
+            (
+                "ROW",
+                Takes::Words,
+                "rows: a number, or the first and the last, as in 10-20",
+            ),
+        ],
+    ),
+    (
+        "count",
+        "Writes how often each line occurs in a column, and the line, the most frequent first, and the missing last",
+        &[
+            TRUSTED_PAIR,
+            (
+                "BY_SYMBOL",
+                Takes::Flag("by-symbol"),
+                "writes the lines in the order of their symbols",
+            ),
+            DICT,
+            COLUMN,
+        ],
+    ),
+    (
+        "match",
+        "Writes the numbers of the rows of a column that have one of these lines, from 0",
+        &[
+            TRUSTED_PAIR,
+            (
+                "COUNT",
+                Takes::Flag("count"),
+                "writes how many rows there are, in place of their numbers",
+            ),
+            (
+                "INVERT",
+                Takes::Flag("invert"),
+                "selects all other rows, also those whose lines are missing",
+            ),
+            DICT,
+            COLUMN,
+            ("STRING", Takes::Words, "lines, without a line end"),
         ],
     ),
     (
@@ -199,13 +281,17 @@ static SUBCOMMANDS: [Subcommand; 10] = [
     ),
     (
         "check",
-        "Checks dictionaries, and says what is wrong with each file that isn't one",
-        &[DICTS],
+        "Checks dictionaries, and columns after theirs, and says what is wrong with each file that isn't one",
+        &[(
+            "DICT",
+            Takes::Many(true),
+            "dictionaries, and columns of the last dictionary before them",
+        )],
     ),
     (
         "stat",
-        "Writes the kind of the strings, how many there are, the bytes of the file, and the longest string's",
-        &[DICT],
+        "Writes the kind and number of strings, and the bytes of the file and the longest, or what a column has",
+        &[("DICT", Takes::One, "a dictionary or a column")],
     ),
 ];
 
@@ -252,7 +338,8 @@ fn add_files<'a>(
         Takes::One | Takes::Many(_) => files.add_inputs(found.get_strs(row.0)),
         Takes::Numbers if !found.contains_id(row.0) => files.add_inputs(None),
         Takes::Output(_) => files.add_output(found.get_str(row.0)),
-        Takes::Written(_) => files.add_written(found.get_str(row.0)),
+        Takes::OutputOr(other) => files.add_output(found.get_str(row.0).or(found.get_str(other))),
+        Takes::Written(_) | Takes::WrittenInstead(_, _) => files.add_written(found.get_str(row.0)),
         Takes::Maps(_) => files.add_folder(found.get_str(row.0)),
         _ => Ok(()),
     }
@@ -303,20 +390,26 @@ fn argument<'a>(alloc: Global, row: Argument) -> Result<Arg<'a>, AllocError> {
             option,
         )),
         Takes::Output(is_required) => Ok(argument.short('o').long("output").required(is_required)),
+        Takes::OutputOr(_) => Ok(argument.short('o').long("output")),
         Takes::One => Ok(argument.required(true)),
         Takes::Many(is_required) => Ok(argument.num_args(1..).required(is_required)),
         Takes::Numbers => Ok(argument.num_args(1..)),
+        Takes::Words => Ok(argument.num_args(1..).required(true)),
+        Takes::WrittenInstead(option, other) | Takes::OutputInstead(option, other) => without(
+            argument.long(option),
+            other,
+        ),
         Takes::Kind => Ok(
             argument
                 .long("kind")
                 .value_parser(KINDS)
                 .default_value("bytes"),
         ),
-        Takes::Keys => without_random_keys(argument.long("keys").value_name("K0,K1")),
+        Takes::Keys => without(argument.long("keys").value_name("K0,K1"), "RANDOM_KEYS"),
     }
 }
 
 // A function of its own: over arguments that are known, the proof of this one call takes minutes.
-fn without_random_keys<'a>(argument: Arg<'a>) -> Result<Arg<'a>, AllocError> {
-    argument.conflicts_with("RANDOM_KEYS")
+fn without<'a>(argument: Arg<'a>, other: &'a str) -> Result<Arg<'a>, AllocError> {
+    argument.conflicts_with(other)
 }

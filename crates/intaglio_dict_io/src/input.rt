@@ -52,9 +52,18 @@ pub fn whole<R: Files + Input + Tell + AllocGlobal>(
     meter: &mut Meter,
 ) -> Result<Vec<u8>, u8> {
     let mut input = Metered::open(rt, name, *meter)?;
-    let read = read_all(rt.alloc(), &mut input);
+    let read = rest_of(rt, name, &mut input);
     *meter = input.meter;
-    match read {
+    read
+}
+
+/// The bytes of an input that is open, or the exit status after a message.
+pub fn rest_of<R: Files + Input + Tell + AllocGlobal>(
+    rt: &R,
+    name: &str,
+    input: &mut Metered<'_, R>,
+) -> Result<Vec<u8>, u8> {
+    match read_all(rt.alloc(), input) {
         Ok(bytes) => Ok(bytes),
         Err(fault) => Err(report::stopped(rt, fault, name_of(name), input.error)),
     }

@@ -4,7 +4,8 @@ ghost use Rattle.std.specs.Prelude.{None};
 use crate::input::STANDARD;
 use crate::report;
 use crate::report::Tell;
-use std::io::Read;
+use intaglio_lines::error::StreamError;
+use std::io::{ErrorKind, Read};
 use std::rt::Files;
 use std::{fs, io};
 
@@ -47,11 +48,17 @@ impl Meter {
     }
 }
 
+// How many bytes of an input are looked at before it is read.
+const AHEAD: usize = 4;
+
 /// Reads standard input or a file, counts the bytes, and keeps the last error.
 #[derive(Drop)]
 pub struct Metered<'a, R: Files + Input> {
     rt: &'a R,
     source: Source<R::Reader, R::File>,
+    // The first bytes, if they were looked at, and how many of them were read again.
+    ahead: Vec<u8>,
+    again: usize,
     /// How many bytes were read.
     pub meter: Meter,
     /// The last error.
@@ -78,17 +85,43 @@ impl<'a, R: Files + Input + Tell + AllocGlobal> Metered<'a, R> {
         Ok(Metered {
             rt,
             source,
+            ahead: Vec::new(rt.alloc()),
+            again: 0,
             meter,
             error: None,
         })
     }
+
+    /// Looks at the first four bytes, or at all if there are fewer. They are read again. Otherwise the exit status after
+    /// a message.
+    pub fn look_ahead(&mut self, name: &str) -> Result<&[u8], u8> {
+        let looked = self.fill_ahead();
+        if looked.is_err() {
+            return Err(report::stopped(self.rt, StreamError::Read, name, self.error));
+        }
+        Ok(&self.ahead)
+    }
 }
 
-impl<R: Files + Input + Tell> Read for Metered<'_, R> {
-    // What a reader has yet to give is said of none of the inputs.
-    ghost remaining = { λ _. None };
+impl<R: Files + Input + Tell> Metered<'_, R> {
+    fn fill_ahead(&mut self) -> io::Result<()> {
+        for _ in 0..u64::MAX {
+            if self.ahead.len() >= AHEAD {
+                return Ok(());
+            }
+            let mut byte = [0];
+            match self.read_source(&mut byte) {
+                Ok(0) => return Ok(()),
+                Ok(_) => self.ahead.push(byte[0])?,
+                Err(e) if e.kind() == ErrorKind::Interrupted => {}
+                Err(e) => return Err(e),
+            }
+        }
+        Ok(())
+    }
 
-    fn read(&mut self, buf: &mut [u8]) -> io::Result<usize> {
+    // Reads what wasn't looked at.
+    fn read_source(&mut self, buf: &mut [u8]) -> io::Result<usize> {
         let read = match &mut self.source {
             Source::Standard(input) => input.read(buf),
             Source::File(file) => file.read(buf),
@@ -98,5 +131,21 @@ impl<R: Files + Input + Tell> Read for Metered<'_, R> {
             Err(error) => self.error = Some(error),
         }
         read
+    }
+}
+
+impl<R: Files + Input + Tell> Read for Metered<'_, R> {
+    // What a reader has yet to give is said of none of the inputs.
+    ghost remaining = { λ _. None };
+
+    fn read(&mut self, buf: &mut [u8]) -> io::Result<usize> {
+        match (self.ahead.get(self.again), buf.first_mut()) {
+            (Some(byte), Some(place)) => {
+                *place = *byte;
+                self.again = self.again.saturating_add(1);
+                Ok(1)
+            }
+            _ => self.read_source(buf),
+        }
     }
 }

@@ -7,3 +7,5 @@ pub mod Translated
 pub mod Coded
 pub mod Counted
 pub mod Cut
+pub mod Marked
+pub mod Ranged

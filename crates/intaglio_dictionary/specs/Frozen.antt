@@ -1,10 +1,13 @@
 -- What is written of the lines of an input, frozen.
-use Rattle.std.specs.Prelude.{ℕ, ⊤, List, [], ◌∷◌, Option, Some, None}
+use Rattle.std.specs.Prelude.{◌≡◌, ℕ, ⊤, List, [], ◌∷◌, Option, Some, None}
 use Rattle.std.specs.Str.{IsUtf8}
 use Rattle.intaglio_interner.specs.Issue.{interned_all, issue}
 use Rattle.intaglio_lines.specs.Lines.{lines_of}
 use Rattle.intaglio_lines.specs.Puts.{Writes}
 use Rattle.intaglio_lines.specs.StreamError.{IsWritingError}
+use Rattle.intaglio_column_file.specs.Identity.{IsIdOfTable}
+use Rattle.intaglio_column_file.specs.Writing.{column_of}
+use Rattle.intaglio_column_file.specs.declared.id.DictionaryId.{DictionaryId}
 use Rattle.intaglio_frozen.specs.Freezing.{HasDefaultKeys, HasKeys, IsRefusal as IsTableRefusal, IsTableOf}
 use Rattle.intaglio_frozen.specs.declared.kind.Kind.{Kind}
 use Rattle.intaglio_frozen.specs.declared.kind.Kind.TheVariants.{Bytes, Text}
@@ -28,6 +31,15 @@ Allows Text input = IsUtf8 input
 abbrev pub WritesTable : {W : Type 0} → Kind → (List ℕ → Type 0) → List (List ℕ) → (W → Option (List ℕ)) → W → W → Type 0
 WritesTable kind HasAllowedKeys lines contents old new =
     (bytes : List ℕ) × IsTableOf kind lines bytes × HasAllowedKeys bytes × Writes contents old new bytes
+
+-- the bytes are the column file of these symbols under a frozen table
+abbrev pub IsColumnOf : List ℕ → List ℕ → List ℕ → Type 0
+IsColumnOf table symbols file = (id : DictionaryId) × IsIdOfTable table id × (file ≡ column_of id symbols)
+
+-- the column file of the lines of an input, under a table of its distinct lines, is written
+abbrev pub WritesColumn : {V : Type 0} → Kind → List ℕ → (V → Option (List ℕ)) → V → V → Type 0
+WritesColumn kind input contents old new = (table file : List ℕ) × IsTableOf kind (distinct_lines input) table
+    × IsColumnOf table (line_symbols input) file × Writes contents old new file
 
 -- the keys of a table of these strings, if keys are given, and if none are
 abbrev pub HasKeysFor : Option (ℕ × ℕ) → List (List ℕ) → List ℕ → Type 0

@@ -3,3 +3,6 @@ pub mod Answers
 pub mod Frozen
 pub mod Translation
 pub mod Columns
+pub mod Rows
+pub mod Matching
+pub mod Counting

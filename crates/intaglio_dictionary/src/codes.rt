@@ -1,10 +1,11 @@
 //! Codes in bytes, and maps of codes.
-ghost use Rattle.std.specs.Prelude.{◌≡◌, ◌==◌, ◌%◌, ◌<◌, ◌≤◌, [], ◌∷◌, ◌++◌, drop, is_some, length, slice_get, take, IfSome, None, OnOk};
+ghost use Rattle.std.specs.Prelude.{◌≡◌, ◌==◌, ◌%◌, ◌<◌, ◌≤◌, [], ◌∷◌, ◌++◌, drop, is_some, length, slice_get, take, IfSome, None, OnOk, Some};
 ghost use Rattle.std.specs.List.{flat_map};
 ghost use Rattle.intaglio_lines.specs.Puts.{Puts, WritesFront};
 ghost use Rattle.intaglio_dictionary.specs.Columns.{code_bytes, code_of, code_pieces, codes_of};
 ghost use Rattle.intaglio_dictionary.specs.Translation.{StartsWith, last_piece};
 
+use intaglio_column_file::CodeList;
 use intaglio_lines::write::{Output, put};
 use intaglio_symbol::Symbol;
 use std::io;
@@ -62,13 +63,32 @@ impl<'a> CodeMap<'a> {
         if code as usize >= self.len() {
             return None;
         }
-        let at = CODE * code as usize;
-        Some(u32::from_le_bytes([
-            self.bytes[at],
-            self.bytes[at + 1],
-            self.bytes[at + 2],
-            self.bytes[at + 3],
-        ]))
+        Some(self.read(code as usize))
+    }
+
+    // The code at a position that is there.
+    #[inline(always)]
+    fn read(&self, i: usize) -> u32
+        requires { i < length self.now }
+        ensures { slice_get self.now i ≡ Some result }
+    {
+        let bytes = self.bytes;
+        let at = CODE * i;
+        u32::from_le_bytes([bytes[at], bytes[at + 1], bytes[at + 2], bytes[at + 3]])
+    }
+}
+
+impl CodeList for CodeMap<'_> {
+    ghost codes = { λ map. map };
+
+    #[inline(always)]
+    fn len(&self) -> usize {
+        CodeMap::len(self)
+    }
+
+    #[inline(always)]
+    fn code(&self, i: usize) -> u32 {
+        self.read(i)
     }
 }
 

@@ -3,6 +3,7 @@ ghost use Rattle.std.specs.Prelude.{◌≡◌};
 ghost use Rattle.intaglio_dictionary.specs.declared.error.DictionaryError.TheVariants.{Stream};
 ghost use Rattle.intaglio_dictionary.specs.declared.error.MapError.TheVariants.{Memory};
 ghost use Rattle.intaglio_dictionary.specs.declared.error.FreezingError.TheVariants.{Table, Stream as FreezingStopped};
+ghost use Rattle.intaglio_dictionary.specs.declared.error.RowsError.TheVariants.{Stream as RowsStopped};
 
 use intaglio_frozen::FreezeError;
 use intaglio_lines::error::StreamError;
@@ -94,5 +95,27 @@ impl From<AllocError> for MapError {
 
     fn from(_error: AllocError) -> MapError {
         MapError::Memory
+    }
+}
+
+/// Why rows of a column weren't written.
+#[derive(Clone, Copy, Debug, PartialEq, Eq, Error)]
+pub enum RowsError {
+    /// The column has no row with this number.
+    #[error("no row {0}")]
+    NoRow(u64),
+    /// The code of this row has no line.
+    #[error("row {0} has no line")]
+    NoLine(u64),
+    /// An allocation or a write failed.
+    #[error(transparent)]
+    Stream(StreamError),
+}
+
+impl From<StreamError> for RowsError {
+    ghost from_gives = { λ stopped error. error ≡ RowsStopped stopped };
+
+    fn from(stopped: StreamError) -> RowsError {
+        RowsError::Stream(stopped)
     }
 }

@@ -2,10 +2,10 @@
 ghost use Rattle.std.specs.Prelude.{◌≡◌, ◌≢◌, ◌⊎◌, ◌↔◌, OnOk, IfErr, IfOk, IsTrue};
 ghost use Rattle.intaglio_frozen.specs.declared.kind.Kind.{Kind};
 ghost use Rattle.intaglio_lines.specs.Puts.{Writes};
-ghost use Rattle.intaglio_lines.specs.declared.error.StreamError.TheVariants.{Write as WriteFailed};
+ghost use Rattle.intaglio_lines.specs.declared.error.StreamError.TheVariants.{Memory, Write as WriteFailed};
 ghost use Rattle.intaglio_frozen.specs.Freezing.{HasDefaultKeys, HasKeys, IsRefusal as IsTableRefusal, IsTableOf};
 ghost use Rattle.intaglio_dictionary.specs.Columns.{encoded_column};
-ghost use Rattle.intaglio_dictionary.specs.Frozen.{Allows, HasKeysFor, IsRefusal, WritesTable, distinct_lines, line_symbols};
+ghost use Rattle.intaglio_dictionary.specs.Frozen.{Allows, HasKeysFor, IsColumnOf, IsRefusal, WritesColumn, WritesTable, distinct_lines, line_symbols};
 ghost use Rattle.intaglio_dictionary.specs.declared.error.FreezingError.TheVariants.{NotUtf8, Stream};
 
 use crate::codes::Codes;
@@ -13,6 +13,7 @@ use crate::error::FreezingError;
 use crate::progress::Progress;
 use intaglio::TableOver;
 use intaglio_bytes::bytes::BytesKind;
+use intaglio_column_file::{column_bytes, id_of_table};
 use intaglio_content::Packed;
 use intaglio_frozen::{FreezeError, Kind, StringList, freeze, freeze_with_default_keys};
 use intaglio_lines::error::StreamError;
@@ -150,6 +151,67 @@ pub fn freeze_column<S: BuildHasher + Drop, W: Write, V: Write, P: Progress>(
     match write_whole(&bytes, writer) {
         Ok(()) => Ok(()),
         Err(_) => Err(FreezingError::Stream(StreamError::Write)),
+    }
+}
+
+/// As [`freeze_column`], but writes the codes as a column file of the frozen table.
+///
+/// # Errors
+///
+/// Those of [`freeze_lines`]; after each but `Write` nothing was written. After that either nothing of the table was
+/// written, or the whole column was.
+pub fn freeze_column_file<S: BuildHasher + Drop, W: Write, V: Write, P: Progress>(
+    alloc: Global,
+    kind: Kind,
+    keys: Option<(u64, u64)>,
+    builder: S,
+    input: &[u8],
+    writer: &mut W,
+    column: &mut V,
+    progress: &mut P,
+) -> Result<(), FreezingError>
+    ensures written { let lines = distinct_lines input.now in
+        OnOk result (WritesTable kind (HasKeysFor keys lines) lines W.contents writer.old writer.new) }
+    ensures column { OnOk result (WritesColumn kind input.now V.contents column.old column.new) }
+    ensures refuses { ¬ (Allows kind input.now) → result ≡ Err NotUtf8 }
+    ensures err { IfErr result (IsRefusal kind input.now) }
+    ensures nothing_written { IfErr result (λ e. e ≢ Stream WriteFailed → writer.new ≡ writer.old) }
+    ensures no_column { IfErr result (λ e. e ≢ Stream WriteFailed → column.new ≡ column.old) }
+    ensures order { (writer.new ≡ writer.old) ⊎ WritesColumn kind input.now V.contents column.old column.new }
+{
+    let allowed = is_allowed(kind, input);
+    if !allowed {
+        return Err(FreezingError::NotUtf8);
+    }
+    let (bytes, symbols) = frozen_column(alloc, kind, keys, builder, input, progress)?;
+    progress.frozen(bytes.len());
+    let file = column_of_table(alloc, &bytes, &symbols)?;
+    match write_whole(&file, column) {
+        Ok(()) => {}
+        Err(_) => return Err(FreezingError::Stream(StreamError::Write)),
+    }
+    match write_whole(&bytes, writer) {
+        Ok(()) => Ok(()),
+        Err(_) => Err(FreezingError::Stream(StreamError::Write)),
+    }
+}
+
+// The column file of the symbols of lines under their frozen table.
+fn column_of_table(
+    alloc: Global,
+    table: &[u8],
+    symbols: &[Symbol],
+) -> Result<Vec<u8>, FreezingError>
+    ensures column { IfOk result (λ file. IsColumnOf table.now symbols.now file.items) }
+    ensures err { IfErr result (λ e. e ≡ Stream Memory) }
+{
+    // The bytes are a frozen table, and each symbol is that of one of its strings: only memory can be lacking.
+    let Ok(id) = id_of_table(table) else {
+        return Err(FreezingError::Stream(StreamError::Memory));
+    };
+    match column_bytes(alloc, id, &symbols) {
+        Ok(file) => Ok(file),
+        Err(_) => Err(FreezingError::Stream(StreamError::Memory)),
     }
 }
 

@@ -5,6 +5,7 @@
 pub mod answer;
 pub mod codes;
 pub mod columns;
+pub mod counting;
 pub mod dictionary;
 mod encoding;
 pub mod error;
@@ -12,8 +13,10 @@ pub mod freezing;
 pub mod identity;
 pub mod joining;
 pub mod look_up;
+pub mod matching;
 pub mod merging;
 pub mod progress;
+pub mod rows;
 pub mod size;
 pub mod strings;
 pub mod translate;

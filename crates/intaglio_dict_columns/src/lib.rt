@@ -1,0 +1,11 @@
+//! What the program `intaglio_dict` does with column files: lines of rows, counts and matches, checks and statistics,
+//! and columns that are written and decoded.
+#![tactic(auto)]
+
+pub mod checking;
+pub mod counting;
+pub mod decoding;
+pub mod matching;
+pub mod opening;
+pub mod rows;
+pub mod writing;

@@ -1,0 +1,152 @@
+//! The subcommand that writes lines by the numbers of their rows.
+use crate::opening::{Question, ask};
+use clap::ArgMatches;
+use intaglio_column_file::Column;
+use intaglio_dict_io::input::name_of;
+use intaglio_dict_io::noticing::Noticing;
+use intaglio_dict_io::output::OUTPUT;
+use intaglio_dict_io::report;
+use intaglio_dict_io::report::Tell;
+use intaglio_dict_io::symbols::plain_number;
+use intaglio_dictionary::codes::MISSING;
+use intaglio_dictionary::dictionary::Dictionary;
+use intaglio_dictionary::error::RowsError;
+use intaglio_dictionary::rows::{RowRange, write_rows};
+use std::io;
+use std::rt::Files;
+
+// Which rows are asked for.
+#[derive(Drop)]
+struct RowsAsked<'a> {
+    ranges: &'a [RowRange],
+    // The line of missing rows, if they have one.
+    missing: Option<&'a [u8]>,
+}
+
+/// Writes the lines of rows. Otherwise the exit status after a message.
+pub fn rows<R: Files + Input + Print + Tell + AllocGlobal>(
+    rt: &R,
+    found: &ArgMatches<'_>,
+) -> Result<(), u8> {
+    let missing = missing_text(rt, found)?;
+    let ranges = typed_ranges(rt, found)?;
+    let rows = RowsAsked {
+        ranges: &ranges,
+        missing,
+    };
+    match ask(rt, found, &rows) {
+        Ok(_) => Ok(()),
+        Err(status) => Err(status),
+    }
+}
+
+/// The line of missing rows, if there is one among the arguments. Otherwise the exit status after a message.
+pub fn missing_text<'a, R: Tell>(rt: &R, found: &ArgMatches<'a>) -> Result<Option<&'a [u8]>, u8> {
+    let missing = found.get_str("TEXT").map(|text| text.as_bytes());
+    if missing.is_some_and(|text| text.contains(&b'\n')) {
+        return Err(report::line_end(rt));
+    }
+    Ok(missing)
+}
+
+// The rows among the arguments.
+fn typed_ranges<R: Tell + AllocGlobal>(
+    rt: &R,
+    found: &ArgMatches<'_>,
+) -> Result<Vec<RowRange>, u8> {
+    let mut ranges = Vec::new(rt.alloc());
+    for typed in found.get_strs("ROW").unwrap_or(&[]) {
+        let Some(range) = range_of(typed) else {
+            return Err(no_rows(rt, typed));
+        };
+        if ranges.push(range).is_err() {
+            return Err(report::out_of_memory(rt));
+        }
+    }
+    Ok(ranges)
+}
+
+// A row, or the first and the last of several.
+fn range_of(typed: &str) -> Option<RowRange> {
+    let (first, last) = match typed.split_once('-') {
+        Some((first, last)) => (row_of(first)?, row_of(last)?),
+        None => (row_of(typed)?, row_of(typed)?),
+    };
+    if first <= last {
+        Some(RowRange { first, last })
+    } else {
+        None
+    }
+}
+
+fn row_of(typed: &str) -> Option<usize> {
+    match usize::try_from(plain_number(typed)?) {
+        Ok(row) => Some(row),
+        Err(_) => None,
+    }
+}
+
+impl<R: Print + Tell + AllocGlobal> Question<R> for RowsAsked<'_> {
+    fn answer<D: Dictionary>(
+        &self,
+        rt: &R,
+        table: &D,
+        column: &Column<'_>,
+        name: &str,
+    ) -> Result<bool, u8> {
+        let mut output = Noticing::new(io::writer(rt));
+        match write_rows(
+            rt.alloc(),
+            table,
+            column,
+            self.ranges,
+            self.missing,
+            &mut output,
+        ) {
+            Ok(()) => Ok(true),
+            Err(RowsError::Stream(fault)) => Err(report::stopped(rt, fault, OUTPUT, output.error)),
+            Err(RowsError::NoRow(row)) => Err(no_row(rt, name, row, column.len())),
+            Err(RowsError::NoLine(row)) => Err(no_line(rt, name, row, column)),
+        }
+    }
+}
+
+// Of a word that names no rows.
+fn no_rows<R: Tell>(rt: &R, typed: &str) -> u8 {
+    report::say(
+        rt,
+        format_args!(
+            "'{typed}' names no rows: a number is needed, or the first and the last, as in 10-20"
+        ),
+    );
+    2
+}
+
+// Of a row behind the last one.
+fn no_row<R: Tell>(rt: &R, name: &str, row: u64, count: usize) -> u8 {
+    report::failed(
+        rt,
+        name_of(name),
+        format_args!("no row {row}: there are {count} rows, counted from 0"),
+    )
+}
+
+/// Of a row without a line.
+pub fn no_line<R: Tell>(rt: &R, name: &str, row: u64, column: &Column<'_>) -> u8 {
+    match column.code(row as usize) {
+        Some(MISSING) => report::failed(
+            rt,
+            name_of(name),
+            format_args!(
+                "row {row} is missing: its line wasn't in the dictionary; --missing TEXT gives it a line"
+            ),
+        ),
+        _ => report::failed(
+            rt,
+            name_of(name),
+            format_args!(
+                "row {row} has a code that is no symbol; without --trusted all is checked"
+            ),
+        ),
+    }
+}

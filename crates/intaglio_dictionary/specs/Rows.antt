@@ -1,0 +1,39 @@
+-- What is written of the rows of a column file.
+use Rattle.std.specs.Prelude.{◌≡◌, ℕ, ◌+◌, ◌-◌, ◌≤◌, ◌==◌, cond, Bool, false, List, [], length, take, drop, get_or, slice_get, is_some, unwrap_or, Option, Some}
+use Rattle.std.specs.List.{flat_map}
+use Rattle.intaglio_lines.specs.Output.{spelling_line}
+use Rattle.intaglio_lines.specs.StreamError.{IsWritingError}
+use Rattle.intaglio_columns.specs.Columns.{missing}
+use Rattle.intaglio_dictionary.specs.declared.rows.RowRange.{RowRange}
+use Rattle.intaglio_dictionary.specs.declared.error.RowsError.{RowsError}
+use Rattle.intaglio_dictionary.specs.declared.error.RowsError.TheVariants.{NoRow, NoLine, Stream}
+
+-- the string of a code, or the text that stands for missing ones
+abbrev pub string_at : List (List ℕ) → Option (List ℕ) → ℕ → List ℕ
+string_at strings text code = cond (code == missing) (unwrap_or text []) (get_or strings code [])
+
+-- whether a code has one
+abbrev pub has_line : List (List ℕ) → Option (List ℕ) → ℕ → Bool
+has_line strings text code = cond (code == missing) (is_some text) (is_some (slice_get strings code))
+
+-- the line of a code
+abbrev pub code_line : List (List ℕ) → Option (List ℕ) → ℕ → List ℕ
+code_line strings text code = spelling_line (string_at strings text code)
+
+-- the codes from the first row of a range to its last
+abbrev pub codes_between : List ℕ → RowRange → List ℕ
+codes_between cs range = take (range.last + 1 - range.first) (drop range.first cs)
+
+-- the lines of these rows
+abbrev pub lines_between : List (List ℕ) → Option (List ℕ) → List ℕ → RowRange → List ℕ
+lines_between strings text cs range = flat_map (code_line strings text) (codes_between cs range)
+
+-- the lines of the rows of several ranges, one range after the other
+abbrev pub row_lines : List (List ℕ) → Option (List ℕ) → List ℕ → List RowRange → List ℕ
+row_lines strings text cs ranges = flat_map (lines_between strings text cs) ranges
+
+-- when each error is returned: a row isn't there, or has a code without a line
+abbrev pub IsRowsFault : List (List ℕ) → Type 0 → Option (List ℕ) → List ℕ → RowsError → Type 0
+IsRowsFault strings IsWhole text cs (NoRow row) = length cs ≤ row
+IsRowsFault strings IsWhole text cs (NoLine row) = (code : ℕ) × (slice_get cs row ≡ Some code) × (IsWhole → has_line strings text code ≡ false)
+IsRowsFault strings IsWhole text cs (Stream failure) = IsWritingError failure
