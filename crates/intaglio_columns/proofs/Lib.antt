@@ -1,3 +1,4 @@
+pub mod Apart
 pub mod Absorbed
 pub mod Filtered
 pub mod Joined

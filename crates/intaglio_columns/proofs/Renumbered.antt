@@ -53,9 +53,9 @@ renumbering old new numbers codes is few = renumbered new few old numbers codes 
 pub composed : MapsCompose
 composed old middle new numbers later first second few = renumbered new few middle later numbers second ∙ first
 
--- a string stands at one position
+-- a string stands at one position, and at no two
 module _ (new : List (List ℕ)) (distinct : Distinct string_key new) where
-  apart : (a b : ℕ) (w : List ℕ) → a < b → slice_get new a ≡ Some w → slice_get new b ≡ Some w → ⊥
+  pub apart : (a b : ℕ) (w : List ℕ) → a < b → slice_get new a ≡ Some w → slice_get new b ≡ Some w → ⊥
   apart a b w below one other =
       let within : b < length new = slice_get_within new b w other in
       let key-a : get_or (map string_key new) a [] ≡ string_key w =

@@ -2,7 +2,8 @@
 use Rattle.std.specs.Prelude.{◌≡◌, ℕ, zero, suc, ◌+◌, ◌<◌, ◌≢◌, ◌⊎◌, ◌==◌, List, [], ◌∷◌, ◌++◌, length, map, get_or, slice_get, All, Some, ⊤}
 use Rattle.std.specs.List.{filter, flat_map}
 use Rattle.intaglio_frozen.specs.LookUp.{hash_under, scaled}
-use Rattle.intaglio_columns.specs.Columns.{missing, IsMap}
+use Rattle.intaglio_interner.specs.State.{Distinct}
+use Rattle.intaglio_columns.specs.Columns.{missing, string_key, IsMap}
 use Rattle.intaglio_columns.specs.declared.error.ShardsError.{ShardsError}
 use Rattle.intaglio_columns.specs.declared.error.ShardsError.TheVariants.{Empty, Misplaced, TooMany, Memory}
 
@@ -39,6 +40,14 @@ BelongTo count s strings = (i : ℕ) (w : List ℕ) → slice_get strings i ≡ 
 -- each string of each shard belongs there
 abbrev pub AreShards : List (List (List ℕ)) → Type 0
 AreShards shards = (s : ℕ) (strings : List (List ℕ)) → slice_get shards s ≡ Some strings → BelongTo (length shards) s strings
+
+-- no two strings of one shard are equal
+abbrev pub AreEachDistinct : List (List (List ℕ)) → Type 0
+AreEachDistinct shards = (s : ℕ) (strings : List (List ℕ)) → slice_get shards s ≡ Some strings → Distinct string_key strings
+
+-- no two strings of all shards are equal
+abbrev pub AreAllDistinct : List (List (List ℕ)) → Type 0
+AreAllDistinct shards = Distinct string_key (joined shards)
 
 -- the string at i of these belongs to another shard than s
 abbrev pub IsMisplaced : ℕ → ℕ → List (List ℕ) → ℕ → Type 0

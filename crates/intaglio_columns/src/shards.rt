@@ -3,7 +3,7 @@ ghost use Rattle.std.specs.Prelude.{◌≡◌, ◌+◌, ◌^◌, ◌<◌, ◌≤
 ghost use Rattle.intaglio_interner.specs.State.{first};
 ghost use Rattle.intaglio_columns.specs.Columns.{missing, string_key};
 ghost use Rattle.intaglio_columns.specs.declared.error.ShardsError.TheVariants.{TooMany};
-ghost use Rattle.intaglio_columns.specs.Shards.{AreShards, BelongTo, IsMisplaced, IsShardsFault, joined, starts_from};
+ghost use Rattle.intaglio_columns.specs.Shards.{AreAllDistinct, AreEachDistinct, AreShards, BelongTo, IsMisplaced, IsShardsFault, joined, starts_from};
 
 use crate::error::ShardsError;
 use crate::sharding::shard_of;
@@ -30,7 +30,7 @@ pub struct Shards<'a> {
 impl<'a> Model for Shards<'a> {
     ghost use Rattle.std.specs.Prelude.{◌≡◌, ℕ, List, ◌<◌, ◌≤◌, length};
     ghost use Rattle.intaglio_columns.specs.Columns.{missing};
-    ghost use Rattle.intaglio_columns.specs.Shards.{AreShards, joined, starts_from};
+    ghost use Rattle.intaglio_columns.specs.Shards.{AreEachDistinct, AreShards, joined, starts_from};
 
     ghost Value = { List (List (List ℕ)) };
 
@@ -41,6 +41,7 @@ impl<'a> Model for Shards<'a> {
       few : length shards.tables.items ≤ missing;
       numbered : length (joined shards.tables.items) ≤ missing;
       placed : AreShards shards.tables.items;
+      distinct : AreEachDistinct shards.tables.items;
       starts : shards.starts.items ≡ starts_from 0 shards.tables.items;
     } };
 }
@@ -71,6 +72,7 @@ impl<'a> Shards<'a> {
     pub fn open(alloc: Global, tables: Vec<Frozen<'a>>) -> Result<Shards<'a>, ShardsError>
         ensures strings { IfOk result (λ shards. shards ≡ tables.entry.items) }
         ensures shards { IfOk result (λ shards. AreShards shards) }
+        ensures distinct { IfOk result (λ shards. AreAllDistinct shards) }
         ensures err { IfErr result (IsShardsFault tables.entry.items) }
     {
         let Ok(count) = u32::try_from(tables.len()) else {
@@ -156,10 +158,14 @@ fn check_each(tables: &[Frozen<'_>], count: u32) -> Result<(), ShardsError>
     requires count { count ≡ length tables.now }
     requires some { 0 < count }
     ensures placed { OnOk result (AreShards tables.now) }
+    ensures distinct { OnOk result (AreEachDistinct tables.now) }
     ensures err { IfErr result (IsShardsFault tables.now) }
 {
     for shard in 0..count {
-        if let Some(i) = first_misplaced(&tables[shard as usize], count, shard) {
+        let table = &tables[shard as usize];
+        // No two strings of a table are equal, as the contract of its look-up says.
+        let _found = table.check_interned(b"");
+        if let Some(i) = first_misplaced(table, count, shard) {
             return Err(ShardsError::Misplaced(shard, i));
         }
     }

@@ -1,10 +1,14 @@
 -- The numbers of a map, counted on from a start.
-use Rattle.std.proofs.Common.{◌≡◌, ◌∙◌, sym, ap, ℕ, ◌+◌, ◌<◌, List, [], ◌∷◌, ◌++◌, length, map, take, Some, append_assoc, arith}
+use Rattle.std.proofs.Common.{◌≡◌, ◌∙◌, sym, ap, ℕ, zero, suc, ◌+◌, ◌<◌, ◌≤◌, List, [], ◌∷◌, ◌++◌, get_or, length, map, take, Some, inl, inr, append_assoc, arith}
 use Rattle.std.specs.List.{slice_get, All}
 use Rattle.std.proofs.lemmas.List.{length-take, map-append}
+use Rattle.std.proofs.lemmas.Option.{get_or_from_slice_get}
 use Rattle.std.proofs.lemmas.List.Elements.{All-nil, All-cons, All-append}
 use Rattle.intaglio_columns.specs.Shards.{joined_map, sum_of, AreWithin}
 use Rattle.intaglio_columns.proofs.Joined.{map-push, within-push}
+use Rattle.intaglio_dictionary.specs.Joining.{IsMapFault, IsShardMapFault}
+use Rattle.intaglio_dictionary.specs.declared.error.MapError.{MapError}
+use Rattle.intaglio_dictionary.specs.declared.error.MapError.TheVariants.{NoString, TooMany, Memory}
 use Rattle.intaglio_dictionary.proofs.Listed.{next}
 
 module _ (ns : List ℕ) (i n : ℕ) (at : slice_get ns i ≡ Some n) where
@@ -20,6 +24,13 @@ module _ (ns : List ℕ) (i n : ℕ) (at : slice_get ns i ≡ Some n) where
   pub below-next : (count : ℕ) → All (λ k. k < count) (take i ns) → n < count → All (λ k. k < count) (take (i + 1) ns)
   below-next count before below =
       rw (next ns i n at) (All-append (λ k. k < count) (take i ns) (n ∷ []) before (All-cons (λ k. k < count) n [] below (All-nil (λ k. k < count))))
+
+-- the first of several counts are no more together than all
+sum-front : (counts : List ℕ) (i : ℕ) → sum_of (take i counts) ≤ sum_of counts
+sum-front [] zero = omega arith
+sum-front [] (suc i) = omega arith
+sum-front (c ∷ counts) zero = omega arith
+sum-front (c ∷ counts) (suc i) = omega (arith, sum-front counts i)
 
 sum-push : (counts : List ℕ) (count : ℕ) → sum_of (counts ++ count ∷ []) ≡ sum_of counts + count
 sum-push [] count = omega arith
@@ -46,3 +57,13 @@ module _ (counts : List ℕ) (maps : List (List ℕ)) (i count : ℕ) (ns : List
 
   pub within-next : AreWithin (take i counts) (take i maps) → All (λ k. k < count) ns → AreWithin (take (i + 1) counts) (take (i + 1) maps)
   within-next before all = rw (next counts i count at-count, next maps i ns at-map) (within-push (take i counts) (take i maps) count ns fronts before all)
+
+  -- what is wrong with this map is what is wrong with all of them
+  pub fault-of : (start : ℕ) (e : MapError) → start ≡ sum_of (take i counts) → AreWithin (take i counts) (take i maps) → IsShardMapFault i start count ns e → IsMapFault counts maps e
+  fault-of start (NoString s) is before fault =
+      let own-count : get_or counts i 0 ≡ count = get_or_from_slice_get counts i count 0 at-count in
+      let own-map : get_or maps i [] ≡ ns = get_or_from_slice_get maps i ns [] at-map in
+      rw (fault.0, own-count, own-map) (before, fault.1)
+  fault-of start TooMany is before (inl over) = inl (omega (arith, over, is, sum-next, sum-front counts (i + 1)))
+  fault-of start TooMany is before (inr long) = inr (i, rw (get_or_from_slice_get maps i ns [] at-map) long)
+  fault-of start Memory is before fault = tt

@@ -6,3 +6,4 @@ pub mod Columns
 pub mod Rows
 pub mod Matching
 pub mod Counting
+pub mod Joining

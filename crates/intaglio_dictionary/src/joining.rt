@@ -1,7 +1,8 @@
 //! Maps of shards, as one map.
-ghost use Rattle.std.specs.Prelude.{◌≡◌, ◌+◌, ◌++◌, ◌<◌, ◌≤◌, get_or, length, map, All, OnOk, IfOk};
+ghost use Rattle.std.specs.Prelude.{◌≡◌, ◌+◌, ◌++◌, ◌<◌, ◌≤◌, get_or, length, map, All, OnOk, IfErr, IfOk};
 ghost use Rattle.intaglio_columns.specs.Columns.{missing, renumber};
 ghost use Rattle.intaglio_columns.specs.Shards.{AreWithin, joined_map};
+ghost use Rattle.intaglio_dictionary.specs.Joining.{IsMapFault, IsShardMapFault};
 ghost use Rattle.intaglio_dictionary.specs.declared.error.MapError.TheVariants.{Memory};
 
 use crate::codes::{CodeMap, MISSING};
@@ -28,6 +29,7 @@ pub fn join_maps(
     requires { length maps.now ≡ length counts.now }
     ensures joined { IfOk result (λ joined. joined.items ≡ joined_map 0 counts.now maps.now) }
     ensures within { OnOk result (AreWithin counts.now maps.now) }
+    ensures err { IfErr result (IsMapFault counts.now maps.now) }
 {
     let mut joined = Vec::new(alloc);
     let mut start = 0;
@@ -81,6 +83,7 @@ fn add_map(
     ensures few { IfOk result (λ next. next ≤ missing) }
     ensures added { OnOk result (joined.new.items ≡ joined.old.items ++ map (λ k. start + k) numbers.now) }
     ensures within { OnOk result (All (λ k. k < count) numbers.now) }
+    ensures err { IfErr result (IsShardMapFault shard start count numbers.now) }
 {
     if count > MOST - start || numbers.len() > MOST {
         return Err(MapError::TooMany);
