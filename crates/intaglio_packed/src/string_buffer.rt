@@ -154,7 +154,7 @@ impl StringBuffer {
     pub fn bytes(&self) -> &[u8]
         ensures { result.now ≡ concat self.now.list }
     {
-        &self.bytes
+        self.bytes.as_slice()
     }
 
     /// Makes room for this many more bytes. If the buffer has to grow, its room at least doubles.
@@ -243,12 +243,14 @@ impl StringBuffer {
         requires { HasRoom (length front.now + length rest.now) self.old }
         ensures list { self.new.list ≡ self.old.list ++ (front.now ++ rest.now) ∷ [] }
         ensures most { self.new.most ≡ self.old.most }
-        ensures spare_bytes { self.old.spare_bytes ≡ self.new.spare_bytes + (length front.now + length rest.now) }
+        ensures spare_bytes { let added = length front.now + length rest.now in
+            self.old.spare_bytes ≡ self.new.spare_bytes + added }
         ensures byte_room { byte_room_of self.new ≡ byte_room_of self.old }
     {
         self.bytes.extend_from_slice(front).unwrap();
         self.bytes.extend_from_slice(rest).unwrap();
-        self.ends.push_reserved(self.bytes.len());
+        let end = self.bytes.len();
+        self.ends.push_reserved(end);
     }
 
     /// Drops all strings but the first `n`.

@@ -1,3 +1,5 @@
 -- Lemmas on records.
 pub mod RecordLemmas
 pub mod EntryLemmas
+pub mod Reading
+pub mod MatchLemmas

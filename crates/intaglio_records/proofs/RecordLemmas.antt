@@ -1,13 +1,15 @@
 -- Lists of records.
-use Rattle.std.proofs.Common.{◌≡◌, ℕ, ◌+◌, ◌-◌, ◌*◌, ◌^◌, ◌<◌, ◌≤◌, suc, zero, List, [], ◌∷◌, ◌++◌, length, take, drop, map, get_or, slice_get, Some, option_map, min, sum_by, refl, sym, ap, ◌∙◌, subst, arith, inl, inr}
-use Rattle.std.proofs.lemmas.Bool.{cases_lt}
+use Rattle.std.proofs.Common.{◌≡◌, ℕ, ◌+◌, ◌-◌, ◌*◌, ◌^◌, ◌<◌, ◌≤◌, suc, zero, List, [], ◌∷◌, ◌++◌, length, take, drop, map, get_or, slice_get, Some, option_map, max, min, sum_by, refl, sym, ap, ◌∙◌, subst, arith, inl, inr}
+use Rattle.std.proofs.lemmas.Bool.{cases_eq, cases_lt}
 use Rattle.std.proofs.lemmas.List.{get_or-take, get_or_append_left, length-append, length-drop, length-take}
 use Rattle.std.proofs.lemmas.Option.{slice_get-map}
 use Rattle.std.proofs.lemmas.List.Sums.{sum_by-cons}
 use Rattle.std.proofs.lemmas.Nat.{from_le_bytes-to_le_bytes_4, from_le_bytes-to_le_bytes_8}
 use Rattle.std.proofs.Math.Seq.{get_or-append_seam}
 use Rattle.intaglio_records.specs.Header.{header_of, hash_at}
-use Rattle.intaglio_records.specs.Records.{IsRecord, AreRecords, pair_of}
+use Rattle.intaglio_records.specs.Records.{IsRecord, AreRecords, StaysOrDoubles, free_of, pair_of, set_aside}
+use Rattle.intaglio_packed.specs.Growth.{Doubles, DoublesBytes}
+use Rattle.intaglio_packed.specs.Strings.{Strings, byte_count_of, byte_room_of}
 
 -- each string of the list has the bytes of a header
 abbrev pub AreLong : List (List ℕ) → Type 0
@@ -19,29 +21,87 @@ are-long rs h i l = (h i l).long
 -- the headers of all records are within their bytes
 pub headers-within : (rs : List (List ℕ)) → AreLong rs → 13 * length rs ≤ sum_by length rs
 headers-within [] h = omega arith
-headers-within (r ∷ rs) h = omega (arith, h 0 (omega arith), sum_by-cons length r rs, headers-within rs (λ i l. h (suc i) (omega (arith, l))))
+headers-within (r ∷ rs) h = omega (
+  arith,
+  h 0 (omega arith),
+  sum_by-cons length r rs,
+  headers-within rs (λ i l. h (suc i) (omega (arith, l))),
+)
 
 -- so are those of the records behind the first n
-pub headers-behind : (n : ℕ) (rs : List (List ℕ)) → AreLong rs → 13 * (length rs - n) + sum_by length (take n rs) ≤ sum_by length rs
+pub headers-behind : (n : ℕ) (rs : List (List ℕ)) → AreLong rs
+    → 13 * (length rs - n) + sum_by length (take n rs) ≤ sum_by length rs
 headers-behind zero rs h = omega (arith, headers-within rs h)
 headers-behind (suc n) [] h = omega arith
 headers-behind (suc n) (r ∷ rs) h =
-    omega (arith, sum_by-cons length r (take n rs), sum_by-cons length r rs, headers-behind n rs (λ i l. h (suc i) (omega (arith, l))))
+    omega (
+      arith,
+      sum_by-cons length r (take n rs),
+      sum_by-cons length r rs,
+      headers-behind n rs (λ i l. h (suc i) (omega (arith, l))),
+    )
+
+-- the strings of records
+abbrev pub strings_in : List (List ℕ) → List (List ℕ)
+strings_in rs = map (λ (p : ℕ × List ℕ). p.1) (map pair_of rs)
 
 -- the bytes of all records are those of the headers and of the strings
 pub strings-bytes : (rs : List (List ℕ)) → AreLong rs
-    → 13 * length rs + sum_by length (map (λ (p : ℕ × List ℕ). p.1) (map pair_of rs)) ≡ sum_by length rs
+    → 13 * length rs + sum_by length (strings_in rs) ≡ sum_by length rs
 strings-bytes [] h = refl
 strings-bytes (r ∷ rs) h =
     let rest = strings-bytes rs (λ i l. h (suc i) (omega (arith, l))) in
-    omega (arith, h 0 (omega arith), length-drop 13 r, sum_by-cons length r rs, sum_by-cons length (drop 13 r) (map (λ (p : ℕ × List ℕ). p.1) (map pair_of rs)), rest)
+    omega (
+      arith,
+      h 0 (omega arith),
+      length-drop 13 r,
+      sum_by-cons length r rs,
+      sum_by-cons length (drop 13 r) (strings_in rs),
+      rest,
+    )
+
+-- how many bytes of records there is room for, said of the buffer
+pub room-is : (b : Strings) → AreLong b.list → length b.list ≤ b.most → set_aside b ≤ free_of b
+    → byte_count_of b ≤ 2 ^ 32 - 1
+    → 13 * b.most + sum_by length (strings_in b.list) + (free_of b - set_aside b) ≡ min (byte_room_of b) (2 ^ 32 - 1)
+room-is b long order headers small = omega (arith, strings-bytes b.list long, order, headers, small)
+
+-- which stays or doubles as the buffer's room does
+pub room-doubles : (needed old new : ℕ) → DoublesBytes needed old new
+    → StaysOrDoubles (min old (2 ^ 32 - 1)) (min new (2 ^ 32 - 1))
+room-doubles needed old new h = elim (cases_eq new old) [
+  | inl same ↦ inl (ap (λ n. min n (2 ^ 32 - 1)) same)
+  | inr other ↦
+      elim (h.grown other) [
+        | inl grown ↦
+            elim (cases_lt (2 ^ 32 - 1) new) [
+              | inl beyond ↦ inr (inr (omega (arith, beyond)))
+              | inr within ↦ inr (inl (omega (arith, within, grown)))
+            ]
+        | inr full ↦ inr (inr (omega (arith, full.1)))
+      ]
+]
+
+-- the room for strings grows to no more than was found for it
+pub most-within : (needed old new wanted : ℕ) → Doubles needed old new → (needed ≤ old → wanted ≡ old)
+    → (old < needed → wanted ≡ max 4 (max needed (2 * old))) → new ≤ wanted
+most-within needed old new wanted h same more = elim (cases_lt old needed) [
+  | inl missing ↦
+      elim (cases_eq new old) [
+        | inl kept ↦ omega (arith, kept, missing, more missing)
+        | inr grown ↦ omega (arith, h.grown grown, more missing)
+      ]
+  | inr enough ↦ omega (arith, h.enough enough, same enough)
+]
 
 -- the hash that a header was made with
-pub made-hash : (hash number n : ℕ) (string : List ℕ) → hash < 2 ^ 64 → hash_at (header_of hash number n ++ string) 0 ≡ hash
+pub made-hash : (hash number n : ℕ) (string : List ℕ) → hash < 2 ^ 64
+    → hash_at (header_of hash number n ++ string) 0 ≡ hash
 made-hash hash number n string small = from_le_bytes-to_le_bytes_8 hash small
 
 -- a header in front of its string makes a record
-pub record-made : (hash number : ℕ) (string : List ℕ) → number < 2 ^ 32 → IsRecord number (header_of hash number (length string) ++ string)
+pub record-made : (hash number : ℕ) (string : List ℕ) → number < 2 ^ 32
+    → IsRecord number (header_of hash number (length string) ++ string)
 record-made hash number string small = record {
   long = omega arith;
   number_is = from_le_bytes-to_le_bytes_4 number small;
@@ -49,7 +109,8 @@ record-made hash number string small = record {
 }
 
 -- one more record behind the others
-pub records-push : (rs : List (List ℕ)) (r : List ℕ) → AreRecords rs → IsRecord (length rs) r → AreRecords (rs ++ r ∷ [])
+pub records-push : (rs : List (List ℕ)) (r : List ℕ) → AreRecords rs → IsRecord (length rs) r
+    → AreRecords (rs ++ r ∷ [])
 records-push rs r h is i l = elim (cases_lt i (length rs)) [
   | inl low ↦ subst (λ x. IsRecord i x) (sym (get_or_append_left rs (r ∷ []) [] i low)) (h i low)
   | inr high ↦
@@ -65,16 +126,21 @@ records-take n rs h i l =
     subst (λ x. IsRecord i x) (sym (get_or-take n rs i [] low)) (h i (omega (arith, l, few)))
 
 -- the hash of a record that is there
-pub get-hash : (rs : List (List ℕ)) (i : ℕ) (r : List ℕ) → slice_get rs i ≡ Some r → slice_get (map (λ (p : ℕ × List ℕ). p.0) (map pair_of rs)) i ≡ Some (hash_at r 0)
-get-hash rs i r is = slice_get-map (λ (p : ℕ × List ℕ). p.0) (map pair_of rs) i ∙ ap (option_map (λ (p : ℕ × List ℕ). p.0)) (slice_get-map pair_of rs i ∙ ap (option_map pair_of) is)
+pub get-hash : (rs : List (List ℕ)) (i : ℕ) (r : List ℕ) → slice_get rs i ≡ Some r
+    → slice_get (map (λ (p : ℕ × List ℕ). p.0) (map pair_of rs)) i ≡ Some (hash_at r 0)
+get-hash rs i r is = slice_get-map (λ (p : ℕ × List ℕ). p.0) (map pair_of rs) i
+    ∙ ap (option_map (λ (p : ℕ × List ℕ). p.0)) (slice_get-map pair_of rs i ∙ ap (option_map pair_of) is)
 
 -- and its string
-pub get-string : (rs : List (List ℕ)) (i : ℕ) (r : List ℕ) → slice_get rs i ≡ Some r → slice_get (map (λ (p : ℕ × List ℕ). p.1) (map pair_of rs)) i ≡ Some (drop 13 r)
-get-string rs i r is = slice_get-map (λ (p : ℕ × List ℕ). p.1) (map pair_of rs) i ∙ ap (option_map (λ (p : ℕ × List ℕ). p.1)) (slice_get-map pair_of rs i ∙ ap (option_map pair_of) is)
+pub get-string : (rs : List (List ℕ)) (i : ℕ) (r : List ℕ) → slice_get rs i ≡ Some r
+    → slice_get (strings_in rs) i ≡ Some (drop 13 r)
+get-string rs i r is = slice_get-map (λ (p : ℕ × List ℕ). p.1) (map pair_of rs) i
+    ∙ ap (option_map (λ (p : ℕ × List ℕ). p.1)) (slice_get-map pair_of rs i ∙ ap (option_map pair_of) is)
 
 -- a hash and a string at the same place are a pair of the list
 pub pair-is : (xs : List (ℕ × List ℕ)) (i hash : ℕ) (string : List ℕ)
-    → slice_get (map (λ (p : ℕ × List ℕ). p.0) xs) i ≡ Some hash → slice_get (map (λ (p : ℕ × List ℕ). p.1) xs) i ≡ Some string
+    → slice_get (map (λ (p : ℕ × List ℕ). p.0) xs) i ≡ Some hash
+    → slice_get (map (λ (p : ℕ × List ℕ). p.1) xs) i ≡ Some string
     → get_or xs i (0, []) ≡ (hash, string)
 pair-is [] i hash string h s = absurd (cc)
 pair-is (x ∷ xs) zero hash string h s =

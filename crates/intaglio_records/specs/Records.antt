@@ -1,5 +1,5 @@
 -- What a contract sees of strings with their hashes, and how they are kept.
-use Rattle.std.specs.Prelude.{◌≡◌, ℕ, ◌-◌, ◌*◌, ◌^◌, ◌<◌, ◌≤◌, List, [], length, get_or, drop, map, min, refl}
+use Rattle.std.specs.Prelude.{◌≡◌, ◌⊎◌, ℕ, ◌+◌, ◌-◌, ◌*◌, ◌^◌, ◌<◌, ◌≤◌, List, [], length, get_or, drop, map, min, refl, sum_by}
 use Rattle.std.specs.Coded.{Coded, code_by, coded×, coded_ℕ, coded_list}
 use Rattle.intaglio_packed.specs.Strings.{Strings, byte_count_of, byte_room_of}
 use Rattle.intaglio_records.specs.Header.{hash_at, number_at}
@@ -30,6 +30,14 @@ strings_of v = map (λ (p : ℕ × List ℕ). p.1) v.list
 pub record HasRoom (n : ℕ) (v : Records) : Type 0 where
   pub string : length v.list < v.most
   pub bytes : n ≤ v.spare_bytes
+
+-- how many bytes of records there is room for in total
+abbrev pub record_room_of : Records → ℕ
+record_room_of v = 13 * v.most + sum_by length (strings_of v) + v.spare_bytes
+
+-- such room stays, at least doubles, or becomes the most that records take
+abbrev pub StaysOrDoubles : ℕ → ℕ → Type 0
+StaysOrDoubles old new = (new ≡ old) ⊎ ((2 * old ≤ new) ⊎ (new ≡ 2 ^ 32 - 1))
 
 -- the hash and the string of a record
 abbrev pub pair_of : List ℕ → ℕ × List ℕ

@@ -6,7 +6,7 @@ ghost use Rattle.intaglio_records.specs.Header.{header_of, hash_at, number_at};
 pub(crate) const HEADER: usize = 13;
 
 // What stands for the length of a string that is as long as this or longer.
-const LONG: usize = 255;
+pub(crate) const LONG: usize = 255;
 
 // The bytes in front of a string of this length.
 #[inline(always)]
@@ -37,4 +37,13 @@ pub(crate) fn read_hash(bytes: &[u8], at: usize) -> u64
         bytes[at + 6],
         bytes[at + 7],
     ])
+}
+
+// The number of the string of the record that begins here.
+#[inline(always)]
+pub(crate) fn read_number(bytes: &[u8], at: usize) -> u32
+    requires { at + 12 ≤ length bytes.now }
+    ensures { result ≡ number_at bytes.now at }
+{
+    u32::from_le_bytes([bytes[at + 8], bytes[at + 9], bytes[at + 10], bytes[at + 11]])
 }

@@ -1,13 +1,15 @@
 #![tactic(auto)]
 //! Strings with their hashes, as records in one buffer.
 //!
-//! This is to be the store of packed tables. They still use the buffer of `intaglio_packed`, and no crate uses this
-//! one.
+//! This is to be the store of packed tables. They still use the buffer of `intaglio_packed`, and no crate uses
+//! this one.
 //!
-//! [`StringRecords`] is a list of strings, each with a hash. A *record* has the hash, the number of the string and
-//! its length in front of the string, so that what a search by a hash compares is read in one place.
+//! [`StringRecords`] is a list of strings, each with a hash. A *record* has the hash, the number of the string
+//! and its length in front of the string, so that all that a search by a hash compares is read in one place.
 mod entries;
 mod header;
+mod matches;
 mod records;
 
+pub use matches::Matches;
 pub use records::StringRecords;

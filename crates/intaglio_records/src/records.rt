@@ -1,11 +1,13 @@
 //! A list of strings with their hashes.
-ghost use Rattle.std.specs.Prelude.{◌≡◌, ◌+◌, ◌-◌, ◌*◌, ◌^◌, ◌<◌, ◌≤◌, [], ◌∷◌, ◌++◌, length, max, min, sum_by, take, slice_get, Some};
-ghost use Rattle.std.specs.Prelude.{IfOk, IsOk, OnOk, OnErr, option_copied};
+ghost use Rattle.std.specs.Prelude.{◌≡◌, ◌≢◌, ℕ, ◌+◌, ◌-◌, ◌*◌, ◌^◌, ◌<◌, ◌≤◌, [], ◌∷◌, ◌++◌, length, max, min, sum_by, take, slice_get, Some};
+ghost use Rattle.std.specs.Prelude.{IfOk, IfSome, IsOk, None, OnOk, OnErr, option_copied};
 ghost use Rattle.intaglio_packed.specs.Growth.{Doubles};
-ghost use Rattle.intaglio_records.specs.Records.{HasRoom, hashes_of, strings_of};
+ghost use Rattle.intaglio_records.specs.Matches.{FindsAll};
+ghost use Rattle.intaglio_records.specs.Records.{HasRoom, StaysOrDoubles, hashes_of, record_room_of, strings_of};
 
 use crate::entries::{remove_behind, widen};
 use crate::header::{HEADER, header, read_hash};
+use crate::matches::Matches;
 use intaglio_packed::StringBuffer;
 use intaglio_slots::Lines;
 use std::alloc::{AllocError, Global};
@@ -17,12 +19,12 @@ const LARGEST: usize = u32::MAX as usize;
 // The least room for strings after a growth.
 const LEAST: usize = 4;
 
-/// A list of strings of bytes, each with a hash. All are in one buffer, so a string costs no allocation of its own.
-/// It takes its bytes and 17 more, about 9 in the lines by which it is found, and all records take at most
+/// A list of strings of bytes, each with a hash. All are in one buffer, so a string costs no allocation of its
+/// own. It takes its bytes and 17 more, about 9 in the lines by which it is found, and all records take at most
 /// 2^32 - 1 bytes.
 ///
-/// A contract sees the list of pairs of a hash and a string, the room for further strings, and the room for their
-/// bytes, from which those in front of a string are left out.
+/// A contract sees the list of pairs of a hash and a string, for how many strings there is room, and the room for
+/// bytes of further strings, without those in front of a string.
 #[derive(Drop)]
 pub struct StringRecords {
     records: StringBuffer,
@@ -56,7 +58,8 @@ impl Model for StringRecords {
     } };
 }
 
-// How many bytes so many strings take, which have so many bytes together. Fails beyond what all records can take.
+// How many bytes so many records take, whose strings have so many bytes together. Fails beyond the most that all
+// records take.
 fn record_bytes(strings: usize, bytes: usize) -> Result<usize, AllocError>
     ensures sum { IfOk result (λ n. n ≡ 13 * strings + bytes) }
     ensures small { IfOk result (λ n. n ≤ 2 ^ 32 - 1) }
@@ -72,7 +75,8 @@ fn record_bytes(strings: usize, bytes: usize) -> Result<usize, AllocError>
     Ok(needed)
 }
 
-// The room for strings that makes place for so many more: this one if it is enough, else at least twice as much.
+// The room for strings once there is room for so many more: this one if it is enough, else at least twice as
+// much.
 fn grown(len: usize, capacity: usize, strings: usize) -> Result<usize, AllocError>
     requires order { len ≤ capacity }
     requires small { capacity ≤ 2 ^ 32 }
@@ -100,8 +104,8 @@ impl StringRecords {
         }
     }
 
-    /// An empty list with room for this many strings of this many bytes together. With room for none it allocates
-    /// nothing.
+    /// An empty list with room for this many strings of this many bytes together. With room for none it
+    /// allocates nothing.
     ///
     /// # Errors
     ///
@@ -188,18 +192,46 @@ impl StringRecords {
         read_hash(self.records.string(i), 0)
     }
 
-    /// Makes room for this many more strings, of this many bytes together. If the room for strings has to grow, it
-    /// at least doubles.
+    /// A search for the strings with this hash. It gives each of them once, and no other.
+    #[inline(always)]
+    pub fn matches(&self, hash: u64) -> Matches<'_>
+        ensures { FindsAll self.now.list hash result }
+    {
+        Matches {
+            records: &self.records,
+            candidates: self.lines.find(hash),
+            hash,
+        }
+    }
+
+    /// The number of a string, if it was added with this hash. Of equal ones with equal hashes it may be any.
+    #[inline]
+    pub fn find(&self, hash: u64, string: &[u8]) -> Option<u32>
+        ensures found { IfSome result (λ i. slice_get self.now.list i ≡ Some (hash, string.now)) }
+        ensures none { result ≡ None → (i : ℕ) → slice_get self.now.list i ≢ Some (hash, string.now) }
+    {
+        let mut matches = self.matches(hash);
+        while let Some(found) = matches.next() {
+            if found.1 == string {
+                return Some(found.0);
+            }
+        }
+        None
+    }
+
+    /// Makes room for this many more strings, of this many bytes together. If the room for strings or that for
+    /// bytes has to grow, it at least doubles.
     ///
     /// # Errors
     ///
-    /// [`AllocError`] if an allocation fails, or if the records would take more than 2^32 - 1 bytes. Then there is
-    /// room for as many strings as before, and for at least as many bytes.
+    /// [`AllocError`] if an allocation fails, or if the records would take more than 2^32 - 1 bytes. Then there
+    /// is room for as many strings as before, and for at least as many bytes.
     #[inline]
     pub fn reserve(&mut self, strings: usize, bytes: usize) -> Result<(), AllocError>
         ensures list { self.new.list ≡ self.old.list }
         ensures spare_bytes { self.old.spare_bytes ≤ self.new.spare_bytes }
         ensures grows { Doubles (length self.old.list + strings) self.old.most self.new.most }
+        ensures doubles { StaysOrDoubles (record_room_of self.old) (record_room_of self.new) }
         ensures strings { OnOk result (length self.new.list + strings ≤ self.new.most) }
         ensures bytes { OnOk result (bytes ≤ self.new.spare_bytes) }
         ensures err { OnErr result (self.new.most ≡ self.old.most) }
@@ -219,6 +251,7 @@ impl StringRecords {
         ensures list { self.new.list ≡ self.old.list }
         ensures spare_bytes { self.old.spare_bytes ≤ self.new.spare_bytes }
         ensures grows { Doubles (length self.old.list + strings) self.old.most self.new.most }
+        ensures doubles { StaysOrDoubles (record_room_of self.old) (record_room_of self.new) }
         ensures strings { OnOk result (length self.new.list + strings ≤ self.new.most) }
         ensures bytes { OnOk result (bytes ≤ self.new.spare_bytes) }
         ensures err { OnErr result (self.new.most ≡ self.old.most) }
@@ -234,8 +267,8 @@ impl StringRecords {
         self.records.reserve_strings(strings)
     }
 
-    /// Shrinks the room to `min_capacity` strings, or to those that there are if they are more, and the room for
-    /// bytes to those that there are. All strings are copied, and nothing is hashed.
+    /// Shrinks the room to `min_capacity` strings, or to those that there are if they are more, and the room
+    /// for bytes to those that there are. All strings are copied.
     ///
     /// # Errors
     ///

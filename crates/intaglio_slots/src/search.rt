@@ -22,6 +22,7 @@ impl<'a> Candidates<'a> {
     pub fn next(&mut self) -> Option<u32>
         requires { IsSearch self.old }
         ensures gives { GivesNext self.old result self.new }
+        ensures search { IsSearch self.new }
         ensures fewer { IfSome result (λ _. most_left self.new < most_left self.old) }
     {
         while self.equal == 0 {

@@ -16,6 +16,7 @@ mod forms;
 mod frozen_tables;
 mod hashes;
 mod packed_tables;
+mod records;
 mod searches;
 mod sharding;
 mod slots;

@@ -1,4 +1,4 @@
-use Rattle.std.proofs.Common.{◌≡◌, ◌+◌, ◌-◌, ◌∷◌, arith, ap, ◌∙◌, sym, subst}
+use Rattle.std.proofs.Common.{◌≡◌, ◌+◌, ◌-◌, arith, ap, ◌∙◌, subst}
 use Rattle.intaglio_slots.specs.Chains.{IsFilled}
 use Rattle.intaglio_records.specs.Entries.{entries, position}
 use Rattle.intaglio_records.proofs.EntryLemmas.{entry-more}
@@ -9,8 +9,12 @@ remove_newest-requires c =
     let rs = c.args.records.now.list in
     let n = c.loop-count.count - 1 in
     let more = entry-more rs n c.read_hash.result c.string.result.now c.string.ensures c.read_hash.ensures in
-    let at : c.loop-count.count ≡ n + 1 = omega (arith, c.loop-count-test.true) in
-    (position rs n, entries rs n, subst (λ es. IsFilled c.loop-count.lines es) (ap (entries rs) at ∙ more) c.loop-count.invariant.filled)
+    let at : c.loop-count.count ≡ n + 1 = omega (arith, c.loop-count-test.true) in (
+      position rs n,
+      entries rs n,
+      subst (λ es. IsFilled c.loop-count.lines es) (ap (entries rs) at
+          ∙ more) c.loop-count.invariant.filled,
+    )
 
 pub loop-count-preserved : goal.loop-count-preserved
 loop-count-preserved c =
@@ -18,7 +22,8 @@ loop-count-preserved c =
     let n = c.loop-count.count - 1 in
     let more = entry-more rs n c.read_hash.result c.string.result.now c.string.ensures c.read_hash.ensures in
     let at : c.loop-count.count ≡ n + 1 = omega (arith, c.loop-count-test.true) in
-    let old = subst (λ es. IsFilled c.loop-count.lines es) (ap (entries rs) at ∙ more) c.loop-count.invariant.filled in
+    let old = subst (λ es. IsFilled c.loop-count.lines es) (ap (entries rs) at
+    ∙ more) c.loop-count.invariant.filled in
     record {
       filled = c.remove_newest.ensures.removed (position rs n) (entries rs n) old;
       places = c.remove_newest.ensures.room ∙ c.loop-count.invariant.places;
@@ -29,4 +34,9 @@ loop-count-preserved c =
 pub returns-clause-kept : goal.returns-clause-kept
 returns-clause-kept c =
     let rs = c.args.records.now.list in
-    subst (λ n. IsFilled c.loop-count.lines (entries rs n)) (omega (arith, c.loop-count.invariant.above, c.loop-count.invariant.within, c.loop-count-test.false)) c.loop-count.invariant.filled
+    subst (λ n. IsFilled c.loop-count.lines (entries rs n)) (omega (
+      arith,
+      c.loop-count.invariant.above,
+      c.loop-count.invariant.within,
+      c.loop-count-test.false,
+    )) c.loop-count.invariant.filled

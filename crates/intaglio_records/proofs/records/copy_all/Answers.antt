@@ -15,8 +15,21 @@ push_hashed-requires c =
     let long : i < length strings = rw (length-map xs (λ p. p.1)) within in
     let is = get_or_from_slice_get strings i c.string.result.now [] c.string.ensures in
     record {
-      string = omega (arith, within, ap length c.loop-i.invariant.list, length-take-le i xs (omega arith), c.loop-i.invariant.most, c.requires.room);
-      bytes = omega (arith, ap length is, sum_by_more_le length strings i [] long, c.loop-i.invariant.spare, c.requires.bytes);
+      string = omega (
+        arith,
+        within,
+        ap length c.loop-i.invariant.list,
+        length-take-le i xs (omega arith),
+        c.loop-i.invariant.most,
+        c.requires.room,
+      );
+      bytes = omega (
+        arith,
+        ap length is,
+        sum_by_more_le length strings i [] long,
+        c.loop-i.invariant.spare,
+        c.requires.bytes,
+      );
     }
 
 pub loop-i-preserved : goal.loop-i-preserved
@@ -28,9 +41,18 @@ loop-i-preserved c =
     let long : i < length strings = rw (length-map xs (λ p. p.1)) within in
     let is = get_or_from_slice_get strings i c.string.result.now [] c.string.ensures in
     record {
-      list = c.push_hashed.ensures.list ∙ ap (λ ys. ys ++ (c.hash.result, c.string.result.now) ∷ []) c.loop-i.invariant.list
+      list = c.push_hashed.ensures.list ∙ ap (λ ys. ys ++ (
+        c.hash.result,
+        c.string.result.now,
+      ) ∷ []) c.loop-i.invariant.list
           ∙ ap (λ p. take i xs ++ p ∷ []) (sym (pair-is xs i c.hash.result c.string.result.now c.hash.ensures c.string.ensures))
           ∙ sym (take_more xs i (0, []) within);
       most = c.push_hashed.ensures.most ∙ c.loop-i.invariant.most;
-      spare = omega (arith, ap length is, sum_by_more length strings i [] long, c.loop-i.invariant.spare, c.push_hashed.ensures.spare_bytes);
+      spare = omega (
+        arith,
+        ap length is,
+        sum_by_more length strings i [] long,
+        c.loop-i.invariant.spare,
+        c.push_hashed.ensures.spare_bytes,
+      );
     }

@@ -9,7 +9,14 @@ invariant_of-self c =
     rw c.clear-2.ensures.list
     (record {
       each = λ i l. absurd (omega (arith, l));
-      headers = omega (arith, count, c.clear-2.ensures.most, c.clear-2.ensures.byte_room, c.self.invariant.headers, c.self.invariant.small);
+      headers = omega (
+        arith,
+        count,
+        c.clear-2.ensures.most,
+        c.clear-2.ensures.byte_room,
+        c.self.invariant.headers,
+        c.self.invariant.small,
+      );
       small = omega arith;
       filled = c.clear.ensures.empty;
       places = omega (arith, c.clear-2.ensures.most, c.clear.ensures.room, c.self.invariant.places);
@@ -19,4 +26,11 @@ pub returns-clause-spare_bytes : goal.returns-clause-spare_bytes
 returns-clause-spare_bytes c =
     let rs = c.self.inside.records.list in
     let count = headers-within rs (are-long rs c.self.invariant.each) in
-    rw (← c.self.view_is, c.clear-2.ensures.list) (omega (arith, count, c.clear-2.ensures.most, c.clear-2.ensures.byte_room, c.self.invariant.headers, c.self.invariant.small))
+    rw (← c.self.view_is, c.clear-2.ensures.list) (omega (
+      arith,
+      count,
+      c.clear-2.ensures.most,
+      c.clear-2.ensures.byte_room,
+      c.self.invariant.headers,
+      c.self.invariant.small,
+    ))

@@ -11,7 +11,12 @@ use Rattle.intaglio_records.proofs.records.StringRecords.push_hashed.Goals as go
 
 pub overflow_cast-number : goal.overflow_cast-number
 overflow_cast-number c =
-    omega (arith, c.len-number.ensures, headers-within c.self.inside.records.list (are-long c.self.inside.records.list c.self.invariant.each), c.self.invariant.small)
+    omega (
+      arith,
+      c.len-number.ensures,
+      headers-within c.self.inside.records.list (are-long c.self.inside.records.list c.self.invariant.each),
+      c.self.invariant.small,
+    )
 
 pub invariant_of-self : goal.invariant_of-self
 invariant_of-self c =
@@ -24,19 +29,45 @@ invariant_of-self c =
     let r = header_of c.args.hash number (length c.args.string.now) ++ c.args.string.now in
     let list : new.list ≡ old.list ++ r ∷ [] = rw c.header-header.ensures at c.push_parts.ensures.list in
     let more : length new.list ≡ length old.list + 1 = ap length list ∙ length-append old.list (r ∷ []) in
-    let spare : old.spare_bytes ≡ new.spare_bytes + (13 + length c.args.string.now) = rw c.header-header.ensures at c.push_parts.ensures.spare_bytes in
+    let spare : old.spare_bytes ≡ new.spare_bytes + (13 + length c.args.string.now) =
+    rw c.header-header.ensures at c.push_parts.ensures.spare_bytes in
     let room = rw (← c.self.view_is) at c.requires.bytes in
     let most = rw (← c.self.view_is, length-map old.list pair_of) at c.requires.string in
     let at : c.byte_count.result ≡ byte_count_of old = c.byte_count.ensures in
-    let free : length (entries old.list (length old.list)) < places_of c.self.inside.lines = omega (arith, length-entries old.list (length old.list), most, c.self.invariant.places) in
+    let free : length (entries old.list (length old.list)) < places_of c.self.inside.lines =
+    omega (arith, length-entries old.list (length old.list), most, c.self.invariant.places) in
     let placed = c.place.ensures.placed (entries old.list (length old.list)) free c.self.invariant.filled in
     let hash = made-hash c.args.hash number (length c.args.string.now) c.args.string.now c.ranges.hash.fits in
-    let all : entries new.list (length new.list) ≡ (c.args.hash, c.byte_count.result) ∷ entries old.list (length old.list) =
-    ap (λ rs. entries rs (length rs)) list ∙ entries-push old.list r c.args.hash c.byte_count.result (sym hash) at in
+    let all : entries new.list (length new.list) ≡ (
+      c.args.hash,
+      c.byte_count.result,
+    ) ∷ entries old.list (length old.list) =
+    ap (λ rs. entries rs (length rs)) list
+    ∙ entries-push old.list r c.args.hash c.byte_count.result (sym hash) at in
     record {
       each = subst AreRecords (sym list) (records-push old.list r c.self.invariant.each (subst (λ k. IsRecord k r) c.len-number.ensures made));
-      headers = omega (arith, more, spare, room, most, c.self.invariant.headers, c.self.invariant.small, c.push_parts.ensures.most, c.push_parts.ensures.byte_room);
-      small = omega (arith, more, spare, room, most, c.self.invariant.headers, c.self.invariant.small, c.push_parts.ensures.most, c.push_parts.ensures.byte_room);
+      headers = omega (
+        arith,
+        more,
+        spare,
+        room,
+        most,
+        c.self.invariant.headers,
+        c.self.invariant.small,
+        c.push_parts.ensures.most,
+        c.push_parts.ensures.byte_room,
+      );
+      small = omega (
+        arith,
+        more,
+        spare,
+        room,
+        most,
+        c.self.invariant.headers,
+        c.self.invariant.small,
+        c.push_parts.ensures.most,
+        c.push_parts.ensures.byte_room,
+      );
       filled = subst (λ es. IsFilled c.place.new.self es) (sym all) placed;
       places = omega (arith, c.push_parts.ensures.most, c.place.ensures.room, c.self.invariant.places);
     }
@@ -45,5 +76,6 @@ pub place-requires : goal.place-requires
 place-requires c =
     let old = c.self.inside.records in
     let most = rw (← c.self.view_is, length-map old.list pair_of) at c.requires.string in
-    let free : length (entries old.list (length old.list)) < places_of c.self.inside.lines = omega (arith, length-entries old.list (length old.list), most, c.self.invariant.places) in
+    let free : length (entries old.list (length old.list)) < places_of c.self.inside.lines =
+    omega (arith, length-entries old.list (length old.list), most, c.self.invariant.places) in
     record { free = (entries old.list (length old.list), c.self.invariant.filled, free) }

@@ -6,4 +6,5 @@ pub returns : goal.returns
 returns c =
     let s = c.string.result.now in
     rw (← c.self.view_is)
-    (get-string c.self.inside.records.list c.args.i s c.string.ensures ∙ ap Some (sym (take_all (length s - 13) (drop 13 s) (omega (arith, length-drop 13 s)))))
+    (get-string c.self.inside.records.list c.args.i s c.string.ensures
+    ∙ ap Some (sym (take_all (length s - 13) (drop 13 s) (omega (arith, length-drop 13 s)))))

@@ -13,18 +13,42 @@ invariant_of-self c =
     rw c.truncate.ensures.list
     (record {
       each = records-take c.args.n rs c.self.invariant.each;
-      headers = omega (arith, length-take c.args.n rs, headers-behind c.args.n rs long, c.truncate.ensures.most, rw c.truncate.ensures.list at c.truncate.ensures.byte_room, c.self.invariant.headers, c.self.invariant.small);
+      headers = omega (
+        arith,
+        length-take c.args.n rs,
+        headers-behind c.args.n rs long,
+        c.truncate.ensures.most,
+        rw c.truncate.ensures.list at c.truncate.ensures.byte_room,
+        c.self.invariant.headers,
+        c.self.invariant.small,
+      );
       small = omega (arith, headers-behind c.args.n rs long, c.self.invariant.small);
       filled = subst (λ es. IsFilled c.remove_behind.new.lines es) (sym (entries-cut c.args.n rs)) c.remove_behind.ensures.kept;
-      places = omega (arith, c.truncate.ensures.most, c.remove_behind.ensures.places, c.self.invariant.places);
+      places = omega (
+        arith,
+        c.truncate.ensures.most,
+        c.remove_behind.ensures.places,
+        c.self.invariant.places,
+      );
     })
 
 pub returns-clause-list : goal.returns-clause-list
-returns-clause-list c = rw (← c.self.view_is, c.truncate.ensures.list) (sym (take-map pair_of c.args.n c.self.inside.records.list))
+returns-clause-list c = rw (
+  ← c.self.view_is,
+  c.truncate.ensures.list,
+) (sym (take-map pair_of c.args.n c.self.inside.records.list))
 
 pub returns-clause-spare_bytes : goal.returns-clause-spare_bytes
 returns-clause-spare_bytes c =
     let rs = c.self.inside.records.list in
     let long = are-long rs c.self.invariant.each in
     rw (← c.self.view_is, c.truncate.ensures.list)
-    (omega (arith, length-take c.args.n rs, headers-behind c.args.n rs long, c.truncate.ensures.most, rw c.truncate.ensures.list at c.truncate.ensures.byte_room, c.self.invariant.headers, c.self.invariant.small))
+    (omega (
+      arith,
+      length-take c.args.n rs,
+      headers-behind c.args.n rs long,
+      c.truncate.ensures.most,
+      rw c.truncate.ensures.list at c.truncate.ensures.byte_room,
+      c.self.invariant.headers,
+      c.self.invariant.small,
+    ))

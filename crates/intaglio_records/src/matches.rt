@@ -1,0 +1,76 @@
+//! Searches by a hash.
+ghost use Rattle.std.specs.Prelude.{◌≡◌, ℕ, ◌+◌, ◌<◌, ◌≤◌, [], length, get_or, drop, slice_range, IfSome};
+ghost use Rattle.intaglio_slots.specs.Search.{most_left};
+ghost use Rattle.intaglio_records.specs.Records.{AreRecords};
+ghost use Rattle.intaglio_records.specs.Entries.{position};
+ghost use Rattle.intaglio_records.specs.Matches.{IsPosition, IsSearch, GivesMatch};
+
+use crate::header::{HEADER, LONG, read_hash, read_number};
+use intaglio_packed::StringBuffer;
+use intaglio_slots::Candidates;
+
+/// A search for the strings that have a hash. It gives each of them once, and no other.
+#[derive(Drop)]
+pub struct Matches<'a> {
+    pub(crate) records: &'a StringBuffer,
+    pub(crate) candidates: Candidates<'a>,
+    pub(crate) hash: u64,
+}
+
+impl<'a> Matches<'a> {
+    /// The next string and its number, or `None` once all were given.
+    #[inline(always)]
+    pub fn next(&mut self) -> Option<(u32, &'a [u8])>
+        requires { IsSearch self.old }
+        ensures gives { GivesMatch self.old result self.new }
+        ensures search { IsSearch self.new }
+        ensures fewer { IfSome result (λ _. most_left self.new.candidates < most_left self.old.candidates) }
+    {
+        while let Some(slot) = self.candidates.next() {
+            let at = slot as usize;
+            let bytes = self.records.bytes();
+            if read_hash(bytes, at) == self.hash {
+                return Some((read_number(bytes, at), string_at(self.records, at)));
+            }
+        }
+        None
+    }
+}
+
+// The string of the record that begins at this byte.
+#[inline(always)]
+fn string_at(records: &StringBuffer, at: usize) -> &[u8]
+    requires begins { IsPosition records.now.list at }
+    requires each { AreRecords records.now.list }
+    ensures { (i : ℕ) → i < length records.now.list → at ≡ position records.now.list i →
+        result.now ≡ drop 13 (get_or records.now.list i []) }
+{
+    let bytes = records.bytes();
+    let length = bytes[at + 12] as usize;
+    if length == LONG {
+        return long_string(records, read_number(bytes, at) as usize);
+    }
+    let start = at + HEADER;
+    let end = start + length;
+    part(bytes, start, end)
+}
+
+#[inline(always)]
+fn part(bytes: &[u8], start: usize, end: usize) -> &[u8]
+    requires order { start ≤ end }
+    requires within { end ≤ length bytes.now }
+    ensures { result.now ≡ slice_range bytes.now start end }
+{
+    &bytes[start..end]
+}
+
+// A string whose record doesn't say how long it is. Apart, so that the code of the others is short.
+#[cold]
+#[inline(never)]
+fn long_string(records: &StringBuffer, i: usize) -> &[u8]
+    requires there { i < length records.now.list }
+    requires each { AreRecords records.now.list }
+    ensures { result.now ≡ drop 13 (get_or records.now.list i []) }
+{
+    &records.string(i)[HEADER..]
+}
