@@ -1,21 +1,25 @@
 //! The subcommands that translate columns: lines to codes, codes to lines, and codes to other codes.
 use crate::keeping::Keeping;
 use crate::misfit::{no_number, no_string, no_symbol};
-use crate::run::checked;
+use crate::opening::{Bytes, first_dictionary};
 use clap::ArgMatches;
 use intaglio_column_file::begins_as_column;
 use intaglio_dict_columns::decoding::decode_column;
-use intaglio_dict_columns::opening::Pair;
+use intaglio_dict_columns::opening::{Pair, no_shards};
 use intaglio_dict_columns::rows::missing_text;
 use intaglio_dict_columns::writing::write_column;
-use intaglio_dict_io::input::{STANDARD, STANDARD_INPUT, first_input, meter_of, name_of, rest_of};
+use intaglio_dict_io::input::{STANDARD, STANDARD_INPUT, meter_of, name_of, rest_of, whole};
 use intaglio_dict_io::metered::{Meter, Metered};
 use intaglio_dict_io::noticing::Noticing;
 use intaglio_dict_io::output::{Content, write_to};
 use intaglio_dict_io::report;
 use intaglio_dict_io::report::{Stream, Tell};
+use intaglio_dict_shards::checking::checked;
+use intaglio_dict_shards::folder::open_shards;
+use intaglio_dict_shards::renumbering::sharded_map;
 use intaglio_dictionary::codes::CodeMap;
 use intaglio_dictionary::columns::{decode, encode, renumber};
+use intaglio_dictionary::dictionary::{Dictionary, WholeDictionary};
 use intaglio_dictionary::error::ColumnError;
 use intaglio_frozen::Frozen;
 use std::alloc::Global;
@@ -25,17 +29,17 @@ use std::rt::Files;
 
 // What is made of an input.
 #[derive(Drop)]
-enum Translation<'a, 't> {
+enum Translation<'a, 't, D> {
     // The code of each line, also of one that isn't in the dictionary if that is asked for.
-    Encode(&'a Frozen<'t>, bool),
+    Encode(&'a D, bool),
     // The line of each code, and this text for a line that wasn't in the dictionary. A column is compared with the
-    // name and the bytes of the dictionary.
-    Decode(&'a Frozen<'t>, Option<&'a [u8]>, &'a str, &'a [u8]),
+    // name of the dictionary and its bytes, which a folder of shards doesn't have.
+    Decode(&'a D, Option<&'a [u8]>, &'a str, Option<&'a [u8]>),
     // The code at each code.
     Renumber(&'a CodeMap<'t>),
 }
 
-impl Translation<'_, '_> {
+impl<D: WholeDictionary + Dictionary> Translation<'_, '_, D> {
     // How many lines or codes were translated.
     fn translate<I: Read, W: Write>(
         &self,
@@ -96,14 +100,15 @@ impl Translation<'_, '_> {
 
 // The translations of several inputs, one after the other.
 #[derive(Drop)]
-struct Column<'a, 't> {
-    translation: Translation<'a, 't>,
+struct Column<'a, 't, D> {
+    translation: Translation<'a, 't, D>,
     names: &'a [&'a str],
     meter: Meter,
     count: u64,
 }
 
-impl<R: Files + Input + Tell + AllocGlobal> Content<R> for Column<'_, '_> {
+impl<R: Files + Input + Tell + AllocGlobal, D: WholeDictionary + Dictionary> Content<R>
+    for Column<'_, '_, D> {
     fn write<W: Write>(&mut self, rt: &R, name: &str, output: &mut Noticing<W>) -> Result<(), u8> {
         for input in self.names {
             self.add(rt, input, name, output)?;
@@ -112,7 +117,7 @@ impl<R: Files + Input + Tell + AllocGlobal> Content<R> for Column<'_, '_> {
     }
 }
 
-impl Column<'_, '_> {
+impl<D: WholeDictionary + Dictionary> Column<'_, '_, D> {
     // Translates one input.
     fn add<R: Files + Input + Tell + AllocGlobal, W: Write>(
         &mut self,
@@ -148,7 +153,7 @@ impl Column<'_, '_> {
     }
 }
 
-impl Column<'_, '_> {
+impl<D: WholeDictionary + Dictionary> Column<'_, '_, D> {
     // Whether an input is a column that is decoded.
     fn is_column<R: Files + Input + Tell + AllocGlobal>(
         &self,
@@ -175,11 +180,14 @@ impl Column<'_, '_> {
         let Translation::Decode(table, text, dictionary, bytes) = self.translation else {
             return Err(2);
         };
+        let Some(table_bytes) = bytes else {
+            return Err(no_shards(rt, dictionary));
+        };
         let file = rest_of(rt, input_name, input)?;
         self.meter = input.meter;
         let pair = Pair {
             dictionary,
-            table: bytes,
+            table: table_bytes,
             name: input_name,
             bytes: &file,
         };
@@ -194,36 +202,54 @@ pub fn encode_lines<R: Files + RandomSource + Input + Print + Tell + AllocGlobal
     rt: &R,
     found: &ArgMatches<'_>,
 ) -> Result<(), u8> {
-    let (name, bytes) = first_input(rt, found, "DICT")?;
-    encode_by(rt, found, name, &bytes)
+    let (name, dictionary) = first_dictionary(rt, found)?;
+    encode_by(rt, found, name, &dictionary)
 }
 
 fn encode_by<R: Files + RandomSource + Input + Print + Tell + AllocGlobal>(
     rt: &R,
     found: &ArgMatches<'_>,
     name: &str,
-    bytes: &[u8],
+    dictionary: &Bytes,
 ) -> Result<(), u8> {
-    match checked(rt, name, bytes) {
-        Ok(table) => {
-            let translation = Translation::Encode(&table, found.get_flag("MISSING"));
-            match found.get_str("COLUMN") {
-                Some(output) => encode_column(rt, found, name, bytes, output, translation),
-                None => translate(rt, found, "FILE", translation, "lines encoded"),
-            }
-        }
-        Err(status) => Err(status),
+    match dictionary {
+        Bytes::OfFile(bytes) => match checked(rt, name, bytes) {
+            Ok(table) => encode_with(rt, found, &table, name, Some(bytes.as_slice())),
+            Err(status) => Err(status),
+        },
+        Bytes::OfShards(all) => match open_shards(rt, name, all) {
+            Ok(shards) => encode_with(rt, found, &shards, name, None),
+            Err(status) => Err(status),
+        },
+    }
+}
+
+// Encodes by a table, of which these are the name and the bytes if it is in one file.
+fn encode_with<
+    R: Files + RandomSource + Input + Print + Tell + AllocGlobal,
+    D: WholeDictionary + Dictionary,
+>(rt: &R, found: &ArgMatches<'_>, table: &D, name: &str, bytes: Option<&[u8]>) -> Result<(), u8> {
+    let translation = Translation::Encode(table, found.get_flag("MISSING"));
+    let Some(output) = found.get_str("COLUMN") else {
+        return translate(rt, found, "FILE", translation, "lines encoded");
+    };
+    match bytes {
+        Some(bytes) => encode_column(rt, found, name, bytes, output, translation),
+        None => Err(no_shards(rt, name)),
     }
 }
 
 // Writes the column of the lines of the inputs.
-fn encode_column<R: Files + RandomSource + Input + Print + Tell + AllocGlobal>(
+fn encode_column<
+    R: Files + RandomSource + Input + Print + Tell + AllocGlobal,
+    D: WholeDictionary + Dictionary,
+>(
     rt: &R,
     found: &ArgMatches<'_>,
     name: &str,
     bytes: &[u8],
     output: &str,
-    translation: Translation<'_, '_>,
+    translation: Translation<'_, '_, D>,
 ) -> Result<(), u8> {
     let names = found.get_strs("FILE").unwrap_or(STANDARD_INPUT);
     let mut column = Column {
@@ -247,24 +273,42 @@ pub fn decode_codes<R: Files + RandomSource + Input + Print + Tell + AllocGlobal
     found: &ArgMatches<'_>,
 ) -> Result<(), u8> {
     let missing = missing_text(rt, found)?;
-    let (name, bytes) = first_input(rt, found, "DICT")?;
-    decode_by(rt, found, name, &bytes, missing)
+    let (name, dictionary) = first_dictionary(rt, found)?;
+    decode_by(rt, found, name, &dictionary, missing)
 }
 
 fn decode_by<R: Files + RandomSource + Input + Print + Tell + AllocGlobal>(
     rt: &R,
     found: &ArgMatches<'_>,
     name: &str,
-    bytes: &[u8],
+    dictionary: &Bytes,
     missing: Option<&[u8]>,
 ) -> Result<(), u8> {
-    match checked(rt, name, bytes) {
-        Ok(table) => {
-            let translation = Translation::Decode(&table, missing, name, bytes);
-            translate(rt, found, "CODES", translation, "codes decoded")
-        }
-        Err(status) => Err(status),
+    match dictionary {
+        Bytes::OfFile(bytes) => match checked(rt, name, bytes) {
+            Ok(table) => decode_with(rt, found, &table, missing, name, Some(bytes.as_slice())),
+            Err(status) => Err(status),
+        },
+        Bytes::OfShards(all) => match open_shards(rt, name, all) {
+            Ok(shards) => decode_with(rt, found, &shards, missing, name, None),
+            Err(status) => Err(status),
+        },
     }
+}
+
+fn decode_with<
+    R: Files + RandomSource + Input + Print + Tell + AllocGlobal,
+    D: WholeDictionary + Dictionary,
+>(
+    rt: &R,
+    found: &ArgMatches<'_>,
+    table: &D,
+    missing: Option<&[u8]>,
+    name: &str,
+    bytes: Option<&[u8]>,
+) -> Result<(), u8> {
+    let translation = Translation::Decode(table, missing, name, bytes);
+    translate(rt, found, "CODES", translation, "codes decoded")
 }
 
 /// Writes the code at each code of the inputs. Otherwise the exit status after a message.
@@ -272,7 +316,13 @@ pub fn renumber_codes<R: Files + RandomSource + Input + Print + Tell + AllocGlob
     rt: &R,
     found: &ArgMatches<'_>,
 ) -> Result<(), u8> {
-    let (name, bytes) = first_input(rt, found, "MAP")?;
+    let Some(name) = found.get_str("MAP") else {
+        return Err(2);
+    };
+    let bytes = match found.get_str("INTO") {
+        Some(into) => sharded_map(rt, found, name, into)?,
+        None => whole(rt, name, &mut Meter::silent())?,
+    };
     renumber_by(rt, found, name, &bytes)
 }
 
@@ -284,7 +334,7 @@ fn renumber_by<R: Files + RandomSource + Input + Print + Tell + AllocGlobal>(
 ) -> Result<(), u8> {
     match CodeMap::of(bytes) {
         Some(map) => {
-            let translation = Translation::Renumber(&map);
+            let translation = Translation::<Frozen<'_>>::Renumber(&map);
             translate(rt, found, "CODES", translation, "codes renumbered")
         }
         None => Err(report::failed(
@@ -296,11 +346,14 @@ fn renumber_by<R: Files + RandomSource + Input + Print + Tell + AllocGlobal>(
 }
 
 // Writes what is made of the inputs.
-fn translate<R: Files + RandomSource + Input + Print + Tell + AllocGlobal>(
+fn translate<
+    R: Files + RandomSource + Input + Print + Tell + AllocGlobal,
+    D: WholeDictionary + Dictionary,
+>(
     rt: &R,
     found: &ArgMatches<'_>,
     others: &str,
-    translation: Translation<'_, '_>,
+    translation: Translation<'_, '_, D>,
     done: &str,
 ) -> Result<(), u8> {
     let names = found.get_strs(others).unwrap_or(STANDARD_INPUT);

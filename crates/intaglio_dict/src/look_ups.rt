@@ -1,13 +1,15 @@
 //! The subcommands that look lines or symbols up.
-use crate::run::checked;
+use crate::opening::{Bytes, first_dictionary};
 use clap::ArgMatches;
-use intaglio_dict_io::input::{STANDARD_INPUT, first_input, name_of};
+use intaglio_dict_io::input::{STANDARD_INPUT, name_of};
 use intaglio_dict_io::metered::{Meter, Metered};
 use intaglio_dict_io::noticing::Noticing;
 use intaglio_dict_io::output::OUTPUT;
 use intaglio_dict_io::report;
 use intaglio_dict_io::report::Tell;
 use intaglio_dict_io::symbols::{read_symbols, typed_symbols};
+use intaglio_dict_shards::checking::checked;
+use intaglio_dict_shards::folder::open_shards;
 use intaglio_dictionary::dictionary::Dictionary;
 use intaglio_dictionary::error::DictionaryError;
 use intaglio_dictionary::look_up::{find_lines, write_strings};
@@ -15,6 +17,9 @@ use intaglio_frozen::TrustedFrozen;
 use intaglio_symbol::Symbol;
 use std::io;
 use std::rt::Files;
+
+// What is said of --trusted with a folder.
+const NOT_TRUSTED: &str = "--trusted takes a file, and this is a folder of shards";
 
 /// Writes the symbols of lines, and returns the exit status, as `grep` has it: 1 if some lines weren't found, and
 /// 2 after an error.
@@ -30,19 +35,28 @@ fn find_all<R: Files + Input + Print + Tell + AllocGlobal>(
     rt: &R,
     found: &ArgMatches<'_>,
 ) -> Result<bool, u8> {
-    let (name, bytes) = first_input(rt, found, "DICT")?;
-    find_by(rt, found, name, &bytes)
+    let (name, dictionary) = first_dictionary(rt, found)?;
+    let names = found.get_strs("FILE").unwrap_or(STANDARD_INPUT);
+    let is_trusted = found.get_flag("TRUSTED");
+    match dictionary {
+        Bytes::OfFile(bytes) => find_by(rt, is_trusted, name, &bytes, names),
+        Bytes::OfShards(_) if is_trusted => Err(report::of_folder(rt, name, NOT_TRUSTED)),
+        Bytes::OfShards(all) => match open_shards(rt, name, &all) {
+            Ok(shards) => find_in_files(rt, &shards, names),
+            Err(status) => Err(status),
+        },
+    }
 }
 
 // Opens the dictionary in these bytes, and looks the lines up.
 fn find_by<R: Files + Input + Print + Tell + AllocGlobal>(
     rt: &R,
-    found: &ArgMatches<'_>,
+    is_trusted: bool,
     name: &str,
     bytes: &[u8],
+    names: &[&str],
 ) -> Result<bool, u8> {
-    let names = found.get_strs("FILE").unwrap_or(STANDARD_INPUT);
-    if found.get_flag("TRUSTED") {
+    if is_trusted {
         match trusted(rt, name, bytes) {
             Ok(table) => find_in_files(rt, &table, names),
             Err(status) => Err(status),
@@ -99,8 +113,16 @@ pub fn get<R: Files + Input + Print + Tell + AllocGlobal>(
     found: &ArgMatches<'_>,
 ) -> Result<(), u8> {
     let typed = typed_symbols(rt, found)?;
-    let (name, bytes) = first_input(rt, found, "DICT")?;
-    get_by(rt, found.get_flag("TRUSTED"), name, &bytes, typed)
+    let (name, dictionary) = first_dictionary(rt, found)?;
+    let is_trusted = found.get_flag("TRUSTED");
+    match dictionary {
+        Bytes::OfFile(bytes) => get_by(rt, is_trusted, name, &bytes, typed),
+        Bytes::OfShards(_) if is_trusted => Err(report::of_folder(rt, name, NOT_TRUSTED)),
+        Bytes::OfShards(all) => match open_shards(rt, name, &all) {
+            Ok(shards) => get_from(rt, &shards, name, typed),
+            Err(status) => Err(status),
+        },
+    }
 }
 
 // Opens the dictionary in these bytes, and writes the strings.

@@ -11,6 +11,7 @@ mod keeping;
 mod look_ups;
 mod merging;
 mod misfit;
+mod opening;
 mod progress;
 mod run;
 

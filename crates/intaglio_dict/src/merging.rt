@@ -2,7 +2,6 @@
 use crate::freezing::refusal;
 use crate::hashing::random_builder;
 use crate::progress::Shown;
-use crate::run::checked;
 use clap::ArgMatches;
 use intaglio_dict_io::input::whole_files;
 use intaglio_dict_io::keys::keys_of;
@@ -11,8 +10,10 @@ use intaglio_dict_io::noticing::Noticing;
 use intaglio_dict_io::output::{Content, write_to};
 use intaglio_dict_io::report;
 use intaglio_dict_io::report::Tell;
+use intaglio_dict_shards::checking::{common_kind, tables_of};
+use intaglio_dict_shards::parts::{names_in, shard_of_folders};
 use intaglio_dictionary::merging::{merge, write_codes};
-use intaglio_frozen::{Frozen, Header, Kind};
+use intaglio_frozen::{Frozen, Kind};
 use intaglio_symbol::Symbol;
 use std::io::Write;
 use std::random::RandomSource;
@@ -114,8 +115,16 @@ pub fn merge_dictionaries<R: Files + RandomSource + Input + Print + Tell + Alloc
         return Err(2);
     };
     let keys = keys_of(rt, found)?;
-    let all = whole_files(rt, names, found.get_flag("PROGRESS"))?;
-    merge_files(rt, found, keys, &all)
+    match found.get_str("SHARD") {
+        Some(typed) => {
+            let shard = shard_of_folders(rt, names, typed)?;
+            merge_files(rt, found, keys, &names_in(rt, &shard.names)?, &shard.files)
+        }
+        None => {
+            let all = whole_files(rt, names, found.get_flag("PROGRESS"))?;
+            merge_files(rt, found, keys, names, &all)
+        }
+    }
 }
 
 // Merges the dictionaries in these files.
@@ -123,9 +132,10 @@ fn merge_files<R: Files + RandomSource + Print + Tell + AllocGlobal>(
     rt: &R,
     found: &ArgMatches<'_>,
     keys: Option<(u64, u64)>,
+    names: &[&str],
     all: &[Vec<u8>],
 ) -> Result<(), u8> {
-    let (Some(names), Some(output)) = (found.get_strs("DICT"), found.get_str("OUT")) else {
+    let Some(output) = found.get_str("OUT") else {
         return Err(2);
     };
     let tables = tables_of(rt, names, all)?;
@@ -153,28 +163,4 @@ fn merge_to<R: Files + RandomSource + Print + Tell + AllocGlobal>(
         report::count(rt, merging.shown.distinct as u64, "distinct strings");
     }
     Ok(())
-}
-
-// The dictionaries in these files.
-fn tables_of<'a, R: Tell + AllocGlobal>(
-    rt: &R,
-    names: &[&str],
-    all: &'a [Vec<u8>],
-) -> Result<Vec<Frozen<'a>>, u8> {
-    let mut tables = Vec::new(rt.alloc());
-    for (name, bytes) in names.iter().zip(all.iter()) {
-        if tables.push(checked(rt, name, bytes)?).is_err() {
-            return Err(report::out_of_memory(rt));
-        }
-    }
-    Ok(tables)
-}
-
-// Texts if all of the dictionaries are of texts.
-fn common_kind(all: &[Vec<u8>]) -> Kind {
-    let are_texts = all.iter().all(|bytes| match Header::read(bytes) {
-        Ok(header) => header.kind == Kind::Text,
-        Err(_) => false,
-    });
-    if are_texts { Kind::Text } else { Kind::Bytes }
 }

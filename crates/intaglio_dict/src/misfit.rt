@@ -2,7 +2,7 @@
 use crate::keeping::CODE;
 use intaglio_dict_io::report::{Tell, failed};
 use intaglio_dictionary::codes::{CodeMap, MISSING};
-use intaglio_frozen::Frozen;
+use intaglio_dictionary::dictionary::WholeDictionary;
 use intaglio_symbol::Symbol;
 use std::str;
 
@@ -10,10 +10,16 @@ use std::str;
 const MAX_SHOWN: usize = 200;
 
 /// Of the line with this number, counted from 1, which is the first of these that isn't in the dictionary.
-pub fn no_symbol<R: Tell>(rt: &R, name: &str, number: u64, table: &Frozen<'_>, lines: &[u8]) -> u8 {
+pub fn no_symbol<R: Tell, D: WholeDictionary>(
+    rt: &R,
+    name: &str,
+    number: u64,
+    table: &D,
+    lines: &[u8],
+) -> u8 {
     let missing = lines
         .split(|b| *b == b'\n')
-        .find(|line| table.check_interned(line).is_none());
+        .find(|line| table.symbol_of(line).is_none());
     match missing {
         Some(line) => no_symbol_of(rt, name, number, line),
         None => failed(
@@ -55,17 +61,17 @@ fn is_shown(text: &str) -> bool {
 
 /// Of the code with this number, counted from 1, which is the first of these that stands for no line: no string of
 /// the dictionary has it, nor is it the code of lines that weren't in a dictionary, if these have a text.
-pub fn no_string<R: Tell>(
+pub fn no_string<R: Tell, D: WholeDictionary>(
     rt: &R,
     name: &str,
     number: u64,
-    table: &Frozen<'_>,
+    table: &D,
     has_text: bool,
     codes: &[u8],
 ) -> u8 {
     match first_code(
         codes,
-        |code| table.get(Symbol::new(code)).is_none() && !(has_text && code == MISSING),
+        |code| table.string_of(Symbol::new(code)).is_none() && !(has_text && code == MISSING),
     ) {
         Some(MISSING) => {
             let what = "that of a line that wasn't in a dictionary; --missing TEXT gives it a line";

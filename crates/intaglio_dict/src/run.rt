@@ -3,6 +3,7 @@ use crate::columns::{decode_codes, encode_lines, renumber_codes};
 use crate::freezing::freeze;
 use crate::look_ups::{find, get};
 use crate::merging::merge_dictionaries;
+use crate::opening::{Bytes, first_dictionary, read_dictionary};
 use clap::ArgMatches;
 use intaglio_column_file::begins_as_column;
 use intaglio_dict_columns::checking::{LastDictionary, check_column, stat_column};
@@ -10,15 +11,18 @@ use intaglio_dict_columns::counting::count;
 use intaglio_dict_columns::matching::match_rows;
 use intaglio_dict_columns::rows::rows;
 use intaglio_dict_io::command::files_of;
-use intaglio_dict_io::input::{name_of, whole};
-use intaglio_dict_io::metered::Meter;
 use intaglio_dict_io::noticing::Noticing;
 use intaglio_dict_io::output::ended;
 use intaglio_dict_io::report;
 use intaglio_dict_io::report::Tell;
+use intaglio_dict_shards::checking::{checked, common_kind, kind_of};
+use intaglio_dict_shards::folder::open_shards;
+use intaglio_dict_shards::joining::join_shards;
+use intaglio_dict_shards::splitting::split_dictionary;
+use intaglio_dictionary::dictionary::WholeDictionary;
 use intaglio_dictionary::look_up::list;
 use intaglio_dictionary::size::size_of_strings;
-use intaglio_frozen::{Frozen, Header, Kind};
+use intaglio_frozen::Kind;
 use intaglio_lines::error::StreamError;
 use std::io;
 use std::io::Write;
@@ -69,6 +73,8 @@ fn run_subcommand<R: Files + RandomSource + Input + Print + Tell + AllocGlobal>(
         "rows" => status_of(rows(rt, found)),
         "count" => status_of(count(rt, found)),
         "match" => match_rows(rt, found),
+        "split" => status_of(split_dictionary(rt, found)),
+        "join" => status_of(join_shards(rt, found)),
         "check" => check(rt, found),
         _ => on_dictionary(rt, name, found),
     }
@@ -98,14 +104,18 @@ fn check_one<'a, R: Files + Input + Tell + AllocGlobal>(
     name: &'a str,
     last: &mut Option<LastDictionary<'a>>,
 ) -> u8 {
-    match whole(rt, name, &mut Meter::silent()) {
-        Ok(bytes) if begins_as_column(&bytes) => {
+    match read_dictionary(rt, name) {
+        Ok(Bytes::OfFile(bytes)) if begins_as_column(&bytes) => {
             status_of(check_column(rt, last.as_ref(), name, &bytes))
         }
-        Ok(bytes) => {
+        Ok(Bytes::OfFile(bytes)) => {
             let checked = is_dictionary(rt, name, &bytes);
             *last = Some(LastDictionary { name, table: bytes });
             status_of(checked)
+        }
+        Ok(Bytes::OfShards(all)) => {
+            *last = None;
+            status_of(are_shards(rt, name, &all))
         }
         Err(status) => status,
     }
@@ -116,12 +126,9 @@ fn is_dictionary<R: Tell>(rt: &R, name: &str, bytes: &[u8]) -> Result<(), u8> {
     Ok(())
 }
 
-/// The dictionary in these bytes, after a check of all of them. Otherwise the exit status after a message.
-pub fn checked<'a, R: Tell>(rt: &R, name: &str, bytes: &'a [u8]) -> Result<Frozen<'a>, u8> {
-    match Frozen::open(bytes) {
-        Ok(table) => Ok(table),
-        Err(fault) => Err(report::failed(rt, name_of(name), fault)),
-    }
+fn are_shards<R: Tell + AllocGlobal>(rt: &R, name: &str, all: &[Vec<u8>]) -> Result<(), u8> {
+    open_shards(rt, name, all)?;
+    Ok(())
 }
 
 // Opens the dictionary, and runs a command that reads it alone.
@@ -130,39 +137,63 @@ fn on_dictionary<R: Files + Input + Print + Tell + AllocGlobal>(
     command: &str,
     found: &ArgMatches<'_>,
 ) -> u8 {
-    let Some(name) = found.get_str("DICT") else {
-        return 2;
-    };
-    match whole(rt, name, &mut Meter::silent()) {
-        Ok(bytes) if command == "stat" && begins_as_column(&bytes) => stat_column(rt, name, &bytes),
-        Ok(bytes) => on_bytes(rt, command, name, &bytes),
+    match first_dictionary(rt, found) {
+        Ok((name, Bytes::OfFile(bytes))) if command == "stat" && begins_as_column(&bytes) => {
+            stat_column(rt, name, &bytes)
+        }
+        Ok((name, Bytes::OfFile(bytes))) => on_file(rt, command, name, &bytes),
+        Ok((name, Bytes::OfShards(all))) => on_shards(rt, command, name, &all),
         Err(status) => status,
     }
 }
 
-fn on_bytes<R: Print + Tell + AllocGlobal>(rt: &R, command: &str, name: &str, bytes: &[u8]) -> u8 {
+fn on_file<R: Print + Tell + AllocGlobal>(rt: &R, command: &str, name: &str, bytes: &[u8]) -> u8 {
     match checked(rt, name, bytes) {
         Ok(table) if command == "list" => list_all(rt, &table),
-        Ok(table) => stat(rt, &table, bytes),
+        Ok(table) => stat(rt, &table, kind_of(bytes), bytes.len() as u64),
         Err(status) => status,
     }
 }
 
-fn list_all<R: Print + Tell + AllocGlobal>(rt: &R, table: &Frozen<'_>) -> u8 {
+fn on_shards<R: Print + Tell + AllocGlobal>(
+    rt: &R,
+    command: &str,
+    name: &str,
+    all: &[Vec<u8>],
+) -> u8 {
+    match open_shards(rt, name, all) {
+        Ok(shards) if command == "list" => list_all(rt, &shards),
+        Ok(shards) => stat(rt, &shards, common_kind(all), length_of(all)),
+        Err(status) => status,
+    }
+}
+
+// How many bytes these shards have together.
+fn length_of(all: &[Vec<u8>]) -> u64 {
+    all.iter()
+        .map(|bytes| bytes.len() as u64)
+        .fold(0, |sum, n| sum.saturating_add(n))
+}
+
+fn list_all<R: Print + Tell + AllocGlobal, D: WholeDictionary>(rt: &R, table: &D) -> u8 {
     let mut output = Noticing::new(io::writer(rt));
     let answer = list(rt.alloc(), table, &mut output);
     ended(rt, answer, output.error)
 }
 
-fn stat<R: Print + Tell + AllocGlobal>(rt: &R, table: &Frozen<'_>, bytes: &[u8]) -> u8 {
+fn stat<R: Print + Tell + AllocGlobal, D: WholeDictionary>(
+    rt: &R,
+    table: &D,
+    kind: Kind,
+    length: u64,
+) -> u8 {
     let size = size_of_strings(table);
-    let length = bytes.len() as u64;
     let tenths = length.saturating_mul(10) / size.count.max(1);
     let mut output = Noticing::new(io::writer(rt));
     let written = writeln!(
         &mut output,
         "kind {}\nstrings {}\nbytes {}\nbytes a string {}.{}\nlongest {}",
-        kind_of(bytes),
+        name_of_kind(kind),
         size.count,
         length,
         tenths / 10,
@@ -176,10 +207,10 @@ fn stat<R: Print + Tell + AllocGlobal>(rt: &R, table: &Frozen<'_>, bytes: &[u8])
     ended(rt, answer, output.error)
 }
 
-// What freeze calls the kind of these strings.
-fn kind_of(bytes: &[u8]) -> &'static str {
-    match Header::read(bytes) {
-        Ok(header) if header.kind == Kind::Text => "text",
-        _ => "bytes",
+// What freeze calls a kind.
+fn name_of_kind(kind: Kind) -> &'static str {
+    match kind {
+        Kind::Text => "text",
+        Kind::Bytes => "bytes",
     }
 }

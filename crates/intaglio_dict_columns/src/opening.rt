@@ -1,6 +1,7 @@
 //! Opens a column and its dictionary, and refuses those that don't belong together.
 use clap::ArgMatches;
 use intaglio_column_file::{Column, ColumnError, DictionaryId, id_of_table};
+use intaglio_dict_io::folders::is_folder;
 use intaglio_dict_io::input::{first_input, name_of};
 use intaglio_dict_io::report;
 use intaglio_dict_io::report::Tell;
@@ -40,6 +41,9 @@ pub fn ask<R: Files + Input + Tell + AllocGlobal, Q: Question<R>>(
     found: &ArgMatches<'_>,
     question: &Q,
 ) -> Result<bool, u8> {
+    if let Some(folder) = found.get_str("DICT") {
+        refuse_shards(rt, folder)?;
+    }
     let (dictionary, table) = first_input(rt, found, "DICT")?;
     let (name, bytes) = first_input(rt, found, "COLUMN")?;
     let pair = Pair {
@@ -136,6 +140,24 @@ fn is_alike(table: &[u8], id: DictionaryId) -> bool {
         Ok(header) => header.count == id.count && (header.kind == Kind::Text) == id.is_text,
         Err(_) => false,
     }
+}
+
+// Refuses a folder of shards.
+fn refuse_shards<R: Files + Tell + AllocGlobal>(rt: &R, name: &str) -> Result<(), u8> {
+    match is_folder(rt, name) {
+        Ok(true) => Err(no_shards(rt, name)),
+        Ok(false) => Ok(()),
+        Err(_) => Err(report::out_of_memory(rt)),
+    }
+}
+
+/// Of a folder of shards, to which no column belongs.
+pub fn no_shards<R: Tell>(rt: &R, name: &str) -> u8 {
+    report::failed(
+        rt,
+        name_of(name),
+        "a folder of shards; columns are of dictionaries in one file, and plain codes of both",
+    )
 }
 
 /// Of bytes that are no column.

@@ -28,6 +28,10 @@ enum Takes {
     OutputInstead(&'static str, &'static str),
     // The name of the folder for a map of each input, after this option.
     Maps(&'static str),
+    // The name of the folder for shards, after -o or --output.
+    Folder,
+    // The name of another input, after this option.
+    Read(&'static str),
     // The name of an input, by its position.
     One,
     // The names of inputs, by their position, and whether they are required: otherwise standard input is read.
@@ -78,6 +82,12 @@ const OUT: &str = "the output, which is replaced when the new one is whole; - is
 
 const OUTPUT: Argument = ("OUT", Takes::Output(false), OUT);
 
+const SHARD_FOLDER: Argument = (
+    "FOLDER",
+    Takes::Folder,
+    "the folder, which is made if it isn't there",
+);
+
 const KEYS: Argument = (
     "KEYS",
     Takes::Keys,
@@ -114,7 +124,7 @@ const VERBOSE: Argument = (
     "shows on standard error how many there were",
 );
 
-static SUBCOMMANDS: [Subcommand; 13] = [
+static SUBCOMMANDS: [Subcommand; 15] = [
     (
         "freeze",
         "Writes a dictionary of the distinct lines, numbered from 0 in the order of their first occurrences",
@@ -255,6 +265,11 @@ static SUBCOMMANDS: [Subcommand; 13] = [
         "merge",
         "Writes a dictionary of the strings of all dictionaries, in the order of their first occurrences",
         &[
+            (
+                "SHARD",
+                Takes::Value("shard"),
+                "merges the shards with this number, counted from 0, of dictionaries that are folders of shards",
+            ),
             ("OUT", Takes::Output(true), OUT),
             (
                 "FOLDER",
@@ -275,8 +290,48 @@ static SUBCOMMANDS: [Subcommand; 13] = [
             OUTPUT,
             PROGRESS,
             VERBOSE,
+            (
+                "INTO",
+                Takes::Read("into"),
+                "the folder of the merged shards: then MAP is the folder of the part's shards",
+            ),
+            (
+                "MAPS",
+                Takes::Read("maps"),
+                "the folder with the maps of each shard, 0, 1 and so on, which merge --shard wrote",
+            ),
+            (
+                "PART",
+                Takes::Value("part"),
+                "the number of the part among those that were merged, counted from 0",
+            ),
             ("MAP", Takes::One, "a map that merge wrote"),
             CODES,
+        ],
+    ),
+    (
+        "split",
+        "Writes a dictionary in shards to a folder, with an index and the map from its symbols to those of the shards",
+        &[
+            (
+                "SHARDS",
+                Takes::Value("shards"),
+                "how many shards there are",
+            ),
+            SHARD_FOLDER,
+            KEYS,
+            RANDOM_KEYS,
+            VERBOSE,
+            DICT,
+        ],
+    ),
+    (
+        "join",
+        "Writes shards that were merged to a folder, with an index, after a check that each string is in its shard",
+        &[
+            SHARD_FOLDER,
+            VERBOSE,
+            ("DICT", Takes::Many(true), "the shards in their order"),
         ],
     ),
     (
@@ -341,6 +396,8 @@ fn add_files<'a>(
         Takes::OutputOr(other) => files.add_output(found.get_str(row.0).or(found.get_str(other))),
         Takes::Written(_) | Takes::WrittenInstead(_, _) => files.add_written(found.get_str(row.0)),
         Takes::Maps(_) => files.add_folder(found.get_str(row.0)),
+        Takes::Folder => files.add_shards(found.get_str(row.0)),
+        Takes::Read(_) => files.add_input(found.get_str(row.0)),
         _ => Ok(()),
     }
 }
@@ -386,9 +443,9 @@ fn argument<'a>(alloc: Global, row: Argument) -> Result<Arg<'a>, AllocError> {
     let argument = Arg::new(alloc, row.0).help(row.2);
     match row.1 {
         Takes::Flag(option) => Ok(argument.long(option).action(ArgAction::SetTrue)),
-        Takes::Value(option) | Takes::Written(option) | Takes::Maps(option) => Ok(argument.long(
-            option,
-        )),
+        Takes::Value(option) | Takes::Written(option) | Takes::Maps(option) | Takes::Read(option) =>
+            Ok(argument.long(option)),
+        Takes::Folder => Ok(argument.short('o').long("output").required(true)),
         Takes::Output(is_required) => Ok(argument.short('o').long("output").required(is_required)),
         Takes::OutputOr(_) => Ok(argument.short('o').long("output")),
         Takes::One => Ok(argument.required(true)),

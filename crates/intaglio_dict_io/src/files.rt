@@ -1,5 +1,6 @@
 //! The files of a command, and whether each output is a file of its own.
 use crate::apart::{Named, check_inputs, check_messages, check_outputs, streams_of};
+use crate::folders::add_all_entries;
 use crate::identity::Identity;
 use crate::input::{INPUT, STANDARD, STANDARD_INPUT};
 use crate::maps::{check_stale, map_name};
@@ -22,11 +23,15 @@ const MESSAGES_PATH: &str = "/dev/stderr";
 #[derive(Drop)]
 pub struct CommandFiles<'a> {
     inputs: Vec<&'a str>,
+    // The inputs that are named after an option.
+    others: Vec<&'a str>,
     outputs: Vec<&'a str>,
     // Whether the arguments have an output. Otherwise standard output is one.
     has_output: bool,
     // The folder for a map of each input.
     folder: Option<&'a str>,
+    // The folder for shards.
+    shards: Option<&'a str>,
 }
 
 impl<'a> CommandFiles<'a> {
@@ -34,9 +39,11 @@ impl<'a> CommandFiles<'a> {
     pub fn new(alloc: Global) -> CommandFiles<'a> {
         CommandFiles {
             inputs: Vec::new(alloc),
+            others: Vec::new(alloc),
             outputs: Vec::new(alloc),
             has_output: false,
             folder: None,
+            shards: None,
         }
     }
 
@@ -66,6 +73,21 @@ impl<'a> CommandFiles<'a> {
         self.add_written(name)
     }
 
+    /// Adds a folder for shards, if one is named.
+    pub fn add_shards(&mut self, name: Option<&'a str>) -> Result<(), AllocError> {
+        self.has_output = true;
+        self.shards = name;
+        self.add_written(name)
+    }
+
+    /// Adds another input, if one is named.
+    pub fn add_input(&mut self, name: Option<&'a str>) -> Result<(), AllocError> {
+        match name {
+            Some(name) => self.others.extend_from_slice(&[name]),
+            None => Ok(()),
+        }
+    }
+
     /// Checks, before anything is read or written, that no output is also an input or another output, that standard
     /// input is one input at most, and that no map would stay that isn't replaced. Otherwise the exit status after
     /// a message.
@@ -73,7 +95,7 @@ impl<'a> CommandFiles<'a> {
         if !self.has_output && self.add_output(None).is_err() {
             return Err(report::out_of_memory(rt));
         }
-        if self.inputs.contains(&"") {
+        if self.inputs.contains(&"") || self.others.contains(&"") {
             return Err(report::empty_name(rt, "an input"));
         }
         if self.outputs.contains(&"") {
@@ -91,7 +113,7 @@ impl<'a> CommandFiles<'a> {
 
     fn check_apart<R: Files + Tell + AllocGlobal>(&self, rt: &R) -> Result<(), u8> {
         let (Ok(inputs), Ok(outputs), Ok(messages)) = (
-            streams_of(rt, &self.inputs, INPUT_PATH, INPUT),
+            self.named_inputs(rt),
             self.named_outputs(rt),
             Identity::of(rt, MESSAGES_PATH),
         ) else {
@@ -102,7 +124,15 @@ impl<'a> CommandFiles<'a> {
         check_outputs(rt, &outputs)
     }
 
-    // The outputs, and the maps in the folder.
+    // The inputs, and what is in those that are folders.
+    fn named_inputs<R: Files + AllocGlobal>(&self, rt: &R) -> io::Result<Vec<Named>> {
+        let mut inputs = streams_of(rt, &self.inputs, INPUT_PATH, INPUT)?;
+        add_folders(rt, &self.inputs, &mut inputs)?;
+        add_folders(rt, &self.others, &mut inputs)?;
+        Ok(inputs)
+    }
+
+    // The outputs, the maps in the folder, and what is in the folder for shards.
     fn named_outputs<R: Files + AllocGlobal>(&self, rt: &R) -> io::Result<Vec<Named>> {
         let mut outputs = streams_of(rt, &self.outputs, OUTPUT_PATH, OUTPUT)?;
         if let Some(folder) = self.folder {
@@ -111,6 +141,23 @@ impl<'a> CommandFiles<'a> {
                 outputs.push(Named::of(rt, name)?)?;
             }
         }
+        if let Some(folder) = self.shards {
+            add_all_entries(rt, folder, &mut outputs)?;
+        }
         Ok(outputs)
     }
+}
+
+// Adds what is in those of these inputs that are folders.
+fn add_folders<R: Files + AllocGlobal>(
+    rt: &R,
+    names: &[&str],
+    all: &mut Vec<Named>,
+) -> io::Result<()> {
+    for name in names {
+        if *name != STANDARD {
+            add_all_entries(rt, name, all)?;
+        }
+    }
+    Ok(())
 }

@@ -4,6 +4,7 @@
 pub mod apart;
 pub mod command;
 pub mod files;
+pub mod folders;
 pub mod identity;
 pub mod input;
 pub mod keys;

@@ -123,6 +123,18 @@ pub fn stale_map<R: Tell>(rt: &R, name: &str) -> u8 {
     2
 }
 
+/// Of a number after an option that is no plain number, or is too large or too small.
+pub fn wrong_number<R: Tell>(rt: &R, option: &str, typed: &str, needed: &str) -> u8 {
+    say(rt, format_args!("{option} '{typed}': {needed}"));
+    2
+}
+
+/// Of a folder of shards that an option doesn't take, or that takes other options.
+pub fn of_folder<R: Tell>(rt: &R, name: &str, what: &str) -> u8 {
+    say(rt, format_args!("{name}: {what}"));
+    2
+}
+
 /// Of a symbol among the arguments that is no plain number.
 pub fn not_a_number<R: Tell>(rt: &R, typed: &str) -> u8 {
     say(

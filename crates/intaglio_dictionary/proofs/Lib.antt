@@ -9,3 +9,4 @@ pub mod Counted
 pub mod Cut
 pub mod Marked
 pub mod Ranged
+pub mod Indexed

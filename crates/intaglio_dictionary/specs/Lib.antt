@@ -7,3 +7,4 @@ pub mod Rows
 pub mod Matching
 pub mod Counting
 pub mod Joining
+pub mod ShardIndex

@@ -39,6 +39,45 @@ pub fn join_maps(
     Ok(joined)
 }
 
+/// The map from a part to merged shards, by the part's own map, which leads to its shards
+/// ([`split_map`](intaglio_columns::split_map)), and [`join_maps`] of the maps that lead from these to the merged ones.
+/// By [`map_law`](intaglio_columns::laws::map_law) it leads to the same strings.
+///
+/// # Errors
+///
+/// Those of [`join_maps`]; `TooMany` also if the part has 2^32 codes or more.
+pub fn map_into_shards(
+    alloc: Global,
+    split: &CodeMap<'_>,
+    maps: &[CodeMap<'_>],
+    counts: &[usize],
+) -> Result<Vec<Symbol>, MapError>
+    requires { length maps.now ≡ length counts.now }
+    ensures codes { IfOk result (λ new. new.items ≡ renumber (joined_map 0 counts.now maps.now) split.now) }
+    ensures within { OnOk result (AreWithin counts.now maps.now) }
+{
+    let joined = join_maps(alloc, maps, counts)?;
+    let codes = codes_in(alloc, split)?;
+    match renumbered(alloc, &joined, &codes) {
+        Ok(new) => Ok(new),
+        Err(_) => Err(MapError::Memory),
+    }
+}
+
+// The codes of a map.
+fn codes_in(alloc: Global, map: &CodeMap<'_>) -> Result<Vec<Symbol>, MapError>
+    ensures { IfOk result (λ codes. codes.items ≡ map.now) }
+{
+    if map.len() > MOST {
+        return Err(MapError::TooMany);
+    }
+    let mut codes = Vec::with_capacity(alloc, map.len())?;
+    for place in 0..map.len() {
+        codes.push_reserved(Symbol::new(map.get(place as u32).unwrap()));
+    }
+    Ok(codes)
+}
+
 /// The code at each code of a map, or the missing code if the map hasn't that one.
 ///
 /// # Errors

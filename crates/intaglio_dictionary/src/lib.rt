@@ -17,6 +17,7 @@ pub mod matching;
 pub mod merging;
 pub mod progress;
 pub mod rows;
+pub mod shard_index;
 pub mod size;
 pub mod strings;
 pub mod translate;

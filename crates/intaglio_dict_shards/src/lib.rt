@@ -1,0 +1,11 @@
+//! What the program `intaglio_dict` does with folders of shards: it opens and writes them, splits a dictionary, joins
+//! shards that were merged, and makes the map by which the codes of a part are renumbered.
+#![tactic(auto)]
+
+pub mod checking;
+pub mod folder;
+pub mod joining;
+pub mod parts;
+pub mod renumbering;
+pub mod splitting;
+pub mod writing;

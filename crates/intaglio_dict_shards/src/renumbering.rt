@@ -1,0 +1,184 @@
+//! The map by which the codes of a part are renumbered to those of a dictionary in shards.
+use crate::folder::read_ids;
+use clap::ArgMatches;
+use intaglio_column_file::DictionaryId;
+use intaglio_dict_io::folders::split_map_name;
+use intaglio_dict_io::input::whole;
+use intaglio_dict_io::maps::map_name;
+use intaglio_dict_io::metered::Meter;
+use intaglio_dict_io::report;
+use intaglio_dict_io::report::Tell;
+use intaglio_dict_io::symbols::plain_number;
+use intaglio_dictionary::codes::CodeMap;
+use intaglio_dictionary::error::MapError;
+use intaglio_dictionary::joining::map_into_shards;
+use intaglio_dictionary::merging::write_codes;
+use std::rt::Files;
+
+// What the maps of a part lead from and to.
+#[derive(Drop)]
+struct Part<'a> {
+    // The folder of the part's shards.
+    folder: &'a str,
+    // The folder of the merged shards.
+    into: &'a str,
+    // The folder with the maps of each shard.
+    maps: &'a str,
+    // The number of the part among those that were merged.
+    number: usize,
+}
+
+/// The map of a part, in bytes, from its symbols to those of the folder of merged shards. Otherwise the exit status
+/// after a message.
+pub fn sharded_map<R: Files + Input + Tell + AllocGlobal>(
+    rt: &R,
+    found: &ArgMatches<'_>,
+    folder: &str,
+    into: &str,
+) -> Result<Vec<u8>, u8> {
+    let (Some(maps), Some(typed)) = (found.get_str("MAPS"), found.get_str("PART")) else {
+        return Err(report::of_folder(rt, into, "after --into, --maps and --part are needed too"));
+    };
+    let Some(Ok(number)) = plain_number(typed).map(usize::try_from) else {
+        let needed = "the number of a part is needed, counted from 0";
+        return Err(report::wrong_number(rt, "--part", typed, needed));
+    };
+    map_of_part(
+        rt,
+        &Part {
+            folder,
+            into,
+            maps,
+            number,
+        },
+    )
+}
+
+fn map_of_part<R: Files + Input + Tell + AllocGlobal>(
+    rt: &R,
+    part: &Part<'_>,
+) -> Result<Vec<u8>, u8> {
+    let ids = read_ids(rt, part.folder)?;
+    let merged = read_ids(rt, part.into)?;
+    if ids.len() != merged.len() {
+        let (count, others) = (ids.len(), merged.len());
+        let into = part.into;
+        return Err(report::failed(
+            rt,
+            part.folder,
+            format_args!("it has {count} shards, and {into} has {others}"),
+        ));
+    }
+    let split = read_split(rt, part.folder, &ids)?;
+    let files = read_maps(rt, part, &ids)?;
+    joined_bytes(rt, part, &split, &files, &merged)
+}
+
+// The bytes of the map from the part to its shards, which has a code for each string.
+fn read_split<R: Files + Input + Tell + AllocGlobal>(
+    rt: &R,
+    folder: &str,
+    ids: &[DictionaryId],
+) -> Result<Vec<u8>, u8> {
+    let Ok(name) = split_map_name(rt.alloc(), folder) else {
+        return Err(report::out_of_memory(rt));
+    };
+    let strings = ids
+        .iter()
+        .fold(0u64, |sum, id| sum.saturating_add(id.count));
+    read_map(rt, name.as_str(), strings)
+}
+
+// The bytes of the part's map of each shard, each of which has a code for each string of the shard.
+fn read_maps<R: Files + Input + Tell + AllocGlobal>(
+    rt: &R,
+    part: &Part<'_>,
+    ids: &[DictionaryId],
+) -> Result<Vec<Vec<u8>>, u8> {
+    let mut files = Vec::new(rt.alloc());
+    for (shard, id) in ids.iter().enumerate() {
+        let Ok(folder) = format!(in rt.alloc(); "{}/{shard}", part.maps) else {
+            return Err(report::out_of_memory(rt));
+        };
+        let Ok(name) = map_name(rt.alloc(), folder.as_str(), part.number) else {
+            return Err(report::out_of_memory(rt));
+        };
+        if files.push(read_map(rt, name.as_str(), id.count)?).is_err() {
+            return Err(report::out_of_memory(rt));
+        }
+    }
+    Ok(files)
+}
+
+// The bytes of a map with this many codes.
+fn read_map<R: Files + Input + Tell + AllocGlobal>(
+    rt: &R,
+    name: &str,
+    strings: u64,
+) -> Result<Vec<u8>, u8> {
+    let bytes = whole(rt, name, &mut Meter::silent())?;
+    let codes = match CodeMap::of(&bytes) {
+        Some(map) => map.len() as u64,
+        None => return Err(report::failed(rt, name, "not a map: its length is no multiple of 4")),
+    };
+    if codes == strings {
+        Ok(bytes)
+    } else {
+        Err(report::failed(
+            rt,
+            name,
+            format_args!(
+                "another part's map: it has {codes} codes, and the part has {strings} strings here"
+            ),
+        ))
+    }
+}
+
+// The map to the merged shards, in bytes.
+fn joined_bytes<R: Tell + AllocGlobal>(
+    rt: &R,
+    part: &Part<'_>,
+    split: &[u8],
+    files: &[Vec<u8>],
+    merged: &[DictionaryId],
+) -> Result<Vec<u8>, u8> {
+    let (mut maps, mut counts) = (Vec::new(rt.alloc()), Vec::new(rt.alloc()));
+    for (bytes, id) in files.iter().zip(merged.iter()) {
+        let Some(map) = CodeMap::of(bytes) else {
+            return Err(2);
+        };
+        if maps.push(map).is_err() || counts.push(id.count as usize).is_err() {
+            return Err(report::out_of_memory(rt));
+        }
+    }
+    let Some(split) = CodeMap::of(split) else {
+        return Err(2);
+    };
+    if maps.len() != counts.len() {
+        return Err(2);
+    }
+    let map = match map_into_shards(rt.alloc(), &split, &maps, &counts) {
+        Ok(map) => map,
+        Err(fault) => return Err(unjoined(rt, part, fault)),
+    };
+    let mut bytes = Vec::new(rt.alloc());
+    match write_codes(rt.alloc(), &map, &mut bytes) {
+        Ok(()) => Ok(bytes),
+        Err(_) => Err(report::out_of_memory(rt)),
+    }
+}
+
+// Of maps that don't lead to the merged shards.
+fn unjoined<R: Tell>(rt: &R, part: &Part<'_>, fault: MapError) -> u8 {
+    match fault {
+        MapError::NoString(shard) => {
+            let (maps, number, into) = (part.maps, part.number, part.into);
+            report::of_input(
+                rt,
+                format_args!("{maps}/{shard}/{number}.map: not a map to shard {shard} of {into}"),
+            )
+        }
+        MapError::TooMany => report::failed(rt, part.into, fault),
+        MapError::Memory => report::out_of_memory(rt),
+    }
+}

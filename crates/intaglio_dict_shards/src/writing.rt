@@ -1,0 +1,87 @@
+//! Writes folders of shards.
+use crate::checking::id_of;
+use intaglio_dict_io::folders::{index_name, shard_name, split_map_name};
+use intaglio_dict_io::input::whole;
+use intaglio_dict_io::maps::make_folder;
+use intaglio_dict_io::metered::Meter;
+use intaglio_dict_io::output::{Bytes, write_to};
+use intaglio_dict_io::report;
+use intaglio_dict_io::report::Tell;
+use intaglio_dictionary::shard_index::write_index;
+use std::alloc::AllocError;
+use std::fs;
+use std::random::RandomSource;
+use std::rt::Files;
+
+/// Writes these shards to a folder, the map if there is one, and last the index. Otherwise the exit status after a
+/// message.
+///
+/// A folder that has an index of other shards stays as it is. One that has the index which would be written is written
+/// again, so that at any time its shards are those that its index names.
+pub fn write_folder<R: Files + RandomSource + Input + Print + Tell + AllocGlobal>(
+    rt: &R,
+    folder: &str,
+    all: &[Vec<u8>],
+    map: Option<&[u8]>,
+) -> Result<(), u8> {
+    let index = index_of(rt, folder, all)?;
+    check_index(rt, folder, &index)?;
+    make_folder(rt, folder)?;
+    for (number, bytes) in all.iter().enumerate() {
+        write_named(rt, shard_name(rt.alloc(), folder, number), bytes)?;
+    }
+    if let Some(bytes) = map {
+        write_named(rt, split_map_name(rt.alloc(), folder), bytes)?;
+    }
+    write_named(rt, index_name(rt.alloc(), folder), &index)
+}
+
+// The index of these shards.
+fn index_of<R: Tell + AllocGlobal>(rt: &R, folder: &str, all: &[Vec<u8>]) -> Result<Vec<u8>, u8> {
+    let mut ids = Vec::new(rt.alloc());
+    for bytes in all {
+        if ids.push(id_of(rt, folder, bytes)?).is_err() {
+            return Err(report::out_of_memory(rt));
+        }
+    }
+    match write_index(rt.alloc(), &ids) {
+        Ok(index) => Ok(index),
+        Err(_) => Err(report::out_of_memory(rt)),
+    }
+}
+
+// Refuses a folder that has another index.
+fn check_index<R: Files + Input + Tell + AllocGlobal>(
+    rt: &R,
+    folder: &str,
+    index: &[u8],
+) -> Result<(), u8> {
+    let Ok(name) = index_name(rt.alloc(), folder) else {
+        return Err(report::out_of_memory(rt));
+    };
+    if fs::metadata(rt, name.as_str()).is_err() {
+        return Ok(());
+    }
+    let there = whole(rt, name.as_str(), &mut Meter::silent())?;
+    if there.as_slice() == index {
+        Ok(())
+    } else {
+        Err(report::of_folder(
+            rt,
+            folder,
+            "it has other shards; remove it, or name another folder",
+        ))
+    }
+}
+
+// Writes a file by its name, if there is memory for that.
+fn write_named<R: Files + RandomSource + Print + Tell + AllocGlobal>(
+    rt: &R,
+    name: Result<String, AllocError>,
+    bytes: &[u8],
+) -> Result<(), u8> {
+    match name {
+        Ok(name) => write_to(rt, name.as_str(), &mut Bytes { bytes }),
+        Err(_) => Err(report::out_of_memory(rt)),
+    }
+}
