@@ -297,6 +297,41 @@ impl StringBuffer {
         }
     }
 
+    /// Shrinks the room to this many strings, or to those that there are if they are more. A failed allocation
+    /// isn't reported, and leaves more room.
+    pub fn shrink_strings(&mut self, strings: usize)
+        ensures list { self.new.list ≡ self.old.list }
+        ensures spare_bytes { self.new.spare_bytes ≡ self.old.spare_bytes }
+        ensures held_bytes { self.new.held_bytes ≡ self.old.held_bytes }
+        ensures most { min strings self.old.most ≤ self.new.most }
+        ensures no_more { self.new.most ≤ self.old.most }
+        ensures frees { length self.old.list ≡ 0 → strings ≡ 0 → self.new.most ≡ 0 }
+    {
+        self.ends.shrink_to(strings);
+    }
+
+    /// Shrinks the room for further bytes to `spare`, and the memory for bytes to that room.
+    ///
+    /// # Errors
+    ///
+    /// [`AllocError`] if an allocation fails. Then more memory is held, as before at most.
+    pub fn shrink_bytes(&mut self, spare: usize) -> Result<(), AllocError>
+        ensures list { self.new.list ≡ self.old.list }
+        ensures most { self.new.most ≡ self.old.most }
+        ensures spare_bytes { self.new.spare_bytes ≡ min spare self.old.spare_bytes }
+        ensures no_more_held { self.new.held_bytes ≤ self.old.held_bytes }
+        ensures held { OnOk result (self.new.held_bytes ≡ byte_room_of self.new) }
+    {
+        self.room = self.bytes.len() + spare.min(self.room - self.bytes.len());
+        self.bytes.shrink_to(self.room);
+        // Std's shrink doesn't report a failed allocation.
+        if self.bytes.capacity() == self.room {
+            Ok(())
+        } else {
+            Err(AllocError)
+        }
+    }
+
     /// Drops all strings.
     pub fn clear(&mut self)
         ensures list { self.new.list ≡ [] }

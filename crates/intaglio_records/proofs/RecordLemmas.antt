@@ -82,6 +82,22 @@ room-doubles needed old new h = elim (cases_eq new old) [
       ]
 ]
 
+-- and by as much
+pub room-grows : (needed old new : ℕ) → needed ≤ 2 ^ 32 - 1 → DoublesBytes needed old new
+    → DoublesBytes needed (min old (2 ^ 32 - 1)) (min new (2 ^ 32 - 1))
+room-grows needed old new few h = record {
+  enough = λ le. ap (λ n. min n (2 ^ 32 - 1)) (h.enough (omega (arith, le)));
+  grown = λ more.
+      elim (h.grown (λ same. more (ap (λ n. min n (2 ^ 32 - 1)) same))) [
+        | inl grown ↦
+            elim (cases_lt (2 ^ 32 - 1) new) [
+              | inl beyond ↦ inr (omega (arith), omega (arith, beyond))
+              | inr within ↦ inl (omega (arith, within, grown))
+            ]
+        | inr full ↦ inr (omega (arith, full.0, full.1), omega (arith, full.1))
+      ];
+}
+
 -- the room for strings grows to no more than was found for it
 pub most-within : (needed old new wanted : ℕ) → Doubles needed old new → (needed ≤ old → wanted ≡ old)
     → (old < needed → wanted ≡ max 4 (max needed (2 * old))) → new ≤ wanted
@@ -92,6 +108,14 @@ most-within needed old new wanted h same more = elim (cases_lt old needed) [
         | inr grown ↦ omega (arith, h.grown grown, more missing)
       ]
   | inr enough ↦ omega (arith, h.enough enough, same enough)
+]
+
+-- and if there is enough then, to exactly that
+pub most-is : (needed old new wanted : ℕ) → Doubles needed old new → (needed ≤ old → wanted ≡ old)
+    → (old < needed → wanted ≡ max 4 (max needed (2 * old))) → needed ≤ new → new ≡ wanted
+most-is needed old new wanted h same more there = elim (cases_lt old needed) [
+  | inl missing ↦ h.grown (λ kept. absurd (omega (arith, kept, missing, there))) ∙ sym (more missing)
+  | inr enough ↦ h.enough enough ∙ sym (same enough)
 ]
 
 -- the hash that a header was made with
@@ -136,15 +160,3 @@ pub get-string : (rs : List (List ℕ)) (i : ℕ) (r : List ℕ) → slice_get r
     → slice_get (strings_in rs) i ≡ Some (drop 13 r)
 get-string rs i r is = slice_get-map (λ (p : ℕ × List ℕ). p.1) (map pair_of rs) i
     ∙ ap (option_map (λ (p : ℕ × List ℕ). p.1)) (slice_get-map pair_of rs i ∙ ap (option_map pair_of) is)
-
--- a hash and a string at the same place are a pair of the list
-pub pair-is : (xs : List (ℕ × List ℕ)) (i hash : ℕ) (string : List ℕ)
-    → slice_get (map (λ (p : ℕ × List ℕ). p.0) xs) i ≡ Some hash
-    → slice_get (map (λ (p : ℕ × List ℕ). p.1) xs) i ≡ Some string
-    → get_or xs i (0, []) ≡ (hash, string)
-pair-is [] i hash string h s = absurd (cc)
-pair-is (x ∷ xs) zero hash string h s =
-    let h' : x.0 ≡ hash = cc in
-    let s' : x.1 ≡ string = cc in
-    ap (λ a. (a, x.1)) h' ∙ ap (λ b. (hash, b)) s'
-pair-is (x ∷ xs) (suc i) hash string h s = pair-is xs i hash string h s

@@ -1,23 +1,25 @@
 -- What a contract sees of strings with their hashes, and how they are kept.
-use Rattle.std.specs.Prelude.{◌≡◌, ◌⊎◌, ℕ, ◌+◌, ◌-◌, ◌*◌, ◌^◌, ◌<◌, ◌≤◌, List, [], length, get_or, drop, map, min, refl, sum_by}
+use Rattle.std.specs.Prelude.{◌≡◌, ◌⊎◌, ℕ, ◌+◌, ◌-◌, ◌*◌, ◌^◌, ◌<◌, ◌≤◌, List, [], length, get_or, drop, map, max, min, refl, sum_by}
 use Rattle.std.specs.Coded.{Coded, code_by, coded×, coded_ℕ, coded_list}
 use Rattle.intaglio_packed.specs.Strings.{Strings, byte_count_of, byte_room_of}
 use Rattle.intaglio_records.specs.Header.{hash_at, number_at}
 
--- the hashes and the strings, for how many there is room in total, and the room for bytes of further strings
+-- the hashes and the strings, for how many there is room in total, the room for bytes of further strings, and how many
+-- bytes of memory are held for records
 pub record Records : Type 0 where
   pub list : List (ℕ × List ℕ)
   pub most : ℕ
   pub spare_bytes : ℕ
+  pub held_bytes : ℕ
 
 -- it is stored as the tuple of its fields
 abbrev pub records_code : Coded Records
 records_code =
     code_by
-    (List (ℕ × List ℕ) × (ℕ × ℕ))
-    (coded× (coded_list (coded× coded_ℕ (coded_list coded_ℕ))) (coded× coded_ℕ coded_ℕ))
-    (λ v. (v.list, (v.most, v.spare_bytes)))
-    (λ p. record { list = p.0; most = p.1.0; spare_bytes = p.1.1 })
+    (List (ℕ × List ℕ) × (ℕ × (ℕ × ℕ)))
+    (coded× (coded_list (coded× coded_ℕ (coded_list coded_ℕ))) (coded× coded_ℕ (coded× coded_ℕ coded_ℕ)))
+    (λ v. (v.list, (v.most, (v.spare_bytes, v.held_bytes))))
+    (λ p. record { list = p.0; most = p.1.0; spare_bytes = p.1.1.0; held_bytes = p.1.1.1 })
     (λ _. refl)
 
 abbrev pub hashes_of : Records → List ℕ
@@ -34,6 +36,10 @@ pub record HasRoom (n : ℕ) (v : Records) : Type 0 where
 -- how many bytes of records there is room for in total
 abbrev pub record_room_of : Records → ℕ
 record_room_of v = 13 * v.most + sum_by length (strings_of v) + v.spare_bytes
+
+-- how much of it a call needs that makes room for so many bytes of strings, and for as many strings as there is then
+abbrev pub room_needed : ℕ → Records → Records → ℕ
+room_needed bytes old new = 13 * new.most + sum_by length (strings_of old) + max bytes old.spare_bytes
 
 -- such room stays, at least doubles, or becomes the most that records take
 abbrev pub StaysOrDoubles : ℕ → ℕ → Type 0

@@ -1,11 +1,11 @@
 //! A list of strings with their hashes.
 ghost use Rattle.std.specs.Prelude.{◌≡◌, ◌≢◌, ℕ, ◌+◌, ◌-◌, ◌*◌, ◌^◌, ◌<◌, ◌≤◌, [], ◌∷◌, ◌++◌, length, max, min, sum_by, take, slice_get, Some};
 ghost use Rattle.std.specs.Prelude.{IfOk, IfSome, IsOk, None, OnOk, OnErr, option_copied};
-ghost use Rattle.intaglio_packed.specs.Growth.{Doubles};
+ghost use Rattle.intaglio_packed.specs.Growth.{Doubles, DoublesBytes};
 ghost use Rattle.intaglio_records.specs.Matches.{FindsAll};
-ghost use Rattle.intaglio_records.specs.Records.{HasRoom, StaysOrDoubles, hashes_of, record_room_of, strings_of};
+ghost use Rattle.intaglio_records.specs.Records.{HasRoom, StaysOrDoubles, hashes_of, record_room_of, room_needed, strings_of};
 
-use crate::entries::{remove_behind, widen};
+use crate::entries::{lines_of, remove_behind, widen};
 use crate::header::{HEADER, header, read_hash};
 use crate::matches::Matches;
 use intaglio_packed::StringBuffer;
@@ -47,6 +47,7 @@ impl Model for StringRecords {
       list = map pair_of r.records.list;
       most = r.records.most;
       spare_bytes = free_of r.records - set_aside r.records;
+      held_bytes = r.records.held_bytes;
     } };
 
     ghost invariant = { λ r. record {
@@ -96,7 +97,7 @@ fn grown(len: usize, capacity: usize, strings: usize) -> Result<usize, AllocErro
 impl StringRecords {
     /// An empty list, which allocates nothing.
     pub fn new(alloc: Global) -> StringRecords
-        ensures { result ≡ record { list = []; most = 0; spare_bytes = 0 } }
+        ensures { result ≡ record { list = []; most = 0; spare_bytes = 0; held_bytes = 0 } }
     {
         StringRecords {
             records: StringBuffer::new(alloc),
@@ -115,7 +116,8 @@ impl StringRecords {
         strings: usize,
         bytes: usize,
     ) -> Result<StringRecords, AllocError>
-        ensures made { IfOk result (λ r. r ≡ record { list = []; most = strings; spare_bytes = bytes }) }
+        ensures made { let held = 13 * strings + bytes in IfOk result (λ r.
+            r ≡ record { list = []; most = strings; spare_bytes = bytes; held_bytes = held }) }
         ensures none_needed { strings ≡ 0 → bytes ≡ 0 → IsOk result }
     {
         let needed = record_bytes(strings, bytes)?;
@@ -151,6 +153,13 @@ impl StringRecords {
         ensures { result ≡ sum_by length (strings_of self.now) }
     {
         self.records.byte_count() - HEADER * self.records.len()
+    }
+
+    /// For how many bytes of records it holds memory: at least those of all records and the spare ones.
+    pub fn held_bytes(&self) -> usize
+        ensures { result ≡ self.now.held_bytes }
+    {
+        self.records.held_bytes()
     }
 
     /// How many bytes of further strings there is room for.
@@ -232,6 +241,8 @@ impl StringRecords {
         ensures spare_bytes { self.old.spare_bytes ≤ self.new.spare_bytes }
         ensures grows { Doubles (length self.old.list + strings) self.old.most self.new.most }
         ensures doubles { StaysOrDoubles (record_room_of self.old) (record_room_of self.new) }
+        ensures grows_bytes { let needed = room_needed bytes self.old self.new in
+            OnOk result (DoublesBytes needed (record_room_of self.old) (record_room_of self.new)) }
         ensures strings { OnOk result (length self.new.list + strings ≤ self.new.most) }
         ensures bytes { OnOk result (bytes ≤ self.new.spare_bytes) }
         ensures err { OnErr result (self.new.most ≡ self.old.most) }
@@ -252,6 +263,8 @@ impl StringRecords {
         ensures spare_bytes { self.old.spare_bytes ≤ self.new.spare_bytes }
         ensures grows { Doubles (length self.old.list + strings) self.old.most self.new.most }
         ensures doubles { StaysOrDoubles (record_room_of self.old) (record_room_of self.new) }
+        ensures grows_bytes { let needed = room_needed bytes self.old self.new in
+            OnOk result (DoublesBytes needed (record_room_of self.old) (record_room_of self.new)) }
         ensures strings { OnOk result (length self.new.list + strings ≤ self.new.most) }
         ensures bytes { OnOk result (bytes ≤ self.new.spare_bytes) }
         ensures err { OnErr result (self.new.most ≡ self.old.most) }
@@ -268,26 +281,29 @@ impl StringRecords {
     }
 
     /// Shrinks the room to `min_capacity` strings, or to those that there are if they are more, and the room
-    /// for bytes to those that there are. All strings are copied.
+    /// for bytes to those that there are.
     ///
     /// # Errors
     ///
-    /// [`AllocError`] if an allocation fails. Then nothing has changed.
+    /// [`AllocError`] if an allocation fails. Then more room for strings or more memory is left, as before at most.
     pub fn shrink_to(&mut self, min_capacity: usize) -> Result<(), AllocError>
         ensures list { self.new.list ≡ self.old.list }
         ensures most { min min_capacity self.old.most ≤ self.new.most }
         ensures no_more { self.new.most ≤ self.old.most }
-        ensures no_more_bytes { self.new.spare_bytes ≤ self.old.spare_bytes }
+        ensures no_more_held { self.new.held_bytes ≤ self.old.held_bytes }
+        ensures spare_bytes { self.new.spare_bytes ≡ 0 }
         ensures shrunk { OnOk result (self.new.most ≤ max (length self.old.list) min_capacity) }
-        ensures shrunk_bytes { OnOk result (self.new.spare_bytes ≡ 0) }
-        ensures err { OnErr result (self.new ≡ self.old) }
+        ensures shrunk_held { OnOk result (self.new.held_bytes ≡ record_room_of self.new) }
         ensures frees { length self.old.list ≡ 0 → min_capacity ≡ 0 → self.new.most ≡ 0 }
     {
-        let most = self.capacity().min(self.len().max(min_capacity));
-        let mut smaller = StringRecords::with_capacity(self.alloc(), most, self.byte_count())?;
-        copy_all(self, &mut smaller);
-        *self = smaller;
-        Ok(())
+        self.records.shrink_strings(min_capacity);
+        let set_aside = HEADER * (self.records.capacity() - self.records.len());
+        let shrunk = self.records.shrink_bytes(set_aside);
+        self.lines = lines_of(&self.records, self.records.capacity())?;
+        if self.records.capacity() > self.records.len().max(min_capacity) {
+            return Err(AllocError);
+        }
+        shrunk
     }
 
     /// Adds a string with its hash, for which there is room.
@@ -322,19 +338,5 @@ impl StringRecords {
     {
         self.lines.clear();
         self.records.clear();
-    }
-}
-
-// Adds all strings of one list to another, which is empty and has the room.
-fn copy_all(from: &StringRecords, to: &mut StringRecords)
-    requires empty { to.old.list ≡ [] }
-    requires room { length from.now.list ≤ to.old.most }
-    requires bytes { sum_by length (strings_of from.now) ≤ to.old.spare_bytes }
-    ensures list { to.new.list ≡ from.now.list }
-    ensures most { to.new.most ≡ to.old.most }
-    ensures spare_bytes { to.old.spare_bytes ≡ to.new.spare_bytes + sum_by length (strings_of from.now) }
-{
-    for i in 0..from.len() {
-        to.push_hashed(from.hash(i), from.string(i));
     }
 }

@@ -58,6 +58,7 @@ fn dropped_strings_are_not_found(rt: HostRuntime) {
     same(&rt, records.shrink_to(2), Ok(()));
     same(&rt, records.capacity(), 20);
     same(&rt, records.spare_bytes(), 0);
+    same(&rt, records.held_bytes(), 20 * (13 + 4));
     same(&rt, records.find(5, &19u32.to_le_bytes()), Some(19));
     records.clear();
     same(&rt, records.find(5, &19u32.to_le_bytes()), None);
