@@ -1,10 +1,11 @@
-"""What `intaglio_dict` makes of column files, whole and damaged, beside the reader and writer in frozen_columns.py and plain lists
-of lines.
+"""What `intaglio_dict` makes of column files, whole and damaged, beside the reader and writer in frozen_columns.py and plain
+lists of lines.
 """
 
 import itertools
 import os
 import random
+import re
 import tempfile
 from collections import Counter
 from pathlib import Path
@@ -70,10 +71,10 @@ def matched(tool, table, name, lines, words):
     for option, found in rows.items():
         for trusted in ((), ("--trusted",)):
             options = [*trusted, *([option] if option else [])]
-            wanted = (0 if found else 1, numbers_of(found), [])
-            yield f"match {options}", run([tool, "match", *options, "--", table, name, *typed]) == wanted
-            counts = (wanted[0], b"%d\n" % len(found), [])
-            yield f"match --count {options}", run([tool, "match", "--count", *options, "--", table, name, *typed]) == counts
+            status, numbers = 0 if found else 1, numbers_of(found)
+            yield f"match {options}", run([tool, "match", *options, "--", table, name, *typed]) == (status, numbers, [])
+            counts = [tool, "match", "--count", *options, "--", table, name, *typed]
+            yield f"match --count {options}", run(counts) == (status, b"%d\n" % len(found), [])
 
 
 def selected(tool, chance, table, name, lines):
@@ -110,8 +111,8 @@ def of_lines(tool, chance, table, strings, kind, name, lines):
     told = (0, all_lines, []) if first is None else said(1, f"{name}: row {first} {MISSING_ROW}")
     yield "decode", run([tool, "decode", table, name]) == told
     for options, by_symbol in ((), False), (("--by-symbol",), True), (("--trusted",), False):
-        wanted = (0, counted(lines, strings, by_symbol), [])
-        yield f"count {options}", run([tool, "count", *options, table, name]) == wanted
+        rows = counted(lines, strings, by_symbol)
+        yield f"count {options}", run([tool, "count", *options, table, name]) == (0, rows, [])
     texts = [it for it in strings if it.isascii() and b"\0" not in it]
     some = chance.choices(texts, k=min(3, len(texts))) + [b"none of them"]
     yield from matched(tool, table, name, lines, some)
@@ -369,6 +370,16 @@ def damages(tool, pool, count):
 # All of it.
 
 
+def session(tool, folder):
+    """Yields each command of the session in docs/COLUMN-FILES.md, and whether it writes what stands there."""
+    page = Path("docs/COLUMN-FILES.md").read_text(encoding="utf-8")
+    block = re.findall(r"```console\n(.*?)```", page, re.S)[0]
+    for part in block.split("$ ")[1:]:
+        command, _, wanted = part.partition("\n")
+        typed = command.replace("./intaglio dict", f"'{tool}'")
+        yield command, run(["/bin/sh", "-c", f"cd '{folder}' && {typed}"]) == (0, wanted.encode(), [])
+
+
 def cases(tool, library):
     """Each case, as a function of a folder."""
     for size, (kind, word) in itertools.product(SIZES, ((BYTES, "bytes"), (TEXT, "texts"))):
@@ -376,6 +387,7 @@ def cases(tool, library):
             tool, random.Random(size), size, kind, folder
         )
     yield "other dictionaries", lambda folder: others(tool, folder)
+    yield "docs/COLUMN-FILES.md", lambda folder: session(tool, folder)
     yield "devices, column files", lambda folder: devices(tool, library, folder)
 
 
