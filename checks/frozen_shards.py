@@ -1,10 +1,11 @@
-"""A reader and a writer of folders of shards, written from docs/FROZEN.md alone; and what `intaglio_dict` makes of them: parts that
-are split, merged by shard, joined and renumbered, folders that are damaged, and processes that are killed.
+"""A reader and a writer of folders of shards, written from docs/FROZEN.md alone; and what `intaglio_dict` makes of them: parts
+that are split, merged by shard, joined and renumbered, folders that are damaged, and processes that are killed.
 """
 import functools
 import itertools
 import os
 import random
+import re
 import shutil
 import signal
 import subprocess
@@ -12,7 +13,7 @@ import tempfile
 import time
 from pathlib import Path
 
-from columns import DONE, decoded, encoded, ended, left, merged, packed, random_parts, read, renumbered, said
+from columns import DONE, decoded, encoded, ended, left, merged, packed, random_parts, read, said
 from frozen_columns import Id, id_of
 from frozen_tables import BYTES, TEXT, Frozen, freeze, scaled, sip_hash
 from programs import run
@@ -23,7 +24,7 @@ KEYS = tuple(int.from_bytes(it, "big") for it in (b"shards.0", b"shards.1"))
 OTHER = "not the shard that the index names: it is damaged, or of another split or merge"
 MISPLACED = "belongs to another shard, or there is another number of shards"
 # How often a process is killed.
-KILLS = 40
+KILLS = 24
 
 
 def shard_of(count, string):
@@ -94,7 +95,8 @@ def put(folder, files):
 def of_commands(tool, whole, strings, kind, folder):
     """Yields what the commands say of a folder of shards, which are those of one dictionary of these strings."""
     lines, asked = ended(strings), ended(strings[::-2] + [b"none of them"])
-    symbols = [(b"%d" % strings.index(it) if it in strings else b"-") for it in asked.split(b"\n")[:-1]]
+    numbers = {it: b"%d" % number for number, it in enumerate(strings)}
+    symbols = [numbers.get(it, b"-") for it in asked.split(b"\n")[:-1]]
     yield "list", run([tool, "list", whole]) == (0, lines, [])
     yield "check", run([tool, "check", whole]) == DONE
     yield "find", run([tool, "find", whole], asked) == (1, ended(symbols), [])
@@ -203,8 +205,8 @@ def refused(tool, words, given, message, folder, status=1):
 
 
 def damages(tool, folder):
-    """Yields what is said of a shard that is missing, damaged, of another split, of another number of shards, and of an index that
-    is damaged."""
+    """Yields what is said of a shard that is missing, damaged, of another split or of another number of shards, and of an index
+    that is damaged."""
     lists = made(folder)
     whole, shard, index = f"{folder}/whole", f"{folder}/whole/1.dict", f"{folder}/whole/shards"
     was, was_index = Path(shard).read_bytes(), Path(index).read_bytes()
@@ -309,18 +311,52 @@ def requests(tool, folder):
         told = f"{folder}/0: it has other shards; remove it, or name another folder"
         yield f"{words[0]}: a folder with other shards", refused(tool, words, b"", told, folder, 2)
         yield f"{words[0]}: after that", files_in(f"{folder}/0") == before
-    for words, name in (
-        ([shards[1], shards[0], shards[2]], shards[1]), ([*shards[1:], shards[0]], shards[1]), (shards[:2], None),
-    ):
+    for words in ([shards[1], shards[0], shards[2]], [*shards[1:], shards[0]], shards[:2]):
         status, wrote, told = run([tool, "join", *words, "-o", f"{folder}/new"])
-        is_named = any(told == [f"{NAME}: {it}: string {n} {MISPLACED}"] for it in words for n in range(99))
-        is_right = told == [f"{NAME}: {name}: string 0 {MISPLACED}"] if name else is_named
-        yield f"join {words}", (status, wrote) == (1, b"") and is_right and not os.path.exists(f"{folder}/new")
+        # (of two shards of three, the first string that belongs elsewhere isn't known here)
+        places = [(words[0], 0)] if len(words) == 3 else itertools.product(words, range(99))
+        is_named = any(told == [f"{NAME}: {it}: string {n} {MISPLACED}"] for it, n in places)
+        yield f"join {words}", (status, wrote) == (1, b"") and is_named and not os.path.exists(f"{folder}/new")
     for name in (shards[0], f"{whole}/0.dict"):
         where = os.path.dirname(name)
         told = said(2, f"{name}: this input is also the output {name}; nothing was written")
         before = read(name)
         yield f"join: a shard in {where}", run([tool, "join", name, "-o", where]) == told and read(name) == before
+
+
+def recipes(tool, folder):
+    """The session and the rules for `make -j` of docs/COLUMNS.md: what comes back is the lines, and after a change of one part
+    too."""
+    page = Path("docs/COLUMNS.md").read_text(encoding="utf-8")
+    section = re.findall(r"^## Merging in shards\n(.*?)^## ", page, re.M | re.S)[0]
+    (session,), (rules,) = (re.findall(rf"^```{it}\n(.*?)^```", section, re.M | re.S) for it in ("sh", "make"))
+    parts: list[list[bytes]] = [[b"a", b"b", b"a"], [b"c", b"b", b""], [], [b"d", b"a"]]
+
+    def put_parts():
+        for part, lines in enumerate(parts):
+            Path(f"{folder}/{part}.lines").write_bytes(ended(lines))
+
+    put_parts()
+    settings = {**os.environ, "DICT": tool}
+    ran = subprocess.run(["/bin/sh", "-ec", session], capture_output=True, cwd=folder, env=settings, timeout=60)
+    lines = ended(it for each in parts[:2] for it in each)
+    yield f"the session: {ran.stderr.decode()}", (ran.returncode, ran.stdout) == (0, lines)
+    if not shutil.which("make"):
+        print("left out: make isn't there")
+        return
+    for name in os.listdir(folder):
+        if not name.endswith(".lines"):
+            path = f"{folder}/{name}"
+            shutil.rmtree(path) if os.path.isdir(path) else os.remove(path)
+    Path(f"{folder}/Makefile").write_text(rules)
+    for turn in range(2):
+        ran = subprocess.run(["make", "-s", "-j4", "-C", folder, f"DICT={tool}"], capture_output=True, timeout=60)
+        yield f"make, turn {turn}: {ran.stderr.decode()}", ran.returncode == 0
+        codes, wanted = (f"{folder}/{it}.whole" for it in range(4)), ended(it for each in parts for it in each)
+        yield f"what make wrote, turn {turn}", run([tool, "decode", f"{folder}/whole", *codes]) == (0, wanted, [])
+        parts[1] = [b"e", b"a", b"e"]
+        time.sleep(0.1)
+        put_parts()
 
 
 # Processes that are killed.
@@ -337,7 +373,7 @@ def is_whole(folder, old, new):
 
 def kills(tool, folder):
     """A process that is killed leaves the folder without an index, or whole; the next one makes it whole."""
-    strings = [b"w%d" % it for it in range(20_000)]
+    strings = [b"w%d" % it for it in range(4_000)]
     table, chance = f"{folder}/table", random.Random(5)
     Path(table).write_bytes(freeze(strings))
     new = folder_of(shards_of(strings, 8)) | {"map": packed(split_map(strings, 8))}
@@ -389,6 +425,7 @@ def cases(tool, library):
         yield f"{size} lines in {count} shards", functools.partial(of_parts, tool, random.Random(size), size, kind, count)
     yield "damaged folders of shards", functools.partial(damages, tool)
     yield "requests on shards", functools.partial(requests, tool)
+    yield "docs/COLUMNS.md, shards", functools.partial(recipes, tool)
     yield "killed", functools.partial(kills, tool)
     yield "failing devices", functools.partial(failing, tool, library)
 

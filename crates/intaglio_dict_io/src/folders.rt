@@ -1,6 +1,7 @@
 //! Folders of shards: the names of their files, and which files are in a folder.
 use crate::apart::Named;
 use std::alloc::{AllocError, Global};
+use std::io::ErrorKind;
 use std::rt::Files;
 use std::{fs, io};
 
@@ -24,9 +25,13 @@ pub fn shard_name(alloc: Global, folder: &str, number: usize) -> Result<String, 
 /// # Errors
 ///
 /// That there is no memory.
-pub fn is_folder<R: Files + AllocGlobal>(rt: &R, name: &str) -> Result<bool, AllocError> {
+pub fn is_folder<R: Files + AllocGlobal>(rt: &R, name: &str) -> io::Result<bool> {
     let index = index_name(rt.alloc(), name)?;
-    Ok(fs::metadata(rt, index.as_str()).is_ok())
+    match fs::metadata(rt, index.as_str()) {
+        Ok(_) => Ok(true),
+        Err(e) if e.kind() == ErrorKind::OutOfMemory => Err(e),
+        Err(_) => Ok(false),
+    }
 }
 
 /// Adds what is in this folder, and in the folders in it. Nothing is added if it isn't a folder.
@@ -39,34 +44,31 @@ pub fn add_all_entries<R: Files + AllocGlobal>(
     folder: &str,
     all: &mut Vec<Named>,
 ) -> io::Result<()> {
-    let Ok(entries) = fs::read_dir(&rt, folder) else {
-        return Ok(());
-    };
-    for entry in entries {
-        // (A name that isn't UTF-8 is that of no file which a command reads or writes.)
-        if let Ok(entry) = entry {
-            let name = String::from_str(rt.alloc(), entry.path().as_str())?;
-            add_entries(rt, name.as_str(), all)?;
-            all.push(Named::of(rt, name)?)?;
+    let names = names_in(rt, folder)?;
+    for name in names {
+        for inner in names_in(rt, name.as_str())? {
+            all.push(Named::of(rt, inner)?)?;
         }
+        all.push(Named::of(rt, name)?)?;
     }
     Ok(())
 }
 
-// Adds what is in this folder, if it is one.
-fn add_entries<R: Files + AllocGlobal>(
-    rt: &R,
-    folder: &str,
-    all: &mut Vec<Named>,
-) -> io::Result<()> {
-    let Ok(entries) = fs::read_dir(&rt, folder) else {
-        return Ok(());
+// The names of what is in this folder, or none if it isn't a folder.
+fn names_in<R: Files + AllocGlobal>(rt: &R, folder: &str) -> io::Result<Vec<String>> {
+    let mut names = Vec::new(rt.alloc());
+    let entries = match fs::read_dir(&rt, folder) {
+        Ok(entries) => entries,
+        Err(e) if e.kind() == ErrorKind::OutOfMemory => return Err(e),
+        Err(_) => return Ok(names),
     };
     for entry in entries {
-        if let Ok(entry) = entry {
-            let name = String::from_str(rt.alloc(), entry.path().as_str())?;
-            all.push(Named::of(rt, name)?)?;
+        match entry {
+            Ok(entry) => names.push(String::from_str(rt.alloc(), entry.path().as_str())?)?,
+            Err(e) if e.kind() == ErrorKind::OutOfMemory => return Err(e),
+            // (A name that isn't UTF-8 is that of no file which a command reads or writes.)
+            Err(_) => {}
         }
     }
-    Ok(())
+    Ok(names)
 }

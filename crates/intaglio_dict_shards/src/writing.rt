@@ -10,6 +10,7 @@ use intaglio_dict_io::report::Tell;
 use intaglio_dictionary::shard_index::write_index;
 use std::alloc::AllocError;
 use std::fs;
+use std::io::ErrorKind;
 use std::random::RandomSource;
 use std::rt::Files;
 
@@ -59,8 +60,10 @@ fn check_index<R: Files + Input + Tell + AllocGlobal>(
     let Ok(name) = index_name(rt.alloc(), folder) else {
         return Err(report::out_of_memory(rt));
     };
-    if fs::metadata(rt, name.as_str()).is_err() {
-        return Ok(());
+    match fs::metadata(rt, name.as_str()) {
+        Ok(_) => {}
+        Err(e) if e.kind() == ErrorKind::NotFound => return Ok(()),
+        Err(e) => return Err(report::of_file(rt, name.as_str(), e)),
     }
     let there = whole(rt, name.as_str(), &mut Meter::silent())?;
     if there.as_slice() == index {

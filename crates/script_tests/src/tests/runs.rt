@@ -3,7 +3,7 @@ use super::assertions::same;
 use super::contents::{TestContent, content};
 use super::printed::reply_text;
 use super::script::{Line, line_of, same_text, size, symbol};
-use intaglio::{AddedTo, Call, BaseInterner, Mark, Reply, RoomError, SpelledStore, Work, run};
+use intaglio::{AddedTo, BaseInterner, Call, Mark, Reply, RoomError, SpelledStore, Work, run};
 use std::alloc::Global;
 use std::process::Abort;
 

@@ -1,7 +1,7 @@
 //! Each public call of `Core`, made once on a table with random keys. All names are those of `intaglio_core`.
 use super::assertions::same;
 use intaglio_core::{
-    BytesContent, Call, Core, BaseInterner, Interner, Mark, Reply, RoomError, StrContent, Symbol,
+    BaseInterner, BytesContent, Call, Core, Interner, Mark, Reply, RoomError, StrContent, Symbol,
     Work, run,
 };
 use std::alloc::Global;
