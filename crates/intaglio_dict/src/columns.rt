@@ -4,21 +4,21 @@ use crate::misfit::{no_number, no_string, no_symbol};
 use crate::opening::{Bytes, first_dictionary};
 use clap::ArgMatches;
 use intaglio_column_file::begins_as_column;
-use intaglio_dict_columns::decoding::decode_column;
+use intaglio_dict_columns::decoding::decode_file;
 use intaglio_dict_columns::opening::{Pair, no_shards};
 use intaglio_dict_columns::rows::missing_text;
 use intaglio_dict_columns::writing::write_column;
 use intaglio_dict_io::input::{STANDARD, STANDARD_INPUT, meter_of, name_of, rest_of, whole};
 use intaglio_dict_io::metered::{Meter, Metered};
 use intaglio_dict_io::noticing::Noticing;
-use intaglio_dict_io::output::{Content, write_to};
+use intaglio_dict_io::output::{Payload, write_to};
 use intaglio_dict_io::report;
 use intaglio_dict_io::report::{Stream, Tell};
 use intaglio_dict_shards::checking::checked;
 use intaglio_dict_shards::folder::open_shards;
 use intaglio_dict_shards::renumbering::sharded_map;
 use intaglio_dictionary::codes::CodeMap;
-use intaglio_dictionary::columns::{decode, encode, renumber};
+use intaglio_dictionary::columns::{decode_column, encode_column, renumber_column};
 use intaglio_dictionary::dictionary::{Dictionary, WholeDictionary};
 use intaglio_dictionary::error::ColumnError;
 use intaglio_frozen::Frozen;
@@ -48,11 +48,13 @@ impl<D: WholeDictionary + Dictionary> Translation<'_, '_, D> {
         output: &mut W,
     ) -> Result<u64, ColumnError> {
         match self {
-            Translation::Encode(table, missing) => encode(alloc, *table, *missing, input, output),
+            Translation::Encode(table, missing) => encode_column(
+                alloc, *table, *missing, input, output,
+            ),
             Translation::Decode(table, missing, _, _) => {
-                decode(alloc, *table, *missing, input, output)
+                decode_column(alloc, *table, *missing, input, output)
             }
-            Translation::Renumber(map) => renumber(alloc, *map, input, output),
+            Translation::Renumber(map) => renumber_column(alloc, *map, input, output),
         }
     }
 
@@ -107,7 +109,7 @@ struct Column<'a, 't, D> {
     count: u64,
 }
 
-impl<R: Files + Input + Tell + AllocGlobal, D: WholeDictionary + Dictionary> Content<R>
+impl<R: Files + Input + Tell + AllocGlobal, D: WholeDictionary + Dictionary> Payload<R>
     for Column<'_, '_, D> {
     fn write<W: Write>(&mut self, rt: &R, name: &str, output: &mut Noticing<W>) -> Result<(), u8> {
         for input in self.names {
@@ -191,7 +193,7 @@ impl<D: WholeDictionary + Dictionary> Column<'_, '_, D> {
             name: input_name,
             bytes: &file,
         };
-        let rows = decode_column(rt, table, pair, text, name, output)?;
+        let rows = decode_file(rt, table, pair, text, name, output)?;
         self.count = self.count.saturating_add(rows);
         Ok(())
     }
@@ -234,13 +236,13 @@ fn encode_with<
         return translate(rt, found, "FILE", translation, "lines encoded");
     };
     match bytes {
-        Some(bytes) => encode_column(rt, found, name, bytes, output, translation),
+        Some(bytes) => encode_to_file(rt, found, name, bytes, output, translation),
         None => Err(no_shards(rt, name)),
     }
 }
 
 // Writes the column of the lines of the inputs.
-fn encode_column<
+fn encode_to_file<
     R: Files + RandomSource + Input + Print + Tell + AllocGlobal,
     D: WholeDictionary + Dictionary,
 >(

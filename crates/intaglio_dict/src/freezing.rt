@@ -5,7 +5,7 @@ use clap::ArgMatches;
 use intaglio_dict_io::input::{STANDARD_INPUT, lines};
 use intaglio_dict_io::keys::keys_of;
 use intaglio_dict_io::noticing::Noticing;
-use intaglio_dict_io::output::{Bytes, Content, write_to};
+use intaglio_dict_io::output::{Bytes, Payload, write_to};
 use intaglio_dict_io::report;
 use intaglio_dict_io::report::Tell;
 use intaglio_dictionary::error::FreezingError;
@@ -85,7 +85,7 @@ fn kind_of(found: &ArgMatches<'_>) -> Kind {
     }
 }
 
-impl<R: Files + RandomSource + Print + Tell + AllocGlobal> Content<R> for Freezing<'_, R> {
+impl<R: Files + RandomSource + Print + Tell + AllocGlobal> Payload<R> for Freezing<'_, R> {
     // The codes are written before the dictionary has its place: whoever sees that can read them.
     fn write<W: Write>(&mut self, rt: &R, name: &str, output: &mut Noticing<W>) -> Result<(), u8> {
         let Some(codes) = self.codes else {

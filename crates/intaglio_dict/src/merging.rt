@@ -7,7 +7,7 @@ use intaglio_dict_io::input::whole_files;
 use intaglio_dict_io::keys::keys_of;
 use intaglio_dict_io::maps::{make_folder, map_name};
 use intaglio_dict_io::noticing::Noticing;
-use intaglio_dict_io::output::{Content, write_to};
+use intaglio_dict_io::output::{Payload, write_to};
 use intaglio_dict_io::report;
 use intaglio_dict_io::report::Tell;
 use intaglio_dict_shards::checking::{common_kind, tables_of};
@@ -37,7 +37,7 @@ struct Map<'a> {
     codes: &'a [Symbol],
 }
 
-impl<R: Tell + AllocGlobal> Content<R> for Map<'_> {
+impl<R: Tell + AllocGlobal> Payload<R> for Map<'_> {
     fn write<W: Write>(&mut self, rt: &R, name: &str, output: &mut Noticing<W>) -> Result<(), u8> {
         match write_codes(rt.alloc(), self.codes, output) {
             Ok(()) => Ok(()),
@@ -46,7 +46,7 @@ impl<R: Tell + AllocGlobal> Content<R> for Map<'_> {
     }
 }
 
-impl<R: Files + RandomSource + Print + Tell + AllocGlobal> Content<R> for Merging<'_, '_, R> {
+impl<R: Files + RandomSource + Print + Tell + AllocGlobal> Payload<R> for Merging<'_, '_, R> {
     // The maps are written before the dictionary has its place: whoever sees that can read them.
     fn write<W: Write>(&mut self, rt: &R, name: &str, output: &mut Noticing<W>) -> Result<(), u8> {
         let builder = random_builder(rt)?;

@@ -16,8 +16,8 @@ use std::{fs, io};
 /// What standard output is called in messages.
 pub const OUTPUT: &str = "standard output";
 
-/// What is written to an output.
-pub trait Content<R> {
+/// What an output is given.
+pub trait Payload<R> {
     /// Writes all of it to the output with this name. Otherwise the exit status after a message.
     fn write<W: Write>(&mut self, rt: &R, name: &str, output: &mut Noticing<W>) -> Result<(), u8>;
 }
@@ -29,7 +29,7 @@ pub struct Bytes<'a> {
     pub bytes: &'a [u8],
 }
 
-impl<R: Tell + AllocGlobal> Content<R> for Bytes<'_> {
+impl<R: Tell + AllocGlobal> Payload<R> for Bytes<'_> {
     fn write<W: Write>(&mut self, rt: &R, name: &str, output: &mut Noticing<W>) -> Result<(), u8> {
         match write_whole(self.bytes, output) {
             Ok(()) => Ok(()),
@@ -45,7 +45,7 @@ fn write_whole<W: Write>(bytes: &[u8], output: &mut W) -> io::Result<()> {
 
 /// Writes to standard output, to a device or a pipe, or beside a file, which is replaced when the new one is whole.
 /// Otherwise the exit status after a message.
-pub fn write_to<R: Files + RandomSource + Print + Tell + AllocGlobal, C: Content<R>>(
+pub fn write_to<R: Files + RandomSource + Print + Tell + AllocGlobal, C: Payload<R>>(
     rt: &R,
     name: &str,
     content: &mut C,
@@ -69,7 +69,7 @@ fn is_stream<R: Files>(rt: &R, name: &str) -> bool {
 }
 
 // Writes to a device or a pipe.
-fn write_through<R: Files + Tell + AllocGlobal, C: Content<R>>(
+fn write_through<R: Files + Tell + AllocGlobal, C: Payload<R>>(
     rt: &R,
     name: &str,
     content: &mut C,
@@ -88,7 +88,7 @@ fn open_stream<R: Files>(rt: &R, name: &str) -> io::Result<R::File> {
 }
 
 // Writes beside a file, which is replaced when the new one is whole.
-fn write_beside<R: Files + RandomSource + Tell + AllocGlobal, C: Content<R>>(
+fn write_beside<R: Files + RandomSource + Tell + AllocGlobal, C: Payload<R>>(
     rt: &R,
     place: &Place<'_>,
     content: &mut C,
@@ -102,7 +102,7 @@ fn write_beside<R: Files + RandomSource + Tell + AllocGlobal, C: Content<R>>(
 }
 
 // Writes to a file, and renames it to its place.
-fn write_and_replace<R: Files + Tell + AllocGlobal, C: Content<R>>(
+fn write_and_replace<R: Files + Tell + AllocGlobal, C: Payload<R>>(
     rt: &R,
     place: &Place<'_>,
     path: Path<'_>,

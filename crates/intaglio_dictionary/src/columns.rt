@@ -185,7 +185,7 @@ impl Renumbering<'_, '_> {
 ///
 /// `NoSymbol` for the first line that isn't in the table, unless `missing` is true; `Memory`, `Read` or `Write`.
 /// What was written then is the front of the codes of the lines before that one.
-pub fn encode<D: WholeDictionary, R: Read, W: Write>(
+pub fn encode_column<D: WholeDictionary, R: Read, W: Write>(
     alloc: Global,
     table: &D,
     missing: bool,
@@ -229,7 +229,7 @@ pub fn encode<D: WholeDictionary, R: Read, W: Write>(
 ///
 /// ```
 /// # use intaglio::SymbolTable;
-/// # use intaglio_dictionary::columns::decode;
+/// # use intaglio_dictionary::columns::decode_column;
 /// # use intaglio_frozen::{Frozen, Kind, freeze};
 /// # let mut table = SymbolTable::new(rt.alloc())?;
 /// # let _rose = table.get_or_intern("rose")?;
@@ -238,11 +238,11 @@ pub fn encode<D: WholeDictionary, R: Read, W: Write>(
 /// let dictionary = Frozen::open(&bytes)?;
 /// let codes = [1, 0, 0, 0, 0xff, 0xff, 0xff, 0xff, 0, 0, 0, 0];
 /// let mut lines = Vec::new(rt.alloc());
-/// let count = decode(rt.alloc(), &dictionary, Some(b"?"), &mut codes.as_slice(), &mut lines)?;
+/// let count = decode_column(rt.alloc(), &dictionary, Some(b"?"), &mut codes.as_slice(), &mut lines)?;
 /// assert!(rt; count == 3);
 /// assert!(rt; lines.as_slice() == b"thorn\n?\nrose\n".as_slice());
 /// ```
-pub fn decode<D: WholeDictionary, R: Read, W: Write>(
+pub fn decode_column<D: WholeDictionary, R: Read, W: Write>(
     alloc: Global,
     table: &D,
     missing: Option<&[u8]>,
@@ -285,7 +285,7 @@ pub fn decode<D: WholeDictionary, R: Read, W: Write>(
 ///
 /// `NoString` for the first code that isn't in the map, `ShortCode` if the input ends within a code; `Memory`,
 /// `Read` or `Write`. What was written then is the front of the new codes of the codes before that one.
-pub fn renumber<R: Read, W: Write>(
+pub fn renumber_column<R: Read, W: Write>(
     alloc: Global,
     map: &CodeMap<'_>,
     reader: &mut R,

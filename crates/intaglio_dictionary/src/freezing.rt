@@ -79,8 +79,8 @@ pub fn freeze_lines_with_default_keys<S: BuildHasher + Drop, W: Write, P: Progre
 }
 
 /// As [`freeze_lines`], or, if no keys are given, as [`freeze_lines_with_default_keys`], and writes the code of each
-/// line to `codes`, as [`encode`](crate::columns::encode) would under the frozen table. The codes are written first:
-/// nothing of the table is written before all of them are.
+/// line to `codes`, as [`encode_column`](crate::columns::encode_column) would under the frozen table. The codes are
+/// written first: nothing of the table is written before all of them are.
 ///
 /// # Errors
 ///
@@ -89,7 +89,7 @@ pub fn freeze_lines_with_default_keys<S: BuildHasher + Drop, W: Write, P: Progre
 ///
 /// ```
 /// use anyhow::Result;
-/// use intaglio_dictionary::columns::decode;
+/// use intaglio_dictionary::columns::decode_column;
 /// use intaglio_dictionary::freezing::freeze_column;
 /// use intaglio_dictionary::progress::Progress;
 /// use intaglio_frozen::{Frozen, Kind};
@@ -114,7 +114,7 @@ pub fn freeze_lines_with_default_keys<S: BuildHasher + Drop, W: Write, P: Progre
 ///
 ///     let dictionary = Frozen::open(&table)?;
 ///     let mut decoded = Vec::new(rt.alloc());
-///     let count = decode(rt.alloc(), &dictionary, None, &mut codes.as_slice(), &mut decoded)?;
+///     let count = decode_column(rt.alloc(), &dictionary, None, &mut codes.as_slice(), &mut decoded)?;
 ///     assert!(rt; count == 3);
 ///     assert!(rt; decoded.as_slice() == lines.as_slice());
 ///     Ok(())

@@ -14,7 +14,7 @@ use std::alloc::{AllocError, Global};
 const MOST: usize = u32::MAX as usize;
 
 /// The map from one dictionary in shards to another, by the map of each shard and the number of strings of each new one:
-/// what [`renumber`](crate::columns::renumber) takes for codes of the first one. By
+/// what [`renumber_column`](crate::columns::renumber_column) takes for codes of the first one. By
 /// [`joining_law`](intaglio_columns::laws::joining_law) it leads to the same strings.
 ///
 /// # Errors

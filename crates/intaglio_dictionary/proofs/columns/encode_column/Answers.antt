@@ -3,7 +3,7 @@ use Rattle.intaglio_lines.specs.Lines.{lines_of}
 use Rattle.intaglio_dictionary.specs.Columns.{has_code}
 use Rattle.intaglio_dictionary.specs.Translation.{AllFit}
 use Rattle.intaglio_dictionary.proofs.Coded.{decodes-to-input, if-some}
-use Rattle.intaglio_dictionary.proofs.columns.encode.Goals as goal
+use Rattle.intaglio_dictionary.proofs.columns.encode_column.Goals as goal
 
 pub returns-in-Ok-clause-decodes : goal.returns-in-Ok-clause-decodes
 returns-in-Ok-clause-decodes g c = λ none.
