@@ -34,8 +34,12 @@ CONTENTS = {
     "numbers": b"3\n0\n",
     "codes": codes_of([1, 0, 19]),
     "map": codes_of(range(20)),
-    "column": column(id_of(freeze(WORDS)), [1, 0, 19]),
+    "column": column(id_of(freeze(WORDS)), [1, 0, 19, 1]),
 }
+
+
+# Words that are no files: numbers, which are otherwise read from standard input, and words that aren't.
+TYPED = ("numbers", "words")
 
 
 class Command(NamedTuple):
@@ -63,9 +67,9 @@ COMMANDS = [
     Command(("decode",), ("dict", "codes"), ("-o",)),
     Command(("encode",), ("dict", "lines"), ("--column",)),
     Command(("decode",), ("dict", "column"), ("-o",)),
-    Command(("rows",), ("dict", "column", "numbers"), ("stdout",), False),
+    Command(("rows",), ("dict", "column", "words"), ("stdout",), False),
     Command(("count",), ("dict", "column"), ("stdout",), False),
-    Command(("match",), ("dict", "column", "numbers"), ("stdout",), False),
+    Command(("match", "--invert"), ("dict", "column", "words"), ("stdout",), False),
     Command(("check",), ("dict", "column"), ("stdout",), False),
     Command(("renumber",), ("map", "codes"), ("-o",)),
     Command(("merge",), ("dict", "dict"), ("-o!", "maps", "0.map", "1.map"), False),
@@ -102,7 +106,7 @@ class Way(NamedTuple):
 
 def ways_of_input(command, number, is_there=True):
     """The ways in which an input can be the file."""
-    if command.inputs[number] != "numbers":
+    if command.inputs[number] not in TYPED:
         yield from (Way(called, (name,)) for called, name in NAMES.items() if is_there or called != "by a hard link")
         yield Way("by - and <", ("-",), "rb")
         yield Way("by /dev/stdin and <", ("/dev/stdin",), "rb")
@@ -201,7 +205,7 @@ def words_of(command, room, given):
         way = given.get(("input", number))
         if way:
             words += way.words
-        elif what == "numbers":
+        elif what in TYPED:
             words += ["3", "0"]
         else:
             words.append(room.other(f"in{number}", CONTENTS[what]))
@@ -317,7 +321,7 @@ def names_of_maps(tool):
 
 def messages(tool, command):
     """Messages that would go into an input or a named output: nothing is said then, and nothing is changed."""
-    files = [f"in{number}" for number, what in enumerate(command.inputs) if what != "numbers"]
+    files = [f"in{number}" for number, what in enumerate(command.inputs) if what not in TYPED]
     files += [f"out{number}" for number, output in enumerate(command.outputs) if output.startswith("-")]
     files += [f"maps/{output}" for output in command.outputs if output.endswith(".map")]
     for name in files:
@@ -350,7 +354,7 @@ def apart(tool, command):
 def twice(tool, command):
     """Standard input can be one input alone."""
     standard = Way("", ("-",), "rb")
-    for one, other in itertools.combinations(range(len(command.inputs)), 2):
+    for one, other in itertools.combinations(range(len(command.inputs) - command.inputs.count("words")), 2):
         if "numbers" in (command.inputs[one], command.inputs[other]):
             given = {("input", 0): standard, ("input", 1): Way("", ())}
         else:
@@ -364,12 +368,12 @@ def twice(tool, command):
 def empty(tool, command):
     """A name without a byte is refused, and said to be empty."""
     for number, what in enumerate(command.inputs):
-        if what != "numbers":
+        if what not in TYPED:
             given = {("input", number): Way("", ("",))}
             wanted = (2, b"", [f"{NAME}: the name of an input is empty"], True)
             yield f"input {number}", in_room(None, lambda room: room.run(tool, words_of(command, room, given), ()) == wanted)
     for number, output in enumerate(command.outputs):
-        option = {"-o!": "-o", "-o": "-o", "--codes": "--codes", "maps": "--maps"}.get(output)
+        option = {"-o!": "-o", "-o": "-o", "--codes": "--codes", "--column": "--column", "maps": "--maps"}.get(output)
         if option:
             given = {("output", number): Way("", (option, ""))}
             wanted = (2, b"", [f"{NAME}: the name of an output is empty"], True)

@@ -1,5 +1,5 @@
 //! How much of the inputs is read, on standard error.
-ghost use Rattle.std.specs.Prelude.{None};
+ghost use Rattle.std.specs.Prelude.{◌≤◌, length, IfOk, None};
 
 use crate::input::STANDARD;
 use crate::report;
@@ -121,7 +121,9 @@ impl<R: Files + Input + Tell> Metered<'_, R> {
     }
 
     // Reads what wasn't looked at.
-    fn read_source(&mut self, buf: &mut [u8]) -> io::Result<usize> {
+    fn read_source(&mut self, buf: &mut [u8]) -> io::Result<usize>
+        ensures { IfOk result (λ n. n ≤ length buf.old) }
+    {
         let read = match &mut self.source {
             Source::Standard(input) => input.read(buf),
             Source::File(file) => file.read(buf),
@@ -139,13 +141,11 @@ impl<R: Files + Input + Tell> Read for Metered<'_, R> {
     ghost remaining = { λ _. None };
 
     fn read(&mut self, buf: &mut [u8]) -> io::Result<usize> {
-        match (self.ahead.get(self.again), buf.first_mut()) {
-            (Some(byte), Some(place)) => {
-                *place = *byte;
-                self.again = self.again.saturating_add(1);
-                Ok(1)
-            }
-            _ => self.read_source(buf),
+        if buf.is_empty() || self.again >= self.ahead.len() {
+            return self.read_source(buf);
         }
+        buf[0] = self.ahead[self.again];
+        self.again += 1;
+        Ok(1)
     }
 }
