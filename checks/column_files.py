@@ -239,7 +239,7 @@ def failing_match(tool, words, wanted, setting, library):
         status, wrote, told = run([tool, *words], LD_PRELOAD=library, **{setting: str(n)})
         if (status, wrote, told) == (0, wanted, []):
             break
-        if status not in (1, 2) or not wanted.startswith(wrote) or len(told) != 1 or not told[0].startswith(NAME):
+        if status not in (1, 2) or not wanted.startswith(wrote) or not told[-1:] or not told[-1].startswith(NAME):
             yield f"{words}: {setting}={n}: {status}, {wrote}, {told}", False
             return
     yield f"{words}: {setting}: {n - 1} failed in turn", n > 1

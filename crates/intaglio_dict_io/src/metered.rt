@@ -112,7 +112,12 @@ impl<R: Files + Input + Tell> Metered<'_, R> {
             let mut byte = [0];
             match self.read_source(&mut byte) {
                 Ok(0) => return Ok(()),
-                Ok(_) => self.ahead.push(byte[0])?,
+                Ok(_) => {
+                    if self.ahead.push(byte[0]).is_err() {
+                        self.error = Some(io::Error::from(ErrorKind::OutOfMemory));
+                        return Err(io::Error::from(ErrorKind::OutOfMemory));
+                    }
+                }
                 Err(e) if e.kind() == ErrorKind::Interrupted => {}
                 Err(e) => return Err(e),
             }
