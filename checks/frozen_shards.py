@@ -159,7 +159,7 @@ def of_parts(tool, chance, size, kind, count, folder):
     counted = said(0, f"{count} shards joined", f"{len(strings)} strings joined")
     yield "join again", run([*joins, "--verbose"]) == counted and files_in(whole) == folder_of(of_shards, kind)
     for part, lines in enumerate(parts):
-        codes, again = f"{folder}/{part}.codes", f"{folder}/{part}.new"
+        codes, again = f"{folder}/{part}.codes", f"{folder}/{part}.again"
         words = ["renumber", "--into", whole, "--maps", os_maps, "--part", str(part), names[part], codes, "-o", again]
         wanted = packed(encoded(strings, lines))
         yield f"renumber {part}", run([tool, *words]) == DONE and read(again) == wanted
