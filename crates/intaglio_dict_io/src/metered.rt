@@ -125,6 +125,18 @@ impl<R: Files + Input + Tell> Metered<'_, R> {
         Ok(())
     }
 
+    // Reads a byte that was looked at.
+    fn read_again(&mut self, buf: &mut [u8]) -> usize
+        ensures { result ≤ length buf.old }
+    {
+        if buf.is_empty() || self.again >= self.ahead.len() {
+            return 0;
+        }
+        buf[0] = self.ahead[self.again];
+        self.again += 1;
+        1
+    }
+
     // Reads what wasn't looked at.
     fn read_source(&mut self, buf: &mut [u8]) -> io::Result<usize>
         ensures { IfOk result (λ n. n ≤ length buf.old) }
@@ -133,9 +145,8 @@ impl<R: Files + Input + Tell> Metered<'_, R> {
             Source::Standard(input) => input.read(buf),
             Source::File(file) => file.read(buf),
         };
-        match read {
-            Ok(taken) => self.meter.add(self.rt, taken),
-            Err(error) => self.error = Some(error),
+        if let Err(error) = read {
+            self.error = Some(error);
         }
         read
     }
@@ -146,11 +157,15 @@ impl<R: Files + Input + Tell> Read for Metered<'_, R> {
     ghost remaining = { λ _. None };
 
     fn read(&mut self, buf: &mut [u8]) -> io::Result<usize> {
-        if buf.is_empty() || self.again >= self.ahead.len() {
-            return self.read_source(buf);
+        if self.again < self.ahead.len() {
+            return Ok(self.read_again(buf));
         }
-        buf[0] = self.ahead[self.again];
-        self.again += 1;
-        Ok(1)
+        let taken = self.read_source(buf)?;
+        // What was looked at counts as read with what follows it.
+        let count = taken.saturating_add(self.ahead.len());
+        self.ahead.clear();
+        self.again = 0;
+        self.meter.add(self.rt, count);
+        Ok(taken)
     }
 }
