@@ -11,13 +11,14 @@ from collections import Counter
 from pathlib import Path
 
 from columns import CODED, DONE, NAME, WAS, ended, failing, left, packed, put, random_parts, read, said, shown
-from frozen_columns import HEADER, MISSING, Column, column, faults_of, id_of
+from frozen_columns import HEADER, MAGIC, MISSING, Column, column, faults_of, id_of
 from frozen_tables import BYTES, TEXT, freeze
 from programs import run
 
 SIZES = (0, 1, 7, 300, 5_000, 100_000)
 DAMAGED, BATCH = 10_000, 500
-MAGIC_START = HEADER.pack(bytes.fromhex("494e5489434f4c0a"), 1, 0, 0, 0, 0, 0, 0, bytes(12))[:4]
+# By these bytes the program tells a column file from a dictionary and from plain codes.
+MAGIC_START = MAGIC[:4]
 NOT_ONE = "not a column; freeze and encode write one with --column"
 MESSAGES = {
     NOT_ONE: "magic",
