@@ -9,6 +9,7 @@
 //! [`Call`]s on it.
 #![tactic(auto)]
 
+pub mod index_of;
 pub mod indexed_store;
 
 pub use indexed_store::{Core, IndexedStore, SYMBOLS};
