@@ -20,10 +20,10 @@ mod text;
 pub use error::TableError;
 pub use intaglio_core::{
     AddedTo, AllSymbols, BaseInterner, ByteStore, Content, ContentOf, Copied, CopiedTo, Core,
-    DEFAULT_SYMBOL_TABLE_CAPACITY, Forms, Index, IndexedStore, InternError, Interner, Keyed, Kind,
-    KindForm, KindOwned, Lends, LookedUpIn, Mark, Moved, Packable, PackedForm, Pairs, RoomError,
-    Sought, SoughtIn, Spelled, SpelledStore, Spells, StaleMark, Store, Symbol, SymbolOverflowError,
-    Work, check_all, get_or_intern_all, intern_all,
+    DEFAULT_SYMBOL_TABLE_CAPACITY, Forms, Index, IndexOf, Indexed, IndexedStore, InternError,
+    Interner, Keyed, Kind, KindForm, KindOwned, Lends, LookedUpIn, Mark, Moved, Packable,
+    PackedForm, Pairs, RoomError, Sought, SoughtIn, Spelled, SpelledStore, Spells, StaleMark,
+    Store, Symbol, SymbolOverflowError, Work, check_all, get_or_intern_all, intern_all,
 };
 pub use intaglio_run::{Call, Reply, run};
 pub use intaglio_text::StrContent;

@@ -55,10 +55,6 @@ pub record PlacesAtMost (n : ℕ) (before after : Work) : Type 0 where
   pub few : again ≤ n
   pub events : after.events ≡ before.events ++ replicate again placed
 
--- one entry more
-abbrev pub with_entry : ℕ → IndexState → IndexState
-with_entry hash s = record { hashes = s.hashes ++ hash ∷ []; room = s.room; places = s.places }
-
 -- what contracts see of an `Index` over a list
 abbrev pub state_of : Placed → IndexState
 state_of index = record { hashes = index.hashes; room = index.room; places = index.places }

@@ -7,7 +7,7 @@ ghost use Rattle.intaglio_content.specs.Store.{byte_room, Doubles, DoublesByteRo
 ghost use Rattle.intaglio_interner.specs.State.{first, Distinct};
 ghost use Rattle.intaglio_interner.specs.Bytes.{IsTight};
 ghost use Rattle.intaglio_interner.specs.Cost.{Costs};
-ghost use Rattle.intaglio_core.specs.IndexOf.{IndexState, empty_index, with_entry, AreHashed, LookupCost};
+ghost use Rattle.intaglio_core.specs.IndexOf.{IndexState, empty_index, AreHashed, LookupCost};
 ghost use Rattle.intaglio_core.specs.IndexOf.{KeepsEntries, FindsRoom, FindsNoRoom, PlacesAtMost};
 
 mod buckets;
@@ -146,7 +146,9 @@ pub trait IndexOf<L: Store> {
         requires bytes { Q.needs value ≤ L.spare_bytes list.old }
         requires prepared { Q.is_prepared value prepared }
         ensures over { is_over self.new list.new }
-        ensures state { state self.new list.new ≡ with_entry hash (state self.old list.old) }
+        ensures hashes { (state self.new list.new).hashes ≡ (state self.old list.old).hashes ++ hash ∷ [] }
+        ensures room { (state self.new list.new).room ≡ (state self.old list.old).room }
+        ensures places { (state self.new list.new).places ≡ (state self.old list.old).places }
         ensures added { Q.adds value (L.contents list.old) (L.contents list.new) }
         ensures most { L.most list.new ≡ L.most list.old }
         ensures spare_bytes { L.spare_bytes list.old ≤ L.spare_bytes list.new + Q.needs value }

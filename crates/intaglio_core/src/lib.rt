@@ -12,6 +12,7 @@
 pub mod index_of;
 pub mod indexed_store;
 
+pub use index_of::{IndexOf, Indexed};
 pub use indexed_store::{Core, IndexedStore, SYMBOLS};
 pub use intaglio_bytes::bytes::BytesContent;
 pub use intaglio_content::{

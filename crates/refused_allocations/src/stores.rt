@@ -4,7 +4,7 @@ use crate::outcome::Outcome;
 use crate::words::ENDED;
 use intaglio::packed::Packed;
 use intaglio::{
-    Content, ContentOf, InternError, KindOwned, RoomError, SoughtIn, Store, Table, TableOver,
+    Content, ContentOf, Indexed, InternError, KindOwned, RoomError, SoughtIn, Table, TableOver,
 };
 use intaglio_frozen::{FreezeError, Frozen, Kind, StringList, freeze};
 use intaglio_hash::FixedState;
@@ -14,7 +14,7 @@ use test_support::contents::OfSpelling;
 use test_support::tables::{Make, make_table};
 
 /// A store whose tables are tried.
-pub trait Tried: Store + Drop
+pub trait Tried: Indexed + Drop
 where
     Self::Content: Content + SoughtIn<Self> + Drop,
     Self::Prepared: Drop,

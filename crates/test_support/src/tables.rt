@@ -1,7 +1,7 @@
 //! Tables of owned contents, and the calls that change one.
 use crate::builders::{Fold, HasherCount};
 use crate::replies::{roomy, taken};
-use intaglio::{Mark, Reply, RoomError, Sought, Spelled, Store, Table, TableOver};
+use intaglio::{Indexed, Mark, Reply, RoomError, Sought, Spelled, Table, TableOver};
 use std::alloc::Global;
 
 /// How a table is made.
@@ -51,7 +51,7 @@ pub enum Update {
 }
 
 /// Makes a call that changes a table.
-pub fn updated<L: Store, S: HasherCount>(table: &mut TableOver<L, S>, update: Update) -> Reply
+pub fn updated<L: Indexed, S: HasherCount>(table: &mut TableOver<L, S>, update: Update) -> Reply
 where
     L::Content: Drop,
 {

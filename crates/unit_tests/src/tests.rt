@@ -20,4 +20,5 @@ mod records;
 mod searches;
 mod sharding;
 mod slots;
+mod stored_lists;
 mod symbols_to_come;

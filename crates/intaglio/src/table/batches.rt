@@ -8,7 +8,8 @@ ghost use Rattle.intaglio_interner.specs.Bytes.{GrowsBytes, GrowsFor, KeepsBytes
 
 use super::{Table, TableOver};
 use intaglio_core::{
-    Content, InternError, LookedUpIn, Sought, SoughtIn, Symbol, Work, check_all, get_or_intern_all,
+    Content, Indexed, InternError, LookedUpIn, Sought, SoughtIn, Symbol, Work, check_all,
+    get_or_intern_all,
 };
 use std::alloc::AllocError;
 use std::hash::BuildHasher;
@@ -44,7 +45,7 @@ impl<C: Content + Sought<C> + Drop, S: BuildHasher> Table<C, S> {
     }
 }
 
-impl<'q, L: LookedUpIn<'q>, S: BuildHasher> TableOver<L, S>
+impl<'q, L: LookedUpIn<'q> + Indexed, S: BuildHasher> TableOver<L, S>
 where
     L::Content: Content + SoughtIn<L> + Drop,
     L::Prepared: Drop,

@@ -10,10 +10,10 @@ ghost use Rattle.intaglio_interner.specs.Lookup.{FindsInterned};
 ghost use Rattle.intaglio_content.specs.Store.{Doubles};
 
 use super::TableOver;
-use intaglio_core::{AddedTo, Content, InternError, LookedUpIn, Store, Symbol, Work};
+use intaglio_core::{AddedTo, Content, Indexed, InternError, LookedUpIn, Symbol, Work};
 use std::hash::BuildHasher;
 
-impl<'q, L: LookedUpIn<'q>, S: BuildHasher> TableOver<L, S>
+impl<'q, L: LookedUpIn<'q> + Indexed, S: BuildHasher> TableOver<L, S>
 where
     L::Content: Content,
     L::Prepared: Drop,
@@ -92,7 +92,7 @@ where
     }
 }
 
-impl<L: Store, S: BuildHasher> TableOver<L, S>
+impl<L: Indexed, S: BuildHasher> TableOver<L, S>
 where
     L::Content: Content,
     L::Prepared: Drop,

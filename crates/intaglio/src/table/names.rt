@@ -5,14 +5,14 @@ use super::TableOver;
 use intaglio_bytes::b_str::BStrKind;
 use intaglio_bytes::bytes::BytesKind;
 use intaglio_content::OfKind;
-use intaglio_core::{Content, Forms, Lends};
+use intaglio_core::{Content, Forms, Indexed, Lends};
 use intaglio_cstr::CStrKind;
 use intaglio_path::PathKind;
 use intaglio_text::StrKind;
 use intaglio_text::osstr::OsStrKind;
 use std::hash::BuildHasher;
 
-impl<'a, L: Lends<'a>, S: BuildHasher> TableOver<L, S>
+impl<'a, L: Lends<'a> + Indexed, S: BuildHasher> TableOver<L, S>
 where
     L::Content: Content + OfKind<Kind = StrKind>,
 {
@@ -25,7 +25,7 @@ where
     }
 }
 
-impl<'a, L: Lends<'a>, S: BuildHasher> TableOver<L, S>
+impl<'a, L: Lends<'a> + Indexed, S: BuildHasher> TableOver<L, S>
 where
     L::Content: Content + OfKind<Kind = BytesKind>,
 {
@@ -38,7 +38,7 @@ where
     }
 }
 
-impl<'a, L: Lends<'a>, S: BuildHasher> TableOver<L, S>
+impl<'a, L: Lends<'a> + Indexed, S: BuildHasher> TableOver<L, S>
 where
     L::Content: Content + OfKind<Kind = BStrKind>,
 {
@@ -51,7 +51,7 @@ where
     }
 }
 
-impl<'a, L: Lends<'a>, S: BuildHasher> TableOver<L, S>
+impl<'a, L: Lends<'a> + Indexed, S: BuildHasher> TableOver<L, S>
 where
     L::Content: Content + OfKind<Kind = CStrKind>,
 {
@@ -64,7 +64,7 @@ where
     }
 }
 
-impl<'a, L: Lends<'a>, S: BuildHasher> TableOver<L, S>
+impl<'a, L: Lends<'a> + Indexed, S: BuildHasher> TableOver<L, S>
 where
     L::Content: Content + OfKind<Kind = OsStrKind>,
 {
@@ -77,7 +77,7 @@ where
     }
 }
 
-impl<'a, L: Lends<'a>, S: BuildHasher> TableOver<L, S>
+impl<'a, L: Lends<'a> + Indexed, S: BuildHasher> TableOver<L, S>
 where
     L::Content: Content + OfKind<Kind = PathKind>,
 {

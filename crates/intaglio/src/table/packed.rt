@@ -7,11 +7,11 @@ mod contents;
 mod making;
 
 use super::TableOver;
-use intaglio_core::{ByteStore, Content};
+use intaglio_core::{ByteStore, Content, Indexed};
 use std::alloc::AllocError;
 use std::hash::BuildHasher;
 
-impl<L: ByteStore, S: BuildHasher> TableOver<L, S>
+impl<L: ByteStore + Indexed, S: BuildHasher> TableOver<L, S>
 where
     L::Content: Content,
 {

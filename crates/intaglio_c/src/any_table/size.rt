@@ -8,7 +8,7 @@ ghost use Rattle.intaglio_interner.specs.Change.{Empties, Reserves, Shrinks, Tak
 use super::AnyTable;
 use crate::kind::Kind;
 use intaglio::TableOver;
-use intaglio_core::{Mark, RoomError, StaleMark, Store};
+use intaglio_core::{Indexed, Mark, RoomError, StaleMark};
 use intaglio_hash::KeyedState;
 use std::alloc::Global;
 
@@ -21,7 +21,7 @@ pub(crate) enum Size {
     Limit(usize),
 }
 
-fn table_of<L: Store + Drop>(
+fn table_of<L: Indexed + Drop>(
     alloc: Global,
     size: Size,
     keys: KeyedState,

@@ -2,12 +2,13 @@
 ghost use Rattle.intaglio_content.specs.Key.{hash_of};
 
 use super::{Core, IndexedStore};
-use intaglio_content::{AddedTo, Content, Sought, SoughtIn, Store, Work};
+use crate::index_of::Indexed;
+use intaglio_content::{AddedTo, Content, Sought, SoughtIn, Work};
 use intaglio_interner::{BaseInterner, Interner};
 use intaglio_symbol::{InternError, Mark, RoomError, StaleMark, Symbol};
 use std::hash::BuildHasher;
 
-impl<L: Store, S: BuildHasher> BaseInterner for IndexedStore<L, S>
+impl<L: Indexed, S: BuildHasher> BaseInterner for IndexedStore<L, S>
 where
     L::Content: Content + SoughtIn<L> + Drop,
     L::Prepared: Drop,

@@ -3,8 +3,8 @@ use super::contents::Shown;
 use super::printed::{inserted_text, reply_text, spelled, symbols_text};
 use crate::replies::interned;
 use intaglio::{
-    Content, ContentOf, KindForm, Lends, LookedUpIn, Reply, SoughtIn, Symbol, Table, TableOver,
-    Work, get_or_intern_all,
+    Content, ContentOf, Indexed, KindForm, Lends, LookedUpIn, Reply, SoughtIn, Symbol, Table,
+    TableOver, Work, get_or_intern_all,
 };
 use std::alloc::{AllocError, Global};
 use std::process::Abort;
@@ -70,7 +70,7 @@ where
 }
 
 /// What any table returns for a call by the forms of these, but for `table[symbol]`.
-pub fn answer_over<'a, L: Lends<'a> + LookedUpIn<'a>, K, S: HasherCount>(
+pub fn answer_over<'a, L: Lends<'a> + LookedUpIn<'a> + Indexed, K, S: HasherCount>(
     rt: &impl Abort,
     alloc: Global,
     table: &'a mut TableOver<L, S>,
@@ -97,7 +97,7 @@ where
 }
 
 // The same for all other calls, which take at most one form.
-fn reply<'a, L: Lends<'a> + LookedUpIn<'a>, S: HasherCount>(
+fn reply<'a, L: Lends<'a> + LookedUpIn<'a> + Indexed, S: HasherCount>(
     alloc: Global,
     table: &'a mut TableOver<L, S>,
     form: <L as LookedUpIn<'a>>::By,

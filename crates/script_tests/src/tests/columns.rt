@@ -9,7 +9,8 @@ use intaglio::osstr::OsStrContent;
 use intaglio::packed::{Packed, StrKind};
 use intaglio::path::PathContent;
 use intaglio::{
-    AddedTo, Call, Content, Copied, Core, Moved, SoughtIn, SpelledStore, StrContent, TableOver,
+    AddedTo, Call, Content, Copied, Core, Indexed, Moved, SoughtIn, SpelledStore, StrContent,
+    TableOver,
 };
 use intaglio_hash::FixedState;
 use std::alloc::Global;
@@ -17,7 +18,7 @@ use std::process::Abort;
 use test_support::builders::{Fold, HasherCount};
 
 // On a table over this store, with this limit.
-fn runs_over<H, L: SpelledStore + Drop, S: HasherCount, Q: AddedTo<L, H>>(
+fn runs_over<H, L: SpelledStore + Indexed + Drop, S: HasherCount, Q: AddedTo<L, H>>(
     rt: &impl Abort,
     alloc: Global,
     hasher: S,

@@ -2,7 +2,7 @@
 use super::contents::Shown;
 use super::printed::{number, numbered, text, word};
 use super::script::same_text;
-use intaglio::{AllSymbols, Content, Forms, Lends, Pairs, Symbol, TableOver};
+use intaglio::{AllSymbols, Content, Forms, Indexed, Lends, Pairs, Symbol, TableOver};
 use std::alloc::Global;
 use std::process::Abort;
 use test_support::builders::HasherCount;
@@ -37,7 +37,7 @@ pub fn walks<W: Walk>(rt: &impl Abort, alloc: Global, mut walked: W, script: &st
 }
 
 /// Makes the steps on the iterators of a table, one of which is given.
-pub fn walk_table<'a, L: Lends<'a>, S: HasherCount>(
+pub fn walk_table<'a, L: Lends<'a> + Indexed, S: HasherCount>(
     rt: &impl Abort,
     alloc: Global,
     table: &'a TableOver<L, S>,

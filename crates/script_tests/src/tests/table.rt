@@ -4,7 +4,7 @@ use super::contents::TestContent;
 use super::printed::symbols_text;
 use super::steps::Steps;
 use crate::replies::interned;
-use intaglio::{AllSymbols, Mark, Reply, RoomError, Store, TableOver, Work, intern_all};
+use intaglio::{AllSymbols, Indexed, Mark, Reply, RoomError, TableOver, Work, intern_all};
 use std::alloc::Global;
 use std::process::Abort;
 use test_support::builders::{Counted, Fold, HasherCount};
@@ -98,7 +98,7 @@ impl<C: TestContent, S: HasherCount> Table for intaglio::Table<C, S> {
 }
 
 /// The numbers of a table.
-pub fn counts_of<L: Store, S: HasherCount>(table: &TableOver<L, S>) -> Counts {
+pub fn counts_of<L: Indexed, S: HasherCount>(table: &TableOver<L, S>) -> Counts {
     Counts {
         len: table.len(),
         is_empty: table.is_empty(),

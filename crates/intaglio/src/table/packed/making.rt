@@ -5,11 +5,11 @@ ghost use Rattle.intaglio_core.specs.Capacity.{IsRounded};
 ghost use Rattle.intaglio_interner.specs.State.{empty_state};
 
 use crate::table::TableOver;
-use intaglio_core::{ByteStore, Content, IndexedStore, RoomError};
+use intaglio_core::{ByteStore, Content, Indexed, IndexedStore, RoomError};
 use intaglio_hash::FixedState;
 use std::alloc::Global;
 
-impl<L: ByteStore + Drop> TableOver<L, FixedState>
+impl<L: ByteStore + Indexed + Drop> TableOver<L, FixedState>
 where
     L::Content: Content,
 {

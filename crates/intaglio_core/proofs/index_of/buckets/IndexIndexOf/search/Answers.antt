@@ -1,5 +1,6 @@
 use Rattle.std.proofs.Common.{◌≡◌, suc, ℕ, ◌*◌, map, None, Some, arith, refl, rules}
 use Rattle.std.proofs.lemmas.Bool.{false≢true}
+use Rattle.intaglio_index.specs.Placed.{bucket_of}
 use Rattle.intaglio_interner.specs.Cost.{bucket_keys}
 use Rattle.intaglio_core.proofs.FewerBuckets.{costs_fewer}
 use Rattle.intaglio_core.proofs.Spent.{search-cost}
@@ -22,7 +23,7 @@ returns-in_err-find-clause-cost g c = λ h by.
     let multiple : (n : ℕ) × (c.args.self.now.count ≡ suc n * c.args.self.now.places) = rw c.requires.over.buckets (g.L.Store.buckets_multiple c.args.self.now.places) in
     let spent = costs_fewer h c.args.self.now.places c.args.self.now.count multiple (map g.L.Content.Keyed.key contents) k c.args.work.now.events c.find.new.work.events passed in
     let missed = absent g.L.Content.Keyed.key h c.args.self.now contents k by.stored (rw by.sought at (c.find.ensures.none none)) in
-    search-cost h k (bucket_keys h c.args.self.now.places (map g.L.Content.Keyed.key contents) k) None _ _ _ missed spent (passes-recorded _ k c.args.work.now.events c.find.new.work.events (c.find.ensures.passed none)))
+    search-cost h k (bucket_keys h c.args.self.now.places (map g.L.Content.Keyed.key contents) k) None _ _ _ missed spent (passes-recorded (bucket_of c.args.self.now c.args.hash) k c.args.work.now.events c.find.new.work.events (c.find.ensures.passed none)))
 
 pub loop-candidate-init : goal.loop-candidate-init
 loop-candidate-init g c = record {
