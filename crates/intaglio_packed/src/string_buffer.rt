@@ -207,6 +207,36 @@ impl StringBuffer {
         Ok(())
     }
 
+    /// Makes room for this many more bytes. If the buffer has to grow, its room is for just as many then.
+    ///
+    /// # Errors
+    ///
+    /// [`AllocError`] if the allocation fails. Then nothing has changed.
+    pub fn reserve_exact(&mut self, bytes: usize) -> Result<(), AllocError>
+        ensures list { self.new.list ≡ self.old.list }
+        ensures most { self.new.most ≡ self.old.most }
+        ensures spare_bytes { OnOk result (self.new.spare_bytes ≡ max bytes self.old.spare_bytes) }
+        ensures err { OnErr result (self.new.spare_bytes ≡ self.old.spare_bytes) }
+        ensures none_needed { bytes ≤ self.old.spare_bytes → IsOk result }
+    {
+        if bytes <= self.room - self.bytes.len() {
+            return Ok(());
+        }
+        let Some(room) = self.bytes.len().checked_add(bytes) else {
+            return Err(AllocError);
+        };
+        if room > self.ends.largest() {
+            let long = self.ends.to_long(*self.bytes.allocator())?;
+            self.bytes.reserve_exact(bytes)?;
+            self.ends = long;
+            self.room = room;
+            return Ok(());
+        }
+        self.bytes.reserve_exact(bytes)?;
+        self.room = room;
+        Ok(())
+    }
+
     /// Makes room for this many more strings, not for their bytes. If the list of ends has to grow, its room
     /// at least doubles.
     ///

@@ -1,7 +1,7 @@
 -- What a contract sees of strings with their hashes, and how they are kept.
-use Rattle.std.specs.Prelude.{◌≡◌, ◌⊎◌, ℕ, ◌+◌, ◌-◌, ◌*◌, ◌^◌, ◌<◌, ◌≤◌, List, [], length, get_or, drop, map, max, min, refl, sum_by}
+use Rattle.std.specs.Prelude.{◌≡◌, ◌≢◌, ◌⊎◌, ℕ, ◌+◌, ◌-◌, ◌*◌, ◌^◌, ◌<◌, ◌≤◌, List, [], length, get_or, drop, map, max, min, refl, sum_by}
 use Rattle.std.specs.Coded.{Coded, code_by, coded×, coded_ℕ, coded_list}
-use Rattle.intaglio_packed.specs.Strings.{Strings, byte_count_of, byte_room_of}
+use Rattle.intaglio_packed.specs.Strings.{Strings}
 use Rattle.intaglio_records.specs.Header.{hash_at, number_at}
 
 -- the hashes and the strings, for how many there is room in total, the room for bytes of further strings, and how many
@@ -33,17 +33,23 @@ pub record HasRoom (n : ℕ) (v : Records) : Type 0 where
   pub string : length v.list < v.most
   pub bytes : n ≤ v.spare_bytes
 
--- how many bytes of records there is room for in total
+-- how many bytes of strings there is room for in total
+abbrev pub string_room_of : Records → ℕ
+string_room_of v = sum_by length (strings_of v) + v.spare_bytes
+
+-- how many bytes of records there is room for in total, with the 13 of each string that there is room for
 abbrev pub record_room_of : Records → ℕ
-record_room_of v = 13 * v.most + sum_by length (strings_of v) + v.spare_bytes
+record_room_of v = 13 * v.most + string_room_of v
 
--- how much of it a call needs that makes room for so many bytes of strings, and for as many strings as there is then
-abbrev pub room_needed : ℕ → Records → Records → ℕ
-room_needed bytes old new = 13 * new.most + sum_by length (strings_of old) + max bytes old.spare_bytes
+-- the most that the room for bytes of strings can be, as records take at most 2^32 - 1 bytes together
+abbrev pub largest_room : Records → ℕ
+largest_room v = 2 ^ 32 - 1 - 13 * v.most
 
--- such room stays, at least doubles, or becomes the most that records take
-abbrev pub StaysOrDoubles : ℕ → ℕ → Type 0
-StaysOrDoubles old new = (new ≡ old) ⊎ ((2 * old ≤ new) ⊎ (new ≡ 2 ^ 32 - 1))
+-- the room for bytes before and after a call that needs this much of it: what is enough stays, and a growth at least
+-- doubles it, or ends at the most that it can be
+pub record DoublesWithin (largest needed old new : ℕ) : Type 0 where
+  pub enough : needed ≤ old → new ≡ old
+  pub grown : new ≢ old → (new ≡ max 8 (max needed (2 * old))) ⊎ ((old ≤ new) × (new ≡ largest))
 
 -- the hash and the string of a record
 abbrev pub pair_of : List ℕ → ℕ × List ℕ
@@ -58,10 +64,6 @@ pub record IsRecord (number : ℕ) (r : List ℕ) : Type 0 where
 abbrev pub AreRecords : List (List ℕ) → Type 0
 AreRecords rs = (i : ℕ) → i < length rs → IsRecord i (get_or rs i [])
 
--- the room for bytes of further records; records take at most 2^32 - 1 bytes together
-abbrev pub free_of : Strings → ℕ
-free_of b = min (byte_room_of b) (2 ^ 32 - 1) - byte_count_of b
-
--- of that, what is set aside for the bytes in front of the strings that there is room for
+-- how many bytes are set aside for those in front of the strings that there is room for
 abbrev pub set_aside : Strings → ℕ
 set_aside b = 13 * (b.most - length b.list)

@@ -1,15 +1,13 @@
 //! A list of strings with their hashes.
-ghost use Rattle.std.specs.Prelude.{◌≡◌, ◌≢◌, ℕ, ◌+◌, ◌-◌, ◌*◌, ◌^◌, ◌<◌, ◌≤◌, [], ◌∷◌, ◌++◌, length, max, min, sum_by, take, slice_get, Some};
-ghost use Rattle.std.specs.Prelude.{IfOk, IfSome, IsOk, None, OnOk, OnErr, option_copied};
-ghost use Rattle.intaglio_packed.specs.Growth.{Doubles, DoublesBytes};
-ghost use Rattle.intaglio_records.specs.Matches.{FindsAll};
-ghost use Rattle.intaglio_records.specs.Records.{HasRoom, StaysOrDoubles, hashes_of, record_room_of, room_needed, strings_of};
+ghost use Rattle.std.specs.Prelude.{◌≡◌, ℕ, ◌+◌, ◌-◌, ◌*◌, ◌^◌, ◌<◌, ◌≤◌, [], ◌∷◌, ◌++◌, length, map, max, min, sum_by, take, slice_get, Some};
+ghost use Rattle.std.specs.Prelude.{IfOk, IsOk, OnOk, OnErr, option_copied};
+ghost use Rattle.intaglio_packed.specs.Growth.{Doubles};
+ghost use Rattle.intaglio_packed.specs.Strings.{byte_room_of};
+ghost use Rattle.intaglio_records.specs.Records.{AreRecords, DoublesWithin, HasRoom};
+ghost use Rattle.intaglio_records.specs.Records.{hashes_of, largest_room, pair_of, record_room_of, string_room_of, strings_of};
 
-use crate::entries::{lines_of, remove_behind, widen};
 use crate::header::{HEADER, header, read_hash};
-use crate::matches::Matches;
 use intaglio_packed::StringBuffer;
-use intaglio_slots::Lines;
 use std::alloc::{AllocError, Global};
 use std::marker::Model;
 
@@ -19,25 +17,24 @@ const LARGEST: usize = u32::MAX as usize;
 // The least room for strings after a growth.
 const LEAST: usize = 4;
 
+// The least room for bytes of strings after a growth.
+const LEAST_BYTES: usize = 8;
+
 /// A list of strings of bytes, each with a hash. All are in one buffer, so a string costs no allocation of its
-/// own. It takes its bytes and 17 more, about 9 in the lines by which it is found, and all records take at most
-/// 2^32 - 1 bytes.
+/// own. It takes its bytes and 17 more, and all records take at most 2^32 - 1 bytes.
 ///
 /// A contract sees the list of pairs of a hash and a string, for how many strings there is room, and the room for
-/// bytes of further strings, without those in front of a string.
+/// bytes of further strings, without those in front of a string. [`RecordIndex`](crate::RecordIndex) finds a string
+/// by its hash.
 #[derive(Drop)]
 pub struct StringRecords {
     records: StringBuffer,
-    // An entry for each record: its hash, and where it begins.
-    lines: Lines,
 }
 
 impl Model for StringRecords {
-    ghost use Rattle.std.specs.Prelude.{◌-◌, ◌^◌, ◌≤◌, length, map};
-    ghost use Rattle.intaglio_packed.specs.Strings.{byte_count_of};
-    ghost use Rattle.intaglio_slots.specs.Chains.{IsFilled, places_of};
-    ghost use Rattle.intaglio_records.specs.Entries.{entries};
-    ghost use Rattle.intaglio_records.specs.Records.{Records, records_code, pair_of, AreRecords, free_of, set_aside};
+    ghost use Rattle.std.specs.Prelude.{◌-◌, ◌^◌, ◌≤◌, map};
+    ghost use Rattle.intaglio_packed.specs.Strings.{byte_room_of};
+    ghost use Rattle.intaglio_records.specs.Records.{Records, records_code, pair_of, AreRecords, set_aside};
 
     ghost Value = { Records };
 
@@ -46,16 +43,14 @@ impl Model for StringRecords {
     ghost view = { λ r. record {
       list = map pair_of r.records.list;
       most = r.records.most;
-      spare_bytes = free_of r.records - set_aside r.records;
+      spare_bytes = r.records.spare_bytes - set_aside r.records;
       held_bytes = r.records.held_bytes;
     } };
 
     ghost invariant = { λ r. record {
       each : AreRecords r.records.list;
-      headers : set_aside r.records ≤ free_of r.records;
-      small : byte_count_of r.records ≤ 2 ^ 32 - 1;
-      filled : IsFilled r.lines (entries r.records.list (length r.records.list));
-      places : r.records.most ≤ places_of r.lines;
+      headers : set_aside r.records ≤ r.records.spare_bytes;
+      small : byte_room_of r.records ≤ 2 ^ 32 - 1;
     } };
 }
 
@@ -76,18 +71,12 @@ fn record_bytes(strings: usize, bytes: usize) -> Result<usize, AllocError>
     Ok(needed)
 }
 
-// The room for strings once there is room for so many more: this one if it is enough, else at least twice as
-// much.
-fn grown(len: usize, capacity: usize, strings: usize) -> Result<usize, AllocError>
+// The room for strings that is made for so many more: at least twice as much.
+fn doubled(len: usize, capacity: usize, strings: usize) -> Result<usize, AllocError>
     requires order { len ≤ capacity }
     requires small { capacity ≤ 2 ^ 32 }
-    ensures same { len + strings ≤ capacity → IfOk result (λ n. n ≡ capacity) }
-    ensures more { capacity < len + strings →
-        IfOk result (λ n. n ≡ max 4 (max (len + strings) (2 * capacity))) }
+    ensures { IfOk result (λ n. n ≡ max 4 (max (len + strings) (2 * capacity))) }
 {
-    if strings <= capacity - len {
-        return Ok(capacity);
-    }
     if strings > LARGEST {
         return Err(AllocError);
     }
@@ -101,7 +90,6 @@ impl StringRecords {
     {
         StringRecords {
             records: StringBuffer::new(alloc),
-            lines: Lines::with_places(alloc, 0).unwrap(),
         }
     }
 
@@ -121,14 +109,23 @@ impl StringRecords {
         ensures none_needed { strings ≡ 0 → bytes ≡ 0 → IsOk result }
     {
         let needed = record_bytes(strings, bytes)?;
-        let lines = Lines::with_places(alloc, strings)?;
         let records = StringBuffer::with_capacity(alloc, strings, needed)?;
-        Ok(StringRecords { records, lines })
+        Ok(StringRecords { records })
     }
 
     /// The allocator of the list.
     pub fn alloc(&self) -> Global {
         self.records.alloc()
+    }
+
+    // The records themselves, one behind the other.
+    #[inline(always)]
+    pub(crate) fn buffer(&self) -> &StringBuffer
+        ensures list { map pair_of result.now.list ≡ self.now.list }
+        ensures each { AreRecords result.now.list }
+        ensures small { byte_room_of result.now ≤ 2 ^ 32 - 1 }
+    {
+        &self.records
     }
 
     /// The number of strings.
@@ -163,12 +160,19 @@ impl StringRecords {
     }
 
     /// How many bytes of further strings there is room for.
+    #[inline]
     pub fn spare_bytes(&self) -> usize
         ensures { result ≡ self.now.spare_bytes }
     {
-        let room = self.records.byte_room().min(LARGEST);
-        let set_aside = HEADER * (self.records.capacity() - self.records.len());
-        room - self.records.byte_count() - set_aside
+        self.records.byte_room() - self.records.byte_count() - self.set_aside()
+    }
+
+    // How many bytes of the room are for those in front of the strings that there is room for.
+    #[inline]
+    fn set_aside(&self) -> usize
+        ensures { result ≡ 13 * (self.now.most - length self.now.list) }
+    {
+        HEADER * (self.records.capacity() - self.records.len())
     }
 
     /// A string.
@@ -201,83 +205,97 @@ impl StringRecords {
         read_hash(self.records.string(i), 0)
     }
 
-    /// A search for the strings with this hash. It gives each of them once, and no other.
-    #[inline(always)]
-    pub fn matches(&self, hash: u64) -> Matches<'_>
-        ensures { FindsAll self.now.list hash result }
-    {
-        Matches {
-            records: &self.records,
-            candidates: self.lines.find(hash),
-            hash,
-        }
-    }
-
-    /// The number of a string, if it was added with this hash. Of equal ones with equal hashes it may be any.
-    #[inline]
-    pub fn find(&self, hash: u64, string: &[u8]) -> Option<u32>
-        ensures found { IfSome result (λ i. slice_get self.now.list i ≡ Some (hash, string.now)) }
-        ensures none { result ≡ None → (i : ℕ) → slice_get self.now.list i ≢ Some (hash, string.now) }
-    {
-        let mut matches = self.matches(hash);
-        while let Some(found) = matches.next() {
-            if found.1 == string {
-                return Some(found.0);
-            }
-        }
-        None
-    }
-
-    /// Makes room for this many more strings, of this many bytes together. If the room for strings or that for
-    /// bytes has to grow, it at least doubles.
+    /// Makes room for this many more strings, not for their bytes. If the room has to grow, it at least doubles.
     ///
     /// # Errors
     ///
-    /// [`AllocError`] if an allocation fails, or if the records would take more than 2^32 - 1 bytes. Then there
-    /// is room for as many strings as before, and for at least as many bytes.
+    /// [`AllocError`] if an allocation fails, or if the records would take more than 2^32 - 1 bytes. Then there is
+    /// as much room as before.
     #[inline]
-    pub fn reserve(&mut self, strings: usize, bytes: usize) -> Result<(), AllocError>
+    pub fn reserve_strings(&mut self, strings: usize) -> Result<(), AllocError>
         ensures list { self.new.list ≡ self.old.list }
-        ensures spare_bytes { self.old.spare_bytes ≤ self.new.spare_bytes }
+        ensures spare_bytes { self.new.spare_bytes ≡ self.old.spare_bytes }
         ensures grows { Doubles (length self.old.list + strings) self.old.most self.new.most }
-        ensures doubles { StaysOrDoubles (record_room_of self.old) (record_room_of self.new) }
-        ensures grows_bytes { let needed = room_needed bytes self.old self.new in
-            OnOk result (DoublesBytes needed (record_room_of self.old) (record_room_of self.new)) }
         ensures strings { OnOk result (length self.new.list + strings ≤ self.new.most) }
-        ensures bytes { OnOk result (bytes ≤ self.new.spare_bytes) }
         ensures err { OnErr result (self.new.most ≡ self.old.most) }
-        ensures none_needed { length self.old.list + strings ≤ self.old.most →
-            bytes ≤ self.old.spare_bytes → IsOk result }
+        ensures none_needed { length self.old.list + strings ≤ self.old.most → IsOk result }
     {
-        if strings <= self.capacity() - self.len() && bytes <= self.spare_bytes() {
+        if strings <= self.capacity() - self.len() {
             return Ok(());
         }
-        self.grow(strings, bytes)
+        self.grow_strings(strings)
     }
 
-    // The part of `reserve` that allocates. Apart, so that the tests are inlined.
+    // The part of `reserve_strings` that allocates. Apart, so that the test is inlined.
     #[cold]
     #[inline(never)]
-    fn grow(&mut self, strings: usize, bytes: usize) -> Result<(), AllocError>
+    fn grow_strings(&mut self, strings: usize) -> Result<(), AllocError>
+        requires { self.old.most < length self.old.list + strings }
         ensures list { self.new.list ≡ self.old.list }
-        ensures spare_bytes { self.old.spare_bytes ≤ self.new.spare_bytes }
-        ensures grows { Doubles (length self.old.list + strings) self.old.most self.new.most }
-        ensures doubles { StaysOrDoubles (record_room_of self.old) (record_room_of self.new) }
-        ensures grows_bytes { let needed = room_needed bytes self.old self.new in
-            OnOk result (DoublesBytes needed (record_room_of self.old) (record_room_of self.new)) }
-        ensures strings { OnOk result (length self.new.list + strings ≤ self.new.most) }
-        ensures bytes { OnOk result (bytes ≤ self.new.spare_bytes) }
+        ensures spare_bytes { self.new.spare_bytes ≡ self.old.spare_bytes }
+        ensures grown { let needed = length self.old.list + strings in
+            OnOk result (self.new.most ≡ max 4 (max needed (2 * self.old.most))) }
         ensures err { OnErr result (self.new.most ≡ self.old.most) }
     {
-        let most = grown(self.records.len(), self.records.capacity(), strings)?;
-        let bytes = bytes.max(self.spare_bytes());
-        let needed = record_bytes(most - self.records.len(), bytes)?;
+        let most = doubled(self.records.len(), self.records.capacity(), strings)?;
+        let needed = record_bytes(most - self.records.len(), self.spare_bytes())?;
         if needed > LARGEST - self.records.byte_count() {
             return Err(AllocError);
         }
-        self.records.reserve_bytes(needed)?;
-        widen(&mut self.lines, &self.records, most)?;
-        self.records.reserve_strings(strings)
+        let spare = self.records.byte_room() - self.records.byte_count();
+        self.records.reserve_exact(needed)?;
+        let reserved = self.records.reserve_strings(strings);
+        if reserved.is_err() {
+            // There are no more strings for which these bytes would be set aside.
+            let _ = self.records.shrink_bytes(spare);
+        }
+        reserved
+    }
+
+    /// Makes room for this many more bytes of strings. If the room has to grow, it at least doubles, or becomes the
+    /// most that records take.
+    ///
+    /// # Errors
+    ///
+    /// [`AllocError`] if the allocation fails, or if the records would take more than 2^32 - 1 bytes. Then nothing
+    /// has changed.
+    #[inline]
+    pub fn reserve_bytes(&mut self, bytes: usize) -> Result<(), AllocError>
+        ensures list { self.new.list ≡ self.old.list }
+        ensures most { self.new.most ≡ self.old.most }
+        ensures spare_bytes { self.old.spare_bytes ≤ self.new.spare_bytes }
+        ensures bytes { OnOk result (bytes ≤ self.new.spare_bytes) }
+        ensures grows { let needed = sum_by length (strings_of self.old) + bytes in
+            DoublesWithin (largest_room self.old) needed (string_room_of self.old) (string_room_of self.new) }
+        ensures err { OnErr result (self.new.spare_bytes ≡ self.old.spare_bytes) }
+        ensures none_needed { bytes ≤ self.old.spare_bytes → IsOk result }
+    {
+        if bytes <= self.spare_bytes() {
+            return Ok(());
+        }
+        self.grow_bytes(bytes)
+    }
+
+    // The part of `reserve_bytes` that allocates.
+    #[cold]
+    #[inline(never)]
+    fn grow_bytes(&mut self, bytes: usize) -> Result<(), AllocError>
+        requires { self.old.spare_bytes < bytes }
+        ensures list { self.new.list ≡ self.old.list }
+        ensures most { self.new.most ≡ self.old.most }
+        ensures bytes { OnOk result (bytes ≤ self.new.spare_bytes) }
+        ensures grows { let needed = sum_by length (strings_of self.old) + bytes in
+            DoublesWithin (largest_room self.old) needed (string_room_of self.old) (string_room_of self.new) }
+        ensures err { OnErr result (self.new.spare_bytes ≡ self.old.spare_bytes) }
+    {
+        let used = self.byte_count();
+        let largest = LARGEST - HEADER * self.records.capacity();
+        if bytes > largest - used {
+            return Err(AllocError);
+        }
+        let doubled = 2 * (used + self.spare_bytes());
+        let room = (used + bytes).max(doubled).max(LEAST_BYTES).min(largest);
+        self.records.reserve_exact(room - used + self.set_aside())
     }
 
     /// Shrinks the room to `min_capacity` strings, or to those that there are if they are more, and the room
@@ -299,7 +317,6 @@ impl StringRecords {
         self.records.shrink_strings(min_capacity);
         let set_aside = HEADER * (self.records.capacity() - self.records.len());
         let shrunk = self.records.shrink_bytes(set_aside);
-        self.lines = lines_of(&self.records, self.records.capacity())?;
         if self.records.capacity() > self.records.len().max(min_capacity) {
             return Err(AllocError);
         }
@@ -316,7 +333,6 @@ impl StringRecords {
     {
         let number = self.records.len() as u32;
         let header = header(hash, number, string.len());
-        self.lines.place(hash, self.records.byte_count() as u32);
         self.records.push_parts(&header, string);
     }
 
@@ -325,8 +341,8 @@ impl StringRecords {
         ensures list { self.new.list ≡ take n self.old.list }
         ensures most { self.new.most ≡ self.old.most }
         ensures spare_bytes { self.old.spare_bytes ≤ self.new.spare_bytes }
+        ensures byte_room { string_room_of self.new ≡ string_room_of self.old }
     {
-        remove_behind(&mut self.lines, &self.records, n);
         self.records.truncate(n);
     }
 
@@ -335,8 +351,8 @@ impl StringRecords {
         ensures list { self.new.list ≡ [] }
         ensures most { self.new.most ≡ self.old.most }
         ensures spare_bytes { self.old.spare_bytes ≤ self.new.spare_bytes }
+        ensures byte_room { self.new.spare_bytes ≡ string_room_of self.old }
     {
-        self.lines.clear();
         self.records.clear();
     }
 }
