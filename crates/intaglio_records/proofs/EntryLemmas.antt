@@ -1,10 +1,13 @@
 -- Entries of records.
-use Rattle.std.proofs.Common.{◌≡◌, ℕ, ◌+◌, ◌<◌, ◌≤◌, suc, zero, List, [], ◌∷◌, ◌++◌, length, take, get_or, slice_get, Some, min, sum_by, refl, sym, ap, ◌∙◌, arith, take_all}
-use Rattle.std.proofs.lemmas.List.{get_or-take, get_or_append_left, length-append, length-take, take-append-le, take-take}
+use Rattle.std.proofs.Common.{◌≡◌, ℕ, ◌+◌, ◌<◌, ◌≤◌, suc, zero, List, [], ◌∷◌, ◌++◌, length, take, map, get_or, slice_get, Some, min, sum_by, refl, sym, ap, ◌∙◌, arith, take_all}
+use Rattle.std.proofs.lemmas.List.{get_or-map, get_or-take, get_or_append_left, length-append, length-drop, length-map, length-take, take-append-le, take-take}
+use Rattle.std.proofs.lemmas.List.Sums.{sum_by-cons}
 use Rattle.std.proofs.lemmas.Option.{get_or_from_slice_get}
 use Rattle.std.proofs.Math.Seq.{get_or-append_seam}
 use Rattle.intaglio_records.specs.Header.{hash_at}
-use Rattle.intaglio_records.specs.Entries.{entries, position}
+use Rattle.intaglio_records.specs.Records.{pair_of}
+use Rattle.intaglio_records.specs.Entries.{entries, entries_of, position, size_of}
+use Rattle.intaglio_records.proofs.RecordLemmas.{AreLong}
 
 -- there are n entries of n records
 pub length-entries : (rs : List (List ℕ)) (n : ℕ) → length (entries rs n) ≡ n
@@ -21,41 +24,99 @@ entry-more rs n hash r is h =
       position rs n,
     ) ∷ entries rs n) (ap (λ x. hash_at x 0) (get_or_from_slice_get rs n r [] is) ∙ sym h)
 
--- the entries of the first n records stay when a record is added behind them
-pub entries-append : (rs : List (List ℕ)) (r : List ℕ) (n : ℕ) → n ≤ length rs
-    → entries (rs ++ r ∷ []) n ≡ entries rs n
-entries-append rs r zero l = refl
-entries-append rs r (suc n) l =
-    let within : n < length rs = omega arith in
-    let before : n ≤ length rs = omega arith in
+-- where the entries of strings and of their records say that these begin
+begins-same : (rs : List (List ℕ)) (n : ℕ) → AreLong rs → sum_by size_of (take n (map pair_of rs)) ≡ position rs n
+begins-same rs zero long = refl
+begins-same [] (suc n) long = refl
+begins-same (r ∷ rs) (suc n) long =
+    let rest = begins-same rs n (λ i l. long (suc i) (omega (arith, l))) in
+    omega (
+      arith,
+      long 0 (omega arith),
+      length-drop 13 r,
+      sum_by-cons length r (take n rs),
+      sum_by-cons size_of (pair_of r) (take n (map pair_of rs)),
+      rest,
+    )
+
+-- the entries of strings are those of their records
+pub entries-same : (rs : List (List ℕ)) (n : ℕ) → AreLong rs → n ≤ length rs
+    → entries_of (map pair_of rs) n ≡ entries rs n
+entries-same rs zero long l = refl
+entries-same rs (suc n) long l =
+    let within : n < length rs = omega (arith, l) in
+    let hash : (get_or (map pair_of rs) n (0, [])).0 ≡ hash_at (get_or rs n []) 0 =
+    ap (λ (p : ℕ × List ℕ). p.0) (get_or-map pair_of rs n [] (0, []) within) in
+    rw (hash, begins-same rs n long, entries-same rs n long (omega (arith, l))) refl
+
+-- of the first n
+pub entries-first : (xs : List (ℕ × List ℕ)) (rs : List (List ℕ)) (n : ℕ) → map pair_of rs ≡ xs → AreLong rs
+    → n ≤ length rs → entries_of xs n ≡ entries rs n
+entries-first xs rs n same long l = rw (← same) (entries-same rs n long l)
+
+-- and of all
+pub entries-all : (xs : List (ℕ × List ℕ)) (rs : List (List ℕ)) → map pair_of rs ≡ xs → AreLong rs
+    → entries_of xs (length xs) ≡ entries rs (length rs)
+entries-all xs rs same long =
+    rw (← same, length-map rs pair_of) (entries-same rs (length rs) long (omega arith))
+
+-- the bytes of all records
+sizes-same : (rs : List (List ℕ)) → AreLong rs → sum_by size_of (map pair_of rs) ≡ sum_by length rs
+sizes-same [] long = refl
+sizes-same (r ∷ rs) long =
+    omega (
+      arith,
+      long 0 (omega arith),
+      length-drop 13 r,
+      sum_by-cons length r rs,
+      sum_by-cons size_of (pair_of r) (map pair_of rs),
+      sizes-same rs (λ i l. long (suc i) (omega (arith, l))),
+    )
+
+-- said of the strings
+pub sizes-all : (xs : List (ℕ × List ℕ)) (rs : List (List ℕ)) → map pair_of rs ≡ xs → AreLong rs
+    → sum_by size_of xs ≡ sum_by length rs
+sizes-all xs rs same long = rw (← same) (sizes-same rs long)
+
+-- the entries of the first n strings stay when a string is added behind them
+pub entries-append : (xs : List (ℕ × List ℕ)) (x : ℕ × List ℕ) (n : ℕ) → n ≤ length xs
+    → entries_of (xs ++ x ∷ []) n ≡ entries_of xs n
+entries-append xs x zero l = refl
+entries-append xs x (suc n) l =
+    let within : n < length xs = omega arith in
+    let before : n ≤ length xs = omega arith in
     rw (
-      get_or_append_left rs (r ∷ []) [] n within,
-      take-append-le n rs (r ∷ []) before,
-      entries-append rs r n before,
+      get_or_append_left xs (x ∷ []) (0, []) n within,
+      take-append-le n xs (x ∷ []) before,
+      entries-append xs x n before,
     ) refl
 
--- with that of the record that is added
-pub entries-push : (rs : List (List ℕ)) (r : List ℕ) (hash at : ℕ) → hash ≡ hash_at r 0
-    → at ≡ sum_by length rs
-    → entries (rs ++ r ∷ []) (length (rs ++ r ∷ [])) ≡ (hash, at) ∷ entries rs (length rs)
-entries-push rs r hash at h a =
-    let n = length rs in
-    let e : length (rs ++ r ∷ []) ≡ suc n = omega (arith, length-append rs (r ∷ [])) in
-    let here : get_or (rs ++ r ∷ []) n [] ≡ r = get_or-append_seam rs r [] [] in
-    let all : take n (rs ++ r ∷ []) ≡ rs = take-append-le n rs (r ∷ []) (omega arith)
-    ∙ take_all n rs (omega arith) in
-    ap (entries (rs ++ r ∷ [])) e ∙ rw (here, all, h, a, entries-append rs r n (omega arith)) refl
+-- with that of the string that is added
+pub entries-push : (xs : List (ℕ × List ℕ)) (x : ℕ × List ℕ) (at : ℕ) → at ≡ sum_by size_of xs
+    → entries_of (xs ++ x ∷ []) (length (xs ++ x ∷ [])) ≡ (x.0, at) ∷ entries_of xs (length xs)
+entries-push xs x at a =
+    let n = length xs in
+    let e : length (xs ++ x ∷ []) ≡ suc n = omega (arith, length-append xs (x ∷ [])) in
+    let here : get_or (xs ++ x ∷ []) n (0, []) ≡ x = get_or-append_seam xs x [] (0, []) in
+    let all : take n (xs ++ x ∷ []) ≡ xs = take-append-le n xs (x ∷ []) (omega arith)
+    ∙ take_all n xs (omega arith) in
+    ap (entries_of (xs ++ x ∷ [])) e ∙ rw (here, all, a, entries-append xs x n (omega arith)) refl
 
--- and when records behind them are dropped
-pub entries-take : (m : ℕ) (rs : List (List ℕ)) (n : ℕ) → n ≤ m → entries (take m rs) n ≡ entries rs n
-entries-take m rs zero l = refl
-entries-take m rs (suc n) l =
+-- and when strings behind them are dropped
+pub entries-take : (m : ℕ) (xs : List (ℕ × List ℕ)) (n : ℕ) → n ≤ m → entries_of (take m xs) n ≡ entries_of xs n
+entries-take m xs zero l = refl
+entries-take m xs (suc n) l =
     let within : n < m = omega arith in
     let before : n ≤ m = omega arith in
-    rw (get_or-take m rs n [] within, take-take n m rs before, entries-take m rs n before) refl
+    rw (get_or-take m xs n (0, []) within, take-take n m xs before, entries-take m xs n before) refl
 
--- so the entries of the first m records are the first m entries
-pub entries-cut : (m : ℕ) (rs : List (List ℕ))
-    → entries (take m rs) (length (take m rs)) ≡ entries rs (min m (length rs))
-entries-cut m rs = ap (entries (take m rs)) (length-take m rs)
-    ∙ entries-take m rs (min m (length rs)) (omega arith)
+-- so the entries of the first m strings are the first m entries
+pub entries-cut : (m : ℕ) (xs : List (ℕ × List ℕ))
+    → entries_of (take m xs) (length (take m xs)) ≡ entries_of xs (min m (length xs))
+entries-cut m xs = ap (entries_of (take m xs)) (length-take m xs)
+    ∙ entries-take m xs (min m (length xs)) (omega arith)
+
+-- there is an entry for each
+pub length-entries_of : (xs : List (ℕ × List ℕ)) (n : ℕ) → length (entries_of xs n) ≡ n
+length-entries_of xs zero = refl
+length-entries_of xs (suc n) = ap suc (length-entries_of xs n)

@@ -1,15 +1,15 @@
 -- Lists of records.
-use Rattle.std.proofs.Common.{◌≡◌, ℕ, ◌+◌, ◌-◌, ◌*◌, ◌^◌, ◌<◌, ◌≤◌, suc, zero, List, [], ◌∷◌, ◌++◌, length, take, drop, map, get_or, slice_get, Some, option_map, max, min, sum_by, refl, sym, ap, ◌∙◌, subst, arith, inl, inr}
-use Rattle.std.proofs.lemmas.Bool.{cases_eq, cases_lt}
+use Rattle.std.proofs.Common.{◌≡◌, ℕ, ◌+◌, ◌-◌, ◌*◌, ◌^◌, ◌<◌, ◌≤◌, suc, zero, List, [], ◌∷◌, ◌++◌, length, take, drop, map, get_or, slice_get, Some, option_map, min, sum_by, refl, sym, ap, ◌∙◌, subst, arith, inl, inr}
+use Rattle.std.specs.Prelude.{OnOk, OnErr, Result, Ok, Err, ◌⊎◌}
+use Rattle.std.proofs.lemmas.Bool.{cases_lt}
 use Rattle.std.proofs.lemmas.List.{get_or-take, get_or_append_left, length-append, length-drop, length-take}
 use Rattle.std.proofs.lemmas.Option.{slice_get-map}
 use Rattle.std.proofs.lemmas.List.Sums.{sum_by-cons}
 use Rattle.std.proofs.lemmas.Nat.{from_le_bytes-to_le_bytes_4, from_le_bytes-to_le_bytes_8}
 use Rattle.std.proofs.Math.Seq.{get_or-append_seam}
 use Rattle.intaglio_records.specs.Header.{header_of, hash_at}
-use Rattle.intaglio_records.specs.Records.{IsRecord, AreRecords, StaysOrDoubles, free_of, pair_of, set_aside}
-use Rattle.intaglio_packed.specs.Growth.{Doubles, DoublesBytes}
-use Rattle.intaglio_packed.specs.Strings.{Strings, byte_count_of, byte_room_of}
+use Rattle.intaglio_records.specs.Records.{IsRecord, AreRecords, pair_of, set_aside}
+use Rattle.intaglio_packed.specs.Strings.{Strings, byte_room_of}
 
 -- each string of the list has the bytes of a header
 abbrev pub AreLong : List (List ℕ) → Type 0
@@ -60,63 +60,15 @@ strings-bytes (r ∷ rs) h =
       rest,
     )
 
--- how many bytes of records there is room for, said of the buffer
-pub room-is : (b : Strings) → AreLong b.list → length b.list ≤ b.most → set_aside b ≤ free_of b
-    → byte_count_of b ≤ 2 ^ 32 - 1
-    → 13 * b.most + sum_by length (strings_in b.list) + (free_of b - set_aside b) ≡ min (byte_room_of b) (2 ^ 32 - 1)
-room-is b long order headers small = omega (arith, strings-bytes b.list long, order, headers, small)
+-- so are those of all strings that there is room for
+pub headers-fit : (b : Strings) → AreLong b.list → length b.list ≤ b.most → set_aside b ≤ b.spare_bytes
+    → 13 * b.most ≤ byte_room_of b
+headers-fit b long order headers = omega (arith, headers-within b.list long, order, headers)
 
--- which stays or doubles as the buffer's room does
-pub room-doubles : (needed old new : ℕ) → DoublesBytes needed old new
-    → StaysOrDoubles (min old (2 ^ 32 - 1)) (min new (2 ^ 32 - 1))
-room-doubles needed old new h = elim (cases_eq new old) [
-  | inl same ↦ inl (ap (λ n. min n (2 ^ 32 - 1)) same)
-  | inr other ↦
-      elim (h.grown other) [
-        | inl grown ↦
-            elim (cases_lt (2 ^ 32 - 1) new) [
-              | inl beyond ↦ inr (inr (omega (arith, beyond)))
-              | inr within ↦ inr (inl (omega (arith, within, grown)))
-            ]
-        | inr full ↦ inr (inr (omega (arith, full.1)))
-      ]
-]
-
--- and by as much
-pub room-grows : (needed old new : ℕ) → needed ≤ 2 ^ 32 - 1 → DoublesBytes needed old new
-    → DoublesBytes needed (min old (2 ^ 32 - 1)) (min new (2 ^ 32 - 1))
-room-grows needed old new few h = record {
-  enough = λ le. ap (λ n. min n (2 ^ 32 - 1)) (h.enough (omega (arith, le)));
-  grown = λ more.
-      elim (h.grown (λ same. more (ap (λ n. min n (2 ^ 32 - 1)) same))) [
-        | inl grown ↦
-            elim (cases_lt (2 ^ 32 - 1) new) [
-              | inl beyond ↦ inr (omega (arith), omega (arith, beyond))
-              | inr within ↦ inl (omega (arith, within, grown))
-            ]
-        | inr full ↦ inr (omega (arith, full.0, full.1), omega (arith, full.1))
-      ];
-}
-
--- the room for strings grows to no more than was found for it
-pub most-within : (needed old new wanted : ℕ) → Doubles needed old new → (needed ≤ old → wanted ≡ old)
-    → (old < needed → wanted ≡ max 4 (max needed (2 * old))) → new ≤ wanted
-most-within needed old new wanted h same more = elim (cases_lt old needed) [
-  | inl missing ↦
-      elim (cases_eq new old) [
-        | inl kept ↦ omega (arith, kept, missing, more missing)
-        | inr grown ↦ omega (arith, h.grown grown, more missing)
-      ]
-  | inr enough ↦ omega (arith, h.enough enough, same enough)
-]
-
--- and if there is enough then, to exactly that
-pub most-is : (needed old new wanted : ℕ) → Doubles needed old new → (needed ≤ old → wanted ≡ old)
-    → (old < needed → wanted ≡ max 4 (max needed (2 * old))) → needed ≤ new → new ≡ wanted
-most-is needed old new wanted h same more there = elim (cases_lt old needed) [
-  | inl missing ↦ h.grown (λ kept. absurd (omega (arith, kept, missing, there))) ∙ sym (more missing)
-  | inr enough ↦ h.enough enough ∙ sym (same enough)
-]
+-- how many bytes of strings there is room for, said of the buffer
+pub room-is : (b : Strings) → AreLong b.list → length b.list ≤ b.most → set_aside b ≤ b.spare_bytes
+    → 13 * b.most + (sum_by length (strings_in b.list) + (b.spare_bytes - set_aside b)) ≡ byte_room_of b
+room-is b long order headers = omega (arith, strings-bytes b.list long, order, headers)
 
 -- the hash that a header was made with
 pub made-hash : (hash number n : ℕ) (string : List ℕ) → hash < 2 ^ 64
@@ -160,3 +112,8 @@ pub get-string : (rs : List (List ℕ)) (i : ℕ) (r : List ℕ) → slice_get r
     → slice_get (strings_in rs) i ≡ Some (drop 13 r)
 get-string rs i r is = slice_get-map (λ (p : ℕ × List ℕ). p.1) (map pair_of rs) i
     ∙ ap (option_map (λ (p : ℕ × List ℕ). p.1)) (slice_get-map pair_of rs i ∙ ap (option_map pair_of) is)
+
+-- a fact of each case holds in one of them
+pub ok-or-err : {T E A B : Type 0} → (r : Result T E) → OnOk r A → OnErr r B → A ⊎ B
+ok-or-err (Ok _) a b = inl a
+ok-or-err (Err _) a b = inr b

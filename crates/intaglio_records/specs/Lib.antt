@@ -3,3 +3,4 @@ pub mod Header
 pub mod Records
 pub mod Entries
 pub mod Matches
+pub mod Index

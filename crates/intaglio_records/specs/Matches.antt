@@ -28,6 +28,10 @@ pub record IsLeft (xs : List (ℕ × List ℕ)) (hash : ℕ) (matches : Matches)
   pub hash_is : matches.hash ≡ hash
   pub left_is : left ≡ numbers_with hash (concat matches.records.now.list) slots
 
+-- no more strings than this are left: it falls with each one that a search gives, so a loop over them ends
+abbrev pub most_left : Matches → ℕ
+most_left matches = search.most_left matches.candidates
+
 abbrev pub IsSearch : Matches → Type 0
 IsSearch matches = (xs : List (ℕ × List ℕ)) × (hash : ℕ) × (left : List ℕ) × IsLeft xs hash matches left
 

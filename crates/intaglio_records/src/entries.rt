@@ -1,5 +1,5 @@
 //! The lines by which records are found.
-ghost use Rattle.std.specs.Prelude.{◌≡◌, ◌-◌, ◌^◌, ◌≤◌, length, min, IfOk, OnOk};
+ghost use Rattle.std.specs.Prelude.{◌≡◌, ◌-◌, ◌^◌, ◌≤◌, length, min, IfOk, IsOk};
 ghost use Rattle.intaglio_packed.specs.Strings.{byte_count_of};
 ghost use Rattle.intaglio_slots.specs.Chains.{IsFilled, places_of};
 ghost use Rattle.intaglio_records.specs.Records.{AreRecords};
@@ -18,6 +18,7 @@ pub(crate) fn lines_of(records: &StringBuffer, places: usize) -> Result<Lines, A
     requires small { byte_count_of records.now ≤ 2 ^ 32 - 1 }
     ensures filled { IfOk result (λ lines. IsFilled lines (entries records.now.list (length records.now.list))) }
     ensures places { IfOk result (λ lines. places ≤ places_of lines) }
+    ensures none_needed { places ≡ 0 → IsOk result }
 {
     let mut lines = Lines::with_places(records.alloc(), places)?;
     let mut at = 0;
@@ -27,27 +28,6 @@ pub(crate) fn lines_of(records: &StringBuffer, places: usize) -> Result<Lines, A
         at += record.len();
     }
     Ok(lines)
-}
-
-// Makes room for so many entries in all. If there is less, the lines are made anew.
-pub(crate) fn widen(
-    lines: &mut Lines,
-    records: &StringBuffer,
-    places: usize,
-) -> Result<(), AllocError>
-    requires filled { IsFilled lines.old (entries records.now.list (length records.now.list)) }
-    requires enough { length records.now.list ≤ places }
-    requires few { places ≤ 2 ^ 32 }
-    requires each { AreRecords records.now.list }
-    requires small { byte_count_of records.now ≤ 2 ^ 32 - 1 }
-    ensures kept { IsFilled lines.new (entries records.now.list (length records.now.list)) }
-    ensures places { OnOk result (places ≤ places_of lines.new) }
-    ensures no_fewer { places_of lines.old ≤ places_of lines.new }
-{
-    if places > lines.places() {
-        *lines = lines_of(records, places)?;
-    }
-    Ok(())
 }
 
 // Removes the entries of all records but the first `n`, the newest first.

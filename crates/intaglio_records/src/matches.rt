@@ -1,9 +1,8 @@
 //! Searches by a hash.
 ghost use Rattle.std.specs.Prelude.{◌≡◌, ℕ, ◌+◌, ◌<◌, ◌≤◌, [], length, get_or, drop, slice_range, IfSome};
-ghost use Rattle.intaglio_slots.specs.Search.{most_left};
 ghost use Rattle.intaglio_records.specs.Records.{AreRecords};
 ghost use Rattle.intaglio_records.specs.Entries.{position};
-ghost use Rattle.intaglio_records.specs.Matches.{IsPosition, IsSearch, GivesMatch};
+ghost use Rattle.intaglio_records.specs.Matches.{IsPosition, IsSearch, GivesMatch, most_left};
 
 use crate::header::{HEADER, LONG, read_hash, read_number};
 use intaglio_packed::StringBuffer;
@@ -24,7 +23,7 @@ impl<'a> Matches<'a> {
         requires { IsSearch self.old }
         ensures gives { GivesMatch self.old result self.new }
         ensures search { IsSearch self.new }
-        ensures fewer { IfSome result (λ _. most_left self.new.candidates < most_left self.old.candidates) }
+        ensures fewer { IfSome result (λ _. most_left self.new < most_left self.old) }
     {
         while let Some(slot) = self.candidates.next() {
             let at = slot as usize;

@@ -32,7 +32,7 @@ pub struct StringRecords {
 }
 
 impl Model for StringRecords {
-    ghost use Rattle.std.specs.Prelude.{◌-◌, ◌^◌, ◌≤◌, map};
+    ghost use Rattle.std.specs.Prelude.{◌-◌, ◌^◌, ◌≤◌, length, map};
     ghost use Rattle.intaglio_packed.specs.Strings.{byte_room_of};
     ghost use Rattle.intaglio_records.specs.Records.{Records, records_code, pair_of, AreRecords, set_aside};
 
@@ -49,6 +49,7 @@ impl Model for StringRecords {
 
     ghost invariant = { λ r. record {
       each : AreRecords r.records.list;
+      order : length r.records.list ≤ r.records.most;
       headers : set_aside r.records ≤ r.records.spare_bytes;
       small : byte_room_of r.records ≤ 2 ^ 32 - 1;
     } };
@@ -136,11 +137,12 @@ impl StringRecords {
         self.records.len()
     }
 
-    /// How many strings there is room for in total.
+    /// How many strings there is room for in total. Each takes 13 bytes of the 2^32 - 1 that records take at most.
     #[inline]
     pub fn capacity(&self) -> usize
         ensures room { result ≡ self.now.most }
         ensures within { length self.now.list ≤ result }
+        ensures few { 13 * result ≤ 2 ^ 32 - 1 }
     {
         self.records.capacity()
     }
@@ -295,7 +297,8 @@ impl StringRecords {
         }
         let doubled = 2 * (used + self.spare_bytes());
         let room = (used + bytes).max(doubled).max(LEAST_BYTES).min(largest);
-        self.records.reserve_exact(room - used + self.set_aside())
+        let needed = room - used + self.set_aside();
+        self.records.reserve_exact(needed)
     }
 
     /// Shrinks the room to `min_capacity` strings, or to those that there are if they are more, and the room
