@@ -23,6 +23,10 @@ pub record AreHashed {C : Type 0} (key : C → Key) (hash : Key → ℕ) (conten
   pub stored : given ≡ map (λ c. hash (key c)) contents
   pub sought : known ≡ hash k
 
+-- there is a function by which they were hashed
+abbrev pub IsHashed : {C : Type 0} → (C → Key) → List C → List ℕ → Key → ℕ → Type 0
+IsHashed key contents given k known = (hash : Key → ℕ) × AreHashed key hash contents given k known
+
 -- what a search by a known hash records, in an index that was made for this many
 abbrev pub LookupCost : {C : Type 0} → (C → Key) → (Key → ℕ) → List C → ℕ → Key → List Event → Type 0
 LookupCost key hash contents places k cost =

@@ -7,7 +7,7 @@ ghost use Rattle.intaglio_content.specs.Store.{byte_room, Doubles, DoublesByteRo
 ghost use Rattle.intaglio_interner.specs.State.{first, Distinct};
 ghost use Rattle.intaglio_interner.specs.Bytes.{IsTight};
 ghost use Rattle.intaglio_interner.specs.Cost.{Costs};
-ghost use Rattle.intaglio_core.specs.IndexOf.{IndexState, empty_index, AreHashed, LookupCost};
+ghost use Rattle.intaglio_core.specs.IndexOf.{IndexState, empty_index, AreHashed, IsHashed, LookupCost};
 ghost use Rattle.intaglio_core.specs.IndexOf.{KeepsEntries, FindsRoom, FindsNoRoom, PlacesAtMost};
 
 mod buckets;
@@ -69,8 +69,8 @@ pub trait IndexOf<L: Store> {
     ) -> Option<Symbol>
         requires over { is_over self.now list.now }
         requires distinct { Distinct L.Content.key (L.contents list.now) }
-        requires hashed { let hashes = (state self.now list.now).hashes in
-            (h : Key → ℕ) × AreHashed L.Content.key h (L.contents list.now) hashes (Q.key sought.now) hash }
+        requires hashed { IsHashed L.Content.key (L.contents list.now) (state self.now list.now).hashes
+            (Q.key sought.now) hash }
         ensures found { result ≡ first L.Content.key (L.contents list.now) (Q.key sought.now) }
         ensures cost { let index = state self.now list.now in (h : Key → ℕ) →
             AreHashed L.Content.key h (L.contents list.now) index.hashes (Q.key sought.now) hash →
@@ -130,17 +130,19 @@ pub trait IndexOf<L: Store> {
             let finds = FindsNoRoom n (L.most list.old) (state self.old list.old) in
             OnErr result (finds (state self.new list.new) work.old work.new) };
 
-    /// Adds the value to the list, and its hash to the index. Nothing is allocated. Records one placement.
+    /// Adds the value to the list, and its hash with the symbol that it gets to the index. Nothing is allocated. Records
+    /// one placement.
     fn push<H, Q: AddedTo<L, H>>(
         &mut self,
         list: &mut L,
         hash: u64,
+        symbol: Symbol,
         value: Q,
         prepared: L::Prepared,
         work: &mut Work,
     )
         requires over { is_over self.old list.old }
-        requires numbered { length (L.contents list.old) < 2 ^ 32 }
+        requires next { symbol ≡ length (L.contents list.old) }
         requires free { length (L.contents list.old) < L.most list.old }
         requires room { length (L.contents list.old) < (state self.old list.old).room }
         requires bytes { Q.needs value ≤ L.spare_bytes list.old }

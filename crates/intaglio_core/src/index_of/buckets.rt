@@ -87,11 +87,11 @@ impl<L: Store> IndexOf<L> for Index {
         &mut self,
         list: &mut L,
         hash: u64,
+        symbol: Symbol,
         value: Q,
         prepared: L::Prepared,
         work: &mut Work,
     ) {
-        let symbol = Symbol::new(list.len() as u32);
         self.place(hash, symbol, work);
         value.push(prepared, list);
     }

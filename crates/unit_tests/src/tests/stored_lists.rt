@@ -1,6 +1,6 @@
 //! An index and its list, which are changed together.
 use super::assertions::same;
-use intaglio::{Index, IndexOf, StrContent, Work};
+use intaglio::{Index, IndexOf, StrContent, Symbol, Work};
 use std::alloc::AllocError;
 
 type List = Vec<StrContent>;
@@ -15,8 +15,22 @@ fn a_full_index_grows_with_its_list(rt: HostRuntime) {
         .make_room(&mut list, 3, &mut work)
         .expect(&rt, "memory");
     same(&rt, (IndexOf::room(&index, &list), list.len()), (3, 0));
-    index.push(&mut list, 7, StrContent::from("a"), None, &mut work);
-    index.push(&mut list, 7, StrContent::from("b"), None, &mut work);
+    index.push(
+        &mut list,
+        7,
+        Symbol::new(0),
+        StrContent::from("a"),
+        None,
+        &mut work,
+    );
+    index.push(
+        &mut list,
+        7,
+        Symbol::new(1),
+        StrContent::from("b"),
+        None,
+        &mut work,
+    );
     same(&rt, (IndexOf::room(&index, &list), list.len()), (3, 2));
     IndexOf::reserve(&mut index, &mut list, 8, &mut work).expect(&rt, "memory");
     same(&rt, IndexOf::room(&index, &list), 10);
@@ -27,8 +41,22 @@ fn a_shrunk_index_keeps_what_its_list_keeps(rt: HostRuntime) {
     let mut work = Work::new();
     let made: Result<(List, Index), AllocError> = IndexOf::with_capacity(rt.alloc(), 8);
     let (mut list, mut index) = made.expect(&rt, "memory");
-    index.push(&mut list, 1, StrContent::from("a"), None, &mut work);
-    index.push(&mut list, 2, StrContent::from("b"), None, &mut work);
+    index.push(
+        &mut list,
+        1,
+        Symbol::new(0),
+        StrContent::from("a"),
+        None,
+        &mut work,
+    );
+    index.push(
+        &mut list,
+        2,
+        Symbol::new(1),
+        StrContent::from("b"),
+        None,
+        &mut work,
+    );
     index.truncate(&mut list, 1);
     same(
         &rt,
