@@ -358,6 +358,13 @@ static inline size_t intaglio_column_size(const intaglio_dictionary_id *id, size
     return 64 + width * count;
 }
 
+/* A dictionary in shards is a folder of frozen tables, of which each has the strings that belong to it: docs/FROZEN.md has the format. So equal
+ * strings of several dictionaries meet in one shard, on whatever machine. */
+
+/* Returns which shard a string belongs to, of `shards` ones: from 0 to shards - 1. It depends on the bytes and on `shards` alone. If `shards` is 0, it
+ * is 0. */
+uint32_t intaglio_shard_of(uint32_t shards, const uint8_t *string, size_t len);
+
 /* The functions on tables for each kind, on a struct of that kind, such as intaglio_text. Initialize it with INTAGLIO_NONE. */
 /* clang-format off */
 #define INTAGLIO_NONE {{false, NULL}}

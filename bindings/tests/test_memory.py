@@ -2,13 +2,14 @@
 otherwise, and leaves the strings. The library's own allocations are refused in bindings/tests/refused.c. Left out where Python
 has no _testcapi."""
 import sys
+import tempfile
 import types
 import unittest
 from array import array
 from unittest import mock
 
 from intaglio import (
-    MISSING, BytesTable, CStringTable, Frozen, Full, Missing, NoSymbol, NotUtf8, Stale, SymbolTable, merge, renumber,
+    MISSING, BytesTable, CStringTable, Frozen, Full, Missing, NoSymbol, NotUtf8, Shards, Stale, SymbolTable, merge, renumber, split,
 )
 
 try:
@@ -51,6 +52,11 @@ class Memory(unittest.TestCase):
             Frozen.from_bytes(BytesTable([b"a"]).freeze()),
         )
         codes, lines, out = array("I", range(20)), "\n".join(words).encode(), array("I", bytes(80))
+        folder = tempfile.TemporaryDirectory()
+        self.addCleanup(folder.cleanup)
+        split(frozen, folder.name, 3)
+        shards = Shards(folder.name)
+        numbers, in_shards = shards.encode(words), list(shards)
         for number, (call, wanted) in enumerate(
             (
                 (lambda: frozen.encode([*words]), codes), (lambda: frozen.encode(iter(words)), codes),
@@ -79,12 +85,18 @@ class Memory(unittest.TestCase):
                 (lambda: table.encode(Categorical()), TypeError),
                 (lambda: table.check_into(Categorical(), out, missing=9), 4),
                 (lambda: frozen.encode(Categorical()), TypeError), (lambda: list(merge([frozen, frozen])[0]), words),
+                (lambda: shards.encode([*words]), numbers), (lambda: shards.encode(["w1", "no"]), Missing),
+                (lambda: shards.encode_lines(lines), numbers), (lambda: shards.find_all(words), [*numbers]),
+                (lambda: shards.encode(Categorical(), missing=9), array("I", [numbers[5], numbers[1], 9, numbers[5]])),
+                (lambda: shards.decode(numbers), words), (lambda: shards.get_all(numbers), words),
+                (lambda: shards[:], in_shards), (lambda: shards["w5" in shards], in_shards[1]), (lambda: shards[99], NoSymbol),
+                (lambda: split(frozen, folder.name, 3), None), (lambda: list(Shards(folder.name)), in_shards),
             )
         ):
             results = list(self.results(call))
             self.assertEqual([it for it in results if it not in OUT_OF_MEMORY and it != wanted], [], number)
             self.assertIn(wanted, results, number)
-            self.assertEqual((list(table), list(frozen)), (words, words))
+            self.assertEqual((list(table), list(frozen), list(shards)), (words, words, in_shards))
 
 
 if __name__ == "__main__":

@@ -4,14 +4,15 @@ likely to be interrupted wherever it can be.
 checks/bindings sets MALLOC_MMAP_THRESHOLD_=65536: the memory of a large string that is dropped then leaves the process, so that
 reading it afterwards is a crash."""
 import sys
+import tempfile
 import threading
 import time
 import unittest
 from array import array
 
 import intaglio
-from intaglio import MISSING, Frozen, SymbolTable, merge, renumber
-from intaglio._table import frozen_slice
+from intaglio import MISSING, Frozen, Shards, SymbolTable, merge, renumber, split
+from intaglio._table import frozen_shards, frozen_slice
 
 CALLS = 60_000
 THREADS = 3
@@ -115,6 +116,10 @@ class FrozenTables(unittest.TestCase):
         cls.map = array("I", reversed(range(DISTINCT)))
         cls.long_table = SymbolTable(f"{number} of many" for number in range(LONG))
         cls.long = Frozen.from_bytes(cls.long_table.freeze(), trusted=True)
+        folder = tempfile.TemporaryDirectory()
+        cls.addClassCleanup(folder.cleanup)
+        split(cls.table, folder.name, 3)
+        cls.shards = Shards(folder.name)
 
     def calls_meanwhile(self, batch):
         """How many calls another thread makes on the table while a batch runs, and how long the batch and the longest wait of
@@ -167,6 +172,10 @@ class FrozenTables(unittest.TestCase):
             ("all of it", lambda: list(self.long)),
             ("a slice", lambda: frozen_slice(self.table._data, True, 0, 2 * LONG, 0)),
             ("get_all", lambda: self.table.get_all(self.numbers)), ("merge", lambda: merge([self.table] * 9)),
+            ("encode by shards", lambda: self.shards.encode(self.column)),
+            ("decode by shards", lambda: self.shards.decode(self.numbers)),
+            ("to share strings out", lambda: frozen_shards(self.long._data, 7)),
+            ("to intern a shard", lambda: SymbolTable()._absorb_shard(self.long._data, array("I", bytes(4 * LONG)), 0)),
             ("to intern all for merge", lambda: SymbolTable()._absorb_alone(self.long)),
             ("to freeze for merge", lambda: self.long_table._freeze_alone((0, 0))),
         ):
@@ -191,6 +200,7 @@ class FrozenTables(unittest.TestCase):
                     renumber(renumber(wanted, self.map), self.map) == wanted,
                     self.table.encode([None, *part], missing=MISSING)[1:] == wanted,
                     self.table.get_all(wanted) == part, merge([self.table, self.table])[1][1] == array("I", range(DISTINCT)),
+                    self.shards.decode(self.shards.encode(part)) == part,
                 )
 
         self.assertEqual(run(*(lambda number=number: work(number) for number in range(4))), [])

@@ -7,7 +7,8 @@ from pathlib import Path, PurePath
 from tempfile import TemporaryDirectory
 
 from intaglio import (
-    MISSING, BytesTable, Column, Frozen, Missing, NoSymbol, OtherDictionary, PathTable, Refused, SymbolTable, merge, renumber,
+    MISSING, BytesTable, Column, Frozen, Missing, NoSymbol, NotShards, OtherDictionary, PathTable, Refused, Shards, SymbolTable,
+    merge, renumber, split,
 )
 
 
@@ -85,6 +86,21 @@ with TemporaryDirectory() as folder:
     except OtherDictionary as other:
         names: tuple[str, str] = (other.column, other.dictionary)
         assert names == (f"{folder}/column", f"{folder}/merged")
+    split(frozen, f"{folder}/shards", 2, keys=None)
+    with Shards(f"{folder}/shards", kind=str) as shards:
+        of_shards: list[str] = sorted(shards)
+        where: int | None = shards.check_interned("b")
+        found_there: "array[int]" = shards.encode(["b", None], missing=MISSING)
+        tables: tuple[Frozen[str], ...] = shards.tables
+        whole, new_maps = merge([path, shards, Path(folder) / "shards"], f"{folder}/whole", shards=2)
+        both: Shards[str] = whole
+        assert (of_shards, found_there[0], len(tables), len(both), len(new_maps[2])) == (["a", "b"], where, 2, 2, 2)
+        assert both.decode(renumber(found_there, new_maps[1]), missing=None) == ["b", None] and first(copy(both)) in "ab"
+    try:
+        (Path(folder) / "shards/shards").write_text("")
+        Shards(Path(folder) / "shards")
+    except NotShards as fault:
+        assert str(fault) == f"{folder}/shards/shards: line 1 is not that of an index of shards"
     merged.close()
     frozen.close()
 

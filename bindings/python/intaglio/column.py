@@ -12,7 +12,8 @@ from intaglio._table import (
     MISSING, column_check, column_codes, column_count, column_counts, column_id, column_len, column_rows, column_width,
 )
 from intaglio.errors import OtherDictionary, Refused, name_file
-from intaglio.frozen import CHUNK, Frozen, map_file
+from intaglio.frozen import Frozen, map_file
+from intaglio.strings import CHUNK
 
 # What a column begins with, and how many bytes its header has.
 MAGIC, HEADER = b"INT\x89COL\n", 64

@@ -173,6 +173,18 @@ class TrailingBytes(Refused, ValueError):
     code = 26
 
 
+class NotShards(Refused, ValueError):
+    """The index or the map of a folder of shards isn't as it must be."""
+
+
+class OtherShard(Refused, ValueError):
+    """Not the shard that the index names: it is damaged, or of another split or merge."""
+
+
+class Misplaced(Refused, ValueError):
+    """A string belongs to another shard, or there is another number of shards."""
+
+
 class OtherDictionary(ValueError):
     """A column belongs to another dictionary than the one that it is to be read with: the names of the two."""
 
@@ -195,7 +207,8 @@ class Missing(KeyError):
         return f"{self.string!r} at position {self.position} is not in the table"
 
 
-REFUSALS: dict[int, type[Refused]] = {refusal.code: refusal for refusal in Refused.__subclasses__()}
+# (what is wrong with a folder of shards has no code of the library)
+REFUSALS: dict[int, type[Refused]] = {it.code: it for it in Refused.__subclasses__() if hasattr(it, "code")}
 
 
 def shown(number: int) -> str:
@@ -248,6 +261,18 @@ def no_symbol(code: int, position: int) -> NoSymbol:
     """The error of a code of a column."""
     error = NoSymbol(f"code {code} at position {position} is no symbol")
     error.position = position
+    return error
+
+
+def wrong_line(number: int) -> NotShards:
+    """The error of a line of an index, counted from 1."""
+    return NotShards(f"line {number} is not that of an index of shards")
+
+
+def misplaced(symbol: int) -> Misplaced:
+    """The error of a string that belongs to another shard, by its symbol in the shard that it is in."""
+    error = Misplaced(f"string {symbol} belongs to another shard, or there is another number of shards")
+    error.position = symbol
     return error
 
 

@@ -1,5 +1,6 @@
 /* Frozen tables: functions of their bytes, over which frozen.py has a class. They are read-only, so batches release the interpreter's lock: a
- * block of strings is copied, and then looked up without it. `is_text` says whether the strings are `str`. */
+ * block of strings is copied, and then looked up without it. `is_text` says whether the strings are `str`. Those that look strings or symbols up
+ * also take the shards of a dictionary in place of the bytes, as open_tables does. */
 #include <string.h>
 #include "shared.h"
 
@@ -12,13 +13,6 @@ enum {
 #define ADVICE_ON_BYTES ": the strings of this table are bytes, and Frozen(.., kind=str) reads those of UTF-8 as str"
 #define ADVICE_ON_TEXTS ": the strings of this table are str, and Frozen(.., kind=bytes) reads them as bytes"
 
-/* Borrows the bytes of a table. */
-static int borrow_frozen(PyObject *data, Py_buffer *view) {
-    if (PyObject_GetBuffer(data, view, PyBUF_SIMPLE) == 0) return 0;
-    if (PyErr_ExceptionMatches(PyExc_ValueError) && PyMemoryView_Check(data)) PyErr_SetString(PyExc_ValueError, "the Frozen was closed");
-    return -1;
-}
-
 static uint32_t kind_of(bool is_text) { return is_text ? INTAGLIO_PACKED_TEXT : INTAGLIO_PACKED_BYTES; }
 
 /* What ends the message about an object of another type. */
@@ -28,11 +22,16 @@ static const char *advice_on(bool is_text, PyObject *object) {
 }
 
 /* Reads the arguments of a function: the bytes, whether they are of UTF-8 strings, and so many others. */
-static int open_frozen(PyObject *const *args, Py_ssize_t count, Py_ssize_t wanted, Py_buffer *view, bool *is_text) {
+static int read_arguments(PyObject *const *args, Py_ssize_t count, Py_ssize_t wanted, bool *is_text) {
     if (count != wanted) return PyErr_Format(PyExc_TypeError, "takes %zd arguments (%zd given)", wanted, count), -1;
     int truth = PyObject_IsTrue(args[1]);
     *is_text = truth;
-    return truth < 0 ? -1 : borrow_frozen(args[0], view);
+    return truth < 0 ? -1 : 0;
+}
+
+/* The same, and borrows the bytes. */
+static int open_frozen(PyObject *const *args, Py_ssize_t count, Py_ssize_t wanted, Tables *tables, bool *is_text) {
+    return read_arguments(args, count, wanted, is_text) < 0 ? -1 : open_tables(tables, args[0]);
 }
 
 /* The whole */
@@ -119,38 +118,52 @@ static PyObject *frozen_id(PyObject *Py_UNUSED(module), PyObject *data) {
 
 /* One string */
 
-/* The symbol of a native string or None, or null and an exception. */
-static PyObject *find_in(const Py_buffer *view, uint32_t kind, PyObject *string) {
-    size_t len;
+/* The symbol of these bytes, or None. */
+static PyObject *symbol_of(const Tables *tables, const uint8_t *at, size_t len) {
     uint32_t symbol;
+    return find_string(tables, at, len, &symbol) ? PyLong_FromUnsignedLong(symbol) : Py_NewRef(Py_None);
+}
+
+/* The symbol of a native string or None, or null and an exception. */
+static PyObject *find_in(const Tables *tables, uint32_t kind, PyObject *string) {
+    size_t len;
     const uint8_t *at = spell(kind, string, &len);
-    if (at && intaglio_frozen_find(view->buf, (size_t)view->len, at, len, &symbol)) return PyLong_FromUnsignedLong(symbol);
-    if (!at && !is_absent()) return NULL;
-    Py_RETURN_NONE;
+    if (at) return symbol_of(tables, at, len);
+    return is_absent() ? Py_NewRef(Py_None) : NULL;
+}
+
+/* The same, by the bytes of the table that has it if any does. */
+static PyObject *find_alone(PyObject *data, uint32_t kind, PyObject *string) {
+    Tables tables;
+    size_t len;
+    const uint8_t *at = spell(kind, string, &len);
+    if (!at) return is_absent() ? Py_NewRef(Py_None) : NULL;
+    if (open_table_of(&tables, data, at, len) < 0) return NULL;
+    PyObject *found = symbol_of(&tables, at, len);
+    close_tables(&tables);
+    return found;
 }
 
 PyDoc_STRVAR(frozen_find_doc, "frozen_find(data, is_text, string, /)\n--\n\nThe symbol of a string, or None.");
 static PyObject *frozen_find(PyObject *Py_UNUSED(module), PyObject *const *args, Py_ssize_t count) {
-    Py_buffer view;
     bool is_text;
-    if (open_frozen(args, count, 3, &view, &is_text) < 0) return NULL;
+    if (read_arguments(args, count, 3, &is_text) < 0) return NULL;
     PyObject *own = native(kind_of(is_text), args[2], -1, advice_on(is_text, args[2]));
-    PyObject *found = own ? find_in(&view, kind_of(is_text), own) : NULL;
+    PyObject *found = own ? find_alone(args[0], kind_of(is_text), own) : NULL;
     Py_XDECREF(own);
-    PyBuffer_Release(&view);
     return found;
 }
 
-/* A table's bytes, and what its strings become. */
+/* Tables, and what their strings become. */
 typedef struct {
-    const Py_buffer *view;
+    Tables tables;
     bool is_text;
 } Reader;
 
 static PyObject *string_of(const void *of, uint32_t symbol) {
     const Reader *reader = of;
     intaglio_spelling out;
-    if (!intaglio_frozen_get(reader->view->buf, (size_t)reader->view->len, symbol, &out)) return NULL;
+    if (!get_string(&reader->tables, symbol, &out)) return NULL;
     return object_of(reader->is_text, out.at, out.len);
 }
 
@@ -161,18 +174,18 @@ static PyObject *string_at(const Reader *reader, Py_ssize_t number) {
 
 PyDoc_STRVAR(frozen_get_doc, "frozen_get(data, is_text, symbol, /)\n--\n\nThe string of a symbol, or None if there is none.");
 static PyObject *frozen_get(PyObject *Py_UNUSED(module), PyObject *const *args, Py_ssize_t count) {
-    Py_buffer view;
-    Reader reader = {.view = &view};
-    if (open_frozen(args, count, 3, &view, &reader.is_text) < 0) return NULL;
+    Reader reader;
+    if (read_arguments(args, count, 3, &reader.is_text) < 0) return NULL;
     Py_ssize_t symbol = read_symbol(args[2]);
-    PyObject *string = symbol < 0 && PyErr_Occurred() ? NULL : string_at(&reader, symbol);
-    PyBuffer_Release(&view);
+    if ((symbol < 0 && PyErr_Occurred()) || open_table_at(&reader.tables, args[0], symbol < 0 || symbol > (Py_ssize_t)MISSING ? MISSING : (uint32_t)symbol) < 0) return NULL;
+    PyObject *string = string_at(&reader, symbol);
+    close_tables(&reader.tables);
     return string || PyErr_Occurred() ? string : Py_NewRef(Py_None);
 }
 
 /* Raises NoSymbol for what has no string. */
 static PyObject *no_string(const Reader *reader, PyObject *symbol, Py_ssize_t position) {
-    size_t len = intaglio_frozen_len(reader->view->buf, (size_t)reader->view->len);
+    size_t len = strings_in(&reader->tables);
     return position < 0 ? raise_by("no_such_symbol", "(On)", symbol, (Py_ssize_t)len) : raise_by("no_such_symbol", "(Onn)", symbol, (Py_ssize_t)len, position);
 }
 
@@ -222,13 +235,12 @@ static int get_each(PyObject *list, const Reader *reader, PyObject *symbols) {
 
 PyDoc_STRVAR(frozen_get_all_doc, "frozen_get_all(data, is_text, symbols, /)\n--\n\nThe strings of symbols.");
 static PyObject *frozen_get_all(PyObject *Py_UNUSED(module), PyObject *const *args, Py_ssize_t count) {
-    Py_buffer view;
-    Reader reader = {.view = &view};
-    if (open_frozen(args, count, 3, &view, &reader.is_text) < 0) return NULL;
+    Reader reader;
+    if (open_frozen(args, count, 3, &reader.tables, &reader.is_text) < 0) return NULL;
     PyObject *symbols = PyObject_GetIter(args[2]), *list = symbols ? new_list(0) : NULL;
     if (list) list = filled(list, get_each(list, &reader, symbols));
     Py_XDECREF(symbols);
-    PyBuffer_Release(&view);
+    close_tables(&reader.tables);
     return list;
 }
 
@@ -248,21 +260,20 @@ static int slice_into(PyObject *list, const Reader *reader, Py_ssize_t symbol, P
 
 PyDoc_STRVAR(frozen_slice_doc, "frozen_slice(data, is_text, start, count, step, /)\n--\n\nThe strings of `count` symbols from one on, each a step behind the last.");
 static PyObject *frozen_slice(PyObject *Py_UNUSED(module), PyObject *const *args, Py_ssize_t given) {
-    Py_buffer view;
-    Reader reader = {.view = &view};
-    if (open_frozen(args, given, 5, &view, &reader.is_text) < 0) return NULL;
+    Reader reader;
+    if (open_frozen(args, given, 5, &reader.tables, &reader.is_text) < 0) return NULL;
     Py_ssize_t symbol = PyLong_AsSsize_t(args[2]), count = PyLong_AsSsize_t(args[3]), step = PyLong_AsSsize_t(args[4]);
     PyObject *list = PyErr_Occurred() ? NULL : new_list(count);
     if (list) list = filled(list, slice_into(list, &reader, symbol, step));
-    PyBuffer_Release(&view);
+    close_tables(&reader.tables);
     return list;
 }
 
 /* Batches */
 
-/* How strings are encoded: by a table's bytes, with a code for those that aren't there, if they are to have one. */
+/* How strings are encoded: by tables, with a code for those that aren't there, if they are to have one. */
 typedef struct {
-    Py_buffer view;
+    Tables tables;
     bool is_text;
     Stand stand;
     Numbers codes;
@@ -271,6 +282,7 @@ typedef struct {
 } Encoder;
 
 static void close_encoder(Encoder *encoder) {
+    close_tables(&encoder->tables);
     PyMem_Free(encoder->codes.at);
     PyMem_Free(encoder->found);
     PyMem_Free(encoder->block.ends);
@@ -297,7 +309,7 @@ static uint32_t find_block(Encoder *encoder, bool stays) {
     const Group *block = &encoder->block;
     uint32_t code;
     PyThreadState *state = stays ? PyEval_SaveThread() : NULL;
-    code = intaglio_frozen_find_all(encoder->view.buf, (size_t)encoder->view.len, block->at, block->len, block->ends, block->count, encoder->found, block->count);
+    code = find_strings(&encoder->tables, block, encoder->found);
     if (state) PyEval_RestoreThread(state);
     return code;
 }
@@ -338,7 +350,7 @@ static Next encode_item(Encoder *encoder, Source *source, Next next) {
     PyObject *item = Py_NewRef(source->items[i] ? source->items[i] : Py_None), *own = NULL, *symbol = NULL;
     if (next == NOT_NATIVE) own = native(source->kind, item, place, encoder->stand.is_given || !is_missing(item) ? advice_on(encoder->is_text, item) : ADVICE_ON_MISSING);
     else if (is_absent()) symbol = Py_NewRef(Py_None);
-    if (own) symbol = find_in(&encoder->view, source->kind, own);
+    if (own) symbol = find_in(&encoder->tables, source->kind, own);
     next = symbol ? STRING : FAILED;
     if (symbol == Py_None && !encoder->stand.is_given) raise_by("Missing", "(On)", own ? own : item, place), next = FAILED;
     else if (symbol) encoder->codes.at[i] = symbol == Py_None ? encoder->stand.code : (uint32_t)PyLong_AsUnsignedLong(symbol);
@@ -398,23 +410,21 @@ static int numbers_into(PyObject *list, const Numbers *codes) {
 PyDoc_STRVAR(frozen_find_all_doc, "frozen_find_all(data, is_text, strings, /)\n--\n\nThe symbol of each string, or None.");
 static PyObject *frozen_find_all(PyObject *Py_UNUSED(module), PyObject *const *args, Py_ssize_t count) {
     Encoder encoder = {.stand = {.is_given = true, .code = MISSING}};
-    if (open_frozen(args, count, 3, &encoder.view, &encoder.is_text) < 0) return NULL;
+    if (open_frozen(args, count, 3, &encoder.tables, &encoder.is_text) < 0) return NULL;
     bool is_done = encode_items(&encoder, args[2], false) == 0;
     PyObject *list = is_done ? new_list((Py_ssize_t)encoder.codes.count) : NULL;
     if (list) list = filled(list, numbers_into(list, &encoder.codes));
     close_encoder(&encoder);
-    PyBuffer_Release(&encoder.view);
     return list;
 }
 
 PyDoc_STRVAR(frozen_encode_doc, "frozen_encode(data, is_text, strings, missing, /)\n--\n\nAn array('I') of the code of each string.");
 static PyObject *frozen_encode(PyObject *Py_UNUSED(module), PyObject *const *args, Py_ssize_t count) {
     Encoder encoder = {0};
-    if (open_frozen(args, count, 4, &encoder.view, &encoder.is_text) < 0) return NULL;
+    if (open_frozen(args, count, 4, &encoder.tables, &encoder.is_text) < 0) return NULL;
     bool is_done = read_stand(args[3], &encoder.stand) == 0 && encode_items(&encoder, args[2], encoder.stand.is_given) == 0;
     PyObject *codes = is_done ? array_of(encoder.codes.at, encoder.codes.count) : NULL;
     close_encoder(&encoder);
-    PyBuffer_Release(&encoder.view);
     return codes;
 }
 
@@ -423,13 +433,12 @@ static PyObject *frozen_encode_into(PyObject *Py_UNUSED(module), PyObject *const
     Encoder encoder = {0};
     Py_buffer out;
     PyObject *written = NULL;
-    if (open_frozen(args, count, 5, &encoder.view, &encoder.is_text) < 0) return NULL;
+    if (open_frozen(args, count, 5, &encoder.tables, &encoder.is_text) < 0) return NULL;
     if (read_stand(args[4], &encoder.stand) == 0 && borrow_codes(args[3], &out) == 0) {
         if (encode_items(&encoder, args[2], encoder.stand.is_given) == 0) written = write_codes(&out, encoder.codes.at, encoder.codes.count);
         PyBuffer_Release(&out);
     }
     close_encoder(&encoder);
-    PyBuffer_Release(&encoder.view);
     return written;
 }
 
@@ -438,22 +447,19 @@ static PyObject *frozen_encode_lines(PyObject *Py_UNUSED(module), PyObject *cons
     Encoder encoder = {0};
     Source source;
     PyObject *codes = NULL;
-    if (open_frozen(args, count, 4, &encoder.view, &encoder.is_text) < 0) return NULL;
+    if (open_frozen(args, count, 4, &encoder.tables, &encoder.is_text) < 0) return NULL;
     if (read_stand(args[3], &encoder.stand) == 0 && open_lines(&source, kind_of(encoder.is_text), args[2]) == 0)
         if (encode_and_close(&encoder, &source) == 0) codes = array_of(encoder.codes.at, encoder.codes.count);
     close_encoder(&encoder);
-    PyBuffer_Release(&encoder.view);
     return codes;
 }
 
 PyDoc_STRVAR(frozen_decode_doc, "frozen_decode(data, is_text, codes, missing=.., /)\n--\n\nThe string of each code.");
 static PyObject *frozen_decode(PyObject *Py_UNUSED(module), PyObject *const *args, Py_ssize_t count) {
-    Py_buffer view;
-    Reader reader = {.view = &view};
-    if (open_frozen(args, count, count == 4 ? 4 : 3, &view, &reader.is_text) < 0) return NULL;
-    size_t len = intaglio_frozen_len(view.buf, (size_t)view.len);
-    PyObject *list = decode_by(&reader, string_of, len, true, args[2], count == 4 ? args[3] : NULL);
-    PyBuffer_Release(&view);
+    Reader reader;
+    if (open_frozen(args, count, count == 4 ? 4 : 3, &reader.tables, &reader.is_text) < 0) return NULL;
+    PyObject *list = decode_by(&reader, string_of, strings_in(&reader.tables), true, args[2], count == 4 ? args[3] : NULL);
+    close_tables(&reader.tables);
     return list;
 }
 

@@ -250,6 +250,37 @@ extern PyMethodDef codes_functions[];
 
 extern PyMethodDef frozen_functions[];
 
+/* Shards: shards.c */
+
+/* What strings are looked up in: a frozen table, or the shards of a dictionary, whose symbols count through the shards. */
+typedef struct {
+    /* The bytes of each, and how many there are. */
+    Py_buffer *views;
+    size_t count;
+    /* The symbol at which each shard begins, and behind them how many strings there are. Null for a frozen table, whose first symbol is `first`. */
+    const uint32_t *starts;
+    uint32_t first;
+    /* What these lead to. */
+    Py_buffer one, numbers;
+} Tables;
+
+/* Borrows the bytes of a table. */
+int borrow_frozen(PyObject *data, Py_buffer *view);
+/* The same of a frozen table, or of shards: a pair of an array('I') of where they begin and a tuple of their bytes. The struct stays where it is. */
+int open_tables(Tables *tables, PyObject *data);
+/* The same, but of shards only the one that a string belongs to, or that has a symbol. */
+int open_table_of(Tables *tables, PyObject *data, const uint8_t *at, size_t len);
+int open_table_at(Tables *tables, PyObject *data, uint32_t symbol);
+void close_tables(Tables *tables);
+/* How many strings the tables have. */
+size_t strings_in(const Tables *tables);
+/* These read nothing of Python's. Whether a string is there, and its symbol; whether a symbol has a string, and where that is. */
+bool find_string(const Tables *tables, const uint8_t *at, size_t len, uint32_t *symbol);
+bool get_string(const Tables *tables, uint32_t symbol, intaglio_spelling *out);
+/* Writes the symbol of each string of a group, or INTAGLIO_ABSENT. Returns a code. */
+uint32_t find_strings(const Tables *tables, const Group *block, uint64_t *found);
+extern PyMethodDef shards_functions[];
+
 /* Columns: columns.c */
 
 /* What a dictionary is, as a tuple, or null and the exception of an error code. */

@@ -741,6 +741,44 @@ PyDoc_STRVAR(absorb_alone_doc, "_absorb_alone($self, frozen, /)\n--\n\n"
 "As absorb, of a table that no other thread knows: they run meanwhile.");
 static PyObject *table_absorb_alone(Table *self, PyObject *frozen) { return absorb_frozen(self, frozen, true); }
 
+/* Interns the strings of a shard, of frozen bytes that have the number of a shard for each, and stores their symbols and how many they are. Returns a code. */
+static uint32_t absorb_shard(Table *self, const Py_buffer *view, const Codes *numbers, uint32_t shard, uint32_t *symbols, size_t *count) {
+    intaglio_spelling string;
+    for (size_t i = *count = 0; i < numbers->count; i++) {
+        if (load_code(numbers, i) != shard) continue;
+        if (!intaglio_frozen_get(view->buf, (size_t)view->len, (uint32_t)i, &string)) return INTAGLIO_NO_SYMBOL;
+        uint32_t code = intaglio_intern(&self->handle, string.at, string.len, symbols + *count);
+        if (code) return code;
+        ++*count;
+    }
+    return INTAGLIO_DONE;
+}
+
+PyDoc_STRVAR(absorb_shard_doc, "_absorb_shard($self, data, numbers, shard, /)\n--\n\n"
+"Interns the strings of a shard, of a frozen table's bytes, where the numbers are the shards of its strings. Returns their symbols as an\n"
+"array('I'). No other thread may know the table: they run meanwhile. After an error, some of them may be in the table.");
+static PyObject *table_absorb_shard(Table *self, PyObject *args) {
+    PyObject *data, *given, *array = NULL;
+    unsigned int shard;
+    Codes numbers;
+    Py_buffer view;
+    size_t count;
+    if (!PyArg_ParseTuple(args, "OOI:_absorb_shard", &data, &given, &shard) || borrow_frozen(data, &view) < 0) return NULL;
+    if (open_codes(&numbers, given) == 0) {
+        uint32_t *symbols = PyMem_Malloc((numbers.count + 1) * sizeof *symbols), code = INTAGLIO_NO_MEMORY;
+        if (symbols) {
+            Py_BEGIN_ALLOW_THREADS
+            code = absorb_shard(self, &view, &numbers, shard, symbols, &count);
+            Py_END_ALLOW_THREADS
+        }
+        array = code ? refused(code) : array_of(symbols, count);
+        PyMem_Free(symbols);
+        close_codes(&numbers);
+    }
+    PyBuffer_Release(&view);
+    return array;
+}
+
 PyDoc_STRVAR(freeze_alone_doc, "_freeze_alone($self, keys, /)\n--\n\n"
 "The bytes of a frozen table, as freeze returns them. No other thread may know the table: they run meanwhile.");
 static PyObject *table_freeze_alone(Table *self, PyObject *passed) {
@@ -909,6 +947,7 @@ static PyMethodDef methods[] = {
     {"freeze", FAST(table_freeze), METH_VARARGS | METH_KEYWORDS, freeze_doc},
     {"absorb", (PyCFunction)table_absorb, METH_O, absorb_doc},
     {"_absorb_alone", (PyCFunction)table_absorb_alone, METH_O, absorb_alone_doc},
+    {"_absorb_shard", (PyCFunction)table_absorb_shard, METH_VARARGS, absorb_shard_doc},
     {"_freeze_alone", (PyCFunction)table_freeze_alone, METH_O, freeze_alone_doc},
     {"close", (PyCFunction)table_close, METH_NOARGS, close_doc},
     {"__enter__", table_enter, METH_NOARGS, NULL},
@@ -988,7 +1027,7 @@ static int add_types(PyObject *module) {
 
 static int execute(PyObject *module) {
     if (PyModule_AddFunctions(module, frozen_functions) < 0 || PyModule_AddFunctions(module, codes_functions) < 0) return -1;
-    if (PyModule_AddFunctions(module, columns_functions) < 0) return -1;
+    if (PyModule_AddFunctions(module, columns_functions) < 0 || PyModule_AddFunctions(module, shards_functions) < 0) return -1;
 #ifdef Py_GIL_DISABLED
     PyErr_SetString(PyExc_ImportError, "intaglio needs an interpreter with a global lock: its tables have none of their own");
     return -1;

@@ -14,6 +14,7 @@ macro_rules! table_of {
 
 mod columns;
 mod frozen;
+mod shards;
 mod strings;
 mod tables;
 
