@@ -9,7 +9,8 @@ from array import array
 from unittest import mock
 
 from intaglio import (
-    MISSING, BytesTable, CStringTable, Frozen, Full, Missing, NoSymbol, NotUtf8, Shards, Stale, SymbolTable, merge, renumber, split,
+    MISSING, BytesTable, CStringTable, Frozen, Full, Missing, NoSymbol, NotUtf8, Shards, Stale, SymbolTable, merge, renumber,
+    split,
 )
 
 try:
