@@ -159,6 +159,8 @@ class Encoding(unittest.TestCase):
                 with self.assertRaisesRegex(TypeError, "^codes are .*4 bytes.*uint32"):
                     call(other)
         self.assertEqual((words.decode(array("I")), list(renumber(array("I"), codes))), ([], []))
+        none = array("I")
+        self.assertIs(renumber(none, codes, out=none), none)
         self.assertEqual(list(renumber(array("I", [MISSING, 2, MISSING]), codes)), [MISSING, 3, MISSING])
 
     def test_codes_are_renumbered_into_a_buffer(self):

@@ -12,6 +12,7 @@ from intaglio import (
     MISSING, BytesTable, CStringTable, Frozen, Full, Missing, NoSymbol, NotUtf8, Shards, Stale, SymbolTable, merge, renumber,
     split,
 )
+from intaglio._table import frozen_misplaced, frozen_shards, split_map
 
 try:
     import _testcapi
@@ -57,7 +58,7 @@ class Memory(unittest.TestCase):
         self.addCleanup(folder.cleanup)
         split(frozen, folder.name, 3)
         shards = Shards(folder.name)
-        numbers, in_shards = shards.encode(words), list(shards)
+        numbers, in_shards, of_each = shards.encode(words), list(shards), frozen_shards(frozen._data, 3)
         for number, (call, wanted) in enumerate(
             (
                 (lambda: frozen.encode([*words]), codes), (lambda: frozen.encode(iter(words)), codes),
@@ -91,7 +92,9 @@ class Memory(unittest.TestCase):
                 (lambda: shards.encode(Categorical(), missing=9), array("I", [numbers[5], numbers[1], 9, numbers[5]])),
                 (lambda: shards.decode(numbers), words), (lambda: shards.get_all(numbers), words),
                 (lambda: shards[:], in_shards), (lambda: shards["w5" in shards], in_shards[1]), (lambda: shards[99], NoSymbol),
-                (lambda: split(frozen, folder.name, 3), None), (lambda: list(Shards(folder.name)), in_shards),
+                (lambda: frozen_shards(frozen._data, 3), of_each), (lambda: split_map(of_each, 3), numbers),
+                (lambda: frozen_misplaced(frozen._data, 3, 3), 0), (lambda: frozen_misplaced(shards.tables[1]._data, 3, 1), None),
+                (lambda: list(SymbolTable()._absorb_shard(frozen._data, of_each, 0)), [*range(of_each.count(0))]),
             )
         ):
             results = list(self.results(call))

@@ -103,12 +103,12 @@ class Shards(Strings):
     calls do what those of a trusted Frozen do. No file may be made shorter while it is mapped, and each stays open.
 
     >>> import tempfile
-    >>> words = Frozen.from_bytes(SymbolTable(["to", "be", "or", "not"]).freeze())
+    >>> words = Frozen.from_bytes(SymbolTable(["rose", "thorn", "leaf"]).freeze())
     >>> with tempfile.TemporaryDirectory() as folder:
     ...     split(words, f"{folder}/words", 2)
     ...     shards = Shards(f"{folder}/words")
-    >>> list(shards), shards.encode(["or", "that"], missing=MISSING)
-    (['to', 'or', 'be', 'not'], array('I', [1, 4294967295]))
+    >>> list(shards), shards.encode(["leaf", "root"], missing=MISSING)
+    (['thorn', 'rose', 'leaf'], array('I', [2, 4294967295]))
 
     It can be copied, and pickled by its folder. Batches let other threads run meanwhile.
 

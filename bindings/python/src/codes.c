@@ -176,7 +176,8 @@ static int separate(Codes *codes, const Py_buffer *view) {
 /* Writes to a borrowed buffer, after a look at all codes, so that it is unchanged if one has no entry. */
 static int renumber_to_view(const Py_buffer *view, Codes *numbers, Codes *codes) {
     if (codes->count > (size_t)view->len / sizeof(uint32_t)) return refused(INTAGLIO_NO_SPACE), -1;
-    if ((uintptr_t)view->buf % sizeof(uint32_t)) return PyErr_SetString(PyExc_TypeError, "the buffer for the codes isn't aligned to 4 bytes"), -1;
+    /* (an array without items has no place of its own) */
+    if (codes->count && (uintptr_t)view->buf % sizeof(uint32_t)) return PyErr_SetString(PyExc_TypeError, "the buffer for the codes isn't aligned to 4 bytes"), -1;
     if (separate(numbers, view) < 0 || (view->buf != codes->view.buf && separate(codes, view) < 0)) return -1;
     return renumber_all(NULL, numbers, codes) < 0 ? -1 : renumber_all(view->buf, numbers, codes);
 }

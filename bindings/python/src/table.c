@@ -754,6 +754,19 @@ static uint32_t absorb_shard(Table *self, const Py_buffer *view, const Codes *nu
     return INTAGLIO_DONE;
 }
 
+/* The same, without the lock, as an array, or null and an exception. */
+static PyObject *symbols_of_shard(Table *self, const Py_buffer *view, const Codes *numbers, uint32_t shard) {
+    uint32_t *symbols = PyMem_Malloc((numbers->count + 1) * sizeof *symbols), code;
+    size_t count;
+    if (!symbols) return PyErr_NoMemory();
+    Py_BEGIN_ALLOW_THREADS
+    code = absorb_shard(self, view, numbers, shard, symbols, &count);
+    Py_END_ALLOW_THREADS
+    PyObject *array = code ? refused(code) : array_of(symbols, count);
+    PyMem_Free(symbols);
+    return array;
+}
+
 PyDoc_STRVAR(absorb_shard_doc, "_absorb_shard($self, data, numbers, shard, /)\n--\n\n"
 "Interns the strings of a shard, of a frozen table's bytes, where the numbers are the shards of its strings. Returns their symbols as an\n"
 "array('I'). No other thread may know the table: they run meanwhile. After an error, some of them may be in the table.");
@@ -762,17 +775,9 @@ static PyObject *table_absorb_shard(Table *self, PyObject *args) {
     unsigned int shard;
     Codes numbers;
     Py_buffer view;
-    size_t count;
     if (!PyArg_ParseTuple(args, "OOI:_absorb_shard", &data, &given, &shard) || borrow_frozen(data, &view) < 0) return NULL;
     if (open_codes(&numbers, given) == 0) {
-        uint32_t *symbols = PyMem_Malloc((numbers.count + 1) * sizeof *symbols), code = INTAGLIO_NO_MEMORY;
-        if (symbols) {
-            Py_BEGIN_ALLOW_THREADS
-            code = absorb_shard(self, &view, &numbers, shard, symbols, &count);
-            Py_END_ALLOW_THREADS
-        }
-        array = code ? refused(code) : array_of(symbols, count);
-        PyMem_Free(symbols);
+        array = symbols_of_shard(self, &view, &numbers, shard);
         close_codes(&numbers);
     }
     PyBuffer_Release(&view);
