@@ -1,5 +1,5 @@
-/* Writes for each line of standard input which shard it belongs to, of each of the numbers of shards that the arguments are. Without shards it is
- * 0, and no bytes may be null. */
+/* Writes for each line of standard input, which has no zero byte, which shard it belongs to, of each of the numbers of shards that the arguments
+ * are. Without shards it is 0, and a pointer to no bytes may be null. */
 #include "intaglio.h"
 #include <stdio.h>
 #include <stdlib.h>
