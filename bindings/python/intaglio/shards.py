@@ -36,12 +36,14 @@ def index_of(ids):
 
 def ids_in(text):
     """What an index says of each shard: whether its strings are UTF-8, how many they are, and two hashes."""
-    first, ids = FIRST.match(text), []
+    ids: list[tuple[bool, int, int, int]] = []
+    first = FIRST.match(text)
     count, at = (int(first[1], 16), first.end()) if first else (0, 0)
     if count == 0:
         raise wrong_line(1)
     while len(ids) < count and (line := LINE.match(text, at)):
-        ids.append((line[1] == b"text", *(int(it, 16) for it in line.groups()[1:])))
+        strings, hash0, hash1 = (int(it, 16) for it in line.groups()[1:])
+        ids.append((line[1] == b"text", strings, hash0, hash1))
         at = line.end()
     if len(ids) < count or at < len(text):
         raise wrong_line(len(ids) + 2)
@@ -269,8 +271,10 @@ def split(frozen, folder, shards, /, *, keys=(0, 0)):
     of the shards, without an index. Raises what Frozen and Table.freeze raise, ValueError, OSError.
     """
     count, folder = count_of(shards), os.fsdecode(folder)
-    with contextlib.nullcontext(frozen) if isinstance(frozen, Frozen) else Frozen(frozen) as table:
-        refuse_within(folder, table._path)
-        data = table._data
-        numbers = frozen_shards(data, count)
-        write_folder(folder, count, (frozen_shard(data, numbers, it, keys) for it in range(count)), split_map(numbers, count))
+    if not isinstance(frozen, Frozen):
+        with Frozen(frozen) as table:
+            return split(table, folder, count, keys=keys)
+    refuse_within(folder, frozen._path)
+    data = frozen._data
+    numbers = frozen_shards(data, count)
+    write_folder(folder, count, (frozen_shard(data, numbers, it, keys) for it in range(count)), split_map(numbers, count))

@@ -2,7 +2,9 @@
 import copy
 import itertools
 import operator
+from abc import abstractmethod
 from collections.abc import Sequence
+from typing import Any
 
 from intaglio._table import (
     frozen_decode, frozen_encode, frozen_encode_into, frozen_encode_lines, frozen_find, frozen_find_all, frozen_get,
@@ -21,7 +23,7 @@ class Strings(Sequence):
 
     # What strings and symbols are looked up in (the bytes of a table, or the starts of shards and the bytes of each), whether the
     # strings are `str`, and how many they are.
-    _data: object
+    _data: Any
     _is_text: bool
     _len: int
     # The names of what an object has by itself: other attributes are a subclass's or a caller's.
@@ -138,6 +140,10 @@ class Strings(Sequence):
     def __iter__(self):
         starts = range(0, self._len, CHUNK)
         return itertools.chain.from_iterable(map(self._slice, starts, (min(start + CHUNK, self._len) for start in starts)))
+
+    @abstractmethod
+    def close(self):
+        """Unmaps what is mapped."""
 
     def __enter__(self):
         return self
