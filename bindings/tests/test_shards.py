@@ -143,7 +143,7 @@ class OfShards(unittest.TestCase):
         self.freeze(WORDS).write_column(self.at / "column", array("I", [0]))
         SymbolTable(WORDS).freeze(self.at / "dict")
         for table in (self.at / "dict", Frozen(self.at / "dict"), Frozen(self.at / "dict", kind=bytes, trusted=True)):
-            for count in (1, 2, 16, 300):
+            for count in (1, 2, 16, 70):
                 folder = self.at / f"{count}"
                 for _ in range(2):
                     split(table, folder, count)
