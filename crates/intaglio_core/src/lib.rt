@@ -22,7 +22,8 @@ pub use intaglio_content::{
 };
 pub use intaglio_index::Index;
 pub use intaglio_interner::{
-    BaseInterner, GROUP, Interner, check_all, get_or_intern_all, intern_all, look_ahead, touch_all,
+    AHEAD_FROM, BaseInterner, GROUP, Interner, check_all, get_or_intern_all, intern_all,
+    look_ahead, touch_all,
 };
 pub use intaglio_run::{Call, Reply, run};
 pub use intaglio_symbol::{

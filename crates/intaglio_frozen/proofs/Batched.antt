@@ -1,17 +1,18 @@
 -- Batches of strings, which are hashed ahead in groups.
-use Rattle.std.proofs.Common.{◌≡◌, ◌∙◌, ℕ, suc, ◌+◌, ◌-◌, ◌%◌, ◌<◌, List, [], ◌∷◌, ◌++◌, length, length-drop, get_or, map, take, drop, drop-cons, refl, sym, ap, arith}
+use Rattle.std.proofs.Common.{◌≡◌, ◌∙◌, ℕ, suc, ◌+◌, ◌-◌, ◌<◌, ◌≤◌, List, [], ◌∷◌, ◌++◌, length, length-drop, get_or, map, take, drop, drop-cons, refl, sym, ap, arith}
 use Rattle.std.proofs.lemmas.List.{drop-drop, map_more, take_all}
-use Rattle.intaglio_interner.proofs.Groups.{IsGroup, hashed-first}
+use Rattle.intaglio_interner.specs.Batch.{AreHashed}
+use Rattle.intaglio_interner.proofs.Groups.{hashed-first}
 use Rattle.intaglio_interner.specs.State.{first}
 use Rattle.intaglio_frozen.specs.Layout.{strings}
 use Rattle.intaglio_frozen.specs.LookUp.{find, FindsAll}
 use Rattle.intaglio_frozen.proofs.Found.{find_is_first}
 
 -- the first of these strings has the hash at its place
-pub hashed-one : {S : Type 0} (f : S → ℕ) (i : ℕ) (ss : List S) (hashes : List ℕ) → length hashes ≡ 64 → IsGroup f i ss hashes → 0 < length ss
-    → map f (take 1 ss) ≡ get_or hashes (i % 64) 0 ∷ []
-hashed-one f i [] hashes group known some = absurd (omega arith)
-hashed-one f i (s ∷ ss) hashes group known some = ap (λ h. h ∷ []) (sym (hashed-first f i (s ∷ ss) hashes group known s ss refl))
+pub hashed-one : {S : Type 0} (f : S → ℕ) (hashes : List ℕ) → length hashes ≡ 64 → (ahead : ℕ) (ss : List S) → 0 < ahead → ahead ≤ 64 → AreHashed f ahead ss hashes → 0 < length ss
+    → map f (take 1 ss) ≡ get_or hashes (64 - ahead) 0 ∷ []
+hashed-one f hashes group ahead [] any within known some = absurd (omega arith)
+hashed-one f hashes group ahead (s ∷ ss) any within known some = ap (λ h. h ∷ []) (sym (hashed-first f hashes group ahead (s ∷ ss) any within known s ss refl))
 
 module _ {S : Type 0} (all : List S) (n : ℕ) where
   -- those from place n on, and those behind it

@@ -1,11 +1,12 @@
 //! Batches of look-ups: before the first string of a group is looked up, all of the group are hashed, and what
-//! their look-ups will read is read. So the cache misses of these look-ups overlap.
-ghost use Rattle.std.specs.Prelude.{◌≡◌, ◌+◌, [], ◌∷◌, ◌<◌, IfOk, drop, length, map, take};
+//! their look-ups will read is read. So the cache misses of these look-ups overlap. A small table stays in the caches,
+//! and there each string is hashed when it is looked up.
+ghost use Rattle.std.specs.Prelude.{◌≡◌, [], ◌∷◌, ◌<◌, ◌≤◌, IfOk, drop, length, map, take};
 ghost use Rattle.intaglio_frozen.specs.LookUp.{find, hash};
 ghost use Rattle.intaglio_interner.specs.Batch.{AreHashed};
 
 use crate::block::Block;
-use intaglio_core::GROUP;
+use intaglio_core::{AHEAD_FROM, GROUP};
 use intaglio_symbol::Symbol;
 use std::alloc::{AllocError, Global};
 
@@ -19,29 +20,52 @@ pub(crate) fn find_all(
 {
     let mut found = Vec::with_capacity(alloc, strings.len())?;
     let mut hashes = [0; GROUP];
+    let mut ahead = 0;
     for place in 0..strings.len() {
-        let hash = next_hash(block, &strings[place..], place, &mut hashes);
+        let hash = next_hash(block, &strings[place..], &mut ahead, &mut hashes);
         found.push_reserved(block.find_hashed(hash, strings[place]));
     }
     Ok(found)
 }
 
-// The hash of the first of these strings, which are those of a batch from this place on. Looks ahead where a group
-// begins, and otherwise reads what was hashed there.
+// The hash of the first of these strings, of which `ahead` are hashed already. Where none are, it is hashed alone if
+// the table is small, and else with its group.
 #[inline(always)]
-fn next_hash(block: &Block<'_>, strings: &[&[u8]], place: usize, hashes: &mut [u64]) -> u64
+fn next_hash(block: &Block<'_>, strings: &[&[u8]], ahead: &mut usize, hashes: &mut [u64]) -> u64
     requires some { 0 < length strings.now }
     requires group { length hashes.old ≡ 64 }
-    requires known { AreHashed (λ s. hash block.now s.now) place strings.now hashes.old }
+    requires within { ahead.old ≤ 64 }
+    requires known { AreHashed (λ s. hash block.now s.now) ahead.old strings.now hashes.old }
     ensures hash { map (λ s. hash block.now s.now) (take 1 strings.now) ≡ result ∷ [] }
-    ensures known { AreHashed (λ s. hash block.now s.now) (place + 1) (drop 1 strings.now) hashes.new }
+    ensures known { AreHashed (λ s. hash block.now s.now) ahead.new (drop 1 strings.now) hashes.new }
     ensures group { length hashes.new ≡ 64 }
+    ensures within { ahead.new ≤ 64 }
 {
-    let at = place % GROUP;
-    if at == 0 {
-        look_ahead(block, strings, hashes);
+    if *ahead == 0 && block.len() < AHEAD_FROM {
+        return block.hash_sought(strings[0]);
     }
-    hashes[at]
+    next_of_group(block, strings, ahead, hashes)
+}
+
+// As `next_hash`, where the table is large or some are hashed already.
+#[inline(never)]
+fn next_of_group(block: &Block<'_>, strings: &[&[u8]], ahead: &mut usize, hashes: &mut [u64]) -> u64
+    requires some { 0 < length strings.now }
+    requires group { length hashes.old ≡ 64 }
+    requires within { ahead.old ≤ 64 }
+    requires known { AreHashed (λ s. hash block.now s.now) ahead.old strings.now hashes.old }
+    ensures hash { map (λ s. hash block.now s.now) (take 1 strings.now) ≡ result ∷ [] }
+    ensures known { AreHashed (λ s. hash block.now s.now) ahead.new (drop 1 strings.now) hashes.new }
+    ensures group { length hashes.new ≡ 64 }
+    ensures within { ahead.new ≤ 64 }
+{
+    if *ahead == 0 {
+        look_ahead(block, strings, hashes);
+        *ahead = GROUP;
+    }
+    let hash = hashes[GROUP - *ahead];
+    *ahead -= 1;
+    hash
 }
 
 // Hashes the first strings, one for each place of `hashes`, and reads what their look-ups will read.

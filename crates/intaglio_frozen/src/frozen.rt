@@ -150,8 +150,8 @@ impl<'a> Frozen<'a> {
 
     /// The symbol of each string of a batch, where it is in the table.
     ///
-    /// In groups of 64, all are hashed before the first is looked up, so the cache misses of several look-ups overlap.
-    /// That pays if the table is large. It allocates the list that it returns, and nothing else.
+    /// If the table has at least 2^14 strings, then in groups of 64 all are hashed before the first is looked up, so
+    /// the cache misses of several look-ups overlap. It allocates the list that it returns, and nothing else.
     ///
     /// # Errors
     ///

@@ -7,5 +7,7 @@
 mod batch;
 mod interner;
 
-pub use batch::{GROUP, check_all, get_or_intern_all, intern_all, look_ahead, touch_all};
+pub use batch::{
+    AHEAD_FROM, GROUP, check_all, get_or_intern_all, intern_all, look_ahead, touch_all,
+};
 pub use interner::{BaseInterner, Interner};

@@ -17,9 +17,10 @@ use std::hash::BuildHasher;
 impl<C: Content + Sought<C> + Drop, S: BuildHasher> Table<C, S> {
     /// Interns a batch of contents, all or none, and returns their symbols in the same order.
     ///
-    /// The symbols are those of internings one by one. Each content is hashed once. In groups of 64, all are
-    /// hashed before the first is interned, so the cache misses of several look-ups overlap: that pays if the
-    /// table is large and most contents are in it, with some dozens of contents at a time.
+    /// The symbols are those of internings one by one. Each content is hashed once. While the table has at least 2^14
+    /// contents, then in groups of 64 all are hashed before the first is interned, so the cache misses of several
+    /// look-ups overlap: that pays if most contents are in the table, with some dozens of contents at a time. A smaller
+    /// table stays in the caches, and there a batch takes about as long as single calls.
     ///
     /// # Errors
     ///
@@ -53,8 +54,9 @@ where
     /// Looks up a batch of forms, and returns what [`check_interned`](TableOver::check_interned) returns for
     /// each, in the same order.
     ///
-    /// Each form is hashed once. In groups of 64, all are hashed before the first is looked up, so the cache
-    /// misses of several look-ups overlap: that pays if the table is large, with some dozens of forms at a time.
+    /// Each form is hashed once. If the table has at least 2^14 contents, then in groups of 64 all are hashed before
+    /// the first is looked up, so the cache misses of several look-ups overlap: that pays with some dozens of forms at
+    /// a time. A smaller table stays in the caches, and there a batch takes about as long as single calls.
     ///
     /// # Errors
     ///
@@ -78,7 +80,7 @@ where
     /// order. Only new forms are copied.
     ///
     /// The symbols are those of [`get_or_intern`](TableOver::get_or_intern) called one by one. Each form is
-    /// hashed once, ahead of its group, as by [`intern_all`](TableOver::intern_all).
+    /// hashed once, as by [`intern_all`](TableOver::intern_all).
     ///
     /// # Errors
     ///

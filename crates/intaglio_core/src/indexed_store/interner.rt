@@ -27,6 +27,7 @@ where
 
     ghost hash = { λ t. hash_of S.BuildHasher S.Hasher.Hasher t.hasher };
 
+    #[inline(always)]
     fn hash_counted<Q: SoughtIn<L>>(&self, sought: &Q, work: &mut Work) -> u64 {
         sought.hash_by(self.hasher(), work)
     }
@@ -40,6 +41,7 @@ where
         IndexedStore::intern_hashed(self, known_hash, value, work)
     }
 
+    #[inline(always)]
     fn search_hashed<Q: SoughtIn<L>>(
         &self,
         known_hash: u64,
@@ -71,6 +73,7 @@ where
         IndexedStore::store(self)
     }
 
+    #[inline(always)]
     fn count(&self) -> usize {
         self.len()
     }

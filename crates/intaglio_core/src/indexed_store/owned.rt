@@ -74,7 +74,7 @@ impl<C: Keyed, S: BuildHasher> Core<C, S> {
     ) -> Result<Vec<Symbol>, InternError>
     where
         C: Content + Sought<C> + Drop,
-        // As internings one by one, but hashed ahead in groups.
+        // As internings one by one, but hashed ahead in groups where the table is large.
         ensures ok { IfOk result (λ symbols. Costs work.old work.new (λ cost.
             InternsAll C.key C.key IsMoved false (hash_of S.BuildHasher S.Hasher.Hasher self.old.hasher)
             self.old.state contents.items symbols.items cost self.new.state)) }
