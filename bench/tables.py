@@ -70,6 +70,7 @@ def page(times):
         for capacity in CAPACITIES:
             parts += single_table(times, comparison, capacity, sizes)
     parts += ["## A batch of 64 words a call, beside the Rust crate's call for each word", ""]
+    parts += ["The lists of the batches are made before the clock starts, as the words are.", ""]
     for comparison in COMPARISONS.values():
         for capacity in CAPACITIES:
             parts += batch_table(times, comparison, capacity, sizes)

@@ -1,7 +1,7 @@
 //! What is measured. Each operation returns a sum that shows what it found.
 ghost use Rattle.std.specs.Prelude.{◌≡◌};
 
-use crate::table::{Searched, WordTable, forms};
+use crate::table::{Searched, WordTable};
 use intaglio::{InternError, Symbol};
 use std::alloc::{AllocError, Global};
 
@@ -30,24 +30,36 @@ pub fn intern<T: WordTable>(table: &mut T, words: Vec<String>) -> u64 {
     sum
 }
 
-/// The same in batches.
+/// The words in batches.
+pub fn batches_of<T: WordTable>(
+    alloc: Global,
+    words: Vec<String>,
+) -> Result<Vec<Vec<T::Word>>, AllocError> {
+    let mut batches = Vec::new(alloc);
+    let mut batch = Vec::with_capacity(alloc, BATCH)?;
+    for word in words {
+        batch.push(T::word_of(word))?;
+        if batch.len() == BATCH {
+            batches.push(batch)?;
+            batch = Vec::with_capacity(alloc, BATCH)?;
+        }
+    }
+    batches.push(batch)?;
+    Ok(batches)
+}
+
+/// Interns batches of words, and adds up the numbers of their symbols, plus 1 for each.
 #[inline(never)]
 pub fn intern_batches<T: WordTable>(
     alloc: Global,
     table: &mut T,
-    words: Vec<String>,
+    batches: Vec<Vec<T::Word>>,
 ) -> Result<u64, InternError> {
     let mut sum = 0u64;
-    let mut batch = Vec::with_capacity(alloc, BATCH)?;
-    for word in words {
-        batch.reserve(1)?;
-        batch.push_reserved(T::word_of(word));
-        if batch.len() == BATCH {
-            sum = sum.wrapping_add(intern_batch(alloc, table, batch)?);
-            batch = Vec::with_capacity(alloc, BATCH)?;
-        }
+    for batch in batches {
+        sum = sum.wrapping_add(intern_batch(alloc, table, batch)?);
     }
-    Ok(sum.wrapping_add(intern_batch(alloc, table, batch)?))
+    Ok(sum)
 }
 
 fn intern_batch<T: WordTable>(
@@ -77,13 +89,12 @@ pub fn get_or_intern<T: WordTable>(table: &mut T, words: &[String]) -> u64 {
 /// The same in batches.
 #[inline(never)]
 pub fn get_or_intern_batches<T: WordTable>(
-    alloc: Global,
     table: &mut T,
-    words: &[String],
+    words: &[&str],
 ) -> Result<u64, InternError> {
     let mut sum = 0u64;
     for batch in words.chunks(BATCH) {
-        for symbol in table.intern_forms(&forms(alloc, batch)?)? {
+        for symbol in table.intern_forms(batch)? {
             sum = sum.wrapping_add(symbol.id() as u64 + 1);
         }
     }
@@ -92,14 +103,10 @@ pub fn get_or_intern_batches<T: WordTable>(
 
 /// Looks up the words in batches, and adds up the numbers of the symbols found, plus 1 for each.
 #[inline(never)]
-pub fn look_up_batches<T: WordTable>(
-    alloc: Global,
-    table: &T,
-    words: &[String],
-) -> Result<u64, AllocError> {
+pub fn look_up_batches<T: WordTable>(table: &T, words: &[&str]) -> Result<u64, AllocError> {
     let mut sum = 0u64;
     for batch in words.chunks(BATCH) {
-        for found in table.find_all(&forms(alloc, batch)?)? {
+        for found in table.find_all(batch)? {
             if let Some(symbol) = found {
                 sum = sum.wrapping_add(symbol.id() as u64 + 1);
             }

@@ -1,11 +1,11 @@
 //! One turn: each operation once, on a table that is empty at the start.
 
 use crate::operations::{
-    clear, get, get_or_intern, get_or_intern_batches, hash, intern, intern_batches, iterate,
-    look_up, look_up_batches, read,
+    batches_of, clear, get, get_or_intern, get_or_intern_batches, hash, intern, intern_batches,
+    iterate, look_up, look_up_batches, read,
 };
 use crate::plan::{Calls, Plan, Task};
-use crate::table::WordTable;
+use crate::table::{WordTable, forms};
 use crate::words::{numbers, shuffle, word, words};
 use anyhow::Result;
 use intaglio::InternError;
@@ -18,11 +18,10 @@ use std::time::Instant;
 enum Operation<'a> {
     Hash(&'a [String]),
     Intern(Vec<String>),
-    InternBatches(Vec<String>),
     GetOrIntern(&'a [String]),
-    GetOrInternBatches(&'a [String]),
+    GetOrInternBatches(&'a [&'a str]),
     LookUp(&'a [String]),
-    LookUpBatches(&'a [String]),
+    LookUpBatches(&'a [&'a str]),
     Get(&'a [u32]),
     Read(&'a [u32]),
     Iterate,
@@ -30,15 +29,14 @@ enum Operation<'a> {
 }
 
 impl<'a> Operation<'a> {
-    fn run<T: WordTable>(self, alloc: Global, table: &mut T) -> Result<u64, InternError> {
+    fn run<T: WordTable>(self, table: &mut T) -> Result<u64, InternError> {
         match self {
             Operation::Hash(words) => Ok(hash(table, words)),
             Operation::Intern(words) => Ok(intern(table, words)),
-            Operation::InternBatches(words) => intern_batches(alloc, table, words),
             Operation::GetOrIntern(words) => Ok(get_or_intern(table, words)),
-            Operation::GetOrInternBatches(words) => get_or_intern_batches(alloc, table, words),
+            Operation::GetOrInternBatches(words) => get_or_intern_batches(table, words),
             Operation::LookUp(words) => Ok(look_up(table, words)),
-            Operation::LookUpBatches(words) => Ok(look_up_batches(alloc, table, words)?),
+            Operation::LookUpBatches(words) => Ok(look_up_batches(table, words)?),
             Operation::Get(numbers) => Ok(get(table, numbers)),
             Operation::Read(numbers) => Ok(read(table, numbers)),
             Operation::Iterate => Ok(iterate(table)),
@@ -106,28 +104,31 @@ fn read_and_clear<R: Print + Clock + AllocGlobal, T: WordTable>(
     measure(rt, table, plan, "clear", Operation::Clear)
 }
 
-// The same operations in batches, as far as there is a call that takes a batch.
+// The same operations in batches, as far as there is a call that takes a batch. The lists of the batches are made
+// before the clock starts, as the words are.
 fn batches<R: Print + Clock + AllocGlobal, T: WordTable>(
     rt: &R,
     table: &mut T,
     plan: Plan,
 ) -> Result<()> {
     let fresh = first_words(rt.alloc(), plan)?;
-    measure(rt, table, plan, "new", Operation::InternBatches(fresh))?;
+    measure_batches(rt, table, plan, "new", fresh)?;
     let known = shuffled_words(rt.alloc(), plan)?;
-    call_on_known_in_batches(rt, table, plan, known)?;
+    call_on_known_in_batches(rt, table, plan, &known)?;
+    measure_batches(rt, table, plan, "again", known)?;
     let absent = other_words(rt.alloc(), plan)?;
-    measure(rt, table, plan, "miss", Operation::LookUpBatches(&absent))?;
+    call_on_absent_in_batches(rt, table, plan, &absent)?;
     table.clear();
-    measure(rt, table, plan, "refill", Operation::InternBatches(absent))
+    measure_batches(rt, table, plan, "refill", absent)
 }
 
 fn call_on_known_in_batches<R: Print + Clock + AllocGlobal, T: WordTable>(
     rt: &R,
     table: &mut T,
     plan: Plan,
-    known: Vec<String>,
+    known: &[String],
 ) -> Result<()> {
+    let known = forms(rt.alloc(), known)?;
     measure(rt, table, plan, "hit", Operation::LookUpBatches(&known))?;
     measure(
         rt,
@@ -135,8 +136,31 @@ fn call_on_known_in_batches<R: Print + Clock + AllocGlobal, T: WordTable>(
         plan,
         "borrowed",
         Operation::GetOrInternBatches(&known),
-    )?;
-    measure(rt, table, plan, "again", Operation::InternBatches(known))
+    )
+}
+
+fn call_on_absent_in_batches<R: Print + Clock + AllocGlobal, T: WordTable>(
+    rt: &R,
+    table: &mut T,
+    plan: Plan,
+    absent: &[String],
+) -> Result<()> {
+    let absent = forms(rt.alloc(), absent)?;
+    measure(rt, table, plan, "miss", Operation::LookUpBatches(&absent))
+}
+
+// Interns owned words in batches.
+fn measure_batches<R: Print + Clock + AllocGlobal, T: WordTable>(
+    rt: &R,
+    table: &mut T,
+    plan: Plan,
+    name: &str,
+    words: Vec<String>,
+) -> Result<()> {
+    let batches = batches_of::<T>(rt.alloc(), words)?;
+    let start = Instant::now(rt)?;
+    let sum = intern_batches(rt.alloc(), table, batches)?;
+    report(rt, plan, name, start, sum)
 }
 
 /// All words, in the order of their numbers.
@@ -168,7 +192,7 @@ fn measure<R: Print + Clock + AllocGlobal, T: WordTable>(
     operation: Operation<'_>,
 ) -> Result<()> {
     let start = Instant::now(rt)?;
-    let sum = operation.run(rt.alloc(), table)?;
+    let sum = operation.run(table)?;
     report(rt, plan, name, start, sum)
 }
 

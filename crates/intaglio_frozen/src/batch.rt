@@ -48,7 +48,7 @@ fn next_hash(block: &Block<'_>, strings: &[&[u8]], ahead: &mut usize, hashes: &m
 }
 
 // As `next_hash`, where the table is large or some are hashed already.
-#[inline(never)]
+#[inline(always)]
 fn next_of_group(block: &Block<'_>, strings: &[&[u8]], ahead: &mut usize, hashes: &mut [u64]) -> u64
     requires some { 0 < length strings.now }
     requires group { length hashes.old ≡ 64 }
@@ -68,7 +68,9 @@ fn next_of_group(block: &Block<'_>, strings: &[&[u8]], ahead: &mut usize, hashes
     hash
 }
 
-// Hashes the first strings, one for each place of `hashes`, and reads what their look-ups will read.
+// Hashes the first strings, one for each place of `hashes`, and reads what their look-ups will read. A call of its own,
+// so that `next_hash` is short where it is inlined.
+#[inline(never)]
 fn look_ahead(block: &Block<'_>, strings: &[&[u8]], hashes: &mut [u64])
     ensures hashes { take (length strings.now) hashes.new
         ≡ map (λ s. hash block.now s.now) (take (length hashes.old) strings.now) }
