@@ -9,9 +9,10 @@ import tempfile
 import unittest
 from array import array
 from pathlib import Path
+from unittest import mock
 
 from intaglio import (
-    MISSING, BytesTable, Column, Frozen, Full, Missing, NoSpace, NotUtf8, PathTable, SymbolTable, merge, renumber,
+    MISSING, BytesTable, Column, Frozen, Full, Missing, NoSpace, NotUtf8, PathTable, Shards, SymbolTable, merge, renumber, split,
 )
 
 try:
@@ -29,6 +30,13 @@ STRINGS = ["to", "be", "", "é", "a word that is longer than the others" * 9]
 
 def frozen_of(strings):
     return Frozen.from_bytes((SymbolTable if all(isinstance(it, str) for it in strings) else BytesTable)(strings).freeze())
+
+
+def in_shards(strings, of_strings=frozen_of):
+    """The same as a dictionary in one shard, whose order is that of the strings."""
+    with tempfile.TemporaryDirectory() as folder:
+        split(of_strings(strings), folder, 1)
+        return Shards(folder)
 
 
 def codes_of(column, symbols):
@@ -129,6 +137,15 @@ class Arrays(unittest.TestCase):
             for given in (column, numpy.array(column, object)):
                 self.assertEqual((list(table.encode(given, missing=MISSING)), list(table)), (wanted, [*symbols]))
                 self.assertEqual(list(frozen_of([*symbols]).encode(given, missing=MISSING)), wanted)
+
+
+class ArraysInShards(Arrays):
+    """The same where strings are looked up in shards."""
+
+    def setUp(self):
+        patch = mock.patch(f"{__name__}.frozen_of", in_shards)
+        patch.start()
+        self.addCleanup(patch.stop)
 
 
 @unittest.skipUnless(pandas, "pandas isn't there")
