@@ -264,6 +264,7 @@ class OfShards(unittest.TestCase):
                 ) as caught:
                     read()
                 self.assertEqual((caught.exception.filename, isinstance(caught.exception, ValueError)), (str(path), True))
+                self.assertIsNone(caught.exception.code)
         path.write_bytes(index.replace(b"%016x" % 3, b"%016x" % 2**63))
         with self.assertRaisesRegex(intaglio.NotShards, ": line 5 is not that of an index of shards$"):
             Shards(self.folder)

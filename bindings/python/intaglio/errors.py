@@ -6,10 +6,10 @@ class Refused(Exception):
     """A call failed, and the strings of the table are unchanged. The subclass says why.
 
     `position` is that of the string or code that it is about, from 0, if the call took several; `filename` is the file that it is
-    about.
+    about. `code` is that of the library, which has none for what is wrong with a folder of shards.
     """
 
-    code: int
+    code: int | None = None
     position: int | None = None
     filename: str | bytes | int | None = None
 
@@ -207,8 +207,7 @@ class Missing(KeyError):
         return f"{self.string!r} at position {self.position} is not in the table"
 
 
-# (what is wrong with a folder of shards has no code of the library)
-REFUSALS: dict[int, type[Refused]] = {it.code: it for it in Refused.__subclasses__() if hasattr(it, "code")}
+REFUSALS: dict[int, type[Refused]] = {it.code: it for it in Refused.__subclasses__() if it.code is not None}
 
 
 def shown(number: int) -> str:
