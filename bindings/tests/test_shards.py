@@ -457,11 +457,13 @@ class OfShards(unittest.TestCase):
             lambda: split(words.to_bytes(), out, 2), lambda: Shards(7), lambda: merge([words], shards=2),
             lambda: merge(shards, out, shards=3), lambda: merge([7], out, shards=2), lambda: merge([shards]),
             lambda: merge([words.to_bytes()], out, shards=2), lambda: merge([words], shards, shards=3),
-            lambda: intaglio.Column(self.at / "column", shards), lambda: SymbolTable().absorb(shards),
+            lambda: SymbolTable().absorb(shards),
         ):
             with self.assertRaises(TypeError):
                 call()
         self.assertFalse(out.exists())
+        with self.assertRaisesRegex(TypeError, "^a column belongs to a Frozen, not to a Shards: use plain codes with that$"):
+            intaglio.Column(self.at / "column", shards)
         with self.assertRaises(NotADirectoryError):
             split(words, self.folder / "0.dict", 2)
         with self.assertRaises(FileNotFoundError):

@@ -13,7 +13,7 @@ from intaglio._table import (
 )
 from intaglio.errors import OtherDictionary, Refused, name_file
 from intaglio.frozen import Frozen, map_file
-from intaglio.strings import CHUNK
+from intaglio.strings import CHUNK, Strings
 
 # What a column begins with, and how many bytes its header has.
 MAGIC, HEADER = b"INT\x89COL\n", 64
@@ -48,6 +48,8 @@ class Column(Sequence):
 
     def __init__(self, path, dictionary, *, trusted=False):
         refuse_bytes(path)
+        if isinstance(dictionary, Strings) and not isinstance(dictionary, Frozen):
+            raise TypeError(f"a column belongs to a Frozen, not to a {type(dictionary).__name__}: use plain codes with that")
         self._data, self._map, _ = map_file(path)
         self._own = None
         try:
