@@ -1,18 +1,11 @@
 //! Records of strings and their index: what a search by a hash finds, after strings were added and dropped.
-ghost use Rattle.std.specs.Prelude.{◌<◌, length};
+ghost use Rattle.std.specs.Prelude.{◌<◌, [], length};
 ghost use Rattle.intaglio_records.specs.Index.{IsOver, made_for};
 
 use super::assertions::{holds, same};
 use intaglio_records::{RecordIndex, StringRecords};
+use std::alloc::Global;
 use std::process::Abort;
-
-// A list of strings with an index over it.
-#[derive(Drop)]
-struct Found {
-    records: StringRecords,
-    index: RecordIndex,
-    ghost over: { IsOver records.list index },
-}
 
 // Makes the index anew if it has no place for one more string.
 fn make_place(rt: &impl Abort, records: &StringRecords, index: &mut RecordIndex)
@@ -27,57 +20,57 @@ fn make_place(rt: &impl Abort, records: &StringRecords, index: &mut RecordIndex)
     *index = RecordIndex::over(records, records.capacity()).expect(rt, "memory");
 }
 
-impl Found {
-    fn new(rt: &impl Abort, records: StringRecords) -> Found {
-        let index = RecordIndex::over(&records, records.len()).expect(rt, "memory");
-        Found { records, index }
-    }
+fn add(
+    rt: &impl Abort,
+    records: &mut StringRecords,
+    index: &mut RecordIndex,
+    hash: u64,
+    string: &[u8],
+)
+    requires { IsOver records.old.list index.old }
+    ensures { IsOver records.new.list index.new }
+{
+    records.reserve_strings(1).expect(rt, "memory");
+    records.reserve_bytes(string.len()).expect(rt, "memory");
+    make_place(rt, records, index);
+    index.place(records, hash);
+    records.push_hashed(hash, string);
+}
 
-    fn add(&mut self, rt: &impl Abort, hash: u64, string: &[u8]) {
-        self.records.reserve_strings(1).expect(rt, "memory");
-        self.records
-            .reserve_bytes(string.len())
-            .expect(rt, "memory");
-        make_place(rt, &self.records, &mut self.index);
-        self.index.place(&self.records, hash);
-        self.records.push_hashed(hash, string);
-    }
-
-    fn find(&self, hash: u64, string: &[u8]) -> Option<u32> {
-        self.index.find(&self.records, hash, string)
-    }
-
-    fn truncate(&mut self, n: usize) {
-        self.index.truncate(&self.records, n);
-        self.records.truncate(n);
-    }
+fn empty(rt: &impl Abort, alloc: Global) -> RecordIndex
+    ensures { IsOver [] result }
+{
+    RecordIndex::with_places(alloc, 0).expect(rt, "memory")
 }
 
 #[test]
 fn records_are_found_by_hash_and_string(rt: HostRuntime) {
-    let mut list = Found::new(&rt, StringRecords::new(rt.alloc()));
-    list.add(&rt, 7, b"one");
-    list.add(&rt, 7, b"two");
-    list.add(&rt, 7 + (1 << 60), b"one");
-    same(&rt, list.records.len(), 3);
-    same(&rt, list.records.byte_count(), 9);
-    same(&rt, list.find(7, b"one"), Some(0));
-    same(&rt, list.find(7, b"two"), Some(1));
-    same(&rt, list.find(7 + (1 << 60), b"one"), Some(2));
-    same(&rt, list.find(7, b"three"), None);
-    same(&rt, list.find(8, b"one"), None);
-    same(&rt, list.records.get(1), Some(b"two".as_slice()));
-    same(&rt, list.records.get(3), None);
-    same(&rt, list.records.hash(2), 7 + (1 << 60));
+    let mut records = StringRecords::new(rt.alloc());
+    let mut index = empty(&rt, rt.alloc());
+    add(&rt, &mut records, &mut index, 7, b"one");
+    add(&rt, &mut records, &mut index, 7, b"two");
+    add(&rt, &mut records, &mut index, 7 + (1 << 60), b"one");
+    same(&rt, records.len(), 3);
+    same(&rt, records.byte_count(), 9);
+    same(&rt, index.find(&records, 7, b"one"), Some(0));
+    same(&rt, index.find(&records, 7, b"two"), Some(1));
+    same(&rt, index.find(&records, 7 + (1 << 60), b"one"), Some(2));
+    same(&rt, index.find(&records, 7, b"three"), None);
+    same(&rt, index.find(&records, 8, b"one"), None);
+    same(&rt, records.get(1), Some(b"two".as_slice()));
+    same(&rt, records.get(3), None);
+    assert!(rt; records.len() == 3);
+    same(&rt, records.hash(2), 7 + (1 << 60));
 }
 
 #[test]
 fn a_search_gives_each_string_of_a_hash(rt: HostRuntime) {
-    let mut list = Found::new(&rt, StringRecords::new(rt.alloc()));
-    list.add(&rt, 7, b"one");
-    list.add(&rt, 6, b"two");
-    list.add(&rt, 7, b"");
-    let mut matches = list.index.matches(&list.records, 7);
+    let mut records = StringRecords::new(rt.alloc());
+    let mut index = empty(&rt, rt.alloc());
+    add(&rt, &mut records, &mut index, 7, b"one");
+    add(&rt, &mut records, &mut index, 6, b"two");
+    add(&rt, &mut records, &mut index, 7, b"");
+    let mut matches = index.matches(&records, 7);
     same(&rt, matches.next(), Some((0, b"one".as_slice())));
     same(&rt, matches.next(), Some((2, b"".as_slice())));
     same(&rt, matches.next(), None);
@@ -87,52 +80,62 @@ fn a_search_gives_each_string_of_a_hash(rt: HostRuntime) {
 // A record begins with its hash.
 #[test]
 fn a_touch_reads_the_record_of_a_hash(rt: HostRuntime) {
-    let mut list = Found::new(&rt, StringRecords::new(rt.alloc()));
-    list.add(&rt, 6, b"one");
-    list.add(&rt, 7 + (2 << 56), b"two");
-    same(&rt, list.index.touch(&list.records, 6), 6);
-    same(&rt, list.index.touch(&list.records, 7 + (2 << 56)), 7);
-    same(&rt, list.index.touch(&list.records, 3 << 56), 0);
+    let mut records = StringRecords::new(rt.alloc());
+    let mut index = empty(&rt, rt.alloc());
+    add(&rt, &mut records, &mut index, 6, b"one");
+    add(&rt, &mut records, &mut index, 7 + (2 << 56), b"two");
+    same(&rt, index.touch(&records, 6), 6);
+    same(&rt, index.touch(&records, 7 + (2 << 56)), 7);
+    same(&rt, index.touch(&records, 3 << 56), 0);
 }
 
 // 11 entries fill a line, so these take several.
-fn add_numbers(rt: &impl Abort, list: &mut Found, count: u32) {
+fn add_numbers(rt: &impl Abort, records: &mut StringRecords, index: &mut RecordIndex, count: u32)
+    requires { IsOver records.old.list index.old }
+    ensures { IsOver records.new.list index.new }
+{
     for number in 0..count {
-        list.add(rt, 5, &number.to_le_bytes());
+        add(rt, records, index, 5, &number.to_le_bytes());
     }
 }
 
 #[test]
 fn dropped_strings_are_not_found(rt: HostRuntime) {
-    let records = StringRecords::with_capacity(rt.alloc(), 3, 10).expect(&rt, "memory");
-    let mut list = Found::new(&rt, records);
-    add_numbers(&rt, &mut list, 41);
-    same(&rt, list.find(5, &40u32.to_le_bytes()), Some(40));
-    list.truncate(20);
-    same(&rt, list.find(5, &20u32.to_le_bytes()), None);
-    same(&rt, list.find(5, &19u32.to_le_bytes()), Some(19));
-    same(&rt, list.records.shrink_to(2), Ok(()));
-    same(&rt, list.records.capacity(), 20);
-    same(&rt, list.records.spare_bytes(), 0);
-    same(&rt, list.records.held_bytes(), 20 * (13 + 4));
-    same(&rt, list.find(5, &19u32.to_le_bytes()), Some(19));
-    let smaller = Found::new(&rt, list.records);
-    same(&rt, smaller.index.places(), 20);
-    same(&rt, smaller.find(5, &19u32.to_le_bytes()), Some(19));
-    same(&rt, smaller.find(5, &20u32.to_le_bytes()), None);
+    let mut records = StringRecords::with_capacity(rt.alloc(), 3, 10).expect(&rt, "memory");
+    let mut index = empty(&rt, rt.alloc());
+    add_numbers(&rt, &mut records, &mut index, 41);
+    same(&rt, index.find(&records, 5, &40u32.to_le_bytes()), Some(40));
+    index.truncate(&records, 20);
+    records.truncate(20);
+    same(&rt, index.find(&records, 5, &20u32.to_le_bytes()), None);
+    same(&rt, index.find(&records, 5, &19u32.to_le_bytes()), Some(19));
+    same(&rt, records.shrink_to(2), Ok(()));
+    same(&rt, records.capacity(), 20);
+    same(&rt, records.spare_bytes(), 0);
+    same(&rt, records.held_bytes(), 20 * (13 + 4));
+    same(&rt, index.find(&records, 5, &19u32.to_le_bytes()), Some(19));
+    let smaller = RecordIndex::over(&records, records.capacity()).expect(&rt, "memory");
+    same(&rt, smaller.places(), 20);
+    same(
+        &rt,
+        smaller.find(&records, 5, &19u32.to_le_bytes()),
+        Some(19),
+    );
+    same(&rt, smaller.find(&records, 5, &20u32.to_le_bytes()), None);
 }
 
 #[test]
 fn cleared_records_are_not_found(rt: HostRuntime) {
-    let mut list = Found::new(&rt, StringRecords::new(rt.alloc()));
-    add_numbers(&rt, &mut list, 41);
-    let places = list.index.places();
-    let room = list.records.capacity();
-    list.index.clear();
-    list.records.clear();
-    same(&rt, list.find(5, &19u32.to_le_bytes()), None);
-    same(&rt, list.index.places(), places);
-    same(&rt, list.records.capacity(), room);
+    let mut records = StringRecords::new(rt.alloc());
+    let mut index = empty(&rt, rt.alloc());
+    add_numbers(&rt, &mut records, &mut index, 41);
+    let places = index.places();
+    let room = records.capacity();
+    index.clear();
+    records.clear();
+    same(&rt, index.find(&records, 5, &19u32.to_le_bytes()), None);
+    same(&rt, index.places(), places);
+    same(&rt, records.capacity(), room);
 }
 
 // With the 13 bytes in front of each of 3 strings, and of 6.
@@ -174,22 +177,31 @@ fn more_records_than_four_bytes_reach_are_refused(rt: HostRuntime) {
 }
 
 // A record says lengths up to 254.
+fn add_long(
+    rt: &impl Abort,
+    records: &mut StringRecords,
+    index: &mut RecordIndex,
+    zeros: &[u8; 260],
+)
+    requires { IsOver records.old.list index.old }
+    ensures { IsOver records.new.list index.new }
+{
+    for length in 250..260 {
+        add(rt, records, index, 1, &zeros[..length]);
+    }
+}
+
 #[test]
 fn long_strings_are_found(rt: HostRuntime) {
-    let mut list = Found::new(&rt, StringRecords::new(rt.alloc()));
+    let mut records = StringRecords::new(rt.alloc());
+    let mut index = empty(&rt, rt.alloc());
     let zeros = [0; 260];
-    for length in 250..260 {
-        list.add(&rt, 1, &zeros[..length]);
-    }
+    add_long(&rt, &mut records, &mut index, &zeros);
     let mut number = 0;
     for length in 250..260 {
-        same(&rt, list.find(1, &zeros[..length]), Some(number));
-        same(
-            &rt,
-            list.records.get(number as usize),
-            Some(&zeros[..length]),
-        );
+        same(&rt, index.find(&records, 1, &zeros[..length]), Some(number));
+        same(&rt, records.get(number as usize), Some(&zeros[..length]));
         number = number.wrapping_add(1);
     }
-    same(&rt, list.find(1, &zeros[..249]), None);
+    same(&rt, index.find(&records, 1, &zeros[..249]), None);
 }

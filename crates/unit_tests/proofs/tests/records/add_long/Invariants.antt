@@ -1,0 +1,5 @@
+use Rattle.intaglio_records.specs.Index.{IsOver}
+use Rattle.unit_tests.proofs.tests.records.add_long.Given as goal
+
+abbrev pub invariant-loop-length : goal.invariant-loop-length
+invariant-loop-length g l = IsOver l.records.list l.index

@@ -1,0 +1,5 @@
+use Rattle.intaglio_records.specs.Index.{IsOver}
+use Rattle.unit_tests.proofs.tests.records.add_numbers.Given as goal
+
+abbrev pub invariant-loop-number : goal.invariant-loop-number
+invariant-loop-number g l = IsOver l.records.list l.index
