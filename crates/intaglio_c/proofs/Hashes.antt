@@ -1,5 +1,6 @@
 -- Numbers of strings, one beside each: what holds of those so far, and of one more.
-use Rattle.intaglio_c.proofs.Names.{◌≡◌, ℕ, ◌+◌, ◌<◌, ◌≤◌, ◌⊎◌, inl, inr, List, [], ◌∷◌, ◌++◌, length, map, take, drop, sym, ap, subst, ◌∙◌, append_assoc, length-drop, arith, Some, slice_get, get_or, set, cases_lt, take_all, take_more_set, take-append-drop, drop_more, drop_all, get_or-drop, map_push, get_or_from_slice_get, slice_get-get_or, slice_get_within, AreFirst, IsHash, Seen, Kind, KeyedState}
+use Rattle.intaglio_c.proofs.Names.{◌≡◌, ℕ, ◌+◌, ◌<◌, ◌≤◌, ◌⊎◌, inl, inr, List, [], ◌∷◌, ◌++◌, length, map, take, drop, refl, sym, ap, subst, ◌∙◌, append_assoc, length-drop, arith, Some, slice_get, get_or, set, cases_lt, take_all, take_more_set, take-append-drop, drop_more, drop_all, get_or-drop, map_push, get_or_from_slice_get, slice_get-get_or, slice_get_within, AreFirst, IsHash, Seen, Kind, KeyedState}
+use Rattle.std.proofs.lemmas.List.{get_or-set_same, length-set}
 use Rattle.intaglio_c.proofs.Pieces.{drop_there, take_there}
 
 -- a loop that ends at the shorter of both
@@ -23,6 +24,14 @@ module _ (P : List ℕ → ℕ → Type 0) where
   first strings ns i used string there left are =
       subst (λ (rest : List ℕ). AreFirst P (string ∷ drop (i + 1) strings) rest) (drop_more ns used 0 left)
       (subst (λ (ws : List (List ℕ)). AreFirst P ws (drop used ns)) (drop_there strings i string there) are)
+
+  -- the number of one string, at the last place of a list
+  pub alone : (strings : List (List ℕ)) (ns : List ℕ) (i last n : ℕ) (string : List ℕ) → slice_get strings i ≡ Some string → length ns ≡ last + 1 → P string n → AreFirst P (drop i strings) (drop last (set ns last n))
+  alone strings ns i last n string there places is =
+      let within : last < length (set ns last n) = omega (arith, places, length-set ns last n) in
+      let none : drop (last + 1) (set ns last n) ≡ [] = drop_all (last + 1) (set ns last n) (omega (arith, places, length-set ns last n)) in
+      let one : drop last (set ns last n) ≡ n ∷ [] = rw (drop_more (set ns last n) last 0 within, get_or-set_same ns last n 0 (omega (arith, places)), none) refl in
+      subst (λ (rest : List ℕ). AreFirst P (drop i strings) rest) (sym one) (subst (λ (ws : List (List ℕ)). AreFirst P ws (n ∷ [])) (sym (drop_there strings i string there)) (is, tt))
 
   -- with the numbers of the strings that are left, those so far are those of all strings
   abbrev pub Continues : List (List ℕ) → List (List ℕ) → List ℕ → Type 0

@@ -1,9 +1,10 @@
 //! Groups of strings: all of a group are hashed, then what their look-ups will read is read, and only then is each
-//! looked up. So the cache misses of their look-ups overlap, and nothing is allocated.
+//! looked up. So the cache misses of their look-ups overlap, and nothing is allocated. Where the table is small, each
+//! string is hashed when it is looked up.
 ghost use Rattle.std.specs.Prelude.{◌≡◌, ◌<◌, ◌≤◌, ℕ, List, drop, length, map};
 ghost use Rattle.intaglio_c.specs.Batches.{AreAll, AreFirst, or_absent};
 
-use intaglio_core::GROUP;
+use intaglio_core::{AHEAD_FROM, GROUP};
 use intaglio_frozen::{StringList, TrustedFrozen};
 
 /// What strings are looked up in.
@@ -22,6 +23,9 @@ pub(crate) trait LookUps {
     fn hash(&self, bytes: &[u8]) -> u64
         ensures { is_hash self.now bytes.now result };
 
+    // How many strings there are.
+    fn count(&self) -> usize;
+
     // Reads what look-ups by these hashes will read.
     fn touch(&self, hashes: &[u64]);
 
@@ -32,7 +36,8 @@ pub(crate) trait LookUps {
         ensures exact { is_exact self.now → result ≡ number self.now bytes.now };
 }
 
-// Begins a group unless there are hashes left of the one before. Returns where those that are left begin.
+// Begins a group unless there are hashes left of the one before, of one string if the table is small. Returns where
+// those that are left begin.
 #[inline(always)]
 pub(crate) fn look_ahead<T: LookUps, L: StringList>(
     table: &T,
@@ -41,7 +46,7 @@ pub(crate) fn look_ahead<T: LookUps, L: StringList>(
     hashes: &mut [u64],
     used: usize,
 ) -> usize
-    requires within { place ≤ length (L.strings list.now) }
+    requires within { place < length (L.strings list.now) }
     requires left { AreFirst (T.is_hash table.now) (drop place (L.strings list.now)) (drop used hashes.old) }
     requires some { 0 < length hashes.old }
     ensures left { AreFirst (T.is_hash table.now) (drop place (L.strings list.now)) (drop result hashes.new) }
@@ -50,6 +55,11 @@ pub(crate) fn look_ahead<T: LookUps, L: StringList>(
 {
     if used < hashes.len() {
         return used;
+    }
+    if table.count() < AHEAD_FROM {
+        let last = hashes.len() - 1;
+        hashes[last] = table.hash(list.string(place));
+        return last;
     }
     hash_group(table, list, place, hashes);
     0
@@ -101,6 +111,10 @@ impl LookUps for TrustedFrozen<'_> {
     #[inline(always)]
     fn hash(&self, bytes: &[u8]) -> u64 {
         TrustedFrozen::hash(self, bytes)
+    }
+
+    fn count(&self) -> usize {
+        self.len()
     }
 
     fn touch(&self, hashes: &[u64]) {

@@ -167,6 +167,10 @@ impl LookUps for AnyTable {
         }
     }
 
+    fn count(&self) -> usize {
+        self.len()
+    }
+
     fn touch(&self, hashes: &[u64]) {
         match self {
             AnyTable::Owned(_, table) => touch_all(table, hashes),
