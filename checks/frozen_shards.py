@@ -23,6 +23,8 @@ NAME = "intaglio_dict"
 KEYS = tuple(int.from_bytes(it, "big") for it in (b"shards.0", b"shards.1"))
 OTHER = "not the shard that the index names: it is damaged, or of another split or merge"
 MISPLACED = "belongs to another shard, or there is another number of shards"
+NO_LINE = "not the line of a merged shard"
+NOT_ITS_FILE = "not the shard that its line is of: it is damaged, or was written again"
 # How often a process is killed.
 KILLS = 24
 
@@ -65,6 +67,14 @@ def folder_of(shards, kind=BYTES):
     """The files of a folder of these shards, without a map."""
     files = {f"{number}.dict": freeze(strings, kind) for number, strings in enumerate(shards)}
     return files | {"shards": index_of([id_of(it) for it in files.values()])}
+
+
+def line_of(number, indexes, table):
+    """What is written beside a shard that was merged of parts with these indexes."""
+    whole, size = b"".join(indexes), len(table)
+    (count,) = {len(ids_in(it) or []) for it in indexes}
+    head = f"intaglio shard 1 {number:016x} {count:016x} {sip_hash(0, 0, whole):016x} {sip_hash(0, 1, whole):016x} {size:016x}\n"
+    return head.encode() + index_of([id_of(table)]).split(b"\n", 1)[1]
 
 
 def strings_in(folder):
@@ -152,12 +162,15 @@ def of_parts(tool, chance, size, kind, count, folder):
         yield f"shard {shard}: what merge wrote", read(out) == freeze(strings, kind) and files_in(maps) == {
             f"{part}.map": packed(it) for part, it in enumerate(numbers)
         }
+        indexes = [read(f"{it}/shards") for it in names]
+        yield f"shard {shard}: its line", read(f"{out}.line") == line_of(shard, indexes, read(out))
     joins = [tool, "join", "-o", whole, *(f"{folder}/{it}.merged" for it in range(count))]
     yield "join", run(joins) == DONE and files_in(whole) == folder_of(of_shards, kind)
     strings = [*itertools.chain(*of_shards)]
     yield "the strings", strings_in(whole) == strings and {*strings} == {*itertools.chain(*lists)}
     counted = said(0, f"{count} shards joined", f"{len(strings)} strings joined")
     yield "join again", run([*joins, "--verbose"]) == counted and files_in(whole) == folder_of(of_shards, kind)
+    yield "the links", all(os.path.samefile(f"{folder}/{it}.merged", f"{whole}/{it}.dict") for it in range(count))
     for part, lines in enumerate(parts):
         codes, again = f"{folder}/{part}.codes", f"{folder}/{part}.again"
         words = ["renumber", "--into", whole, "--maps", os_maps, "--part", str(part), names[part], codes, "-o", again]
@@ -180,8 +193,10 @@ def made(folder, count=3):
         Path(f"{folder}/{part}.dict").write_bytes(freeze(strings))
     each = [merged(shards_of(it, count)[shard] for it in lists) for shard in range(count)]
     put(f"{folder}/whole", folder_of([strings for strings, _ in each]))
+    indexes = [read(f"{folder}/{part}/shards") for part in range(2)]
     for shard, (strings, numbers) in enumerate(each):
-        Path(f"{folder}/{shard}.merged").write_bytes(freeze(strings))
+        table = freeze(strings)
+        put(folder, {f"{shard}.merged": table, f"{shard}.merged.line": line_of(shard, indexes, table)})
         put(f"{folder}/maps/{shard}", {f"{part}.map": packed(it) for part, it in enumerate(numbers)})
     Path(f"{folder}/codes").write_bytes(packed([0, 1, 2]))
     return lists
@@ -248,8 +263,9 @@ def damages(tool, folder):
     # The shards are changed with the index: each string must be in its shard.
     one, two = shards_of(lists[0], 3)[:2], shards_of(lists[0], 3)[2]
     put(whole, folder_of([one[1], one[0], two]))
-    for words, given in commands_on(folder)[:-1]:
-        yield f"shards in another order: {words[0]}", refused(tool, words, given, f"{zero}: string 0 {MISPLACED}", folder)
+    for words, given in commands_on(folder):
+        named = shard if words[0] == "merge" else zero
+        yield f"shards in another order: {words[0]}", refused(tool, words, given, f"{named}: string 0 {MISPLACED}", folder)
     os.remove(index)
     for words, given in commands_on(folder)[:-1]:
         yield f"no index: {words[0]}", refused(tool, words, given, f"{whole}: Is a directory", folder)
@@ -311,17 +327,119 @@ def requests(tool, folder):
         told = f"{folder}/0: it has other shards; remove it, or name another folder"
         yield f"{words[0]}: a folder with other shards", refused(tool, words, b"", told, folder, 2)
         yield f"{words[0]}: after that", files_in(f"{folder}/0") == before
-    for words in ([shards[1], shards[0], shards[2]], [*shards[1:], shards[0]], shards[:2]):
-        status, wrote, told = run([tool, "join", *words, "-o", f"{folder}/new"])
-        # (of two shards of three, the first string that belongs elsewhere isn't known here)
-        places = [(words[0], 0)] if len(words) == 3 else itertools.product(words, range(99))
-        is_named = any(told == [f"{NAME}: {it}: string {n} {MISPLACED}"] for it, n in places)
-        yield f"join {words}", (status, wrote) == (1, b"") and is_named and not os.path.exists(f"{folder}/new")
-    for name in (shards[0], f"{whole}/0.dict"):
-        where = os.path.dirname(name)
-        told = said(2, f"{name}: this input is also the output {name}; nothing was written")
-        before = read(name)
-        yield f"join: a shard in {where}", run([tool, "join", name, "-o", where]) == told and read(name) == before
+    yield "join: at first", not os.path.exists(f"{folder}/new")
+
+
+def is_joined(tool, shards, folder, message):
+    """Whether `join` of these shards to a new folder is refused by a message, and makes no folder."""
+    return run([tool, "join", *shards, "-o", f"{folder}/new"]) == said(1, message) and not os.path.exists(f"{folder}/new")
+
+
+def lines(tool, folder):
+    """Yields what `join` says of shards that aren't all of one merge, in their order, and of lines and files that are damaged."""
+    parts, whole = made(folder), files_in(f"{folder}/whole")
+    shards = [f"{folder}/{it}.merged" for it in range(3)]
+    zero, one, two = shards
+    for number in range(3):
+        # The same parts in another order, and two parts in five shards.
+        for name, count in (("others", 3), ("five", 5)):
+            os.makedirs(f"{folder}/{name}", exist_ok=True)
+            for part in (0, 1):
+                put(f"{folder}/{name}/part{part}", folder_of(shards_of(parts[part], count)))
+            reverse = [f"{folder}/{name}/part{it}" for it in (1, 0)]
+            words = ["merge", "--shard", str(number), "-o", f"{folder}/{name}/{number}", *reverse]
+            yield f"merge: {name}", run([tool, *words]) == DONE
+    others, five = f"{folder}/others/1", f"{folder}/five/1"
+    texts = freeze([b"w"], TEXT)
+    put(folder, {"text": texts, "text.line": line_of(1, [read(f"{folder}/{it}/shards") for it in range(2)], texts)})
+    for given, message in (
+        ([one, zero, two], f"{one}: it is shard 1, where shard 0 is needed"),
+        ([zero, zero, two], f"{zero}: it is shard 0, where shard 1 is needed"),
+        ([zero, one, two, two], f"{zero}: it is one of 3 shards, and 4 are joined"),
+        ([zero, one], f"{zero}: it is one of 3 shards, and 2 are joined"),
+        ([zero, five, two], f"{five}: it is one of 5 shards, and 3 are joined"),
+        ([zero, others, two], f"{others}: it was merged of other parts than {zero}"),
+        ([zero, f"{folder}/text", two], f"{folder}/text: it has strings of another kind than {zero}"),
+    ):
+        yield f"join: {message}", is_joined(tool, given, folder, message)
+    line, was = f"{one}.line", read(f"{one}.line")
+    for what, data in (
+        ("empty", b""), ("cut", was[:-1]), ("longer", was + b"\n"), ("of another version", was.replace(b"shard 1", b"shard 2")),
+        ("in upper case", was.upper()), ("without an end", was.replace(b"\n", b" ")), ("an index", whole["shards"]),
+    ):
+        Path(line).write_bytes(data)
+        yield f"a line that is {what}", is_joined(tool, shards, folder, f"{line}: {NO_LINE}")
+    os.remove(line)
+    yield "no line", is_joined(tool, shards, folder, f"{line}: No such file or directory")
+    Path(line).write_bytes(was)
+    yield from other_files(tool, folder, shards, whole)
+
+
+def other_files(tool, folder, shards, whole):
+    """Yields what is said of a shard that isn't the one of its line: by its length or its header `join` sees it, and otherwise the
+    commands that open the folder."""
+    name, target = shards[1], f"{folder}/new"
+    table, strings = read(name), [*Frozen(read(name))]
+    swapped = freeze([strings[1], strings[0], *strings[2:]])
+    for what, data in (
+        ("cut", table[:-1]), ("longer", table + b"x"), ("no dictionary", b"x" * len(table)), ("of texts", freeze(strings, TEXT)),
+        ("empty", b""), ("with a string less", freeze([strings[0] + strings[1], *strings[2:]])),
+    ):
+        Path(name).write_bytes(data)
+        yield f"a file that is {what}", is_joined(tool, shards, folder, f"{name}: {NOT_ITS_FILE}")
+    os.remove(name)
+    yield "no file", is_joined(tool, shards, folder, f"{name}: No such file or directory")
+    os.mkdir(name)
+    yield "a folder in its place", is_joined(tool, shards, folder, f"{name}: {NOT_ITS_FILE}")
+    os.rmdir(name)
+    for what, data in (("with other text", table[:-1] + b"x"), ("with other strings", swapped)):
+        Path(name).write_bytes(data)
+        yield f"a file {what}", len(data) == len(table) and run([tool, "join", *shards, "-o", target]) == DONE
+        for command, given in (("check", b""), ("list", b""), ("decode", packed([0]))):
+            wanted = said(1, f"{target}/1.dict: {OTHER}")
+            yield f"a file {what}: {command}", run([tool, command, target], given) == wanted
+        shutil.rmtree(target)
+    Path(name).write_bytes(table)
+    yield "join", run([tool, "join", *shards, "-o", target]) == DONE and files_in(target) == whole
+    # A shard that is damaged when it has a link: it is the file in the folder too.
+    Path(name).write_bytes(table[:-1] + b"x")
+    yield "a linked file is damaged", run([tool, "check", target]) == said(1, f"{target}/1.dict: {OTHER}")
+    Path(name).write_bytes(table)
+    yield from places(tool, folder, shards, whole)
+
+
+def places(tool, folder, shards, whole):
+    """Yields what `join` makes of shards that are in the folder already, behind symbolic links, and on another file system."""
+    target = f"{folder}/in-place"
+    placed = [f"{target}/{it}.dict" for it in range(3)]
+    for number, path in enumerate(placed):
+        words = ["merge", "--shard", str(number), "-o", path, f"{folder}/0", f"{folder}/1"]
+        os.makedirs(target, exist_ok=True)
+        yield "merge into the folder", run([tool, *words]) == DONE
+    at = [os.stat(it).st_ino for it in placed]
+    yield "join in the folder", run([tool, "join", *placed, "-o", target]) == DONE
+    files = files_in(target) or {}
+    yield "the shards stay", [os.stat(it).st_ino for it in placed] == at and {it: files[it] for it in whole} == whole
+    before = files_in(target)
+    for given in (placed[::-1], [*placed[1:], placed[0]]):
+        told = said(2, f"{given[0]}: this input is also the output {given[0]}; nothing was written")
+        yield f"join {given}", run([tool, "join", *given, "-o", target]) == told and files_in(target) == before
+    links = [f"{folder}/link{it}" for it in range(3)]
+    for number, link in enumerate(links):
+        os.symlink(f"{number}.merged", link)
+        os.symlink(f"{number}.merged.line", f"{link}.line")
+    target = f"{folder}/of-links"
+    yield "join links", run([tool, "join", *links, "-o", target]) == DONE and files_in(target) == whole
+    yield "no link is left", not any(os.path.islink(f"{target}/{it}") for it in whole)
+    memory = "/dev/shm"
+    if not os.access(memory, os.W_OK) or os.stat(memory).st_dev == os.stat(folder).st_dev:
+        print(f"left out: {memory} is no other file system")
+        return
+    with tempfile.TemporaryDirectory(dir=memory) as other:
+        target = f"{other}/whole"
+        for _ in range(2):
+            joined = run([tool, "join", *shards, "-o", target])
+            yield "join to another file system", joined == DONE and files_in(target) == whole and not left(target)
 
 
 def recipes(tool, folder):
@@ -397,6 +515,41 @@ def kills(tool, folder):
         yield f"the folder after turn {turn}", files_in(target) == new
 
 
+def merge_kills(tool, folder):
+    """A merge of a shard that is killed leaves the old or the new shard, and its line or none; a join that is killed leaves no index,
+    or the whole folder."""
+    chance, parts = random.Random(6), [[b"w%d" % it for it in range(start, start + 3_000)] for start in (0, 2_000)]
+    for part, strings in enumerate(parts):
+        put(f"{folder}/{part}", folder_of(shards_of(strings, 2)))
+    indexes = [read(f"{folder}/{it}/shards") for it in range(2)]
+    tables = [freeze(merged(shards_of(it, 2)[shard] for it in parts)[0]) for shard in range(2)]
+    outs, target = [f"{folder}/{it}.merged" for it in range(2)], f"{folder}/whole"
+    merges = [["merge", "--shard", str(it), "-o", outs[it], "--maps", f"{folder}/maps{it}", f"{folder}/0", f"{folder}/1"] for it in (0, 1)]
+    old, joins = freeze([b"another"]), ["join", *outs, "-o", target]
+    began = time.monotonic()
+    yield "merge", all(run([tool, *it]) == DONE for it in merges) and [read(it) for it in outs] == tables
+    took = (time.monotonic() - began) / 2
+    for turn in range(KILLS):
+        put(folder, {"0.merged": old, "0.merged.line": line_of(0, indexes, old)})
+        killed(tool, merges[0], chance.random() * took * 1.2)
+        now, line = read(outs[0]), read(f"{outs[0]}.line") if os.path.exists(f"{outs[0]}.line") else None
+        yield f"merge: killed in turn {turn}", now in (old, tables[0]) and line in (None, line_of(0, indexes, now))
+        yield f"merge: again after turn {turn}", run([tool, *merges[0]]) == DONE and read(outs[0]) == tables[0]
+        shutil.rmtree(target, ignore_errors=True)
+        killed(tool, joins, chance.random() * took / 4)
+        yield f"join: killed in turn {turn}", is_whole(target, {}, {f"{it}.dict": table for it, table in enumerate(tables)} | {
+            "shards": index_of([id_of(it) for it in tables])
+        })
+        yield f"join: again after turn {turn}", run([tool, *joins]) == DONE and strings_in(target) != []
+
+
+def killed(tool, words, seconds):
+    process = subprocess.Popen([tool, *words])
+    time.sleep(seconds)
+    process.send_signal(signal.SIGKILL)
+    process.wait()
+
+
 def failing(tool, library, folder):
     """The N-th request for memory, read or write fails, for each N until none does: the folder has no index then, or is whole."""
     lists = made(folder)
@@ -417,6 +570,19 @@ def failing(tool, library, folder):
                     yield f"{words[0]}: {setting}={n}: {status}, {told}", False
                     break
             yield f"{words[0]}: {setting}: {n - 1} failed in turn", n > 1
+    words, out = ["merge", "--shard", "1", f"{folder}/0", f"{folder}/1", "-o"], f"{folder}/1.merged"
+    table, line = read(out), read(f"{out}.line")
+    for setting, ending in failures.items():
+        for n in itertools.count(1):
+            status, wrote, told = run([tool, *words, out], LD_PRELOAD=library, **{setting: str(n)})
+            is_line = not os.path.exists(f"{out}.line") or read(f"{out}.line") == line
+            if (status, wrote, told) == DONE and is_line and os.path.exists(f"{out}.line"):
+                break
+            is_reported = told[-1:] and told[-1].startswith(NAME) and told[-1].endswith(f": {ending}")
+            if status != 1 or wrote or not is_reported or read(out) != table or not is_line:
+                yield f"merge --shard: {setting}={n}: {status}, {told}", False
+                break
+        yield f"merge --shard: {setting}: {n - 1} failed in turn", n > 1
 
 
 def cases(tool, library):
@@ -425,8 +591,10 @@ def cases(tool, library):
         yield f"{size} lines in {count} shards", functools.partial(of_parts, tool, random.Random(size), size, kind, count)
     yield "damaged folders of shards", functools.partial(damages, tool)
     yield "requests on shards", functools.partial(requests, tool)
+    yield "lines of merged shards", functools.partial(lines, tool)
     yield "docs/COLUMNS.md, shards", functools.partial(recipes, tool)
     yield "killed", functools.partial(kills, tool)
+    yield "killed merges", functools.partial(merge_kills, tool)
     yield "failing devices", functools.partial(failing, tool, library)
 
 

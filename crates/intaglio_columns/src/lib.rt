@@ -18,4 +18,4 @@ pub use error::ShardsError;
 pub use from_string::{FromString, are_texts};
 pub use merging::{Merged, merge_tables};
 pub use sharding::{shard_of, split, split_map};
-pub use shards::Shards;
+pub use shards::{Shards, first_misplaced};

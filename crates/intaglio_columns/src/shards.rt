@@ -172,8 +172,21 @@ fn check_each(tables: &[Frozen<'_>], count: u32) -> Result<(), ShardsError>
     Ok(())
 }
 
-// The first string that belongs to another shard.
-fn first_misplaced(table: &Frozen<'_>, count: u32, shard: u32) -> Option<u32>
+/// The first string of a table that belongs to another shard than this one, of `count` ones.
+///
+/// ```
+/// # use intaglio::SymbolTable;
+/// # use intaglio_columns::{first_misplaced, shard_of};
+/// # use intaglio_frozen::{Frozen, Kind, freeze};
+/// # let mut words = SymbolTable::new(rt.alloc())?;
+/// # let _symbol = words.get_or_intern("rose")?;
+/// # let bytes = freeze(rt.alloc(), &words, Kind::Text, 1, 2)?;
+/// let table = Frozen::open(&bytes)?;
+/// let shard = shard_of(b"rose", 4);
+/// assert!(rt; first_misplaced(&table, 4, shard) == None);
+/// assert!(rt; first_misplaced(&table, 4, 3 - shard) == Some(0));
+/// ```
+pub fn first_misplaced(table: &Frozen<'_>, count: u32, shard: u32) -> Option<u32>
     requires { 0 < count }
     ensures { MatchOption result (BelongTo count shard table.now) (IsMisplaced count shard table.now) }
 {

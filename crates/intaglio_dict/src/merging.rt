@@ -11,7 +11,9 @@ use intaglio_dict_io::output::{Payload, write_to};
 use intaglio_dict_io::report;
 use intaglio_dict_io::report::Tell;
 use intaglio_dict_shards::checking::{common_kind, tables_of};
-use intaglio_dict_shards::parts::{names_in, shard_of_folders};
+use intaglio_dict_shards::lines::{remove_line, write_shard};
+use intaglio_dict_shards::parts::{check_strings, names_in, shard_of_folders};
+use intaglio_dictionary::merged_shard::ShardPlace;
 use intaglio_dictionary::merging::{merge, write_codes};
 use intaglio_frozen::{Frozen, Kind};
 use intaglio_symbol::Symbol;
@@ -26,6 +28,8 @@ struct Merging<'a, 't, R> {
     kind: Kind,
     keys: Option<(u64, u64)>,
     folder: Option<&'a str>,
+    // The shard that they are, if a shard is merged.
+    place: Option<ShardPlace>,
     // How many strings the dictionaries have together.
     count: usize,
     shown: Shown<'a, R>,
@@ -62,6 +66,9 @@ impl<R: Files + RandomSource + Print + Tell + AllocGlobal> Payload<R> for Mergin
         ) {
             Ok(maps) => {
                 self.count = count_of(&maps);
+                if self.place.is_some() {
+                    remove_line(rt, name)?;
+                }
                 self.write_maps(rt, &maps)
             }
             Err(refused) => Err(refusal(rt, name, refused, output.error)),
@@ -118,32 +125,38 @@ pub fn merge_dictionaries<R: Files + RandomSource + Input + Print + Tell + Alloc
     match found.get_str("SHARD") {
         Some(typed) => {
             let shard = shard_of_folders(rt, names, typed)?;
-            merge_files(rt, found, keys, &names_in(rt, &shard.names)?, &shard.files)
+            let names = names_in(rt, &shard.names)?;
+            merge_files(rt, found, keys, &names, &shard.files, Some(shard.place))
         }
         None => {
             let all = whole_files(rt, names, found.get_flag("PROGRESS"))?;
-            merge_files(rt, found, keys, names, &all)
+            merge_files(rt, found, keys, names, &all, None)
         }
     }
 }
 
-// Merges the dictionaries in these files.
+// Merges the dictionaries in these files, which may be one shard of several folders.
 fn merge_files<R: Files + RandomSource + Print + Tell + AllocGlobal>(
     rt: &R,
     found: &ArgMatches<'_>,
     keys: Option<(u64, u64)>,
     names: &[&str],
     all: &[Vec<u8>],
+    place: Option<ShardPlace>,
 ) -> Result<(), u8> {
     let Some(output) = found.get_str("OUT") else {
         return Err(2);
     };
     let tables = tables_of(rt, names, all)?;
+    if let Some(place) = place {
+        check_strings(rt, names, &tables, place)?;
+    }
     let merging = Merging {
         tables: &tables,
         kind: common_kind(all),
         keys,
         folder: found.get_str("FOLDER"),
+        place,
         count: 0,
         shown: Shown::new(rt, found.get_flag("PROGRESS")),
     };
@@ -156,11 +169,26 @@ fn merge_to<R: Files + RandomSource + Print + Tell + AllocGlobal>(
     mut merging: Merging<'_, '_, R>,
     is_counted: bool,
 ) -> Result<(), u8> {
-    write_to(rt, output, &mut merging)?;
+    match merging.place {
+        Some(place) => merge_shard(rt, output, &mut merging, place)?,
+        None => write_to(rt, output, &mut merging)?,
+    }
     if is_counted {
         report::count(rt, merging.tables.len() as u64, "dictionaries merged");
         report::count(rt, merging.count as u64, "strings merged");
         report::count(rt, merging.shown.distinct as u64, "distinct strings");
     }
     Ok(())
+}
+
+// Merges a shard, and writes it with the line beside it. The line that was there is removed before anything is written.
+fn merge_shard<R: Files + RandomSource + Print + Tell + AllocGlobal>(
+    rt: &R,
+    output: &str,
+    merging: &mut Merging<'_, '_, R>,
+    place: ShardPlace,
+) -> Result<(), u8> {
+    let mut made = Noticing::new(Vec::new(rt.alloc()));
+    merging.write(rt, output, &mut made)?;
+    write_shard(rt, output, &made.stream, place)
 }

@@ -39,6 +39,11 @@ impl Named {
         })
     }
 
+    /// Whether its file is this one.
+    pub fn leads_to(&self, file: &Identity) -> bool {
+        self.identity.is_same(file)
+    }
+
     // Whether this output is also the other one.
     fn is_output(&self, other: &Named) -> bool {
         self.name == other.name || self.identity.is_same(&other.identity)

@@ -30,6 +30,10 @@ enum Takes {
     Maps(&'static str),
     // The name of the folder for shards, after -o or --output.
     Folder,
+    // The same, for shards that are inputs.
+    Joined,
+    // One value, after this option, with which the value of another argument is an output that gets a line.
+    Shard(&'static str, &'static str),
     // The name of another input, after this option.
     Read(&'static str),
     // The name of an input, by its position.
@@ -82,11 +86,9 @@ const OUT: &str = "the output, which is replaced when the new one is whole; - is
 
 const OUTPUT: Argument = ("OUT", Takes::Output(false), OUT);
 
-const SHARD_FOLDER: Argument = (
-    "FOLDER",
-    Takes::Folder,
-    "the folder, which is made if it isn't there",
-);
+const FOLDER_HELP: &str = "the folder, which is made if it isn't there";
+
+const SHARD_FOLDER: Argument = ("FOLDER", Takes::Folder, FOLDER_HELP);
 
 const KEYS: Argument = (
     "KEYS",
@@ -267,7 +269,7 @@ static SUBCOMMANDS: [Subcommand; 15] = [
         &[
             (
                 "SHARD",
-                Takes::Value("shard"),
+                Takes::Shard("shard", "OUT"),
                 "merges the shards with this number, counted from 0, of dictionaries that are folders of shards",
             ),
             ("OUT", Takes::Output(true), OUT),
@@ -327,11 +329,15 @@ static SUBCOMMANDS: [Subcommand; 15] = [
     ),
     (
         "join",
-        "Writes shards that were merged to a folder, with an index, after a check that each string is in its shard",
+        "Puts shards that were merged into a folder, with an index, by hard links where there can be some",
         &[
-            SHARD_FOLDER,
+            ("FOLDER", Takes::Joined, FOLDER_HELP),
             VERBOSE,
-            ("DICT", Takes::Many(true), "the shards in their order"),
+            (
+                "DICT",
+                Takes::Many(true),
+                "the shards in their order, each with the line that merge --shard wrote beside it",
+            ),
         ],
     ),
     (
@@ -397,6 +403,11 @@ fn add_files<'a>(
         Takes::Written(_) | Takes::WrittenInstead(_, _) => files.add_written(found.get_str(row.0)),
         Takes::Maps(_) => files.add_folder(found.get_str(row.0)),
         Takes::Folder => files.add_shards(found.get_str(row.0)),
+        Takes::Joined => files.add_joined(found.get_str(row.0)),
+        Takes::Shard(_, output) if found.contains_id(row.0) => {
+            files.add_line(found.get_str(output));
+            Ok(())
+        }
         Takes::Read(_) => files.add_input(found.get_str(row.0)),
         _ => Ok(()),
     }
@@ -445,7 +456,8 @@ fn argument<'a>(alloc: Global, row: Argument) -> Result<Arg<'a>, AllocError> {
         Takes::Flag(option) => Ok(argument.long(option).action(ArgAction::SetTrue)),
         Takes::Value(option) | Takes::Written(option) | Takes::Maps(option) | Takes::Read(option) =>
             Ok(argument.long(option)),
-        Takes::Folder => Ok(argument.short('o').long("output").required(true)),
+        Takes::Shard(option, _) => Ok(argument.long(option)),
+        Takes::Folder | Takes::Joined => Ok(argument.short('o').long("output").required(true)),
         Takes::Output(is_required) => Ok(argument.short('o').long("output").required(is_required)),
         Takes::OutputOr(_) => Ok(argument.short('o').long("output")),
         Takes::One => Ok(argument.required(true)),

@@ -1,6 +1,6 @@
 //! The files of a command, and whether each output is a file of its own.
 use crate::apart::{Named, check_inputs, check_messages, check_outputs, streams_of};
-use crate::folders::add_all_entries;
+use crate::folders::{add_all_entries, index_name, line_name, shard_name};
 use crate::identity::Identity;
 use crate::input::{INPUT, STANDARD, STANDARD_INPUT};
 use crate::maps::{check_stale, map_name};
@@ -32,6 +32,10 @@ pub struct CommandFiles<'a> {
     folder: Option<&'a str>,
     // The folder for shards.
     shards: Option<&'a str>,
+    // The folder into which the inputs are joined, each of which has a line beside it.
+    joined: Option<&'a str>,
+    // The output that gets a line beside it.
+    merged: Option<&'a str>,
 }
 
 impl<'a> CommandFiles<'a> {
@@ -44,6 +48,8 @@ impl<'a> CommandFiles<'a> {
             has_output: false,
             folder: None,
             shards: None,
+            joined: None,
+            merged: None,
         }
     }
 
@@ -78,6 +84,18 @@ impl<'a> CommandFiles<'a> {
         self.has_output = true;
         self.shards = name;
         self.add_written(name)
+    }
+
+    /// Adds the folder into which the inputs are joined, if one is named. Each input has a line beside it.
+    pub fn add_joined(&mut self, name: Option<&'a str>) -> Result<(), AllocError> {
+        self.has_output = true;
+        self.joined = name;
+        self.add_written(name)
+    }
+
+    /// Adds the line beside an output, if the output is a file.
+    pub fn add_line(&mut self, output: Option<&'a str>) {
+        self.merged = output.filter(|name| *name != STANDARD);
     }
 
     /// Adds another input, if one is named.
@@ -124,15 +142,20 @@ impl<'a> CommandFiles<'a> {
         check_outputs(rt, &outputs)
     }
 
-    // The inputs, and what is in those that are folders.
+    // The inputs, what is in those that are folders, and the lines beside shards.
     fn named_inputs<R: Files + AllocGlobal>(&self, rt: &R) -> io::Result<Vec<Named>> {
         let mut inputs = streams_of(rt, &self.inputs, INPUT_PATH, INPUT)?;
         add_folders(rt, &self.inputs, &mut inputs)?;
         add_folders(rt, &self.others, &mut inputs)?;
+        if self.joined.is_some() {
+            for name in &self.inputs {
+                inputs.push(Named::of(rt, line_name(rt.alloc(), name)?)?)?;
+            }
+        }
         Ok(inputs)
     }
 
-    // The outputs, the maps in the folder, and what is in the folder for shards.
+    // The outputs, the maps in the folder, what is in the folder for shards, what is joined, and the line of a shard.
     fn named_outputs<R: Files + AllocGlobal>(&self, rt: &R) -> io::Result<Vec<Named>> {
         let mut outputs = streams_of(rt, &self.outputs, OUTPUT_PATH, OUTPUT)?;
         if let Some(folder) = self.folder {
@@ -144,7 +167,31 @@ impl<'a> CommandFiles<'a> {
         if let Some(folder) = self.shards {
             add_all_entries(rt, folder, &mut outputs)?;
         }
+        if let Some(folder) = self.joined {
+            self.add_places(rt, folder, &mut outputs)?;
+        }
+        if let Some(name) = self.merged {
+            outputs.push(Named::of(rt, line_name(rt.alloc(), name)?)?)?;
+        }
         Ok(outputs)
+    }
+
+    // Adds the index and the shards of a folder into which the inputs are joined. An input that is at its place already
+    // isn't written.
+    fn add_places<R: Files + AllocGlobal>(
+        &self,
+        rt: &R,
+        folder: &str,
+        outputs: &mut Vec<Named>,
+    ) -> io::Result<()> {
+        outputs.push(Named::of(rt, index_name(rt.alloc(), folder)?)?)?;
+        for (number, input) in self.inputs.iter().enumerate() {
+            let place = Named::of(rt, shard_name(rt.alloc(), folder, number)?)?;
+            if !place.leads_to(&Identity::of(rt, input)?) {
+                outputs.push(place)?;
+            }
+        }
+        Ok(())
     }
 }
 

@@ -20,6 +20,11 @@ pub fn shard_name(alloc: Global, folder: &str, number: usize) -> Result<String, 
     format!(in alloc; "{folder}/{number}.dict")
 }
 
+/// The name of the file that says which shard a merged one is. It is beside the shard's own.
+pub fn line_name(alloc: Global, shard: &str) -> Result<String, AllocError> {
+    format!(in alloc; "{shard}.line")
+}
+
 /// Whether a folder with an index has this name.
 ///
 /// # Errors

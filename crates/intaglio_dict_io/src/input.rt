@@ -4,8 +4,10 @@ use crate::metered::{Meter, Metered};
 use crate::report;
 use crate::report::Tell;
 use clap::ArgMatches;
+use intaglio_lines::error::StreamError;
 use intaglio_lines::read::read_all;
 use std::alloc::AllocError;
+use std::io::Read;
 use std::rt::Files;
 use std::{fs, str};
 
@@ -66,6 +68,19 @@ pub fn rest_of<R: Files + Input + Tell + AllocGlobal>(
     match read_all(rt.alloc(), input) {
         Ok(bytes) => Ok(bytes),
         Err(fault) => Err(report::stopped(rt, fault, name_of(name), input.error)),
+    }
+}
+
+/// Reads the first bytes of a file, which has as many. Otherwise the exit status after a message.
+pub fn read_front<R: Files + Input + Tell + AllocGlobal>(
+    rt: &R,
+    name: &str,
+    front: &mut [u8],
+) -> Result<(), u8> {
+    let mut input = Metered::open(rt, name, Meter::silent())?;
+    match input.read_exact(front) {
+        Ok(()) => Ok(()),
+        Err(_) => Err(report::stopped(rt, StreamError::Read, name, input.error)),
     }
 }
 

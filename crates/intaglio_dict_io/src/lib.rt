@@ -12,6 +12,7 @@ pub mod maps;
 pub mod metered;
 pub mod noticing;
 pub mod output;
+pub mod putting;
 pub mod replacing;
 pub mod report;
 pub mod symbols;

@@ -60,8 +60,8 @@ pub fn write_to<R: Files + RandomSource + Print + Tell + AllocGlobal, C: Payload
     write_beside(rt, &place, content)
 }
 
-// Whether a device or a pipe is there.
-fn is_stream<R: Files>(rt: &R, name: &str) -> bool {
+/// Whether a device or a pipe is there.
+pub fn is_stream<R: Files>(rt: &R, name: &str) -> bool {
     match fs::metadata(rt, name) {
         Ok(found) => found.file_type().is_char_device() || found.file_type().is_fifo(),
         Err(_) => false,

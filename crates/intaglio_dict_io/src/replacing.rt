@@ -65,6 +65,24 @@ impl<'a> Place<'a> {
         Err(report::failed(rt, self.name, "no name is free beside it"))
     }
 
+    /// Makes a hard link to a file in the folder of the place, and returns its path, or none if there can't be one.
+    /// Otherwise the exit status after a message.
+    pub fn link_beside<R: Files + RandomSource + Tell + AllocGlobal>(
+        &self,
+        rt: &R,
+        original: Path<'_>,
+    ) -> Result<Option<PathBuf>, u8> {
+        for _ in 0..MAX_NAMES {
+            let path = self.draw_path(rt)?;
+            match fs::hard_link(rt, original, path.as_path()) {
+                Ok(()) => return Ok(Some(path)),
+                Err(e) if e.kind() == ErrorKind::AlreadyExists => {}
+                Err(_) => return Ok(None),
+            }
+        }
+        Err(report::failed(rt, self.name, "no name is free beside it"))
+    }
+
     // Makes a file that isn't there. The number of a standard stream that is closed is free, and what is
     // written to that stream would go into the file: so it gets a copy of the descriptor, which is above 2.
     fn create<R: Files>(&self, rt: &R, path: Path<'_>) -> io::Result<R::File> {
@@ -114,12 +132,33 @@ impl<'a> Place<'a> {
         }
     }
 
+    /// Renames a hard link, whose file is whole, to this place. The file keeps its mode, which it has by its other
+    /// names too. Otherwise the exit status after a message.
+    pub fn replace_by_link<R: Files + Tell + AllocGlobal>(
+        &self,
+        rt: &R,
+        path: Path<'_>,
+    ) -> Result<(), u8> {
+        if let Err(e) = sync_at(rt, path) {
+            return Err(report::of_file(rt, path.as_str(), e));
+        }
+        match fs::rename(rt, path, self.path.as_path()) {
+            Ok(()) => Ok(()),
+            Err(e) => Err(report::of_file(rt, self.name, e)),
+        }
+    }
+
     fn sync<F: OpenFile>(&self, file: &F) -> io::Result<()> {
         if let Some(mode) = self.mode {
             file.set_permissions(Permissions::from_mode(mode))?;
         }
         file.sync_all()
     }
+}
+
+// Syncs the file at this path.
+fn sync_at<R: Files>(rt: &R, path: Path<'_>) -> io::Result<()> {
+    fs::open(rt, path)?.sync_all()
 }
 
 /// The path to which symbolic links lead from this one, whether or not a file is there. (The system has refused a

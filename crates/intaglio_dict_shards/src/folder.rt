@@ -16,11 +16,32 @@ pub fn read_ids<R: Files + Input + Tell + AllocGlobal>(
     rt: &R,
     folder: &str,
 ) -> Result<Vec<DictionaryId>, u8> {
+    let text = read_index_text(rt, folder)?;
+    ids_in(rt, folder, &text)
+}
+
+/// The text of a folder's index. Otherwise the exit status after a message.
+pub fn read_index_text<R: Files + Input + Tell + AllocGlobal>(
+    rt: &R,
+    folder: &str,
+) -> Result<Vec<u8>, u8> {
+    match index_name(rt.alloc(), folder) {
+        Ok(name) => whole(rt, name.as_str(), &mut Meter::silent()),
+        Err(_) => Err(report::out_of_memory(rt)),
+    }
+}
+
+/// The shards that the text of a folder's index names, of which there is at least one. Otherwise the exit status after
+/// a message.
+pub fn ids_in<R: Tell + AllocGlobal>(
+    rt: &R,
+    folder: &str,
+    text: &[u8],
+) -> Result<Vec<DictionaryId>, u8> {
     let Ok(name) = index_name(rt.alloc(), folder) else {
         return Err(report::out_of_memory(rt));
     };
-    let text = whole(rt, name.as_str(), &mut Meter::silent())?;
-    match read_index(rt.alloc(), &text) {
+    match read_index(rt.alloc(), text) {
         Ok(ids) if ids.is_empty() => Err(report::failed(rt, name.as_str(), "no shards")),
         Ok(ids) => Ok(ids),
         Err(IndexError::Memory) => Err(report::out_of_memory(rt)),

@@ -5,6 +5,7 @@
 pub mod checking;
 pub mod folder;
 pub mod joining;
+pub mod lines;
 pub mod parts;
 pub mod renumbering;
 pub mod splitting;

@@ -1,10 +1,15 @@
 //! The same shard of the folders of several parts.
-use crate::folder::{read_ids, read_shard};
+use crate::folder::{ids_in, misplaced, read_index_text, read_shard};
 use intaglio_column_file::DictionaryId;
+use intaglio_columns::first_misplaced;
 use intaglio_dict_io::folders::shard_name;
 use intaglio_dict_io::report;
 use intaglio_dict_io::report::Tell;
 use intaglio_dict_io::symbols::plain_number;
+use intaglio_dictionary::merged_shard::ShardPlace;
+use intaglio_frozen::Frozen;
+use intaglio_hash::KeyedHasher;
+use std::hash::Hasher;
 use std::rt::Files;
 
 /// A shard of several folders.
@@ -14,6 +19,31 @@ pub struct ShardOfParts {
     pub names: Vec<String>,
     /// The bytes of each file.
     pub files: Vec<Vec<u8>>,
+    /// Which shard of these folders it is.
+    pub place: ShardPlace,
+}
+
+// The hashes of the indexes of folders.
+#[derive(Drop)]
+struct PartHashers {
+    first: KeyedHasher,
+    second: KeyedHasher,
+}
+
+impl PartHashers {
+    // Those of no folder.
+    fn new() -> PartHashers {
+        PartHashers {
+            first: KeyedHasher::with_keys(0, 0),
+            second: KeyedHasher::with_keys(0, 1),
+        }
+    }
+
+    // Adds the index of another folder.
+    fn add(&mut self, index: &[u8]) {
+        self.first.write(index);
+        self.second.write(index);
+    }
 }
 
 /// The shard with this number, as it was typed, of folders that have the same number of shards. Otherwise the exit
@@ -27,26 +57,57 @@ pub fn shard_of_folders<R: Files + Input + Tell + AllocGlobal>(
         let needed = "the number of a shard is needed, counted from 0";
         return Err(report::wrong_number(rt, "--shard", typed, needed));
     };
-    let mut shard = ShardOfParts {
-        names: Vec::new(rt.alloc()),
-        files: Vec::new(rt.alloc()),
-    };
-    let mut count = 0;
+    let (mut names, mut files) = (Vec::new(rt.alloc()), Vec::new(rt.alloc()));
+    let (mut count, mut parts) = (0, PartHashers::new());
     for folder in folders {
-        let ids = read_ids(rt, folder)?;
+        let index = read_index_text(rt, folder)?;
+        let ids = ids_in(rt, folder, &index)?;
         if count == 0 {
             count = ids.len();
         }
         let id = id_of_shard(rt, folder, &ids, count, number)?;
+        parts.add(&index);
         let Ok(name) = shard_name(rt.alloc(), folder, number) else {
             return Err(report::out_of_memory(rt));
         };
         let bytes = read_shard(rt, folder, number, id)?;
-        if shard.names.push(name).is_err() || shard.files.push(bytes).is_err() {
+        if names.push(name).is_err() || files.push(bytes).is_err() {
             return Err(report::out_of_memory(rt));
         }
     }
-    Ok(shard)
+    let place = ShardPlace {
+        number: number as u64,
+        count: count as u64,
+        parts0: parts.first.finish(),
+        parts1: parts.second.finish(),
+    };
+    Ok(ShardOfParts {
+        names,
+        files,
+        place,
+    })
+}
+
+/// Checks that each string of the parts' files belongs to the shard. Otherwise the exit status after a message that
+/// names the file.
+pub fn check_strings<R: Tell>(
+    rt: &R,
+    names: &[&str],
+    tables: &[Frozen<'_>],
+    place: ShardPlace,
+) -> Result<(), u8> {
+    let (Ok(count), Ok(number)) = (u32::try_from(place.count), u32::try_from(place.number)) else {
+        return Err(report::of_input(rt, "too many shards"));
+    };
+    for (name, table) in names.iter().zip(tables.iter()) {
+        if count == 0 {
+            return Err(2);
+        }
+        if let Some(string) = first_misplaced(table, count, number) {
+            return Err(misplaced(rt, name, string));
+        }
+    }
+    Ok(())
 }
 
 // What the shard with this number of a folder is, which must have this many.

@@ -1,5 +1,6 @@
 //! Writes folders of shards.
 use crate::checking::id_of;
+use intaglio_column_file::DictionaryId;
 use intaglio_dict_io::folders::{index_name, shard_name, split_map_name};
 use intaglio_dict_io::input::whole;
 use intaglio_dict_io::maps::make_folder;
@@ -25,9 +26,8 @@ pub fn write_folder<R: Files + RandomSource + Input + Print + Tell + AllocGlobal
     all: &[Vec<u8>],
     map: Option<&[u8]>,
 ) -> Result<(), u8> {
-    let index = index_of(rt, folder, all)?;
-    check_index(rt, folder, &index)?;
-    make_folder(rt, folder)?;
+    let ids = ids_of(rt, folder, all)?;
+    let index = begin_folder(rt, folder, &ids)?;
     for (number, bytes) in all.iter().enumerate() {
         write_named(rt, shard_name(rt.alloc(), folder, number), bytes)?;
     }
@@ -37,18 +37,34 @@ pub fn write_folder<R: Files + RandomSource + Input + Print + Tell + AllocGlobal
     write_named(rt, index_name(rt.alloc(), folder), &index)
 }
 
-// The index of these shards.
-fn index_of<R: Tell + AllocGlobal>(rt: &R, folder: &str, all: &[Vec<u8>]) -> Result<Vec<u8>, u8> {
+/// Makes the folder of these shards if it isn't there, and returns the index that is to be written when they are in it.
+/// Otherwise the exit status after a message: a folder that has another index stays as it is.
+pub fn begin_folder<R: Files + Input + Tell + AllocGlobal>(
+    rt: &R,
+    folder: &str,
+    ids: &[DictionaryId],
+) -> Result<Vec<u8>, u8> {
+    let Ok(index) = write_index(rt.alloc(), ids) else {
+        return Err(report::out_of_memory(rt));
+    };
+    check_index(rt, folder, &index)?;
+    make_folder(rt, folder)?;
+    Ok(index)
+}
+
+// What these shards are.
+fn ids_of<R: Tell + AllocGlobal>(
+    rt: &R,
+    folder: &str,
+    all: &[Vec<u8>],
+) -> Result<Vec<DictionaryId>, u8> {
     let mut ids = Vec::new(rt.alloc());
     for bytes in all {
         if ids.push(id_of(rt, folder, bytes)?).is_err() {
             return Err(report::out_of_memory(rt));
         }
     }
-    match write_index(rt.alloc(), &ids) {
-        Ok(index) => Ok(index),
-        Err(_) => Err(report::out_of_memory(rt)),
-    }
+    Ok(ids)
 }
 
 // Refuses a folder that has another index.
@@ -77,8 +93,8 @@ fn check_index<R: Files + Input + Tell + AllocGlobal>(
     }
 }
 
-// Writes a file by its name, if there is memory for that.
-fn write_named<R: Files + RandomSource + Print + Tell + AllocGlobal>(
+/// Writes a file by its name, if there is memory for that. Otherwise the exit status after a message.
+pub fn write_named<R: Files + RandomSource + Print + Tell + AllocGlobal>(
     rt: &R,
     name: Result<String, AllocError>,
     bytes: &[u8],

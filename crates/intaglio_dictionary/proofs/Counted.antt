@@ -32,7 +32,8 @@ sum-front [] (suc i) = omega arith
 sum-front (c ∷ counts) zero = omega arith
 sum-front (c ∷ counts) (suc i) = omega (arith, sum-front counts i)
 
-sum-push : (counts : List ℕ) (count : ℕ) → sum_of (counts ++ count ∷ []) ≡ sum_of counts + count
+-- one count more
+pub sum-push : (counts : List ℕ) (count : ℕ) → sum_of (counts ++ count ∷ []) ≡ sum_of counts + count
 sum-push [] count = omega arith
 sum-push (c ∷ counts) count = omega (arith, sum-push counts count)
 

@@ -10,3 +10,4 @@ pub mod Cut
 pub mod Marked
 pub mod Ranged
 pub mod Indexed
+pub mod Merged

@@ -23,3 +23,13 @@ abbrev pub IsMapFault : List ℕ → List (List ℕ) → MapError → Type 0
 IsMapFault counts maps (NoString s) = AreWithin (take s counts) (take s maps) × HasNoString (get_or counts s 0) (get_or maps s [])
 IsMapFault counts maps TooMany = (missing < sum_of counts) ⊎ ((s : ℕ) × (missing < length (get_or maps s [])))
 IsMapFault counts maps Memory = ⊤
+
+-- why the map of a part wasn't read as codes
+abbrev pub IsSplitFault : List ℕ → MapError → Type 0
+IsSplitFault split (NoString s) = ⊥
+IsSplitFault split TooMany = missing < length split
+IsSplitFault split Memory = ⊤
+
+-- why the map of a part and those of its shards weren't joined
+abbrev pub IsPartMapFault : List ℕ → List (List ℕ) → List ℕ → MapError → Type 0
+IsPartMapFault counts maps split e = IsMapFault counts maps e ⊎ IsSplitFault split e

@@ -8,3 +8,4 @@ pub mod Matching
 pub mod Counting
 pub mod Joining
 pub mod ShardIndex
+pub mod MergedShard

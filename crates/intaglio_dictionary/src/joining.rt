@@ -2,7 +2,7 @@
 ghost use Rattle.std.specs.Prelude.{◌≡◌, ◌+◌, ◌++◌, ◌<◌, ◌≤◌, get_or, length, map, All, OnOk, IfErr, IfOk};
 ghost use Rattle.intaglio_columns.specs.Columns.{missing, renumber};
 ghost use Rattle.intaglio_columns.specs.Shards.{AreWithin, joined_map};
-ghost use Rattle.intaglio_dictionary.specs.Joining.{IsMapFault, IsShardMapFault};
+ghost use Rattle.intaglio_dictionary.specs.Joining.{IsMapFault, IsPartMapFault, IsShardMapFault, IsSplitFault};
 ghost use Rattle.intaglio_dictionary.specs.declared.error.MapError.TheVariants.{Memory};
 
 use crate::codes::{CodeMap, MISSING};
@@ -55,6 +55,7 @@ pub fn map_into_shards(
     requires { length maps.now ≡ length counts.now }
     ensures codes { IfOk result (λ new. new.items ≡ renumber (joined_map 0 counts.now maps.now) split.now) }
     ensures within { OnOk result (AreWithin counts.now maps.now) }
+    ensures err { IfErr result (IsPartMapFault counts.now maps.now split.now) }
 {
     let joined = join_maps(alloc, maps, counts)?;
     let codes = codes_in(alloc, split)?;
@@ -66,7 +67,8 @@ pub fn map_into_shards(
 
 // The codes of a map.
 fn codes_in(alloc: Global, map: &CodeMap<'_>) -> Result<Vec<Symbol>, MapError>
-    ensures { IfOk result (λ codes. codes.items ≡ map.now) }
+    ensures codes { IfOk result (λ codes. codes.items ≡ map.now) }
+    ensures err { IfErr result (IsSplitFault map.now) }
 {
     if map.len() > MOST {
         return Err(MapError::TooMany);

@@ -14,6 +14,7 @@ pub mod identity;
 pub mod joining;
 pub mod look_up;
 pub mod matching;
+pub mod merged_shard;
 pub mod merging;
 pub mod progress;
 pub mod rows;

@@ -107,7 +107,7 @@ fn first_count(text: &[u8]) -> Option<(u64, &[u8])>
 
 // The shard of the first line, and what is behind it.
 #[tactic(auto, unfolding(crate::specs::ShardIndex::shard_line))]
-fn first_shard(text: &[u8]) -> Option<(DictionaryId, &[u8])>
+pub(crate) fn first_shard(text: &[u8]) -> Option<(DictionaryId, &[u8])>
     ensures read { IfSome result (λ found. text.now ≡ shard_line found.0 ++ found.1.now) }
     ensures written { (id : DictionaryId) (tail : List ℕ) → HasNumbers id → text.now ≡ shard_line id ++ tail
         → MatchOption result ⊥ (λ found. (found.0 ≡ id) × (found.1.now ≡ tail)) }
@@ -142,7 +142,7 @@ fn first_kind(text: &[u8]) -> Option<(bool, &[u8])>
 }
 
 // The number behind a space, and what is behind it.
-fn first_number(text: &[u8]) -> Option<(u64, &[u8])>
+pub(crate) fn first_number(text: &[u8]) -> Option<(u64, &[u8])>
     ensures read { IfSome result (λ found. text.now ≡ number_field found.0 ++ found.1.now) }
     ensures written { (n : ℕ) (tail : List ℕ) → n < 2 ^ 64 → text.now ≡ number_field n ++ tail
         → MatchOption result ⊥ (λ found. (found.0 ≡ n) × (found.1.now ≡ tail)) }
@@ -184,7 +184,7 @@ fn digits_of(number: u64) -> [u8; DIGITS]
 }
 
 // What is behind the front of a text, if it has that front.
-fn behind<'a>(text: &'a [u8], front: &[u8]) -> Option<&'a [u8]>
+pub(crate) fn behind<'a>(text: &'a [u8], front: &[u8]) -> Option<&'a [u8]>
     ensures { MatchOption result ((rest : List ℕ) → text.now ≢ front.now ++ rest) (λ rest. text.now ≡ front.now ++ rest.now) }
 {
     text.strip_prefix(front)
@@ -192,7 +192,7 @@ fn behind<'a>(text: &'a [u8], front: &[u8]) -> Option<&'a [u8]>
 
 // Writes the line of a shard.
 #[tactic(auto, unfolding(crate::specs::ShardIndex::shard_line))]
-fn put_shard(id: &DictionaryId, text: &mut Vec<u8>) -> Result<(), AllocError>
+pub(crate) fn put_shard(id: &DictionaryId, text: &mut Vec<u8>) -> Result<(), AllocError>
     ensures { OnOk result (text.new.items ≡ text.old.items ++ shard_line id.now) }
 {
     text.extend_from_slice(kind_word(id.is_text))?;
@@ -210,7 +210,7 @@ fn kind_word(is_text: bool) -> &'static [u8]
 }
 
 // Writes a number behind a space.
-fn put_number(number: u64, text: &mut Vec<u8>) -> Result<(), AllocError>
+pub(crate) fn put_number(number: u64, text: &mut Vec<u8>) -> Result<(), AllocError>
     ensures { OnOk result (text.new.items ≡ text.old.items ++ number_field number) }
 {
     text.push(b' ')?;
