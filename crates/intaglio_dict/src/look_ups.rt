@@ -1,6 +1,7 @@
 //! The subcommands that look lines or symbols up.
 use crate::opening::{Bytes, first_dictionary};
 use clap::ArgMatches;
+use intaglio_dict_io::checking::checked;
 use intaglio_dict_io::input::{STANDARD_INPUT, name_of};
 use intaglio_dict_io::metered::{Meter, Metered};
 use intaglio_dict_io::noticing::Noticing;
@@ -8,7 +9,6 @@ use intaglio_dict_io::output::OUTPUT;
 use intaglio_dict_io::report;
 use intaglio_dict_io::report::Tell;
 use intaglio_dict_io::symbols::{read_symbols, typed_symbols};
-use intaglio_dict_shards::checking::checked;
 use intaglio_dict_shards::folder::open_shards;
 use intaglio_dictionary::dictionary::Dictionary;
 use intaglio_dictionary::error::DictionaryError;

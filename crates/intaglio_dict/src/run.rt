@@ -10,12 +10,12 @@ use intaglio_dict_columns::checking::{LastDictionary, check_column, stat_column}
 use intaglio_dict_columns::counting::count;
 use intaglio_dict_columns::matching::match_rows;
 use intaglio_dict_columns::rows::rows;
+use intaglio_dict_io::checking::{checked, common_kind, kind_of};
 use intaglio_dict_io::command::files_of;
 use intaglio_dict_io::noticing::Noticing;
 use intaglio_dict_io::output::ended;
 use intaglio_dict_io::report;
 use intaglio_dict_io::report::Tell;
-use intaglio_dict_shards::checking::{checked, common_kind, kind_of};
 use intaglio_dict_shards::folder::open_shards;
 use intaglio_dict_shards::joining::join_shards;
 use intaglio_dict_shards::splitting::split_dictionary;

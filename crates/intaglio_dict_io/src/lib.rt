@@ -2,6 +2,7 @@
 #![tactic(auto)]
 
 pub mod apart;
+pub mod checking;
 pub mod command;
 pub mod files;
 pub mod folders;

@@ -1,7 +1,8 @@
 //! Opens folders of shards.
-use crate::checking::{checked, id_of};
+use crate::identity::id_of;
 use intaglio_column_file::DictionaryId;
 use intaglio_columns::{Shards, ShardsError};
+use intaglio_dict_io::checking::checked;
 use intaglio_dict_io::folders::{index_name, shard_name};
 use intaglio_dict_io::input::whole;
 use intaglio_dict_io::metered::Meter;

@@ -119,7 +119,11 @@ fn of_place<R: Tell>(rt: &R, names: &[&str], shards: &[MergedShard], i: usize) -
     match (names.get(i), shards.get(i)) {
         (Some(name), Some(shard)) => {
             let number = shard.place.number;
-            report::failed(rt, name, format_args!("it is shard {number}, where shard {i} is needed"))
+            report::failed(
+                rt,
+                name,
+                format_args!("it is shard {number}, where shard {i} is needed"),
+            )
         }
         _ => 2,
     }
@@ -142,11 +146,7 @@ fn of_count<R: Tell>(rt: &R, names: &[&str], shards: &[MergedShard], i: usize) -
 // Of a shard that differs from the first one.
 fn of_first<R: Tell>(rt: &R, names: &[&str], i: usize, differs: &str) -> u8 {
     match (names.get(i), names.first()) {
-        (Some(name), Some(first)) => report::failed(
-            rt,
-            name,
-            format_args!("it {differs} {first}"),
-        ),
+        (Some(name), Some(first)) => report::failed(rt, name, format_args!("it {differs} {first}")),
         _ => 2,
     }
 }

@@ -2,8 +2,8 @@
 //! shards that were merged, and makes the map by which the codes of a part are renumbered.
 #![tactic(auto)]
 
-pub mod checking;
 pub mod folder;
+pub mod identity;
 pub mod joining;
 pub mod lines;
 pub mod parts;

@@ -1,5 +1,5 @@
 //! The lines of merged shards, each in a file beside the shard's own.
-use crate::checking::id_of;
+use crate::identity::id_of;
 use crate::writing::write_named;
 use intaglio_dict_io::folders::line_name;
 use intaglio_dict_io::input::{STANDARD, whole};

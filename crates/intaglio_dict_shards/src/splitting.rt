@@ -1,8 +1,8 @@
 //! The subcommand that writes a dictionary in shards.
-use crate::checking::{checked, kind_of};
 use crate::writing::write_folder;
 use clap::ArgMatches;
 use intaglio_columns::{split, split_map};
+use intaglio_dict_io::checking::{checked, kind_of};
 use intaglio_dict_io::input::{first_input, name_of};
 use intaglio_dict_io::keys::keys_of;
 use intaglio_dict_io::report;

@@ -1,5 +1,5 @@
 //! Writes folders of shards.
-use crate::checking::id_of;
+use crate::identity::id_of;
 use intaglio_column_file::DictionaryId;
 use intaglio_dict_io::folders::{index_name, shard_name, split_map_name};
 use intaglio_dict_io::input::whole;

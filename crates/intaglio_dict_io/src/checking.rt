@@ -1,23 +1,13 @@
 //! Dictionaries, after a check of all their bytes.
-use intaglio_column_file::DictionaryId;
-use intaglio_dict_io::input::name_of;
-use intaglio_dict_io::report;
-use intaglio_dict_io::report::Tell;
-use intaglio_dictionary::identity::id_of_table;
+use crate::input::name_of;
+use crate::report;
+use crate::report::Tell;
 use intaglio_frozen::{Frozen, Header, Kind};
 
 /// The dictionary in these bytes, after a check of all of them. Otherwise the exit status after a message.
 pub fn checked<'a, R: Tell>(rt: &R, name: &str, bytes: &'a [u8]) -> Result<Frozen<'a>, u8> {
     match Frozen::open(bytes) {
         Ok(table) => Ok(table),
-        Err(fault) => Err(report::failed(rt, name_of(name), fault)),
-    }
-}
-
-/// What the dictionary in these bytes is. Otherwise the exit status after a message.
-pub fn id_of<R: Tell>(rt: &R, name: &str, bytes: &[u8]) -> Result<DictionaryId, u8> {
-    match id_of_table(bytes) {
-        Ok(id) => Ok(id),
         Err(fault) => Err(report::failed(rt, name_of(name), fault)),
     }
 }
