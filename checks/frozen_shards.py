@@ -327,7 +327,18 @@ def requests(tool, folder):
         told = f"{folder}/0: it has other shards; remove it, or name another folder"
         yield f"{words[0]}: a folder with other shards", refused(tool, words, b"", told, folder, 2)
         yield f"{words[0]}: after that", files_in(f"{folder}/0") == before
-    yield "join: at first", not os.path.exists(f"{folder}/new")
+    line, index = f"{out}.line", f"{folder}/0/shards"
+    words = ["merge", "--shard", "0", "-o", out, f"{folder}/0", f"{folder}/1"]
+    told = f"{line}: this output is also the output {line}; nothing was written"
+    yield "a line that is the folder for maps", refused(tool, [*words, "--maps", line], b"", told, folder, 2)
+    os.link(index, line)
+    told = f"{index}: this input is also the output {line}; nothing was written"
+    yield "a line that is an input", refused(tool, words, b"", told, folder, 2) and os.path.samefile(index, line)
+    os.remove(line)
+    os.mkdir(f"{folder}/new")
+    os.link(f"{shards[0]}.line", f"{folder}/new/shards")
+    told = f"{shards[0]}.line: this input is also the output {folder}/new/shards; nothing was written"
+    yield "a line that is the index", refused(tool, ["join", *shards, "-o", f"{folder}/new"], b"", told, folder, 2)
 
 
 def is_joined(tool, shards, folder, message):
@@ -376,8 +387,8 @@ def lines(tool, folder):
 
 
 def other_files(tool, folder, shards, whole):
-    """Yields what is said of a shard that isn't the one of its line: by its length or its header `join` sees it, and otherwise the
-    commands that open the folder."""
+    """Yields what is said of a shard that isn't the one of its line: `join` sees it by its length or its header, and otherwise
+    the commands that open the folder do."""
     name, target = shards[1], f"{folder}/new"
     table, strings = read(name), [*Frozen(read(name))]
     swapped = freeze([strings[1], strings[0], *strings[2:]])
@@ -516,15 +527,17 @@ def kills(tool, folder):
 
 
 def merge_kills(tool, folder):
-    """A merge of a shard that is killed leaves the old or the new shard, and its line or none; a join that is killed leaves no index,
-    or the whole folder."""
+    """A merge of a shard that is killed leaves the old or the new shard, and its line or none; a join that is killed leaves no
+    index, or the whole folder."""
     chance, parts = random.Random(6), [[b"w%d" % it for it in range(start, start + 3_000)] for start in (0, 2_000)]
     for part, strings in enumerate(parts):
         put(f"{folder}/{part}", folder_of(shards_of(strings, 2)))
     indexes = [read(f"{folder}/{it}/shards") for it in range(2)]
     tables = [freeze(merged(shards_of(it, 2)[shard] for it in parts)[0]) for shard in range(2)]
     outs, target = [f"{folder}/{it}.merged" for it in range(2)], f"{folder}/whole"
-    merges = [["merge", "--shard", str(it), "-o", outs[it], "--maps", f"{folder}/maps{it}", f"{folder}/0", f"{folder}/1"] for it in (0, 1)]
+    both = [f"{folder}/{it}" for it in (0, 1)]
+    merges = [["merge", "--shard", str(it), "-o", out, "--maps", f"{folder}/maps{it}", *both] for it, out in enumerate(outs)]
+    whole = {"shards": index_of([id_of(it) for it in tables])} | {f"{it}.dict": table for it, table in enumerate(tables)}
     old, joins = freeze([b"another"]), ["join", *outs, "-o", target]
     began = time.monotonic()
     yield "merge", all(run([tool, *it]) == DONE for it in merges) and [read(it) for it in outs] == tables
@@ -537,10 +550,8 @@ def merge_kills(tool, folder):
         yield f"merge: again after turn {turn}", run([tool, *merges[0]]) == DONE and read(outs[0]) == tables[0]
         shutil.rmtree(target, ignore_errors=True)
         killed(tool, joins, chance.random() * took / 4)
-        yield f"join: killed in turn {turn}", is_whole(target, {}, {f"{it}.dict": table for it, table in enumerate(tables)} | {
-            "shards": index_of([id_of(it) for it in tables])
-        })
-        yield f"join: again after turn {turn}", run([tool, *joins]) == DONE and strings_in(target) != []
+        yield f"join: killed in turn {turn}", is_whole(target, {}, whole)
+        yield f"join: again after turn {turn}", run([tool, *joins]) == DONE and is_whole(target, whole, whole)
 
 
 def killed(tool, words, seconds):

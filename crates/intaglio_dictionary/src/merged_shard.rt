@@ -38,7 +38,7 @@ pub struct MergedShard {
     pub id: DictionaryId,
 }
 
-/// Why shards aren't joined. A number is that of the first shard with this fault, in the order of the shards.
+/// Why shards aren't joined. A number is the place of a shard with this fault, counted from 0.
 #[derive(Clone, Copy, Debug, PartialEq, Eq, Error)]
 pub enum JoinError {
     /// There is no shard.
