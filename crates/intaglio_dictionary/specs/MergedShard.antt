@@ -8,26 +8,26 @@ use Rattle.intaglio_dictionary.specs.declared.merged_shard.MergedShard.{MergedSh
 use Rattle.intaglio_dictionary.specs.declared.merged_shard.JoinError.{JoinError}
 use Rattle.intaglio_dictionary.specs.declared.merged_shard.JoinError.TheVariants.{Empty, OtherNumber, OtherCount, OtherParts, OtherKind, TooMany, Memory}
 
--- the first line: the version, which shard it is of how many, of which parts, and how many bytes its file has
-unfoldable pub head_line : ShardPlace → ℕ → List ℕ
-head_line place size = codes "intaglio shard 1" ++ (number_field place.number ++ (number_field place.count
-    ++ (number_field place.parts0 ++ (number_field place.parts1 ++ (number_field size ++ 10 ∷ [])))))
+-- how the first line begins: the version, and which shard it is of how many
+unfoldable pub number_part : ℕ → ℕ → List ℕ
+number_part number count = codes "intaglio shard 1" ++ (number_field number ++ number_field count)
+
+-- the rest of the first line: the hashes of the parts, and how many bytes the file has
+unfoldable pub size_part : ℕ → ℕ → ℕ → List ℕ
+size_part parts0 parts1 size = number_field parts0 ++ (number_field parts1 ++ (number_field size ++ 10 ∷ []))
 
 -- the text of a shard: that line, and then the shard's line of the index
 abbrev pub merged_text : MergedShard → List ℕ
-merged_text shard = head_line shard.place shard.size ++ shard_line shard.id
-
--- the numbers of a place are below 2 ^ 64
-pub record HasPlaceNumbers (place : ShardPlace) : Type 0 where
-  pub number : place.number < 2 ^ 64
-  pub count : place.count < 2 ^ 64
-  pub parts0 : place.parts0 < 2 ^ 64
-  pub parts1 : place.parts1 < 2 ^ 64
+merged_text shard = number_part shard.place.number shard.place.count
+    ++ (size_part shard.place.parts0 shard.place.parts1 shard.size ++ shard_line shard.id)
 
 -- the numbers of a merged shard are below 2 ^ 64
 pub record HasMergedNumbers (shard : MergedShard) : Type 0 where
-  pub placed : HasPlaceNumbers shard.place
-  pub sized : shard.size < 2 ^ 64
+  pub number : shard.place.number < 2 ^ 64
+  pub count : shard.place.count < 2 ^ 64
+  pub parts0 : shard.place.parts0 < 2 ^ 64
+  pub parts1 : shard.place.parts1 < 2 ^ 64
+  pub size : shard.size < 2 ^ 64
   pub identified : HasNumbers shard.id
 
 -- this shard is the one at i of so many, which are of the same parts and of the same kind as the first one

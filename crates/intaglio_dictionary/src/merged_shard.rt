@@ -1,9 +1,8 @@
 //! What a merge says of a shard, in a file beside the shard's own, and when such shards are joined.
 ghost use Rattle.std.specs.Prelude.{◌≡◌, ◌≤◌, ◌<◌, ◌^◌, ◌++◌, ℕ, List, length, map, slice_get, IfErr, IfOk, IfSome, MatchOption, OnOk, Some};
 ghost use Rattle.intaglio_columns.specs.Columns.{missing};
-ghost use Rattle.intaglio_dictionary.specs.MergedShard.{AreOneMerge, FitsAt, HasMergedNumbers, HasPlaceNumbers, IsJoinFault, MergedAreShards, head_line, merged_text, strings_in};
+ghost use Rattle.intaglio_dictionary.specs.MergedShard.{AreOneMerge, FitsAt, HasMergedNumbers, IsJoinFault, MergedAreShards, merged_text, number_part, size_part, strings_in};
 ghost use Rattle.intaglio_dictionary.specs.declared.merged_shard.MergedShard.{MergedShard};
-ghost use Rattle.intaglio_dictionary.specs.declared.merged_shard.ShardPlace.{ShardPlace};
 ghost use Rattle.intaglio_dictionary.specs.declared.merged_shard.JoinError.TheVariants.{TooMany};
 
 use crate::shard_index::{behind, first_number, first_shard, put_number, put_shard};
@@ -73,7 +72,8 @@ pub fn write_merged(alloc: Global, shard: &MergedShard) -> Result<Vec<u8>, Alloc
     ensures text { IfOk result (λ text. text.items ≡ merged_text shard.now) }
 {
     let mut text = Vec::new(alloc);
-    put_head(&shard.place, shard.size, &mut text)?;
+    put_number_part(&shard.place, &mut text)?;
+    put_size_part(&shard.place, shard.size, &mut text)?;
     put_shard(&shard.id, &mut text)?;
     Ok(text)
 }
@@ -95,11 +95,18 @@ pub fn read_merged(text: &[u8]) -> Option<MergedShard>
     ensures written { (shard : MergedShard) → HasMergedNumbers shard → text.now ≡ merged_text shard
         → MatchOption result ⊥ (λ found. found ≡ shard) }
 {
-    let (place, size, rest) = first_head(text)?;
+    let (number, count, rest) = first_number_part(text)?;
+    let (parts0, parts1, size, rest) = first_size_part(rest)?;
     let (id, rest) = first_shard(rest)?;
     if !rest.is_empty() {
         return None;
     }
+    let place = ShardPlace {
+        number,
+        count,
+        parts0,
+        parts1,
+    };
     Some(MergedShard { place, size, id })
 }
 
@@ -185,38 +192,55 @@ fn check_few(shards: &[MergedShard]) -> Result<(), JoinError>
     Ok(())
 }
 
-// The place and the size that the first line has, and what is behind it.
-#[tactic(auto, unfolding(crate::specs::MergedShard::head_line))]
-fn first_head(text: &[u8]) -> Option<(ShardPlace, u64, &[u8])>
-    ensures read { IfSome result (λ found. text.now ≡ head_line found.0 found.1 ++ found.2.now) }
-    ensures written { (place : ShardPlace) (size : ℕ) (tail : List ℕ) → HasPlaceNumbers place → size < 2 ^ 64
-        → text.now ≡ head_line place size ++ tail
-        → MatchOption result ⊥ (λ found. (found.0 ≡ place) × (found.1 ≡ size) × (found.2.now ≡ tail)) }
+// The number of the shard and how many there are, with which the first line begins, and what is behind them.
+#[tactic(auto, unfolding(crate::specs::MergedShard::number_part))]
+fn first_number_part(text: &[u8]) -> Option<(u64, u64, &[u8])>
+    ensures read { IfSome result (λ found. text.now ≡ number_part found.0 found.1 ++ found.2.now) }
+    ensures written { (number count : ℕ) (tail : List ℕ) → number < 2 ^ 64 → count < 2 ^ 64
+        → text.now ≡ number_part number count ++ tail
+        → MatchOption result ⊥ (λ found. (found.0 ≡ number) × (found.1 ≡ count) × (found.2.now ≡ tail)) }
 {
-    let rest = behind(text, START)?;
+    let Some(rest) = behind(text, START) else {
+        return None;
+    };
     let (number, rest) = first_number(rest)?;
     let (count, rest) = first_number(rest)?;
-    let (parts0, rest) = first_number(rest)?;
+    Some((number, count, rest))
+}
+
+// The hashes of the parts and the size, with which the first line ends, and what is behind them.
+#[tactic(auto, unfolding(crate::specs::MergedShard::size_part))]
+fn first_size_part(text: &[u8]) -> Option<(u64, u64, u64, &[u8])>
+    ensures read { IfSome result (λ found. text.now ≡ size_part found.0 found.1 found.2 ++ found.3.now) }
+    ensures written { (parts0 parts1 size : ℕ) (tail : List ℕ) → parts0 < 2 ^ 64 → parts1 < 2 ^ 64 → size < 2 ^ 64
+        → text.now ≡ size_part parts0 parts1 size ++ tail
+        → MatchOption result ⊥ (λ found. (found.0 ≡ parts0) × (found.1 ≡ parts1) × (found.2 ≡ size)
+        × (found.3.now ≡ tail)) }
+{
+    let (parts0, rest) = first_number(text)?;
     let (parts1, rest) = first_number(rest)?;
     let (size, rest) = first_number(rest)?;
     let rest = behind(rest, b"\n")?;
-    let place = ShardPlace {
-        number,
-        count,
-        parts0,
-        parts1,
-    };
-    Some((place, size, rest))
+    Some((parts0, parts1, size, rest))
 }
 
-// Writes the first line.
-#[tactic(auto, unfolding(crate::specs::MergedShard::head_line))]
-fn put_head(place: &ShardPlace, size: u64, text: &mut Vec<u8>) -> Result<(), AllocError>
-    ensures { OnOk result (text.new.items ≡ text.old.items ++ head_line place.now size) }
+// Writes the front of the first line.
+#[tactic(auto, unfolding(crate::specs::MergedShard::number_part))]
+fn put_number_part(place: &ShardPlace, text: &mut Vec<u8>) -> Result<(), AllocError>
+    ensures { OnOk result (text.new.items ≡ text.old.items ++ number_part place.now.number place.now.count) }
 {
     text.extend_from_slice(START)?;
     put_number(place.number, text)?;
     put_number(place.count, text)?;
+    Ok(())
+}
+
+// Writes the rest of the first line.
+#[tactic(auto, unfolding(crate::specs::MergedShard::size_part))]
+fn put_size_part(place: &ShardPlace, size: u64, text: &mut Vec<u8>) -> Result<(), AllocError>
+    ensures { OnOk result (text.new.items
+        ≡ text.old.items ++ size_part place.now.parts0 place.now.parts1 size) }
+{
     put_number(place.parts0, text)?;
     put_number(place.parts1, text)?;
     put_number(size, text)?;

@@ -1,5 +1,4 @@
-use Rattle.std.proofs.Common.{[], ◌∷◌, ◌++◌, ◌≡◌, ap, sym, ◌∙◌, append_assoc, arith, rules}
-use Rattle.std.proofs.lemmas.Grind.{common_steps}
+use Rattle.std.proofs.Common.{[], ◌∷◌, ◌++◌, ◌≡◌, ap, sym, ◌∙◌, append_assoc, rules}
 use Rattle.intaglio_dictionary.proofs.Indexed.{more-left, next-shard, right-next}
 use Rattle.intaglio_dictionary.proofs.shard_index.read_index.Goals as goal
 

@@ -1,5 +1,5 @@
 -- The shards so far were read, and what is left is behind their lines.
-use Rattle.std.proofs.Common.{◌≡◌, ◌++◌, ◌<◌, List, length, All}
+use Rattle.std.proofs.Common.{◌≡◌, ◌++◌, List, length, All}
 use Rattle.std.specs.List.{flat_map}
 use Rattle.intaglio_column_file.specs.declared.id.DictionaryId.{DictionaryId}
 use Rattle.intaglio_dictionary.specs.ShardIndex.{AreIds, HasNumbers, first_line, index_text, shard_line}
