@@ -1,6 +1,6 @@
 -- Codes that follow each other, and where they stand.
 use Rattle.std.proofs.Common.{◌≡◌, ◌∙◌, ℕ, zero, suc, ◌+◌, ◌*◌, ◌<◌, List, length, get_or, slice_get, Some, refl, sym, ap, arith}
-use Rattle.std.proofs.lemmas.Option.{slice_get-get_or}
+use Rattle.std.proofs.lemmas.Option.{get_or_from_slice_get, slice_get-get_or}
 use Rattle.intaglio_column_file.specs.Width.{bytes_of}
 use Rattle.intaglio_column_file.specs.Numbers.{u8_at, u16_at, u32_at}
 use Rattle.intaglio_column_file.specs.Layout.{code_at, codes_at, widened, rows, width, codes}
@@ -32,6 +32,10 @@ pub read_get : (bs : List ℕ) (w : Width) (row size code : ℕ) → w ≡ width
 read_get bs w row size code ew l es e =
     let at = ap (λ v. code_at bs v (64 + bytes_of v * row)) (sym ew) ∙ ap (λ s. code_at bs w (64 + s * row)) (sym es) ∙ sym e in
     all_get bs row l ∙ ap Some at
+
+-- the same, where a row without a code reads as 0
+pub read_or : (bs : List ℕ) (w : Width) (row size : ℕ) → w ≡ width bs → row < rows bs → size ≡ bytes_of w → code_at bs w (64 + size * row) ≡ get_or (codes bs) row 0
+read_or bs w row size ew l es = sym (get_or_from_slice_get (codes bs) row (code_at bs w (64 + size * row)) 0 (read_get bs w row size (code_at bs w (64 + size * row)) ew l es refl))
 
 -- the code at a position, by its width
 pub one_at : (bs : List ℕ) (w : Width) (at code byte : ℕ) → w ≡ One → byte ≡ u8_at bs at → code ≡ widened One byte → code ≡ code_at bs w at

@@ -2,7 +2,11 @@
 pub mod Codes
 pub mod Widths
 pub mod Counted
+pub mod Marked
 pub mod Selected
+pub mod Unknown
 pub mod Written
 pub mod Overlaid
+pub mod Past
+pub mod Placed
 pub mod SameDictionary

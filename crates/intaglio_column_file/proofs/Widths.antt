@@ -1,6 +1,10 @@
 -- How many codes fit.
-use Rattle.std.proofs.Common.{ℕ, ◌+◌, ◌*◌, ◌<◌, ◌≤◌, arith}
-use Rattle.intaglio_column_file.specs.Width.{bytes_of}
+use Rattle.std.proofs.Common.{◌≡◌, ◌≢◌, ◌∙◌, inl, inr, cond, sym, ap, eq-eqb, ℕ, ◌+◌, ◌*◌, ◌<◌, ◌≤◌, ◌==◌, not, nat_le, arith}
+use Rattle.std.proofs.lemmas.Bool.{cases_eq, ne_eqb}
+use Rattle.std.proofs.lemmas.Bool.Decides.{nat_tests}
+use Rattle.intaglio_column_file.specs.IsColumn.{is_unknown}
+use Rattle.intaglio_column_file.specs.Layout.{widened}
+use Rattle.intaglio_column_file.specs.Width.{bytes_of, greatest, missing}
 use Rattle.intaglio_column_file.specs.declared.width.Width.{Width}
 use Rattle.intaglio_column_file.specs.declared.width.Width.TheVariants.{One, Two, Four}
 
@@ -19,3 +23,33 @@ pub row_fits : (w : Width) (row rows : ℕ) → row < rows → bytes_of w * row 
 row_fits One row rows l = omega arith
 row_fits Two row rows l = omega arith
 row_fits Four row rows l = omega arith
+
+-- two codes of a width are equal if they are as those of four bytes
+pub same_widened : (w : Width) (a b : ℕ) → a ≤ greatest w → b ≤ greatest w → (a == b) ≡ (widened w a == widened w b)
+same_widened One a b la lb = grind (arith, nat_tests)
+same_widened Two a b la lb = grind (arith, nat_tests)
+same_widened Four a b la lb = grind (arith, nat_tests)
+
+-- the greatest is the missing one, and any other is itself
+pub widened_greatest : (w : Width) (a : ℕ) → a ≡ greatest w → missing ≡ widened w a
+widened_greatest w a e = sym (ap (λ b. cond b missing a) (eq-eqb a (greatest w) e))
+
+pub widened_other : (w : Width) (a : ℕ) → a ≢ greatest w → a ≡ widened w a
+widened_other w a e = sym (ap (λ b. cond b missing a) (ne_eqb a (greatest w) e))
+
+pub widened_four : (a : ℕ) → a ≡ widened Four a
+widened_four a = elim (cases_eq a (greatest Four)) [
+  | inl e ↦ e ∙ widened_greatest Four a e
+  | inr other ↦ widened_other Four a other
+]
+
+-- a code is neither that of one of n strings nor the missing one if it isn't less than n, nor the greatest
+pub unknown_above : (w : Width) (n a : ℕ) → a ≤ greatest w → n ≤ a → not (a == greatest w) ≡ is_unknown n (widened w a)
+unknown_above One n a l m = grind (arith, nat_tests)
+unknown_above Two n a l m = grind (arith, nat_tests)
+unknown_above Four n a l m = grind (arith, nat_tests)
+
+pub unknown_below : (w : Width) (n a : ℕ) → a ≤ greatest w → a < n → nat_le n a ≡ is_unknown n (widened w a)
+unknown_below One n a l m = grind (arith, nat_tests)
+unknown_below Two n a l m = grind (arith, nat_tests)
+unknown_below Four n a l m = grind (arith, nat_tests)

@@ -1,5 +1,5 @@
 -- Which bytes are a column.
-use Rattle.std.specs.Prelude.{◌≡◌, ℕ, ◌+◌, ◌*◌, ◌^◌, ◌<◌, ◌≤◌, ◌⊎◌, List, length, slice_get, Some}
+use Rattle.std.specs.Prelude.{◌≡◌, ℕ, ◌+◌, ◌*◌, ◌^◌, ◌<◌, ◌≤◌, ◌⊎◌, ◌==◌, ◌&&◌, not, nat_le, Bool, List, length, slice_get, Some}
 use Rattle.intaglio_column_file.specs.Numbers.{u32_at, u64_at}
 use Rattle.intaglio_column_file.specs.Width.{missing}
 use Rattle.intaglio_column_file.specs.Id.{kind_number}
@@ -59,7 +59,11 @@ pub record HasRows (bs : List ℕ) : Type 0 where
 abbrev pub IsCode : ℕ → ℕ → Type 0
 IsCode n code = (code < n) ⊎ (code ≡ missing)
 
--- each of these is
+-- whether a code is neither
+abbrev pub is_unknown : ℕ → ℕ → Bool
+is_unknown n code = nat_le n code && not (code == missing)
+
+-- each of these is one of both
 abbrev pub AreCodes : ℕ → List ℕ → Type 0
 AreCodes n cs = (row code : ℕ) → slice_get cs row ≡ Some code → IsCode n code
 

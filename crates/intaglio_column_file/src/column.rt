@@ -1,13 +1,14 @@
 //! A column.
-ghost use Rattle.std.specs.Prelude.{◌≡◌, ◌^◌, ◌<◌, ◌≤◌, length, slice_get, IfErr, IfOk, IsOk, MatchOption};
+ghost use Rattle.std.specs.Prelude.{◌≡◌, ◌^◌, ◌<◌, ◌≤◌, length, slice_get, IfErr, IfOk, IsOk, MatchOption, get_or};
 ghost use Rattle.intaglio_column_file.specs.Layout.{codes, rows as rows_of, strings, width as width_of};
 ghost use Rattle.intaglio_column_file.specs.IsColumn.{AreCodes, Describes, HasHeader, HasRows, IsColumn};
 ghost use Rattle.intaglio_column_file.specs.Fault.{HasNoString, IsFault};
 
+use crate::code::Code;
 use crate::error::ColumnError;
 use crate::header::{ColumnHeader, HEADER};
 use crate::id::DictionaryId;
-use crate::numbers::MISSING;
+use crate::testing::{CodeTest, IsUnknown};
 use crate::width::Width;
 use std::marker::Model;
 
@@ -105,17 +106,31 @@ impl<'a> Column<'a> {
         if row >= self.rows {
             return None;
         }
-        Some(self.read(row))
+        match self.width {
+            Width::One => Some(self.read::<u8>(row)),
+            Width::Two => Some(self.read::<u16>(row)),
+            Width::Four => Some(self.read::<u32>(row)),
+        }
     }
 
     // The code of a row that is there.
     #[inline(always)]
-    pub(crate) fn read(&self, row: usize) -> u32
-        requires { row < rows_of self.now }
+    pub(crate) fn read<C: Code>(&self, row: usize) -> u32
+        requires width { C.width ≡ width_of self.now }
+        requires row { row < rows_of self.now }
         ensures { slice_get (codes self.now) row ≡ Some result }
     {
-        self.width
-            .read(self.bytes, HEADER + self.width.bytes() * row)
+        C::read(self.bytes, HEADER + C::bytes() * row)
+    }
+
+    // Whether the code of a row that is there passes a test.
+    #[inline(always)]
+    pub(crate) fn passes<C: Code, T: CodeTest<C>>(&self, test: &T, row: usize) -> bool
+        requires width { C.width ≡ width_of self.now }
+        requires row { row < rows_of self.now }
+        ensures { result ≡ T.passes test.now (get_or (codes self.now) row 0) }
+    {
+        test.passes_at(self.bytes, HEADER + C::bytes() * row)
     }
 
     // The first row whose code is neither that of a string nor the missing one.
@@ -123,13 +138,20 @@ impl<'a> Column<'a> {
         ensures { let n = strings self.now in
             MatchOption result (AreCodes n (codes self.now)) (HasNoString n (codes self.now)) }
     {
-        for row in 0..self.rows {
-            let code = self.read(row);
-            if code as u64 >= self.id.count && code != MISSING {
-                return Some(row);
-            }
+        match self.width {
+            Width::One => self.first_unknown::<u8>(),
+            Width::Two => self.first_unknown::<u16>(),
+            Width::Four => self.first_unknown::<u32>(),
         }
-        None
+    }
+
+    fn first_unknown<C: Code>(&self) -> Option<usize>
+        requires { C.width ≡ width_of self.now }
+        ensures { let n = strings self.now in
+            MatchOption result (AreCodes n (codes self.now)) (HasNoString n (codes self.now)) }
+    {
+        let strings = C::of(self.id.count);
+        self.next_row::<C, IsUnknown<C>>(&IsUnknown { strings }, 0)
     }
 }
 

@@ -1,9 +1,11 @@
 //! Codes, rows and counts of a column, in a buffer of the caller's. Nothing is allocated.
 ghost use Rattle.std.specs.Prelude.{◌≡◌, ◌-◌, ◌<◌, ◌≤◌, drop, length, min, set};
-ghost use Rattle.intaglio_column_file.specs.Layout.{codes, strings};
+ghost use Rattle.intaglio_column_file.specs.Layout.{codes, strings, width as width_of};
 ghost use Rattle.intaglio_column_file.specs.Rows.{AreCounts, overlaid, rows_of};
 
+use crate::code::Code;
 use crate::column::Column;
+use crate::width::Width;
 
 impl Column<'_> {
     /// Writes the codes of the rows from one on, as many as there are places and rows, and returns how many that is.
@@ -11,9 +13,21 @@ impl Column<'_> {
         ensures codes { places.new ≡ overlaid (drop from (codes self.now)) places.old }
         ensures count { result ≡ min (length places.old) (length (codes self.now) - from) }
     {
+        match self.width() {
+            Width::One => self.copy_codes::<u8>(from, places),
+            Width::Two => self.copy_codes::<u16>(from, places),
+            Width::Four => self.copy_codes::<u32>(from, places),
+        }
+    }
+
+    fn copy_codes<C: Code>(&self, from: usize, places: &mut [u32]) -> usize
+        requires { C.width ≡ width_of self.now }
+        ensures codes { places.new ≡ overlaid (drop from (codes self.now)) places.old }
+        ensures count { result ≡ min (length places.old) (length (codes self.now) - from) }
+    {
         let count = places.len().min(self.len().saturating_sub(from));
         for i in 0..count {
-            let code = self.read(from + i);
+            let code = self.read::<C>(from + i);
             places[i] = code;
         }
         count
@@ -25,14 +39,14 @@ impl Column<'_> {
         ensures rows { places.new ≡ overlaid (rows_of code (codes self.now)) places.old }
         ensures count { result ≡ length (rows_of code (codes self.now)) }
     {
+        // The number behind a row fits too.
+        let _rows = self.len();
         let mut count = 0;
-        for row in 0..self.len() {
-            let found = self.read(row);
-            if found != code {
-                continue;
-            }
+        let mut from = 0;
+        while let Some(row) = self.next_row_of(code, from) {
             put(places, count, row as u64);
             count += 1;
+            from = row + 1;
         }
         count
     }

@@ -1,10 +1,12 @@
 //! How often each string occurs in a column.
 ghost use Rattle.std.specs.Prelude.{◌≡◌, IfOk, replicate};
-ghost use Rattle.intaglio_column_file.specs.Layout.{codes, strings};
+ghost use Rattle.intaglio_column_file.specs.Layout.{codes, strings, width as width_of};
 ghost use Rattle.intaglio_column_file.specs.Rows.{AreCounts};
 
+use crate::code::Code;
 use crate::column::Column;
 use crate::numbers::MISSING;
+use crate::width::Width;
 use std::alloc::{AllocError, Global};
 
 /// How often each string occurs.
@@ -37,10 +39,22 @@ impl Column<'_> {
         requires { of.old ≡ replicate (strings self.now) 0 }
         ensures { AreCounts (strings self.now) (codes self.now) of.new result }
     {
+        match self.width() {
+            Width::One => self.count_each::<u8>(of),
+            Width::Two => self.count_each::<u16>(of),
+            Width::Four => self.count_each::<u32>(of),
+        }
+    }
+
+    fn count_each<C: Code>(&self, of: &mut [u64]) -> u64
+        requires width { C.width ≡ width_of self.now }
+        requires zero { of.old ≡ replicate (strings self.now) 0 }
+        ensures { AreCounts (strings self.now) (codes self.now) of.new result }
+    {
         let rows = self.len();
         let mut missing = 0u64;
         for row in 0..rows {
-            let code = self.read(row);
+            let code = self.read::<C>(row);
             if code == MISSING {
                 missing += 1;
                 continue;

@@ -1,6 +1,7 @@
 //! Columns in files: the codes of a list of lines under a dictionary, behind a header that says which dictionary.
 #![tactic(auto)]
 
+mod code;
 mod column;
 mod copying;
 mod counting;
@@ -12,7 +13,9 @@ mod identity;
 pub mod laws;
 mod list;
 mod numbers;
+mod scanning;
 mod selecting;
+mod testing;
 mod width;
 mod writing;
 
@@ -26,4 +29,4 @@ pub use identity::id_of_table;
 pub use list::CodeList;
 pub use numbers::MISSING;
 pub use width::Width;
-pub use writing::column_bytes;
+pub use writing::{column_bytes, header_bytes};

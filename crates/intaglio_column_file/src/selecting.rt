@@ -1,9 +1,12 @@
 //! In which rows of a column a string stands.
-ghost use Rattle.std.specs.Prelude.{◌≡◌, IfOk};
-ghost use Rattle.intaglio_column_file.specs.Layout.{codes};
-ghost use Rattle.intaglio_column_file.specs.Rows.{rows_of};
+ghost use Rattle.std.specs.Prelude.{◌≡◌, ◌==◌, IfOk};
+ghost use Rattle.intaglio_column_file.specs.Layout.{codes, width as width_of};
+ghost use Rattle.intaglio_column_file.specs.Rows.{IsNextRow, rows_of};
 
+use crate::code::Code;
 use crate::column::Column;
+use crate::testing::{HasAnyCode, HasCode};
+use crate::width::Width;
 use std::alloc::{AllocError, Global};
 
 impl Column<'_> {
@@ -17,13 +20,36 @@ impl Column<'_> {
         ensures { IfOk result (λ rows. rows.items ≡ rows_of code (codes self.now)) }
     {
         let mut rows = Vec::new(alloc);
-        for row in 0..self.len() {
-            let found = self.read(row);
-            if found != code {
-                continue;
-            }
+        // The number behind a row fits too.
+        let _rows = self.len();
+        let mut from = 0;
+        while let Some(row) = self.next_row_of(code, from) {
             rows.push(row as u64)?;
+            from = row + 1;
         }
         Ok(rows)
+    }
+
+    /// The first row, from this one on, with this code. It is found without a test of each row: where none of 32 rows
+    /// has the code, they are tested at once.
+    pub fn next_row_of(&self, code: u32, from: usize) -> Option<usize>
+        ensures { IsNextRow (λ c. c == code) from (codes self.now) result }
+    {
+        match self.width() {
+            Width::One => self.next_with::<u8>(code, from),
+            Width::Two => self.next_with::<u16>(code, from),
+            Width::Four => self.next_with::<u32>(code, from),
+        }
+    }
+
+    #[inline(always)]
+    fn next_with<C: Code>(&self, code: u32, from: usize) -> Option<usize>
+        requires { C.width ≡ width_of self.now }
+        ensures { IsNextRow (λ c. c == code) from (codes self.now) result }
+    {
+        match C::narrow(code) {
+            Some(code) => self.next_row::<C, HasCode<C>>(&HasCode { code }, from),
+            None => self.next_row::<C, HasAnyCode>(&HasAnyCode { code }, from),
+        }
     }
 }

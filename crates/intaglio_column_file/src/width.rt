@@ -1,10 +1,6 @@
 //! How many bytes a code has.
-ghost use Rattle.std.specs.Prelude.{◌≡◌, ◌+◌, ◌*◌, ◌<◌, ◌≤◌, length};
+ghost use Rattle.std.specs.Prelude.{◌≡◌, ◌+◌, ◌*◌, ◌<◌, ◌≤◌};
 ghost use Rattle.intaglio_column_file.specs.Width.{bytes_of, width_for};
-ghost use Rattle.intaglio_column_file.specs.Layout.{code_at, widened};
-ghost use Rattle.intaglio_column_file.specs.declared.width.Width.TheVariants.{Four, One, Two};
-
-use crate::numbers::{MISSING, read_u8, read_u16, read_u32};
 
 /// How many bytes a code of a column has.
 #[derive(Debug, Clone, Copy, PartialEq, Eq)]
@@ -54,46 +50,4 @@ impl Width {
             Width::Four => room / 4,
         }
     }
-
-    // The code of this width at a position, as one of four bytes.
-    #[inline(always)]
-    pub(crate) fn read(self, bytes: &[u8], at: usize) -> u32
-        requires { at + bytes_of self ≤ length bytes.now }
-        ensures { result ≡ code_at bytes.now self at }
-    {
-        match self {
-            Width::One => widen_one(read_u8(bytes, at)),
-            Width::Two => widen_two(read_u16(bytes, at)),
-            Width::Four => widen_four(read_u32(bytes, at)),
-        }
-    }
-}
-
-#[inline(always)]
-fn widen_one(code: u8) -> u32
-    ensures { result ≡ widened One code }
-{
-    if code == u8::MAX {
-        MISSING
-    } else {
-        code as u32
-    }
-}
-
-#[inline(always)]
-fn widen_two(code: u16) -> u32
-    ensures { result ≡ widened Two code }
-{
-    if code == u16::MAX {
-        MISSING
-    } else {
-        code as u32
-    }
-}
-
-#[inline(always)]
-fn widen_four(code: u32) -> u32
-    ensures { result ≡ widened Four code }
-{
-    if code == u32::MAX { MISSING } else { code }
 }

@@ -7,7 +7,7 @@ ghost use Rattle.intaglio_column_file.specs.IsColumn.{AreCodes, Describes, IsCol
 ghost use Rattle.intaglio_column_file.specs.Writing.{IsRefusal, code_bytes, column_of, header_of, reserved_bytes};
 
 use crate::error::ColumnWriteError;
-use crate::header::{HEADER, MAGIC, MAX_COUNT, VERSION};
+use crate::header::{ColumnHeader, HEADER, MAGIC, MAX_COUNT, VERSION};
 use crate::id::{DictionaryId, kind_number};
 use crate::list::CodeList;
 use crate::numbers::MISSING;
@@ -33,6 +33,19 @@ pub fn column_bytes<L: CodeList>(
     ensures err { IfErr result (IsRefusal id.count (L.codes codes.now)) }
 {
     let bytes = assemble(alloc, id, codes)?;
+    Ok(bytes)
+}
+
+/// The bytes of a header. With as many codes behind it as it has rows, each in the bytes of its width, it is a column.
+///
+/// # Errors
+///
+/// [`AllocError`] if the allocation fails.
+pub fn header_bytes(alloc: Global, header: ColumnHeader) -> Result<Vec<u8>, AllocError>
+    ensures { IfOk result (λ bytes. bytes.items ≡ header_of header.id header.width header.rows) }
+{
+    let mut bytes = Vec::with_capacity(alloc, HEADER)?;
+    put_header(&mut bytes, header.id, header.width, header.rows)?;
     Ok(bytes)
 }
 

@@ -11,16 +11,13 @@ ghost use Rattle.intaglio_lines.specs.declared.tool_error.ToolError.TheVariants.
 use crate::from_line::FromLine;
 use crate::intern_lines::intern_lines;
 use crate::tool_error::ToolError;
-use crate::write::{Output, make_room, put, put_line, write_output};
+use crate::write::{Output, put, put_line, put_number, write_output};
 use intaglio_content::{Content, SpelledStore, Store};
 use intaglio_interner::BaseInterner;
 use intaglio_symbol::Symbol;
 use std::alloc::Global;
 use std::io;
 use std::io::Write;
-
-// The length of the longest line of a number: ten digits and byte 10.
-const NUMBER_LINE: usize = 11;
 
 /// Interns the lines of an input into this empty table, and writes the symbol of each line, an empty line, and
 /// the spelling of each symbol.
@@ -87,17 +84,9 @@ fn put_symbols<W: Write>(symbols: &[Symbol], block: &mut Vec<u8>, writer: &mut W
         (Puts W.contents writer.old block.old writer.new block.new (flat_map number_line symbols.now)) }
 {
     for symbol in symbols {
-        put_number(symbol.id(), block, writer)?;
+        put_number(symbol.id() as u64, block, writer)?;
     }
     Ok(())
-}
-
-fn put_number<W: Write>(number: u32, block: &mut Vec<u8>, writer: &mut W) -> io::Result<()>
-    ensures { OnOk result (Puts W.contents writer.old block.old writer.new block.new (number_line number)) }
-{
-    // There is room for the longest line, so the block never grows.
-    make_room(NUMBER_LINE, block, writer)?;
-    writeln!(block, "{number}")
 }
 
 fn put_spellings<L: SpelledStore, W: Write>(

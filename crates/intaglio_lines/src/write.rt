@@ -1,7 +1,7 @@
 //! Writes outputs through a block of fixed size.
 ghost use Rattle.std.specs.Prelude.{◌≡◌, ◌≢◌, ◌+◌, ◌≤◌, ◌⊎◌, ◌++◌, ℕ, List, [], OnOk, OnErr, IfOk, IfErr, length, take, vec_len, vec_capacity};
 ghost use Rattle.std.specs.Io.KnownBytes.{Keeps};
-ghost use Rattle.intaglio_lines.specs.Output.{spelling_line};
+ghost use Rattle.intaglio_lines.specs.Output.{number_line, spelling_line};
 ghost use Rattle.intaglio_lines.specs.Puts.{Puts, Writes, WritesFront, held};
 ghost use Rattle.intaglio_lines.specs.StreamError.{IsWritingError};
 ghost use Rattle.intaglio_lines.specs.declared.error.StreamError.TheVariants.{Write as WriteFailed};
@@ -13,6 +13,9 @@ use std::io::{ErrorKind, Write};
 
 // How many bytes are buffered before they are written.
 const BLOCK: usize = 64 * 1024;
+
+// The length of the longest line of a number: twenty digits and byte 10.
+const NUMBER_LINE: usize = 21;
 
 /// An output that is written piece by piece, through a block.
 pub trait Output {
@@ -79,6 +82,20 @@ pub fn put_line<W: Write>(line: &[u8], block: &mut Vec<u8>, writer: &mut W) -> i
 {
     put(line, block, writer)?;
     put(b"\n", block, writer)
+}
+
+/// Writes a number and byte 10 through the block.
+///
+/// # Errors
+///
+/// Those of the writer.
+pub fn put_number<W: Write>(number: u64, block: &mut Vec<u8>, writer: &mut W) -> io::Result<()>
+    ensures { OnOk result
+        (Puts W.contents writer.old block.old writer.new block.new (number_line number)) }
+{
+    // There is room for the longest line, so a block of that size never grows.
+    make_room(NUMBER_LINE, block, writer)?;
+    writeln!(block, "{number}")
 }
 
 /// Appends a piece to what was put before: to the block, or directly to the writer if the piece is longer

@@ -1,7 +1,7 @@
 //! Column files of each width, whole and damaged.
 use intaglio_column_file::{
     Column, ColumnError, ColumnHeader, ColumnWriteError, DictionaryId, MISSING, Width,
-    begins_as_column, column_bytes,
+    begins_as_column, column_bytes, header_bytes,
 };
 use intaglio_symbol::Symbol;
 use std::process::Abort;
@@ -167,6 +167,57 @@ fn a_filter_selects_rows(rt: HostRuntime) {
     assert!(&rt; filter.selects(2));
     assert!(&rt; !filter.selects(3));
     assert!(&rt; !filter.selects(MISSING));
+}
+
+#[test]
+fn rows_are_found_one_after_the_other(rt: HostRuntime) {
+    let column = opened(&rt, &COLUMN);
+    assert_eq!(&rt; column.next_row_of(2, 0), Some(1));
+    assert_eq!(&rt; column.next_row_of(2, 2), Some(2));
+    assert_eq!(&rt; column.next_row_of(2, 3), None);
+    assert_eq!(&rt; column.next_row_of(MISSING, 0), Some(3));
+    assert_eq!(&rt; column.next_row_of(255, 0), None);
+    assert_eq!(&rt; column.next_row_of(1, 5), None);
+    assert_eq!(&rt; opened(&rt, &TWO).next_row_of(1, 0), Some(2));
+    assert_eq!(&rt; opened(&rt, &TWO).next_row_of(MISSING, 0), Some(1));
+    assert_eq!(&rt; opened(&rt, &FOUR).next_row_of(65_535, 0), Some(0));
+}
+
+#[test]
+fn rows_behind_a_block_are_found(rt: HostRuntime) {
+    let mut codes = Vec::from_elem(rt.alloc(), 0u32, 100).expect(&rt, "memory");
+    for row in [70, 99] {
+        codes[row] = 1;
+    }
+    let bytes = column_bytes(rt.alloc(), ID, &codes.as_slice()).expect(&rt, "no column");
+    let column = opened(&rt, &bytes);
+    assert_eq!(&rt; column.next_row_of(1, 0), Some(70));
+    assert_eq!(&rt; column.next_row_of(1, 71), Some(99));
+    assert_eq!(&rt; column.next_row_of(1, 100), None);
+    let rows = column.rows_of(rt.alloc(), 1).expect(&rt, "memory");
+    assert!(&rt; rows.as_slice() == [70, 99].as_slice());
+}
+
+#[test]
+fn a_filter_of_one_string_has_its_code(rt: HostRuntime) {
+    let column = opened(&rt, &COLUMN);
+    let mut filter = column.no_rows(rt.alloc()).expect(&rt, "memory");
+    assert_eq!(&rt; filter.only_code(), None);
+    assert_eq!(&rt; column.next_selected(&filter, 0), None);
+    filter.strings[2] = true;
+    assert_eq!(&rt; filter.only_code(), Some(2));
+    assert_eq!(&rt; column.count_rows(&filter), 2);
+    assert_eq!(&rt; column.next_selected(&filter, 2), Some(2));
+    filter.missing = true;
+    assert_eq!(&rt; filter.only_code(), None);
+    assert_eq!(&rt; column.next_selected(&filter, 3), Some(3));
+}
+
+#[test]
+fn a_header_has_the_bytes_that_were_read(rt: HostRuntime) {
+    let header = ColumnHeader::read(&TWO).expect(&rt, "no header");
+    let bytes = header_bytes(rt.alloc(), header).expect(&rt, "memory");
+    assert!(&rt; bytes.as_slice() == &TWO[..64]);
 }
 
 #[test]

@@ -1,13 +1,11 @@
--- The rows with the code so far, over the first places.
-use Rattle.std.proofs.Common.{◌≡◌, ◌≤◌, ◌==◌, length, take}
+-- The rows so far, over the first places.
+use Rattle.std.proofs.Common.{◌-◌, ◌==◌, length}
 use Rattle.intaglio_column_file.specs.Layout.{codes}
-use Rattle.intaglio_column_file.specs.Rows.{overlaid, rows_from}
+use Rattle.intaglio_column_file.proofs.Placed.{ArePlaced}
 use Rattle.intaglio_column_file.proofs.column.Column.rows_into.Given as goal
 
 abbrev pub invariant-loop-row : goal.invariant-loop-row
-invariant-loop-row l =
-    let found = rows_from (λ c. c == l.code) 0 (take l.row (codes l.self)) in record {
-      places : l.places ≡ overlaid found l.initial.places;
-      count : l.count ≡ length found;
-      few : l.count ≤ l.row;
-    }
+invariant-loop-row l = ArePlaced (λ c. c == l.code) (codes l.self) l.initial.places l.from l.places l.count
+
+abbrev pub decreases-loop-row : goal.decreases-loop-row
+decreases-loop-row l = length (codes l.self) - l.from

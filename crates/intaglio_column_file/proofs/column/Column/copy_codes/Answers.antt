@@ -1,17 +1,17 @@
 use Rattle.std.proofs.Common.{◌∙◌, drop, arith, length-drop}
 use Rattle.intaglio_column_file.specs.Layout.{codes}
 use Rattle.intaglio_column_file.proofs.Overlaid.{overlaid_all, overlaid_next, read_behind}
-use Rattle.intaglio_column_file.proofs.column.Column.codes_into.Goals as goal
+use Rattle.intaglio_column_file.proofs.column.Column.copy_codes.Goals as goal
 
 pub loop-i-preserved : goal.loop-i-preserved
-loop-i-preserved c =
+loop-i-preserved g c =
     let cs = codes c.args.self.now in
     let at = read_behind cs c.args.from c.loop-i.i c.read-code.result c.read-code.ensures in
     overlaid_next (drop c.args.from cs) c.args.places.now c.loop-i.places c.loop-i.i c.read-code.result c.loop-i.invariant
     (omega (arith, c.loop-i-test.true, c.min-count.ensures)) at
 
 pub returns-clause-codes : goal.returns-clause-codes
-returns-clause-codes c =
+returns-clause-codes g c =
     let cs = codes c.args.self.now in
     let left = length-drop c.args.from cs in
     c.loop-i.invariant

@@ -1,0 +1,19 @@
+use Rattle.std.proofs.Common.{◌∙◌, ap, refl, arith}
+use Rattle.intaglio_column_file.specs.IsColumn.{is_unknown}
+use Rattle.intaglio_column_file.specs.Layout.{widened}
+use Rattle.intaglio_column_file.specs.declared.width.Width.TheVariants.{Two}
+use Rattle.intaglio_column_file.proofs.Codes.{two_at}
+use Rattle.intaglio_column_file.proofs.Widths.{unknown_above, unknown_below}
+use Rattle.intaglio_column_file.proofs.code.U16Code.is_unknown.Goals as goal
+
+pub returns-then-code-self : goal.returns-then-code-self
+returns-then-code-self c =
+    let code = c.read_u16-code.result in
+    unknown_above Two c.args.self code (omega arith) (omega (arith, c.if-code-self.true))
+    ∙ ap (is_unknown c.args.self) (two_at c.args.bytes.now Two c.args.at (widened Two code) code refl c.read_u16-code.ensures refl)
+
+pub returns-else-code-self : goal.returns-else-code-self
+returns-else-code-self c =
+    let code = c.read_u16-code.result in
+    unknown_below Two c.args.self code (omega arith) (omega (arith, c.if-code-self.false))
+    ∙ ap (is_unknown c.args.self) (two_at c.args.bytes.now Two c.args.at (widened Two code) code refl c.read_u16-code.ensures refl)

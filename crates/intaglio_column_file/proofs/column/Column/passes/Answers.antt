@@ -1,0 +1,11 @@
+use Rattle.std.proofs.Common.{◌∙◌, ap}
+use Rattle.intaglio_column_file.proofs.Codes.{read_or}
+use Rattle.intaglio_column_file.proofs.column.Column.passes.Goals as goal
+
+pub returns : goal.returns
+returns g c =
+    let within = rw (← c.self.view_is) at c.requires.row in
+    let width = rw (← c.self.view_is) at c.requires.width in
+    rw (← c.self.view_is)
+    (c.passes_at.ensures
+    ∙ ap (g.T.CodeTest.passes c.args.test.now) (read_or c.self.inside.bytes.now g.C.Code.width c.args.row c.bytes.result width within c.bytes.ensures))
