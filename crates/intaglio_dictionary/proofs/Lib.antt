@@ -9,5 +9,7 @@ pub mod Counted
 pub mod Cut
 pub mod Marked
 pub mod Ranged
+pub mod Ranked
 pub mod Indexed
 pub mod Merged
+pub mod Kept

@@ -1,12 +1,15 @@
 -- How often each string of a column file occurs, as it is written.
-use Rattle.std.specs.Prelude.{◌≡◌, ℕ, ◌-◌, ◌^◌, ◌==◌, cond, not, Bool, true, false, List, [], ◌∷◌, ◌++◌, map, get_or, Option}
+use Rattle.std.specs.Prelude.{◌≡◌, ℕ, ◌-◌, ◌^◌, ◌<◌, ◌==◌, cond, not, Bool, true, false, List, [], ◌∷◌, ◌++◌, map, get_or, slice_get, Contains, Option, None}
 use Rattle.std.specs.List.{flat_map}
 use Rattle.std.specs.List.Sorted.{IsPermutation, IsSorted}
 use Rattle.std.specs.Ordering.{nat_cmp, ordering_then}
 use Rattle.std.specs.Fmt.{decimal}
 use Rattle.intaglio_lines.specs.Output.{number_line, spelling_line}
 use Rattle.intaglio_lines.specs.Puts.{Writes}
-use Rattle.intaglio_column_file.specs.Rows.{AreCounts, rows_from}
+use Rattle.intaglio_lines.specs.StreamError.{IsWritingError}
+use Rattle.intaglio_column_file.specs.Rows.{AreCounts, count_of, rows_from}
+use Rattle.intaglio_dictionary.specs.declared.error.DictionaryError.{DictionaryError}
+use Rattle.intaglio_dictionary.specs.declared.error.DictionaryError.TheVariants.{NoString, Stream}
 
 -- the symbols whose strings occur, in ascending order
 abbrev pub occurring : List ℕ → List ℕ
@@ -47,3 +50,13 @@ pub record WritesCounts {W : Type 0} (by_symbol : Bool) (n : ℕ) (strings : Lis
   pub counted : AreCounts n cs counts gone
   pub order : AreInOrder by_symbol counts ordered
   pub written : Writes contents old new (flat_map (rank_line strings counts) ordered ++ missing_line gone)
+
+-- when each error is returned, of ranks: one has no string
+abbrev pub IsRankFault : List (List ℕ) → Type 0 → List (ℕ × ℕ) → DictionaryError → Type 0
+IsRankFault strings IsWhole ordered (NoString symbol) = (rank : ℕ × ℕ) × Contains ordered rank × (rank.1 ≡ symbol) × (IsWhole → slice_get strings symbol ≡ None)
+IsRankFault strings IsWhole ordered (Stream failure) = IsWritingError failure
+
+-- and of codes under n strings: one of them occurs and isn't there
+abbrev pub IsCountsFault : List (List ℕ) → Type 0 → ℕ → List ℕ → DictionaryError → Type 0
+IsCountsFault strings IsWhole n cs (NoString symbol) = (symbol < n) × (0 < count_of symbol cs) × (IsWhole → slice_get strings symbol ≡ None)
+IsCountsFault strings IsWhole n cs (Stream failure) = IsWritingError failure

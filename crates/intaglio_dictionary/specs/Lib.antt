@@ -9,3 +9,4 @@ pub mod Counting
 pub mod Joining
 pub mod ShardIndex
 pub mod MergedShard
+pub mod Renumbering

@@ -7,14 +7,11 @@ ghost use Rattle.intaglio_dictionary.specs.Answers.{answer_line, AreFound};
 
 use crate::dictionary::Dictionary;
 use intaglio_lines::lines::first_line;
-use intaglio_lines::write::{Output, make_room, put};
+use intaglio_lines::write::{Output, put, put_number};
 use intaglio_symbol::Symbol;
 use std::alloc::{AllocError, Global};
 use std::io;
 use std::io::Write;
-
-// The length of the longest line of a number: ten digits and byte 10.
-const NUMBER_LINE: usize = 11;
 
 /// What is found of each line of an input.
 ///
@@ -68,17 +65,7 @@ fn put_answer<W: Write>(
     ensures { OnOk result (Puts W.contents writer.old block.old writer.new block.new (answer_line found)) }
 {
     match found {
-        Some(symbol) => put_number(symbol.id(), block, writer),
+        Some(symbol) => put_number(symbol.id() as u64, block, writer),
         None => put(b"-\n", block, writer),
     }
-}
-
-// Writes a number and byte 10.
-fn put_number<W: Write>(number: u32, block: &mut Vec<u8>, writer: &mut W) -> io::Result<()>
-    ensures { OnOk result
-        (Puts W.contents writer.old block.old writer.new block.new (answer_line (Some number))) }
-{
-    // There is room for the longest line, so the block never grows.
-    make_room(NUMBER_LINE, block, writer)?;
-    writeln!(block, "{number}")
 }

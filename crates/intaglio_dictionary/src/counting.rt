@@ -4,20 +4,20 @@ ghost use Rattle.std.specs.List.{flat_map};
 ghost use Rattle.intaglio_lines.specs.Puts.{Puts, Writes};
 ghost use Rattle.intaglio_lines.specs.declared.error.StreamError.TheVariants.{Write as WriteFailed};
 ghost use Rattle.intaglio_column_file.specs.Layout.{codes, strings as strings_of};
-ghost use Rattle.intaglio_dictionary.specs.Counting.{AreInOrder, WritesCounts, count_line, missing_line, rank_line, ranks};
+ghost use Rattle.intaglio_dictionary.specs.Counting.{AreInOrder, IsCountsFault, IsRankFault, WritesCounts, count_line, missing_line, rank_line, ranks};
 ghost use Rattle.intaglio_dictionary.specs.declared.error.DictionaryError.TheVariants.{Stream};
 
 use crate::dictionary::Dictionary;
 use crate::error::DictionaryError;
 use intaglio_column_file::Column;
 use intaglio_lines::error::StreamError;
-use intaglio_lines::write::{Output, make_room, put_line, write_output};
+use intaglio_lines::write::{Output, make_room, put_line, put_number, write_output};
 use intaglio_symbol::Symbol;
 use std::alloc::{AllocError, Global};
 use std::io;
 use std::io::Write;
 
-// The length of the longest count: twenty digits and a tab or byte 10.
+// The length of the longest count: twenty digits and a tab.
 const MAX_COUNT: usize = 21;
 
 /// Writes how often each string of a column occurs: its count, a tab and the string, each on a line, and at last the
@@ -56,6 +56,8 @@ pub fn write_counts<D: Dictionary, W: Write>(
 ) -> Result<(), DictionaryError>
     ensures written { let Counts = WritesCounts by_symbol (strings_of column.now) (D.strings table.now) (codes column.now) in
         OnOk result (Counts W.contents writer.old writer.new) }
+    ensures err { let n = strings_of column.now in
+        IfErr result (IsCountsFault (D.strings table.now) (D.is_whole table.now) n (codes column.now)) }
     ensures nothing_written { IfErr result (λ e. e ≢ Stream WriteFailed → writer.new ≡ writer.old) }
 {
     // The number of strings is at most 2^31.
@@ -123,8 +125,9 @@ fn counted_strings<'a, D: Dictionary>(
     counts: &[u64],
     ordered: &[Rank],
 ) -> Result<Vec<(u64, &'a [u8])>, DictionaryError>
-    ensures { let lines = flat_map (rank_line (D.strings table.now) counts.now) ordered.now in
+    ensures lines { let lines = flat_map (rank_line (D.strings table.now) counts.now) ordered.now in
         IfOk result (λ all. flat_map (λ it. count_line it.0 it.1.now) all.items ≡ lines) }
+    ensures err { IfErr result (IsRankFault (D.strings table.now) (D.is_whole table.now) ordered.now) }
 {
     let mut lines = Vec::new(alloc);
     for rank in ordered {
@@ -198,6 +201,5 @@ fn put_missing<W: Write>(missing: u64, block: &mut Vec<u8>, writer: &mut W) -> i
     if missing == 0 {
         return Ok(());
     }
-    make_room(MAX_COUNT, block, writer)?;
-    writeln!(block, "{missing}")
+    put_number(missing, block, writer)
 }

@@ -5,6 +5,7 @@ ghost use Rattle.intaglio_dictionary.specs.declared.error.MapError.TheVariants.{
 ghost use Rattle.intaglio_dictionary.specs.declared.error.FreezingError.TheVariants.{Table, Stream as FreezingStopped};
 ghost use Rattle.intaglio_dictionary.specs.declared.error.RowsError.TheVariants.{Stream as RowsStopped};
 
+use intaglio_column_file::ColumnWriteError;
 use intaglio_frozen::FreezeError;
 use intaglio_lines::error::StreamError;
 use std::alloc::AllocError;
@@ -118,4 +119,15 @@ impl From<StreamError> for RowsError {
     fn from(stopped: StreamError) -> RowsError {
         RowsError::Stream(stopped)
     }
+}
+
+/// Why a column wasn't renumbered.
+#[derive(Clone, Copy, Debug, PartialEq, Eq, Error)]
+pub enum RenumberError {
+    /// The map has another number of codes than the dictionary of the column has strings.
+    #[error("the map is that of another dictionary")]
+    OtherLength,
+    /// The new codes aren't a column.
+    #[error(transparent)]
+    Column(ColumnWriteError),
 }

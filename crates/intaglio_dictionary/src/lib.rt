@@ -17,6 +17,7 @@ pub mod matching;
 pub mod merged_shard;
 pub mod merging;
 pub mod progress;
+pub mod renumbering;
 pub mod rows;
 pub mod shard_index;
 pub mod size;

@@ -7,18 +7,16 @@ ghost use Rattle.intaglio_lines.specs.StreamError.{IsWritingError};
 ghost use Rattle.intaglio_lines.specs.declared.error.StreamError.TheVariants.{Write as WriteFailed};
 ghost use Rattle.intaglio_column_file.specs.Filter.{selects};
 ghost use Rattle.intaglio_column_file.specs.Layout.{codes, strings as strings_of};
+ghost use Rattle.intaglio_column_file.specs.Rows.{rows_of};
 ghost use Rattle.intaglio_dictionary.specs.Matching.{AreMarked, selected_lines};
 
 use crate::dictionary::Dictionary;
 use intaglio_column_file::{Column, RowFilter};
 use intaglio_lines::error::StreamError;
-use intaglio_lines::write::{Output, make_room, write_output};
+use intaglio_lines::write::{Output, put_number, write_output};
 use std::alloc::{AllocError, Global};
 use std::io;
 use std::io::Write;
-
-// The length of the longest line of a number: twenty digits and byte 10.
-const NUMBER_LINE: usize = 21;
 
 /// A filter that selects the rows with one of these strings, or, if it inverts, all others. The string of a row is
 /// told by its code.
@@ -120,23 +118,49 @@ impl Output for SelectedRows<'_, '_> {
     ghost is_ready = { λ _. Unit {0} };
 
     fn put_all<W: Write>(&self, block: &mut Vec<u8>, writer: &mut W) -> io::Result<()> {
-        for row in 0..self.column.len() {
-            let code = self.column.code(row).unwrap();
-            if !self.filter.selects(code) {
-                continue;
-            }
-            put_row(row as u64, block, writer)?;
+        match self.filter.only_code() {
+            Some(code) => put_rows_of(self.column, code, block, writer),
+            None => put_selected(self.column, self.filter, block, writer),
         }
-        Ok(())
     }
 }
 
-// Writes a number and byte 10.
-pub(crate) fn put_row<W: Write>(number: u64, block: &mut Vec<u8>, writer: &mut W) -> io::Result<()>
-    ensures { OnOk result
-        (Puts W.contents writer.old block.old writer.new block.new (number_line number)) }
+// Writes the rows with a code.
+fn put_rows_of<W: Write>(
+    column: &Column<'_>,
+    code: u32,
+    block: &mut Vec<u8>,
+    writer: &mut W,
+) -> io::Result<()>
+    ensures { let lines = flat_map number_line (rows_of code (codes column.now)) in
+        OnOk result (Puts W.contents writer.old block.old writer.new block.new lines) }
 {
-    // There is room for the longest line, so the block never grows.
-    make_room(NUMBER_LINE, block, writer)?;
-    writeln!(block, "{number}")
+    // The number behind a row fits too.
+    let _rows = column.len();
+    let mut from = 0;
+    while let Some(row) = column.next_row_of(code, from) {
+        put_number(row as u64, block, writer)?;
+        from = row + 1;
+    }
+    Ok(())
+}
+
+// Writes the rows that a filter selects.
+fn put_selected<W: Write>(
+    column: &Column<'_>,
+    filter: &RowFilter,
+    block: &mut Vec<u8>,
+    writer: &mut W,
+) -> io::Result<()>
+    ensures { OnOk result (Puts W.contents writer.old block.old writer.new block.new
+        (selected_lines filter.now (codes column.now))) }
+{
+    // The number behind a row fits too.
+    let _rows = column.len();
+    let mut from = 0;
+    while let Some(row) = column.next_selected(filter, from) {
+        put_number(row as u64, block, writer)?;
+        from = row + 1;
+    }
+    Ok(())
 }
