@@ -10,7 +10,7 @@ import tempfile
 from collections import Counter
 from pathlib import Path
 
-from columns import CODED, DONE, NAME, WAS, ended, failing, left, packed, put, random_parts, read, said, shown
+from columns import CODED, DONE, NAME, WAS, ended, failing, left, merged, packed, put, random_parts, read, said, shown
 from frozen_columns import HEADER, MAGIC, MISSING, Column, column, faults_of, id_of
 from frozen_tables import BYTES, TEXT, freeze
 from programs import run
@@ -97,9 +97,12 @@ def selected(tool, chance, table, name, lines):
             told = said(1, f"{name}: no row {row}: there are {len(lines)} rows, counted from 0")
             yield f"rows {trusted} behind the last", run([*command, *typed, str(row)]) == told
             yield f"rows {trusted} to behind the last", run([*command, f"0-{row}"]) == told
+        yield f"rows {trusted} of standard input", run([*command[:-1], "-", *typed], read(name)) == (0, wanted, [])
     gone = next((it for it in rows if lines[it] is None), None)
     told = (0, wanted, []) if gone is None else said(1, f"{name}: row {gone} {MISSING_ROW}")
-    yield "rows without a text for missing ones", run([tool, "rows", table, name, *typed]) == told
+    for trusted in ((), ("--trusted",)):
+        words = ["rows", *trusted, table, name, *typed]
+        yield f"rows {trusted} without a text for missing ones", run([tool, *words]) == told
 
 
 def of_lines(tool, chance, table, strings, kind, name, lines):
@@ -157,6 +160,87 @@ def of_column(tool, chance, size, kind, folder):
         put([f"{name}.kept"])
         command = [tool, "encode", table, "--column", f"{name}.kept"]
         yield "encode --column of a missing line", run(command, given) == said(1, told) and read(f"{name}.kept") == WAS
+    yield "no file is left", not left(folder)
+
+
+# Columns of parts, whose dictionaries are merged.
+
+
+def of_parts(tool, chance, size, kind, folder):
+    """Yields what the program was asked of columns of parts, some of whose lines are missing, and of the merged dictionary."""
+    word, parts = ("bytes", "text")[kind], random_parts(chance, size, kind)
+    tables = [f"{folder}/{part}.dict" for part in range(len(parts))]
+    for table, lines in zip(tables, parts):
+        yield f"freeze {table}", run([tool, "freeze", "--kind", word, "-o", table], ended(lines)) == DONE
+    whole, maps = f"{folder}/whole", f"{folder}/maps"
+    yield "merge", run([tool, "merge", *tables, "-o", whole, "--maps", maps]) == DONE
+    strings, _ = merged([*dict.fromkeys(lines)] for lines in parts)
+    symbols, into = {it: number for number, it in enumerate(strings)}, id_of(freeze(strings, kind))
+    for part, lines in enumerate(parts):
+        name, new, table = f"{folder}/column", f"{folder}/{part}.again", tables[part]
+        kept = [it if chance.random() < 0.9 else None for it in lines]
+        given = ended(b"none of them" if it is None else it for it in kept)
+        yield f"encode {part}", run([tool, "encode", "--missing", "--column", name, table], given) == DONE
+        wanted = column(into, [MISSING if it is None else symbols[it] for it in kept])
+        renumber = [tool, "renumber", "--column", name, "--dict", table, "--into", whole, f"{maps}/{part}.map"]
+        yield f"renumber {part}", run([*renumber, "-o", new]) == DONE and read(new) == wanted
+        yield f"renumber {part}, standard output", run(renumber) == (0, wanted, [])
+        again = ended(b"none" if it is None else it for it in kept)
+        yield f"decode {part}", run([tool, "decode", "--missing", "none", whole, new]) == (0, again, [])
+        yield f"check {part}", run([tool, "check", whole, new]) == DONE
+        told = said(0, f"{len(kept)} codes renumbered", wrote=wanted)
+        yield f"renumber {part}, verbose", run([*renumber, "--verbose"]) == told
+    yield "no file is left", not left(folder)
+
+
+def refused_parts(tool, folder):
+    """Yields columns, maps and words that `renumber` refuses, and whether it says so and leaves its output as it was."""
+    few, more = [b"a", b"bb", b""], [b"%d" % it for it in range(300)]
+    table, whole, name, maps, out = (f"{folder}/{it}" for it in ("few", "whole", "column", "map", "out"))
+    Path(table).write_bytes(freeze(few))
+    Path(whole).write_bytes(freeze([*more, *few]))
+    Path(name).write_bytes(column(id_of(freeze(few)), [0, 1, MISSING, 2]))
+    Path(maps).write_bytes(packed([300, 301, 302]))
+    words = ["renumber", "--column", name, "--dict", table, "--into", whole, "-o", out]
+
+    def is_refused(some, status, told):
+        put([out])
+        return run([tool, *some]) == said(status, told) and read(out) == WAS
+
+    wanted = column(id_of(read(whole)), [300, 301, MISSING, 302])
+    yield "a wider column", run([tool, *words, maps]) == DONE and read(out) == wanted
+    for codes in ([], [300, 301], [300, 301, 302, 303]):
+        Path(f"{folder}/other").write_bytes(packed(codes))
+        told = f"{folder}/other: a map of {len(codes)} codes, and {table} has 3 strings"
+        yield f"a map of {len(codes)}", is_refused([*words, f"{folder}/other"], 1, told)
+    for codes, row in (([303, 301, 302], 0), ([300, 301, 2**32 - 2], 3)):
+        Path(f"{folder}/other").write_bytes(packed(codes))
+        told = f"{folder}/other: a map to another dictionary than {whole}: row {row} has a code that is no symbol"
+        yield f"a map to {codes}", is_refused([*words, f"{folder}/other"], 1, told)
+    Path(f"{folder}/other").write_bytes(bytes(11))
+    told = f"{folder}/other: not a map: its length is no multiple of 4"
+    yield "a cut map", is_refused([*words, f"{folder}/other"], 1, told)
+    for data in (freeze([b"a", b"bb", b"c"]), freeze(few, TEXT), freeze(few[:2])):
+        Path(f"{folder}/other").write_bytes(data)
+        some = [*words[:4], f"{folder}/other", *words[5:], maps]
+        yield "a column of another dictionary", is_refused(some, 1, of_another(name, f"{folder}/other"))
+    Path(f"{folder}/other").write_bytes(packed([0, 1]))
+    yield "plain codes", is_refused([*words[:2], f"{folder}/other", *words[3:], maps], 1, f"{folder}/other: {NOT_ONE}")
+    for at in (4, 6):
+        status, wrote, lines = run([tool, *words[:at], f"{folder}/other", *words[at + 1 :], maps])
+        yield f"no dictionary after {words[at - 1]}", (status, wrote, len(lines), read(out)) == (1, b"", 1, WAS)
+    yield "split", run([tool, "split", whole, "--shards", "2", "-o", f"{folder}/shards"]) == DONE
+    told = f"{folder}/shards: a folder of shards; columns are of dictionaries in one file, and plain codes of both"
+    for at in (4, 6):
+        some = [*words[:at], f"{folder}/shards", *words[at + 1 :], maps]
+        yield f"a folder after {words[at - 1]}", is_refused(some, 1, told)
+    told = "after --column, --dict and --into are needed too: its dictionary and the merged one, each in one file"
+    without = [words[:3] + words[5:], words[:5] + words[7:], words[:3] + words[7:], words[:1] + words[3:]]
+    for some in (*without, [*words, "--part", "0"]):
+        yield f"{some}", is_refused([*some, maps], 2, told)
+    put([out])
+    status, wrote, lines = run([tool, *words, maps, name])
+    yield "codes with --column", (status, wrote, bool(lines), read(out)) == (2, b"", True, WAS)
     yield "no file is left", not left(folder)
 
 
@@ -252,10 +336,16 @@ def devices(tool, library, folder):
     whole = column(id_of(frozen), [0, 1, 0])
     for file, data in ((table, frozen), (name, whole), (lines, b"b\na\nb\n")):
         Path(file).write_bytes(data)
+    Path(f"{folder}/map").write_bytes(packed([1, 0]))
     cases = [
         (["decode", table, name], b"b\na\nb\n", {}),
         (["rows", table, name, "1-2"], b"a\nb\n", {}),
+        (["rows", "--trusted", table, name, "1-2", "0"], b"a\nb\nb\n", {}),
         (["count", table, name], b"2\tb\n1\ta\n", {}),
+        (
+            ["renumber", "--column", name, "--dict", table, "--into", table, f"{folder}/map", "-o", out],
+            b"", {out: column(id_of(frozen), [1, 0, 1])},
+        ),
         (["stat", name], b"column\nkind bytes\nstrings 2\nrows 3\nmissing 0\nwidth 1\nbytes 67\n", {}),
         (["encode", table, lines, "--column", "-"], whole, {}),
         (["encode", table, lines, "--column", out], b"", {out: whole}),
@@ -372,10 +462,10 @@ def damages(tool, pool, count):
 
 
 def session(tool, folder):
-    """Yields each command of the session in docs/COLUMN-FILES.md, and whether it writes what stands there."""
+    """Yields each command of the sessions in docs/COLUMN-FILES.md, one after the other, and whether it writes what stands
+    there."""
     page = Path("docs/COLUMN-FILES.md").read_text(encoding="utf-8")
-    block = re.findall(r"```console\n(.*?)```", page, re.S)[0]
-    for part in block.split("$ ")[1:]:
+    for part in "".join(re.findall(r"```console\n(.*?)```", page, re.S)).split("$ ")[1:]:
         command, _, wanted = part.partition("\n")
         typed = command.replace("./intaglio dict", f"'{tool}'")
         yield command, run(["/bin/sh", "-c", f"cd '{folder}' && {typed}"]) == (0, wanted.encode(), [])
@@ -387,6 +477,10 @@ def cases(tool, library):
         yield f"a column file of {size} lines, {word}", lambda folder, size=size, kind=kind: of_column(
             tool, random.Random(size), size, kind, folder
         )
+        yield f"columns of parts of {size} lines, {word}", lambda folder, size=size, kind=kind: of_parts(
+            tool, random.Random(size), size, kind, folder
+        )
+    yield "columns that renumber refuses", lambda folder: refused_parts(tool, folder)
     yield "other dictionaries", lambda folder: others(tool, folder)
     yield "docs/COLUMN-FILES.md", lambda folder: session(tool, folder)
     yield "devices, column files", lambda folder: devices(tool, library, folder)

@@ -43,7 +43,8 @@ TYPED = ("numbers", "words")
 
 
 class Command(NamedTuple):
-    """A command: its words, what its inputs are, whether the last is standard input if it isn't named, and its outputs."""
+    """A command: its words, what its inputs are, behind their options, whether the last is standard input if it isn't named,
+    and its outputs."""
 
     words: tuple
     inputs: tuple
@@ -72,6 +73,7 @@ COMMANDS = [
     Command(("match", "--invert"), ("dict", "column", "words"), ("stdout",), False),
     Command(("check",), ("dict", "column"), ("stdout",), False),
     Command(("renumber",), ("map", "codes"), ("-o",)),
+    Command(("renumber",), ("map", "--column column", "--dict dict", "--into dict"), ("-o",), False),
     Command(("merge",), ("dict", "dict"), ("-o!", "maps", "0.map", "1.map"), False),
 ]
 
@@ -190,6 +192,11 @@ def is_refused(ended):
     return (status, wrote, is_said, is_same) == (2, b"", True, True)
 
 
+def content_of(what):
+    """What is in an input."""
+    return CONTENTS[what.split()[-1]]
+
+
 def words_of(command, room, given):
     """The words of a run. What isn't given to an input or output, by its number, is another file."""
     words = [*command.words]
@@ -203,12 +210,13 @@ def words_of(command, room, given):
             words += [output.rstrip("!"), f"out{number}"]
     for number, what in enumerate(command.inputs):
         way = given.get(("input", number))
+        words += what.split()[:-1]
         if way:
             words += way.words
         elif what in TYPED:
             words += ["3", "0"]
         else:
-            words.append(room.other(f"in{number}", CONTENTS[what]))
+            words.append(room.other(f"in{number}", content_of(what)))
     return words
 
 
@@ -231,10 +239,10 @@ def inputs_and_outputs(tool, command):
         for read, written in itertools.product(ways_of_input(command, number), ways_of_output(output, True)):
             given = {("output", at): written, ("input", number): read}
             called = f"input {number} {read.called}, {output} {written.called}"
-            yield called, refused(tool, command, CONTENTS[what], given)
+            yield called, refused(tool, command, content_of(what), given)
         for read, (called, prepare) in itertools.product(ways_of_input(command, number), ways_of_map(output, True)):
             called = f"input {number} {read.called}, {called}"
-            yield called, refused(tool, command, CONTENTS[what], {("input", number): read}, prepare)
+            yield called, refused(tool, command, content_of(what), {("input", number): read}, prepare)
 
 
 def ways_of_map(output, is_there):
@@ -345,7 +353,7 @@ def apart(tool, command):
     for one, other in itertools.combinations(range(len(command.inputs)), 2):
         if command.inputs[one] == command.inputs[other]:
             given = {("input", one): Way("", ("file",)), ("input", other): Way("", ("link",))}
-            content = CONTENTS[command.inputs[one]]
+            content = content_of(command.inputs[one])
             yield f"inputs {one} and {other} are one", in_room(
                 content, lambda room: room.run(tool, words_of(command, room, given), ())[0] == 0
             )

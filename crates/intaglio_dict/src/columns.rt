@@ -6,6 +6,7 @@ use clap::ArgMatches;
 use intaglio_column_file::begins_as_column;
 use intaglio_dict_columns::decoding::decode_file;
 use intaglio_dict_columns::opening::{Pair, no_shards};
+use intaglio_dict_columns::renumbering::renumber_rows;
 use intaglio_dict_columns::rows::missing_text;
 use intaglio_dict_columns::writing::write_column;
 use intaglio_dict_io::checking::checked;
@@ -313,11 +314,14 @@ fn decode_with<
     translate(rt, found, "CODES", translation, "codes decoded")
 }
 
-/// Writes the code at each code of the inputs. Otherwise the exit status after a message.
+/// Writes the code at each code of the inputs, or a column with those of a column. Otherwise the exit status after a message.
 pub fn renumber_codes<R: Files + RandomSource + Input + Print + Tell + AllocGlobal>(
     rt: &R,
     found: &ArgMatches<'_>,
 ) -> Result<(), u8> {
+    if found.get_str("COLUMN").is_some() || found.get_str("DICT").is_some() {
+        return renumber_rows(rt, found);
+    }
     let Some(name) = found.get_str("MAP") else {
         return Err(2);
     };

@@ -42,7 +42,7 @@ fn check_missing<R: Tell>(rt: &R, column: &Column<'_>, name: &str) -> Result<(),
     if column.rows_into(MISSING, &mut first) == 0 {
         return Ok(());
     }
-    Err(no_line(rt, name, first[0], column))
+    Err(no_line(rt, name, first[0], Some(MISSING)))
 }
 
 // Writes the lines of all rows, some at a time.
@@ -65,7 +65,12 @@ fn write_all<R: Tell + AllocGlobal, D: Dictionary, W: Write>(
             Err(RowsError::Stream(fault)) => {
                 return Err(report::stopped(rt, fault, output_name, output.error));
             }
-            Err(RowsError::NoLine(row)) => return Err(no_line(rt, name, row, column)),
+            Err(RowsError::NoLine(row)) => return Err(no_line(
+                rt,
+                name,
+                row,
+                column.code(row as usize),
+            )),
             Err(fault) => return Err(report::failed(rt, name_of(name), fault)),
         }
     }

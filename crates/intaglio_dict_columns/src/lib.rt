@@ -5,7 +5,9 @@
 pub mod checking;
 pub mod counting;
 pub mod decoding;
+pub mod excerpt;
 pub mod matching;
 pub mod opening;
+pub mod renumbering;
 pub mod rows;
 pub mod writing;

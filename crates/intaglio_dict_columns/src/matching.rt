@@ -64,15 +64,14 @@ impl Matching<'_> {
         column: &Column<'_>,
         filter: &RowFilter,
     ) -> Result<bool, u8> {
-        let count = column.count_rows(filter);
         let mut output = Noticing::new(io::writer(rt));
         let written = if self.is_count {
-            write_number(count, &mut output)
+            write_number(column.count_rows(filter), &mut output)
         } else {
             write_selected(rt.alloc(), column, filter, &mut output)
         };
         match written {
-            Ok(()) => Ok(count > 0),
+            Ok(()) => Ok(column.next_selected(filter, 0).is_some()),
             Err(fault) => Err(report::stopped(rt, fault, OUTPUT, output.error)),
         }
     }

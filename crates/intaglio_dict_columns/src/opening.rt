@@ -1,4 +1,7 @@
 //! Opens a column and its dictionary, and refuses those that don't belong together.
+ghost use Rattle.std.specs.Prelude.{IfOk};
+ghost use Rattle.intaglio_column_file.specs.IsColumn.{IsColumn};
+
 use clap::ArgMatches;
 use intaglio_column_file::{Column, ColumnError, DictionaryId, id_of_table};
 use intaglio_dict_io::folders::is_folder;
@@ -41,10 +44,7 @@ pub fn ask<R: Files + Input + Tell + AllocGlobal, Q: Question<R>>(
     found: &ArgMatches<'_>,
     question: &Q,
 ) -> Result<bool, u8> {
-    if let Some(folder) = found.get_str("DICT") {
-        refuse_shards(rt, folder)?;
-    }
-    let (dictionary, table) = first_input(rt, found, "DICT")?;
+    let (dictionary, table) = dictionary_of(rt, found)?;
     let (name, bytes) = first_input(rt, found, "COLUMN")?;
     let pair = Pair {
         dictionary,
@@ -57,6 +57,17 @@ pub fn ask<R: Files + Input + Tell + AllocGlobal, Q: Question<R>>(
     } else {
         ask_checked(rt, pair, question)
     }
+}
+
+/// The name and the bytes of the dictionary, which is no folder of shards. Otherwise the exit status after a message.
+pub fn dictionary_of<'a, R: Files + Input + Tell + AllocGlobal>(
+    rt: &R,
+    found: &ArgMatches<'a>,
+) -> Result<(&'a str, Vec<u8>), u8> {
+    if let Some(folder) = found.get_str("DICT") {
+        refuse_shards(rt, folder)?;
+    }
+    first_input(rt, found, "DICT")
 }
 
 fn ask_checked<R: Tell, Q: Question<R>>(rt: &R, pair: Pair<'_>, question: &Q) -> Result<bool, u8> {
@@ -99,7 +110,9 @@ fn ask_of_trusted<R: Tell, Q: Question<R>>(
 
 /// The column, after a check of all of it and of whether it is of this dictionary. Otherwise the exit status after a
 /// message.
-pub fn checked_column<'a, R: Tell>(rt: &R, pair: Pair<'a>) -> Result<Column<'a>, u8> {
+pub fn checked_column<'a, R: Tell>(rt: &R, pair: Pair<'a>) -> Result<Column<'a>, u8>
+    ensures { IfOk result IsColumn }
+{
     match Column::open(pair.bytes) {
         Ok(column) => {
             if is_of(pair.table, column.id()) {
@@ -134,16 +147,16 @@ fn is_of(table: &[u8], id: DictionaryId) -> bool {
     }
 }
 
-// Whether the dictionary in these bytes has the kind and the number of strings of this one.
-fn is_alike(table: &[u8], id: DictionaryId) -> bool {
+/// Whether the dictionary in these bytes has the kind and the number of strings of this one.
+pub fn is_alike(table: &[u8], id: DictionaryId) -> bool {
     match Header::read(table) {
         Ok(header) => header.count == id.count && (header.kind == Kind::Text) == id.is_text,
         Err(_) => false,
     }
 }
 
-// Refuses a folder of shards.
-fn refuse_shards<R: Files + Tell + AllocGlobal>(rt: &R, name: &str) -> Result<(), u8> {
+/// Refuses a folder of shards, by its name. Otherwise the exit status after a message.
+pub fn refuse_shards<R: Files + Tell + AllocGlobal>(rt: &R, name: &str) -> Result<(), u8> {
     match is_folder(rt, name) {
         Ok(true) => Err(no_shards(rt, name)),
         Ok(false) => Ok(()),
@@ -172,8 +185,8 @@ pub fn no_column<R: Tell>(rt: &R, name: &str, fault: ColumnError) -> u8 {
     }
 }
 
-// Of a column of another dictionary.
-fn other_dictionary<R: Tell>(rt: &R, pair: Pair<'_>) -> u8 {
+/// Of a column of another dictionary.
+pub fn other_dictionary<R: Tell>(rt: &R, pair: Pair<'_>) -> u8 {
     let dictionary = name_of(pair.dictionary);
     report::failed(
         rt,

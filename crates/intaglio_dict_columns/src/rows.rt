@@ -1,5 +1,6 @@
 //! The subcommand that writes lines by the numbers of their rows.
-use crate::opening::{Question, ask};
+use crate::excerpt::{is_file, open_column};
+use crate::opening::{Pair, Question, ask, dictionary_of, is_alike, no_column, other_dictionary};
 use clap::ArgMatches;
 use intaglio_column_file::Column;
 use intaglio_dict_io::input::name_of;
@@ -12,6 +13,7 @@ use intaglio_dictionary::codes::MISSING;
 use intaglio_dictionary::dictionary::Dictionary;
 use intaglio_dictionary::error::RowsError;
 use intaglio_dictionary::rows::{RowRange, write_rows};
+use intaglio_frozen::TrustedFrozen;
 use std::io;
 use std::rt::Files;
 
@@ -34,9 +36,117 @@ pub fn rows<R: Files + Input + Print + Tell + AllocGlobal>(
         ranges: &ranges,
         missing,
     };
+    if let Some(name) = found.get_str("COLUMN") {
+        if found.get_flag("TRUSTED") && is_file(rt, name) {
+            return rows_of_file(rt, found, name, &rows);
+        }
+    }
     match ask(rt, found, &rows) {
         Ok(_) => Ok(()),
         Err(status) => Err(status),
+    }
+}
+
+// Writes the lines of rows of a file of which nothing else is read but its header.
+fn rows_of_file<R: Files + Input + Print + Tell + AllocGlobal>(
+    rt: &R,
+    found: &ArgMatches<'_>,
+    name: &str,
+    rows: &RowsAsked<'_>,
+) -> Result<(), u8> {
+    let (dictionary, table) = dictionary_of(rt, found)?;
+    let pair = Pair {
+        dictionary,
+        table: &table,
+        name,
+        bytes: &[],
+    };
+    match TrustedFrozen::open(&table) {
+        Ok(table) => rows.answer_from_file(rt, pair, &table),
+        Err(fault) => Err(report::failed(rt, name_of(dictionary), fault)),
+    }
+}
+
+impl RowsAsked<'_> {
+    fn answer_from_file<R: Files + Print + Tell + AllocGlobal>(
+        &self,
+        rt: &R,
+        pair: Pair<'_>,
+        table: &TrustedFrozen<'_>,
+    ) -> Result<(), u8> {
+        let mut file = open_column(rt, pair.name)?;
+        if !is_alike(pair.table, file.header.id) {
+            return Err(other_dictionary(rt, pair));
+        }
+        for range in self.ranges {
+            if range.last as u64 >= file.header.rows {
+                return Err(no_row(rt, pair.name, range.last as u64, file.header.rows));
+            }
+        }
+        match file.excerpt(rt.alloc(), self.ranges) {
+            Ok(bytes) => self.answer_from(rt, pair.name, table, &bytes),
+            Err(e) => Err(report::of_file(rt, pair.name, e)),
+        }
+    }
+
+    // From the bytes of a column that has these rows alone.
+    fn answer_from<R: Print + Tell + AllocGlobal>(
+        &self,
+        rt: &R,
+        name: &str,
+        table: &TrustedFrozen<'_>,
+        bytes: &[u8],
+    ) -> Result<(), u8> {
+        match Column::open_trusted(bytes) {
+            Ok(column) => {
+                let all = [RowRange {
+                    first: 0,
+                    last: column.len().saturating_sub(1),
+                }];
+                self.write(rt, table, &column, &all, name)
+            }
+            Err(fault) => Err(no_column(rt, name, fault)),
+        }
+    }
+
+    // Writes the lines of ranges of a column that has all rows, or only those that are asked for.
+    fn write<R: Print + Tell + AllocGlobal, D: Dictionary>(
+        &self,
+        rt: &R,
+        table: &D,
+        column: &Column<'_>,
+        ranges: &[RowRange],
+        name: &str,
+    ) -> Result<(), u8> {
+        let mut output = Noticing::new(io::writer(rt));
+        match write_rows(rt.alloc(), table, column, ranges, self.missing, &mut output) {
+            Ok(()) => Ok(()),
+            Err(RowsError::Stream(fault)) => Err(report::stopped(rt, fault, OUTPUT, output.error)),
+            Err(RowsError::NoRow(row)) => Err(no_row(rt, name, row, column.len() as u64)),
+            Err(RowsError::NoLine(row)) => {
+                let code = column.code(row as usize);
+                let asked = self.row_asked(row, ranges);
+                Err(no_line(rt, name, asked, code))
+            }
+        }
+    }
+
+    // The number of a row, if the column has only the rows that are asked for.
+    fn row_asked(&self, row: u64, ranges: &[RowRange]) -> u64 {
+        if ranges == self.ranges {
+            return row;
+        }
+        let mut left = row;
+        for range in self.ranges {
+            let count = (range.last as u64)
+                .saturating_add(1)
+                .saturating_sub(range.first as u64);
+            if left < count {
+                return (range.first as u64).saturating_add(left);
+            }
+            left -= count;
+        }
+        row
     }
 }
 
@@ -94,20 +204,8 @@ impl<R: Print + Tell + AllocGlobal> Question<R> for RowsAsked<'_> {
         column: &Column<'_>,
         name: &str,
     ) -> Result<bool, u8> {
-        let mut output = Noticing::new(io::writer(rt));
-        match write_rows(
-            rt.alloc(),
-            table,
-            column,
-            self.ranges,
-            self.missing,
-            &mut output,
-        ) {
-            Ok(()) => Ok(true),
-            Err(RowsError::Stream(fault)) => Err(report::stopped(rt, fault, OUTPUT, output.error)),
-            Err(RowsError::NoRow(row)) => Err(no_row(rt, name, row, column.len())),
-            Err(RowsError::NoLine(row)) => Err(no_line(rt, name, row, column)),
-        }
+        self.write(rt, table, column, self.ranges, name)?;
+        Ok(true)
     }
 }
 
@@ -123,7 +221,7 @@ fn no_rows<R: Tell>(rt: &R, typed: &str) -> u8 {
 }
 
 // Of a row behind the last one.
-fn no_row<R: Tell>(rt: &R, name: &str, row: u64, count: usize) -> u8 {
+fn no_row<R: Tell>(rt: &R, name: &str, row: u64, count: u64) -> u8 {
     report::failed(
         rt,
         name_of(name),
@@ -131,9 +229,9 @@ fn no_row<R: Tell>(rt: &R, name: &str, row: u64, count: usize) -> u8 {
     )
 }
 
-/// Of a row without a line.
-pub fn no_line<R: Tell>(rt: &R, name: &str, row: u64, column: &Column<'_>) -> u8 {
-    match column.code(row as usize) {
+/// Of a row without a line, which has this code.
+pub fn no_line<R: Tell>(rt: &R, name: &str, row: u64, code: Option<u32>) -> u8 {
+    match code {
         Some(MISSING) => report::failed(
             rt,
             name_of(name),

@@ -34,12 +34,16 @@ enum Takes {
     Joined,
     // One value, after this option, with which the value of another argument is an output that gets a line.
     Shard(&'static str, &'static str),
-    // The name of another input, after this option.
+    // The name of another input, a file or a folder, after this option.
     Read(&'static str),
+    // The same, in place of the values of another argument.
+    ReadInstead(&'static str, &'static str),
     // The name of an input, by its position.
     One,
     // The names of inputs, by their position, and whether they are required: otherwise standard input is read.
     Many(bool),
+    // The same, which aren't required. Standard input isn't read either if this other argument is given.
+    ManyOr(&'static str),
     // One or more numbers, by their position, which are otherwise read from standard input.
     Numbers,
     // One or more words, by their position.
@@ -68,11 +72,7 @@ const FILES: Argument = (
     "files of lines; without any, standard input",
 );
 
-const CODES: Argument = (
-    "CODES",
-    Takes::Many(false),
-    "files of codes; without any, standard input",
-);
+const CODES: &str = "files of codes; without any, standard input";
 
 const COLUMN: Argument = ("COLUMN", Takes::One, "a column of this dictionary");
 
@@ -287,15 +287,21 @@ static SUBCOMMANDS: [Subcommand; 15] = [
     ),
     (
         "renumber",
-        "Writes the code that a map has for each code",
+        "Writes the code that a map has for each code, or a column with these codes",
         &[
             OUTPUT,
             PROGRESS,
             VERBOSE,
             (
+                "COLUMN",
+                Takes::ReadInstead("column", "CODES"),
+                "a column in place of codes: then a column of the merged dictionary is written",
+            ),
+            ("DICT", Takes::Read("dict"), "the dictionary of the column"),
+            (
                 "INTO",
                 Takes::Read("into"),
-                "the folder of the merged shards: then MAP is the folder of the part's shards",
+                "the merged dictionary of a column; of codes, the folder of the merged shards: then MAP is that of the part's",
             ),
             (
                 "MAPS",
@@ -308,7 +314,7 @@ static SUBCOMMANDS: [Subcommand; 15] = [
                 "the number of the part among those that were merged, counted from 0",
             ),
             ("MAP", Takes::One, "a map that merge wrote"),
-            CODES,
+            ("CODES", Takes::ManyOr("COLUMN"), CODES),
         ],
     ),
     (
@@ -396,7 +402,8 @@ fn add_files<'a>(
     found: &ArgMatches<'a>,
 ) -> Result<(), AllocError> {
     match row.1 {
-        Takes::One | Takes::Many(_) => files.add_inputs(found.get_strs(row.0)),
+        Takes::ManyOr(other) if found.contains_id(other) => Ok(()),
+        Takes::One | Takes::Many(_) | Takes::ManyOr(_) => files.add_inputs(found.get_strs(row.0)),
         Takes::Numbers if !found.contains_id(row.0) => files.add_inputs(None),
         Takes::Output(_) => files.add_output(found.get_str(row.0)),
         Takes::OutputOr(other) => files.add_output(found.get_str(row.0).or(found.get_str(other))),
@@ -408,7 +415,7 @@ fn add_files<'a>(
             files.add_line(found.get_str(output));
             Ok(())
         }
-        Takes::Read(_) => files.add_input(found.get_str(row.0)),
+        Takes::Read(_) | Takes::ReadInstead(_, _) => files.add_input(found.get_str(row.0)),
         _ => Ok(()),
     }
 }
@@ -462,12 +469,11 @@ fn argument<'a>(alloc: Global, row: Argument) -> Result<Arg<'a>, AllocError> {
         Takes::OutputOr(_) => Ok(argument.short('o').long("output")),
         Takes::One => Ok(argument.required(true)),
         Takes::Many(is_required) => Ok(argument.num_args(1..).required(is_required)),
-        Takes::Numbers => Ok(argument.num_args(1..)),
+        Takes::Numbers | Takes::ManyOr(_) => Ok(argument.num_args(1..)),
         Takes::Words => Ok(argument.num_args(1..).required(true)),
-        Takes::WrittenInstead(option, other) | Takes::OutputInstead(option, other) => without(
-            argument.long(option),
-            other,
-        ),
+        Takes::WrittenInstead(option, other)
+        | Takes::OutputInstead(option, other)
+        | Takes::ReadInstead(option, other) => without(argument.long(option), other),
         Takes::Kind => Ok(
             argument
                 .long("kind")

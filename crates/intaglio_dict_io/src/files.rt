@@ -23,8 +23,6 @@ const MESSAGES_PATH: &str = "/dev/stderr";
 #[derive(Drop)]
 pub struct CommandFiles<'a> {
     inputs: Vec<&'a str>,
-    // The inputs that are named after an option.
-    others: Vec<&'a str>,
     outputs: Vec<&'a str>,
     // Whether the arguments have an output. Otherwise standard output is one.
     has_output: bool,
@@ -43,7 +41,6 @@ impl<'a> CommandFiles<'a> {
     pub fn new(alloc: Global) -> CommandFiles<'a> {
         CommandFiles {
             inputs: Vec::new(alloc),
-            others: Vec::new(alloc),
             outputs: Vec::new(alloc),
             has_output: false,
             folder: None,
@@ -101,7 +98,7 @@ impl<'a> CommandFiles<'a> {
     /// Adds another input, if one is named.
     pub fn add_input(&mut self, name: Option<&'a str>) -> Result<(), AllocError> {
         match name {
-            Some(name) => self.others.extend_from_slice(&[name]),
+            Some(name) => self.inputs.extend_from_slice(&[name]),
             None => Ok(()),
         }
     }
@@ -113,7 +110,7 @@ impl<'a> CommandFiles<'a> {
         if !self.has_output && self.add_output(None).is_err() {
             return Err(report::out_of_memory(rt));
         }
-        if self.inputs.contains(&"") || self.others.contains(&"") {
+        if self.inputs.contains(&"") {
             return Err(report::empty_name(rt, "an input"));
         }
         if self.outputs.contains(&"") {
@@ -146,7 +143,6 @@ impl<'a> CommandFiles<'a> {
     fn named_inputs<R: Files + AllocGlobal>(&self, rt: &R) -> io::Result<Vec<Named>> {
         let mut inputs = streams_of(rt, &self.inputs, INPUT_PATH, INPUT)?;
         add_folders(rt, &self.inputs, &mut inputs)?;
-        add_folders(rt, &self.others, &mut inputs)?;
         if self.joined.is_some() {
             for name in &self.inputs {
                 inputs.push(Named::of(rt, line_name(rt.alloc(), name)?)?)?;
