@@ -1,5 +1,5 @@
 //! A list of strings with their hashes.
-ghost use Rattle.std.specs.Prelude.{◌≡◌, ℕ, ◌+◌, ◌-◌, ◌*◌, ◌^◌, ◌<◌, ◌≤◌, [], ◌∷◌, ◌++◌, length, map, max, min, sum_by, take, slice_get, Some};
+ghost use Rattle.std.specs.Prelude.{◌≡◌, ◌+◌, ◌-◌, ◌*◌, ◌^◌, ◌<◌, ◌≤◌, [], ◌∷◌, ◌++◌, length, map, max, min, sum_by, take, slice_get, Some};
 ghost use Rattle.std.specs.Prelude.{IfOk, IsOk, OnOk, OnErr, option_copied};
 ghost use Rattle.intaglio_packed.specs.Growth.{Doubles};
 ghost use Rattle.intaglio_packed.specs.Strings.{byte_room_of};
