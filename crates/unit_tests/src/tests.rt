@@ -20,5 +20,4 @@ mod records;
 mod searches;
 mod sharding;
 mod slots;
-mod stored_lists;
 mod symbols_to_come;
