@@ -209,7 +209,8 @@ def refused_parts(tool, folder):
 
     wanted = column(id_of(read(whole)), [300, 301, MISSING, 302])
     yield "a wider column", run([tool, *words, maps]) == DONE and read(out) == wanted
-    for codes in ([], [300, 301], [300, 301, 302, 303]):
+    lengths: tuple[list[int], ...] = ([], [300, 301], [300, 301, 302, 303])
+    for codes in lengths:
         Path(f"{folder}/other").write_bytes(packed(codes))
         told = f"{folder}/other: a map of {len(codes)} codes, and {table} has 3 strings"
         yield f"a map of {len(codes)}", is_refused([*words, f"{folder}/other"], 1, told)
