@@ -185,10 +185,10 @@ fn rows_are_found_one_after_the_other(rt: HostRuntime) {
 
 #[test]
 fn rows_behind_a_block_are_found(rt: HostRuntime) {
-    let mut codes = Vec::from_elem(rt.alloc(), 0u32, 100).expect(&rt, "memory");
-    for row in [70, 99] {
-        codes[row] = 1;
-    }
+    let mut codes = Vec::from_elem(rt.alloc(), 0u32, 70).expect(&rt, "memory");
+    codes.push(1).expect(&rt, "memory");
+    codes.extend_from_slice(&[0; 28]).expect(&rt, "memory");
+    codes.push(1).expect(&rt, "memory");
     let bytes = column_bytes(rt.alloc(), ID, &codes.as_slice()).expect(&rt, "no column");
     let column = opened(&rt, &bytes);
     assert_eq!(&rt; column.next_row_of(1, 0), Some(70));
@@ -204,7 +204,7 @@ fn a_filter_of_one_string_has_its_code(rt: HostRuntime) {
     let mut filter = column.no_rows(rt.alloc()).expect(&rt, "memory");
     assert_eq!(&rt; filter.only_code(), None);
     assert_eq!(&rt; column.next_selected(&filter, 0), None);
-    filter.strings[2] = true;
+    filter.strings = vec![in rt.alloc(); false, false, true].expect(&rt, "memory");
     assert_eq!(&rt; filter.only_code(), Some(2));
     assert_eq!(&rt; column.count_rows(&filter), 2);
     assert_eq!(&rt; column.next_selected(&filter, 2), Some(2));
