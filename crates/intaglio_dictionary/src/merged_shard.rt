@@ -88,7 +88,7 @@ pub fn write_merged(alloc: Global, shard: &MergedShard) -> Result<Vec<u8>, Alloc
 /// let shard = MergedShard { place, size: 200, id };
 /// let text = write_merged(rt.alloc(), &shard)?;
 /// assert!(rt; read_merged(&text) == Some(shard));
-/// assert!(rt; read_merged(&text[1..]) == None);
+/// assert!(rt; read_merged(b"intaglio shard 1\n") == None);
 /// ```
 pub fn read_merged(text: &[u8]) -> Option<MergedShard>
     ensures read { IfSome result (λ shard. text.now ≡ merged_text shard) }
