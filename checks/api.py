@@ -1,5 +1,5 @@
 #!/usr/bin/env python3
-"""Writes docs/api: a page for each library with its public calls, from the sources.
+"""Writes docs/api, a page for each library with its public calls, and docs/FILES.md, what is in each file, from the sources.
 
     checks/api.py [--check]
 
@@ -18,7 +18,7 @@ import interface
 import sources
 from sources import TOP, UNNAMED
 
-FOLDER = TOP / "docs/api"
+FOLDER, FILES = TOP / "docs/api", TOP / "docs/FILES.md"
 WIDTH = 118
 NOTE = "This page is written by `checks/api.py` from the sources: change it there."
 MEANS = (
@@ -146,8 +146,13 @@ def types_of(crate):
 
 def about(crate):
     """What the crate's first lines say of it."""
-    text = (TOP / "crates" / crate / "src/lib.rt").read_text(encoding="utf-8")
-    return plain(paragraphs(re.findall(r"(?m)^//! ?(.*)$", text))[""][0])
+    return about_file(TOP / "crates" / crate / "src/lib.rt")
+
+
+def about_file(path):
+    """What a file's first lines say of it."""
+    said = paragraphs(re.findall(r"(?m)^//! ?(.*)$", path.read_text(encoding="utf-8")))[""]
+    return plain(said[0]) if said else ""
 
 
 def heading(owner, trait, place):
@@ -181,9 +186,22 @@ def page_of(every, crate):
             yield "\n".join(line for call in own for line in call.page()) + "\n"
 
 
+def files():
+    """The page of all files: what is in each, crate by crate, as crates.txt has them."""
+    yield f"# Files\n\n{NOTE}\nIt has each file of sources with what its first lines say, from the lowest crate to the highest.\n"
+    for crate in re.findall(r"(?m)^(\w+)", (TOP / "crates.txt").read_text(encoding="utf-8")):
+        at = TOP / "crates" / crate / "src"
+        root = next(it for it in (at / "lib.rt", at / "main.rt") if it.is_file())
+        yield f"## `{crate}`\n\n{wrapped(about_file(root))}\n"
+        named = [it for it in sorted(at.glob("**/*.rt")) if it != root]
+        if named:
+            yield "\n".join(wrapped(f"`{it.relative_to(at)}`: {about_file(it)}", "- ", "  ") for it in named) + "\n"
+
+
 def pages():
-    """Each page of docs/api with what it should have."""
+    """Each page with what it should have."""
     every = sources.Sources()
+    yield FILES, "\n".join(files()).rstrip() + "\n"
     crates = [
         it.name for it in sorted((TOP / "crates").iterdir()) if (it / "src/lib.rt").is_file() and not LEFT_OUT.fullmatch(it.name)
     ]

@@ -11,11 +11,14 @@ from collections import Counter
 from pathlib import Path
 
 from columns import CODED, DONE, NAME, WAS, ended, failing, left, merged, packed, put, random_parts, read, said, shown
-from frozen_columns import HEADER, MAGIC, MISSING, Column, column, faults_of, id_of
+from frozen_columns import HEADER, MAGIC, MISSING, Column, column, faults_of, id_of, id_of_strings
+from frozen_shards import OTHER, folder_of, made, shards_of
+from frozen_shards import put as put_folder
 from frozen_tables import BYTES, TEXT, freeze
 from programs import run
 
 SIZES = (0, 1, 7, 300, 5_000, 100_000)
+MOST_IN_SHARDS = 5_000
 DAMAGED, BATCH = 10_000, 500
 # By these bytes the program tells a column file from a dictionary and from plain codes.
 MAGIC_START = MAGIC[:4]
@@ -31,6 +34,9 @@ MESSAGES = {
     "the codes are cut short": "truncated",
     "there are bytes behind the last row": "too long",
 }
+IN_ONE_FILE = "a folder of shards; renumber --column takes the dictionary of the column in one file"
+WRONG_WORDS = "--column needs --dict, the column's dictionary, and --into, the merged one;"
+WRONG_WORDS += " with --maps and --part that is a folder of shards"
 MISSING_ROW = "is missing: its line wasn't in the dictionary; --missing TEXT gives it a line"
 
 
@@ -48,6 +54,11 @@ def of_another(name, table):
 
 
 # What the program says of whole columns, and what a plain list of their lines does.
+
+
+def trusts_of(table):
+    """The ways in which the program reads a dictionary: the bytes of a folder of shards aren't trusted."""
+    return ((),) if os.path.isdir(table) else ((), ("--trusted",))
 
 
 def counted(lines, strings, by_symbol):
@@ -70,7 +81,7 @@ def matched(tool, table, name, lines, words):
     rows["--invert"] = sorted({*range(len(lines))} - {*rows[""]})
     typed = [it.decode() for it in words]
     for option, found in rows.items():
-        for trusted in ((), ("--trusted",)):
+        for trusted in trusts_of(table):
             options = [*trusted, *([option] if option else [])]
             status, numbers = 0 if found else 1, numbers_of(found)
             yield f"match {options}", run([tool, "match", *options, "--", table, name, *typed]) == (status, numbers, [])
@@ -90,7 +101,7 @@ def selected(tool, chance, table, name, lines):
     typed = [f"{first}-{last}" if first < last or chance.random() < 0.5 else f"{first}" for first, last in ranges]
     rows = [row for first, last in ranges for row in range(first, last + 1)]
     wanted = ended(b"none" if lines[it] is None else lines[it] for it in rows)
-    for trusted in ((), ("--trusted",)):
+    for trusted in trusts_of(table):
         command = [tool, "rows", *trusted, "--missing", "none", table, name]
         yield f"rows {trusted}", run([*command, *typed]) == (0, wanted, [])
         for row in (len(lines), 2**32, 2**64 - 1):
@@ -100,7 +111,7 @@ def selected(tool, chance, table, name, lines):
         yield f"rows {trusted} of standard input", run([*command[:-1], "-", *typed], read(name)) == (0, wanted, [])
     gone = next((it for it in rows if lines[it] is None), None)
     told = (0, wanted, []) if gone is None else said(1, f"{name}: row {gone} {MISSING_ROW}")
-    for trusted in ((), ("--trusted",)):
+    for trusted in trusts_of(table):
         words = ["rows", *trusted, table, name, *typed]
         yield f"rows {trusted} without a text for missing ones", run([tool, *words]) == told
 
@@ -114,7 +125,7 @@ def of_lines(tool, chance, table, strings, kind, name, lines):
     first = next((it for it, line in enumerate(lines) if line is None), None)
     told = (0, all_lines, []) if first is None else said(1, f"{name}: row {first} {MISSING_ROW}")
     yield "decode", run([tool, "decode", table, name]) == told
-    for options, by_symbol in ((), False), (("--by-symbol",), True), (("--trusted",), False):
+    for options, by_symbol in *((it, False) for it in trusts_of(table)), (("--by-symbol",), True):
         rows = counted(lines, strings, by_symbol)
         yield f"count {options}", run([tool, "count", *options, table, name]) == (0, rows, [])
     texts = [it for it in strings if it.isascii() and b"\0" not in it]
@@ -163,6 +174,65 @@ def of_column(tool, chance, size, kind, folder):
     yield "no file is left", not left(folder)
 
 
+# Columns of dictionaries in shards.
+
+
+def of_shards(tool, chance, size, kind, folder):
+    """Yields what the program was asked of a column of a folder of shards, some of whose lines are missing."""
+    lines = [it for part in random_parts(chance, size, kind) for it in part]
+    count, whole, name, one = chance.choice((1, 2, 7)), f"{folder}/whole", f"{folder}/column", f"{folder}/one"
+    shards = shards_of([*dict.fromkeys(lines)], count)
+    strings = [*itertools.chain(*shards)]
+    put_folder(whole, folder_of(shards, kind))
+    Path(one).write_bytes(freeze(strings, kind))
+    symbols = {it: number for number, it in enumerate(strings)}
+    kept = [it if chance.random() < 0.9 else None for it in lines]
+    given = ended(b"none of them" if it is None else it for it in kept)
+    wanted = column(id_of_strings(strings, kind), [MISSING if it is None else symbols[it] for it in kept])
+    yield "the identity of one file", id_of(read(one)) == id_of_strings(strings, kind)
+    for table in (whole, one):
+        yield f"encode {table}", run([tool, "encode", "--missing", "--column", name, table], given) == DONE
+        yield f"what encode {table} wrote", read(name) == wanted
+        yield f"encode --column - {table}", run([tool, "encode", "--missing", "--column", "-", table], given) == (0, wanted, [])
+        yield from of_lines(tool, chance, table, strings, kind, name, kept)
+    yield "no file is left", not left(folder)
+
+
+def refused_shards(tool, folder):
+    """Yields commands that take a column and a folder of shards, and whether they refuse one of another folder."""
+    strings, name, whole, out = [b"a", b"bb", b"", b"c", b"dd"], f"{folder}/column", f"{folder}/whole", f"{folder}/out"
+    shards = shards_of(strings, 3)
+    put_folder(whole, folder_of(shards))
+    joined = [*itertools.chain(*shards)]
+    Path(name).write_bytes(column(id_of_strings(joined, BYTES), [0, 4, MISSING, 1]))
+    yield "check", run([tool, "check", whole, name]) == DONE
+    others: dict[str, dict[str, bytes]] = {
+        "another string": folder_of(shards_of([*strings[:4], b"de"], 3)),
+        "texts": folder_of(shards, TEXT),
+        "a string less": folder_of(shards_of(strings[:4], 3)),
+        "another order, by another number of shards": folder_of(shards_of(strings, 2)),
+    }
+    # In 8 shards these strings have the same order as in 3, so it is the same dictionary.
+    put_folder(f"{folder}/same", folder_of(shards_of(strings, 8)))
+    yield "check, the same order in 8 shards", run([tool, "check", f"{folder}/same", name]) == DONE
+    for what, files in others.items():
+        table = f"{folder}/{what}"
+        put_folder(table, files)
+        for command, status in commands(tool, table, name):
+            yield f"{command[1]} with {what}", run(command) == said(status, of_another(name, table))
+        put([out])
+        told = said(1, of_another(name, table))
+        yield f"decode -o with {what}", run([tool, "decode", table, name, "-o", out]) == told and read(out) == WAS
+    told = said(2, f"{whole}: --trusted takes a file, and this is a folder of shards")
+    for command, _ in commands(tool, whole, name)[1:5]:
+        yield f"{command[1]} --trusted", run([*command[:2], "--trusted", *command[2:]]) == told
+    put_folder(whole, {"1.dict": b"not a dictionary"})
+    for command, status in commands(tool, whole, name):
+        got, wrote, lines = run(command)
+        named = lines[0].startswith(f"{NAME}: {whole}/1.dict: ")
+        yield f"{command[1]} with a damaged shard", (got, wrote, named) == (status, b"", True)
+
+
 # Columns of parts, whose dictionaries are merged.
 
 
@@ -175,22 +245,98 @@ def of_parts(tool, chance, size, kind, folder):
     whole, maps = f"{folder}/whole", f"{folder}/maps"
     yield "merge", run([tool, "merge", *tables, "-o", whole, "--maps", maps]) == DONE
     strings, _ = merged([*dict.fromkeys(lines)] for lines in parts)
-    symbols, into = {it: number for number, it in enumerate(strings)}, id_of(freeze(strings, kind))
     for part, lines in enumerate(parts):
-        name, new, table = f"{folder}/column", f"{folder}/{part}.again", tables[part]
-        kept = [it if chance.random() < 0.9 else None for it in lines]
-        given = ended(b"none of them" if it is None else it for it in kept)
-        yield f"encode {part}", run([tool, "encode", "--missing", "--column", name, table], given) == DONE
-        wanted = column(into, [MISSING if it is None else symbols[it] for it in kept])
-        renumber = [tool, "renumber", "--column", name, "--dict", table, "--into", whole, f"{maps}/{part}.map"]
-        yield f"renumber {part}", run([*renumber, "-o", new]) == DONE and read(new) == wanted
-        yield f"renumber {part}, standard output", run(renumber) == (0, wanted, [])
-        again = ended(b"none" if it is None else it for it in kept)
-        yield f"decode {part}", run([tool, "decode", "--missing", "none", whole, new]) == (0, again, [])
-        yield f"check {part}", run([tool, "check", whole, new]) == DONE
-        told = said(0, f"{len(kept)} codes renumbered", wrote=wanted)
-        yield f"renumber {part}, verbose", run([*renumber, "--verbose"]) == told
+        words = ["--dict", tables[part], "--into", whole, f"{maps}/{part}.map"]
+        yield from of_part(tool, chance, words, lines, strings, id_of(freeze(strings, kind)), folder)
     yield "no file is left", not left(folder)
+
+
+def of_part(tool, chance, words, lines, strings, identity, folder):
+    """Yields what the program was asked of the column of one part, some of whose lines are missing, and which is renumbered to
+    that of the dictionary of these strings. The words are those of `renumber`, from `--dict` on."""
+    name, new, table, whole = f"{folder}/column", f"{folder}/again", words[1], words[3]
+    symbols = {it: number for number, it in enumerate(strings)}
+    kept = [it if chance.random() < 0.9 else None for it in lines]
+    given = ended(b"none of them" if it is None else it for it in kept)
+    yield f"encode {table}", run([tool, "encode", "--missing", "--column", name, table], given) == DONE
+    wanted = column(identity, [MISSING if it is None else symbols[it] for it in kept])
+    renumber = [tool, "renumber", "--column", name, *words]
+    yield f"{words}", run([*renumber, "-o", new]) == DONE and read(new) == wanted
+    yield f"{words}, standard output", run(renumber) == (0, wanted, [])
+    yield f"encode {whole}", run([tool, "encode", "--missing", "--column", "-", whole], given) == (0, wanted, [])
+    again = ended(b"none" if it is None else it for it in kept)
+    yield f"decode {whole}", run([tool, "decode", "--missing", "none", whole, new]) == (0, again, [])
+    yield f"check {whole}", run([tool, "check", whole, new]) == DONE
+    told = said(0, f"{len(kept)} codes renumbered", wrote=wanted)
+    yield f"{words}, verbose", run([*renumber, "--verbose"]) == told
+
+
+def of_parts_in_shards(tool, chance, size, kind, folder):
+    """Yields the same of parts whose dictionaries are split, and merged shard by shard."""
+    parts, count = random_parts(chance, size, kind)[:4], chance.choice((1, 2, 7))
+    whole, maps = f"{folder}/whole", f"{folder}/maps"
+    lists, names = [[*dict.fromkeys(it)] for it in parts], [f"{folder}/{part}" for part in range(len(parts))]
+    os.mkdir(maps)
+    for name, strings in zip(names, lists):
+        Path(f"{name}.dict").write_bytes(freeze(strings, kind))
+        yield f"split {name}", run([tool, "split", f"{name}.dict", "--shards", str(count), "-o", name]) == DONE
+    for shard in range(count):
+        words = ["merge", "--shard", str(shard), "-o", f"{folder}/{shard}.merged", "--maps", f"{maps}/{shard}", *names]
+        yield f"merge --shard {shard}", run([tool, *words]) == DONE
+    yield "join", run([tool, "join", "-o", whole, *(f"{folder}/{it}.merged" for it in range(count))]) == DONE
+    of_shards = (merged(shards_of(it, count)[shard] for it in lists)[0] for shard in range(count))
+    strings = [*itertools.chain(*of_shards)]
+    for part, (name, lines) in enumerate(zip(names, parts)):
+        words = ["--dict", f"{name}.dict", "--into", whole, "--maps", maps, "--part", str(part), name]
+        yield from of_part(tool, chance, words, lines, strings, id_of_strings(strings, kind), folder)
+    yield "no file is left", not any(left(it) for it in (folder, whole, *names))
+
+
+def refused_parts_in_shards(tool, folder):
+    """Yields words, folders and maps with which `renumber` refuses a column of merged shards, and whether it says so and leaves
+    its output as it was."""
+    lists, (name, whole, maps, out) = made(folder), (f"{folder}/{it}" for it in ("column", "whole", "maps", "out"))
+    table, few, shard, of_part = f"{folder}/0.dict", f"{folder}/few", f"{whole}/1.dict", f"{maps}/1/0.map"
+    Path(name).write_bytes(column(id_of(read(table)), [0, 29, MISSING, 7]))
+    Path(few).write_bytes(freeze(lists[0][:5]))
+    Path(f"{few}.column").write_bytes(column(id_of(read(few)), [4]))
+    words = ["renumber", "-o", out, "--column", name, "--dict", table, "--into", whole, "--maps", maps, "--part", "0"]
+    words.append(f"{folder}/0")
+
+    def is_refused(some, told, status=1):
+        put([out])
+        return run([tool, *some]) == said(status, told) and read(out) == WAS and not left(folder)
+
+    def with_word(old, new):
+        return [new if it == old else it for it in words]
+
+    joined = [*itertools.chain(*(merged(shards_of(it, 3)[shard] for it in lists)[0] for shard in range(3)))]
+    codes = [joined.index(lists[0][it]) for it in (0, 29, 7)]
+    wanted = column(id_of_strings(joined, BYTES), [codes[0], codes[1], MISSING, codes[2]])
+    yield "renumber", run([tool, *words]) == DONE and read(out) == wanted
+    needed = f"{whole}: after --into, --maps and --part are needed too"
+    size, before = len(read(of_part)) // 4, {it: read(it) for it in (shard, of_part)}
+    for some, told, status in (
+        (words[:9] + words[11:], needed, 2), (words[:11] + words[13:], needed, 2),
+        (with_word("0", "1"), f"{maps}/0/index: part 1 of the merge had another shard 0 than {folder}/0 has", 1),
+        (with_word(f"{folder}/0", table), f"{table}/shards: Not a directory", 1),
+        (with_word(f"{folder}/0", whole), f"{whole}/map: No such file or directory", 1),
+        (with_word(table, f"{folder}/1.dict"), of_another(name, f"{folder}/1.dict"), 1),
+        (with_word(table, f"{folder}/0"), f"{folder}/0: {IN_ONE_FILE}", 1),
+        ([few if it == table else f"{few}.column" if it == name else it for it in words],
+         f"{folder}/0: a map of 30 codes, and {few} has 5 strings", 1),
+        (with_word(whole, few), WRONG_WORDS, 2),
+    ):
+        yield f"{some}", is_refused(some, told, status)
+    for file, data, told in (
+        (shard, before[shard][:-1] + b"x", OTHER), (of_part, packed([10_000] * size), f"not a map to shard 1 of {whole}"),
+    ):
+        Path(file).write_bytes(data)
+        yield f"{file}, damaged", is_refused(words, f"{file}: {told}")
+        Path(file).write_bytes(before[file])
+    for file in (of_part, shard, f"{whole}/shards", f"{folder}/0/map", name, table):
+        told, was = said(2, f"{file}: this input is also the output {file}; nothing was written"), read(file)
+        yield f"renumber to {file}", run([tool, *with_word(out, file)]) == told and read(file) == was
 
 
 def refused_parts(tool, folder):
@@ -231,14 +377,12 @@ def refused_parts(tool, folder):
         status, wrote, lines = run([tool, *words[:at], f"{folder}/other", *words[at + 1 :], maps])
         yield f"no dictionary after {words[at - 1]}", (status, wrote, len(lines), read(out)) == (1, b"", 1, WAS)
     yield "split", run([tool, "split", whole, "--shards", "2", "-o", f"{folder}/shards"]) == DONE
-    told = f"{folder}/shards: a folder of shards; columns are of dictionaries in one file, and plain codes of both"
-    for at in (4, 6):
+    for at, status, told in ((4, 1, IN_ONE_FILE), (6, 2, "after --into, --maps and --part are needed too")):
         some = [*words[:at], f"{folder}/shards", *words[at + 1 :], maps]
-        yield f"a folder after {words[at - 1]}", is_refused(some, 1, told)
-    told = "after --column, --dict and --into are needed too: its dictionary and the merged one, each in one file"
+        yield f"a folder after {words[at - 1]}", is_refused(some, status, f"{folder}/shards: {told}")
     without = [words[:3] + words[5:], words[:5] + words[7:], words[:3] + words[7:], words[:1] + words[3:]]
-    for some in (*without, [*words, "--part", "0"]):
-        yield f"{some}", is_refused([*some, maps], 2, told)
+    for some in (*without, [*words, "--part", "0"], [*words, "--maps", f"{folder}/shards"]):
+        yield f"{some}", is_refused([*some, maps], 2, WRONG_WORDS)
     put([out])
     status, wrote, lines = run([tool, *words, maps, name])
     yield "codes with --column", (status, wrote, bool(lines), read(out)) == (2, b"", True, WAS)
@@ -301,6 +445,13 @@ def others(tool, folder):
     yield "check after another", run([tool, "check", good, f"{folder}/other", name, good]) == said(
         1, of_another(name, f"{folder}/other")
     )
+    damaged_dict, cut = f"{folder}/damaged", f"{folder}/cut"
+    Path(damaged_dict).write_bytes(read(good)[:-1])
+    Path(cut).write_bytes(bytes.fromhex("494e548957b8b7"))
+    status, wrote, told = run([tool, "check", damaged_dict, cut, name])
+    wanted = [f"{NAME}: {cut}: {NOT_ONE}", f"{NAME}: {of_another(name, damaged_dict)}"]
+    named = [it.startswith(f"{NAME}: {damaged_dict}: ") for it in told[:1]]
+    yield "check after a damaged dictionary", (status, wrote, named, told[1:]) == (1, b"", [True], wanted)
     for typed in ("", "-", "x", "1-", "-2x", "2-1", "1-2-3", "+1", " 1", f"{2**64}", "1.5"):
         told = f"'{typed}' names no rows: a number is needed, or the first and the last, as in 10-20"
         yield f"rows {typed!r}", run([tool, "rows", "--", good, name, "0", typed]) == said(2, told)
@@ -338,6 +489,9 @@ def devices(tool, library, folder):
     for file, data in ((table, frozen), (name, whole), (lines, b"b\na\nb\n")):
         Path(file).write_bytes(data)
     Path(f"{folder}/map").write_bytes(packed([1, 0]))
+    lists, part = made(folder), f"{folder}/0.column"
+    joined = [*itertools.chain(*(merged(shards_of(it, 3)[shard] for it in lists)[0] for shard in range(3)))]
+    Path(part).write_bytes(column(id_of(read(f"{folder}/0.dict")), [3, MISSING]))
     cases = [
         (["decode", table, name], b"b\na\nb\n", {}),
         (["rows", table, name, "1-2"], b"a\nb\n", {}),
@@ -346,6 +500,11 @@ def devices(tool, library, folder):
         (
             ["renumber", "--column", name, "--dict", table, "--into", table, f"{folder}/map", "-o", out],
             b"", {out: column(id_of(frozen), [1, 0, 1])},
+        ),
+        (
+            ["renumber", "--column", part, "--dict", f"{folder}/0.dict", "--into", f"{folder}/whole", "--maps", f"{folder}/maps",
+             "--part", "0", f"{folder}/0", "-o", out],
+            b"", {out: column(id_of_strings(joined, BYTES), [joined.index(lists[0][3]), MISSING])},
         ),
         (["stat", name], b"column\nkind bytes\nstrings 2\nrows 3\nmissing 0\nwidth 1\nbytes 67\n", {}),
         (["encode", table, lines, "--column", "-"], whole, {}),
@@ -478,10 +637,19 @@ def cases(tool, library):
         yield f"a column file of {size} lines, {word}", lambda folder, size=size, kind=kind: of_column(
             tool, random.Random(size), size, kind, folder
         )
+        if size <= MOST_IN_SHARDS:
+            yield f"a column file of {size} lines in shards, {word}", lambda folder, size=size, kind=kind: of_shards(
+                tool, random.Random(size), size, kind, folder
+            )
+            yield f"columns of parts of {size} lines in shards, {word}", lambda folder, size=size, kind=kind: of_parts_in_shards(
+                tool, random.Random(size), size, kind, folder
+            )
         yield f"columns of parts of {size} lines, {word}", lambda folder, size=size, kind=kind: of_parts(
             tool, random.Random(size), size, kind, folder
         )
     yield "columns that renumber refuses", lambda folder: refused_parts(tool, folder)
+    yield "columns that renumber refuses, in shards", lambda folder: refused_parts_in_shards(tool, folder)
+    yield "other folders of shards", lambda folder: refused_shards(tool, folder)
     yield "other dictionaries", lambda folder: others(tool, folder)
     yield "docs/COLUMN-FILES.md", lambda folder: session(tool, folder)
     yield "devices, column files", lambda folder: devices(tool, library, folder)

@@ -5,6 +5,7 @@ used.
 """
 
 import array
+import itertools
 import struct
 import sys
 from typing import NamedTuple
@@ -40,6 +41,13 @@ def id_of(table):
     at = frozen.sections
     hashed = table[at.ends : at.pilots] + table[at.text :]
     return Id(frozen.kind, len(frozen), *(sip_hash(frozen.kind, key, hashed) for key in (0, 1)))
+
+
+def id_of_strings(strings, kind):
+    """That of a dictionary with these strings in this order, such as the shards of a folder have, one after the other."""
+    ends = (end % 2**32 for end in itertools.accumulate(map(len, strings)))
+    hashed = struct.pack(f"<{len(strings)}I", *ends) + b"".join(strings)
+    return Id(kind, len(strings), *(sip_hash(kind, key, hashed) for key in (0, 1)))
 
 
 def narrowed(width, codes):

@@ -24,6 +24,7 @@ KEYS = tuple(int.from_bytes(it, "big") for it in (b"shards.0", b"shards.1"))
 OTHER = "not the shard that the index names: it is damaged, or of another split or merge"
 MISPLACED = "belongs to another shard, or there is another number of shards"
 NO_LINE = "not the line of a merged shard"
+NOT_MERGED = "no such file: it is made by merge --shard, with the shard and its maps"
 NOT_ITS_FILE = "not the shard that its line is of: it is damaged, or was written again"
 # How often a process is killed.
 KILLS = 24
@@ -75,6 +76,12 @@ def line_of(number, indexes, table):
     (count,) = {len(ids_in(it) or []) for it in indexes}
     head = f"intaglio shard 1 {number:016x} {count:016x} {sip_hash(0, 0, whole):016x} {sip_hash(0, 1, whole):016x} {size:016x}\n"
     return head.encode() + index_of([id_of(table)]).split(b"\n", 1)[1]
+
+
+def maps_of(numbers, tables, table):
+    """The files of a folder with the maps of these tables to this one, and their index."""
+    files = {f"{part}.map": packed(it) for part, it in enumerate(numbers)}
+    return files | {"index": index_of([id_of(it) for it in (*tables, table)])}
 
 
 def strings_in(folder):
@@ -159,9 +166,9 @@ def of_parts(tool, chance, size, kind, count, folder):
         yield "merge --shard", run([tool, "merge", "--shard", str(shard), "-o", out, "--maps", maps, *names]) == DONE
         strings, numbers = merged(shards_of(it, count)[shard] for it in lists)
         of_shards.append(strings)
-        yield f"shard {shard}: what merge wrote", read(out) == freeze(strings, kind) and files_in(maps) == {
-            f"{part}.map": packed(it) for part, it in enumerate(numbers)
-        }
+        tables = [read(f"{it}/{shard}.dict") for it in names]
+        yield f"shard {shard}: what merge wrote", read(out) == freeze(strings, kind)
+        yield f"shard {shard}: the maps", files_in(maps) == maps_of(numbers, tables, read(out))
         indexes = [read(f"{it}/shards") for it in names]
         yield f"shard {shard}: its line", read(f"{out}.line") == line_of(shard, indexes, read(out))
     joins = [tool, "join", "-o", whole, *(f"{folder}/{it}.merged" for it in range(count))]
@@ -197,7 +204,7 @@ def made(folder, count=3):
     for shard, (strings, numbers) in enumerate(each):
         table = freeze(strings)
         put(folder, {f"{shard}.merged": table, f"{shard}.merged.line": line_of(shard, indexes, table)})
-        put(f"{folder}/maps/{shard}", {f"{part}.map": packed(it) for part, it in enumerate(numbers)})
+        put(f"{folder}/maps/{shard}", maps_of(numbers, [read(f"{folder}/{part}/{shard}.dict") for part in range(2)], table))
     Path(f"{folder}/codes").write_bytes(packed([0, 1, 2]))
     return lists
 
@@ -292,7 +299,8 @@ def requests(tool, folder):
         (["merge", "-o", out, f"{folder}/0", "--shard", "3"], f"{folder}/0: it has no shard 3, but 3 shards, counted from 0", 1),
         *(([*merge, it], f"--shard '{it}': {needed}", 2) for it in ("x", "-1"[1:] + "x", "1.", "0x1")),
         (with_word(f"{folder}/0", f"{folder}/five"), f"{folder}/five: it has 5 shards, and {whole} has 3", 1),
-        (with_word("0", "7"), f"{maps}/0/7.map: No such file or directory", 1),
+        (with_word("0", "2"), f"{maps}/0/index: 2 parts were merged, so there is no part 2, counted from 0", 1),
+        (with_word("0", "1"), f"{maps}/0/index: part 1 of the merge had another shard 0 than {folder}/0 has", 1),
         (with_word("0", "x"), "--part 'x': the number of a part is needed, counted from 0", 2),
         (into[:3] + into[5:], f"{whole}: after --into, --maps and --part are needed too", 2),
         (into[:5] + into[7:], f"{whole}: after --into, --maps and --part are needed too", 2),
@@ -309,6 +317,7 @@ def requests(tool, folder):
         yield f"a map {what}", refused(tool, into, b"", f"{part_map}: {message}", folder)
     Path(part_map).write_bytes(of_map)
     yield "the maps again", run([tool, *into]) == DONE
+    yield from other_maps(tool, folder, into)
     for name in (part_map, f"{folder}/0/map", f"{folder}/0/shards", f"{whole}/shards", codes):
         told = said(2, f"{name}: this input is also the output {name}; nothing was written")
         before = read(name)
@@ -339,6 +348,45 @@ def requests(tool, folder):
     os.link(f"{shards[0]}.line", f"{folder}/new/shards")
     told = f"{shards[0]}.line: this input is also the output {folder}/new/shards; nothing was written"
     yield "a line that is the index", refused(tool, ["join", *shards, "-o", f"{folder}/new"], b"", told, folder, 2)
+
+
+def other_maps(tool, folder, into):
+    """Yields what `renumber` says of maps of another merge, whose numbers fit, of an index of maps that is damaged or isn't
+    there, and of maps that were written again."""
+    maps, whole, parts = f"{folder}/maps", f"{folder}/whole", [f"{folder}/{it}" for it in range(2)]
+    was = files_in(f"{maps}/1")
+    index = f"{maps}/1/index"
+    merge = [tool, "merge", "--shard", "1", "-o", f"{folder}/again", "--maps", f"{maps}/1"]
+    for what, given, message in (
+        ("the other order", parts[::-1], f"part 0 of the merge had another shard 1 than {folder}/0 has"),
+        ("one part", parts[:1], f"the merge made another shard 1 than {whole} has"),
+    ):
+        shutil.rmtree(f"{maps}/1")
+        yield f"merge {what}", run([*merge, *given]) == DONE
+        yield f"maps of {what}", refused(tool, into, b"", f"{index}: {message}", folder)
+        shutil.rmtree(f"{maps}/1")
+        put(f"{maps}/1", was)
+    for what, data, line in (("empty", b"", 1), ("cut", was["index"][:-1], 4), ("a line", read(f"{folder}/1.merged.line"), 1)):
+        Path(index).write_bytes(data)
+        told = f"{index}: line {line} is not that of an index of shards"
+        yield f"an index of maps that is {what}", refused(tool, into, b"", told, folder)
+    Path(index).write_bytes(index_of([]))
+    told = f"{index}: 0 parts were merged, so there is no part 0, counted from 0"
+    yield "an index of no maps", refused(tool, into, b"", told, folder)
+    os.remove(index)
+    yield "no index of maps", refused(tool, into, b"", f"{index}: {NOT_MERGED}", folder)
+    # Maps that a merge of whole dictionaries writes in their place have no index.
+    put(f"{maps}/1", was)
+    flat = ["merge", "-o", f"{folder}/again", "--maps", f"{maps}/1", *(f"{it}/1.dict" for it in parts)]
+    yield "merge files", run([tool, *flat]) == DONE and files_in(f"{maps}/1") == {it: was[it] for it in ("0.map", "1.map")}
+    yield "an index that was removed", refused(tool, into, b"", f"{index}: {NOT_MERGED}", folder)
+    told = f"{index}: this output is also the output {index}; nothing was written"
+    words = ["merge", "--shard", "1", "-o", index, "--maps", f"{maps}/1", *parts]
+    yield "an index that is the shard", refused(tool, words, b"", told, folder, 2)
+    put(f"{maps}/1", was)
+    told = said(2, f"{index}: this input is also the output {index}; nothing was written")
+    yield "renumber to an index of maps", run([tool, *into[:-1], index]) == told and files_in(f"{maps}/1") == was
+    yield "after that", run([tool, *into]) == DONE
 
 
 def is_joined(tool, shards, folder, message):
@@ -381,7 +429,7 @@ def lines(tool, folder):
         Path(line).write_bytes(data)
         yield f"a line that is {what}", is_joined(tool, shards, folder, f"{line}: {NO_LINE}")
     os.remove(line)
-    yield "no line", is_joined(tool, shards, folder, f"{line}: No such file or directory")
+    yield "no line", is_joined(tool, shards, folder, f"{line}: {NOT_MERGED}")
     Path(line).write_bytes(was)
     yield from other_files(tool, folder, shards, whole)
 
@@ -539,6 +587,7 @@ def merge_kills(tool, folder):
     merges = [["merge", "--shard", str(it), "-o", out, "--maps", f"{folder}/maps{it}", *both] for it, out in enumerate(outs)]
     whole = {"shards": index_of([id_of(it) for it in tables])} | {f"{it}.dict": table for it, table in enumerate(tables)}
     old, joins = freeze([b"another"]), ["join", *outs, "-o", target]
+    maps = maps_of(merged(shards_of(it, 2)[0] for it in parts)[1], [read(f"{it}/0.dict") for it in both], tables[0])
     began = time.monotonic()
     yield "merge", all(run([tool, *it]) == DONE for it in merges) and [read(it) for it in outs] == tables
     took = (time.monotonic() - began) / 2
@@ -546,6 +595,8 @@ def merge_kills(tool, folder):
         put(folder, {"0.merged": old, "0.merged.line": line_of(0, indexes, old)})
         killed(tool, merges[0], chance.random() * took * 1.2)
         now, line = read(outs[0]), read(f"{outs[0]}.line") if os.path.exists(f"{outs[0]}.line") else None
+        files = files_in(f"{folder}/maps0")
+        yield f"merge: the maps after turn {turn}", "index" not in files or {it: files[it] for it in maps} == maps
         yield f"merge: killed in turn {turn}", now in (old, tables[0]) and line in (None, line_of(0, indexes, now))
         yield f"merge: again after turn {turn}", run([tool, *merges[0]]) == DONE and read(outs[0]) == tables[0]
         shutil.rmtree(target, ignore_errors=True)

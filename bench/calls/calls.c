@@ -50,6 +50,66 @@ static void turn(const char *row, uint32_t kind, strings fresh, strings shuffled
     intaglio_free(&table);
 }
 
+static uint64_t frozen_find_each(void *table, strings of) {
+    const intaglio_opened *opened = table;
+    uint64_t sum = 0;
+    for (size_t i = 0; i < of.count; i++) {
+        uint32_t symbol;
+        if (intaglio_frozen_find(opened->bytes, opened->len, of.items[i].at, of.items[i].len, &symbol)) sum += symbol;
+    }
+    return sum;
+}
+
+static uint64_t frozen_get_each(void *table, strings of) {
+    const intaglio_opened *opened = table;
+    uint64_t sum = 0;
+    for (size_t i = 0; i < of.count; i++) {
+        intaglio_spelling out;
+        if (intaglio_frozen_get(opened->bytes, opened->len, (uint32_t)i, &out)) sum += out.len;
+    }
+    return sum;
+}
+
+static uint64_t opened_find_each(void *table, strings of) {
+    uint64_t sum = 0;
+    for (size_t i = 0; i < of.count; i++) {
+        uint32_t symbol;
+        if (intaglio_opened_find(table, of.items[i].at, of.items[i].len, &symbol)) sum += symbol;
+    }
+    return sum;
+}
+
+static uint64_t opened_get_each(void *table, strings of) {
+    uint64_t sum = 0;
+    for (size_t i = 0; i < of.count; i++) {
+        intaglio_spelling out;
+        if (intaglio_opened_get(table, (uint32_t)i, &out)) sum += out.len;
+    }
+    return sum;
+}
+
+/* A frozen table of the strings, by calls that read its header each time, and opened. */
+static void frozen_turn(strings fresh, strings shuffled, strings absent) {
+    intaglio_table table = INTAGLIO_TABLE_NONE;
+    intaglio_opened opened;
+    if (intaglio_new(&table, INTAGLIO_BYTES, 1, 2) != INTAGLIO_DONE) exit(2);
+    (void)intern_each(&table, fresh);
+    size_t len = intaglio_frozen_size(&table);
+    uint8_t *bytes = malloc(len);
+    if (!bytes || intaglio_freeze(&table, 1, 2, bytes, len, &len) != INTAGLIO_DONE) exit(2);
+    intaglio_free(&table);
+    if (intaglio_open(&opened, bytes, len) != INTAGLIO_DONE) exit(2);
+    measure("C, frozen", "found", frozen_find_each, &opened, fresh);
+    measure("C, frozen", "found, shuffled", frozen_find_each, &opened, shuffled);
+    measure("C, frozen", "absent", frozen_find_each, &opened, absent);
+    measure("C, frozen", "get", frozen_get_each, &opened, fresh);
+    measure("C, frozen and opened", "found", opened_find_each, &opened, fresh);
+    measure("C, frozen and opened", "found, shuffled", opened_find_each, &opened, shuffled);
+    measure("C, frozen and opened", "absent", opened_find_each, &opened, absent);
+    measure("C, frozen and opened", "get", opened_get_each, &opened, fresh);
+    free(bytes);
+}
+
 int main(int count, char **words) {
     if (count != 5) return 2;
     strings fresh = read_lines(words[1]), shuffled = read_lines(words[2]), absent = read_lines(words[3]);
@@ -58,6 +118,7 @@ int main(int count, char **words) {
         turn("C, bytes", INTAGLIO_BYTES, fresh, shuffled, absent);
         turn("C, packed texts", INTAGLIO_PACKED_TEXT, fresh, shuffled, absent);
         turn("C, packed bytes", INTAGLIO_PACKED_BYTES, fresh, shuffled, absent);
+        frozen_turn(fresh, shuffled, absent);
     }
     return 0;
 }

@@ -12,7 +12,7 @@
  *   intaglio_packed_text   UTF-8 strings in one buffer
  *   intaglio_packed_bytes  bytes in one buffer
  *
- * A packed table takes less memory, but the pointer of its get is valid only until the next call that interns or shrinks.
+ * A packed table takes less memory, but the pointer of its get is valid only until the next call that interns, reserves or shrinks.
  *
  * For example, intaglio_text_intern interns a string in an intaglio_text. If the kind is known only at run time, use
  * intaglio_table and the functions without a kind in their names, such as intaglio_intern.
@@ -90,6 +90,28 @@ typedef struct {
     uint64_t hash0;
     uint64_t hash1;
 } intaglio_dictionary_id;
+
+/* What the header of a frozen table says, and where its sections begin. The library writes it, and no field needs to be read: `count` is
+ * the number of strings, and `kind` is 1 if they are UTF-8. */
+typedef struct {
+    uint64_t key0;
+    uint64_t key1;
+    size_t count;
+    size_t starts_at;
+    size_t pilots_at;
+    size_t tags_at;
+    size_t text_at;
+    uint32_t places;
+    uint32_t groups;
+    uint32_t kind;
+} intaglio_sections;
+
+/* An opened frozen table: its bytes, which stay the caller's, and their sections. The struct may be copied. It owns nothing. */
+typedef struct {
+    const uint8_t *bytes;
+    size_t len;
+    intaglio_sections sections;
+} intaglio_opened;
 
 /* The kinds. */
 enum {
@@ -201,7 +223,7 @@ bool intaglio_check_interned(const intaglio_table *table, const uint8_t *bytes, 
 
 /* Stores the address and the length of a symbol's bytes in *out. The bytes stay valid until the table is cleared, rolled back to
  * before the symbol, freed or replaced; interning doesn't move them, except in a packed table: there the pointer is valid only until
- * the next call that interns or shrinks. Returns false if there is no such symbol; *out is then unchanged. */
+ * the next call that interns, reserves or shrinks. Returns false if there is no such symbol; *out is then unchanged. */
 bool intaglio_get(const intaglio_table *table, uint32_t symbol, intaglio_spelling *out);
 
 /* Stores the number of a symbol's bytes in *len, and copies them to the start of the buffer if it has space for all of them.
@@ -256,6 +278,8 @@ INTAGLIO_MUST_USE intaglio_code intaglio_copy_all(const intaglio_table *table, c
  * Errors: NOT_FROZEN, OTHER_VERSION, NO_KIND, RESERVED, TOO_MANY, TRUNCATED, TEXT_ENDS, UNUSED, NOT_FOUND, NOT_UTF8. */
 INTAGLIO_MUST_USE intaglio_code intaglio_frozen_check(const uint8_t *bytes, size_t len);
 
+/* The calls on bytes read the header each time. For many look-ups, open the table once, and make those on intaglio_opened below. */
+
 /* Returns whether a string is in a frozen table. If so, its symbol is stored in *symbol; otherwise *symbol is unchanged. */
 bool intaglio_frozen_find(const uint8_t *bytes, size_t len, const uint8_t *string, size_t string_len, uint32_t *symbol);
 
@@ -269,6 +293,35 @@ bool intaglio_frozen_get(const uint8_t *bytes, size_t len, uint32_t symbol, inta
 
 /* Returns the number of strings, or 0 if the header is invalid or the bytes are shorter than it requires. */
 size_t intaglio_frozen_len(const uint8_t *bytes, size_t len);
+
+/* Stores where the sections of a frozen table are. Only the header is read, and the length is compared with what it requires.
+ * Errors: those of frozen_check that a header or the length can have. *sections is then unchanged. */
+INTAGLIO_MUST_USE intaglio_code intaglio_frozen_sections(const uint8_t *bytes, size_t len, intaglio_sections *sections);
+
+/* As frozen_find and frozen_get, in bytes with these sections, and the header isn't read. If the sections are those of other bytes, or were
+ * changed, what is found is unspecified, but nothing outside the bytes is read. */
+bool intaglio_frozen_find_in(const uint8_t *bytes, size_t len, const intaglio_sections *sections, const uint8_t *string, size_t string_len, uint32_t *symbol);
+bool intaglio_frozen_get_in(const uint8_t *bytes, size_t len, const intaglio_sections *sections, uint32_t symbol, intaglio_spelling *out);
+
+/* Opens a frozen table, and reads its header alone: for bytes that aren't trusted, call frozen_check before. The bytes must stay as they are for
+ * as long as the calls below use them. Errors: those of frozen_sections. *opened is then unchanged. */
+INTAGLIO_MUST_USE static inline intaglio_code intaglio_open(intaglio_opened *opened, const uint8_t *bytes, size_t len) {
+    intaglio_code code = intaglio_frozen_sections(bytes, len, &opened->sections);
+    if (code == INTAGLIO_DONE) {
+        opened->bytes = bytes;
+        opened->len = len;
+    }
+    return code;
+}
+
+/* The same as frozen_find, frozen_get and frozen_len, on an opened frozen table. */
+static inline bool intaglio_opened_find(const intaglio_opened *opened, const uint8_t *string, size_t len, uint32_t *symbol) {
+    return intaglio_frozen_find_in(opened->bytes, opened->len, &opened->sections, string, len, symbol);
+}
+static inline bool intaglio_opened_get(const intaglio_opened *opened, uint32_t symbol, intaglio_spelling *out) {
+    return intaglio_frozen_get_in(opened->bytes, opened->len, &opened->sections, symbol, out);
+}
+static inline size_t intaglio_opened_len(const intaglio_opened *opened) { return opened->sections.count; }
 
 /* Freezes a table: stores the number of bytes in *len, and copies them to the start of the buffer if it has space for all of them. The
  * strings are those of the table, with their symbols; a C string keeps its zero. They are UTF-8 if the kind is text, path, osstr or

@@ -218,7 +218,7 @@ static void same_symbol(struct table *t, uint32_t symbol) {
     e->seen = out.at;
 }
 
-/* After a call that interns or shrinks, the bytes of a packed table may be elsewhere. */
+/* After a call that interns, reserves or shrinks, the bytes of a packed table may be elsewhere. */
 static void may_move(struct table *t) {
     if (t->kind != INTAGLIO_PACKED_TEXT && t->kind != INTAGLIO_PACKED_BYTES) return;
     for (size_t i = 0; i < t->len; i++) t->entries[i].seen = NULL;
@@ -354,10 +354,11 @@ static void resize(struct table *t) {
         bool is_large = t->live && size > t->limit - t->len;
         if (!is_large && size > 100000) return;
         call = "reserve";
-        IN_LIBRARY(code = intaglio_reserve(&t->handle, size));
-        if (!t->live || is_large || t->len + size <= t->capacity) WANT(failed == 0);
-        same_code(t, code, !t->live ? INTAGLIO_NO_TABLE : (is_large ? INTAGLIO_TOO_LARGE : INTAGLIO_DONE));
         bool is_enough = t->len + size <= t->capacity;
+        IN_LIBRARY(code = intaglio_reserve(&t->handle, size));
+        if (!is_enough && t->live && !is_large) may_move(t);
+        if (!t->live || is_large || is_enough) WANT(failed == 0);
+        same_code(t, code, !t->live ? INTAGLIO_NO_TABLE : (is_large ? INTAGLIO_TOO_LARGE : INTAGLIO_DONE));
         if (code == INTAGLIO_DONE && !is_enough) t->capacity = t->len + size;
         same_sizes(t, is_enough);
         return;

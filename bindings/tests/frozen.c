@@ -64,6 +64,68 @@ static void compare(const uint8_t *bytes, size_t len) {
     WANT(intaglio_frozen_find_all(bytes, len, (const uint8_t *)"absent\n", 7, &end, 1, symbols, 1) == INTAGLIO_DONE && symbols[0] == INTAGLIO_ABSENT);
 }
 
+/* The same of an opened table, whose header isn't read again: it can be another's. */
+static void compare_opened(const uint8_t *bytes, size_t len) {
+    intaglio_opened opened;
+    uint32_t symbol = 7;
+    intaglio_spelling out = {NULL, 7};
+    uint8_t *headless = (uint8_t *)malloc(len);
+    WANT(headless && intaglio_open(&opened, bytes, len) == INTAGLIO_DONE && intaglio_opened_len(&opened) == count);
+    WANT(opened.bytes == bytes && opened.len == len && (opened.sections.kind == 1) == intaglio_frozen_is_text(bytes, len));
+    memcpy(headless, bytes, len);
+    memset(headless, 7, 64);
+    opened.bytes = headless;
+    for (size_t i = 0; i < count; i++) {
+        const uint8_t *string = text + start_of(i);
+        size_t size = ends[i] - start_of(i);
+        WANT(intaglio_opened_get(&opened, (uint32_t)i, &out) && out.len == size && memcmp(out.at, string, size) == 0);
+        WANT(size == 0 || (out.at >= headless && out.at + size <= headless + len));
+        WANT(intaglio_opened_find(&opened, string, size, &symbol) && symbol == i);
+    }
+    out.len = symbol = 7;
+    WANT(!intaglio_opened_get(&opened, (uint32_t)count, &out) && !intaglio_opened_get(&opened, UINT32_MAX, &out) && out.len == 7);
+    WANT(!intaglio_opened_find(&opened, (const uint8_t *)"absent\n", 7, &symbol) && symbol == 7);
+    WANT(intaglio_open(&opened, bytes, 63) == INTAGLIO_TRUNCATED && opened.bytes == headless && intaglio_opened_len(&opened) == count);
+    free(headless);
+}
+
+/* Looks up and reads all by some sections, which may be wrong. What is read lies within the bytes. */
+static void use_sections(const uint8_t *bytes, size_t len, const intaglio_sections *sections) {
+    uint32_t symbol = 0;
+    intaglio_spelling out;
+    for (size_t i = 0; i <= count; i++)
+        if (intaglio_frozen_get_in(bytes, len, sections, (uint32_t)i, &out)) WANT(out.len == 0 || (out.at >= bytes && out.at + out.len <= bytes + len));
+    for (size_t i = 0; i < count; i++) (void)intaglio_frozen_find_in(bytes, len, sections, text + start_of(i), ends[i] - start_of(i), &symbol);
+    (void)intaglio_frozen_get_in(bytes, len, sections, UINT32_MAX, &out);
+}
+
+/* No call reads outside the bytes, whatever the sections are: each word of them is another, and they are those of longer bytes. */
+static void change_sections(const uint8_t *bytes, size_t len) {
+    static const uint32_t others[] = {0, 1, 3, 64, 1 << 20, 0x7fffffff, 0x80000000, UINT32_MAX - 7, UINT32_MAX};
+    intaglio_sections sections, changed;
+    uint8_t *copy = (uint8_t *)malloc(len);
+    WANT(copy && intaglio_frozen_sections(bytes, len, &sections) == INTAGLIO_DONE);
+    memcpy(copy, bytes, len);
+    for (size_t at = 0; at + 4 <= sizeof sections; at += 4)
+        for (size_t i = 0; i < sizeof others / sizeof others[0]; i++) {
+            changed = sections;
+            memcpy((uint8_t *)&changed + at, &others[i], 4);
+            use_sections(copy, len, &changed);
+        }
+    for (int byte = 0; byte < 256; byte++) {
+        memset(&changed, byte, sizeof changed);
+        use_sections(copy, len, &changed);
+    }
+    free(copy);
+    for (size_t cut = 0; cut < len; cut++) {
+        uint8_t *front = (uint8_t *)malloc(cut ? cut : 1);
+        WANT(front);
+        memcpy(front, bytes, cut);
+        use_sections(front, cut, &sections);
+        free(front);
+    }
+}
+
 /* A table of the strings is frozen to these bytes, and stays as it is. */
 static void freeze(const uint8_t *bytes, size_t len, uint32_t kind) {
     intaglio_table table = INTAGLIO_TABLE_NONE;
@@ -120,6 +182,10 @@ static void pass_null(const uint8_t *bytes, size_t len) {
     WANT(intaglio_frozen_check(NULL, 0) == INTAGLIO_NOT_FROZEN && intaglio_frozen_len(NULL, 0) == 0 && !intaglio_frozen_is_text(NULL, 0));
     WANT(!intaglio_frozen_get(NULL, 0, 0, &out) && !intaglio_frozen_find(NULL, 0, NULL, 0, &symbol) && out.len == 7 && symbol == 7);
     WANT(intaglio_frozen_find_all(NULL, 0, NULL, 0, NULL, 0, NULL, 0) == INTAGLIO_NOT_FROZEN);
+    intaglio_opened opened = {NULL, 7, {0, 0, 7, 0, 0, 0, 0, 0, 0, 0}};
+    WANT(intaglio_open(&opened, NULL, 0) == INTAGLIO_NOT_FROZEN && opened.len == 7 && intaglio_opened_len(&opened) == 7);
+    opened.len = 0;
+    WANT(!intaglio_opened_get(&opened, 0, &out) && !intaglio_opened_find(&opened, NULL, 0, &symbol) && out.len == 7 && symbol == 7);
     WANT(intaglio_frozen_find_all(bytes, len, NULL, 0, NULL, 0, NULL, 0) == INTAGLIO_DONE);
     intaglio_table table = INTAGLIO_TABLE_NONE;
     WANT(intaglio_new(&table, INTAGLIO_BYTES, 1, 2) == INTAGLIO_DONE && intaglio_absorb(&table, NULL, 0, NULL, 0) == INTAGLIO_NOT_FROZEN);
@@ -138,6 +204,26 @@ static void absorb_any(const uint8_t *bytes, size_t len) {
     WANT(intaglio_frozen_check(bytes, len) != INTAGLIO_DONE || intaglio_len(&table) == held);
     intaglio_free(&table);
     free(map);
+}
+
+/* The same calls on the opened table give the same, if there is one. */
+static void read_any_opened(const uint8_t *bytes, size_t len) {
+    intaglio_opened opened;
+    uint32_t symbol, other;
+    intaglio_spelling out, copy;
+    if (intaglio_open(&opened, bytes, len) != INTAGLIO_DONE) {
+        WANT(intaglio_frozen_len(bytes, len) == 0);
+        return;
+    }
+    WANT(intaglio_opened_len(&opened) == intaglio_frozen_len(bytes, len));
+    for (size_t i = 0; i <= count; i++) {
+        bool there = intaglio_opened_get(&opened, (uint32_t)i, &out);
+        WANT(there == intaglio_frozen_get(bytes, len, (uint32_t)i, &copy) && (!there || (out.at == copy.at && out.len == copy.len)));
+    }
+    for (size_t i = 0; i < count; i++) {
+        bool found = intaglio_opened_find(&opened, text + start_of(i), ends[i] - start_of(i), &symbol);
+        WANT(found == intaglio_frozen_find(bytes, len, text + start_of(i), ends[i] - start_of(i), &other) && (!found || symbol == other));
+    }
 }
 
 /* Reads bytes that may be no table, and writes the code of them, the code of looking up all strings, and their numbers. What is found is what was
@@ -160,6 +246,7 @@ static void read_any(const uint8_t *bytes, size_t len) {
         if (!intaglio_frozen_find(bytes, len, string, size, &symbol)) continue;
         WANT(intaglio_frozen_get(bytes, len, symbol, &out) && out.len == size && memcmp(out.at, string, size) == 0);
     }
+    read_any_opened(bytes, len);
 }
 
 int main(int argc, char **argv) {
@@ -172,6 +259,8 @@ int main(int argc, char **argv) {
     const uint8_t *bytes = (const uint8_t *)mmap(NULL, len, PROT_READ, MAP_PRIVATE, file, 0);
     WANT(bytes != MAP_FAILED && close(file) == 0);
     compare(bytes, len);
+    compare_opened(bytes, len);
+    change_sections(bytes, len);
     WANT(intaglio_frozen_is_text(bytes, len) == (strcmp(argv[2], "text") == 0));
     pass_null(bytes, len);
     freeze(bytes, len, strcmp(argv[2], "text") == 0 ? INTAGLIO_TEXT : INTAGLIO_BYTES);

@@ -90,6 +90,8 @@ static void open_by_header(const uint8_t *frozen, size_t len, bool is_text, uint
     memcpy(bytes, frozen, len);
     WANT(mprotect(pages + page, size - page, PROT_NONE) == 0);
     READS(intaglio_frozen_len(bytes, len) == STRINGS && intaglio_frozen_is_text(bytes, len) == is_text);
+    intaglio_opened opened;
+    READS(intaglio_open(&opened, bytes, len) == INTAGLIO_DONE && intaglio_opened_len(&opened) == STRINGS);
     WANT(munmap(pages, size) == 0);
 }
 
@@ -105,10 +107,14 @@ static void freeze(const intaglio_table *table, uint32_t kind) {
     bool is_text = kind == INTAGLIO_TEXT || kind == INTAGLIO_PATH || kind == INTAGLIO_OSSTR || kind == INTAGLIO_PACKED_TEXT;
     READS(intaglio_frozen_is_text(frozen, len) == is_text);
     open_by_header(frozen, len, is_text, kind);
+    intaglio_opened opened;
+    READS(intaglio_open(&opened, frozen, len) == INTAGLIO_DONE);
     for (uint32_t i = 0; i < STRINGS; i++) {
         size_t size = spell(kind, i, bytes);
         READS(intaglio_frozen_find(frozen, len, bytes, size, &symbol) && symbol == i);
         READS(intaglio_frozen_get(frozen, len, i, &out) && out.len == size && memcmp(out.at, bytes, size) == 0);
+        READS(intaglio_opened_find(&opened, bytes, size, &symbol) && symbol == i);
+        READS(intaglio_opened_get(&opened, i, &out) && out.len == size && memcmp(out.at, bytes, size) == 0);
     }
 }
 

@@ -5,12 +5,14 @@ use Rattle.intaglio_frozen.specs.Fault.{IsFault}
 use Rattle.intaglio_frozen.specs.Freezing.{HasKeys, IsRefusal, IsTableOf}
 use Rattle.intaglio_frozen.specs.IsFrozen.{HasSections, IsBlock, IsFrozen}
 use Rattle.intaglio_frozen.specs.Layout.{strings}
+use Rattle.intaglio_frozen.specs.Sections.{AreSectionsOf}
 use Rattle.intaglio_frozen.specs.declared.error.FreezeError.{FreezeError}
 use Rattle.intaglio_frozen.specs.declared.error.FreezeError.TheVariants as error
 use Rattle.intaglio_frozen.specs.declared.error.FrozenError.{FrozenError}
 use Rattle.intaglio_frozen.specs.declared.error.FrozenError.TheVariants as fault
 use Rattle.intaglio_frozen.specs.declared.kind.Kind.{Kind as FrozenKind}
 use Rattle.intaglio_frozen.specs.declared.kind.Kind.TheVariants as frozen
+use Rattle.intaglio_frozen.specs.declared.sections.Sections.{Sections}
 use Rattle.intaglio_c.specs.Batches.{AreAll, Either, FindsBy, InternsOr, IsRolledBack, is_batch, or_absent, pieces}
 use Rattle.intaglio_c.specs.Handles.{filled, table_of}
 use Rattle.intaglio_c.specs.Kinds.{rule_of}
@@ -38,6 +40,11 @@ IsRefused bs refusal = (fault : FrozenError) × (refusal ≡ frozen_refusal faul
 -- bytes are checked: they are a frozen table, or what is wrong with them is returned
 abbrev pub Checks : List ℕ → Result (Unit {0}) Refusal → Type 0
 Checks bs result = MatchResult result (λ _. IsFrozen bs) (IsRefused bs)
+
+-- the sections of bytes are read; or what is wrong with the bytes is returned, and nothing is written
+abbrev pub ReadsSections : List ℕ → Sections → Sections → Result (Unit {0}) Refusal → Type 0
+ReadsSections bs old new (Ok _) = AreSectionsOf bs new
+ReadsSections bs old new (Err refusal) = (¬ HasSections bs) × IsRefused bs refusal × (new ≡ old)
 
 -- the first position of a string
 abbrev pub position_in : List (List ℕ) → List ℕ → Option ℕ

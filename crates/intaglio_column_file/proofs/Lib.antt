@@ -10,3 +10,5 @@ pub mod Overlaid
 pub mod Past
 pub mod Placed
 pub mod SameDictionary
+pub mod Hashed
+pub mod OfStrings

@@ -1,12 +1,12 @@
 -- Codes that are neither those of strings nor missing.
-use Rattle.std.proofs.Common.{◌≡◌, ◌≢◌, ◌∙◌, ℕ, zero, suc, ◌+◌, ◌<◌, ◌≤◌, ◌==◌, ◌&&◌, inl, inr, Bool, true, false, not, nat_le, cond, List, [], ◌∷◌, length, get_or, slice_get, Option, None, Some, MatchOption, refl, sym, ap, arith}
+use Rattle.std.proofs.Common.{◌≡◌, ◌≢◌, ◌∙◌, ℕ, zero, suc, ◌+◌, ◌<◌, ◌≤◌, inl, inr, Bool, true, false, cond, List, [], ◌∷◌, length, get_or, Option, None, Some, MatchOption, sym, ap, arith}
 use Rattle.std.proofs.lemmas.Bool.Decides.{nat_tests}
 use Rattle.std.proofs.lemmas.Bool.{cases_eq, cases_lt, false_from_ne_true, true≢false}
 use Rattle.std.proofs.lemmas.Option.{get_or_from_slice_get, slice_get-get_or, slice_get_within}
 use Rattle.intaglio_column_file.specs.Width.{missing}
 use Rattle.intaglio_column_file.specs.IsColumn.{AreCodes, IsCode, is_unknown}
 use Rattle.intaglio_column_file.specs.Fault.{HasNoString}
-use Rattle.intaglio_column_file.specs.Rows.{IsNextRow, rows_from, rows_past}
+use Rattle.intaglio_column_file.specs.Rows.{IsNextRow, rows_from}
 
 module _ (p : ℕ → Bool) (k x : ℕ) (xs : List ℕ) (none : rows_from p k (x ∷ xs) ≡ []) where
   as_test : (b : Bool) → p x ≡ b → cond b (k ∷ rows_from p (k + 1) xs) (rows_from p (k + 1) xs) ≡ []

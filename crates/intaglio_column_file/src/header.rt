@@ -11,8 +11,9 @@ use crate::id::DictionaryId;
 use crate::numbers::{read_u32, read_u64};
 use crate::width::Width;
 
-// How many bytes the header has.
-pub(crate) const HEADER: usize = 64;
+/// How many bytes the header of a column has. Its codes follow.
+pub const HEADER: usize = 64;
+
 // The letters INT, the byte 0x89, the letters COL, and a line end.
 pub(crate) const MAGIC: u64 = 0x0a4c_4f43_8954_4e49;
 

@@ -94,6 +94,13 @@ impl<'a> Shards<'a> {
         self.tables.len()
     }
 
+    /// The shards, in their order.
+    pub fn tables(&self) -> &[Frozen<'a>]
+        ensures { result.now ≡ self.now }
+    {
+        &self.tables
+    }
+
     /// The number of strings in all shards.
     pub fn len(&self) -> usize
         ensures count { result ≡ length (joined self.now) }

@@ -1,6 +1,7 @@
 //! Packed spellings as the store of a table.
-ghost use Rattle.std.specs.Prelude.{◌≡◌, length, true, ⊤};
-ghost use Rattle.intaglio_packed.specs.Buckets.{sparse, sparse-multiple};
+ghost use Rattle.std.specs.Prelude.{◌≡◌, [], ◌∷◌, ◌++◌, length, true, ⊤};
+ghost use Rattle.intaglio_records.specs.Records.{hashes_of, strings_of};
+ghost use Rattle.std.proofs.lemmas.Bool.{true≢false};
 ghost use Rattle.intaglio_content.specs.Store.{IsPushed};
 
 use crate::content::Keyed;
@@ -11,7 +12,7 @@ use crate::store::{
     AddedTo, ByteStore, Copied, CopiedTo, Lends, LookedUpIn, SoughtIn, SpelledStore, Store,
 };
 use crate::work::Work;
-use intaglio_packed::{StringBuffer, sparse_buckets};
+use intaglio_records::StringRecords;
 use std::alloc::{AllocError, Global};
 use std::hash::{BuildHasher, Hasher};
 use std::marker::PhantomData;
@@ -21,7 +22,7 @@ impl<K: Kind> Store for Packed<K> {
 
     type Prepared = ();
 
-    ghost contents = { λ packed. packed.list };
+    ghost contents = { λ packed. strings_of packed };
 
     ghost most = { λ packed. packed.most };
 
@@ -29,74 +30,67 @@ impl<K: Kind> Store for Packed<K> {
 
     ghost takes = { length };
 
-    ghost buckets_for = { sparse };
+    ghost hashes = { λ packed. hashes_of packed };
+
+    ghost with_hash = { λ hash hashes. hashes ++ hash ∷ [] };
+
+    ghost is_read = { λ spelling bytes. bytes ≡ spelling };
 
     ghost shrink_failed = { λ _. ⊤ };
 
-    ghost buckets_multiple = { sparse-multiple };
-
     fn new(alloc: Global) -> Packed<K> {
         Packed {
-            strings: StringBuffer::new(alloc),
+            records: StringRecords::new(alloc),
             kind: PhantomData,
         }
     }
 
     fn with_capacity(alloc: Global, capacity: usize) -> Result<Packed<K>, AllocError> {
         Ok(Packed {
-            strings: StringBuffer::with_capacity(alloc, capacity, 0)?,
+            records: StringRecords::with_capacity(alloc, capacity, 0)?,
             kind: PhantomData,
         })
     }
 
     fn alloc(&self) -> Global {
-        self.strings.alloc()
+        self.records.alloc()
     }
 
     #[inline(always)]
     fn len(&self) -> usize {
-        self.strings.len()
+        self.records.len()
     }
 
     #[inline(always)]
     fn capacity(&self) -> usize {
-        self.strings.capacity()
+        self.records.capacity()
     }
 
     #[inline(always)]
     fn reserve(&mut self, additional: usize) -> Result<(), AllocError> {
-        self.strings.reserve_strings(additional)
+        self.records.reserve_strings(additional)
     }
 
     fn truncate(&mut self, n: usize) {
-        self.strings.truncate(n);
+        self.records.truncate(n);
     }
 
     fn clear(&mut self) {
-        self.strings.clear();
+        self.records.clear();
     }
 
     fn shrink_to(&mut self, min_capacity: usize) -> Result<(), AllocError> {
-        self.strings.shrink_to(min_capacity)
-    }
-
-    #[inline(always)]
-    fn touch(&self, i: usize) -> u8 {
-        self.string(i).first().copied().unwrap_or(0)
-    }
-
-    fn bucket_count(count: usize) -> usize {
-        sparse_buckets(count)
+        self.records.shrink_to(min_capacity)
     }
 }
 
 impl<K: Kind> ByteStore for Packed<K> {
     fn byte_count(&self) -> usize {
-        self.strings.byte_count()
+        self.records.byte_count()
     }
 
     fn reserve_bytes(&mut self, additional: usize) -> Result<(), AllocError> {
-        self.strings.reserve_bytes(additional)
+        self.records.reserve_bytes(additional)
     }
 }
 
@@ -122,16 +116,16 @@ impl<K: Kind, Q: Packable<K>> SoughtIn<Packed<K>> for Q {
     }
 
     #[inline(always)]
-    fn same_at(&self, store: &Packed<K>, i: usize, work: &mut Work) -> bool {
-        let stored = store.string(i);
+    fn same_at(&self, store: &Packed<K>, i: usize, read: &[u8], work: &mut Work) -> bool {
+        store.is_spelling_at(i);
         work.compared(
             self,
             &Stored {
-                bytes: stored,
+                bytes: read,
                 kind: PhantomData::<K>,
             },
         );
-        K::same_spellings(self.spelled_bytes(), stored)
+        K::same_spellings(self.spelled_bytes(), read)
     }
 }
 
@@ -146,13 +140,15 @@ impl<K: Kind, Q: Packable<K> + Drop> AddedTo<Packed<K>, Copied> for Q {
 
     ghost is_prepared = { λ _ _. ⊤ };
 
+    ghost moved_needs_none = { λ _ no. absurd (true≢false no) };
+
     fn prepare(&self, store: &mut Packed<K>) -> Result<(), AllocError> {
         store.reserve_bytes(self.spelled_bytes().len())
     }
 
-    fn push(self, prepared: (), store: &mut Packed<K>) {
+    fn push(self, hash: u64, prepared: (), store: &mut Packed<K>) {
         let _ = prepared;
-        store.strings.push_reserved(self.spelled_bytes());
+        store.records.push_hashed(hash, self.spelled_bytes());
     }
 
     ghost adds_one = { λ value old new added.
@@ -180,7 +176,7 @@ impl<'a, K: PackedForm<'a>> Lends<'a> for Packed<K> {
 
 impl<K: Kind> SpelledStore for Packed<K> {
     fn spelling_at(&self, i: usize) -> Option<&[u8]> {
-        self.strings.get(i)
+        self.records.get(i)
     }
 }
 

@@ -1,6 +1,5 @@
 //! A `Vec` of owned contents as the store of a table.
-ghost use Rattle.std.specs.Prelude.{◌≡◌, ◌*◌, suc, vec_capacity, true, false, refl, ⊤, IsSomeAnd};
-ghost use Rattle.std.proofs.Common.{arith};
+ghost use Rattle.std.specs.Prelude.{◌≡◌, [], vec_capacity, true, false, refl, ⊤, IsSomeAnd};
 ghost use Rattle.intaglio_content.specs.ContentOf.{content_bytes};
 ghost use Rattle.intaglio_content.specs.Store.{IsMoved, IsPushed};
 
@@ -28,11 +27,13 @@ impl<C: Keyed> Store for Vec<C> {
 
     ghost takes = { λ _. 0 };
 
-    ghost buckets_for = { λ n. n };
+    ghost hashes = { λ _. [] };
+
+    ghost with_hash = { λ _ hashes. hashes };
+
+    ghost is_read = { λ _ _. ⊤ };
 
     ghost shrink_failed = { λ _. ⊤ };
-
-    ghost buckets_multiple = { λ n. (0, omega arith) };
 
     fn new(alloc: Global) -> Vec<C> {
         Vec::new(alloc)
@@ -83,16 +84,6 @@ impl<C: Keyed> Store for Vec<C> {
             Err(AllocError)
         }
     }
-
-    #[inline(always)]
-    fn touch(&self, i: usize) -> u8 {
-        self[i].touch()
-    }
-
-    #[inline(always)]
-    fn bucket_count(count: usize) -> usize {
-        count
-    }
 }
 
 impl<C: Keyed, Q: Sought<C>> SoughtIn<Vec<C>> for Q {
@@ -102,7 +93,8 @@ impl<C: Keyed, Q: Sought<C>> SoughtIn<Vec<C>> for Q {
     }
 
     #[inline(always)]
-    fn same_at(&self, store: &Vec<C>, i: usize, work: &mut Work) -> bool {
+    fn same_at(&self, store: &Vec<C>, i: usize, read: &[u8], work: &mut Work) -> bool {
+        let _ = read;
         self.same_as(&store[i], work)
     }
 }
@@ -118,6 +110,8 @@ impl<C: Keyed + SoughtIn<Vec<C>> + Drop> AddedTo<Vec<C>, Moved> for C {
 
     ghost is_prepared = { λ _ _. ⊤ };
 
+    ghost moved_needs_none = { λ _ _. refl };
+
     #[inline(always)]
     fn prepare(&self, store: &mut Vec<C>) -> Result<Option<C>, AllocError> {
         let _ = store;
@@ -125,8 +119,8 @@ impl<C: Keyed + SoughtIn<Vec<C>> + Drop> AddedTo<Vec<C>, Moved> for C {
     }
 
     #[inline(always)]
-    fn push(self, prepared: Option<C>, store: &mut Vec<C>) {
-        let _ = prepared;
+    fn push(self, hash: u64, prepared: Option<C>, store: &mut Vec<C>) {
+        let _ = (hash, prepared);
         store.push_reserved(self);
     }
 
@@ -147,13 +141,16 @@ impl<K: KindOwned, Q: Packable<K> + Copy> AddedTo<Vec<ContentOf<K>>, Copied> for
         (K.key_of (content_bytes K.Static.spelled K.Owned.spelled copy) ≡ Q.Keyed.key form)
         × (content_bytes K.Static.spelled K.Owned.spelled copy ≡ Q.spelled form)) };
 
+    ghost moved_needs_none = { λ _ _. refl };
+
     fn prepare(&self, store: &mut Vec<ContentOf<K>>) -> Result<Option<ContentOf<K>>, AllocError> {
         let copy = K::copy(*store.allocator(), self.spelled_bytes())?;
         Ok(Some(ContentOf::Owned(copy)))
     }
 
     #[inline(always)]
-    fn push(self, prepared: Option<ContentOf<K>>, store: &mut Vec<ContentOf<K>>) {
+    fn push(self, hash: u64, prepared: Option<ContentOf<K>>, store: &mut Vec<ContentOf<K>>) {
+        let _ = hash;
         match prepared {
             Some(copy) => store.push_reserved(copy),
             None => {}

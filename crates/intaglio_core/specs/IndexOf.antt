@@ -1,9 +1,12 @@
 -- What contracts see of an index over a list, and what its calls do.
-use Rattle.std.specs.Prelude.{◌≡◌, ℕ, ◌*◌, ◌<◌, ◌≤◌, min, max, replicate, List, [], ◌∷◌, ◌++◌, length, map}
+use Rattle.std.specs.Prelude.{◌≡◌, ℕ, ◌+◌, ◌*◌, ◌<◌, ◌≤◌, min, max, replicate, List, [], ◌∷◌, ◌++◌, length, map, sum_by}
 use Rattle.intaglio_content.specs.Key.{Key}
 use Rattle.intaglio_content.specs.declared.work.Work.{Work}
 use Rattle.intaglio_content.specs.Work.{Event, hashed, placed}
 use Rattle.intaglio_index.specs.Placed.{Placed}
+use Rattle.intaglio_records.specs.Records.{Records, hashes_of, strings_of}
+use Rattle.intaglio_records.specs.Index.{made_for}
+use Rattle.intaglio_records.specs.declared.index.RecordIndex.{RecordIndex}
 use Rattle.intaglio_interner.specs.State.{first}
 use Rattle.intaglio_interner.specs.Cost.{bucket_keys, IsSearchCost, IsRecorded}
 
@@ -13,6 +16,21 @@ pub record IndexState : Type 0 where
   pub hashes : List ℕ
   pub room : ℕ
   pub places : ℕ
+
+-- a list is what another one was, but for room that it gave up: for contents, or for their bytes
+pub record HasLessRoom {L C : Type 0} (contents : L → List C) (hashes : L → List ℕ) (most spare_bytes : L → ℕ) (new old : L) : Type 0 where
+  pub same_contents : contents new ≡ contents old
+  pub same_hashes : hashes new ≡ hashes old
+  pub no_more : most new ≤ most old
+  pub no_more_bytes : spare_bytes new ≤ spare_bytes old
+
+-- an index is over some list of which this is true
+abbrev pub IsOverSome : {L : Type 0} → (L → Type 0) → (L → Type 0) → Type 0
+IsOverSome {L} over P = (list : L) × over list × P list
+
+-- an index is seen over a list as it was over those of which this is true
+abbrev pub KeepsState : {L : Type 0} → (L → IndexState) → (L → Type 0) → (L → Type 0) → L → Type 0
+KeepsState {L} state over P new = (list : L) → over list → P list → state new ≡ state list
 
 -- nothing is indexed, and the index is made for this many
 abbrev pub empty_index : ℕ → IndexState
@@ -63,7 +81,15 @@ pub record PlacesAtMost (n : ℕ) (before after : Work) : Type 0 where
 abbrev pub state_of : Placed → IndexState
 state_of index = record { hashes = index.hashes; room = index.room; places = index.places }
 
--- an `Index` has a hash for each of n contents, and its number of buckets by how many it was made for
-pub record IsOver (buckets_for : ℕ → ℕ) (n : ℕ) (index : Placed) : Type 0 where
+-- an `Index` has a hash for each of n contents, and a bucket for each that it was made for
+pub record IsOver (n : ℕ) (index : Placed) : Type 0 where
   pub sized : length index.hashes ≡ n
-  pub buckets : index.count ≡ buckets_for index.places
+  pub buckets : index.count ≡ index.places
+
+-- how many bytes of records there would be room for if so many bytes of strings were spare
+abbrev pub room_with : ℕ → Records → ℕ
+room_with spare list = 13 * list.most + (sum_by length (strings_of list) + spare)
+
+-- what contracts see of an index over records
+abbrev pub state_over : Records → RecordIndex → IndexState
+state_over list index = record { hashes = hashes_of list; room = made_for index; places = made_for index }

@@ -5,12 +5,13 @@ ghost use Rattle.intaglio_content.specs.Key.{Key};
 ghost use Rattle.intaglio_content.specs.Work.{placed};
 ghost use Rattle.intaglio_content.specs.Store.{byte_room, Doubles, DoublesByteRoom};
 ghost use Rattle.intaglio_interner.specs.State.{first, Distinct};
-ghost use Rattle.intaglio_interner.specs.Bytes.{IsTight};
 ghost use Rattle.intaglio_interner.specs.Cost.{Costs};
 ghost use Rattle.intaglio_core.specs.IndexOf.{IndexState, empty_index, AreHashed, IsHashed, LookupCost};
 ghost use Rattle.intaglio_core.specs.IndexOf.{KeepsEntries, FindsRoom, FindsNoRoom, PlacesAtMost};
+ghost use Rattle.intaglio_core.specs.IndexOf.{HasLessRoom, IsOverSome, KeepsState};
 
 mod buckets;
+mod records;
 
 use intaglio_content::{AddedTo, ByteStore, Content, SoughtIn, Store, Work};
 use intaglio_symbol::Symbol;
@@ -89,13 +90,13 @@ pub trait IndexOf<L: Store> {
     /// [`AllocError`] if the allocation fails, which never happens if the value is moved. Then nothing has
     /// changed.
     fn prepare<H, Q: AddedTo<L, H>>(
-        &self,
+        &mut self,
         list: &mut L,
         value: &Q,
     ) -> Result<L::Prepared, AllocError>
-        requires { is_over self.now list.old }
-        ensures over { is_over self.now list.new }
-        ensures state { state self.now list.new ≡ state self.now list.old }
+        requires { is_over self.old list.old }
+        ensures over { is_over self.new list.new }
+        ensures state { state self.new list.new ≡ state self.old list.old }
         ensures contents { L.contents list.new ≡ L.contents list.old }
         ensures most { L.most list.new ≡ L.most list.old }
         ensures spare_bytes { L.spare_bytes list.old ≤ L.spare_bytes list.new }
@@ -217,42 +218,42 @@ pub trait IndexOf<L: Store> {
         ensures err { OnErr result ((state self.new list.new).places ≡ (state self.old list.old).places) }
         ensures cost { PlacesAtMost (length (L.contents list.old)) work.old work.new };
 
-    /// Shrinks list and index to room for `kept` contents. If the list can't be shrunk, it keeps its room.
+    /// Shrinks the index to room for `kept` contents, which is no more than it has.
     ///
     /// # Errors
     ///
     /// [`AllocError`] if the allocation of the smaller index fails. Then nothing has changed.
-    fn shrink_to(&mut self, list: &mut L, kept: usize, work: &mut Work) -> Result<(), AllocError>
-        requires over { is_over self.old list.old }
-        requires within { length (L.contents list.old) ≤ kept }
-        ensures over { is_over self.new list.new }
-        ensures contents { L.contents list.new ≡ L.contents list.old }
-        ensures hashes { (state self.new list.new).hashes ≡ (state self.old list.old).hashes }
-        ensures room { OnOk result ((state self.new list.new).room ≡ kept) }
-        ensures places { OnOk result ((state self.new list.new).places ≡ kept) }
-        ensures most { OnOk result (min kept (L.most list.old) ≤ L.most list.new) }
-        ensures no_more { L.most list.new ≤ L.most list.old }
-        ensures no_more_bytes { L.spare_bytes list.new ≤ L.spare_bytes list.old }
-        ensures shrunk { OnOk result
-            (IsTight kept (L.most list.new) (L.spare_bytes list.new) ⊎ L.shrink_failed kept) }
-        ensures frees_bytes { OnOk result (length (L.contents list.old) ≡ 0 → L.spare_bytes list.new ≡ 0) }
-        ensures err { OnErr result (state self.new list.new ≡ state self.old list.old) }
-        ensures err_most { OnErr result (L.most list.new ≡ L.most list.old) }
-        ensures err_bytes { OnErr result (L.spare_bytes list.new ≡ L.spare_bytes list.old) }
-        ensures cost { PlacesAtMost (length (L.contents list.old)) work.old work.new };
+    fn shrink_to(&mut self, list: &L, kept: usize, work: &mut Work) -> Result<(), AllocError>
+        requires over { is_over self.old list.now }
+        requires within { length (L.contents list.now) ≤ kept }
+        requires less { kept ≤ (state self.old list.now).room }
+        ensures over { is_over self.new list.now }
+        ensures hashes { (state self.new list.now).hashes ≡ (state self.old list.now).hashes }
+        ensures room { OnOk result ((state self.new list.now).room ≡ kept) }
+        ensures places { OnOk result ((state self.new list.now).places ≡ kept) }
+        ensures err { OnErr result (state self.new list.now ≡ state self.old list.now) }
+        ensures cost { PlacesAtMost (length (L.contents list.now)) work.old work.new };
+
+    /// For contracts alone: the index is over the list still after that has given up room.
+    fn stays_over(&self, list: &L)
+        requires { let less = HasLessRoom L.contents L.hashes L.most L.spare_bytes list.now in
+            IsOverSome (is_over self.now) less }
+        ensures over { is_over self.now list.now }
+        ensures state { let less = HasLessRoom L.contents L.hashes L.most L.spare_bytes list.now in
+            KeepsState (state self.now) (is_over self.now) less list.now };
 
     /// Makes room for this many more bytes of contents. If the list has to grow for them, its room at least doubles.
     ///
     /// # Errors
     ///
     /// [`AllocError`] if the allocation fails. Then nothing has changed.
-    fn reserve_bytes(&self, list: &mut L, additional: usize) -> Result<(), AllocError>
+    fn reserve_bytes(&mut self, list: &mut L, additional: usize) -> Result<(), AllocError>
     where
         L: ByteStore,
         L::Content: Content,
-        requires { is_over self.now list.old }
-        ensures over { is_over self.now list.new }
-        ensures state { state self.now list.new ≡ state self.now list.old }
+        requires { is_over self.old list.old }
+        ensures over { is_over self.new list.new }
+        ensures state { state self.new list.new ≡ state self.old list.old }
         ensures contents { L.contents list.new ≡ L.contents list.old }
         ensures most { L.most list.new ≡ L.most list.old }
         ensures spare_bytes { L.spare_bytes list.old ≤ L.spare_bytes list.new }

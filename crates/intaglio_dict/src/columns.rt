@@ -1,15 +1,14 @@
 //! The subcommands that translate columns: lines to codes, codes to lines, and codes to other codes.
 use crate::keeping::Keeping;
 use crate::misfit::{no_number, no_string, no_symbol};
-use crate::opening::{Bytes, first_dictionary};
 use clap::ArgMatches;
-use intaglio_column_file::begins_as_column;
+use intaglio_column_file::{DictionaryId, begins_as_column};
 use intaglio_dict_columns::decoding::decode_file;
-use intaglio_dict_columns::opening::{Pair, no_shards};
+use intaglio_dict_columns::opening::Pair;
 use intaglio_dict_columns::renumbering::renumber_rows;
 use intaglio_dict_columns::rows::missing_text;
 use intaglio_dict_columns::writing::write_column;
-use intaglio_dict_io::checking::checked;
+use intaglio_dict_io::checking::{checked, common_kind, kind_of};
 use intaglio_dict_io::input::{STANDARD, STANDARD_INPUT, meter_of, name_of, rest_of, whole};
 use intaglio_dict_io::metered::{Meter, Metered};
 use intaglio_dict_io::noticing::Noticing;
@@ -17,12 +16,13 @@ use intaglio_dict_io::output::{Payload, write_to};
 use intaglio_dict_io::report;
 use intaglio_dict_io::report::{Stream, Tell};
 use intaglio_dict_shards::folder::open_shards;
+use intaglio_dict_shards::opening::{Bytes, first_dictionary};
 use intaglio_dict_shards::renumbering::sharded_map;
 use intaglio_dictionary::codes::CodeMap;
 use intaglio_dictionary::columns::{decode_column, encode_column, renumber_column};
 use intaglio_dictionary::dictionary::{Dictionary, WholeDictionary};
 use intaglio_dictionary::error::ColumnError;
-use intaglio_frozen::Frozen;
+use intaglio_frozen::{Frozen, Kind};
 use std::alloc::Global;
 use std::io::{Read, Write};
 use std::random::RandomSource;
@@ -33,9 +33,8 @@ use std::rt::Files;
 enum Translation<'a, 't, D> {
     // The code of each line, also of one that isn't in the dictionary if that is asked for.
     Encode(&'a D, bool),
-    // The line of each code, and this text for a line that wasn't in the dictionary. A column is compared with the
-    // name of the dictionary and its bytes, which a folder of shards doesn't have.
-    Decode(&'a D, Option<&'a [u8]>, &'a str, Option<&'a [u8]>),
+    // The line of each code, and this text for a line that wasn't in the dictionary, which has this name and kind.
+    Decode(&'a D, Option<&'a [u8]>, &'a str, Kind),
     // The code at each code.
     Renumber(&'a CodeMap<'t>),
 }
@@ -180,21 +179,18 @@ impl<D: WholeDictionary + Dictionary> Column<'_, '_, D> {
         name: &str,
         output: &mut Noticing<W>,
     ) -> Result<(), u8> {
-        let Translation::Decode(table, text, dictionary, bytes) = self.translation else {
+        let Translation::Decode(table, text, dictionary, kind) = self.translation else {
             return Err(2);
-        };
-        let Some(table_bytes) = bytes else {
-            return Err(no_shards(rt, dictionary));
         };
         let file = rest_of(rt, input_name, input)?;
         self.meter = input.meter;
         let pair = Pair {
             dictionary,
-            table: table_bytes,
             name: input_name,
             bytes: &file,
         };
-        let rows = decode_file(rt, table, pair, text, name, output)?;
+        let id = table.id(kind == Kind::Text);
+        let rows = decode_file(rt, table, id, pair, text, name, output)?;
         self.count = self.count.saturating_add(rows);
         Ok(())
     }
@@ -217,28 +213,28 @@ fn encode_by<R: Files + RandomSource + Input + Print + Tell + AllocGlobal>(
 ) -> Result<(), u8> {
     match dictionary {
         Bytes::OfFile(bytes) => match checked(rt, name, bytes) {
-            Ok(table) => encode_with(rt, found, &table, name, Some(bytes.as_slice())),
+            Ok(table) => encode_with(rt, found, &table, kind_of(bytes)),
             Err(status) => Err(status),
         },
         Bytes::OfShards(all) => match open_shards(rt, name, all) {
-            Ok(shards) => encode_with(rt, found, &shards, name, None),
+            Ok(shards) => encode_with(rt, found, &shards, common_kind(all)),
             Err(status) => Err(status),
         },
     }
 }
 
-// Encodes by a table, of which these are the name and the bytes if it is in one file.
+// Encodes by a dictionary of this kind.
 fn encode_with<
     R: Files + RandomSource + Input + Print + Tell + AllocGlobal,
     D: WholeDictionary + Dictionary,
->(rt: &R, found: &ArgMatches<'_>, table: &D, name: &str, bytes: Option<&[u8]>) -> Result<(), u8> {
+>(rt: &R, found: &ArgMatches<'_>, table: &D, kind: Kind) -> Result<(), u8> {
     let translation = Translation::Encode(table, found.get_flag("MISSING"));
-    let Some(output) = found.get_str("COLUMN") else {
-        return translate(rt, found, "FILE", translation, "lines encoded");
-    };
-    match bytes {
-        Some(bytes) => encode_to_file(rt, found, name, bytes, output, translation),
-        None => Err(no_shards(rt, name)),
+    match found.get_str("COLUMN") {
+        Some(output) => {
+            let id = table.id(kind == Kind::Text);
+            encode_to_file(rt, found, id, output, translation)
+        }
+        None => translate(rt, found, "FILE", translation, "lines encoded"),
     }
 }
 
@@ -249,8 +245,7 @@ fn encode_to_file<
 >(
     rt: &R,
     found: &ArgMatches<'_>,
-    name: &str,
-    bytes: &[u8],
+    id: DictionaryId,
     output: &str,
     translation: Translation<'_, '_, D>,
 ) -> Result<(), u8> {
@@ -263,7 +258,7 @@ fn encode_to_file<
     };
     let mut codes = Noticing::new(Vec::new(rt.alloc()));
     column.write(rt, output, &mut codes)?;
-    write_column(rt, name, bytes, &codes.stream, output)?;
+    write_column(rt, id, &codes.stream, output)?;
     if found.get_flag("VERBOSE") {
         report::count(rt, column.count, "lines encoded");
     }
@@ -289,11 +284,11 @@ fn decode_by<R: Files + RandomSource + Input + Print + Tell + AllocGlobal>(
 ) -> Result<(), u8> {
     match dictionary {
         Bytes::OfFile(bytes) => match checked(rt, name, bytes) {
-            Ok(table) => decode_with(rt, found, &table, missing, name, Some(bytes.as_slice())),
+            Ok(table) => decode_with(rt, found, &table, missing, name, kind_of(bytes)),
             Err(status) => Err(status),
         },
         Bytes::OfShards(all) => match open_shards(rt, name, all) {
-            Ok(shards) => decode_with(rt, found, &shards, missing, name, None),
+            Ok(shards) => decode_with(rt, found, &shards, missing, name, common_kind(all)),
             Err(status) => Err(status),
         },
     }
@@ -308,9 +303,9 @@ fn decode_with<
     table: &D,
     missing: Option<&[u8]>,
     name: &str,
-    bytes: Option<&[u8]>,
+    kind: Kind,
 ) -> Result<(), u8> {
-    let translation = Translation::Decode(table, missing, name, bytes);
+    let translation = Translation::Decode(table, missing, name, kind);
     translate(rt, found, "CODES", translation, "codes decoded")
 }
 

@@ -1,5 +1,4 @@
 //! The subcommands that look lines or symbols up.
-use crate::opening::{Bytes, first_dictionary};
 use clap::ArgMatches;
 use intaglio_dict_io::checking::checked;
 use intaglio_dict_io::input::{STANDARD_INPUT, name_of};
@@ -10,6 +9,7 @@ use intaglio_dict_io::report;
 use intaglio_dict_io::report::Tell;
 use intaglio_dict_io::symbols::{read_symbols, typed_symbols};
 use intaglio_dict_shards::folder::open_shards;
+use intaglio_dict_shards::opening::{Bytes, first_dictionary, not_trusted};
 use intaglio_dictionary::dictionary::Dictionary;
 use intaglio_dictionary::error::DictionaryError;
 use intaglio_dictionary::look_up::{find_lines, write_strings};
@@ -17,9 +17,6 @@ use intaglio_frozen::TrustedFrozen;
 use intaglio_symbol::Symbol;
 use std::io;
 use std::rt::Files;
-
-// What is said of --trusted with a folder.
-const NOT_TRUSTED: &str = "--trusted takes a file, and this is a folder of shards";
 
 /// Writes the symbols of lines, and returns the exit status, as `grep` has it: 1 if some lines weren't found, and
 /// 2 after an error.
@@ -40,7 +37,7 @@ fn find_all<R: Files + Input + Print + Tell + AllocGlobal>(
     let is_trusted = found.get_flag("TRUSTED");
     match dictionary {
         Bytes::OfFile(bytes) => find_by(rt, is_trusted, name, &bytes, names),
-        Bytes::OfShards(_) if is_trusted => Err(report::of_folder(rt, name, NOT_TRUSTED)),
+        Bytes::OfShards(_) if is_trusted => Err(not_trusted(rt, name)),
         Bytes::OfShards(all) => match open_shards(rt, name, &all) {
             Ok(shards) => find_in_files(rt, &shards, names),
             Err(status) => Err(status),
@@ -117,7 +114,7 @@ pub fn get<R: Files + Input + Print + Tell + AllocGlobal>(
     let is_trusted = found.get_flag("TRUSTED");
     match dictionary {
         Bytes::OfFile(bytes) => get_by(rt, is_trusted, name, &bytes, typed),
-        Bytes::OfShards(_) if is_trusted => Err(report::of_folder(rt, name, NOT_TRUSTED)),
+        Bytes::OfShards(_) if is_trusted => Err(not_trusted(rt, name)),
         Bytes::OfShards(all) => match open_shards(rt, name, &all) {
             Ok(shards) => get_from(rt, &shards, name, typed),
             Err(status) => Err(status),

@@ -11,7 +11,6 @@ mod keeping;
 mod look_ups;
 mod merging;
 mod misfit;
-mod opening;
 mod progress;
 mod run;
 

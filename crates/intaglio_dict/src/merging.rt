@@ -6,15 +6,19 @@ use clap::ArgMatches;
 use intaglio_dict_io::checking::{common_kind, tables_of};
 use intaglio_dict_io::input::whole_files;
 use intaglio_dict_io::keys::keys_of;
-use intaglio_dict_io::maps::{make_folder, map_name};
+use intaglio_dict_io::maps::{make_folder, map_index_name, map_name};
 use intaglio_dict_io::noticing::Noticing;
-use intaglio_dict_io::output::{Payload, write_to};
+use intaglio_dict_io::output::{Bytes, Payload, write_to};
+use intaglio_dict_io::removing::remove_file;
 use intaglio_dict_io::report;
 use intaglio_dict_io::report::Tell;
+use intaglio_dict_shards::folder::misplaced;
 use intaglio_dict_shards::lines::{remove_line, write_shard};
-use intaglio_dict_shards::parts::{check_strings, names_in, shard_of_folders};
-use intaglio_dictionary::merged_shard::ShardPlace;
+use intaglio_dict_shards::parts::{ShardOfParts, names_in, shard_of_folders};
+use intaglio_dictionary::error::ShardMergeError;
+use intaglio_dictionary::map_index::write_map_index;
 use intaglio_dictionary::merging::{merge, write_codes};
+use intaglio_dictionary::shard_merging::merge_shard;
 use intaglio_frozen::{Frozen, Kind};
 use intaglio_symbol::Symbol;
 use std::io::Write;
@@ -28,8 +32,6 @@ struct Merging<'a, 't, R> {
     kind: Kind,
     keys: Option<(u64, u64)>,
     folder: Option<&'a str>,
-    // The shard that they are, if a shard is merged.
-    place: Option<ShardPlace>,
     // How many strings the dictionaries have together.
     count: usize,
     shown: Shown<'a, R>,
@@ -66,10 +68,7 @@ impl<R: Files + RandomSource + Print + Tell + AllocGlobal> Payload<R> for Mergin
         ) {
             Ok(maps) => {
                 self.count = count_of(&maps);
-                if self.place.is_some() {
-                    remove_line(rt, name)?;
-                }
-                self.write_maps(rt, &maps)
+                self.write_maps(rt, &maps, None)
             }
             Err(refused) => Err(refusal(rt, name, refused, output.error)),
         }
@@ -77,20 +76,29 @@ impl<R: Files + RandomSource + Print + Tell + AllocGlobal> Payload<R> for Mergin
 }
 
 impl<R> Merging<'_, '_, R> {
-    // Writes the map of each dictionary to the folder, if one is given.
+    // Writes the map of each dictionary to the folder, if one is given, and then their index, if they have one. The index
+    // that was there is removed before a map is written, so that at any time it is that of the maps, or there is none.
     fn write_maps<Q: Files + RandomSource + Print + Tell + AllocGlobal>(
         &self,
         rt: &Q,
         maps: &[Vec<Symbol>],
+        index: Option<&[u8]>,
     ) -> Result<(), u8> {
         let Some(folder) = self.folder else {
             return Ok(());
         };
+        let Ok(name) = map_index_name(rt.alloc(), folder) else {
+            return Err(report::out_of_memory(rt));
+        };
         make_folder(rt, folder)?;
+        remove_file(rt, name.as_str())?;
         for (number, codes) in maps.iter().enumerate() {
             write_map(rt, folder, number, codes)?;
         }
-        Ok(())
+        match index {
+            Some(bytes) => write_to(rt, name.as_str(), &mut Bytes { bytes }),
+            None => Ok(()),
+        }
     }
 }
 
@@ -126,7 +134,7 @@ pub fn merge_dictionaries<R: Files + RandomSource + Input + Print + Tell + Alloc
         Some(typed) => {
             let shard = shard_of_folders(rt, names, typed)?;
             let names = names_in(rt, &shard.names)?;
-            merge_files(rt, found, keys, &names, &shard.files, Some(shard.place))
+            merge_files(rt, found, keys, &names, &shard.files, Some(&shard))
         }
         None => {
             let all = whole_files(rt, names, found.get_flag("PROGRESS"))?;
@@ -142,35 +150,32 @@ fn merge_files<R: Files + RandomSource + Print + Tell + AllocGlobal>(
     keys: Option<(u64, u64)>,
     names: &[&str],
     all: &[Vec<u8>],
-    place: Option<ShardPlace>,
+    shard: Option<&ShardOfParts>,
 ) -> Result<(), u8> {
     let Some(output) = found.get_str("OUT") else {
         return Err(2);
     };
     let tables = tables_of(rt, names, all)?;
-    if let Some(place) = place {
-        check_strings(rt, names, &tables, place)?;
-    }
     let merging = Merging {
         tables: &tables,
         kind: common_kind(all),
         keys,
         folder: found.get_str("FOLDER"),
-        place,
         count: 0,
         shown: Shown::new(rt, found.get_flag("PROGRESS")),
     };
-    merge_to(rt, output, merging, found.get_flag("VERBOSE"))
+    merge_to(rt, output, merging, shard, found.get_flag("VERBOSE"))
 }
 
 fn merge_to<R: Files + RandomSource + Print + Tell + AllocGlobal>(
     rt: &R,
     output: &str,
     mut merging: Merging<'_, '_, R>,
+    shard: Option<&ShardOfParts>,
     is_counted: bool,
 ) -> Result<(), u8> {
-    match merging.place {
-        Some(place) => merge_shard(rt, output, &mut merging, place)?,
+    match shard {
+        Some(shard) => write_merged(rt, output, &mut merging, shard)?,
         None => write_to(rt, output, &mut merging)?,
     }
     if is_counted {
@@ -181,14 +186,51 @@ fn merge_to<R: Files + RandomSource + Print + Tell + AllocGlobal>(
     Ok(())
 }
 
-// Merges a shard, and writes it with the line beside it. The line that was there is removed before anything is written.
-fn merge_shard<R: Files + RandomSource + Print + Tell + AllocGlobal>(
+// Merges a shard, and writes its maps, then the shard, and last the line beside it. The line that was there is removed
+// before anything is written.
+fn write_merged<R: Files + RandomSource + Print + Tell + AllocGlobal>(
     rt: &R,
     output: &str,
     merging: &mut Merging<'_, '_, R>,
-    place: ShardPlace,
+    shard: &ShardOfParts,
 ) -> Result<(), u8> {
-    let mut made = Noticing::new(Vec::new(rt.alloc()));
-    merging.write(rt, output, &mut made)?;
-    write_shard(rt, output, &made.stream, place)
+    let builder = random_builder(rt)?;
+    let (alloc, parts, kind, keys) = (rt.alloc(), merging.tables, merging.kind, merging.keys);
+    match merge_shard(
+        alloc,
+        parts,
+        shard.place,
+        kind,
+        keys,
+        builder,
+        &mut merging.shown,
+    ) {
+        Ok(made) => {
+            let Ok(index) = write_map_index(alloc, &shard.ids, &made.shard.id) else {
+                return Err(report::out_of_memory(rt));
+            };
+            merging.count = count_of(&made.maps);
+            remove_line(rt, output)?;
+            merging.write_maps(rt, &made.maps, Some(&index))?;
+            write_shard(rt, output, &made.bytes, &made.line)
+        }
+        Err(refused) => Err(unmerged(rt, output, shard, refused)),
+    }
+}
+
+// The exit status after a shard wasn't merged.
+fn unmerged<R: Tell + AllocGlobal>(
+    rt: &R,
+    output: &str,
+    shard: &ShardOfParts,
+    refused: ShardMergeError,
+) -> u8 {
+    match refused {
+        ShardMergeError::Misplaced(part, string) => match shard.names.get(part) {
+            Some(name) => misplaced(rt, name.as_str(), string),
+            None => 2,
+        },
+        ShardMergeError::NoShard => report::of_input(rt, refused),
+        ShardMergeError::Strings(refused) => refusal(rt, output, refused, None),
+    }
 }

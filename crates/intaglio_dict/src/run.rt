@@ -3,9 +3,8 @@ use crate::columns::{decode_codes, encode_lines, renumber_codes};
 use crate::freezing::freeze;
 use crate::look_ups::{find, get};
 use crate::merging::merge_dictionaries;
-use crate::opening::{Bytes, first_dictionary, read_dictionary};
 use clap::ArgMatches;
-use intaglio_column_file::begins_as_column;
+use intaglio_column_file::{DictionaryId, begins_as_column};
 use intaglio_dict_columns::checking::{LastDictionary, check_column, stat_column};
 use intaglio_dict_columns::counting::count;
 use intaglio_dict_columns::matching::match_rows;
@@ -18,6 +17,7 @@ use intaglio_dict_io::report;
 use intaglio_dict_io::report::Tell;
 use intaglio_dict_shards::folder::open_shards;
 use intaglio_dict_shards::joining::join_shards;
+use intaglio_dict_shards::opening::{Bytes, first_dictionary, read_dictionary};
 use intaglio_dict_shards::splitting::split_dictionary;
 use intaglio_dictionary::dictionary::WholeDictionary;
 use intaglio_dictionary::look_up::list;
@@ -105,30 +105,46 @@ fn check_one<'a, R: Files + Input + Tell + AllocGlobal>(
     last: &mut Option<LastDictionary<'a>>,
 ) -> u8 {
     match read_dictionary(rt, name) {
-        Ok(Bytes::OfFile(bytes)) if begins_as_column(&bytes) => {
-            status_of(check_column(rt, last.as_ref(), name, &bytes))
-        }
-        Ok(Bytes::OfFile(bytes)) => {
-            let checked = is_dictionary(rt, name, &bytes);
-            *last = Some(LastDictionary { name, table: bytes });
-            status_of(checked)
-        }
-        Ok(Bytes::OfShards(all)) => {
-            *last = None;
-            status_of(are_shards(rt, name, &all))
-        }
+        Ok(bytes) => check_bytes(rt, name, &bytes, last),
         Err(status) => status,
     }
 }
 
-fn is_dictionary<R: Tell>(rt: &R, name: &str, bytes: &[u8]) -> Result<(), u8> {
-    checked(rt, name, bytes)?;
-    Ok(())
+fn check_bytes<'a, R: Tell + AllocGlobal>(
+    rt: &R,
+    name: &'a str,
+    bytes: &Bytes,
+    last: &mut Option<LastDictionary<'a>>,
+) -> u8 {
+    if let Bytes::OfFile(file) = bytes {
+        if begins_as_column(file) {
+            return status_of(check_column(rt, *last, name, file));
+        }
+    }
+    match id_of(rt, name, bytes) {
+        Ok(id) => {
+            *last = Some(LastDictionary { name, id: Some(id) });
+            0
+        }
+        Err(status) => {
+            *last = Some(LastDictionary { name, id: None });
+            status
+        }
+    }
 }
 
-fn are_shards<R: Tell + AllocGlobal>(rt: &R, name: &str, all: &[Vec<u8>]) -> Result<(), u8> {
-    open_shards(rt, name, all)?;
-    Ok(())
+// What the dictionary in these bytes is, after a check of all of them. Otherwise the exit status after a message.
+fn id_of<R: Tell + AllocGlobal>(rt: &R, name: &str, bytes: &Bytes) -> Result<DictionaryId, u8> {
+    match bytes {
+        Bytes::OfFile(bytes) => match checked(rt, name, bytes) {
+            Ok(table) => Ok(table.id(kind_of(bytes) == Kind::Text)),
+            Err(status) => Err(status),
+        },
+        Bytes::OfShards(all) => match open_shards(rt, name, all) {
+            Ok(shards) => Ok(shards.id(common_kind(all) == Kind::Text)),
+            Err(status) => Err(status),
+        },
+    }
 }
 
 // Opens the dictionary, and runs a command that reads it alone.

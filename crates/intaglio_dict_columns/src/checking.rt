@@ -1,6 +1,6 @@
 //! Checks a column after its dictionary, and tells what a column has.
-use crate::opening::{Pair, checked_column, no_column};
-use intaglio_column_file::{Column, MISSING};
+use crate::opening::{Pair, checked_column, no_column, other_dictionary};
+use intaglio_column_file::{Column, DictionaryId, MISSING};
 use intaglio_dict_io::input::name_of;
 use intaglio_dict_io::noticing::Noticing;
 use intaglio_dict_io::output::ended;
@@ -10,19 +10,20 @@ use intaglio_lines::error::StreamError;
 use std::io;
 use std::io::Write;
 
-/// The last dictionary among the files that are checked.
-#[derive(Drop)]
+/// The last dictionary among those that are checked.
+#[derive(Clone, Copy)]
 pub struct LastDictionary<'a> {
     /// Its name.
     pub name: &'a str,
-    /// Its bytes.
-    pub table: Vec<u8>,
+    /// What it is, if it is one.
+    pub id: Option<DictionaryId>,
 }
 
-/// Checks a column, which must be of the last dictionary before it. Otherwise the exit status after a message.
+/// Checks a column, which must be of the last dictionary before it. Otherwise the exit status after a message: of bytes
+/// that are no column, whatever that dictionary is, and else of a column of another dictionary.
 pub fn check_column<R: Tell>(
     rt: &R,
-    last: Option<&LastDictionary<'_>>,
+    last: Option<LastDictionary<'_>>,
     name: &str,
     bytes: &[u8],
 ) -> Result<(), u8> {
@@ -35,13 +36,25 @@ pub fn check_column<R: Tell>(
     };
     let pair = Pair {
         dictionary: last.name,
-        table: &last.table,
         name,
         bytes,
     };
-    match checked_column(rt, pair) {
-        Ok(_) => Ok(()),
-        Err(status) => Err(status),
+    match last.id {
+        Some(id) => is_column(rt, pair, id),
+        None => Err(of_no_dictionary(rt, pair)),
+    }
+}
+
+fn is_column<R: Tell>(rt: &R, pair: Pair<'_>, id: DictionaryId) -> Result<(), u8> {
+    checked_column(rt, pair, id)?;
+    Ok(())
+}
+
+// Of bytes after a file that is no dictionary. A whole column is one of another dictionary.
+fn of_no_dictionary<R: Tell>(rt: &R, pair: Pair<'_>) -> u8 {
+    match Column::open(pair.bytes) {
+        Ok(_) => other_dictionary(rt, pair),
+        Err(fault) => no_column(rt, pair.name, fault),
     }
 }
 

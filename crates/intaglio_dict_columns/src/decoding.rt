@@ -1,7 +1,7 @@
 //! Decodes a column file.
 use crate::opening::{Pair, checked_column};
 use crate::rows::no_line;
-use intaglio_column_file::{Column, MISSING};
+use intaglio_column_file::{Column, DictionaryId, MISSING};
 use intaglio_dict_io::input::name_of;
 use intaglio_dict_io::noticing::Noticing;
 use intaglio_dict_io::report;
@@ -20,12 +20,13 @@ const CHUNK: usize = 64 * 1024;
 pub fn decode_file<R: Tell + AllocGlobal, D: Dictionary, W: Write>(
     rt: &R,
     table: &D,
+    id: DictionaryId,
     pair: Pair<'_>,
     missing: Option<&[u8]>,
     output_name: &str,
     output: &mut Noticing<W>,
 ) -> Result<u64, u8> {
-    match checked_column(rt, pair) {
+    match checked_column(rt, pair, id) {
         Ok(column) => {
             if missing.is_none() {
                 check_missing(rt, &column, pair.name)?;

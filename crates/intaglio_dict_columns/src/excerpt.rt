@@ -1,6 +1,6 @@
 //! Reads the header of a column file and the codes of some rows, and nothing else of it.
 use crate::opening::no_column;
-use intaglio_column_file::{ColumnError, ColumnHeader, header_bytes};
+use intaglio_column_file::{ColumnError, ColumnHeader, HEADER, header_bytes};
 use intaglio_dict_io::input::STANDARD;
 use intaglio_dict_io::report;
 use intaglio_dict_io::report::Tell;
@@ -9,9 +9,6 @@ use std::alloc::Global;
 use std::io::{Read, Seek, SeekFrom};
 use std::rt::Files;
 use std::{fs, io};
-
-// How many bytes the header has.
-const HEADER: u64 = 64;
 
 /// A column file that is open.
 #[derive(Drop)]
@@ -52,7 +49,7 @@ fn open_file<R: Files + AllocGlobal>(rt: &R, name: &str) -> io::Result<(R::File,
         rt.alloc(),
         &mut file,
         0,
-        length.min(HEADER) as usize,
+        length.min(HEADER as u64) as usize,
         &mut start,
     )?;
     Ok((file, start, length))
@@ -64,7 +61,7 @@ fn header_of(start: &[u8], length: u64) -> Result<ColumnHeader, ColumnError> {
     let whole = header
         .rows
         .saturating_mul(header.width.bytes() as u64)
-        .saturating_add(HEADER);
+        .saturating_add(HEADER as u64);
     if length < whole {
         Err(ColumnError::Truncated)
     } else if length > whole {
@@ -102,7 +99,7 @@ impl<F: Read + Seek> OpenColumn<F> {
         for range in ranges {
             let at = width
                 .saturating_mul(range.first as u64)
-                .saturating_add(HEADER);
+                .saturating_add(HEADER as u64);
             let size = width.saturating_mul(count_of(*range)) as usize;
             read_part(alloc, &mut self.file, at, size, bytes)?;
         }

@@ -3,13 +3,15 @@ ghost use Rattle.std.specs.Prelude.{IfOk};
 ghost use Rattle.intaglio_column_file.specs.IsColumn.{IsColumn};
 
 use clap::ArgMatches;
-use intaglio_column_file::{Column, ColumnError, DictionaryId, id_of_table};
-use intaglio_dict_io::folders::is_folder;
+use intaglio_column_file::{Column, ColumnError, DictionaryId};
+use intaglio_dict_io::checking::{checked, common_kind, kind_of};
 use intaglio_dict_io::input::{first_input, name_of};
 use intaglio_dict_io::report;
 use intaglio_dict_io::report::Tell;
-use intaglio_dictionary::dictionary::Dictionary;
-use intaglio_frozen::{Frozen, Header, Kind, TrustedFrozen};
+use intaglio_dict_shards::folder::open_shards;
+use intaglio_dict_shards::opening::{Bytes, first_dictionary, not_trusted};
+use intaglio_dictionary::dictionary::{Dictionary, WholeDictionary};
+use intaglio_frozen::{Header, Kind, TrustedFrozen};
 use std::rt::Files;
 
 /// What is asked of a column and its dictionary.
@@ -24,16 +26,14 @@ pub trait Question<R> {
     ) -> Result<bool, u8>;
 }
 
-/// The names and the bytes of a column and of its dictionary.
+/// The name and the bytes of a column, and the name of its dictionary.
 #[derive(Clone, Copy)]
 pub struct Pair<'a> {
     /// The name of the dictionary.
     pub dictionary: &'a str,
-    /// Its bytes.
-    pub table: &'a [u8],
     /// The name of the column.
     pub name: &'a str,
-    /// Its bytes.
+    /// The bytes of the column.
     pub bytes: &'a [u8],
 }
 
@@ -44,54 +44,81 @@ pub fn ask<R: Files + Input + Tell + AllocGlobal, Q: Question<R>>(
     found: &ArgMatches<'_>,
     question: &Q,
 ) -> Result<bool, u8> {
-    let (dictionary, table) = dictionary_of(rt, found)?;
+    let (dictionary, table) = first_dictionary(rt, found)?;
+    let is_trusted = found.get_flag("TRUSTED");
+    if is_trusted && table.is_folder() {
+        return Err(not_trusted(rt, dictionary));
+    }
     let (name, bytes) = first_input(rt, found, "COLUMN")?;
     let pair = Pair {
         dictionary,
-        table: &table,
         name,
         bytes: &bytes,
     };
-    if found.get_flag("TRUSTED") {
-        ask_trusted(rt, pair, question)
-    } else {
-        ask_checked(rt, pair, question)
+    match table {
+        Bytes::OfFile(table) if is_trusted => ask_trusted(rt, pair, &table, question),
+        Bytes::OfFile(table) => ask_checked(rt, pair, &table, question),
+        Bytes::OfShards(all) => ask_shards(rt, pair, &all, question),
     }
 }
 
-/// The name and the bytes of the dictionary, which is no folder of shards. Otherwise the exit status after a message.
-pub fn dictionary_of<'a, R: Files + Input + Tell + AllocGlobal>(
+/// The name and the bytes of a dictionary that is trusted, which is in one file. Otherwise the exit status after a
+/// message.
+pub fn trusted_dictionary<'a, R: Files + Input + Tell + AllocGlobal>(
     rt: &R,
     found: &ArgMatches<'a>,
 ) -> Result<(&'a str, Vec<u8>), u8> {
-    if let Some(folder) = found.get_str("DICT") {
-        refuse_shards(rt, folder)?;
-    }
-    first_input(rt, found, "DICT")
-}
-
-fn ask_checked<R: Tell, Q: Question<R>>(rt: &R, pair: Pair<'_>, question: &Q) -> Result<bool, u8> {
-    match Frozen::open(pair.table) {
-        Ok(table) => ask_of(rt, pair, &table, question),
-        Err(fault) => Err(report::failed(rt, name_of(pair.dictionary), fault)),
+    match first_dictionary(rt, found)? {
+        (name, Bytes::OfFile(table)) => Ok((name, table)),
+        (name, Bytes::OfShards(_)) => Err(not_trusted(rt, name)),
     }
 }
 
-fn ask_of<R: Tell, Q: Question<R>>(
+fn ask_checked<R: Tell, Q: Question<R>>(
     rt: &R,
     pair: Pair<'_>,
-    table: &Frozen<'_>,
+    table: &[u8],
     question: &Q,
 ) -> Result<bool, u8> {
-    match checked_column(rt, pair) {
+    match checked(rt, pair.dictionary, table) {
+        Ok(opened) => ask_of(rt, pair, &opened, kind_of(table), question),
+        Err(status) => Err(status),
+    }
+}
+
+fn ask_shards<R: Tell + AllocGlobal, Q: Question<R>>(
+    rt: &R,
+    pair: Pair<'_>,
+    all: &[Vec<u8>],
+    question: &Q,
+) -> Result<bool, u8> {
+    match open_shards(rt, pair.dictionary, all) {
+        Ok(shards) => ask_of(rt, pair, &shards, common_kind(all), question),
+        Err(status) => Err(status),
+    }
+}
+
+fn ask_of<R: Tell, D: WholeDictionary + Dictionary, Q: Question<R>>(
+    rt: &R,
+    pair: Pair<'_>,
+    table: &D,
+    kind: Kind,
+    question: &Q,
+) -> Result<bool, u8> {
+    match checked_column(rt, pair, table.id(kind == Kind::Text)) {
         Ok(column) => question.answer(rt, table, &column, pair.name),
         Err(status) => Err(status),
     }
 }
 
-fn ask_trusted<R: Tell, Q: Question<R>>(rt: &R, pair: Pair<'_>, question: &Q) -> Result<bool, u8> {
-    match TrustedFrozen::open(pair.table) {
-        Ok(table) => ask_of_trusted(rt, pair, &table, question),
+fn ask_trusted<R: Tell, Q: Question<R>>(
+    rt: &R,
+    pair: Pair<'_>,
+    table: &[u8],
+    question: &Q,
+) -> Result<bool, u8> {
+    match TrustedFrozen::open(table) {
+        Ok(opened) => ask_of_trusted(rt, pair, table, &opened, question),
         Err(fault) => Err(report::failed(rt, name_of(pair.dictionary), fault)),
     }
 }
@@ -99,23 +126,28 @@ fn ask_trusted<R: Tell, Q: Question<R>>(rt: &R, pair: Pair<'_>, question: &Q) ->
 fn ask_of_trusted<R: Tell, Q: Question<R>>(
     rt: &R,
     pair: Pair<'_>,
-    table: &TrustedFrozen<'_>,
+    table: &[u8],
+    opened: &TrustedFrozen<'_>,
     question: &Q,
 ) -> Result<bool, u8> {
-    match trusted_column(rt, pair) {
-        Ok(column) => question.answer(rt, table, &column, pair.name),
+    match trusted_column(rt, pair, table) {
+        Ok(column) => question.answer(rt, opened, &column, pair.name),
         Err(status) => Err(status),
     }
 }
 
 /// The column, after a check of all of it and of whether it is of this dictionary. Otherwise the exit status after a
 /// message.
-pub fn checked_column<'a, R: Tell>(rt: &R, pair: Pair<'a>) -> Result<Column<'a>, u8>
+pub fn checked_column<'a, R: Tell>(
+    rt: &R,
+    pair: Pair<'a>,
+    id: DictionaryId,
+) -> Result<Column<'a>, u8>
     ensures { IfOk result IsColumn }
 {
     match Column::open(pair.bytes) {
         Ok(column) => {
-            if is_of(pair.table, column.id()) {
+            if column.id() == id {
                 Ok(column)
             } else {
                 Err(other_dictionary(rt, pair))
@@ -125,25 +157,18 @@ pub fn checked_column<'a, R: Tell>(rt: &R, pair: Pair<'a>) -> Result<Column<'a>,
     }
 }
 
-// The column, after a check of its header, and of whether the dictionary has as many strings and is of the same kind.
-fn trusted_column<'a, R: Tell>(rt: &R, pair: Pair<'a>) -> Result<Column<'a>, u8> {
+// The column, after a check of its header, and of whether the dictionary in these bytes has as many strings and is of
+// the same kind.
+fn trusted_column<'a, R: Tell>(rt: &R, pair: Pair<'a>, table: &[u8]) -> Result<Column<'a>, u8> {
     match Column::open_trusted(pair.bytes) {
         Ok(column) => {
-            if is_alike(pair.table, column.id()) {
+            if is_alike(table, column.id()) {
                 Ok(column)
             } else {
                 Err(other_dictionary(rt, pair))
             }
         }
         Err(fault) => Err(no_column(rt, pair.name, fault)),
-    }
-}
-
-// Whether the dictionary in these bytes is this one.
-fn is_of(table: &[u8], id: DictionaryId) -> bool {
-    match id_of_table(table) {
-        Ok(found) => found == id,
-        Err(_) => false,
     }
 }
 
@@ -153,24 +178,6 @@ pub fn is_alike(table: &[u8], id: DictionaryId) -> bool {
         Ok(header) => header.count == id.count && (header.kind == Kind::Text) == id.is_text,
         Err(_) => false,
     }
-}
-
-/// Refuses a folder of shards, by its name. Otherwise the exit status after a message.
-pub fn refuse_shards<R: Files + Tell + AllocGlobal>(rt: &R, name: &str) -> Result<(), u8> {
-    match is_folder(rt, name) {
-        Ok(true) => Err(no_shards(rt, name)),
-        Ok(false) => Ok(()),
-        Err(_) => Err(report::out_of_memory(rt)),
-    }
-}
-
-/// Of a folder of shards, to which no column belongs.
-pub fn no_shards<R: Tell>(rt: &R, name: &str) -> u8 {
-    report::failed(
-        rt,
-        name_of(name),
-        "a folder of shards; columns are of dictionaries in one file, and plain codes of both",
-    )
 }
 
 /// Of bytes that are no column.

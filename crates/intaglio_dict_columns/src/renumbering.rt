@@ -1,16 +1,23 @@
 //! Renumbers a column by a map of a merge.
 ghost use Rattle.intaglio_column_file.specs.IsColumn.{IsColumn};
 
-use crate::opening::{Pair, checked_column, refuse_shards};
+use crate::opening::{Pair, checked_column};
 use clap::ArgMatches;
-use intaglio_column_file::{Column, ColumnWriteError, DictionaryId, id_of_table};
+use intaglio_column_file::{Column, ColumnWriteError, DictionaryId};
+use intaglio_dict_io::checking::common_kind;
+use intaglio_dict_io::folders::is_folder;
 use intaglio_dict_io::input::{STANDARD, first_input, name_of};
 use intaglio_dict_io::output::{Bytes, write_to};
 use intaglio_dict_io::report;
 use intaglio_dict_io::report::Tell;
+use intaglio_dict_shards::folder::{open_shards, read_shards};
+use intaglio_dict_shards::identity::id_of;
+use intaglio_dict_shards::renumbering::sharded_map;
 use intaglio_dictionary::codes::CodeMap;
+use intaglio_dictionary::dictionary::WholeDictionary;
 use intaglio_dictionary::error::RenumberError;
 use intaglio_dictionary::renumbering::renumber_file;
+use intaglio_frozen::Kind;
 use std::random::RandomSource;
 use std::rt::Files;
 
@@ -39,17 +46,25 @@ pub fn renumber_rows<R: Files + RandomSource + Input + Print + Tell + AllocGloba
     ) else {
         return Err(wrong_words(rt));
     };
+    refuse_shards(rt, dictionary)?;
+    match is_folder(rt, into) {
+        Ok(true) => renumber_into_shards(rt, found, into),
+        Ok(false) => renumber_into_table(rt, found),
+        Err(_) => Err(report::out_of_memory(rt)),
+    }
+}
+
+// Writes a column of a dictionary in one file, by the map that its merge gave.
+fn renumber_into_table<R: Files + RandomSource + Input + Print + Tell + AllocGlobal>(
+    rt: &R,
+    found: &ArgMatches<'_>,
+) -> Result<(), u8> {
     if found.contains_id("MAPS") || found.contains_id("PART") {
         return Err(wrong_words(rt));
     }
-    refuse_shards(rt, dictionary)?;
-    refuse_shards(rt, into)?;
     let (map_name, map) = first_input(rt, found, "MAP")?;
     let (into, table) = first_input(rt, found, "INTO")?;
-    let id = match id_of_table(&table) {
-        Ok(id) => id,
-        Err(fault) => return Err(report::failed(rt, name_of(into), fault)),
-    };
+    let id = id_of(rt, into, &table)?;
     renumber_into(
         rt,
         found,
@@ -62,13 +77,61 @@ pub fn renumber_rows<R: Files + RandomSource + Input + Print + Tell + AllocGloba
     )
 }
 
+// Writes a column of a folder of merged shards, by the part's own map to its shards and the map of each shard.
+fn renumber_into_shards<R: Files + RandomSource + Input + Print + Tell + AllocGlobal>(
+    rt: &R,
+    found: &ArgMatches<'_>,
+    into: &str,
+) -> Result<(), u8> {
+    let Some(folder) = found.get_str("MAP") else {
+        return Err(2);
+    };
+    let map = sharded_map(rt, found, folder, into)?;
+    let id = id_of_folder(rt, into)?;
+    renumber_into(
+        rt,
+        found,
+        Merged {
+            map_name: folder,
+            map: &map,
+            name: into,
+            id,
+        },
+    )
+}
+
+// What the dictionary in the shards of a folder is, after a check of all of them.
+fn id_of_folder<R: Files + Input + Tell + AllocGlobal>(
+    rt: &R,
+    folder: &str,
+) -> Result<DictionaryId, u8> {
+    let all = read_shards(rt, folder)?;
+    match open_shards(rt, folder, &all) {
+        Ok(shards) => Ok(shards.id(common_kind(&all) == Kind::Text)),
+        Err(status) => Err(status),
+    }
+}
+
 // Of arguments that don't belong together.
 fn wrong_words<R: Tell>(rt: &R) -> u8 {
     report::say(
         rt,
-        "after --column, --dict and --into are needed too: its dictionary and the merged one, each in one file",
+        "--column needs --dict, the column's dictionary, and --into, the merged one; with --maps and --part that is a folder of shards",
     );
     2
+}
+
+// Refuses a folder of shards.
+fn refuse_shards<R: Files + Tell + AllocGlobal>(rt: &R, name: &str) -> Result<(), u8> {
+    match is_folder(rt, name) {
+        Ok(true) => Err(report::failed(
+            rt,
+            name_of(name),
+            "a folder of shards; renumber --column takes the dictionary of the column in one file",
+        )),
+        Ok(false) => Ok(()),
+        Err(_) => Err(report::out_of_memory(rt)),
+    }
 }
 
 fn renumber_into<R: Files + RandomSource + Input + Print + Tell + AllocGlobal>(
@@ -80,11 +143,10 @@ fn renumber_into<R: Files + RandomSource + Input + Print + Tell + AllocGlobal>(
     let (name, bytes) = first_input(rt, found, "COLUMN")?;
     let pair = Pair {
         dictionary,
-        table: &table,
         name,
         bytes: &bytes,
     };
-    match checked_column(rt, pair) {
+    match checked_column(rt, pair, id_of(rt, dictionary, &table)?) {
         Ok(column) => {
             let renumbered = renumbered(rt, pair, &column, merged)?;
             let output = found.get_str("OUT").unwrap_or(STANDARD);
@@ -123,6 +185,11 @@ fn renumbered<R: Tell + AllocGlobal>(
             ))
         }
         Err(RenumberError::Column(ColumnWriteError::Memory)) => Err(report::out_of_memory(rt)),
+        Err(RenumberError::Column(ColumnWriteError::TooMany)) => Err(report::failed(
+            rt,
+            name_of(merged.name),
+            ColumnWriteError::TooMany,
+        )),
         Err(RenumberError::Column(fault)) => {
             let into = name_of(merged.name);
             Err(report::failed(

@@ -1,6 +1,8 @@
 //! The subcommand that writes lines by the numbers of their rows.
 use crate::excerpt::{is_file, open_column};
-use crate::opening::{Pair, Question, ask, dictionary_of, is_alike, no_column, other_dictionary};
+use crate::opening::{
+    Pair, Question, ask, is_alike, no_column, other_dictionary, trusted_dictionary,
+};
 use clap::ArgMatches;
 use intaglio_column_file::Column;
 use intaglio_dict_io::input::name_of;
@@ -54,15 +56,14 @@ fn rows_of_file<R: Files + Input + Print + Tell + AllocGlobal>(
     name: &str,
     rows: &RowsAsked<'_>,
 ) -> Result<(), u8> {
-    let (dictionary, table) = dictionary_of(rt, found)?;
+    let (dictionary, table) = trusted_dictionary(rt, found)?;
     let pair = Pair {
         dictionary,
-        table: &table,
         name,
         bytes: &[],
     };
     match TrustedFrozen::open(&table) {
-        Ok(table) => rows.answer_from_file(rt, pair, &table),
+        Ok(opened) => rows.answer_from_file(rt, pair, &table, &opened),
         Err(fault) => Err(report::failed(rt, name_of(dictionary), fault)),
     }
 }
@@ -72,10 +73,11 @@ impl RowsAsked<'_> {
         &self,
         rt: &R,
         pair: Pair<'_>,
-        table: &TrustedFrozen<'_>,
+        table: &[u8],
+        opened: &TrustedFrozen<'_>,
     ) -> Result<(), u8> {
         let mut file = open_column(rt, pair.name)?;
-        if !is_alike(pair.table, file.header.id) {
+        if !is_alike(table, file.header.id) {
             return Err(other_dictionary(rt, pair));
         }
         for range in self.ranges {
@@ -84,7 +86,7 @@ impl RowsAsked<'_> {
             }
         }
         match file.excerpt(rt.alloc(), self.ranges) {
-            Ok(bytes) => self.answer_from(rt, pair.name, table, &bytes),
+            Ok(bytes) => self.answer_from(rt, pair.name, opened, &bytes),
             Err(e) => Err(report::of_file(rt, pair.name, e)),
         }
     }

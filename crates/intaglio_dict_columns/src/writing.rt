@@ -1,6 +1,5 @@
 //! Writes the codes of lines as a column file.
-use intaglio_column_file::{ColumnWriteError, DictionaryId, column_bytes, id_of_table};
-use intaglio_dict_io::input::name_of;
+use intaglio_column_file::{ColumnWriteError, DictionaryId, column_bytes};
 use intaglio_dict_io::output::{Bytes, write_to};
 use intaglio_dict_io::report;
 use intaglio_dict_io::report::Tell;
@@ -8,21 +7,8 @@ use intaglio_dictionary::codes::CodeMap;
 use std::random::RandomSource;
 use std::rt::Files;
 
-/// Writes the column of these codes under the dictionary in these bytes. Otherwise the exit status after a message.
+/// Writes the column of these codes under this dictionary. Otherwise the exit status after a message.
 pub fn write_column<R: Files + RandomSource + Print + Tell + AllocGlobal>(
-    rt: &R,
-    dictionary: &str,
-    table: &[u8],
-    codes: &[u8],
-    output: &str,
-) -> Result<(), u8> {
-    match id_of_table(table) {
-        Ok(id) => write_codes(rt, id, codes, output),
-        Err(fault) => Err(report::failed(rt, name_of(dictionary), fault)),
-    }
-}
-
-fn write_codes<R: Files + RandomSource + Print + Tell + AllocGlobal>(
     rt: &R,
     id: DictionaryId,
     codes: &[u8],

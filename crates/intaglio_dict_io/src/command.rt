@@ -276,7 +276,7 @@ static SUBCOMMANDS: [Subcommand; 15] = [
             (
                 "FOLDER",
                 Takes::Maps("maps"),
-                "also writes the new symbols of each dictionary, to 0.map, 1.map and so on in this folder",
+                "also writes the new symbols of each dictionary, to 0.map, 1.map and so on in this folder, and with --shard an index of them",
             ),
             KEYS,
             RANDOM_KEYS,
@@ -301,7 +301,7 @@ static SUBCOMMANDS: [Subcommand; 15] = [
             (
                 "INTO",
                 Takes::Read("into"),
-                "the merged dictionary of a column; of codes, the folder of the merged shards: then MAP is that of the part's",
+                "the merged dictionary of a column; or, for codes or a column, the folder of the merged shards, with the folder of the part's shards as MAP",
             ),
             (
                 "MAPS",
@@ -335,7 +335,7 @@ static SUBCOMMANDS: [Subcommand; 15] = [
     ),
     (
         "join",
-        "Puts shards that were merged into a folder, with an index, by hard links where there can be some",
+        "Puts merged shards into a folder, with an index: as hard links if the file system allows them, and as copies if not",
         &[
             ("FOLDER", Takes::Joined, FOLDER_HELP),
             VERBOSE,

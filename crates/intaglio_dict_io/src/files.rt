@@ -3,7 +3,7 @@ use crate::apart::{Named, check_inputs, check_messages, check_outputs, streams_o
 use crate::folders::{add_all_entries, index_name, line_name, shard_name};
 use crate::identity::Identity;
 use crate::input::{INPUT, STANDARD, STANDARD_INPUT};
-use crate::maps::{check_stale, map_name};
+use crate::maps::{check_stale, map_index_name, map_name};
 use crate::output::OUTPUT;
 use crate::report;
 use crate::report::Tell;
@@ -151,7 +151,8 @@ impl<'a> CommandFiles<'a> {
         Ok(inputs)
     }
 
-    // The outputs, the maps in the folder, what is in the folder for shards, what is joined, and the line of a shard.
+    // The outputs, the maps in the folder and their index, what is in the folder for shards, what is joined, and the line
+    // of a shard.
     fn named_outputs<R: Files + AllocGlobal>(&self, rt: &R) -> io::Result<Vec<Named>> {
         let mut outputs = streams_of(rt, &self.outputs, OUTPUT_PATH, OUTPUT)?;
         if let Some(folder) = self.folder {
@@ -159,6 +160,7 @@ impl<'a> CommandFiles<'a> {
                 let name = map_name(rt.alloc(), folder, number)?;
                 outputs.push(Named::of(rt, name)?)?;
             }
+            outputs.push(Named::of(rt, map_index_name(rt.alloc(), folder)?)?)?;
         }
         if let Some(folder) = self.shards {
             add_all_entries(rt, folder, &mut outputs)?;

@@ -7,7 +7,7 @@ use clap::ArgMatches;
 use intaglio_lines::error::StreamError;
 use intaglio_lines::read::read_all;
 use std::alloc::AllocError;
-use std::io::Read;
+use std::io::{ErrorKind, Read};
 use std::rt::Files;
 use std::{fs, str};
 
@@ -19,6 +19,9 @@ pub const STANDARD_INPUT: &[&str] = &[STANDARD];
 
 /// What standard input is called in messages.
 pub const INPUT: &str = "standard input";
+
+// What is said of a file that a merge of shards would have written.
+const NOT_MERGED: &str = "no such file: it is made by merge --shard, with the shard and its maps";
 
 /// What an input is called in messages.
 pub fn name_of<'a>(name: &'a str) -> &'a str {
@@ -57,6 +60,18 @@ pub fn whole<R: Files + Input + Tell + AllocGlobal>(
     let read = rest_of(rt, name, &mut input);
     *meter = input.meter;
     read
+}
+
+/// The bytes of a file that a merge of shards writes beside others, or the exit status after a message. If the file isn't
+/// there, the message says what makes it.
+pub fn made_by_merge<R: Files + Input + Tell + AllocGlobal>(
+    rt: &R,
+    name: &str,
+) -> Result<Vec<u8>, u8> {
+    match fs::metadata(rt, name) {
+        Err(e) if e.kind() == ErrorKind::NotFound => Err(report::failed(rt, name, NOT_MERGED)),
+        _ => whole(rt, name, &mut Meter::silent()),
+    }
 }
 
 /// The bytes of an input that is open, or the exit status after a message.

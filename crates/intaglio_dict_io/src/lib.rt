@@ -14,6 +14,7 @@ pub mod metered;
 pub mod noticing;
 pub mod output;
 pub mod putting;
+pub mod removing;
 pub mod replacing;
 pub mod report;
 pub mod symbols;

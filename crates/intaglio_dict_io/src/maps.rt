@@ -13,6 +13,11 @@ pub fn map_name(alloc: Global, folder: &str, number: usize) -> Result<String, Al
     format!(in alloc; "{folder}/{number}{MAP}")
 }
 
+/// The name of the file in a folder of maps that says which dictionaries they lead from and to.
+pub fn map_index_name(alloc: Global, folder: &str) -> Result<String, AllocError> {
+    format!(in alloc; "{folder}/index")
+}
+
 // The number of the map with this name in its folder.
 fn number_of(name: &str) -> Option<usize> {
     let digits = name.strip_suffix(MAP)?;

@@ -7,14 +7,11 @@ use crate::replacing::{Place, followed};
 use crate::report;
 use crate::report::Tell;
 use intaglio_lines::error::StreamError;
-use std::fs;
-use std::io::{ErrorKind, Read, Write};
+use std::io::{ErrorKind, Write};
 use std::path::Path;
 use std::random::RandomSource;
 use std::rt::Files;
-
-// How many bytes are copied at once.
-const BLOCK: usize = 1 << 16;
+use std::{fs, io};
 
 /// Makes or replaces the file `to`, so that it is the file `from`: by a hard link, or, if there can't be one, by a copy.
 /// It is replaced when the new one is whole. Otherwise the exit status after a message.
@@ -73,10 +70,7 @@ struct Copied<'a> {
 impl<R: Files + Input + Tell + AllocGlobal> Payload<R> for Copied<'_> {
     fn write<W: Write>(&mut self, rt: &R, name: &str, output: &mut Noticing<W>) -> Result<(), u8> {
         let mut input = Metered::open(rt, self.name, Meter::silent())?;
-        let Ok(mut block) = Vec::from_elem(rt.alloc(), 0, BLOCK) else {
-            return Err(report::out_of_memory(rt));
-        };
-        match copy_all(&mut block, &mut input, output) {
+        match copy_all(&mut input, output) {
             Ok(()) => Ok(()),
             Err(fault) => {
                 let (read, written) = ((self.name, input.error), (name, output.error));
@@ -86,26 +80,24 @@ impl<R: Files + Input + Tell + AllocGlobal> Payload<R> for Copied<'_> {
     }
 }
 
-// Writes what is read, by blocks of this size.
-fn copy_all<I: Read, W: Write>(
-    block: &mut [u8],
-    input: &mut I,
-    output: &mut W,
+// Writes what is read.
+fn copy_all<R: Files + Input + Tell, W: Write>(
+    input: &mut Metered<'_, R>,
+    output: &mut Noticing<W>,
 ) -> Result<(), StreamError> {
-    for _ in 0..u64::MAX {
-        match input.read(block) {
-            Ok(0) => break,
-            Ok(taken) => {
-                if output.write_all(&block[..taken]).is_err() {
-                    return Err(StreamError::Write);
-                }
-            }
-            Err(e) if e.kind() == ErrorKind::Interrupted => {}
-            Err(_) => return Err(StreamError::Read),
-        }
+    if io::copy(input, output).is_err() {
+        return Err(stopped_by(input));
     }
     match output.flush() {
         Ok(()) => Ok(()),
         Err(_) => Err(StreamError::Write),
+    }
+}
+
+// Which of the two stopped a copy. A read that was interrupted was made again.
+fn stopped_by<R: Files + Input>(input: &Metered<'_, R>) -> StreamError {
+    match &input.error {
+        Some(e) if e.kind() != ErrorKind::Interrupted => StreamError::Read,
+        _ => StreamError::Write,
     }
 }

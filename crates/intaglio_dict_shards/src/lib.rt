@@ -6,6 +6,7 @@ pub mod folder;
 pub mod identity;
 pub mod joining;
 pub mod lines;
+pub mod opening;
 pub mod parts;
 pub mod renumbering;
 pub mod splitting;

@@ -1,15 +1,12 @@
 //! The lines of merged shards, each in a file beside the shard's own.
-use crate::identity::id_of;
 use crate::writing::write_named;
 use intaglio_dict_io::folders::line_name;
-use intaglio_dict_io::input::{STANDARD, whole};
-use intaglio_dict_io::metered::Meter;
+use intaglio_dict_io::input::{STANDARD, made_by_merge};
 use intaglio_dict_io::output::{Bytes, is_stream, write_to};
+use intaglio_dict_io::removing::remove_file;
 use intaglio_dict_io::report;
 use intaglio_dict_io::report::Tell;
-use intaglio_dictionary::merged_shard::{MergedShard, ShardPlace, read_merged, write_merged};
-use std::fs;
-use std::io::ErrorKind;
+use intaglio_dictionary::merged_shard::{MergedShard, read_merged};
 use std::random::RandomSource;
 use std::rt::Files;
 
@@ -19,20 +16,12 @@ pub fn write_shard<R: Files + RandomSource + Print + Tell + AllocGlobal>(
     rt: &R,
     name: &str,
     bytes: &[u8],
-    place: ShardPlace,
+    line: &[u8],
 ) -> Result<(), u8> {
-    let shard = MergedShard {
-        place,
-        size: bytes.len() as u64,
-        id: id_of(rt, name, bytes)?,
-    };
-    let Ok(text) = write_merged(rt.alloc(), &shard) else {
-        return Err(report::out_of_memory(rt));
-    };
     let has_line = has_line(rt, name);
     write_to(rt, name, &mut Bytes { bytes })?;
     if has_line {
-        write_named(rt, line_name(rt.alloc(), name), &text)
+        write_named(rt, line_name(rt.alloc(), name), line)
     } else {
         Ok(())
     }
@@ -52,11 +41,7 @@ pub fn remove_line<R: Files + Tell + AllocGlobal>(rt: &R, shard: &str) -> Result
     let Ok(name) = line_name(rt.alloc(), shard) else {
         return Err(report::out_of_memory(rt));
     };
-    match fs::remove_file(rt, name.as_str()) {
-        Ok(()) => Ok(()),
-        Err(e) if e.kind() == ErrorKind::NotFound => Ok(()),
-        Err(e) => Err(report::of_file(rt, name.as_str(), e)),
-    }
+    remove_file(rt, name.as_str())
 }
 
 /// What the lines beside these shards say. Otherwise the exit status after a message.
@@ -80,7 +65,7 @@ fn read_line<R: Files + Input + Tell + AllocGlobal>(
     let Ok(name) = line_name(rt.alloc(), shard) else {
         return Err(report::out_of_memory(rt));
     };
-    let text = whole(rt, name.as_str(), &mut Meter::silent())?;
+    let text = made_by_merge(rt, name.as_str())?;
     match read_merged(&text) {
         Some(merged) => Ok(merged),
         None => Err(report::failed(rt, name.as_str(), "not the line of a merged shard")),

@@ -1,13 +1,11 @@
 //! The same shard of the folders of several parts.
-use crate::folder::{ids_in, misplaced, read_index_text, read_shard};
+use crate::folder::{ids_in, read_index_text, read_shard};
 use intaglio_column_file::DictionaryId;
-use intaglio_columns::first_misplaced;
 use intaglio_dict_io::folders::shard_name;
 use intaglio_dict_io::report;
 use intaglio_dict_io::report::Tell;
 use intaglio_dict_io::symbols::plain_number;
 use intaglio_dictionary::merged_shard::ShardPlace;
-use intaglio_frozen::Frozen;
 use intaglio_hash::KeyedHasher;
 use std::hash::Hasher;
 use std::rt::Files;
@@ -19,6 +17,8 @@ pub struct ShardOfParts {
     pub names: Vec<String>,
     /// The bytes of each file.
     pub files: Vec<Vec<u8>>,
+    /// What the dictionary in each file is.
+    pub ids: Vec<DictionaryId>,
     /// Which shard of these folders it is.
     pub place: ShardPlace,
 }
@@ -58,6 +58,7 @@ pub fn shard_of_folders<R: Files + Input + Tell + AllocGlobal>(
         return Err(report::wrong_number(rt, "--shard", typed, needed));
     };
     let (mut names, mut files) = (Vec::new(rt.alloc()), Vec::new(rt.alloc()));
+    let mut known = Vec::new(rt.alloc());
     let (mut count, mut parts) = (0, PartHashers::new());
     for folder in folders {
         let index = read_index_text(rt, folder)?;
@@ -71,7 +72,7 @@ pub fn shard_of_folders<R: Files + Input + Tell + AllocGlobal>(
             return Err(report::out_of_memory(rt));
         };
         let bytes = read_shard(rt, folder, number, id)?;
-        if names.push(name).is_err() || files.push(bytes).is_err() {
+        if names.push(name).is_err() || files.push(bytes).is_err() || known.push(id).is_err() {
             return Err(report::out_of_memory(rt));
         }
     }
@@ -84,30 +85,9 @@ pub fn shard_of_folders<R: Files + Input + Tell + AllocGlobal>(
     Ok(ShardOfParts {
         names,
         files,
+        ids: known,
         place,
     })
-}
-
-/// Checks that each string of the parts' files belongs to the shard. Otherwise the exit status after a message that
-/// names the file.
-pub fn check_strings<R: Tell>(
-    rt: &R,
-    names: &[&str],
-    tables: &[Frozen<'_>],
-    place: ShardPlace,
-) -> Result<(), u8> {
-    let (Ok(count), Ok(number)) = (u32::try_from(place.count), u32::try_from(place.number)) else {
-        return Err(report::of_input(rt, "too many shards"));
-    };
-    for (name, table) in names.iter().zip(tables.iter()) {
-        if count == 0 {
-            return Err(2);
-        }
-        if let Some(string) = first_misplaced(table, count, number) {
-            return Err(misplaced(rt, name, string));
-        }
-    }
-    Ok(())
 }
 
 // What the shard with this number of a folder is, which must have this many.

@@ -3,16 +3,18 @@ use crate::folder::read_ids;
 use clap::ArgMatches;
 use intaglio_column_file::DictionaryId;
 use intaglio_dict_io::folders::split_map_name;
-use intaglio_dict_io::input::whole;
-use intaglio_dict_io::maps::map_name;
+use intaglio_dict_io::input::{made_by_merge, whole};
+use intaglio_dict_io::maps::{map_index_name, map_name};
 use intaglio_dict_io::metered::Meter;
 use intaglio_dict_io::report;
 use intaglio_dict_io::report::Tell;
 use intaglio_dict_io::symbols::plain_number;
 use intaglio_dictionary::codes::CodeMap;
-use intaglio_dictionary::error::MapError;
+use intaglio_dictionary::error::{MapError, MapIndexError};
 use intaglio_dictionary::joining::map_into_shards;
+use intaglio_dictionary::map_index::check_map;
 use intaglio_dictionary::merging::write_codes;
+use intaglio_dictionary::shard_index::{IndexError, read_index};
 use std::rt::Files;
 
 // What the maps of a part lead from and to.
@@ -70,8 +72,75 @@ fn map_of_part<R: Files + Input + Tell + AllocGlobal>(
         ));
     }
     let split = read_split(rt, part.folder, &ids)?;
+    for (shard, (from, into)) in ids.iter().zip(merged.iter()).enumerate() {
+        check_index(rt, part, shard, from, into)?;
+    }
     let files = read_maps(rt, part, &ids)?;
     joined_bytes(rt, part, &split, &files, &merged)
+}
+
+// The folder with the maps of a shard.
+fn folder_of_maps<R: Tell + AllocGlobal>(
+    rt: &R,
+    part: &Part<'_>,
+    shard: usize,
+) -> Result<String, u8> {
+    match format!(in rt.alloc(); "{}/{shard}", part.maps) {
+        Ok(folder) => Ok(folder),
+        Err(_) => Err(report::out_of_memory(rt)),
+    }
+}
+
+// Checks, by the index of the maps of a shard, that the part's leads from its dictionary to the merged one.
+fn check_index<R: Files + Input + Tell + AllocGlobal>(
+    rt: &R,
+    part: &Part<'_>,
+    shard: usize,
+    from: &DictionaryId,
+    into: &DictionaryId,
+) -> Result<(), u8> {
+    let folder = folder_of_maps(rt, part, shard)?;
+    let Ok(name) = map_index_name(rt.alloc(), folder.as_str()) else {
+        return Err(report::out_of_memory(rt));
+    };
+    let text = made_by_merge(rt, name.as_str())?;
+    let ids = match read_index(rt.alloc(), &text) {
+        Ok(ids) => ids,
+        Err(IndexError::Memory) => return Err(report::out_of_memory(rt)),
+        Err(fault) => return Err(report::failed(rt, name.as_str(), fault)),
+    };
+    match check_map(&ids, part.number, from, into) {
+        Ok(()) => Ok(()),
+        Err(fault) => Err(not_its_map(rt, part, shard, name.as_str(), fault)),
+    }
+}
+
+// Of an index of maps that doesn't have the part's map of this shard.
+fn not_its_map<R: Tell>(
+    rt: &R,
+    part: &Part<'_>,
+    shard: usize,
+    name: &str,
+    fault: MapIndexError,
+) -> u8 {
+    let (folder, into, number) = (part.folder, part.into, part.number);
+    match fault {
+        MapIndexError::NoMap(count) => report::failed(
+            rt,
+            name,
+            format_args!("{count} parts were merged, so there is no part {number}, counted from 0"),
+        ),
+        MapIndexError::OtherFrom => report::failed(
+            rt,
+            name,
+            format_args!("part {number} of the merge had another shard {shard} than {folder} has"),
+        ),
+        MapIndexError::OtherInto => report::failed(
+            rt,
+            name,
+            format_args!("the merge made another shard {shard} than {into} has"),
+        ),
+    }
 }
 
 // The bytes of the map from the part to its shards, which has a code for each string.
@@ -97,9 +166,7 @@ fn read_maps<R: Files + Input + Tell + AllocGlobal>(
 ) -> Result<Vec<Vec<u8>>, u8> {
     let mut files = Vec::new(rt.alloc());
     for (shard, id) in ids.iter().enumerate() {
-        let Ok(folder) = format!(in rt.alloc(); "{}/{shard}", part.maps) else {
-            return Err(report::out_of_memory(rt));
-        };
+        let folder = folder_of_maps(rt, part, shard)?;
         let Ok(name) = map_name(rt.alloc(), folder.as_str(), part.number) else {
             return Err(report::out_of_memory(rt));
         };

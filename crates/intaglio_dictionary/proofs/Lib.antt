@@ -13,3 +13,4 @@ pub mod Ranked
 pub mod Indexed
 pub mod Merged
 pub mod Kept
+pub mod Owned

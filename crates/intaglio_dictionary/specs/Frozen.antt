@@ -5,6 +5,7 @@ use Rattle.intaglio_interner.specs.Issue.{interned_all, issue}
 use Rattle.intaglio_lines.specs.Lines.{lines_of}
 use Rattle.intaglio_lines.specs.Puts.{Writes}
 use Rattle.intaglio_lines.specs.StreamError.{IsWritingError}
+use Rattle.intaglio_lines.specs.declared.error.StreamError.TheVariants.{Memory}
 use Rattle.intaglio_column_file.specs.Identity.{IsIdOfTable}
 use Rattle.intaglio_column_file.specs.Writing.{column_of}
 use Rattle.intaglio_column_file.specs.declared.id.DictionaryId.{DictionaryId}
@@ -51,6 +52,12 @@ abbrev pub IsRefusal : Kind → List ℕ → FreezingError → Type 0
 IsRefusal kind input NotUtf8 = ¬ (Allows kind input)
 IsRefusal kind input (Table error) = IsTableRefusal kind (distinct_lines input) error
 IsRefusal kind input (Stream failure) = IsWritingError failure
+
+-- when each error is returned before anything is written of a union
+abbrev pub IsUnionRefusal : Kind → List (List ℕ) → FreezingError → Type 0
+IsUnionRefusal kind strings NotUtf8 = ⊥
+IsUnionRefusal kind strings (Table error) = IsTableRefusal kind strings error
+IsUnionRefusal kind strings (Stream failure) = failure ≡ Memory
 
 -- when each error of a merge is returned
 abbrev pub IsMergingRefusal : Kind → List (List ℕ) → FreezingError → Type 0

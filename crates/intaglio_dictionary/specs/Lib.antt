@@ -10,3 +10,5 @@ pub mod Joining
 pub mod ShardIndex
 pub mod MergedShard
 pub mod Renumbering
+pub mod ShardMerging
+pub mod MapIndex

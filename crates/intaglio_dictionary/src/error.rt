@@ -4,6 +4,7 @@ ghost use Rattle.intaglio_dictionary.specs.declared.error.DictionaryError.TheVar
 ghost use Rattle.intaglio_dictionary.specs.declared.error.MapError.TheVariants.{Memory};
 ghost use Rattle.intaglio_dictionary.specs.declared.error.FreezingError.TheVariants.{Table, Stream as FreezingStopped};
 ghost use Rattle.intaglio_dictionary.specs.declared.error.RowsError.TheVariants.{Stream as RowsStopped};
+ghost use Rattle.intaglio_dictionary.specs.declared.error.ShardMergeError.TheVariants.{Strings};
 
 use intaglio_column_file::ColumnWriteError;
 use intaglio_frozen::FreezeError;
@@ -60,6 +61,29 @@ impl From<FreezeError> for FreezingError {
     }
 }
 
+/// Why a shard of several parts wasn't merged.
+#[derive(Clone, Copy, Debug, PartialEq, Eq, Error)]
+pub enum ShardMergeError {
+    /// The shard's number isn't below the number of shards, or there are 2^32 shards or more.
+    #[error("there is no such shard")]
+    NoShard,
+    /// In the part with the first number the string with the second one belongs to another shard. Both are counted
+    /// from 0.
+    #[error("string {1} of part {0} belongs to another shard")]
+    Misplaced(usize, u32),
+    /// The strings have no frozen table, or weren't given one.
+    #[error(transparent)]
+    Strings(FreezingError),
+}
+
+impl From<FreezingError> for ShardMergeError {
+    ghost from_gives = { λ refused error. error ≡ Strings refused };
+
+    fn from(refused: FreezingError) -> ShardMergeError {
+        ShardMergeError::Strings(refused)
+    }
+}
+
 /// Why a column wasn't encoded, decoded or renumbered, or not all of it.
 #[derive(Clone, Copy, Debug, PartialEq, Eq, Error)]
 pub enum ColumnError {
@@ -97,6 +121,20 @@ impl From<AllocError> for MapError {
     fn from(_error: AllocError) -> MapError {
         MapError::Memory
     }
+}
+
+/// Why a map isn't the one that is wanted.
+#[derive(Clone, Copy, Debug, PartialEq, Eq, Error)]
+pub enum MapIndexError {
+    /// There are only this many maps.
+    #[error("there are {0} maps, counted from 0")]
+    NoMap(usize),
+    /// The map leads from another dictionary.
+    #[error("the map leads from another dictionary")]
+    OtherFrom,
+    /// The maps lead to another dictionary.
+    #[error("the maps lead to another dictionary")]
+    OtherInto,
 }
 
 /// Why rows of a column weren't written.

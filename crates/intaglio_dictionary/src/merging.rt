@@ -6,7 +6,8 @@ ghost use Rattle.intaglio_lines.specs.StreamError.{IsWritingError};
 ghost use Rattle.intaglio_lines.specs.declared.error.StreamError.TheVariants.{Write as WriteFailed};
 ghost use Rattle.intaglio_columns.specs.Columns.{AreMaps, union};
 ghost use Rattle.intaglio_dictionary.specs.Columns.{code_bytes, codes_of};
-ghost use Rattle.intaglio_dictionary.specs.Frozen.{HasKeysFor, IsMergingRefusal, WritesTable};
+ghost use Rattle.intaglio_dictionary.specs.Frozen.{HasKeysFor, IsMergingRefusal, IsUnionRefusal, WritesTable};
+ghost use Rattle.intaglio_frozen.specs.Freezing.{IsTableOf};
 ghost use Rattle.intaglio_frozen.specs.declared.kind.Kind.{Kind};
 ghost use Rattle.intaglio_dictionary.specs.declared.error.FreezingError.TheVariants.{Stream};
 
@@ -50,14 +51,32 @@ pub fn merge<S: BuildHasher + Drop, W: Write, P: Progress>(
     ensures err { IfErr result (IsMergingRefusal kind (union tables.now)) }
     ensures nothing_written { IfErr result (λ e. e ≢ Stream WriteFailed → writer.new ≡ writer.old) }
 {
+    let (bytes, maps) = frozen_union(alloc, tables, kind, keys, builder, progress)?;
+    match write_whole(&bytes, writer) {
+        Ok(()) => Ok(maps),
+        Err(_) => Err(FreezingError::Stream(StreamError::Write)),
+    }
+}
+
+// The bytes of a frozen table of the union, and the maps.
+pub(crate) fn frozen_union<S: BuildHasher + Drop, P: Progress>(
+    alloc: Global,
+    tables: &[Frozen<'_>],
+    kind: Kind,
+    keys: Option<(u64, u64)>,
+    builder: S,
+    progress: &mut P,
+) -> Result<(Vec<u8>, Vec<Vec<Symbol>>), FreezingError>
+    ensures table { IfOk result (λ made. IsTableOf kind (union tables.now) made.0.items) }
+    ensures keyed { IfOk result (λ made. HasKeysFor keys (union tables.now) made.0.items) }
+    ensures maps { IfOk result (λ made. AreMaps tables.now (union tables.now) (map (λ m. m.items) made.1.items)) }
+    ensures err { IfErr result (IsUnionRefusal kind (union tables.now)) }
+{
     let merged = merged_tables(alloc, tables, builder)?;
     progress.interned(merged.table.len());
     let bytes = freeze_table(alloc, &merged.table, kind, keys)?;
     progress.frozen(bytes.len());
-    match write_whole(&bytes, writer) {
-        Ok(()) => Ok(merged.maps),
-        Err(_) => Err(FreezingError::Stream(StreamError::Write)),
-    }
+    Ok((bytes, merged.maps))
 }
 
 // The union of tables and their maps.
@@ -69,7 +88,7 @@ fn merged_tables<S: BuildHasher + Drop>(
     ensures union { IfOk result (λ merged. merged.table.state.contents ≡ union tables.now) }
     ensures maps { IfOk result (λ merged.
         AreMaps tables.now (union tables.now) (map (λ m. m.items) merged.maps.items)) }
-    ensures err { IfErr result (λ e. (kind : Kind) → IsMergingRefusal kind (union tables.now) e) }
+    ensures err { IfErr result (λ e. (kind : Kind) → IsUnionRefusal kind (union tables.now) e) }
 {
     match merge_tables(alloc, tables, builder) {
         Ok(merged) => Ok(merged),

@@ -44,13 +44,11 @@ pub fn renumber_file(
     }
 }
 
-/// The codes of a column by a map.
+// The codes of a column by a map.
 #[derive(Drop)]
-pub struct RenumberedCodes<'a, 'm, 'c> {
-    /// The map.
-    pub map: &'a CodeMap<'m>,
-    /// The column.
-    pub column: &'a Column<'c>,
+struct RenumberedCodes<'a, 'm, 'c> {
+    map: &'a CodeMap<'m>,
+    column: &'a Column<'c>,
 }
 
 impl CodeList for RenumberedCodes<'_, '_, '_> {

@@ -1,6 +1,7 @@
 -- Lemmas on the bytes of a frozen table.
 pub mod Ends
 pub mod Places
+pub mod Opened
 pub mod Found
 pub mod Batched
 pub mod Texts
@@ -17,5 +18,10 @@ pub mod Bits
 pub mod Searches
 pub mod Pilots
 pub mod Sorted
+pub mod Ranks
 pub mod Placed
 pub mod Written
+pub mod Order
+pub mod LeastPilots
+pub mod Assembled
+pub mod FrozenBytes

@@ -32,13 +32,13 @@ symbol_read None s i w e = cc
 symbol_read (Some t) s i w e = symbol_if (bytes_eq t w) s i e
 
 -- the string at i, and its place
-abbrev string_at : List ℕ → ℕ → List ℕ
+abbrev pub string_at : List ℕ → ℕ → List ℕ
 string_at bs i = get_or (strings bs) i []
 
-abbrev place_at : List ℕ → ℕ → ℕ
+abbrev pub place_at : List ℕ → ℕ → ℕ
 place_at bs i = place bs (hash bs (string_at bs i))
 
-placed : (bs : List ℕ) (i : ℕ) → IsFrozen bs → i < count bs → (symbol_of bs (place_at bs i) ≡ i) × (tag_of bs (place_at bs i) ≡ hash bs (string_at bs i) % 256)
+pub placed : (bs : List ℕ) (i : ℕ) → IsFrozen bs → i < count bs → (symbol_of bs (place_at bs i) ≡ i) × (tag_of bs (place_at bs i) ≡ hash bs (string_at bs i) % 256)
 unfolding find
 placed bs i b l =
     let w = string_at bs i in
@@ -52,17 +52,17 @@ mixed_below : (h q : ℕ) → mixed h q < 2 ^ 64
 unfolding mixed
 mixed_below h q = omega arith
 
-place_below : (bs : List ℕ) (h : ℕ) → place bs h < places bs
+pub place_below : (bs : List ℕ) (h : ℕ) → place bs h < places bs
 unfolding place
 place_below bs h =
     let m = mixed h (pilot_of bs (scaled (groups bs) h)) in
     scaled_below (places bs) m (omega arith) (mixed_below h (pilot_of bs (scaled (groups bs) h)))
 
-few : (bs : List ℕ) → IsFrozen bs → count bs ≤ no_symbol
+pub few : (bs : List ℕ) → IsFrozen bs → count bs ≤ no_symbol
 few bs b = omega (arith, b.block.sections.header.few)
 
 -- a place with a symbol is that of its string
-used_place : (bs : List ℕ) (p : ℕ) → IsFrozen bs → p < places bs → (symbol_of bs p ≡ no_symbol → ⊥) → (symbol_of bs p < count bs) × (p ≡ place_at bs (symbol_of bs p))
+pub used_place : (bs : List ℕ) (p : ℕ) → IsFrozen bs → p < places bs → (symbol_of bs p ≡ no_symbol → ⊥) → (symbol_of bs p < count bs) × (p ≡ place_at bs (symbol_of bs p))
 used_place bs p b l used =
     let within : (i : ℕ) → i < count bs → place_at bs i < places bs = λ i m. place_below bs (hash bs (string_at bs i)) in
     let has : (i : ℕ) → i < count bs → symbol_of bs (place_at bs i) ≡ i = λ i m. (placed bs i b m).0 in (

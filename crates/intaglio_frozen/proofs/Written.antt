@@ -29,7 +29,7 @@ least-table kind ws k0 k1 bs ps table first second has are =
     }
 
 -- how many hashes a table has
-hashes-count : (kind : Kind) (ws : List (List ℕ)) (k0 k1 : ℕ) (bs : List ℕ) → IsLeastTable kind ws k0 k1 bs → length (hashes_under k0 k1 ws) ≡ count bs
+pub hashes-count : (kind : Kind) (ws : List (List ℕ)) (k0 k1 : ℕ) (bs : List ℕ) → IsLeastTable kind ws k0 k1 bs → length (hashes_under k0 k1 ws) ≡ count bs
 hashes-count kind ws k0 k1 bs b = length-map ws (hash_under k0 k1) ∙ ap length (sym b.table.strings) ∙ strings_length bs
 
 tables-same : (kind : Kind) (ws : List (List ℕ)) (k0 k1 : ℕ) (bs cs : List ℕ) → AreBytes bs → AreBytes cs → IsLeastTable kind ws k0 k1 bs → IsLeastTable kind ws k0 k1 cs

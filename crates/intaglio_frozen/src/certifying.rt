@@ -1,10 +1,8 @@
-//! Checks of what the sorts by counting gave, in one pass each.
-ghost use Rattle.std.specs.Prelude.{◌≡◌, ℕ, List, ◌-◌, ◌<◌, ◌≤◌, ◌^◌, IsTrue, length, get_or};
-ghost use Rattle.intaglio_frozen.specs.Pilots.{IsBefore};
-ghost use Rattle.intaglio_frozen.specs.Grouped.{start_of, ArePaired, AreOfGroup, AreGrouped, IsOrder};
-ghost use Rattle.intaglio_frozen.specs.declared.grouping.Hashed.{Hashed as HashedOf};
+//! A check of what the sort of the hashes gave, in one pass.
+ghost use Rattle.std.specs.Prelude.{◌≡◌, ℕ, ◌<◌, ◌≤◌, ◌^◌, IsTrue, length};
+ghost use Rattle.intaglio_frozen.specs.Grouped.{ArePaired, AreOfGroup, AreGrouped};
 
-use crate::grouping::{Hashed, size_of_group};
+use crate::grouping::Hashed;
 use crate::numbers::{groups_for, scaled};
 
 // Whether these are the hashes, which are those of the symbols 0, 1, 2 and so on, in the order of their groups
@@ -52,38 +50,4 @@ fn are_of_group(hashes: &[u64], groups: u64, group: usize, members: &[Hashed]) -
         least = symbol + 1;
     }
     true
-}
-
-// Whether these are all groups, the larger ones first, and of two that are equally large the one with the lower
-// number.
-pub(crate) fn are_by_size(ends: &[u32], order: &[u32]) -> bool
-    ensures { IsTrue result → (hs : List ℕ) (grouped : List HashedOf) →
-        AreGrouped hs grouped ends.now → IsOrder hs order.now }
-{
-    if order.len() != ends.len() {
-        return false;
-    }
-    for k in 0..order.len() {
-        let group = order[k] as usize;
-        if group >= ends.len() {
-            return false;
-        }
-        if k > 0 && !is_before(ends, order[k - 1] as usize, group) {
-            return false;
-        }
-    }
-    true
-}
-
-// Whether a group is placed before another.
-#[inline(always)]
-fn is_before(ends: &[u32], first: usize, second: usize) -> bool
-    requires first { first < length ends.now }
-    requires second { second < length ends.now }
-    ensures { IsTrue result → (hs : List ℕ) (grouped : List HashedOf) →
-        AreGrouped hs grouped ends.now → IsBefore hs first second }
-{
-    let larger = size_of_group(ends, first);
-    let smaller = size_of_group(ends, second);
-    larger > smaller || (larger == smaller && first < second)
 }

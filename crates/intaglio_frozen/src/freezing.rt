@@ -1,11 +1,12 @@
 //! How a list of strings is frozen.
-ghost use Rattle.std.specs.Prelude.{◌≡◌, ◌≢◌, ◌-◌, ◌≤◌, ◌^◌, IfErr, IfOk, IfSome, IsTrue, MatchOption, length, min, sum_by};
+ghost use Rattle.std.specs.Prelude.{◌≡◌, ◌≢◌, ℕ, ◌-◌, ◌<◌, ◌≤◌, ◌^◌, IfErr, IfOk, IfSome, IsTrue, MatchOption, None, Some, get_or, length, min, sum_by};
 ghost use Rattle.intaglio_frozen.specs.Layout.{key0 as key0_of, key1 as key1_of, kind as kind_of, strings};
 ghost use Rattle.intaglio_frozen.specs.LookUp.{FindsAll};
 ghost use Rattle.intaglio_frozen.specs.IsFrozen.{IsFrozen, number_of};
 ghost use Rattle.intaglio_frozen.specs.Checked.{HasPilots};
 ghost use Rattle.intaglio_frozen.specs.Pilots.{HavePlaces};
 ghost use Rattle.intaglio_frozen.specs.Freezing.{AreAllowed, HasDefaultKeys, HasKeys, IsLeastTable, IsRefusal, IsTableOf, IsWritten, IsWrittenWithDefaultKeys, LackAllPlaces, LackDefaultPlaces, hashes_under};
+ghost use Rattle.intaglio_frozen.specs.FrozenBytes.{bytes_under, frozen_bytes, default_bytes};
 ghost use Rattle.intaglio_frozen.specs.declared.error.FreezeError.TheVariants.{NoPlaces};
 
 use crate::block::Block;
@@ -30,7 +31,7 @@ const ATTEMPTS: u64 = 8;
 /// The hashes are keyed by these numbers, or, if a string gets no place under them, by `key1` and one of the
 /// seven numbers after `key0`, modulo 2^64. The same strings under the same keys always give the same bytes:
 /// the table with the least pilots, under the first of these pairs of keys that has a place for each string
-/// (`IsWritten`).
+/// (`IsWritten`). `frozen_bytes` is this table as a function of the kind, the keys and the strings.
 ///
 /// # Errors
 ///
@@ -51,8 +52,11 @@ pub fn freeze<L: StringList>(
     ensures keys { IfOk result (λ bytes. HasKeys key0 key1 bytes.items) }
     ensures written { let IsWritten = IsWritten kind (L.strings list.now) key0 key1 in
         IfOk result (λ bytes. IsWritten bytes.items) }
+    ensures bytes { IfOk result (λ bytes. frozen_bytes kind key0 key1 (L.strings list.now) ≡ Some bytes.items) }
     ensures err { IfErr result (IsRefusal kind (L.strings list.now)) }
     ensures no_places { IfErr result (λ error. error ≡ NoPlaces → LackAllPlaces (L.strings list.now) key0 key1) }
+    ensures no_bytes { let none = frozen_bytes kind key0 key1 (L.strings list.now) ≡ None in
+        IfErr result (λ error. error ≡ NoPlaces → none) }
 {
     check_strings(kind, list)?;
     match freeze_near(alloc, list, kind, key0, key1)? {
@@ -63,7 +67,8 @@ pub fn freeze<L: StringList>(
 
 /// As [`freeze`], for a caller who has no keys: under the keys 0 and 0 and those that `freeze` tries after
 /// them, and if a string gets no place under any of these, under keys that are drawn from the strings, by a hash
-/// of all of them, and those that `freeze` tries after these. The same strings always give the same bytes.
+/// of all of them, and those that `freeze` tries after these. The same strings always give the same bytes,
+/// `default_bytes`.
 ///
 /// # Errors
 ///
@@ -79,8 +84,11 @@ pub fn freeze_with_default_keys<L: StringList>(
     ensures keys { IfOk result (λ bytes. HasDefaultKeys (L.strings list.now) bytes.items) }
     ensures written { let IsWritten = IsWrittenWithDefaultKeys kind (L.strings list.now) in
         IfOk result (λ bytes. IsWritten bytes.items) }
+    ensures bytes { IfOk result (λ bytes. default_bytes kind (L.strings list.now) ≡ Some bytes.items) }
     ensures err { IfErr result (IsRefusal kind (L.strings list.now)) }
     ensures no_places { IfErr result (λ error. error ≡ NoPlaces → LackDefaultPlaces (L.strings list.now)) }
+    ensures no_bytes { let none = default_bytes kind (L.strings list.now) ≡ None in
+        IfErr result (λ error. error ≡ NoPlaces → none) }
 {
     check_strings(kind, list)?;
     if let Some(bytes) = freeze_near(alloc, list, kind, 0, 0)? {
@@ -138,6 +146,8 @@ fn freeze_near<L: StringList>(
     ensures written { let IsWritten = IsWritten kind (L.strings list.now) key0 key1 in
         let lacking = LackAllPlaces (L.strings list.now) key0 key1 in
         IfOk result (λ found. MatchOption found lacking (λ bytes. IsWritten bytes.items)) }
+    ensures bytes { let bytes = frozen_bytes kind key0 key1 (L.strings list.now) in
+        IfOk result (λ found. MatchOption found (bytes ≡ None) (λ made. bytes ≡ Some made.items)) }
     ensures err { IfErr result (IsRefusal kind (L.strings list.now)) }
     ensures others { IfErr result (λ error. error ≢ NoPlaces) }
 {
@@ -161,6 +171,8 @@ fn freeze_under<L: StringList>(
     ensures written { let IsTable = IsLeastTable kind (L.strings list.now) key0 key1 in
         let lacking = ¬ HavePlaces (hashes_under key0 key1 (L.strings list.now)) in
         IfOk result (λ found. MatchOption found lacking (λ bytes. IsTable bytes.items)) }
+    ensures bytes { let bytes = bytes_under kind (L.strings list.now) key0 key1 in
+        IfOk result (λ found. MatchOption found (bytes ≡ None) (λ made. bytes ≡ Some made.items)) }
     ensures err { IfErr result (IsRefusal kind (L.strings list.now)) }
     ensures others { IfErr result (λ error. error ≢ NoPlaces) }
 {
@@ -214,6 +226,7 @@ fn holds<L: StringList>(
     ensures first_key { IsTrue result → key0_of bytes.now ≡ key0 }
     ensures second_key { IsTrue result → key1_of bytes.now ≡ key1 }
     ensures pilots { IsTrue result → HasPilots bytes.now pilots.now }
+    ensures fits { IsTrue result → (k : ℕ) → get_or bytes.now k 0 < 256 }
 {
     if !has_header(bytes, kind, key0, key1) {
         return false;

@@ -8,12 +8,11 @@ ghost use Rattle.intaglio_frozen.specs.Checked.{IsHashAt, IsFoundAt, AreCharEnds
 ghost use Rattle.intaglio_frozen.specs.Fault.{IsFault};
 
 use crate::error::FrozenError;
-use crate::header::{HEADER, Header};
+use crate::header::HEADER;
 use crate::iter::FrozenStrings;
 use crate::kind::Kind;
-use crate::numbers::{
-    NO_SYMBOL, groups_for, hash_by, mixed, places_for, read_u16, read_u32, scaled,
-};
+use crate::numbers::{NO_SYMBOL, hash_by, mixed, read_u16, read_u32, scaled};
+use crate::sections::Sections;
 use intaglio_hash::KeyedState;
 use std::marker::Model;
 use std::str;
@@ -56,29 +55,23 @@ impl<'a> Layout<'a> {
         ensures only { HasSections bytes.now → IsOk result }
         ensures err { IfErr result (IsFault bytes.now) }
     {
-        let header = Header::read(bytes)?;
-        let count = header.count as usize;
-        let places = places_for(header.count);
-        let groups = groups_for(header.count);
-        let ends_at = HEADER + 4 * places as usize;
-        let pilots_at = ends_at + 4 * count;
-        let tags_at = pilots_at + 2 * groups as usize;
-        let text_at = tags_at + places as usize;
-        if text_at > bytes.len() {
-            return Err(FrozenError::Truncated);
-        }
+        let sections = Sections::read(bytes)?;
         Ok(Layout {
             bytes,
-            text: &bytes[text_at..],
-            ends: &bytes[ends_at - 4..],
-            state: KeyedState::with_keys(header.key0, header.key1),
-            kind: header.kind,
-            count,
-            places,
-            groups,
-            ends_at,
-            pilots_at,
-            tags_at,
+            text: &bytes[sections.text_at..],
+            ends: &bytes[sections.starts_at..],
+            state: KeyedState::with_keys(sections.key0, sections.key1),
+            kind: if sections.kind == 0 {
+                Kind::Bytes
+            } else {
+                Kind::Text
+            },
+            count: sections.count,
+            places: sections.places as u64,
+            groups: sections.groups as u64,
+            ends_at: sections.starts_at + 4,
+            pilots_at: sections.pilots_at,
+            tags_at: sections.tags_at,
         })
     }
 

@@ -22,6 +22,7 @@ mod list;
 mod numbers;
 mod placing;
 mod searching;
+mod sections;
 mod thawing;
 mod trusted;
 
@@ -33,4 +34,5 @@ pub use header::Header;
 pub use iter::{FrozenPairs, FrozenStrings};
 pub use kind::Kind;
 pub use list::StringList;
+pub use sections::Sections;
 pub use trusted::TrustedFrozen;

@@ -1,5 +1,6 @@
 //! Lists of strings that can be frozen.
 ghost use Rattle.std.specs.Prelude.{◌≡◌, ◌<◌, ◌≤◌, ◌^◌, ℕ, List, length, map, slice_get, MatchOption, None, Some, IfSome};
+ghost use Rattle.intaglio_records.specs.Records.{strings_of};
 ghost use Rattle.intaglio_frozen.specs.IsFrozen.{AreTexts};
 ghost use Rattle.intaglio_frozen.specs.Fault.{IsNoText};
 ghost use Rattle.intaglio_frozen.specs.declared.kind.Kind.TheVariants.{Text};
@@ -27,11 +28,11 @@ pub trait StringList {
 }
 
 impl<K: intaglio_content::Kind> StringList for Packed<K> {
-    ghost strings = { λ list. list.list };
+    ghost strings = { λ list. strings_of list };
 
     #[inline(always)]
     fn len(&self) -> usize {
-        self.strings().len()
+        self.records().len()
     }
 
     #[inline(always)]

@@ -4,9 +4,10 @@ ghost use Rattle.intaglio_frozen.specs.Layout.{places_for as count_of_places, gr
 ghost use Rattle.intaglio_frozen.specs.Taken.{bit_of};
 ghost use Rattle.intaglio_frozen.specs.Pilots.{ArePilots, HavePlaces};
 ghost use Rattle.intaglio_frozen.specs.Grouped.{start_of, ArePaired, AreGrouped, IsOrder};
+ghost use Rattle.intaglio_frozen.specs.BySize.{IsBySize};
 
 use crate::bitmap::words_for;
-use crate::certifying::{are_by_size, are_grouped};
+use crate::certifying::are_grouped;
 use crate::grouping::{Hashed, by_groups, by_size};
 use crate::numbers::{NO_SYMBOL, groups_for, mixed, places_for, scaled};
 use crate::searching::find_pilot;
@@ -43,10 +44,11 @@ fn place_sorted(
 ) -> Result<Option<Sections>, AllocError>
     requires few { length hashes.now ≤ 2 ^ 31 }
     requires paired { ArePaired hashes.now grouped.now }
+    requires order { IsBySize ends.now order.now }
     ensures { IfOk result (λ found. MatchOption found (¬ HavePlaces hashes.now)
         (λ made. ArePilots hashes.now (λ g. get_or made.pilots.items g 0))) }
 {
-    if !are_grouped(hashes, grouped, ends) || !are_by_size(ends, order) {
+    if !are_grouped(hashes, grouped, ends) {
         // This is never so, but it isn't proved that it never is.
         return Err(AllocError);
     }

@@ -1,10 +1,11 @@
 //! Lines of an input as forms that are interned.
-ghost use Rattle.std.specs.Prelude.{◌≡◌, ℕ, List, [], ◌∷◌, ◌++◌, Bool, true, is_none, is_some, None, IfSome, IsUtf8};
+ghost use Rattle.std.specs.Prelude.{◌≡◌, ℕ, List, [], ◌∷◌, ◌++◌, Bool, true, is_none, is_ok, None, IfOk, IsUtf8};
 ghost use Rattle.std.proofs.lemmas.Str.{IsUtf8-nil};
 ghost use Rattle.std.proofs.Common.{refl};
 ghost use Rattle.intaglio_cstr.specs.Zeros.{first_zero};
 ghost use Rattle.intaglio_lines.specs.Cuts.{IsUtf8-parts};
 
+use crate::tool_error::Unfit;
 use bstr::BStr;
 use intaglio_bytes::b_str::BStrKind;
 use intaglio_bytes::bytes::BytesKind;
@@ -31,11 +32,11 @@ where
 
     ghost fits: { List ℕ → Bool };
 
-    /// The form whose spelling is the line, if the line fits. Nothing is copied.
-    fn from_line(line: &'a [u8]) -> Option<Self::Line>
+    /// The form whose spelling is the line, or why the line doesn't fit. Nothing is copied.
+    fn from_line(line: &'a [u8]) -> Result<Self::Line, Unfit>
         requires { allows line.now }
-        ensures spelling { IfSome result (λ form. Self.Line.form_spelling form ≡ line.now) }
-        ensures fits { is_some result ≡ fits line.now };
+        ensures spelling { IfOk result (λ form. Self.Line.form_spelling form ≡ line.now) }
+        ensures fits { is_ok result ≡ fits line.now };
 
     ghost allows_parts: { (line rest : List ℕ) → allows (line ++ 10 ∷ rest) → allows line × allows rest };
 
@@ -51,11 +52,11 @@ pub trait LineKind<'a>: Kind {
 
     ghost fits: { List ℕ → Bool };
 
-    /// The form whose spelling is the line, if the line fits. Nothing is copied.
-    fn line_of(line: &'a [u8]) -> Option<Self::Line>
+    /// The form whose spelling is the line, or why the line doesn't fit. Nothing is copied.
+    fn line_of(line: &'a [u8]) -> Result<Self::Line, Unfit>
         requires { allows line.now }
-        ensures spelling { IfSome result (λ form. Self.Line.spelled form ≡ line.now) }
-        ensures fits { is_some result ≡ fits line.now };
+        ensures spelling { IfOk result (λ form. Self.Line.spelled form ≡ line.now) }
+        ensures fits { is_ok result ≡ fits line.now };
 
     ghost allows_parts: { (line rest : List ℕ) → allows (line ++ 10 ∷ rest) → allows line × allows rest };
 
@@ -73,7 +74,7 @@ impl<'a, K: LineKind<'a> + KindOwned> FromLine<'a, Vec<ContentOf<K>>> for Conten
 
     ghost allows_nothing = { K.allows_nothing };
 
-    fn from_line(line: &'a [u8]) -> Option<K::Line> {
+    fn from_line(line: &'a [u8]) -> Result<K::Line, Unfit> {
         K::line_of(line)
     }
 }
@@ -89,7 +90,7 @@ impl<'a, K: LineKind<'a>> FromLine<'a, Packed<K>> for Spelling<K> {
 
     ghost allows_nothing = { K.allows_nothing };
 
-    fn from_line(line: &'a [u8]) -> Option<K::Line> {
+    fn from_line(line: &'a [u8]) -> Result<K::Line, Unfit> {
         K::line_of(line)
     }
 }
@@ -105,8 +106,8 @@ impl<'a, M> LineKind<'a> for Utf8<M> {
 
     ghost allows_nothing = { IsUtf8-nil };
 
-    fn line_of(line: &'a [u8]) -> Option<&'a str> {
-        Some(Utf8::<M>::form_of(line))
+    fn line_of(line: &'a [u8]) -> Result<&'a str, Unfit> {
+        Ok(Utf8::<M>::form_of(line))
     }
 }
 
@@ -121,8 +122,8 @@ impl<'a> LineKind<'a> for PathKind {
 
     ghost allows_nothing = { IsUtf8-nil };
 
-    fn line_of(line: &'a [u8]) -> Option<Path<'a>> {
-        Some(PathKind::form_of(line))
+    fn line_of(line: &'a [u8]) -> Result<Path<'a>, Unfit> {
+        Ok(PathKind::form_of(line))
     }
 }
 
@@ -137,8 +138,8 @@ impl<'a> LineKind<'a> for BytesKind {
 
     ghost allows_nothing = { tt };
 
-    fn line_of(line: &'a [u8]) -> Option<&'a [u8]> {
-        Some(line)
+    fn line_of(line: &'a [u8]) -> Result<&'a [u8], Unfit> {
+        Ok(line)
     }
 }
 
@@ -153,8 +154,8 @@ impl<'a> LineKind<'a> for BStrKind {
 
     ghost allows_nothing = { tt };
 
-    fn line_of(line: &'a [u8]) -> Option<BStr<'a>> {
-        Some(BStr::new(line))
+    fn line_of(line: &'a [u8]) -> Result<BStr<'a>, Unfit> {
+        Ok(BStr::new(line))
     }
 }
 
@@ -169,10 +170,10 @@ impl<'a> LineKind<'a> for CStrKind {
 
     ghost allows_nothing = { tt };
 
-    fn line_of(line: &'a [u8]) -> Option<Unended<'a>> {
+    fn line_of(line: &'a [u8]) -> Result<Unended<'a>, Unfit> {
         match first_zero(line) {
-            Some(_) => None,
-            None => Some(Unended { bytes: line }),
+            Some(_) => Err(Unfit::ZeroByte),
+            None => Ok(Unended { bytes: line }),
         }
     }
 }

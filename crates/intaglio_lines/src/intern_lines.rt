@@ -1,5 +1,5 @@
 //! Interns the lines of an input.
-ghost use Rattle.std.specs.Prelude.{◌≡◌, ◌+◌, ◌<◌, ◌≤◌, true, false, [], length, OnOk, IfOk, IfErr};
+ghost use Rattle.std.specs.Prelude.{◌≡◌, ◌+◌, ◌<◌, ◌≤◌, [], length, None, IsSome, OnOk, IfOk, IfErr};
 ghost use Rattle.intaglio_interner.specs.Issue.{issue};
 ghost use Rattle.intaglio_lines.specs.Lines.{lines_of};
 ghost use Rattle.intaglio_lines.specs.LineForms.{AllLinesFit, StartsWithForms, StartsUnfit};
@@ -9,18 +9,18 @@ ghost use Rattle.intaglio_lines.specs.declared.tool_error.ToolError.TheVariants.
 
 use crate::from_line::FromLine;
 use crate::lines::first_line;
-use crate::tool_error::ToolError;
+use crate::tool_error::{ToolError, Unfit};
 use intaglio_content::{Content, Store, Work};
 use intaglio_interner::{BaseInterner, GROUP, get_or_intern_all};
 use intaglio_symbol::Symbol;
 use std::alloc::{AllocError, Global};
 
-// Some lines as forms, the input after these lines, and whether the next line fits.
+// Some lines as forms, the input after these lines, and why the next line doesn't fit, if it doesn't.
 #[derive(Drop)]
 struct Group<'a, F> {
     forms: Vec<F>,
     rest: &'a [u8],
-    fits: bool,
+    unfit: Option<Unfit>,
 }
 
 /// Interns the lines of an input in order into an empty table, and returns their symbols. A line that equals
@@ -28,8 +28,8 @@ struct Group<'a, F> {
 ///
 /// # Errors
 ///
-/// `ZeroByte` for the first line that doesn't fit, `Overflow` if there are more distinct lines than the table
-/// can hold, `Memory` if an allocation failed.
+/// What the kind says of the first line that doesn't fit ([`Unfit::at`]), `Overflow` if there are more distinct
+/// lines than the table can hold, `Memory` if an allocation failed.
 pub fn intern_lines<'a, T: BaseInterner>(
     alloc: Global,
     table: &mut T,
@@ -56,8 +56,8 @@ where
         number += group.forms.len() as u64;
         let taken = get_or_intern_all(alloc, table, &group.forms, &mut Work::new())?;
         symbols.extend_from_slice(&taken)?;
-        if !group.fits {
-            return Err(ToolError::ZeroByte(number + 1));
+        if let Some(unfit) = group.unfit {
+            return Err(unfit.at(number + 1));
         }
         rest = group.rest;
     }
@@ -78,22 +78,22 @@ where
         (λ group. StartsWithForms C.Line.form_spelling group.forms.items group.rest.now input.now) }
     ensures fit { IfOk result
         (λ group. fit_count C.fits input.now ≡ length group.forms.items + fit_count C.fits group.rest.now) }
-    ensures zero { IfOk result (λ group. group.fits ≡ false → StartsUnfit C.fits group.rest.now) }
+    ensures zero { IfOk result (λ group. IsSome group.unfit → StartsUnfit C.fits group.rest.now) }
     ensures bytes { IfOk result
         (λ group. length group.forms.items + length group.rest.now ≤ length input.now) }
-    ensures shorter { IfOk result (λ group. group.fits ≡ true → length group.rest.now < length input.now) }
+    ensures shorter { IfOk result (λ group. group.unfit ≡ None → length group.rest.now < length input.now) }
 {
     let mut forms = Vec::with_capacity(alloc, GROUP)?;
     let mut rest = input;
     while forms.len() < GROUP && !rest.is_empty() {
         let (line, after) = first_line(rest);
         match C::from_line(line) {
-            Some(form) => forms.push_reserved(form),
-            None => {
+            Ok(form) => forms.push_reserved(form),
+            Err(unfit) => {
                 return Ok(Group {
                     forms,
                     rest,
-                    fits: false,
+                    unfit: Some(unfit),
                 });
             }
         }
@@ -102,6 +102,6 @@ where
     Ok(Group {
         forms,
         rest,
-        fits: true,
+        unfit: None,
     })
 }

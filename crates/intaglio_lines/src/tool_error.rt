@@ -1,12 +1,30 @@
 //! Errors of an encoding.
 ghost use Rattle.std.specs.Prelude.{◌≡◌};
 ghost use Rattle.intaglio_lines.specs.ToolError.{from_intern_error, from_stream_error};
-ghost use Rattle.intaglio_lines.specs.declared.tool_error.ToolError.TheVariants.{Memory};
+ghost use Rattle.intaglio_lines.specs.declared.tool_error.ToolError.TheVariants.{Memory, ZeroByte};
 
 use crate::error::StreamError;
 use intaglio_symbol::{InternError, RoomError};
 use std::alloc::{AllocError, AllocFailed};
 use thiserror::Error;
+
+/// Why a line doesn't fit a kind.
+#[derive(Clone, Copy, Debug, PartialEq, Eq)]
+pub enum Unfit {
+    /// It has a zero byte, which no C string has.
+    ZeroByte,
+}
+
+impl Unfit {
+    /// The error for such a line, by its number. Lines are counted from 1.
+    pub fn at(self, line: u64) -> ToolError
+        ensures { result ≡ ZeroByte line }
+    {
+        match self {
+            Unfit::ZeroByte => ToolError::ZeroByte(line),
+        }
+    }
+}
 
 /// Why a run failed.
 #[derive(Debug, Drop, Error)]

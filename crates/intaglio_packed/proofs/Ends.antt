@@ -93,6 +93,16 @@ sum-lengths at bytes (e ∷ es) h =
     let parts = sum_by-cons length (slice_range bytes at e) (strings_from e bytes es) in
     omega (arith, h.0, one, parts, within, sum-lengths e bytes es h.1)
 
+-- a string begins behind the lengths of those before it
+pub start-is : (at : ℕ) (bytes es : List ℕ) (i : ℕ) → AreEnds at (length bytes) es → i ≤ length es → get_or (at ∷ es) i 0 ≡ at + sum_by length (take i (strings_from at bytes es))
+start-is at bytes es zero h l = omega arith
+start-is at bytes [] (suc i) h l = absurd (omega (arith, l))
+start-is at bytes (e ∷ es) (suc i) h l =
+    let within = ends-within e (length bytes) es h.1 in
+    let one : length (slice_range bytes at e) ≡ e - at = length-take-le (e - at) (drop at bytes) (omega (arith, length-drop at bytes, within)) in
+    let parts = sum_by-cons length (slice_range bytes at e) (take i (strings_from e bytes es)) in
+    omega (arith, h.0, one, parts, start-is e bytes es i h.1 (omega (arith, l)))
+
 -- the room for bytes in total is the buffer's capacity
 pub byte_room-is : (capacity : ℕ) (bytes es : List ℕ) → AreEnds 0 (length bytes) es → length bytes ≤ capacity
     → sum_by length (strings_from 0 bytes es) + (capacity - length bytes) ≡ capacity

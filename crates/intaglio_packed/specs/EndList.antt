@@ -1,5 +1,5 @@
 -- What a contract sees of the ends of strings in one buffer.
-use Rattle.std.specs.Prelude.{ℕ, ◌-◌, ◌^◌, List, Bool, refl, if◌then◌else◌}
+use Rattle.std.specs.Prelude.{◌≡◌, ℕ, ◌-◌, ◌^◌, ◌<◌, List, ◌∷◌, drop, Bool, refl, if◌then◌else◌}
 use Rattle.std.specs.Coded.{Coded, code_by, coded×, coded_ℕ, coded_list}
 
 -- the ends, for how many there is room in total, and the largest number that an end can be
@@ -21,3 +21,7 @@ end_list_code =
 -- a long end is any number of a machine word, a short one any number below 2^32
 abbrev pub largest_end : Bool → ℕ
 largest_end long = if long then 2 ^ 64 - 1 else 2 ^ 32 - 1
+
+-- a list that has any room begins with this
+pub record BeginsWith {T : Type 0} (first : T) (room : ℕ) (items : List T) : Type 0 where
+  pub begins : 0 < room → items ≡ first ∷ drop 1 items

@@ -1,5 +1,5 @@
 -- How the room of a list grows.
-use Rattle.std.specs.Prelude.{◌≡◌, ◌≢◌, ◌⊎◌, ℕ, ◌-◌, ◌*◌, ◌^◌, ◌≤◌, max}
+use Rattle.std.specs.Prelude.{◌≡◌, ◌≢◌, ℕ, ◌*◌, ◌≤◌, max}
 
 -- the room of a list before and after a call that needs this much of it: what is enough stays, and a growth at least
 -- doubles it, so that items which are added one by one grow it rarely. It takes no more than that
@@ -7,7 +7,7 @@ pub record Doubles (needed old new : ℕ) : Type 0 where
   pub enough : needed ≤ old → new ≡ old
   pub grown : new ≢ old → new ≡ max 4 (max needed (2 * old))
 
--- the same of the room for bytes. One growth may end at 2^32 - 1, the most that short ends reach
+-- the same of the room for bytes, whose least is 8
 pub record DoublesBytes (needed old new : ℕ) : Type 0 where
   pub enough : needed ≤ old → new ≡ old
-  pub grown : new ≢ old → (new ≡ max 8 (max needed (2 * old))) ⊎ ((old ≤ new) × (new ≡ 2 ^ 32 - 1))
+  pub grown : new ≢ old → new ≡ max 8 (max needed (2 * old))

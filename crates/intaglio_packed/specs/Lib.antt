@@ -2,4 +2,3 @@
 pub mod Strings
 pub mod EndList
 pub mod Growth
-pub mod Buckets

@@ -1,5 +1,5 @@
 //! How the room of a list grows.
-ghost use Rattle.std.specs.Prelude.{◌≡◌, ◌+◌, ◌*◌, ◌<◌, ◌≤◌, length, max, vec_capacity, OnOk, OnErr, IsOk};
+ghost use Rattle.std.specs.Prelude.{◌≡◌, ◌+◌, ◌*◌, ◌<◌, ◌≤◌, length, max, vec_capacity, IfOk, OnOk, OnErr, IsOk};
 ghost use Rattle.intaglio_packed.specs.Growth.{Doubles};
 
 use std::alloc::AllocError;
@@ -38,9 +38,20 @@ fn double<T>(list: &mut Vec<T>, additional: usize) -> Result<(), AllocError>
         OnOk result (vec_capacity list.new ≡ max 4 (max needed (2 * vec_capacity list.old))) }
     ensures err { OnErr result (vec_capacity list.new ≡ vec_capacity list.old) }
 {
-    let Some(needed) = list.len().checked_add(additional) else {
+    let wanted = doubled(list.len(), list.capacity(), additional)?;
+    list.reserve_exact(wanted - list.len())
+}
+
+// The room that is made for so many more items than there are: at least twice as much as before. Fails where `usize`
+// overflows.
+pub(crate) fn doubled(len: usize, most: usize, additional: usize) -> Result<usize, AllocError>
+    ensures { IfOk result (λ n. n ≡ max 4 (max (len + additional) (2 * most))) }
+{
+    let Some(needed) = len.checked_add(additional) else {
         return Err(AllocError);
     };
-    let wanted = needed.max(2 * list.capacity()).max(LEAST);
-    list.reserve_exact(wanted - list.len())
+    let Some(twice) = most.checked_mul(2) else {
+        return Err(AllocError);
+    };
+    Ok(needed.max(twice).max(LEAST))
 }

@@ -2,15 +2,12 @@
 //!
 //! - [`StringBuffer`] is a list of strings: a string takes its bytes and four more ([`StringEnds`]; eight above
 //!   2^32 bytes), and no allocation of its own.
-//! - [`sparse_buckets`] is how many buckets an index over such strings has.
 #![tactic(auto)]
 
-mod buckets;
 mod end_list;
 mod growth;
 mod string_buffer;
 
-pub use buckets::sparse_buckets;
 pub use end_list::StringEnds;
 pub use growth::reserve_doubling;
 pub use string_buffer::StringBuffer;

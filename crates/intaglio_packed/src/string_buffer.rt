@@ -2,7 +2,7 @@
 ghost use Rattle.std.specs.Prelude.{◌≡◌, ◌+◌, ◌<◌, ◌≤◌, [], ◌∷◌, ◌++◌, length, max, min, sum_by, take, slice_get, slice_range, get_or, Some};
 ghost use Rattle.std.specs.Prelude.{IfOk, IsOk, OnOk, OnErr, option_copied};
 ghost use Rattle.std.specs.List.{concat};
-ghost use Rattle.intaglio_packed.specs.Growth.{Doubles, DoublesBytes};
+ghost use Rattle.intaglio_packed.specs.Growth.{Doubles};
 ghost use Rattle.intaglio_packed.specs.Strings.{byte_count_of, byte_room_of, HasRoom};
 
 use crate::end_list::StringEnds;
@@ -11,9 +11,6 @@ use std::marker::Model;
 
 // The most bytes that short ends reach.
 const SHORT_BYTES: usize = u32::MAX as usize;
-
-// The least room for bytes after a growth.
-const LEAST_BYTES: usize = 8;
 
 /// A list of strings of bytes. All bytes are in one buffer, so a string costs no allocation of its own.
 ///
@@ -143,10 +140,18 @@ impl StringBuffer {
         requires { i < length self.now.list }
         ensures { slice_get self.now.list i ≡ Some result.now }
     {
-        // Read before the choice in `start`: the compiler then makes a shorter loop of many calls.
         let end = self.ends.end(i);
         let start = self.ends.start(i);
         part(&self.bytes, start, end)
+    }
+
+    /// Where a string that is there begins in [`bytes`](StringBuffer::bytes).
+    #[inline(always)]
+    pub fn start(&self, i: usize) -> usize
+        requires { i < length self.now.list }
+        ensures { result ≡ sum_by length (take i self.now.list) }
+    {
+        self.ends.start(i)
     }
 
     /// The bytes of all strings, one string behind the other.
@@ -155,56 +160,6 @@ impl StringBuffer {
         ensures { result.now ≡ concat self.now.list }
     {
         self.bytes.as_slice()
-    }
-
-    /// Makes room for this many more bytes. If the buffer has to grow, its room at least doubles.
-    ///
-    /// # Errors
-    ///
-    /// [`AllocError`] if the allocation fails. Then nothing has changed.
-    pub fn reserve_bytes(&mut self, bytes: usize) -> Result<(), AllocError>
-        ensures list { self.new.list ≡ self.old.list }
-        ensures most { self.new.most ≡ self.old.most }
-        ensures spare_bytes { self.old.spare_bytes ≤ self.new.spare_bytes }
-        ensures bytes { OnOk result (bytes ≤ self.new.spare_bytes) }
-        ensures grows { let needed = byte_count_of self.old + bytes in
-            DoublesBytes needed (byte_room_of self.old) (byte_room_of self.new) }
-        ensures err { OnErr result (self.new.spare_bytes ≡ self.old.spare_bytes) }
-        ensures none_needed { bytes ≤ self.old.spare_bytes → IsOk result }
-    {
-        if bytes <= self.room - self.bytes.len() {
-            return Ok(());
-        }
-        self.grow_bytes(bytes)
-    }
-
-    // Makes room for more bytes than are spare. Apart from `reserve_bytes`, so that that is short.
-    #[cold]
-    #[inline(never)]
-    fn grow_bytes(&mut self, bytes: usize) -> Result<(), AllocError>
-        requires { self.old.spare_bytes < bytes }
-        ensures list { self.new.list ≡ self.old.list }
-        ensures most { self.new.most ≡ self.old.most }
-        ensures bytes { OnOk result (bytes ≤ self.new.spare_bytes) }
-        ensures grows { let needed = byte_count_of self.old + bytes in
-            DoublesBytes needed (byte_room_of self.old) (byte_room_of self.new) }
-        ensures err { OnErr result (self.new.spare_bytes ≡ self.old.spare_bytes) }
-    {
-        let Some(needed) = self.bytes.len().checked_add(bytes) else {
-            return Err(AllocError);
-        };
-        let doubled = needed.max(2 * self.room).max(LEAST_BYTES);
-        if needed > self.ends.largest() {
-            let long = self.ends.to_long(*self.bytes.allocator())?;
-            self.bytes.reserve_exact(doubled - self.bytes.len())?;
-            self.ends = long;
-            self.room = doubled;
-            return Ok(());
-        }
-        let room = doubled.min(self.ends.largest());
-        self.bytes.reserve_exact(room - self.bytes.len())?;
-        self.room = room;
-        Ok(())
     }
 
     /// Makes room for this many more bytes. If the buffer has to grow, its room is for just as many then.
@@ -253,18 +208,6 @@ impl StringBuffer {
         ensures none_needed { length self.old.list + strings ≤ self.old.most → IsOk result }
     {
         self.ends.reserve(strings)
-    }
-
-    /// Adds a string, for which there is room.
-    pub fn push_reserved(&mut self, string: &[u8])
-        requires { HasRoom (length string.now) self.old }
-        ensures list { self.new.list ≡ self.old.list ++ string.now ∷ [] }
-        ensures most { self.new.most ≡ self.old.most }
-        ensures spare_bytes { self.old.spare_bytes ≡ self.new.spare_bytes + length string.now }
-        ensures byte_room { byte_room_of self.new ≡ byte_room_of self.old }
-    {
-        self.bytes.extend_from_slice(string).unwrap();
-        self.ends.push_reserved(self.bytes.len());
     }
 
     /// Adds a string that comes in two parts, for which there is room.

@@ -1,28 +1,29 @@
 -- Entries of records.
-use Rattle.std.proofs.Common.{◌≡◌, ℕ, ◌+◌, ◌<◌, ◌≤◌, suc, zero, List, [], ◌∷◌, ◌++◌, length, take, map, get_or, slice_get, Some, min, sum_by, refl, sym, ap, ◌∙◌, arith, take_all}
+use Rattle.std.proofs.Common.{◌≡◌, ℕ, ◌+◌, ◌<◌, ◌≤◌, suc, zero, Bool, List, [], ◌∷◌, ◌++◌, length, take, map, get_or, slice_get, Some, min, sum_by, refl, sym, ap, ◌∙◌, arith, take_all}
 use Rattle.std.proofs.lemmas.List.{get_or-map, get_or-take, get_or_append_left, length-append, length-drop, length-map, length-take, take-append-le, take-take}
 use Rattle.std.proofs.lemmas.List.Sums.{sum_by-cons}
 use Rattle.std.proofs.lemmas.Option.{get_or_from_slice_get}
 use Rattle.std.proofs.Math.Seq.{get_or-append_seam}
 use Rattle.intaglio_records.specs.Header.{hash_at}
 use Rattle.intaglio_records.specs.Records.{pair_of}
-use Rattle.intaglio_records.specs.Entries.{entries, entries_of, position, size_of}
+use Rattle.intaglio_records.specs.Entries.{entries, entries_of, position, size_of, slot_of}
 use Rattle.intaglio_records.proofs.RecordLemmas.{AreLong}
 
 -- there are n entries of n records
-pub length-entries : (rs : List (List ℕ)) (n : ℕ) → length (entries rs n) ≡ n
-length-entries rs zero = refl
-length-entries rs (suc n) = ap suc (length-entries rs n)
+pub length-entries : (long : Bool) (rs : List (List ℕ)) (n : ℕ) → length (entries long rs n) ≡ n
+length-entries long rs zero = refl
+length-entries long rs (suc n) = ap suc (length-entries long rs n)
 
 -- the entry of record n, whose hash this is, in front of those before it
-pub entry-more : (rs : List (List ℕ)) (n hash : ℕ) (r : List ℕ) → slice_get rs n ≡ Some r → hash ≡ hash_at r 0
-    → entries rs (n + 1) ≡ (hash, position rs n) ∷ entries rs n
-entry-more rs n hash r is h =
+pub entry-more : (long : Bool) (rs : List (List ℕ)) (n hash : ℕ) (r : List ℕ) → slice_get rs n ≡ Some r
+    → hash ≡ hash_at r 0
+    → entries long rs (n + 1) ≡ (hash, slot_of long n (position rs n)) ∷ entries long rs n
+entry-more long rs n hash r is h =
     let e : n + 1 ≡ suc n = omega arith in
-    ap (entries rs) e ∙ ap (λ x. (
+    ap (entries long rs) e ∙ ap (λ x. (
       x,
-      position rs n,
-    ) ∷ entries rs n) (ap (λ x. hash_at x 0) (get_or_from_slice_get rs n r [] is) ∙ sym h)
+      slot_of long n (position rs n),
+    ) ∷ entries long rs n) (ap (λ x. hash_at x 0) (get_or_from_slice_get rs n r [] is) ∙ sym h)
 
 -- where the entries of strings and of their records say that these begin
 begins-same : (rs : List (List ℕ)) (n : ℕ) → AreLong rs → sum_by size_of (take n (map pair_of rs)) ≡ position rs n
@@ -40,25 +41,25 @@ begins-same (r ∷ rs) (suc n) long =
     )
 
 -- the entries of strings are those of their records
-pub entries-same : (rs : List (List ℕ)) (n : ℕ) → AreLong rs → n ≤ length rs
-    → entries_of (map pair_of rs) n ≡ entries rs n
-entries-same rs zero long l = refl
-entries-same rs (suc n) long l =
+pub entries-same : (is_long : Bool) (rs : List (List ℕ)) (n : ℕ) → AreLong rs → n ≤ length rs
+    → entries_of is_long (map pair_of rs) n ≡ entries is_long rs n
+entries-same is_long rs zero long l = refl
+entries-same is_long rs (suc n) long l =
     let within : n < length rs = omega (arith, l) in
     let hash : (get_or (map pair_of rs) n (0, [])).0 ≡ hash_at (get_or rs n []) 0 =
     ap (λ (p : ℕ × List ℕ). p.0) (get_or-map pair_of rs n [] (0, []) within) in
-    rw (hash, begins-same rs n long, entries-same rs n long (omega (arith, l))) refl
+    rw (hash, begins-same rs n long, entries-same is_long rs n long (omega (arith, l))) refl
 
 -- of the first n
-pub entries-first : (xs : List (ℕ × List ℕ)) (rs : List (List ℕ)) (n : ℕ) → map pair_of rs ≡ xs → AreLong rs
-    → n ≤ length rs → entries_of xs n ≡ entries rs n
-entries-first xs rs n same long l = rw (← same) (entries-same rs n long l)
+pub entries-first : (is_long : Bool) (xs : List (ℕ × List ℕ)) (rs : List (List ℕ)) (n : ℕ) → map pair_of rs ≡ xs
+    → AreLong rs → n ≤ length rs → entries_of is_long xs n ≡ entries is_long rs n
+entries-first is_long xs rs n same long l = rw (← same) (entries-same is_long rs n long l)
 
 -- and of all
-pub entries-all : (xs : List (ℕ × List ℕ)) (rs : List (List ℕ)) → map pair_of rs ≡ xs → AreLong rs
-    → entries_of xs (length xs) ≡ entries rs (length rs)
-entries-all xs rs same long =
-    rw (← same, length-map rs pair_of) (entries-same rs (length rs) long (omega arith))
+pub entries-all : (is_long : Bool) (xs : List (ℕ × List ℕ)) (rs : List (List ℕ)) → map pair_of rs ≡ xs → AreLong rs
+    → entries_of is_long xs (length xs) ≡ entries is_long rs (length rs)
+entries-all is_long xs rs same long =
+    rw (← same, length-map rs pair_of) (entries-same is_long rs (length rs) long (omega arith))
 
 -- the bytes of all records
 sizes-same : (rs : List (List ℕ)) → AreLong rs → sum_by size_of (map pair_of rs) ≡ sum_by length rs
@@ -79,44 +80,45 @@ pub sizes-all : (xs : List (ℕ × List ℕ)) (rs : List (List ℕ)) → map pai
 sizes-all xs rs same long = rw (← same) (sizes-same rs long)
 
 -- the entries of the first n strings stay when a string is added behind them
-pub entries-append : (xs : List (ℕ × List ℕ)) (x : ℕ × List ℕ) (n : ℕ) → n ≤ length xs
-    → entries_of (xs ++ x ∷ []) n ≡ entries_of xs n
-entries-append xs x zero l = refl
-entries-append xs x (suc n) l =
+pub entries-append : (long : Bool) (xs : List (ℕ × List ℕ)) (x : ℕ × List ℕ) (n : ℕ) → n ≤ length xs
+    → entries_of long (xs ++ x ∷ []) n ≡ entries_of long xs n
+entries-append long xs x zero l = refl
+entries-append long xs x (suc n) l =
     let within : n < length xs = omega arith in
     let before : n ≤ length xs = omega arith in
     rw (
       get_or_append_left xs (x ∷ []) (0, []) n within,
       take-append-le n xs (x ∷ []) before,
-      entries-append xs x n before,
+      entries-append long xs x n before,
     ) refl
 
 -- with that of the string that is added
-pub entries-push : (xs : List (ℕ × List ℕ)) (x : ℕ × List ℕ) (at : ℕ) → at ≡ sum_by size_of xs
-    → entries_of (xs ++ x ∷ []) (length (xs ++ x ∷ [])) ≡ (x.0, at) ∷ entries_of xs (length xs)
-entries-push xs x at a =
+pub entries-push : (long : Bool) (xs : List (ℕ × List ℕ)) (x : ℕ × List ℕ) (at : ℕ) → at ≡ sum_by size_of xs
+    → entries_of long (xs ++ x ∷ []) (length (xs ++ x ∷ [])) ≡ (x.0, slot_of long (length xs) at) ∷ entries_of long xs (length xs)
+entries-push long xs x at a =
     let n = length xs in
     let e : length (xs ++ x ∷ []) ≡ suc n = omega (arith, length-append xs (x ∷ [])) in
     let here : get_or (xs ++ x ∷ []) n (0, []) ≡ x = get_or-append_seam xs x [] (0, []) in
     let all : take n (xs ++ x ∷ []) ≡ xs = take-append-le n xs (x ∷ []) (omega arith)
     ∙ take_all n xs (omega arith) in
-    ap (entries_of (xs ++ x ∷ [])) e ∙ rw (here, all, a, entries-append xs x n (omega arith)) refl
+    ap (entries_of long (xs ++ x ∷ [])) e ∙ rw (here, all, a, entries-append long xs x n (omega arith)) refl
 
 -- and when strings behind them are dropped
-pub entries-take : (m : ℕ) (xs : List (ℕ × List ℕ)) (n : ℕ) → n ≤ m → entries_of (take m xs) n ≡ entries_of xs n
-entries-take m xs zero l = refl
-entries-take m xs (suc n) l =
+pub entries-take : (long : Bool) (m : ℕ) (xs : List (ℕ × List ℕ)) (n : ℕ) → n ≤ m
+    → entries_of long (take m xs) n ≡ entries_of long xs n
+entries-take long m xs zero l = refl
+entries-take long m xs (suc n) l =
     let within : n < m = omega arith in
     let before : n ≤ m = omega arith in
-    rw (get_or-take m xs n (0, []) within, take-take n m xs before, entries-take m xs n before) refl
+    rw (get_or-take m xs n (0, []) within, take-take n m xs before, entries-take long m xs n before) refl
 
 -- so the entries of the first m strings are the first m entries
-pub entries-cut : (m : ℕ) (xs : List (ℕ × List ℕ))
-    → entries_of (take m xs) (length (take m xs)) ≡ entries_of xs (min m (length xs))
-entries-cut m xs = ap (entries_of (take m xs)) (length-take m xs)
-    ∙ entries-take m xs (min m (length xs)) (omega arith)
+pub entries-cut : (long : Bool) (m : ℕ) (xs : List (ℕ × List ℕ))
+    → entries_of long (take m xs) (length (take m xs)) ≡ entries_of long xs (min m (length xs))
+entries-cut long m xs = ap (entries_of long (take m xs)) (length-take m xs)
+    ∙ entries-take long m xs (min m (length xs)) (omega arith)
 
 -- there is an entry for each
-pub length-entries_of : (xs : List (ℕ × List ℕ)) (n : ℕ) → length (entries_of xs n) ≡ n
-length-entries_of xs zero = refl
-length-entries_of xs (suc n) = ap suc (length-entries_of xs n)
+pub length-entries_of : (long : Bool) (xs : List (ℕ × List ℕ)) (n : ℕ) → length (entries_of long xs n) ≡ n
+length-entries_of long xs zero = refl
+length-entries_of long xs (suc n) = ap suc (length-entries_of long xs n)

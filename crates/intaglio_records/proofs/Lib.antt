@@ -3,3 +3,4 @@ pub mod RecordLemmas
 pub mod EntryLemmas
 pub mod Reading
 pub mod MatchLemmas
+pub mod IndexLemmas

@@ -1,5 +1,5 @@
 -- What is read of records among the bytes of all.
-use Rattle.std.proofs.Common.{◌≡◌, ℕ, ◌+◌, ◌-◌, ◌<◌, ◌≤◌, suc, zero, List, [], ◌∷◌, ◌++◌, length, min, take, drop, get_or, slice_range, sum_by, refl, sym, ap, ◌∙◌, arith, take_all}
+use Rattle.std.proofs.Common.{◌≡◌, ℕ, ◌+◌, ◌-◌, ◌%◌, ◌^◌, ◌<◌, ◌≤◌, suc, zero, List, [], ◌∷◌, ◌++◌, length, min, take, drop, get_or, slice_range, sum_by, refl, sym, ap, ◌∙◌, arith, take_all}
 use Rattle.std.specs.List.{concat}
 use Rattle.std.proofs.lemmas.List.{drop-append-le, drop-drop, drop_all, get_or_append_left, get_or-drop, length-append, length-drop, take-append-le}
 use Rattle.std.proofs.lemmas.List.Sums.{sum_by-cons, sum_by_more_le}
@@ -85,14 +85,15 @@ pub record There (rs : List (List ℕ)) (bytes : List ℕ) (at i : ℕ) : Type 0
   pub hash : hash_at bytes at ≡ hash_at (get_or rs i []) 0
 
 pub there : (rs : List (List ℕ)) (bytes : List ℕ) (at i : ℕ) → bytes ≡ concat rs → AreRecords rs
-    → i < length rs → at ≡ position rs i → There rs bytes at i
-there rs bytes at i all each l e =
+    → length rs ≤ 2 ^ 32 → i < length rs → at ≡ position rs i → There rs bytes at i
+there rs bytes at i all each few l e =
     let r = each i l in
+    let small : i % 2 ^ 32 ≡ i = omega (arith, few, l) in
     rw (all, e)
     (record {
       long = r.long;
       within = record-within rs i l;
       size = byte-at rs i 12 l (omega (arith, r.long)) ∙ r.length_is;
-      number = number-there rs i l r.long ∙ r.number_is;
+      number = number-there rs i l r.long ∙ r.number_is ∙ small;
       hash = hash-there rs i l r.long;
     })

@@ -1,5 +1,5 @@
 -- Lists of records.
-use Rattle.std.proofs.Common.{◌≡◌, ℕ, ◌+◌, ◌-◌, ◌*◌, ◌^◌, ◌<◌, ◌≤◌, suc, zero, List, [], ◌∷◌, ◌++◌, length, take, drop, map, get_or, slice_get, Some, option_map, min, sum_by, refl, sym, ap, ◌∙◌, subst, arith, inl, inr}
+use Rattle.std.proofs.Common.{◌≡◌, ℕ, ◌+◌, ◌-◌, ◌*◌, ◌%◌, ◌^◌, ◌<◌, ◌≤◌, suc, zero, List, [], ◌∷◌, ◌++◌, length, take, drop, map, get_or, slice_get, Some, option_map, min, sum_by, refl, sym, ap, ◌∙◌, subst, arith, inl, inr}
 use Rattle.std.specs.Prelude.{OnOk, OnErr, Result, Ok, Err, ◌⊎◌}
 use Rattle.std.proofs.lemmas.Bool.{cases_lt}
 use Rattle.std.proofs.lemmas.List.{get_or-take, get_or_append_left, length-append, length-drop, length-take}
@@ -76,11 +76,11 @@ pub made-hash : (hash number n : ℕ) (string : List ℕ) → hash < 2 ^ 64
 made-hash hash number n string small = from_le_bytes-to_le_bytes_8 hash small
 
 -- a header in front of its string makes a record
-pub record-made : (hash number : ℕ) (string : List ℕ) → number < 2 ^ 32
-    → IsRecord number (header_of hash number (length string) ++ string)
-record-made hash number string small = record {
+pub record-made : (hash number : ℕ) (string : List ℕ)
+    → IsRecord number (header_of hash (number % 2 ^ 32) (length string) ++ string)
+record-made hash number string = record {
   long = omega arith;
-  number_is = from_le_bytes-to_le_bytes_4 number small;
+  number_is = from_le_bytes-to_le_bytes_4 (number % 2 ^ 32) (omega arith);
   length_is = ap (λ n. min n 255) (omega arith);
 }
 

@@ -1,16 +1,24 @@
 -- What a search by a hash finds.
-use Rattle.std.specs.Prelude.{◌≡◌, ℕ, ◌<◌, ◌==◌, nat_lt, ◌&&◌, List, [], ◌∷◌, cond, length, get_or, map, Option, Some, MatchOption, sum_by, slice_get}
+use Rattle.std.specs.Prelude.{◌≡◌, ℕ, ◌^◌, ◌<◌, ◌≤◌, ◌==◌, Bool, nat_lt, ◌&&◌, List, [], ◌∷◌, cond, length, get_or, map, Option, Some, MatchOption, sum_by, slice_get}
 use Rattle.std.specs.List.{concat, All}
 use Rattle.std.specs.Borrow.{Bor}
 use Rattle.intaglio_slots.specs.Search as search
 use Rattle.intaglio_records.specs.declared.matches.Matches.{Matches}
 use Rattle.intaglio_records.specs.Header.{hash_at, number_at}
 use Rattle.intaglio_records.specs.Records.{pair_of, AreRecords}
-use Rattle.intaglio_records.specs.Entries.{position}
+use Rattle.intaglio_records.specs.Entries.{position, slot_of}
 
 -- a record begins at this byte
 abbrev pub IsPosition : List (List ℕ) → ℕ → Type 0
 IsPosition rs at = (i : ℕ) × (i < length rs) × (at ≡ position rs i)
+
+-- it is the slot of a record
+abbrev pub IsSlot : Bool → List (List ℕ) → ℕ → Type 0
+IsSlot is_long rs slot = (i : ℕ) × (i < length rs) × (slot ≡ slot_of is_long i (position rs i))
+
+-- where the record of a slot begins
+abbrev pub begin_of : Bool → List (List ℕ) → ℕ → ℕ
+begin_of is_long rs slot = cond is_long (position rs slot) slot
 
 -- the numbers of the records with this hash, of those that begin at these bytes
 abbrev pub numbers_with : ℕ → List ℕ → List ℕ → List ℕ
@@ -23,10 +31,12 @@ pub record IsLeft (xs : List (ℕ × List ℕ)) (hash : ℕ) (matches : Matches)
   pub slots : List ℕ
   pub slots_left : search.IsLeft matches.candidates slots
   pub each : AreRecords matches.records.now.list
-  pub begin : All (IsPosition matches.records.now.list) slots
+  pub few : length matches.records.now.list ≤ 2 ^ 32
+  pub each_slot : All (IsSlot matches.is_long matches.records.now.list) slots
   pub list : map pair_of matches.records.now.list ≡ xs
   pub hash_is : matches.hash ≡ hash
-  pub left_is : left ≡ numbers_with hash (concat matches.records.now.list) slots
+  pub left_is : left
+      ≡ numbers_with hash (concat matches.records.now.list) (map (begin_of matches.is_long matches.records.now.list) slots)
 
 -- no more strings than this are left: it falls with each one that a search gives, so a loop over them ends
 abbrev pub most_left : Matches → ℕ

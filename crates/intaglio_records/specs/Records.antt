@@ -1,5 +1,5 @@
 -- What a contract sees of strings with their hashes, and how they are kept.
-use Rattle.std.specs.Prelude.{◌≡◌, ◌≢◌, ◌⊎◌, ℕ, ◌+◌, ◌-◌, ◌*◌, ◌^◌, ◌<◌, ◌≤◌, List, [], length, get_or, drop, map, max, min, refl, sum_by}
+use Rattle.std.specs.Prelude.{◌≡◌, ◌≢◌, ℕ, ◌+◌, ◌-◌, ◌*◌, ◌%◌, ◌^◌, ◌<◌, ◌≤◌, List, [], length, get_or, drop, map, max, min, refl, sum_by}
 use Rattle.std.specs.Coded.{Coded, code_by, coded×, coded_ℕ, coded_list}
 use Rattle.intaglio_packed.specs.Strings.{Strings}
 use Rattle.intaglio_records.specs.Header.{hash_at, number_at}
@@ -41,24 +41,14 @@ string_room_of v = sum_by length (strings_of v) + v.spare_bytes
 abbrev pub record_room_of : Records → ℕ
 record_room_of v = 13 * v.most + string_room_of v
 
--- the most that the room for bytes of strings can be, as records take at most 2^32 - 1 bytes together
-abbrev pub largest_room : Records → ℕ
-largest_room v = 2 ^ 32 - 1 - 13 * v.most
-
--- the room for bytes before and after a call that needs this much of it: what is enough stays, and a growth at least
--- doubles it, or ends at the most that it can be
-pub record DoublesWithin (largest needed old new : ℕ) : Type 0 where
-  pub enough : needed ≤ old → new ≡ old
-  pub grown : new ≢ old → (new ≡ max 8 (max needed (2 * old))) ⊎ ((old ≤ new) × (new ≡ largest))
-
 -- the hash and the string of a record
 abbrev pub pair_of : List ℕ → ℕ × List ℕ
 pair_of r = (hash_at r 0, drop 13 r)
 
--- a record has its number and its length in front of the string
+-- a record has its number and its length in front of the string. A number of 2^32 or more doesn't fit, and is never read
 pub record IsRecord (number : ℕ) (r : List ℕ) : Type 0 where
   pub long : 13 ≤ length r
-  pub number_is : number_at r 0 ≡ number
+  pub number_is : number_at r 0 ≡ number % 2 ^ 32
   pub length_is : get_or r 12 0 ≡ min (length r - 13) 255
 
 abbrev pub AreRecords : List (List ℕ) → Type 0

@@ -1,9 +1,6 @@
 #![tactic(auto)]
 //! Strings with their hashes, as records in one buffer.
 //!
-//! This is to be the store of packed tables. They still use the buffer of `intaglio_packed`, and no crate uses
-//! this one.
-//!
 //! [`StringRecords`] is a list of strings, each with a hash. A *record* has the hash, the number of the string
 //! and its length in front of the string, so that all that a search by a hash compares is read in one place.
 //! [`RecordIndex`] is an index over such a list.

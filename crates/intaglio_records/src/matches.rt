@@ -1,8 +1,8 @@
 //! Searches by a hash.
-ghost use Rattle.std.specs.Prelude.{◌≡◌, ℕ, ◌+◌, ◌<◌, ◌≤◌, [], length, get_or, drop, slice_range, IfSome};
+ghost use Rattle.std.specs.Prelude.{◌≡◌, ℕ, ◌+◌, ◌^◌, ◌<◌, ◌≤◌, [], length, get_or, drop, slice_range, IfSome};
 ghost use Rattle.intaglio_records.specs.Records.{AreRecords};
 ghost use Rattle.intaglio_records.specs.Entries.{position};
-ghost use Rattle.intaglio_records.specs.Matches.{IsPosition, IsSearch, GivesMatch, most_left};
+ghost use Rattle.intaglio_records.specs.Matches.{IsPosition, IsSlot, IsSearch, GivesMatch, begin_of, most_left};
 
 use crate::header::{HEADER, LONG, read_hash, read_number};
 use intaglio_packed::StringBuffer;
@@ -14,6 +14,8 @@ pub struct Matches<'a> {
     pub(crate) records: &'a StringBuffer,
     pub(crate) candidates: Candidates<'a>,
     pub(crate) hash: u64,
+    // Whether a slot is the number of the record, and not where it begins.
+    pub(crate) is_long: bool,
 }
 
 impl<'a> Matches<'a> {
@@ -26,7 +28,7 @@ impl<'a> Matches<'a> {
         ensures fewer { IfSome result (λ _. most_left self.new < most_left self.old) }
     {
         while let Some(slot) = self.candidates.next() {
-            let at = slot as usize;
+            let at = begin(self.records, self.is_long, slot);
             let bytes = self.records.bytes();
             if read_hash(bytes, at) == self.hash {
                 return Some((read_number(bytes, at), string_at(self.records, at)));
@@ -36,11 +38,34 @@ impl<'a> Matches<'a> {
     }
 }
 
+// Where the record of a slot begins.
+#[inline(always)]
+fn begin(records: &StringBuffer, is_long: bool, slot: u32) -> usize
+    requires { IsSlot is_long records.now.list slot }
+    ensures { result ≡ begin_of is_long records.now.list slot }
+{
+    if is_long {
+        return long_begin(records, slot as usize);
+    }
+    slot as usize
+}
+
+// Where a record begins, by its number. Apart, so that the code of short indexes is short.
+#[cold]
+#[inline(never)]
+fn long_begin(records: &StringBuffer, number: usize) -> usize
+    requires { number < length records.now.list }
+    ensures { result ≡ position records.now.list number }
+{
+    records.start(number)
+}
+
 // The string of the record that begins at this byte.
 #[inline(always)]
 fn string_at(records: &StringBuffer, at: usize) -> &[u8]
     requires begins { IsPosition records.now.list at }
     requires each { AreRecords records.now.list }
+    requires few { length records.now.list ≤ 2 ^ 32 }
     ensures { (i : ℕ) → i < length records.now.list → at ≡ position records.now.list i →
         result.now ≡ drop 13 (get_or records.now.list i []) }
 {

@@ -1,18 +1,18 @@
 //! A list of strings with their hashes.
-ghost use Rattle.std.specs.Prelude.{◌≡◌, ◌+◌, ◌-◌, ◌*◌, ◌^◌, ◌<◌, ◌≤◌, [], ◌∷◌, ◌++◌, length, map, max, min, sum_by, take, slice_get, Some};
-ghost use Rattle.std.specs.Prelude.{IfOk, IsOk, OnOk, OnErr, option_copied};
-ghost use Rattle.intaglio_packed.specs.Growth.{Doubles};
+ghost use Rattle.std.specs.Prelude.{◌≡◌, ℕ, ◌+◌, ◌-◌, ◌*◌, ◌^◌, ◌<◌, ◌≤◌, ◌↔◌, [], ◌∷◌, ◌++◌, length, map, max, min, sum_by};
+ghost use Rattle.std.specs.Prelude.{take, slice_get, Some, IfOk, IsOk, IsTrue, OnOk, OnErr, option_copied};
+ghost use Rattle.intaglio_packed.specs.Growth.{Doubles, DoublesBytes};
 ghost use Rattle.intaglio_packed.specs.Strings.{byte_room_of};
-ghost use Rattle.intaglio_records.specs.Records.{AreRecords, DoublesWithin, HasRoom};
-ghost use Rattle.intaglio_records.specs.Records.{hashes_of, largest_room, pair_of, record_room_of, string_room_of, strings_of};
+ghost use Rattle.intaglio_records.specs.Records.{AreRecords, HasRoom};
+ghost use Rattle.intaglio_records.specs.Records.{hashes_of, pair_of, record_room_of, string_room_of, strings_of};
 
 use crate::header::{HEADER, header, read_hash};
 use intaglio_packed::StringBuffer;
 use std::alloc::{AllocError, Global};
 use std::marker::Model;
 
-// The most bytes that all records take together.
-const LARGEST: usize = u32::MAX as usize;
+// The most room for which four bytes reach the beginning of each record.
+const SHORT: usize = u32::MAX as usize;
 
 // The least room for strings after a growth.
 const LEAST: usize = 4;
@@ -21,7 +21,7 @@ const LEAST: usize = 4;
 const LEAST_BYTES: usize = 8;
 
 /// A list of strings of bytes, each with a hash. All are in one buffer, so a string costs no allocation of its
-/// own. It takes its bytes and 17 more, and all records take at most 2^32 - 1 bytes.
+/// own. It takes its bytes and 17 more, or 21 once there is room for more than 2^32 - 1 bytes of records.
 ///
 /// A contract sees the list of pairs of a hash and a string, for how many strings there is room, and the room for
 /// bytes of further strings, without those in front of a string. [`RecordIndex`](crate::RecordIndex) finds a string
@@ -51,37 +51,47 @@ impl Model for StringRecords {
       each : AreRecords r.records.list;
       order : length r.records.list ≤ r.records.most;
       headers : set_aside r.records ≤ r.records.spare_bytes;
-      small : byte_room_of r.records ≤ 2 ^ 32 - 1;
+      small : byte_room_of r.records ≤ 2 ^ 64 - 1;
     } };
 }
 
-// How many bytes so many records take, whose strings have so many bytes together. Fails beyond the most that all
-// records take.
+// How many bytes so many records take, whose strings have so many bytes together. Fails where `usize` overflows.
 fn record_bytes(strings: usize, bytes: usize) -> Result<usize, AllocError>
     ensures sum { IfOk result (λ n. n ≡ 13 * strings + bytes) }
-    ensures small { IfOk result (λ n. n ≤ 2 ^ 32 - 1) }
-    ensures within { 13 * strings + bytes ≤ 2 ^ 32 - 1 → IsOk result }
+    ensures within { 13 * strings + bytes < 2 ^ 64 → IsOk result }
 {
-    if strings > LARGEST || bytes > LARGEST {
+    let Some(headers) = strings.checked_mul(HEADER) else {
         return Err(AllocError);
-    }
-    let needed = HEADER * strings + bytes;
-    if needed > LARGEST {
+    };
+    let Some(needed) = headers.checked_add(bytes) else {
         return Err(AllocError);
-    }
+    };
     Ok(needed)
 }
 
-// The room for strings that is made for so many more: at least twice as much.
-fn doubled(len: usize, capacity: usize, strings: usize) -> Result<usize, AllocError>
-    requires order { len ≤ capacity }
-    requires small { capacity ≤ 2 ^ 32 }
-    ensures { IfOk result (λ n. n ≡ max 4 (max (len + strings) (2 * capacity))) }
+// Whether so many records, whose strings have so many bytes together, take at most what four bytes reach.
+fn is_short_room(strings: usize, bytes: usize) -> bool
+    ensures { IsTrue result ↔ 13 * strings + bytes ≤ 2 ^ 32 - 1 }
 {
-    if strings > LARGEST {
-        return Err(AllocError);
+    match record_bytes(strings, bytes) {
+        Ok(needed) => needed <= SHORT,
+        Err(_) => false,
     }
-    Ok((len + strings).max(2 * capacity).max(LEAST))
+}
+
+// The room that is made for so many more than are used: at least twice as much as before, and at least so much. Fails
+// where `usize` overflows.
+fn doubled(used: usize, room: usize, more: usize, least: usize) -> Result<usize, AllocError>
+    ensures room { IfOk result (λ n. n ≡ max least (max (used + more) (2 * room))) }
+    ensures within { used + more < 2 ^ 64 → 2 * room < 2 ^ 64 → IsOk result }
+{
+    let Some(needed) = used.checked_add(more) else {
+        return Err(AllocError);
+    };
+    let Some(twice) = room.checked_mul(2) else {
+        return Err(AllocError);
+    };
+    Ok(needed.max(twice).max(least))
 }
 
 impl StringRecords {
@@ -99,7 +109,7 @@ impl StringRecords {
     ///
     /// # Errors
     ///
-    /// [`AllocError`] if an allocation fails, or if the records would take more than 2^32 - 1 bytes.
+    /// [`AllocError`] if an allocation fails.
     pub fn with_capacity(
         alloc: Global,
         strings: usize,
@@ -124,7 +134,7 @@ impl StringRecords {
     pub(crate) fn buffer(&self) -> &StringBuffer
         ensures list { map pair_of result.now.list ≡ self.now.list }
         ensures each { AreRecords result.now.list }
-        ensures small { byte_room_of result.now ≤ 2 ^ 32 - 1 }
+        ensures room { byte_room_of result.now ≡ record_room_of self.now }
     {
         &self.records
     }
@@ -137,12 +147,11 @@ impl StringRecords {
         self.records.len()
     }
 
-    /// How many strings there is room for in total. Each takes 13 bytes of the 2^32 - 1 that records take at most.
+    /// How many strings there is room for in total.
     #[inline]
     pub fn capacity(&self) -> usize
         ensures room { result ≡ self.now.most }
         ensures within { length self.now.list ≤ result }
-        ensures few { 13 * result ≤ 2 ^ 32 - 1 }
     {
         self.records.capacity()
     }
@@ -175,6 +184,55 @@ impl StringRecords {
         ensures { result ≡ 13 * (self.now.most - length self.now.list) }
     {
         HEADER * (self.records.capacity() - self.records.len())
+    }
+
+    // How many bytes of strings there is room for in total.
+    fn string_room(&self) -> usize
+        ensures { result ≡ string_room_of self.now }
+    {
+        self.records.byte_room() - HEADER * self.records.capacity()
+    }
+
+    /// Whether the records are short: all that there is room for take at most 2^32 - 1 bytes. Then four bytes reach
+    /// the beginning of each.
+    #[inline]
+    pub fn is_short(&self) -> bool
+        ensures { IsTrue result ↔ record_room_of self.now ≤ 2 ^ 32 - 1 }
+    {
+        self.records.byte_room() <= SHORT
+    }
+
+    /// Whether the records are short ([`is_short`](StringRecords::is_short)), and stay so with room for this many more
+    /// strings, made by [`reserve_strings`](StringRecords::reserve_strings).
+    #[inline]
+    pub fn stays_short(&self, strings: usize) -> bool
+        ensures stays { IsTrue result →
+            (most : ℕ) → Doubles (length self.now.list + strings) self.now.most most →
+            13 * most + string_room_of self.now ≤ 2 ^ 32 - 1 }
+        ensures enough { length self.now.list + strings ≤ self.now.most →
+            record_room_of self.now ≤ 2 ^ 32 - 1 → IsTrue result }
+        ensures grown { let needed = length self.now.list + strings in
+            13 * max 4 (max needed (2 * self.now.most)) + string_room_of self.now ≤ 2 ^ 32 - 1 →
+            IsTrue result }
+    {
+        if strings <= self.capacity() - self.len() {
+            return self.is_short();
+        }
+        self.grows_short(strings)
+    }
+
+    // Whether the records stay short if the room for strings has to grow.
+    #[cold]
+    #[inline(never)]
+    fn grows_short(&self, strings: usize) -> bool
+        ensures { let needed = length self.now.list + strings in
+            IsTrue result ↔
+            13 * max 4 (max needed (2 * self.now.most)) + string_room_of self.now ≤ 2 ^ 32 - 1 }
+    {
+        match doubled(self.len(), self.capacity(), strings, LEAST) {
+            Ok(most) => is_short_room(most, self.string_room()),
+            Err(_) => false,
+        }
     }
 
     /// A string.
@@ -211,8 +269,7 @@ impl StringRecords {
     ///
     /// # Errors
     ///
-    /// [`AllocError`] if an allocation fails, or if the records would take more than 2^32 - 1 bytes. Then there is
-    /// as much room as before.
+    /// [`AllocError`] if an allocation fails. Then there is as much room as before.
     #[inline]
     pub fn reserve_strings(&mut self, strings: usize) -> Result<(), AllocError>
         ensures list { self.new.list ≡ self.old.list }
@@ -239,12 +296,13 @@ impl StringRecords {
             OnOk result (self.new.most ≡ max 4 (max needed (2 * self.old.most))) }
         ensures err { OnErr result (self.new.most ≡ self.old.most) }
     {
-        let most = doubled(self.records.len(), self.records.capacity(), strings)?;
+        let most = doubled(self.records.len(), self.records.capacity(), strings, LEAST)?;
         let needed = record_bytes(most - self.records.len(), self.spare_bytes())?;
-        if needed > LARGEST - self.records.byte_count() {
+        let used = self.records.byte_count();
+        if needed > usize::MAX - used {
             return Err(AllocError);
         }
-        let spare = self.records.byte_room() - self.records.byte_count();
+        let spare = self.records.byte_room() - used;
         self.records.reserve_exact(needed)?;
         let reserved = self.records.reserve_strings(strings);
         if reserved.is_err() {
@@ -254,13 +312,11 @@ impl StringRecords {
         reserved
     }
 
-    /// Makes room for this many more bytes of strings. If the room has to grow, it at least doubles, or becomes the
-    /// most that records take.
+    /// Makes room for this many more bytes of strings. If the room has to grow, it at least doubles.
     ///
     /// # Errors
     ///
-    /// [`AllocError`] if the allocation fails, or if the records would take more than 2^32 - 1 bytes. Then nothing
-    /// has changed.
+    /// [`AllocError`] if the allocation fails. Then nothing has changed.
     #[inline]
     pub fn reserve_bytes(&mut self, bytes: usize) -> Result<(), AllocError>
         ensures list { self.new.list ≡ self.old.list }
@@ -268,7 +324,7 @@ impl StringRecords {
         ensures spare_bytes { self.old.spare_bytes ≤ self.new.spare_bytes }
         ensures bytes { OnOk result (bytes ≤ self.new.spare_bytes) }
         ensures grows { let needed = sum_by length (strings_of self.old) + bytes in
-            DoublesWithin (largest_room self.old) needed (string_room_of self.old) (string_room_of self.new) }
+            DoublesBytes needed (string_room_of self.old) (string_room_of self.new) }
         ensures err { OnErr result (self.new.spare_bytes ≡ self.old.spare_bytes) }
         ensures none_needed { bytes ≤ self.old.spare_bytes → IsOk result }
     {
@@ -287,18 +343,13 @@ impl StringRecords {
         ensures most { self.new.most ≡ self.old.most }
         ensures bytes { OnOk result (bytes ≤ self.new.spare_bytes) }
         ensures grows { let needed = sum_by length (strings_of self.old) + bytes in
-            DoublesWithin (largest_room self.old) needed (string_room_of self.old) (string_room_of self.new) }
+            DoublesBytes needed (string_room_of self.old) (string_room_of self.new) }
         ensures err { OnErr result (self.new.spare_bytes ≡ self.old.spare_bytes) }
     {
-        let used = self.byte_count();
-        let largest = LARGEST - HEADER * self.records.capacity();
-        if bytes > largest - used {
-            return Err(AllocError);
-        }
-        let doubled = 2 * (used + self.spare_bytes());
-        let room = (used + bytes).max(doubled).max(LEAST_BYTES).min(largest);
-        let needed = room - used + self.set_aside();
-        self.records.reserve_exact(needed)
+        let room = doubled(self.byte_count(), self.string_room(), bytes, LEAST_BYTES)?;
+        let needed = record_bytes(self.records.capacity(), room)?;
+        let used = self.records.byte_count();
+        self.records.reserve_exact(needed - used)
     }
 
     /// Shrinks the room to `min_capacity` strings, or to those that there are if they are more, and the room
@@ -326,6 +377,18 @@ impl StringRecords {
         shrunk
     }
 
+    /// Shrinks the room for further bytes of strings to this many, if it is more. A failed allocation isn't
+    /// reported, and leaves more memory held.
+    pub fn shrink_spare(&mut self, spare: usize)
+        ensures list { self.new.list ≡ self.old.list }
+        ensures most { self.new.most ≡ self.old.most }
+        ensures spare_bytes { self.new.spare_bytes ≡ min spare self.old.spare_bytes }
+        ensures no_more_held { self.new.held_bytes ≤ self.old.held_bytes }
+    {
+        let kept = self.set_aside() + spare.min(self.spare_bytes());
+        let _ = self.records.shrink_bytes(kept);
+    }
+
     /// Adds a string with its hash, for which there is room.
     #[inline(always)]
     pub fn push_hashed(&mut self, hash: u64, string: &[u8])
@@ -333,8 +396,10 @@ impl StringRecords {
         ensures list { self.new.list ≡ self.old.list ++ (hash, string.now) ∷ [] }
         ensures most { self.new.most ≡ self.old.most }
         ensures spare_bytes { self.old.spare_bytes ≡ self.new.spare_bytes + length string.now }
+        ensures room { record_room_of self.new ≡ record_room_of self.old }
     {
-        let number = self.records.len() as u32;
+        // Beyond 2^32 strings there is no index, so no number is read.
+        let number = (self.records.len() % (1 << 32)) as u32;
         let header = header(hash, number, string.len());
         self.records.push_parts(&header, string);
     }

@@ -54,17 +54,10 @@ module _ {C Q : Type 0} (takes : C → ℕ) (needs : Q → ℕ) where
   list-within old next ShrinkToFit keep grows differ = absurd keep
   list-within old next _ keep grows differ = absurd (differ grows.0)
 
-  -- room for bytes that changes at least doubles, or ends at the most that short ends reach
-  abbrev TwiceOrEnd : ℕ → ℕ → Type 0
-  TwiceOrEnd old new = (2 * max 1 old ≤ max 1 new) ⊎ ((old ≤ new) × (new ≡ 2 ^ 32 - 1))
-
+  -- room for bytes that changes at least doubles
   bytes-double : (old next : Room C) (call : Call Q) → KeepsRoom call → CallGrows takes needs old call next → bytes_of takes next ≢ bytes_of takes old
-      → TwiceOrEnd (bytes_of takes old) (bytes_of takes next)
-  bytes-double old next (Intern q) keep grows differ =
-      elim (grows.1.grown differ) [
-        | inl more ↦ inl (omega (arith, more))
-        | inr end ↦ inr end
-      ]
+      → 2 * max 1 (bytes_of takes old) ≤ max 1 (bytes_of takes next)
+  bytes-double old next (Intern q) keep grows differ = let grown = grows.1.grown differ in omega (arith, grown)
   bytes-double old next (ShrinkTo n) keep grows differ = absurd keep
   bytes-double old next ShrinkToFit keep grows differ = absurd keep
   bytes-double old next _ keep grows differ = absurd (differ grows.1)
@@ -84,41 +77,20 @@ module _ {C Q : Type 0} (takes : C → ℕ) (needs : Q → ℕ) where
         ]
     list-growths old _ _ g h new keep run = absurd run
 
-    -- the room for bytes too, but for a growth that ends at the most that short ends reach: there is no other before it
-    -- has passed that
-    abbrev Doubled : ℕ → ℕ → ℕ → Type 0
-    Doubled h old new = (2 ^ h * max 1 old ≤ 2 * max 1 new) × (2 ^ 32 - 1 ≤ old → 2 ^ h * max 1 old ≤ max 1 new)
-
-    once-more : (h j old next new : ℕ) → h ≡ suc j → next ≢ old → TwiceOrEnd old next → Doubled j next new → Doubled h old new
-    once-more h j old next new count differ (inl twice) rest =
-        rw count (twice-more j (max 1 old) (max 1 next) (2 * max 1 new) twice rest.0, λ far. twice-more j (max 1 old) (max 1 next) (max 1 new) twice (rest.1 (omega (arith, twice))))
-    once-more h j old next new count differ (inr end) rest =
-        let far : 2 ^ j * max 1 next ≤ max 1 new = rest.1 (omega (arith, end.1)) in
-        let order : 2 ^ j * (2 * max 1 next) ≡ 2 * (2 ^ j * max 1 next) = sym (mul_assoc (2 ^ j) 2 (max 1 next)) ∙ ap (λ n. n * max 1 next) (mul_comm (2 ^ j) 2) ∙ mul_assoc 2 (2 ^ j) (max 1 next) in
-        let doubled : 2 ^ j * (2 * max 1 next) ≤ 2 * max 1 new = omega (arith, far, order) in
-        rw count (
-          twice-more j (max 1 old) (2 * max 1 next) (2 * max 1 new) (omega (arith, end)) doubled,
-          λ past. absurd (differ (omega (arith, end, past))),
-        )
-
-    bytes-doubled : (old : Room C) (calls : List (Call Q)) (replies : List Reply) (g h : ℕ) (new : Room C) → All KeepsRoom calls → RunsGrowing takes needs IsStep old calls replies g h new
-        → Doubled h (bytes_of takes old) (bytes_of takes new)
-    bytes-doubled old [] [] g h new keep run = rw (run.1, run.2) (omega arith, λ far. omega arith)
-    bytes-doubled old (call ∷ calls) (r ∷ replies) g h new keep run =
-        let rest = bytes-doubled run.0 calls replies run.1 run.2 new (λ k d lt. keep (suc k) d (omega arith)) run.7 in
+    -- the room for bytes too
+    pub byte-growths : (old : Room C) (calls : List (Call Q)) (replies : List Reply) (g h : ℕ) (new : Room C) → All KeepsRoom calls → RunsGrowing takes needs IsStep old calls replies g h new
+        → 2 ^ h * max 1 (bytes_of takes old) ≤ max 1 (bytes_of takes new)
+    byte-growths old [] [] g h new keep run = rw (run.1, run.2) (omega arith)
+    byte-growths old (call ∷ calls) (r ∷ replies) g h new keep run =
+        let rest = byte-growths run.0 calls replies run.1 run.2 new (λ k d lt. keep (suc k) d (omega arith)) run.7 in
         elim (cases_eq (bytes_of takes run.0) (bytes_of takes old)) [
           | inl same ↦
-              let count : h ≡ run.2 = omega (arith, run.4, changes-none (bytes_of takes old) (bytes_of takes run.0) same) in
-              rw count (rw same at rest)
+              no-more h run.2 (max 1 (bytes_of takes old)) (max 1 (bytes_of takes run.0)) (max 1 (bytes_of takes new)) (omega (arith, run.4, changes-none (bytes_of takes old) (bytes_of takes run.0) same)) (ap (max 1) same) rest
           | inr differ ↦
-              once-more h run.2 (bytes_of takes old) (bytes_of takes run.0) (bytes_of takes new) (omega (arith, run.4, changes-once (bytes_of takes old) (bytes_of takes run.0) differ)) differ
-              (bytes-double old run.0 call (keep 0 call (omega arith)) run.6 differ) rest
+              let count : h ≡ suc run.2 = omega (arith, run.4, changes-once (bytes_of takes old) (bytes_of takes run.0) differ) in
+              rw count (twice-more run.2 (max 1 (bytes_of takes old)) (max 1 (bytes_of takes run.0)) (max 1 (bytes_of takes new)) (bytes-double old run.0 call (keep 0 call (omega arith)) run.6 differ) rest)
         ]
-    bytes-doubled old _ _ g h new keep run = absurd run
-
-    pub byte-growths : (old : Room C) (calls : List (Call Q)) (replies : List Reply) (g h : ℕ) (new : Room C) → All KeepsRoom calls → RunsGrowing takes needs IsStep old calls replies g h new
-        → 2 ^ h * max 1 (bytes_of takes old) ≤ 2 * max 1 (bytes_of takes new)
-    byte-growths old calls replies g h new keep run = (bytes-doubled old calls replies g h new keep run).0
+    byte-growths old _ _ g h new keep run = absurd run
 
     -- one call more
     pub growing-push : (old : Room C) (calls : List (Call Q)) (replies : List Reply) (g h : ℕ) (mid : Room C) (call : Call Q) (r : Reply) (new : Room C)

@@ -44,8 +44,8 @@ module _ {C Q : Type 0} (takes : C → ℕ) (needs : Q → ℕ) where
       × IsStep old.state call reply next.state × CallGrows old call next × RunsGrowing IsStep next calls replies i j new
   RunsGrowing IsStep old _ _ g h new = ⊥
 
-  -- the room for contents changed g times, and the room for bytes h times. Without a shrink they doubled as often, but
-  -- for one growth of the room for bytes. After internings and look-ups alone there is room for at most twice as many
+  -- the room for contents changed g times, and the room for bytes h times. Without a shrink they doubled as often.
+  -- After internings and look-ups alone there is room for at most twice as many
   -- contents as there are, or 4, or for as many as before. So the room for n contents grew O(log n) times
   pub record GrowsSeldom (IsStep : State C → Call Q → Reply → State C → Type 0) (old : Room C) (calls : List (Call Q)) (replies : List Reply) (new : Room C) : Type 0 where
     pub g : ℕ
@@ -53,4 +53,4 @@ module _ {C Q : Type 0} (takes : C → ℕ) (needs : Q → ℕ) where
     pub growths : RunsGrowing IsStep old calls replies g h new
     pub list : All KeepsRoom calls → 2 ^ g * max 1 old.most ≤ max 1 new.most
     pub few : All KeepsContents calls → new.most ≤ max old.most (max 4 (2 * length new.state.contents))
-    pub bytes : All KeepsRoom calls → 2 ^ h * max 1 (bytes_of takes old) ≤ 2 * max 1 (bytes_of takes new)
+    pub bytes : All KeepsRoom calls → 2 ^ h * max 1 (bytes_of takes old) ≤ max 1 (bytes_of takes new)

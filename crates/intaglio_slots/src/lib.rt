@@ -1,7 +1,7 @@
 #![tactic(auto)]
 //! Numbers of four bytes, found by hashes, in lines of 64 bytes.
 //!
-//! This is to be the index of packed tables. They still use that of `intaglio_index`, and no crate uses this one.
+//! `RecordIndex` of `intaglio_records`, the index of packed tables, is made of them.
 //!
 //! [`Lines`] is an index for a list that stores the hash of each item itself. It finds the items that may have
 //! a hash by their *tags*, eight bits of their hashes, and the list says which of them have it. An entry takes

@@ -4,6 +4,7 @@ use intaglio_column_file::{
     begins_as_column, column_bytes, header_bytes,
 };
 use intaglio_symbol::Symbol;
+use std::alloc::AllocError;
 use std::process::Abort;
 
 // The column of the codes 0, 2, 2, missing, 1 under the dictionary of `abc`, the empty string and `xy`, as
@@ -274,4 +275,16 @@ fn a_dictionary_has_the_hashes_that_another_writer_has(rt: HostRuntime) {
     let text = DictionaryId::of(true, 3, &ends, b"abcxy");
     assert_eq!(&rt; text.hash0, 14_495_310_751_434_826_559);
     assert_eq!(&rt; text.hash1, 2_988_094_485_908_791_214);
+}
+
+#[test]
+fn shards_have_the_id_of_one_dictionary(rt: HostRuntime) -> Result<(), AllocError> {
+    let (mut first, mut second) = (Vec::new(rt.alloc()), Vec::new(rt.alloc()));
+    let none: Vec<&[u8]> = Vec::new(rt.alloc());
+    first.push(b"abc".as_slice())?;
+    second.push(b"".as_slice())?;
+    second.push(b"xy".as_slice())?;
+    let lists = [none, first, second];
+    assert!(&rt; DictionaryId::of_lists(false, 3, &lists) == ID);
+    Ok(())
 }

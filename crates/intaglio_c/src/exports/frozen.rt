@@ -1,10 +1,12 @@
-//! Frozen tables, which are their bytes. Each call reads their header again, and nothing outside them.
+//! Frozen tables, which are their bytes. Each call reads their header again, unless it is passed where their sections
+//! are, and nothing outside them.
 ghost use Rattle.std.specs.Prelude.{◌≡◌, ◌↔◌, true, false, length, slice_get, IsTrue, Some};
 ghost use Rattle.std.specs.Option.{option_map};
 ghost use Rattle.intaglio_frozen.specs.IsFrozen.{HasHeader, HasSections, IsFrozen, text_kind};
 ghost use Rattle.intaglio_frozen.specs.Layout.{kind, strings};
+ghost use Rattle.intaglio_frozen.specs.Sections.{AreSectionsOf};
 ghost use Rattle.intaglio_c.specs.Answers.{IsCodeOf, given};
-ghost use Rattle.intaglio_c.specs.Frozen.{Absorbs, Checks, FindsEach, FindsEachTrusted, FreezesHeld, position_in};
+ghost use Rattle.intaglio_c.specs.Frozen.{Absorbs, Checks, FindsEach, FindsEachTrusted, FreezesHeld, ReadsSections, position_in};
 ghost use Rattle.intaglio_c.specs.Handles.{ChangesWithCode, Keeps};
 
 use crate::ahead::find_each;
@@ -13,7 +15,7 @@ use crate::handle::Handle;
 use crate::refusal::{Refusal, code};
 use crate::spelling::{Spelling, fill};
 use intaglio_core::Symbol;
-use intaglio_frozen::{Frozen, Header, Kind, TrustedFrozen};
+use intaglio_frozen::{Frozen, Header, Kind, Sections, TrustedFrozen};
 use std::alloc::Global;
 
 // Writes a frozen table of the contents.
@@ -89,15 +91,9 @@ pub extern "C" fn intaglio_frozen_find(bytes: &[u8], string: &[u8], symbol: &mut
         → given result symbol.new ≡ position_in (strings bytes.now) string.now }
     ensures unwritten { result ≡ false → symbol.new ≡ symbol.old }
 {
-    let Ok(table) = TrustedFrozen::open(bytes) else {
-        return false;
-    };
-    match table.check_interned(string) {
-        Some(known) => {
-            *symbol = known.id();
-            true
-        }
-        None => false,
+    match Sections::read(bytes) {
+        Ok(sections) => intaglio_frozen_find_in(bytes, &sections, string, symbol),
+        Err(_) => false,
     }
 }
 
@@ -140,15 +136,9 @@ pub extern "C" fn intaglio_frozen_get(bytes: &[u8], symbol: u32, out: &mut Spell
         → given result out.new.len ≡ option_map length (slice_get (strings bytes.now) symbol) }
     ensures unwritten { result ≡ false → out.new ≡ out.old }
 {
-    let Ok(table) = TrustedFrozen::open(bytes) else {
-        return false;
-    };
-    match table.get(Symbol::new(symbol)) {
-        Some(string) => {
-            *out = Spelling::of(string);
-            true
-        }
-        None => false,
+    match Sections::read(bytes) {
+        Ok(sections) => intaglio_frozen_get_in(bytes, &sections, symbol, out),
+        Err(_) => false,
     }
 }
 
@@ -174,5 +164,72 @@ pub extern "C" fn intaglio_frozen_is_text(bytes: &[u8]) -> bool
     match Header::read(bytes) {
         Ok(header) => header.kind == Kind::Text,
         Err(_) => false,
+    }
+}
+
+// Reads where the sections of a frozen table are.
+fn read_sections(bytes: &[u8], sections: &mut Sections) -> Result<(), Refusal>
+    ensures read { ReadsSections bytes.now sections.old sections.new result }
+{
+    *sections = Sections::read(bytes)?;
+    Ok(())
+}
+
+/// Writes what the header of a frozen table says, and where its sections are, for the two calls below. Nothing behind
+/// the header is read. Fails with what is wrong with the header, or with how many bytes there are; then nothing is
+/// written.
+#[unsafe(no_mangle)]
+pub extern "C" fn intaglio_frozen_sections(bytes: &[u8], sections: &mut Sections) -> u32
+    ensures read { IsCodeOf result (ReadsSections bytes.now sections.old sections.new) }
+    ensures only { HasSections bytes.now → result ≡ 0 }
+{
+    code(read_sections(bytes, sections))
+}
+
+/// As [`intaglio_frozen_find`], in bytes whose sections were read before: the header isn't read. Nothing outside the
+/// bytes is read, also if these aren't their sections.
+#[unsafe(no_mangle)]
+pub extern "C" fn intaglio_frozen_find_in(
+    bytes: &[u8],
+    sections: &Sections,
+    string: &[u8],
+    symbol: &mut u32,
+) -> bool
+    ensures found { AreSectionsOf bytes.now sections.now → IsTrue result
+        → slice_get (strings bytes.now) symbol.new ≡ Some string.now }
+    ensures frozen { AreSectionsOf bytes.now sections.now → IsFrozen bytes.now
+        → given result symbol.new ≡ position_in (strings bytes.now) string.now }
+    ensures unwritten { result ≡ false → symbol.new ≡ symbol.old }
+{
+    match sections.check_interned(bytes, string) {
+        Some(known) => {
+            *symbol = known.id();
+            true
+        }
+        None => false,
+    }
+}
+
+/// As [`intaglio_frozen_get`], in bytes whose sections were read before: the header isn't read. Nothing outside the
+/// bytes is read, also if these aren't their sections.
+#[unsafe(no_mangle)]
+pub extern "C" fn intaglio_frozen_get_in(
+    bytes: &[u8],
+    sections: &Sections,
+    symbol: u32,
+    out: &mut Spelling,
+) -> bool
+    ensures found { AreSectionsOf bytes.now sections.now → IsTrue result
+        → option_map length (slice_get (strings bytes.now) symbol) ≡ Some out.new.len }
+    ensures frozen { AreSectionsOf bytes.now sections.now → IsFrozen bytes.now
+        → given result out.new.len ≡ option_map length (slice_get (strings bytes.now) symbol) }
+    ensures unwritten { result ≡ false → out.new ≡ out.old }
+{
+    match sections.get(bytes, Symbol::new(symbol)) {
+        Some(string) => {
+            *out = Spelling::of(string);
+            true
+        }
+        None => false,
     }
 }

@@ -1,9 +1,9 @@
-//! An [`Index`] as the index of any store.
+//! An [`Index`] as the index of a `Vec` of contents.
 ghost use Rattle.std.specs.Prelude.{length};
 ghost use Rattle.intaglio_core.specs.IndexOf.{state_of, IsOver};
 
 use super::{IndexOf, Indexed};
-use intaglio_content::{AddedTo, ByteStore, Content, Keyed, Kind, Packed, SoughtIn, Store, Work};
+use intaglio_content::{AddedTo, ByteStore, Content, Keyed, SoughtIn, Store, Work};
 use intaglio_index::Index;
 use intaglio_symbol::Symbol;
 use std::alloc::{AllocError, Global};
@@ -12,37 +12,33 @@ impl<C: Keyed> Indexed for Vec<C> {
     type Index = Index;
 }
 
-impl<K: Kind> Indexed for Packed<K> {
-    type Index = Index;
-}
-
-impl<L: Store> IndexOf<L> for Index {
+impl<C: Keyed> IndexOf<Vec<C>> for Index {
     ghost state = { λ index _. state_of index };
 
-    ghost is_over = { λ index list. IsOver L.buckets_for (length (L.contents list)) index };
+    ghost is_over = { λ index list. IsOver (length list.items) index };
 
-    fn with_capacity(alloc: Global, capacity: usize) -> Result<(L, Index), AllocError> {
-        let index = Index::with_sparse_buckets(alloc, capacity, L::bucket_count(capacity))?;
-        let list = L::with_capacity(alloc, capacity)?;
+    fn with_capacity(alloc: Global, capacity: usize) -> Result<(Vec<C>, Index), AllocError> {
+        let index = Index::with_buckets(alloc, capacity)?;
+        let list = Vec::with_capacity(alloc, capacity)?;
         Ok((list, index))
     }
 
     #[inline(always)]
-    fn room(&self, _list: &L) -> usize {
+    fn room(&self, _list: &Vec<C>) -> usize {
         Index::room(self)
     }
 
     #[inline(always)]
-    fn search<Q: SoughtIn<L>>(
+    fn search<Q: SoughtIn<Vec<C>>>(
         &self,
-        list: &L,
+        list: &Vec<C>,
         hash: u64,
         sought: &Q,
         work: &mut Work,
     ) -> Option<Symbol> {
         let mut candidate = Some(self.find(hash, work)?);
         while let Some(symbol) = candidate {
-            if sought.same_at(list, symbol.id() as usize, work) {
+            if sought.same_at(list, symbol.id() as usize, b"", work) {
                 return Some(symbol);
             }
             candidate = self.find_next(symbol, work);
@@ -51,91 +47,96 @@ impl<L: Store> IndexOf<L> for Index {
     }
 
     #[inline(always)]
-    fn touch(&self, list: &L, hash: u64) -> u8 {
+    fn touch(&self, list: &Vec<C>, hash: u64) -> u8 {
         match self.peek(hash) {
-            Some(symbol) => list.touch(symbol.id() as usize),
+            Some(symbol) => list[symbol.id() as usize].touch(),
             None => 0,
         }
     }
 
     #[inline(always)]
-    fn prepare<H, Q: AddedTo<L, H>>(
-        &self,
-        list: &mut L,
+    fn prepare<H, Q: AddedTo<Vec<C>, H>>(
+        &mut self,
+        list: &mut Vec<C>,
         value: &Q,
-    ) -> Result<L::Prepared, AllocError> {
+    ) -> Result<Option<C>, AllocError> {
         value.prepare(list)
     }
 
     #[inline(always)]
-    fn make_room(&mut self, list: &mut L, limit: usize, work: &mut Work) -> Result<(), AllocError> {
+    fn make_room(
+        &mut self,
+        list: &mut Vec<C>,
+        limit: usize,
+        work: &mut Work,
+    ) -> Result<(), AllocError> {
         let count = list.len();
         if count < list.capacity().min(Index::room(self)) {
             return Ok(());
         }
-        list.reserve(1)?;
+        Store::reserve(list, 1)?;
         let places = self.places();
         if count < places {
-            return self.reserve_sparse(count + 1, L::bucket_count(count + 1), work);
+            return Index::reserve(self, count + 1, work);
         }
         let doubled = limit.min((2 * places).max(4));
-        self.reserve_sparse(doubled, L::bucket_count(doubled), work)
+        Index::reserve(self, doubled, work)
     }
 
     #[inline(always)]
-    fn push<H, Q: AddedTo<L, H>>(
+    fn push<H, Q: AddedTo<Vec<C>, H>>(
         &mut self,
-        list: &mut L,
+        list: &mut Vec<C>,
         hash: u64,
         symbol: Symbol,
         value: Q,
-        prepared: L::Prepared,
+        prepared: Option<C>,
         work: &mut Work,
     ) {
         self.place(hash, symbol, work);
-        value.push(prepared, list);
+        value.push(hash, prepared, list);
     }
 
-    fn truncate(&mut self, list: &mut L, n: usize)
+    fn truncate(&mut self, list: &mut Vec<C>, n: usize)
     where
-        L::Content: Drop,
+        C: Drop,
     {
-        list.truncate(n);
+        Store::truncate(list, n);
         self.cut(n);
     }
 
-    fn clear(&mut self, list: &mut L)
+    fn clear(&mut self, list: &mut Vec<C>)
     where
-        L::Content: Drop,
+        C: Drop,
     {
-        list.clear();
+        Store::clear(list);
         Index::clear(self);
     }
 
     fn reserve(
         &mut self,
-        list: &mut L,
+        list: &mut Vec<C>,
         additional: usize,
         work: &mut Work,
     ) -> Result<(), AllocError> {
         // For the contract alone: the room is within the places.
         let _ = Index::room(self);
         let total = list.len() + additional;
-        list.reserve(additional)?;
-        self.reserve_sparse(total, L::bucket_count(total), work)
+        Store::reserve(list, additional)?;
+        Index::reserve(self, total, work)
     }
 
-    fn shrink_to(&mut self, list: &mut L, kept: usize, work: &mut Work) -> Result<(), AllocError> {
-        self.rebuild(kept, L::bucket_count(kept), work)?;
-        // The index says what the capacity is now, also if the list keeps its memory.
-        let _ = list.shrink_to(kept);
-        Ok(())
+    fn shrink_to(&mut self, list: &Vec<C>, kept: usize, work: &mut Work) -> Result<(), AllocError> {
+        let _ = list;
+        self.rebuild(kept, kept, work)
     }
 
-    fn reserve_bytes(&self, list: &mut L, additional: usize) -> Result<(), AllocError>
+    fn stays_over(&self, _list: &Vec<C>) {}
+
+    fn reserve_bytes(&mut self, list: &mut Vec<C>, additional: usize) -> Result<(), AllocError>
     where
-        L: ByteStore,
-        L::Content: Content,
+        Vec<C>: ByteStore<Content = C, Prepared = Option<C>>,
+        C: Content,
     {
         list.reserve_bytes(additional)
     }

@@ -3,6 +3,7 @@ ghost use Rattle.std.specs.Prelude.{◌≡◌, ◌<◌, ◌≤◌, [], List, len
 ghost use Rattle.intaglio_slots.specs.Line.{Entry};
 ghost use Rattle.intaglio_slots.specs.Chains.{AreLines, HaveRoom, IsFilled, places_of};
 
+use super::assertions::same;
 use intaglio_slots::Lines;
 use std::process::Abort;
 
@@ -46,12 +47,19 @@ fn found_with_one_more(lines: &mut Lines, hash: u64, slot: u32) -> (u32, u64)
     between
 }
 
+// Asserts how many slots a search by the hash gives, and their sum.
+fn gives(rt: &impl Abort, lines: &Lines, hash: u64, wanted: (u32, u64))
+    requires { AreLines lines.now }
+{
+    same(rt, found(lines, hash), wanted);
+}
+
 #[test]
 fn entries_are_found_under_their_hashes(rt: HostRuntime) {
     let mut lines = Lines::with_places(rt.alloc(), 100).expect(&rt, "lines");
     place_all(&mut lines, 100, 0x9E37_79B9_7F4A_7C15);
-    assert_eq!(rt; found(&lines, 0), (1, 0));
-    assert_eq!(rt; found(&lines, 0x9E37_79B9_7F4A_7C15), (1, 1));
+    gives(&rt, &lines, 0, (1, 0));
+    gives(&rt, &lines, 0x9E37_79B9_7F4A_7C15, (1, 1));
 }
 
 // Places so many entries of one hash, and one that is removed again.
@@ -61,14 +69,14 @@ fn place_under_one_hash(rt: &impl Abort, mut lines: Lines, count: u32)
 {
     let sum = (count as u64).wrapping_mul((count as u64).wrapping_sub(1)) / 2;
     place_all(&mut lines, count, 0);
-    assert_eq!(rt; found(&lines, 0), (count, sum));
+    gives(rt, &lines, 0, (count, sum));
     let more = (count.wrapping_add(1), sum.wrapping_add(100));
-    assert_eq!(rt; found_with_one_more(&mut lines, 0, 100), more);
-    assert_eq!(rt; found(&lines, 0), (count, sum));
+    same(rt, found_with_one_more(&mut lines, 0, 100), more);
+    gives(rt, &lines, 0, (count, sum));
     // Of the same class, with another tag.
-    assert_eq!(rt; found(&lines, 1 << 63), (0, 0));
+    gives(rt, &lines, 1 << 63, (0, 0));
     lines.clear();
-    assert_eq!(rt; found(&lines, 0), (0, 0));
+    gives(rt, &lines, 0, (0, 0));
 }
 
 // 11 entries fill a first line, 22 that and an overflow line. The sum of the numbers below n is n * (n - 1) / 2.

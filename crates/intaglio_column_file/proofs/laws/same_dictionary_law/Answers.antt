@@ -1,4 +1,3 @@
-use Rattle.std.proofs.Common.{ℕ}
 use Rattle.intaglio_frozen.proofs.SameBytes.{AreBytes}
 use Rattle.intaglio_frozen.specs.Layout.{count, kind}
 use Rattle.intaglio_column_file.proofs.SameDictionary.{count_same, ends_same, same_id, text_same}

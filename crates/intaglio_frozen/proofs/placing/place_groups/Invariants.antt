@@ -1,6 +1,6 @@
 use Rattle.std.proofs.Common.{◌≡◌, length, get_or}
 use Rattle.intaglio_frozen.specs.Layout.{places_for, groups_for}
-use Rattle.intaglio_frozen.proofs.Placed.{ArePlaced}
+use Rattle.intaglio_frozen.proofs.Placed.{IsSet, ArePlaced}
 use Rattle.intaglio_frozen.proofs.placing.place_groups.Given as goal
 
 abbrev pub invariant-loop-group : goal.invariant-loop-group
@@ -9,5 +9,5 @@ invariant-loop-group l = record {
   symbols : length l.symbols ≡ places_for (length l.hashes);
   pilots : length l.pilots ≡ groups_for (length l.hashes);
   tags : length l.tags ≡ places_for (length l.hashes);
-  placed : ArePlaced l.hashes l.order (λ g. get_or l.pilots g 0) l.group-index l.taken;
+  placed : ArePlaced l.hashes l.order (λ g. get_or l.pilots g 0) l.group-index (IsSet l.taken);
 }

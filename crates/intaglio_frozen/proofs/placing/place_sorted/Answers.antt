@@ -1,11 +1,12 @@
 use Rattle.std.proofs.Common.{◌≡◌, ◌∙◌, ◌++◌, get_or, take, drop, length, sym, subst, arith}
 use Rattle.std.proofs.lemmas.List.{take-append-le, take_all}
 use Rattle.intaglio_frozen.specs.Pilots.{ArePilots}
+use Rattle.intaglio_frozen.proofs.Sorted.{by-size-order}
 use Rattle.intaglio_frozen.proofs.placing.place_sorted.Goals as goal
 
 pub place_groups-requires-clause-order : goal.place_groups-requires-clause-order
 place_groups-requires-clause-order c =
-    c.are_by_size.ensures c.if-not-are_by_size.false c.args.hashes.now c.args.grouped.now (c.are_grouped.ensures c.if-not-are_grouped.false)
+    by-size-order c.args.hashes.now c.args.grouped.now c.args.ends.now c.args.order.now (λ g. (c.type_inv.ends g).fits) (c.are_grouped.ensures c.if-not-are_grouped.false) c.requires.order
 
 pub returns : goal.returns
 returns c =

@@ -5,7 +5,7 @@ use Rattle.intaglio_records.proofs.entries.remove_behind.Given as goal
 
 abbrev pub invariant-loop-count : goal.invariant-loop-count
 invariant-loop-count l = record {
-  filled : IsFilled l.lines (entries l.records.list l.count);
+  filled : IsFilled l.lines (entries l.is_long l.records.list l.count);
   places : places_of l.lines ≡ places_of l.initial.lines;
   within : l.count ≤ length l.records.list;
   above : min l.n (length l.records.list) ≤ l.count;

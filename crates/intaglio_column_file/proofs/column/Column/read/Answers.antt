@@ -1,4 +1,3 @@
-use Rattle.std.proofs.Common.{sym}
 use Rattle.intaglio_column_file.proofs.Codes.{read_get}
 use Rattle.intaglio_column_file.proofs.column.Column.read.Goals as goal
 

@@ -1,6 +1,6 @@
-use Rattle.std.proofs.Common.{ℕ, ◌==◌}
+use Rattle.std.proofs.Common.{◌==◌}
 use Rattle.intaglio_column_file.specs.Layout.{codes}
-use Rattle.intaglio_column_file.proofs.Placed.{all_counted, all_over, next_placed, none_placed}
+use Rattle.intaglio_column_file.proofs.Placed.{next_placed, none_placed}
 use Rattle.intaglio_column_file.proofs.column.Column.rows_into.Goals as goal
 
 pub loop-row-init : goal.loop-row-init

@@ -1,7 +1,7 @@
-use Rattle.std.proofs.Common.{◌∙◌, ℕ, ◌+◌, ◌==◌, ◌++◌, ◌∷◌, [], ap, arith}
+use Rattle.std.proofs.Common.{◌∙◌, ℕ, ◌+◌, ◌==◌, ◌++◌, ap}
 use Rattle.intaglio_column_file.specs.Layout.{codes}
 use Rattle.intaglio_column_file.specs.Rows.{rows_of, rows_past}
-use Rattle.intaglio_column_file.proofs.Past.{all_rows_of, more_rows_of}
+use Rattle.intaglio_column_file.proofs.Past.{more_rows_of}
 use Rattle.intaglio_column_file.proofs.column.Column.rows_of.Goals as goal
 
 pub loop-row-preserved : goal.loop-row-preserved

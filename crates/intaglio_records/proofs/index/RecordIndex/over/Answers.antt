@@ -1,4 +1,5 @@
-use Rattle.std.proofs.Common.{◌≡◌, length, arith, ap, sym, subst, ◌∙◌}
+use Rattle.std.proofs.Common.{◌≡◌, length, not, arith, ap, sym, subst, ◌∙◌}
+use Rattle.std.proofs.lemmas.Bool.{not-false}
 use Rattle.std.proofs.lemmas.List.{length-map}
 use Rattle.intaglio_slots.specs.Chains.{IsFilled}
 use Rattle.intaglio_records.specs.Records.{pair_of}
@@ -17,9 +18,10 @@ pub returns-clause-over : goal.returns-clause-over
 returns-clause-over c =
     let xs = c.args.records.now.list in
     let rs = c.buffer.result.now.list in
-    let all = entries-all xs rs c.buffer.ensures.list (are-long rs c.buffer.ensures.each) in
+    let all = entries-all (not c.is_short-is_long.result) xs rs c.buffer.ensures.list (are-long rs c.buffer.ensures.each) in
     record {
       filled = subst (λ es. IsFilled c.in_ok-lines.lines es) (sym all) c.in_ok-lines.ensures.filled;
       within = c.requires.enough;
       places = c.in_ok-lines.ensures.places;
+      short = λ e. c.is_short-is_long.ensures.0 (not-false c.is_short-is_long.result e);
     }

@@ -1,0 +1,9 @@
+use Rattle.std.proofs.Common.{[], length, ◌<◌}
+use Rattle.std.proofs.lemmas.Option.{slice_get-get_or}
+use Rattle.intaglio_records.specs.Records.{strings_of}
+use Rattle.intaglio_content.proofs.packed.Packed.is_spelling_at.Goals as goal
+
+pub returns : goal.returns
+returns g c =
+    let l : c.args.i < length (strings_of c.self.inside.records) = rw (← c.self.view_is) at c.requires in
+    rw (← c.self.view_is, slice_get-get_or (strings_of c.self.inside.records) c.args.i [] l) (c.self.invariant c.args.i [] l)

@@ -1,0 +1,14 @@
+use Rattle.std.proofs.Common.{ℕ, length}
+use Rattle.intaglio_content.specs.Key.{Key}
+use Rattle.intaglio_core.proofs.Walking.{IsWalking, rest_at}
+use Rattle.intaglio_core.specs.IndexOf.{AreHashed}
+use Rattle.intaglio_core.proofs.index_of.buckets.IndexIndexOfVec.search.Given as goal
+
+abbrev pub invariant-loop-candidate : goal.invariant-loop-candidate
+invariant-loop-candidate g l = record {
+  walking : (h : Key → ℕ) → AreHashed g.C.Keyed.key h l.list.items l.self.hashes (g.Q.Keyed.key l.sought) l.hash →
+      IsWalking g.C.Keyed.key h l.self l.list.items (g.Q.Keyed.key l.sought) l.fn.work.events l.work.events l.candidate;
+}
+
+abbrev pub decreases-loop-candidate : goal.decreases-loop-candidate
+decreases-loop-candidate g l = length (rest_at l.self l.hash l.candidate)
