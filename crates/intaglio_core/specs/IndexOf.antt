@@ -79,12 +79,11 @@ pub record PlacesAtMost (n : ℕ) (before after : Work) : Type 0 where
 
 -- what contracts see of an `Index` over a list
 abbrev pub state_of : Placed → IndexState
-state_of index = record { hashes = index.hashes; room = index.room; places = index.places }
+state_of index = record { hashes = index.hashes; room = index.room; places = index.count }
 
--- an `Index` has a hash for each of n contents, and a bucket for each that it was made for
-pub record IsOver (n : ℕ) (index : Placed) : Type 0 where
-  pub sized : length index.hashes ≡ n
-  pub buckets : index.count ≡ index.places
+-- an `Index` has a hash for each of n contents
+abbrev pub IsOver : ℕ → Placed → Type 0
+IsOver n index = length index.hashes ≡ n
 
 -- how many bytes of records there would be room for if so many bytes of strings were spare
 abbrev pub room_with : ℕ → Records → ℕ

@@ -8,12 +8,11 @@ use Rattle.intaglio_index.specs.Placed.{Placed}
 pub record KeepsPlaces (old new : Placed) : Type 0 where
   pub hashes : new.hashes ≡ old.hashes
   pub room : old.room ≤ new.room
-  pub fits : new.room ≤ new.places
+  pub fits : new.room ≤ new.count
 
 -- the buckets are the same, and nothing was recorded
 pub record KeepsBuckets (old new : Placed) (before after : Work) : Type 0 where
   pub count : new.count ≡ old.count
-  pub places : new.places ≡ old.places
   pub quiet : after.events ≡ before.events
 
 -- each symbol was placed once

@@ -18,8 +18,7 @@ use std::marker::Model;
 /// A hash index: symbols in buckets, found by the hashes of their contents.
 ///
 /// A bucket takes 17 bytes and a placed symbol 12: its hash and a link. No symbol is reserved as "none", so
-/// all 2^32 can be placed. There are as many buckets as symbols can be placed, or more if the index is made
-/// by [`with_sparse_buckets`](Index::with_sparse_buckets).
+/// all 2^32 can be placed. There are at least as many buckets as symbols can be placed.
 ///
 /// ```
 /// # use intaglio::{Index, Symbol, Work};
@@ -44,13 +43,11 @@ pub struct Index {
     links: Vec<Symbol>,
     filters: Vec<u8>,
     modulus: Modulus,
-    // How many symbols the buckets were made for: as many as there are buckets, or fewer.
-    places: usize,
     alloc: Global,
 }
 
 impl Model for Index {
-    ghost use Rattle.std.specs.Prelude.{◌≡◌, ◌+◌, ◌≤◌, min, length, vec_capacity};
+    ghost use Rattle.std.specs.Prelude.{◌≡◌, ◌+◌, min, length, vec_capacity};
     ghost use Rattle.intaglio_index.specs.Placed.{Placed, placed_code};
 
     ghost Value = { Placed };
@@ -65,15 +62,12 @@ impl Model for Index {
     ghost view = { λ index. record {
       count = length index.heads.items;
       hashes = index.hashes.items;
-      room = min index.places (min (vec_capacity index.hashes) (vec_capacity index.links));
-      places = index.places;
+      room = min (length index.heads.items) (min (vec_capacity index.hashes) (vec_capacity index.links));
     } };
 
     ghost invariant = { λ index. record {
       modulus : IsModulus index.modulus;
       counted : index.modulus.count ≡ length index.heads.items;
-      enough : index.places ≤ length index.heads.items;
-      placed : length index.hashes.items ≤ index.places;
       linked : IsLinked (length index.heads.items) index.hashes.items index.links.items;
       headed : IsHeaded (index.modulus.mask + 1) index.heads.items index.filters.items index.hashes.items;
       filtered : IsFiltered index.filters.items (length index.heads.items) index.hashes.items;
@@ -88,23 +82,15 @@ impl Index {
         self.heads.len()
     }
 
-    /// How many symbols the buckets were made for. There are at least as many buckets.
-    pub fn places(&self) -> usize
-        ensures places { result ≡ self.now.places }
-        ensures fits { result ≤ self.now.count }
-    {
-        self.places
-    }
-
-    /// How many symbols can be placed in total: the smallest of what the buckets were made for and the
-    /// capacities of the lists of hashes and links.
+    /// How many symbols can be placed in total: the smallest of the number of buckets and the capacities of
+    /// the lists of hashes and links.
     pub fn room(&self) -> usize
         ensures room { result ≡ self.now.room }
         ensures placed { length self.now.hashes ≤ result }
-        ensures fits { result ≤ self.now.places }
+        ensures fits { result ≤ self.now.count }
     {
         let capacity = self.hashes.capacity().min(self.links.capacity());
-        capacity.min(self.places)
+        capacity.min(self.heads.len())
     }
 
     fn placed(&self) -> usize

@@ -75,11 +75,11 @@ impl<C: Keyed> IndexOf<Vec<C>> for Index {
             return Ok(());
         }
         Store::reserve(list, 1)?;
-        let places = self.places();
-        if count < places {
+        let buckets = self.bucket_count();
+        if count < buckets {
             return Index::reserve(self, count + 1, work);
         }
-        let doubled = limit.min((2 * places).max(4));
+        let doubled = limit.min((2 * buckets).max(4));
         Index::reserve(self, doubled, work)
     }
 
@@ -119,7 +119,7 @@ impl<C: Keyed> IndexOf<Vec<C>> for Index {
         additional: usize,
         work: &mut Work,
     ) -> Result<(), AllocError> {
-        // For the contract alone: the room is within the places.
+        // For the contract alone: there are at least as many buckets as the room.
         let _ = Index::room(self);
         let total = list.len() + additional;
         Store::reserve(list, additional)?;
@@ -128,7 +128,7 @@ impl<C: Keyed> IndexOf<Vec<C>> for Index {
 
     fn shrink_to(&mut self, list: &Vec<C>, kept: usize, work: &mut Work) -> Result<(), AllocError> {
         let _ = list;
-        self.rebuild(kept, kept, work)
+        self.rebuild(kept, work)
     }
 
     fn stays_over(&self, _list: &Vec<C>) {}

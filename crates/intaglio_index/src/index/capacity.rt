@@ -17,30 +17,8 @@ impl Index {
     ///
     /// [`AllocError`] if one of its four allocations fails. Then nothing stays allocated.
     pub fn with_buckets(alloc: Global, count: usize) -> Result<Index, AllocError>
-        ensures made { IfOk result (λ index.
-            index ≡ record { count = count; hashes = []; room = count; places = count }) }
+        ensures made { IfOk result (λ index. index ≡ record { count = count; hashes = []; room = count }) }
         ensures none_needed { count ≡ 0 → IsOk result }
-    {
-        Index::with_sparse_buckets(alloc, count, count)
-    }
-
-    /// An index with exactly `buckets` empty buckets, and capacity for `count` symbols, which aren't more. With
-    /// no buckets nothing is allocated.
-    ///
-    /// The more buckets there are for a symbol, the fewer symbols share one.
-    ///
-    /// # Errors
-    ///
-    /// [`AllocError`] if one of its four allocations fails. Then nothing stays allocated.
-    pub fn with_sparse_buckets(
-        alloc: Global,
-        count: usize,
-        buckets: usize,
-    ) -> Result<Index, AllocError>
-        requires { count ≤ buckets }
-        ensures made { IfOk result (λ index.
-            index ≡ record { count = buckets; hashes = []; room = count; places = count }) }
-        ensures none_needed { buckets ≡ 0 → IsOk result }
     {
         let heads = repeated(
             alloc,
@@ -48,9 +26,9 @@ impl Index {
                 first: 0,
                 second: 0,
             },
-            buckets,
+            count,
         )?;
-        let filters = repeated(alloc, 0, buckets)?;
+        let filters = repeated(alloc, 0, count)?;
         let hashes = Vec::with_capacity(alloc, count)?;
         let links = Vec::with_capacity(alloc, count)?;
         Ok(Index {
@@ -58,8 +36,7 @@ impl Index {
             hashes,
             links,
             filters,
-            modulus: Modulus::new(buckets),
-            places: count,
+            modulus: Modulus::new(count),
             alloc,
         })
     }
@@ -77,7 +54,6 @@ impl Index {
         ensures kept { KeepsPlaces self.old self.new }
         ensures enough { OnOk result (count ≤ self.new.room) }
         ensures made { OnOk result (self.new.count ≡ max self.old.count count) }
-        ensures for_symbols { OnOk result (self.new.places ≡ max self.old.places count) }
         ensures places { OnOk result (self.old.count < count → PlacesEach self.old work.old work.new) }
         ensures err { OnErr result (KeepsBuckets self.old self.new work.old work.new) }
         ensures quiet { count ≤ self.old.count → work.new.events ≡ work.old.events }
@@ -85,84 +61,43 @@ impl Index {
         ensures unchanged { count ≤ self.old.room → self.new ≡ self.old }
     {
         if count > self.heads.len() {
-            return self.rebuild(count, count, work);
+            return self.rebuild(count, work);
         }
         reserve_total(&mut self.hashes, count)?;
         reserve_total(&mut self.links, count)?;
-        self.places = self.places.max(count);
         Ok(())
     }
 
-    /// As [`reserve`](Index::reserve), for an index with more buckets than it can hold symbols, as
-    /// [`with_sparse_buckets`](Index::with_sparse_buckets) makes one.
-    ///
-    /// New buckets are made only if those that there are were made for fewer than `count`: then there are
-    /// exactly `buckets`, made for `count`.
-    ///
-    /// # Errors
-    ///
-    /// Those of [`reserve`](Index::reserve).
-    pub fn reserve_sparse(
-        &mut self,
-        count: usize,
-        buckets: usize,
-        work: &mut Work,
-    ) -> Result<(), AllocError>
-        requires { count ≤ buckets }
-        ensures kept { KeepsPlaces self.old self.new }
-        ensures enough { OnOk result (count ≤ self.new.room) }
-        ensures made { OnOk result (self.old.places < count →
-            (self.new.places ≡ count) × (self.new.count ≡ buckets)) }
-        ensures places { OnOk result (self.old.places < count → PlacesEach self.old work.old work.new) }
-        ensures err { OnErr result (KeepsBuckets self.old self.new work.old work.new) }
-        ensures stays { count ≤ self.old.places → KeepsBuckets self.old self.new work.old work.new }
-        ensures none_needed { count ≤ self.old.room → IsOk result }
-        ensures unchanged { count ≤ self.old.room → self.new ≡ self.old }
-    {
-        if count > self.places {
-            return self.rebuild(count, buckets, work);
-        }
-        self.reserve(count, work)
-    }
-
-    /// Makes exactly `buckets` buckets, with capacity for `count` symbols. All symbols are placed again by their
+    /// Makes exactly `count` buckets, with capacity for as many symbols. All symbols are placed again by their
     /// stored hashes: one placement each.
     ///
     /// # Errors
     ///
     /// [`AllocError`] if an allocation fails. Then the index is unchanged.
-    pub fn rebuild(
-        &mut self,
-        count: usize,
-        buckets: usize,
-        work: &mut Work,
-    ) -> Result<(), AllocError>
+    pub fn rebuild(&mut self, count: usize, work: &mut Work) -> Result<(), AllocError>
         requires placed { length self.old.hashes ≤ count }
-        requires enough { count ≤ buckets }
-        ensures count { OnOk result (self.new.count ≡ buckets) }
-        ensures made { OnOk result (self.new.places ≡ count) }
+        ensures count { OnOk result (self.new.count ≡ count) }
         ensures room { OnOk result (self.new.room ≡ count) }
         ensures hashes { self.new.hashes ≡ self.old.hashes }
         ensures err { OnErr result (self.new ≡ self.old) }
         ensures quiet { OnErr result (work.new.events ≡ work.old.events) }
         ensures places { OnOk result (PlacesEach self.old work.old work.new) }
-        ensures none_needed { buckets ≡ 0 → IsOk result }
+        ensures none_needed { count ≡ 0 → IsOk result }
     {
-        *self = self.rebuilt(count, buckets, work)?;
+        *self = self.rebuilt(count, work)?;
         Ok(())
     }
 
     // An index with the same symbols in new buckets.
-    fn rebuilt(&self, count: usize, buckets: usize, work: &mut Work) -> Result<Index, AllocError>
+    fn rebuilt(&self, count: usize, work: &mut Work) -> Result<Index, AllocError>
         requires placed { length self.now.hashes ≤ count }
-        requires enough { count ≤ buckets }
         ensures made { IfOk result (λ index.
-            index ≡ record { count = buckets; hashes = self.now.hashes; room = count; places = count }) }
+            index ≡ record { count = count; hashes = self.now.hashes; room = count }) }
         ensures quiet { OnErr result (work.new.events ≡ work.old.events) }
         ensures places { OnOk result (PlacesEach self.now work.old work.new) }
-        ensures none_needed { buckets ≡ 0 → IsOk result }
+        ensures none_needed { count ≡ 0 → IsOk result }
     {
-        let mut index = Index::with_sparse_buckets(self.alloc, count, buckets)?;
+        let mut index = Index::with_buckets(self.alloc, count)?;
         for (i, hash) in self.hashes.iter().enumerate() {
             index.place(*hash, Symbol::new(i as u32), work);
         }

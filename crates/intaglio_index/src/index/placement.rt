@@ -17,9 +17,8 @@ impl Index {
         requires room { symbol < self.old.room }
         ensures hashes { self.new.hashes ≡ self.old.hashes ++ hash ∷ [] }
         ensures count { self.new.count ≡ self.old.count }
-        ensures places { self.new.places ≡ self.old.places }
         ensures room { self.new.room ≡ self.old.room }
-        ensures fits { self.new.room ≤ self.new.places }
+        ensures fits { self.new.room ≤ self.new.count }
         ensures events { work.new.events ≡ work.old.events ++ placed ∷ [] }
     {
         work.placed();
@@ -32,9 +31,8 @@ impl Index {
         requires room { symbol < self.old.room }
         ensures hashes { self.new.hashes ≡ self.old.hashes ++ hash ∷ [] }
         ensures count { self.new.count ≡ self.old.count }
-        ensures places { self.new.places ≡ self.old.places }
         ensures room { self.new.room ≡ self.old.room }
-        ensures fits { self.new.room ≤ self.new.places }
+        ensures fits { self.new.room ≤ self.new.count }
     {
         let bucket = self.modulus.bucket(hash);
         let filter = self.filters[bucket];
@@ -59,9 +57,8 @@ impl Index {
         requires room { symbol < self.old.room }
         ensures hashes { self.new.hashes ≡ self.old.hashes ++ hash ∷ [] }
         ensures count { self.new.count ≡ self.old.count }
-        ensures places { self.new.places ≡ self.old.places }
         ensures room { self.new.room ≡ self.old.room }
-        ensures fits { self.new.room ≤ self.new.places }
+        ensures fits { self.new.room ≤ self.new.count }
     {
         let first_symbol = self.first_symbol(bucket);
         let place = self.predecessor(bucket, hash);
@@ -87,7 +84,6 @@ impl Index {
     pub fn clear(&mut self)
         ensures hashes { self.new.hashes ≡ [] }
         ensures count { self.new.count ≡ self.old.count }
-        ensures places { self.new.places ≡ self.old.places }
         ensures room { self.new.room ≡ self.old.room }
     {
         self.filters.fill(0);
@@ -103,7 +99,6 @@ impl Index {
         requires { count ≤ length self.old.hashes }
         ensures hashes { self.new.hashes ≡ take count self.old.hashes }
         ensures count { self.new.count ≡ self.old.count }
-        ensures places { self.new.places ≡ self.old.places }
         ensures room { self.new.room ≡ self.old.room }
     {
         while self.placed() > count {
@@ -116,7 +111,6 @@ impl Index {
         requires { 0 < length self.old.hashes }
         ensures hashes { self.new.hashes ≡ take (length self.old.hashes - 1) self.old.hashes }
         ensures count { self.new.count ≡ self.old.count }
-        ensures places { self.new.places ≡ self.old.places }
         ensures room { self.new.room ≡ self.old.room }
     {
         let last = self.placed() - 1;

@@ -100,12 +100,10 @@ enum Step {
     // Makes as many buckets as symbols.
     Rebuild(u32),
     Reserve(usize),
-    // Reserves for so many symbols so many buckets.
-    ReserveSparse(usize, usize),
     // Makes room for so many symbols, and places them.
     Grow(u32),
-    // The buckets, how many symbols they were made for, and the room.
-    Counts(usize, usize, usize),
+    // The buckets, and the room.
+    Counts(usize, usize),
     // The symbols that a walk of the hash's bucket meets.
     Meets(u64, &'static [u32]),
     // Those that a search for the hash finds.
@@ -129,9 +127,8 @@ fn make_step<Rt: Abort>(rt: &Rt, index: &mut Index, count: u32, step: Step) -> u
             grow(rt, index, count, to);
             to
         }
-        Step::Counts(buckets, places, room) => {
-            let counts = (index.bucket_count(), index.places(), index.room());
-            same(rt, counts, (buckets, places, room));
+        Step::Counts(buckets, room) => {
+            same(rt, (index.bucket_count(), index.room()), (buckets, room));
             count
         }
         Step::Meets(hash, wanted) => {
@@ -187,13 +184,9 @@ fn make_buckets<Rt: Abort>(rt: &Rt, index: &mut Index, count: u32, step: Step)
     let made = match step {
         Step::Rebuild(buckets) => {
             assert!(rt; count <= buckets);
-            index.rebuild(buckets as usize, buckets as usize, &mut work)
+            index.rebuild(buckets as usize, &mut work)
         }
-        Step::ReserveSparse(places, buckets) => {
-            assert!(rt; places <= buckets);
-            index.reserve_sparse(places, buckets, &mut work)
-        }
-        Step::Reserve(places) => index.reserve(places, &mut work),
+        Step::Reserve(count) => index.reserve(count, &mut work),
         _ => Ok(()),
     };
     made.expect(rt, "no memory");
@@ -211,13 +204,6 @@ fn plays<Rt: Abort>(rt: &Rt, index: &mut Index, steps: &[Step])
 // Makes the steps on an index with so many buckets, for as many symbols.
 fn plays_on<Rt: Abort + AllocGlobal>(rt: &Rt, buckets: usize, steps: &[Step]) {
     let mut index = Index::with_buckets(rt.alloc(), buckets).expect(rt, "no memory");
-    plays(rt, &mut index, steps);
-}
-
-// The same with more buckets than places.
-fn plays_on_sparse<Rt: Abort + AllocGlobal>(rt: &Rt, places: usize, steps: &[Step]) {
-    assert!(rt; places <= 6);
-    let mut index = Index::with_sparse_buckets(rt.alloc(), places, 6).expect(rt, "no memory");
     plays(rt, &mut index, steps);
 }
 
@@ -268,7 +254,7 @@ static CUT: [Step; 8] = [
     Step::Meets(3, &[1, 0, 2]),
     Step::Cut(0),
     Step::Meets(3, &[]),
-    Step::Counts(5, 5, 5),
+    Step::Counts(5, 5),
 ];
 
 #[test]
@@ -294,7 +280,7 @@ static SHRUNK: [Step; 7] = [
     Step::Place(&[13, 3, 23, 8, 14]),
     Step::Cut(3),
     Step::Rebuild(3),
-    Step::Counts(3, 3, 3),
+    Step::Counts(3, 3),
     Step::Meets(0, &[1]),
     Step::Meets(1, &[0]),
     Step::Meets(2, &[2]),
@@ -305,46 +291,25 @@ fn a_shrink_keeps_symbols(rt: HostRuntime) {
     plays_on(&rt, 5, &SHRUNK);
 }
 
-static SPLIT: [Step; 12] = [
-    Step::Counts(6, 3, 3),
-    Step::Place(&[7, 4, 1]),
-    Step::Meets(1, &[2, 0]),
-    Step::Meets(4, &[1]),
-    Step::Rebuild(3),
-    Step::Counts(3, 3, 3),
-    Step::Meets(1, &[2, 1, 0]),
-    Step::ReserveSparse(4, 8),
-    Step::Counts(8, 4, 4),
-    Step::Meets(1, &[2]),
-    Step::Meets(4, &[1]),
-    Step::Meets(7, &[0]),
-];
-
-#[test]
-fn sparse_buckets_split_those_of_one_bucket_each(rt: HostRuntime) {
-    plays_on_sparse(&rt, 3, &SPLIT);
-}
-
-static RESERVED: [Step; 10] = [
+static RESERVED: [Step; 9] = [
     Step::Place(&[7, 4]),
     Step::Reserve(1),
-    Step::Counts(6, 2, 2),
+    Step::Counts(6, 6),
     Step::Reserve(6),
-    Step::Counts(6, 6, 6),
+    Step::Counts(6, 6),
     Step::Meets(1, &[0]),
     Step::Reserve(7),
-    Step::Counts(7, 7, 7),
+    Step::Counts(7, 7),
     Step::Meets(0, &[0]),
-    Step::Meets(4, &[1]),
 ];
 
 #[test]
 fn a_reservation_makes_buckets_only_if_there_are_fewer(rt: HostRuntime) {
-    plays_on_sparse(&rt, 2, &RESERVED);
+    plays_on(&rt, 6, &RESERVED);
 }
 
 static GROWN: [Step; 9] = [
-    Step::Counts(0, 0, 0),
+    Step::Counts(0, 0),
     Step::Meets(3, &[]),
     Step::Grow(4),
     Step::Grow(8),
@@ -352,7 +317,7 @@ static GROWN: [Step; 9] = [
     Step::Grow(32),
     Step::Grow(64),
     Step::Grow(128),
-    Step::Counts(128, 128, 128),
+    Step::Counts(128, 128),
 ];
 
 #[test]

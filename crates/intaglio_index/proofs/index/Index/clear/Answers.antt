@@ -10,8 +10,6 @@ invariant_of-self c =
     record {
       modulus = c.self.invariant.modulus;
       counted = c.self.invariant.counted;
-      enough = c.self.invariant.enough;
-      placed = rw c.clear.ensures.items (omega arith);
       linked = empty_links _ _ _ c.clear.ensures.items c.clear-2.ensures.items;
       headed = headed_none _ _ _ _ (zero_filters _ _ (c.fill.ensures.items (λ y e. e))) c.clear.ensures.items;
       filtered = filtered-none _ _ _ (filters ∙ c.self.invariant.filtered.size) c.clear.ensures.items;

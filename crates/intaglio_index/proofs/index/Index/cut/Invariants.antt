@@ -6,7 +6,6 @@ invariant-loop-self l = record {
   hashes : l.self.hashes ≡ take (length l.self.hashes) l.fn.self.hashes;
   enough : l.count ≤ length l.self.hashes;
   count : l.self.count ≡ l.fn.self.count;
-  places : l.self.places ≡ l.fn.self.places;
   room : l.self.room ≡ l.fn.self.room;
 }
 

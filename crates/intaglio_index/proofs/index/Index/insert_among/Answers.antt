@@ -17,10 +17,7 @@ number_is : (c : After-marked) → c.args.symbol ≡ length c.self.inside.hashes
 number_is c = rw (← c.self.view_is) at c.requires.next
 
 free : (c : After-marked) → c.args.symbol < length c.self.inside.heads.items
-free c = (let room = rw (← c.self.view_is) at c.requires.room in omega (arith, room, c.self.invariant.enough))
-
-filled : (c : After-marked) → length (c.self.inside.hashes.items ++ c.args.hash ∷ []) ≤ c.self.inside.places
-filled c = (let room = rw (← c.self.view_is) at c.requires.room in omega (arith, room, number_is c, length-append c.self.inside.hashes.items (c.args.hash ∷ [])))
+free c = (let room = rw (← c.self.view_is) at c.requires.room in room)
 
 within : (c : After-marked) → c.args.hash % length c.self.inside.heads.items < length c.self.inside.heads.items
 within c = omega (arith, free c)
@@ -59,8 +56,6 @@ invariant_of-self c =
     rw (c.push_reserved.ensures.items, c.push_reserved-in-None.ensures.items, c.unwrap_or.ensures, at_bucket all) record {
       modulus = c.self.invariant.modulus;
       counted = c.self.invariant.counted ∙ sym size;
-      enough = rw size c.self.invariant.enough;
-      placed = filled all;
       linked = rw size linked;
       headed = headed;
       filtered = rw size (filtered all);
@@ -90,8 +85,6 @@ invariant_of-self-in-Some c =
     rw (c.push_reserved.ensures.items, c.push_reserved-in-Some.ensures.items, c.unwrap_or-link.ensures, c.id.ensures, at_bucket all) record {
       modulus = c.self.invariant.modulus;
       counted = c.self.invariant.counted ∙ sym size;
-      enough = rw size c.self.invariant.enough;
-      placed = filled all;
       linked = rw size linked;
       headed = headed;
       filtered = rw size (filtered all);

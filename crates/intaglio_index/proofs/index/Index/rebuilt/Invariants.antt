@@ -4,8 +4,7 @@ use Rattle.intaglio_index.proofs.index.Index.rebuilt.Given as goal
 
 abbrev pub invariant-loop-i : goal.invariant-loop-i
 invariant-loop-i l = record {
-  count : l.index.count ≡ l.buckets;
-  places : l.index.places ≡ l.count;
+  count : l.index.count ≡ l.count;
   hashes : l.index.hashes ≡ take l.i l.self.hashes;
   room : l.index.room ≡ l.count;
   events : l.work.events ≡ l.initial.work.events ++ replicate l.i placed;

@@ -24,9 +24,6 @@ within c = omega (arith, last_is c, c.self.invariant.linked.few)
 next_is : (c : After-predecessor-before) → c.next-behind.result ≡ next_of c.self.inside.links.items (c.placed-last.result - 1)
 next_is c = rw (c.deref.ensures.value, c.new.ensures) at c.next-behind.ensures
 
-fewer : (c : After-predecessor-before) → length (take (c.placed-last.result - 1) c.self.inside.hashes.items) ≤ c.self.inside.places
-fewer c = omega (arith, length-take-le (c.placed-last.result - 1) c.self.inside.hashes.items (omega (arith, last_is c)), last_is c, c.self.invariant.placed)
-
 others : (c : After-predecessor-before) (b : ℕ) → b ≢ c.index-hash.result.now % length c.self.inside.heads.items →
     chain_from (length c.self.inside.heads.items) b 0 [] (take (c.placed-last.result - 1) c.self.inside.hashes.items) ≡ chain_from (length c.self.inside.heads.items) b 0 [] c.self.inside.hashes.items
 others c = others_stay (length c.self.inside.heads.items) c.self.inside.hashes.items c.self.inside.links.items c.self.invariant.linked c.index-hash.result.now (c.placed-last.result - 1) (last_is c) c.index-hash.ensures
@@ -57,8 +54,6 @@ invariant_of-self c =
     rw (c.truncate.ensures.items, c.truncate-2.ensures.items, at_bucket all) record {
       modulus = c.self.invariant.modulus;
       counted = c.self.invariant.counted;
-      enough = c.self.invariant.enough;
-      placed = fewer all;
       linked = cut.0;
       headed = headed_filter _ _ _ _ _ _ (within all) c.self.invariant.filtered.size (others all) c.self.invariant.headed 0 (λ e. empty, λ e. refl) (rw empty tt);
       filtered = filtered_vacated _ _ _ _ (filtered-take _ _ _ (c.placed-last.result - 1) c.self.invariant.filtered) empty;
@@ -84,8 +79,6 @@ invariant_of-self-in-Some-behind c =
     rw (c.truncate.ensures.items, c.truncate-2.ensures.items, at_bucket all) record {
       modulus = c.self.invariant.modulus;
       counted = c.self.invariant.counted ∙ sym size;
-      enough = rw size c.self.invariant.enough;
-      placed = fewer all;
       linked = rw size cut.0;
       headed = headed_head _ _ _ _ _ _ (within all) c.self.invariant.filtered.size (others all) c.self.invariant.headed c.read.result (neither (marked all) (led_some _ _ (sym c.in-Some-behind.is ∙ cut.1))) head;
       filtered = rw size (filtered-take _ _ _ (c.placed-last.result - 1) c.self.invariant.filtered);
@@ -162,8 +155,6 @@ invariant_of-self-in-Some c =
     rw (c.truncate.ensures.items, c.truncate-2.ensures.items, c.unwrap_or.ensures, c.id.ensures, at_bucket all) record {
       modulus = c.self.invariant.modulus;
       counted = c.self.invariant.counted ∙ sym size;
-      enough = rw size c.self.invariant.enough;
-      placed = fewer all;
       linked = rw size (behind_cut all c.in-Some.before pred).0;
       headed = headed;
       filtered = rw size (filtered-take _ _ _ (c.placed-last.result - 1) c.self.invariant.filtered);

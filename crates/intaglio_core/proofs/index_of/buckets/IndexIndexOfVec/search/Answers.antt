@@ -24,9 +24,8 @@ returns-in_err-find-clause-cost g c = λ h by.
     let k = g.Q.Keyed.key c.args.sought.now in
     let none : c.find.result ≡ None = search rules in
     let passed = passes g.C.Keyed.key h c.args.self.now contents k c.args.work.now.events c.find.new.work.events by.stored c.requires.distinct (rw by.sought at (c.find.ensures.passed none)) in
-    let spent = rw c.requires.over.buckets at passed in
     let missed = absent g.C.Keyed.key h c.args.self.now contents k by.stored (rw by.sought at (c.find.ensures.none none)) in
-    search-cost h k (bucket_keys h c.args.self.now.places (map g.C.Keyed.key contents) k) None _ _ _ missed spent (passes-recorded (bucket_of c.args.self.now c.args.hash) k c.args.work.now.events c.find.new.work.events (c.find.ensures.passed none)))
+    search-cost h k (bucket_keys h c.args.self.now.count (map g.C.Keyed.key contents) k) None _ _ _ missed passed (passes-recorded (bucket_of c.args.self.now c.args.hash) k c.args.work.now.events c.find.new.work.events (c.find.ensures.passed none)))
 
 pub loop-candidate-init : goal.loop-candidate-init
 loop-candidate-init g c = record {
@@ -50,15 +49,14 @@ pub returns-then-same_at-clause-cost : goal.returns-then-same_at-clause-cost
 returns-then-same_at-clause-cost g c = λ h by.
     (let walking = rw c.in-Some.is at (c.loop-candidate.invariant.walking h by) in
     let found = finds c.in-Some.symbol c.if-same_at.ensures.content _ walking (rw (← c.id.ensures) c.if-same_at.ensures.stands) (c.if-same_at.ensures.same_keys.0 refl) c.if-same_at.ensures.event in
-    let spent = rw c.requires.over.buckets at found.1 in
     let recorded = finds-recorded c.in-Some.symbol c.if-same_at.ensures.content _ walking (c.if-same_at.ensures.same_keys.0 refl) c.if-same_at.ensures.event in
-    search-cost _ _ _ (Some c.in-Some.symbol) _ _ _ found.0 spent recorded)
+    search-cost _ _ _ (Some c.in-Some.symbol) _ _ _ found.0 found.1 recorded)
 
 pub find_next-candidate-requires : goal.find_next-candidate-requires
 find_next-candidate-requires g c =
     let by = c.requires.hashed in
     let l = within c.in-Some.symbol (rw c.in-Some.is at (c.loop-candidate.invariant.walking by.0 by.1)) in
-    omega (arith, l, c.requires.over.sized)
+    omega (arith, l, c.requires.over)
 
 pub loop-candidate-smaller : goal.loop-candidate-smaller
 loop-candidate-smaller g c =
@@ -80,5 +78,4 @@ pub returns-clause-cost : goal.returns-clause-cost
 returns-clause-cost g c = λ h by.
     (let walking = rw c.in_default.is at (c.loop-candidate.invariant.walking h by) in
     let ended = ends walking in
-    let spent = rw c.requires.over.buckets at ended.1 in
-    search-cost _ _ _ None _ _ _ ended.0 spent (ends-recorded walking))
+    search-cost _ _ _ None _ _ _ ended.0 ended.1 (ends-recorded walking))
