@@ -1,4 +1,4 @@
-use Rattle.std.proofs.Common.{◌≡◌, ◌<◌, ◌+◌, ◌%◌, [], ◌∷◌, length, length-append, arith, ◌∙◌, sym, ap, refl, None}
+use Rattle.std.proofs.Common.{◌≡◌, ◌<◌, ◌+◌, ◌%◌, [], length, arith, ◌∙◌, sym, ap, refl, None}
 use Rattle.std.proofs.lemmas.List.{length-set, get_or_read}
 use Rattle.intaglio_index.specs.declared.index.head.Head.{Head}
 use Rattle.intaglio_index.specs.Placed.{Placed, chain, chain_from}
@@ -14,7 +14,7 @@ invariant_of-self c =
     let at : c.bucket-bucket.result ≡ c.args.hash % length c.self.inside.heads.items = c.bucket-bucket.ensures ∙ ap (λ n. c.args.hash % n) c.self.invariant.counted in
     let number : c.args.symbol ≡ length c.self.inside.hashes.items = rw (← c.self.view_is) at c.requires.next in
     let room = rw (← c.self.view_is) at c.requires.room in
-    let free : c.args.symbol < length c.self.inside.heads.items = omega (arith, room, c.self.invariant.enough) in
+    let free : c.args.symbol < length c.self.inside.heads.items = omega (arith, room) in
     let within : c.args.hash % length c.self.inside.heads.items < length c.self.inside.heads.items = omega (arith, free) in
     let none = is_vacant c.args.self.now c.self.inside.heads.items c.self.inside.filters.items (c.self.inside.modulus.mask + 1) (c.args.hash % length c.self.inside.heads.items) (ap (λ (v : Placed). v.count) (sym c.self.view_is)) c.self.invariant.filtered.size (rw (← c.self.view_is) c.self.invariant.headed) within _ (rw at at c.index-filter.ensures) c.if-filter-ne0.false in
     let empty : chain_from (length c.self.inside.heads.items) (c.args.hash % length c.self.inside.heads.items) 0 [] c.self.inside.hashes.items ≡ [] = rw (← c.self.view_is) at none in
@@ -30,8 +30,6 @@ invariant_of-self c =
     rw (c.push_reserved.ensures.items, c.push_reserved-2.ensures.items, at) record {
       modulus = c.self.invariant.modulus;
       counted = c.self.invariant.counted ∙ sym size;
-      enough = rw size c.self.invariant.enough;
-      placed = omega (arith, room, number, length-append c.self.inside.hashes.items (c.args.hash ∷ []));
       linked = rw size linked;
       headed = headed;
       filtered = rw size marks;

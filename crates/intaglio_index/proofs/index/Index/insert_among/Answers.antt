@@ -1,4 +1,4 @@
-use Rattle.std.proofs.Common.{◌≡◌, ℕ, ◌<◌, ◌≤◌, ◌+◌, ◌%◌, ◌++◌, ◌∷◌, [], length, length-append, set, arith, sym, ◌∙◌}
+use Rattle.std.proofs.Common.{◌≡◌, ℕ, ◌<◌, ◌+◌, ◌%◌, ◌++◌, ◌∷◌, [], length, set, arith, sym, ◌∙◌}
 use Rattle.std.proofs.lemmas.List.{length-set, get_or_read}
 use Rattle.intaglio_index.specs.Placed.{chain, chain_from, first_symbol_of, IsPredecessor}
 use Rattle.intaglio_index.specs.Heads.{IsWord, IsHead}
@@ -17,7 +17,7 @@ number_is : (c : After-marked) → c.args.symbol ≡ length c.self.inside.hashes
 number_is c = rw (← c.self.view_is) at c.requires.next
 
 free : (c : After-marked) → c.args.symbol < length c.self.inside.heads.items
-free c = (let room = rw (← c.self.view_is) at c.requires.room in room)
+free c = (let room = rw (← c.self.view_is) at c.requires.room in omega (arith, room))
 
 within : (c : After-marked) → c.args.hash % length c.self.inside.heads.items < length c.self.inside.heads.items
 within c = omega (arith, free c)

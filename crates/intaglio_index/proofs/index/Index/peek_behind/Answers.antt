@@ -1,4 +1,4 @@
-use Rattle.std.proofs.Common.{◌≡◌, ℕ, ◌<◌, ◌%◌, Some, length, get_or, sym, ◌∙◌}
+use Rattle.std.proofs.Common.{◌≡◌, ◌<◌, ◌%◌, length, get_or, sym, ◌∙◌}
 use Rattle.intaglio_index.proofs.SearchLemmas.{second_placed, at_second, last_placed, next_placed}
 use Rattle.intaglio_index.proofs.index.Index.peek_behind.Goals as goal
 use Rattle.intaglio_index.proofs.index.Index.peek_behind.Goals.{In-Some-next_entry}

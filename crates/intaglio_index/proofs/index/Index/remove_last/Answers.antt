@@ -1,5 +1,5 @@
-use Rattle.std.proofs.Common.{◌≡◌, ◌≢◌, ℕ, ◌<◌, ◌≤◌, ◌%◌, ◌+◌, ◌-◌, List, [], ◌∷◌, length, get_or, set, take, arith, ◌∙◌, sym, Some, unwrap_or, ap, refl, length-append}
-use Rattle.std.proofs.lemmas.List.{length-set, length-take-le}
+use Rattle.std.proofs.Common.{◌≡◌, ◌≢◌, ℕ, ◌<◌, ◌%◌, ◌+◌, ◌-◌, List, [], ◌∷◌, length, get_or, set, take, arith, ◌∙◌, sym, Some, unwrap_or, ap, refl, length-append}
+use Rattle.std.proofs.lemmas.List.{length-set}
 use Rattle.intaglio_index.specs.declared.index.head.Head.{Head}
 use Rattle.intaglio_index.specs.Placed.{Placed, chain, chain_from, first_symbol_of, BeginsAtOrAbove, IsPredecessor}
 use Rattle.intaglio_index.specs.Links.{IsThread, IsLinked, next_of}
