@@ -82,6 +82,12 @@ typedef struct {
     size_t len;
 } intaglio_spelling;
 
+/* The bytes of a frozen table, where several are passed. `at` isn't null. */
+typedef struct {
+    const uint8_t *at;
+    size_t len;
+} intaglio_block;
+
 /* What the dictionary of a column is: whether its strings are UTF-8, how many there are, and two hashes of them. The library writes it,
  * and no field may be changed. */
 typedef struct {
@@ -353,8 +359,8 @@ static inline size_t intaglio_frozen_size(const intaglio_table *table) {
 bool intaglio_frozen_is_text(const uint8_t *bytes, size_t len);
 
 /* A column is a list of codes in one block of bytes, such as a mapped file, that says which dictionary they belong to: docs/COLUMN-FILES.md has
- * the format. The dictionary is a frozen table, and the code of a row is the symbol of its string there, or INTAGLIO_MISSING. As a frozen
- * table, a column has no handle, and any number of threads may read one at the same time.
+ * the format. The dictionary is a frozen table, or several, its shards (shards_id), and the code of a row is the symbol of its string there, or
+ * INTAGLIO_MISSING. As a frozen table, a column has no handle, and any number of threads may read one at the same time.
  *
  * column_check says whether bytes are a column. The functions below it never read outside the bytes, whatever these are; of bytes that
  * weren't checked, a code may be that of no string. Rows are counted from 0. */
@@ -374,7 +380,7 @@ size_t intaglio_column_len(const uint8_t *bytes, size_t len);
 size_t intaglio_column_width(const uint8_t *bytes, size_t len);
 
 /* Stores which dictionary a column belongs to, and which dictionary a frozen table is; of that, the ends and the text are read. A column
- * fits a frozen table if both are the same by intaglio_same_dictionary.
+ * fits a frozen table if both are the same by intaglio_same_dictionary. shards_id is for a dictionary in shards.
  * Errors: those of column_check and frozen_check that a header, or the number of bytes, can have. *id is then unchanged. */
 INTAGLIO_MUST_USE intaglio_code intaglio_column_id(const uint8_t *bytes, size_t len, intaglio_dictionary_id *id);
 INTAGLIO_MUST_USE intaglio_code intaglio_frozen_id(const uint8_t *bytes, size_t len, intaglio_dictionary_id *id);
@@ -413,6 +419,15 @@ static inline size_t intaglio_column_size(const intaglio_dictionary_id *id, size
 
 /* A dictionary in shards is a folder of frozen tables, of which each has the strings that belong to it: docs/FROZEN.md has the format. So equal
  * strings of several dictionaries meet in one shard, on whatever machine. */
+
+/* Stores which dictionary the shards are together: what frozen_id stores for one frozen table that has the strings of all shards, one shard
+ * after the other, and whose strings are UTF-8 if those of each shard are. The ends and the text of each shard are read. Whether each string
+ * is found, and is in the shard that it belongs to, isn't checked. Memory for the number of shards is allocated, and freed before the call
+ * returns.
+ * Errors: those of frozen_check that a header, the number of bytes or the ends can have; *number is then that of the first shard with such a
+ * fault. TOO_MANY if there are 2^32 strings or more together, and NO_MEMORY; *number is then `count`, as it is without an error. After
+ * an error *id is unchanged. */
+INTAGLIO_MUST_USE intaglio_code intaglio_shards_id(const intaglio_block *shards, size_t count, intaglio_dictionary_id *id, size_t *number);
 
 /* Returns which shard a string belongs to, of `shards` ones: from 0 to shards - 1. It depends on the bytes and on `shards` alone. If `shards` is 0, it
  * is 0. */

@@ -1,6 +1,6 @@
 /* Reads a frozen table and a column file of it, whose codes come on standard input, each on a line, and whose codes have as many bytes as the
- * third argument says. The column must have these codes, and must be what the library makes of them. Then cuts the file at each length and
- * changes each byte, and writes the code of each, its rows, the width, and the code of reading its dictionary: no call may read outside the
+ * third argument says. The column must have these codes, and must be what the library makes of them. The table's strings in shards must be the
+ * same dictionary. Then cuts the file at each length and changes each byte, and writes the code of each, its rows, the width, and the code of reading its dictionary: no call may read outside the
  * bytes. */
 #define _POSIX_C_SOURCE 200809L
 #include "intaglio.h"
@@ -14,6 +14,7 @@
 
 enum {
     ROWS = 1 << 12,
+    SHARDS = 3,
     UNWRITTEN = 7
 };
 
@@ -111,6 +112,95 @@ static void same_dictionary(const uint8_t *bytes, size_t len, const uint8_t *tab
     free(counts);
 }
 
+/* A frozen table of the strings from one symbol to another. */
+static intaglio_block freeze_some(const uint8_t *table, size_t len, size_t from, size_t to, uint32_t kind) {
+    intaglio_table part = INTAGLIO_TABLE_NONE;
+    intaglio_spelling string;
+    intaglio_block block;
+    uint32_t symbol;
+    WANT(intaglio_new(&part, kind, 1, 2) == INTAGLIO_DONE);
+    for (size_t i = from; i < to; i++) {
+        WANT(intaglio_frozen_get(table, len, (uint32_t)i, &string));
+        WANT(intaglio_intern(&part, string.at, string.len, &symbol) == INTAGLIO_DONE && symbol == i - from);
+    }
+    size_t size = intaglio_frozen_size(&part);
+    uint8_t *bytes = (uint8_t *)malloc(size);
+    WANT(bytes && intaglio_freeze(&part, 5, 6, bytes, size, &block.len) == INTAGLIO_DONE && block.len == size);
+    block.at = bytes;
+    intaglio_free(&part);
+    return block;
+}
+
+/* What shards are, whole. */
+static intaglio_dictionary_id id_of(const intaglio_block *shards, size_t number_of_shards) {
+    intaglio_dictionary_id id;
+    size_t number = UNWRITTEN;
+    memset(&id, UNWRITTEN, sizeof id);
+    WANT(intaglio_shards_id(shards, number_of_shards, &id, &number) == INTAGLIO_DONE && number == number_of_shards);
+    return id;
+}
+
+/* Shards with a fault: the number is that of the first, and nothing else is written. */
+static void refuse_shards(const intaglio_block *shards, uint32_t code, size_t first) {
+    intaglio_dictionary_id id, unwritten;
+    size_t number = UNWRITTEN;
+    memset(&id, UNWRITTEN, sizeof id);
+    memset(&unwritten, UNWRITTEN, sizeof unwritten);
+    WANT(intaglio_shards_id(shards, SHARDS, &id, &number) == code && number == first);
+    WANT(id.count == unwritten.count && id.hash0 == unwritten.hash0 && id.hash1 == unwritten.hash1);
+}
+
+/* Damages each shard in turn, and those behind it. */
+static void damage_shards(const intaglio_block *shards) {
+    for (size_t first = 0; first < SHARDS; first++) {
+        intaglio_block damaged[SHARDS];
+        uint8_t *bytes = (uint8_t *)malloc(shards[first].len);
+        WANT(bytes);
+        memcpy(bytes, shards[first].at, shards[first].len);
+        memcpy(damaged, shards, sizeof damaged);
+        for (size_t i = first; i < SHARDS; i++) damaged[i].len = i == first ? damaged[i].len - 1 : 0;
+        /* (the text is one byte shorter, or the last section, if there is no text) */
+        refuse_shards(damaged, intaglio_frozen_len(damaged[first].at, damaged[first].len) ? INTAGLIO_TEXT_ENDS : INTAGLIO_TRUNCATED, first);
+        damaged[first].len = 63;
+        refuse_shards(damaged, INTAGLIO_TRUNCATED, first);
+        damaged[first].len = 0;
+        refuse_shards(damaged, INTAGLIO_NOT_FROZEN, first);
+        damaged[first].at = bytes;
+        damaged[first].len = shards[first].len;
+        bytes[8]++;
+        refuse_shards(damaged, INTAGLIO_OTHER_VERSION, first);
+        free(bytes);
+    }
+}
+
+/* The strings of the table in shards are the same dictionary: in one, in three, of which one may be empty, and in those in another order not. */
+static void same_in_shards(const uint8_t *table, size_t len) {
+    intaglio_dictionary_id whole, id;
+    const intaglio_block one = {table, len};
+    size_t strings = intaglio_frozen_len(table, len), half = strings / 2;
+    WANT(intaglio_frozen_id(table, len, &whole) == INTAGLIO_DONE && whole.is_text);
+    id = id_of(&one, 1);
+    WANT(intaglio_same_dictionary(&whole, &id));
+    const intaglio_block shards[SHARDS] = {
+        freeze_some(table, len, 0, half, INTAGLIO_TEXT), freeze_some(table, len, half, half, INTAGLIO_TEXT), freeze_some(table, len, half, strings, INTAGLIO_PACKED_TEXT)};
+    id = id_of(shards, SHARDS);
+    WANT(intaglio_same_dictionary(&whole, &id));
+    damage_shards(shards);
+    const intaglio_block turned[] = {shards[2], shards[0]}, mixed[] = {freeze_some(table, len, 0, half, INTAGLIO_BYTES), shards[2]};
+    id = id_of(turned, 2);
+    WANT(id.count == whole.count && intaglio_same_dictionary(&whole, &id) == (half == 0));
+    /* One shard of bytes makes all of them bytes. */
+    const intaglio_block bytes = freeze_some(table, len, 0, strings, INTAGLIO_BYTES);
+    WANT(intaglio_frozen_id(bytes.at, bytes.len, &whole) == INTAGLIO_DONE && !whole.is_text);
+    id = id_of(mixed, 2);
+    WANT(intaglio_same_dictionary(&whole, &id));
+    id = id_of(NULL, 0);
+    WANT(id.is_text && id.count == 0);
+    for (size_t i = 0; i < SHARDS; i++) free((void *)(uintptr_t)shards[i].at);
+    free((void *)(uintptr_t)mixed[0].at);
+    free((void *)(uintptr_t)bytes.at);
+}
+
 /* The codes are made the same bytes. */
 static void write_codes(const uint8_t *bytes, size_t len) {
     intaglio_dictionary_id id;
@@ -161,6 +251,7 @@ int main(int argc, char **argv) {
     WANT(intaglio_column_width(bytes, len) == (size_t)atoi(argv[3]));
     same_codes(bytes, len);
     same_dictionary(bytes, len, table, table_len);
+    same_in_shards(table, table_len);
     write_codes(bytes, len);
     for (size_t cut = 0; cut < len; cut++) {
         /* (an allocation of its own, so that a read behind it is seen) */

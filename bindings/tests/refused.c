@@ -115,6 +115,15 @@ static void run(uint32_t kind, long nth) {
         before = refused;
     }
     WANT(intaglio_frozen_check(frozen, size) == INTAGLIO_DONE && intaglio_frozen_len(frozen, size) == 14);
+    const intaglio_block shards[] = {{frozen, size}, {frozen, size}};
+    intaglio_dictionary_id id = {false, 7, 7, 7};
+    size_t number = 7;
+    before = refused;
+    while (!done(intaglio_shards_id(shards, 2, &id, &number), before, nth)) {
+        WANT(id.count == 7 && id.hash0 == 7 && id.hash1 == 7 && number == 2);
+        before = refused;
+    }
+    WANT(id.count == 28 && number == 2);
     WANT(intaglio_take_back(&table, 5) == INTAGLIO_DONE);
     uint32_t map[14];
     before = refused;

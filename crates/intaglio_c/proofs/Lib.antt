@@ -6,3 +6,4 @@ pub mod Batches
 pub mod Hashes
 pub mod Pieces
 pub mod Walks
+pub mod Together

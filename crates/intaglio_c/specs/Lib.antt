@@ -1,6 +1,7 @@
 -- What the contracts cite.
 pub mod Answers
 pub mod Batches
+pub mod Blocks
 pub mod Columns
 pub mod Frozen
 pub mod Handles

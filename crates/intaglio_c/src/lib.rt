@@ -9,6 +9,7 @@
 mod ahead;
 mod any_table;
 mod batch;
+mod blocks;
 mod exports;
 mod handle;
 mod kind;

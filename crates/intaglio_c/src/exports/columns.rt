@@ -1,12 +1,14 @@
 //! Columns, which are their bytes. Each call reads their header again, and nothing outside them.
-ghost use Rattle.std.specs.Prelude.{◌≡◌, ◌-◌, drop, false, length, min, slice_get};
+ghost use Rattle.std.specs.Prelude.{◌≡◌, ◌-◌, drop, false, length, map, min, slice_get};
 ghost use Rattle.intaglio_column_file.specs.IsColumn.{HasRows, IsColumn};
 ghost use Rattle.intaglio_column_file.specs.Layout.{codes, width as width_of};
 ghost use Rattle.intaglio_column_file.specs.Rows.{overlaid, rows_of};
 ghost use Rattle.intaglio_column_file.specs.Width.{bytes_of};
 ghost use Rattle.intaglio_c.specs.Answers.{IsCodeOf, given};
+ghost use Rattle.intaglio_c.specs.Blocks.{MakesIdOfAll};
 ghost use Rattle.intaglio_c.specs.Columns.{ChecksColumn, Counts, MakesId, ReadsId, WritesColumn};
 
+use crate::blocks::{are_texts, count_of, read_blocks};
 use crate::refusal::{Refusal, code};
 use crate::spelling::fill;
 use intaglio_column_file::{Column, DictionaryId, column_bytes, id_of_table};
@@ -81,6 +83,39 @@ pub extern "C" fn intaglio_frozen_id(bytes: &[u8], id: &mut DictionaryId) -> u32
     ensures made { IsCodeOf result (MakesId bytes.now id.old id.new) }
 {
     code(frozen_id(bytes, id))
+}
+
+// Makes the id of the dictionary of several frozen tables.
+fn shards_id(
+    alloc: Global,
+    tables: &[&[u8]],
+    id: &mut DictionaryId,
+    number: &mut usize,
+) -> Result<(), Refusal>
+    ensures made { MakesIdOfAll (map (λ t. t.now) tables.now) id.old id.new number.new result }
+{
+    let blocks = read_blocks(alloc, tables, number)?;
+    let count = count_of(&blocks)?;
+    *id = DictionaryId::of_lists(are_texts(tables), count, &blocks);
+    Ok(())
+}
+
+/// Writes what the dictionary is whose shards are these frozen tables: that of all their strings, those of one table
+/// behind those of the tables before it, and of texts if each table is. All ends and all texts are read.
+/// Fails with what is wrong with the header or the ends of a table, and then writes the number of the first table that
+/// has a fault. Fails with `TooMany` if there are 2^32 strings or more together, and with `NoMemory`. Unless a table has
+/// a fault, it writes how many tables there are. After an error no id is written.
+#[unsafe(no_mangle)]
+pub extern "C" fn intaglio_shards_id(
+    alloc: Global,
+    tables: &[&[u8]],
+    id: &mut DictionaryId,
+    number: &mut usize,
+) -> u32
+    ensures made { IsCodeOf result
+        (MakesIdOfAll (map (λ t. t.now) tables.now) id.old id.new number.new) }
+{
+    code(shards_id(alloc, tables, id, number))
 }
 
 /// Writes the code of a row of a column, if there is that row, and returns whether there is.
