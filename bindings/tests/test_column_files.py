@@ -1,8 +1,12 @@
-"""Column files from Python: beside plain lists, and beside checks/frozen_columns.py, which is written from docs/COLUMN-FILES.md
-alone."""
+"""Column files from Python: beside plain lists, beside checks/frozen_columns.py, which is written from docs/COLUMN-FILES.md
+alone, and beside the program, if it is built."""
+import copy
+import itertools
 import os
+import pickle
 import random
 import stat
+import subprocess
 import sys
 import tempfile
 import unittest
@@ -11,18 +15,33 @@ from collections import Counter
 from pathlib import Path
 
 sys.dont_write_bytecode = True
-sys.path.insert(0, str(Path(__file__).resolve().parent.parent.parent / "checks"))
+TOP = Path(__file__).resolve().parent.parent.parent
+sys.path.insert(0, str(TOP / "checks"))
+import columns
 import frozen_columns
+import frozen_shards
+import frozen_tables
 import intaglio
-from intaglio import MISSING, BytesTable, Column, Frozen, SymbolTable
+from intaglio import MISSING, BytesTable, Column, Frozen, Shards, SymbolTable, merge, renumber, split
 
+PROGRAM = TOP / "crates/intaglio_dict/out/intaglio_dict"
 ROUNDS = 200
+# How many shards dictionaries have.
+SHARDS = (1, 2, 3, 40)
 # How many strings dictionaries have, and the width of their codes.
 WIDTHS = ((1, 1), (255, 1), (256, 2), (65_535, 2), (65_536, 4))
 
 
 def texts(count):
     return [f"s{it}" for it in range(count)]
+
+
+def encoded(strings):
+    return [it.encode() if isinstance(it, str) else it for it in strings]
+
+
+def kind_of(strings):
+    return frozen_tables.TEXT if all(isinstance(it, str) for it in strings) else frozen_tables.BYTES
 
 
 def plain_index(lines, string, *bounds):
@@ -45,6 +64,17 @@ class OfColumns(unittest.TestCase):
         table = (SymbolTable if all(isinstance(it, str) for it in strings) else BytesTable)(strings)
         table.freeze(self.folder / "dict")
         return Frozen(self.folder / "dict")
+
+    def put(self, strings, count, name="words"):
+        """A folder of these strings in so many shards that another writer wrote, and the strings in its order."""
+        parts, kind = frozen_shards.shards_of(encoded(strings), count), kind_of(strings)
+        frozen_shards.put(self.folder / name, frozen_shards.folder_of(parts, kind))
+        in_order = [*itertools.chain(*parts)]
+        return self.folder / name, [it.decode() for it in in_order] if kind == frozen_tables.TEXT else in_order
+
+    def write_of(self, strings, codes):
+        """The bytes of a column of these codes of a dictionary with these strings in this order, by another writer."""
+        return frozen_columns.column(frozen_columns.id_of_strings(encoded(strings), kind_of(strings)), codes)
 
     def write(self, words, codes):
         """A column of these codes that another writer wrote."""
@@ -258,9 +288,170 @@ class OfColumns(unittest.TestCase):
             Column(self.path, SymbolTable(["s0"]))
         with self.assertRaises(FileNotFoundError):
             Column(self.folder / "absent", words)
+        with self.assertRaisesRegex(FileNotFoundError, f"'{self.folder}/shards'$"):
+            Column(self.path, self.folder)
         with open(self.path, "rb") as file:
             self.assertEqual(list(Column(os.dup(file.fileno()), words)), ["s0"])
 
+    # Of dictionaries in shards.
+
+    def test_columns_of_shards_are_read_and_written(self):
+        for count, (strings, width) in (*itertools.product(SHARDS, WIDTHS[:3]), (3, WIDTHS[4])):
+            folder, in_order = self.put(texts(strings), count, f"{count} {strings}")
+            codes = [0, strings - 1, MISSING, 0, strings // 2]
+            lines = [None if it == MISSING else in_order[it] for it in codes]
+            written = self.write_of(in_order, codes)
+            for trusted in (False, True):
+                with Shards(folder, trusted=trusted) as words:
+                    self.path.write_bytes(written)
+                    with Column(self.path, words, trusted=trusted) as column:
+                        self.compare(column, lines)
+                        self.assertEqual((column.width, column.widened()), (width, array("I", codes)))
+                        self.assertEqual(repr(column), f"<Column of 5 rows of {strings} strings>")
+                        self.assertIs(column.dictionary, words)
+                    self.path.unlink()
+                    words.write_column(self.path, words.encode(lines, missing=MISSING))
+                    self.assertEqual(self.path.read_bytes(), written)
+
+    def test_random_columns_of_shards_are_plain_lists(self):
+        for seed in range(ROUNDS):
+            rng = random.Random(seed)
+            strings = ["", "a", "\u00e9", "b c", "d" * 300] if rng.random() < .7 else [b"", b"a", b"\xff", b"\n"]
+            folder, strings = self.put(strings[: rng.randrange(6)], rng.choice(SHARDS[:3]), str(seed))
+            lines = [rng.choice([*strings, None]) for _ in range(rng.randrange(12))]
+            with Shards(folder) as words:
+                words.write_column(self.path, words.encode(lines, missing=MISSING))
+            codes = [MISSING if it is None else strings.index(it) for it in lines]
+            self.assertEqual(self.path.read_bytes(), self.write_of(strings, codes))
+            with Column(self.path, folder) as column:
+                self.compare(column, lines)
+
+    def test_the_folder_of_shards_may_be_a_path(self):
+        folder, strings = self.put(texts(9), 3)
+        for path in (folder, str(folder), os.fsencode(folder)):
+            self.path.write_bytes(self.write_of(strings, [2, 0]))
+            with Column(self.path, path) as column:
+                self.assertEqual((list(column), column[0:1]), ([strings[2], strings[0]], [strings[2]]))
+                words = column.dictionary
+            self.assertEqual((repr(words), repr(column)), ("<Shards, closed>", "<Column, closed>"))
+        (folder / "shards").write_bytes(b"")
+        with self.assertRaisesRegex(intaglio.NotShards, f"^{folder}/shards: line 1 "):
+            Column(self.path, folder)
+
+    def test_shards_and_a_file_of_the_same_strings_are_one_dictionary(self):
+        folder, strings = self.put(texts(300), 3)
+        one = Frozen.from_bytes(SymbolTable(strings).freeze(keys=(5, 6)))
+        words = Shards(folder)
+        for writer, reader in ((one, words), (words, one), (words, copy.copy(words)), (words, pickle.loads(pickle.dumps(words)))):
+            writer.write_column(self.path, array("I", [299, MISSING, 0]))
+            self.assertEqual(list(Column(self.path, reader)), [strings[299], None, strings[0]])
+            self.assertIs(type(Column(self.path, reader).dictionary), type(reader))
+        # What the strings are opened as is no part of it.
+        as_bytes = Shards(folder, kind=bytes)
+        self.assertEqual(list(Column(self.path, as_bytes)), [strings[299].encode(), None, strings[0].encode()])
+        as_bytes.write_column(self.path, array("I", [1]))
+        self.assertEqual(list(Column(self.path, words)), [strings[1]])
+
+    def test_shards_of_both_kinds_are_a_dictionary_of_bytes(self):
+        both = [frozen_shards.shards_of([b"a", b"b", b"c", b"d"], 2)[it] for it in (0, 1)]
+        tables = [frozen_tables.freeze(it, kind) for it, kind in zip(both, (frozen_tables.TEXT, frozen_tables.BYTES))]
+        index = frozen_shards.index_of([frozen_columns.id_of(it) for it in tables])
+        frozen_shards.put(self.folder / "both", {"0.dict": tables[0], "1.dict": tables[1], "shards": index})
+        strings = [*itertools.chain(*both)]
+        with Shards(self.folder / "both") as words:
+            words.write_column(self.path, array("I", [3, 0]))
+            self.assertEqual(self.path.read_bytes(), self.write_of(strings, [3, 0]))
+            self.assertEqual(list(Column(self.path, words)), [strings[3], strings[0]])
+
+    def test_other_shards_are_refused_by_both_names(self):
+        folder, strings = self.put(texts(300), 3)
+        self.path.write_bytes(self.write_of(strings, [2, 0]))
+        others = [self.put(texts(300), 4, "other split"), self.put(texts(301), 3, "longer")]
+        others += [self.put(texts(300)[::-1], 3, "turned"), self.put(encoded(texts(300)), 3, "of bytes")]
+        for other, in_order in others:
+            self.assertNotEqual(in_order, strings)
+            for dictionary in (Shards(other), other):
+                for trusted in (False, True):
+                    with self.assertRaisesRegex(
+                        intaglio.OtherDictionary, f"^{self.path}: a column of another dictionary than {other}$"
+                    ) as caught:
+                        Column(self.path, dictionary, trusted=trusted)
+                    self.assertEqual((caught.exception.column, caught.exception.dictionary), (str(self.path), str(other)))
+        self.assertEqual(list(Column(self.path, folder)), [strings[2], strings[0]])
+
+    def test_columns_of_parts_are_renumbered(self):
+        lines, folders = [["b", "a", None, "c", "a"], ["d", None, "a"]], []
+        for number, part in enumerate(lines):
+            split(Frozen.from_bytes(SymbolTable(filter(None, part)).freeze()), self.folder / f"part {number}", 2)
+            folders.append(self.folder / f"part {number}")
+        parts = [Shards(it) for it in folders]
+        whole, maps = merge(parts, self.folder / "whole", shards=2)
+        for part, of_part, numbers in zip(parts, lines, maps):
+            part.write_column(self.path, part.encode(of_part, missing=MISSING))
+            with self.assertRaisesRegex(intaglio.OtherDictionary, f" than {self.folder / 'whole'}$"):
+                Column(self.path, whole)
+            with Column(self.path, part) as column:
+                whole.write_column(self.folder / "new", renumber(column.widened(), numbers))
+            with Column(self.folder / "new", self.folder / "whole") as column:
+                self.compare(column, of_part)
+
+    def test_what_cannot_be_written_of_shards_leaves_the_file(self):
+        folder, strings = self.put(texts(3), 2)
+        with Shards(folder) as words:
+            words.write_column(self.path, array("I", [0]))
+            before = self.path.read_bytes()
+            for codes, position in (([0, 3], 1), ([MISSING - 1], 0)):
+                said = f"^code {codes[position]} at position {position} is no symbol$"
+                with self.assertRaisesRegex(intaglio.NoSymbol, said):
+                    words.write_column(self.path, array("I", codes))
+            column = Column(self.path, words)
+        self.assertEqual(self.path.read_bytes(), before)
+        with Shards(folder) as closed:
+            pass
+        for read in (
+            lambda: column[0], lambda: column.rows_of("s0"), lambda: Column(self.path, closed),
+            lambda: closed.write_column(self.path, array("I", [0])),
+        ):
+            with self.assertRaisesRegex(ValueError, "^the Shards was closed$"):
+                read()
+
+    def test_trusted_shards_with_other_ends_are_refused_by_name(self):
+        folder, strings = self.put(texts(30), 3)
+        self.path.write_bytes(self.write_of(strings, [0]))
+        for number in range(3):
+            path = folder / f"{number}.dict"
+            data = path.read_bytes()
+            path.write_bytes(data[:-1])
+            for read in (
+                lambda: Column(self.path, Shards(folder, trusted=True)),
+                lambda: Shards(folder, trusted=True).write_column(self.path, array("I", [0])),
+            ):
+                with self.assertRaisesRegex(intaglio.TextEnds, f"^{path}: ") as caught:
+                    read()
+                self.assertEqual((caught.exception.filename, caught.exception.position), (str(path), number))
+            path.write_bytes(data)
+        self.assertEqual(list(Column(self.path, Shards(folder, trusted=True))), [strings[0]])
+
+    @unittest.skipUnless(os.access(PROGRAM, os.X_OK), "intaglio_dict isn't built")
+    def test_the_program_writes_the_same_bytes(self):
+        def ran(*words, given=None):
+            return subprocess.run([PROGRAM, *map(str, words)], check=True, capture_output=True, input=given).stdout
+
+        lines = [None if it % 7 == 0 else f"s{it * it % 300}" for it in range(500)]
+        given, name = columns.ended(b"absent" if it is None else it.encode() for it in lines), self.folder / "of_program"
+        for count in SHARDS:
+            self.freeze(texts(300))
+            ran("split", self.folder / "dict", "--shards", count, "-o", self.folder / f"{count}")
+            for dictionary in (Shards(self.folder / f"{count}"), self.freeze(texts(300))):
+                path = self.folder / "dict" if isinstance(dictionary, Frozen) else self.folder / f"{count}"
+                ran("encode", "--missing", path, "--column", name, given=given)
+                dictionary.write_column(self.path, dictionary.encode(lines, missing=MISSING))
+                self.assertEqual(self.path.read_bytes(), name.read_bytes())
+                self.compare(Column(name, path), lines)
+                self.assertEqual(ran("decode", "--missing", "absent", path, self.path), given)
+
 
 if __name__ == "__main__":
+    if not os.access(PROGRAM, os.X_OK):
+        print("left out: intaglio_dict isn't built")
     unittest.main()

@@ -9,10 +9,10 @@ from array import array
 from unittest import mock
 
 from intaglio import (
-    MISSING, BytesTable, CStringTable, Frozen, Full, Missing, NoSymbol, NotUtf8, Shards, Stale, SymbolTable, merge, renumber,
-    split,
+    MISSING, BytesTable, CStringTable, Frozen, Full, Missing, NoSymbol, NotUtf8, Shards, Stale, SymbolTable, TextEnds, merge,
+    renumber, split,
 )
-from intaglio._table import frozen_misplaced, frozen_shards, split_map
+from intaglio._table import frozen_misplaced, frozen_shards, shards_id, split_map
 
 try:
     import _testcapi
@@ -59,6 +59,7 @@ class Memory(unittest.TestCase):
         split(frozen, folder.name, 3)
         shards = Shards(folder.name)
         numbers, in_shards, of_each = shards.encode(words), list(shards), frozen_shards(frozen._data, 3)
+        cut = shards._data[0], (*shards._data[1][:2], shards._data[1][2][:-1])
         for number, (call, wanted) in enumerate(
             (
                 (lambda: frozen.encode([*words]), codes), (lambda: frozen.encode(iter(words)), codes),
@@ -95,6 +96,7 @@ class Memory(unittest.TestCase):
                 (lambda: frozen_shards(frozen._data, 3), of_each), (lambda: split_map(of_each, 3), numbers),
                 (lambda: frozen_misplaced(frozen._data, 3, 3), 0), (lambda: frozen_misplaced(shards.tables[1]._data, 3, 1), None),
                 (lambda: list(SymbolTable()._absorb_shard(frozen._data, of_each, 0)), [*range(of_each.count(0))]),
+                (lambda: shards_id(shards._data), shards._identity()), (lambda: shards_id(cut), TextEnds),
             )
         ):
             results = list(self.results(call))

@@ -447,7 +447,6 @@ class OfShards(unittest.TestCase):
                 with self.assertRaises(TypeError):
                     call(wrong)
         out = self.at / "out"
-        words.write_column(self.at / "column", array("I"))
         for count in (0, -1, 2**32):
             for call in (lambda: split(words, out, count), lambda: merge([words], out, shards=count)):
                 with self.assertRaisesRegex(ValueError, r"^the number of shards is from 1 to 2\*\*32 - 1$"):
@@ -462,8 +461,9 @@ class OfShards(unittest.TestCase):
             with self.assertRaises(TypeError):
                 call()
         self.assertFalse(out.exists())
-        with self.assertRaisesRegex(TypeError, "^a column belongs to a Frozen, not to a Shards: use plain codes with that$"):
-            intaglio.Column(self.at / "column", shards)
+        for codes in (array("Q", [0]), b"\0\0\0\0", [0]):
+            with self.assertRaisesRegex(TypeError, "integers of 4 bytes"):
+                shards.write_column(self.at / "column", codes)
         with self.assertRaises(NotADirectoryError):
             split(words, self.folder / "0.dict", 2)
         with self.assertRaises(FileNotFoundError):

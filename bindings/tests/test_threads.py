@@ -12,7 +12,7 @@ from array import array
 
 import intaglio
 from intaglio import MISSING, Frozen, Shards, SymbolTable, merge, renumber, split
-from intaglio._table import frozen_shards, frozen_slice
+from intaglio._table import frozen_shards, frozen_slice, shards_id
 
 CALLS = 60_000
 THREADS = 3
@@ -175,6 +175,7 @@ class FrozenTables(unittest.TestCase):
             ("encode by shards", lambda: self.shards.encode(self.column)),
             ("decode by shards", lambda: self.shards.decode(self.numbers)),
             ("to share strings out", lambda: frozen_shards(self.long._data, 7)),
+            ("to compare shards", lambda: shards_id((array("I", [0, LONG]), (self.long._data,)))),
             ("to intern a shard", lambda: SymbolTable()._absorb_shard(self.long._data, array("I", bytes(4 * LONG)), 0)),
             ("to intern all for merge", lambda: SymbolTable()._absorb_alone(self.long)),
             ("to freeze for merge", lambda: self.long_table._freeze_alone((0, 0))),

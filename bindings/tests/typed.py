@@ -75,7 +75,7 @@ with TemporaryDirectory() as folder:
         cells: list[str | None] = column[1:]
         rows: "array[int]" = column.rows_of("b")
         tally: Counter[str | None] = column.counts()
-        words: Frozen[str] = column.dictionary
+        words: Frozen[str] | Shards[str] = column.dictionary
         raw: memoryview = column.codes
         as_strings: Sequence[str | None] = column
         assert (cell, cells, list(rows), tally[None], words[0], raw.tolist(), len(as_strings), column.widened()[2]) == (
@@ -92,6 +92,10 @@ with TemporaryDirectory() as folder:
         where: int | None = shards.check_interned("b")
         found_there: "array[int]" = shards.encode(["b", None], missing=MISSING)
         tables: tuple[Frozen[str], ...] = shards.tables
+        shards.write_column(Path(folder) / "sharded", found_there)
+        with Column(Path(folder) / "sharded", shards) as sharded:
+            of_sharded: list[str | None] = list(sharded)
+            assert of_sharded == ["b", None]
         whole, new_maps = merge([path, shards, Path(folder) / "shards"], f"{folder}/whole", shards=2)
         both: Shards[str] = whole
         assert (of_shards, found_there[0], len(tables), len(both), len(new_maps[2])) == (["a", "b"], where, 2, 2, 2)

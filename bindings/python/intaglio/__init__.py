@@ -26,7 +26,7 @@ frozen.write_column(path, codes) writes codes to a file that says which table th
 read-only sequence of strings, which finds the rows of a string and counts strings by their codes alone.
 
 split writes a frozen table to a folder as a dictionary in shards, which Shards(folder) maps: a read-only sequence of strings too,
-whose shards can be merged each by itself, by merge(.., shards=..).
+whose shards can be merged each by itself, by merge(.., shards=..). It has write_column too, and a Column may belong to it.
 
 A call that the library refuses raises a subclass of Refused, named after the reason, and leaves the strings unchanged. `position`
 says which string of several it is about, and `filename` which file. A string that isn't in a Frozen raises Missing, a KeyError.

@@ -13,7 +13,9 @@ from intaglio._table import (
 )
 from intaglio.errors import OtherDictionary, Refused, name_file
 from intaglio.frozen import Frozen, map_file
-from intaglio.strings import CHUNK, Strings
+from intaglio.frozen import refuse_bytes as refuse_table
+from intaglio.shards import Shards
+from intaglio.strings import CHUNK
 
 # What a column begins with, and how many bytes its header has.
 MAGIC, HEADER = b"INT\x89COL\n", 64
@@ -22,13 +24,13 @@ FORMATS = {1: "B", 2: "H", 4: "I"}
 
 
 class Column(Sequence):
-    """A read-only column of strings in a file, as Frozen.write_column writes it. The file is mapped. It is a sequence of its
-    strings, and of None for those that are missing.
+    """A read-only column of strings in a file, as write_column of a Frozen or of a Shards writes it. The file is mapped. It is a
+    sequence of its strings, and of None for those that are missing.
 
     Column(path, dictionary, *, trusted=False)
 
-    dictionary: the Frozen, or the path of one, that the column was written with, or another with the same strings and kind. A
-    column of another dictionary raises OtherDictionary.
+    dictionary: the Frozen or Shards that the column was written with, or the path of its file or folder, or another with the same
+    strings in the same order and the same kind. A column of another dictionary raises OtherDictionary.
 
     trusted: the file is known to be whole, and its codes aren't checked, so that opening takes the same time for each file. In a
     damaged one a code may be that of no string: what returns strings then raises NoSymbol. The file must not be made shorter
@@ -43,18 +45,16 @@ class Column(Sequence):
     (['be', 'to', None, 'be'], 'be', array('Q', [0, 3]), Counter({'be': 2, 'to': 1, None: 1}))
 
     Raises NotColumn, OtherVersion, NoKind, TooMany, BadWidth, Reserved, Truncated, TrailingBytes, NoSymbol, which name the file,
-    OtherDictionary, OSError, and what Frozen raises.
+    OtherDictionary, OSError, and what Frozen and Shards raise.
     """
 
     def __init__(self, path, dictionary, *, trusted=False):
         refuse_bytes(path)
-        if isinstance(dictionary, Strings) and not isinstance(dictionary, Frozen):
-            raise TypeError(f"a column belongs to a Frozen, not to a {type(dictionary).__name__}: use plain codes with that")
         self._data, self._map, _ = map_file(path)
         self._own = None
         try:
             (column_id if trusted else column_check)(self._data)
-            self._own = None if isinstance(dictionary, Frozen) else Frozen(dictionary)
+            self._own = None if isinstance(dictionary, (Frozen, Shards)) else opened(dictionary)
             self._dictionary = dictionary if self._own is None else self._own
             if column_id(self._data) != self._dictionary._identity():
                 raise OtherDictionary(shown(path), dictionary._name() if self._own is None else shown(dictionary))
@@ -68,7 +68,7 @@ class Column(Sequence):
 
     @property
     def dictionary(self):
-        """The Frozen."""
+        """The Frozen or the Shards."""
         return self._dictionary
 
     @property
@@ -89,7 +89,7 @@ class Column(Sequence):
 
     def widened(self):
         """A copy of the codes in 4 bytes each, as an array('I') with MISSING, which as an integer with a sign is -1.
-        Frozen.decode and renumber take it."""
+        The dictionary's decode and renumber take it."""
         return column_codes(self._data, 0, self._len, 1)
 
     def rows_of(self, string, /):
@@ -181,6 +181,12 @@ class Column(Sequence):
 def shown(path):
     """A path, or the number of a descriptor, as messages have it."""
     return f"descriptor {path}" if isinstance(path, int) else os.fsdecode(path)
+
+
+def opened(path):
+    """The dictionary at a path: a file, or a folder of shards."""
+    refuse_table(path)
+    return Shards(path) if os.path.isdir(path) else Frozen(path)
 
 
 def refuse_bytes(path):

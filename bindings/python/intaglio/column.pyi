@@ -8,17 +8,21 @@ from _typeshed import StrOrBytesPath
 from typing_extensions import Self
 
 from intaglio.frozen import Frozen
+from intaglio.shards import Shards
 
 _Content = TypeVar("_Content", str, bytes, covariant=True)
 
 class Column(Sequence[_Content | None], Generic[_Content]):
     @overload
-    def __init__(self, path: StrOrBytesPath | int, dictionary: Frozen[_Content], *, trusted: bool = ...) -> None: ...
-    # Of a path the file says what the strings are.
+    def __init__(
+        self, path: StrOrBytesPath | int, dictionary: Frozen[_Content] | Shards[_Content], *, trusted: bool = ...
+    ) -> None:
+        ...
+    # Of a path the file or the folder says what the strings are.
     @overload
     def __init__(self: Column[Any], path: StrOrBytesPath | int, dictionary: StrOrBytesPath, *, trusted: bool = ...) -> None: ...
     @property
-    def dictionary(self) -> Frozen[_Content]: ...
+    def dictionary(self) -> Frozen[_Content] | Shards[_Content]: ...
     @property
     def width(self) -> int: ...
     @property

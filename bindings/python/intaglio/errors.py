@@ -5,8 +5,8 @@ import os
 class Refused(Exception):
     """A call failed, and the strings of the table are unchanged. The subclass says why.
 
-    `position` is that of the string or code that it is about, from 0, if the call took several; `filename` is the file that it is
-    about. `code` is that of the library, which has none for what is wrong with a folder of shards.
+    `position` is that of the string, code or shard that it is about, from 0, if the call took several; `filename` is the file
+    that it is about. `code` is that of the library, which has none for what is wrong with a folder of shards.
     """
 
     code: int | None = None
@@ -234,6 +234,13 @@ def refusal(code: int, position: int | None = None) -> Refused:
     """The error of a code of the library."""
     kind = REFUSALS[code]
     return kind() if position is None else placed(kind, kind.__doc__ or "", position)
+
+
+def of_shard(code: int, number: int) -> Refused:
+    """The error of a code of the library about one of several shards."""
+    error = REFUSALS[code]()
+    error.position = number
+    return error
 
 
 def lone_surrogate(position: int | None = None) -> Refused:

@@ -9,7 +9,9 @@ import re
 import zlib
 from array import array
 
-from intaglio._table import BytesTable, SymbolTable, frozen_id, frozen_is_text, frozen_misplaced, frozen_shards, split_map
+from intaglio._table import (
+    BytesTable, SymbolTable, column_bytes, frozen_id, frozen_is_text, frozen_misplaced, frozen_shards, shards_id, split_map,
+)
 from intaglio.errors import NotShards, OtherShard, Refused, TooMany, misplaced, name_file, wrong_line
 from intaglio.frozen import Frozen, replace
 from intaglio.strings import Strings
@@ -117,7 +119,7 @@ class Shards(Strings):
     Raises NotShards, OtherShard, Misplaced and TooMany, which name the file, OSError, and what Frozen raises.
     """
 
-    _own = ("_data", "_tables", "_folder", "_trusted", "_is_text", "_len", "_sum")
+    _own = ("_data", "_tables", "_folder", "_trusted", "_is_text", "_len", "_sum", "_id")
 
     def __init__(self, folder, *, trusted=False, kind=None):
         folder = os.fsdecode(folder)
@@ -127,7 +129,7 @@ class Shards(Strings):
         if kind is None:
             kind = str if all(is_text for is_text, *_ in ids) else bytes
         self._folder, self._trusted = os.path.abspath(folder), bool(trusted)
-        self._sum, self._is_text = zlib.crc32(index), kind is str
+        self._sum, self._is_text, self._id = zlib.crc32(index), kind is str, None
         with contextlib.ExitStack() as opened:
             tables = [opened.enter_context(open_shard(folder, it, ids, trusted, kind)) for it in range(len(ids))]
             if sum(map(len, tables)) > MOST:
@@ -144,6 +146,24 @@ class Shards(Strings):
     def tables(self):
         """A tuple of the shards, each a Frozen with its own symbols."""
         return self._tables
+
+    def write_column(self, path, codes, /):
+        """Writes codes to a file that says that they belong to this dictionary, as Frozen.write_column does, and as
+        `intaglio_dict encode --column` does under the folder: the same bytes. Column reads it.
+
+        >>> import tempfile
+        >>> words = Frozen.from_bytes(SymbolTable(["rose", "thorn", "leaf"]).freeze())
+        >>> with tempfile.TemporaryDirectory() as folder:
+        ...     split(words, f"{folder}/words", 2)
+        ...     shards = Shards(f"{folder}/words")
+        ...     shards.write_column(f"{folder}/column", shards.encode(["leaf", "rose", "leaf"]))
+        ...     column = Column(f"{folder}/column", shards)
+        >>> column[1], column.rows_of("leaf")
+        ('rose', array('Q', [0, 2]))
+
+        Raises what Frozen.write_column raises, and TooMany if there are more than 2**31 strings.
+        """
+        replace(path, column_bytes(self._identity(), codes))
 
     def close(self):
         """Unmaps the files, if no copy has them. Calls that read them then raise ValueError. Raises BufferError while another
@@ -165,6 +185,22 @@ class Shards(Strings):
             raise TypeError(f"{self._folder}: it has other shards by now, so a Shards of those before can't be pickled")
         kind = str if self._is_text else bytes
         return reopen, (type(self), self._folder, self._trusted, kind, self._sum), self._attributes()
+
+    # What the dictionary is to columns: the strings of all shards, and whether each says that its own are UTF-8. All strings are
+    # read once.
+    def _identity(self):
+        if self._id is None:
+            try:
+                self._id = shards_id(self._data)
+            except Refused as error:
+                if error.position is not None:
+                    name_file(error, shard_name(self._folder, error.position))
+                raise
+        return self._id
+
+    # What messages call it.
+    def _name(self):
+        return self._folder
 
     # Whether the folder still has the index of these shards.
     def _is_there(self):

@@ -3,6 +3,7 @@ from typing import Any, Generic, SupportsIndex, TypeVar, overload
 
 from _typeshed import ReadableBuffer, StrOrBytesPath
 
+from intaglio._table import Readable
 from intaglio.errors import TooMany
 from intaglio.frozen import Frozen
 from intaglio.strings import Strings
@@ -29,6 +30,7 @@ class Shards(Strings[_Content], Generic[_Content]):
     def __init__(self: Shards[bytes], folder: StrOrBytesPath, *, trusted: bool = ..., kind: type[bytes]) -> None: ...
     @property
     def tables(self) -> tuple[Frozen[_Content], ...]: ...
+    def write_column(self, path: StrOrBytesPath, codes: Readable, /) -> None: ...
 
 def split(
     frozen: Frozen[Any] | StrOrBytesPath,
