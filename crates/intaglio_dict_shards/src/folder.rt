@@ -1,7 +1,6 @@
 //! Opens folders of shards.
 use crate::identity::id_of;
 use intaglio_column_file::DictionaryId;
-use intaglio_columns::{Shards, ShardsError};
 use intaglio_dict_io::checking::checked;
 use intaglio_dict_io::folders::{index_name, shard_name};
 use intaglio_dict_io::input::whole;
@@ -10,6 +9,7 @@ use intaglio_dict_io::report;
 use intaglio_dict_io::report::Tell;
 use intaglio_dictionary::shard_index::{IndexError, read_index};
 use intaglio_frozen::Frozen;
+use intaglio_merge::{Shards, ShardsError};
 use std::rt::Files;
 
 /// The shards that the index of a folder names. Otherwise the exit status after a message.

@@ -1,7 +1,6 @@
 //! The subcommand that writes a dictionary in shards.
 use crate::writing::write_folder;
 use clap::ArgMatches;
-use intaglio_columns::{split, split_map};
 use intaglio_dict_io::checking::{checked, kind_of};
 use intaglio_dict_io::input::{first_input, name_of};
 use intaglio_dict_io::keys::keys_of;
@@ -11,6 +10,7 @@ use intaglio_dict_io::symbols::plain_number;
 use intaglio_dictionary::freezing::freeze_table;
 use intaglio_dictionary::merging::write_codes;
 use intaglio_frozen::{FreezeError, Frozen, Kind};
+use intaglio_merge::{split, split_map};
 use std::random::RandomSource;
 use std::rt::Files;
 

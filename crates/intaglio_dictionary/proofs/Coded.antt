@@ -11,8 +11,8 @@ use Rattle.intaglio_interner.proofs.Laws.{first-key, issued-found, mapped-some}
 use Rattle.intaglio_lines.specs.Lines.{lines_of}
 use Rattle.intaglio_lines.specs.Output.{spelling_line}
 use Rattle.intaglio_lines.proofs.ByLines.{flat_map-lines_of}
-use Rattle.intaglio_columns.specs.Columns.{missing, string_key, IsMap}
-use Rattle.intaglio_columns.proofs.Renumbered.{number-small, same-string}
+use Rattle.intaglio_merge.specs.Merging.{missing, string_key, IsMap}
+use Rattle.intaglio_merge.proofs.Renumbered.{number-small, same-string}
 use Rattle.intaglio_dictionary.specs.Answers.{position_in}
 use Rattle.intaglio_dictionary.specs.Columns.{code_bytes, code_of, code_pieces, codes_of, code_in, decoded_column, has_code, line_of, renumbered_code, DecodesAsBefore, DecodesToInput}
 use Rattle.intaglio_dictionary.specs.Translation.{AllFit}

@@ -4,8 +4,8 @@ use Rattle.std.specs.List.{slice_get, All}
 use Rattle.std.proofs.lemmas.List.{length-take, map-append}
 use Rattle.std.proofs.lemmas.Option.{get_or_from_slice_get}
 use Rattle.std.proofs.lemmas.List.Elements.{All-nil, All-cons, All-append}
-use Rattle.intaglio_columns.specs.Shards.{joined_map, sum_of, AreWithin}
-use Rattle.intaglio_columns.proofs.Joined.{map-push, within-push}
+use Rattle.intaglio_merge.specs.Shards.{joined_map, sum_of, AreWithin}
+use Rattle.intaglio_merge.proofs.Joined.{map-push, within-push}
 use Rattle.intaglio_dictionary.specs.Joining.{IsMapFault, IsShardMapFault}
 use Rattle.intaglio_dictionary.specs.declared.error.MapError.{MapError}
 use Rattle.intaglio_dictionary.specs.declared.error.MapError.TheVariants.{NoString, TooMany, Memory}

@@ -5,8 +5,8 @@ use Rattle.std.proofs.lemmas.Bool.{ne_eqb}
 use Rattle.std.proofs.lemmas.List.{get_or_past, length-map}
 use Rattle.std.proofs.lemmas.Option.{get_or_from_slice_get, slice_get-get_or, slice_get_within}
 use Rattle.intaglio_lines.specs.Output.{spelling_line}
-use Rattle.intaglio_columns.specs.Columns.{IsMap, decode, missing, renumber}
-use Rattle.intaglio_columns.proofs.Renumbered.{same-string}
+use Rattle.intaglio_merge.specs.Merging.{IsMap, decode, missing, renumber}
+use Rattle.intaglio_merge.proofs.Renumbered.{same-string}
 use Rattle.intaglio_column_file.specs.IsColumn.{AreCodes, IsCode}
 use Rattle.intaglio_dictionary.specs.Rows.{code_line, string_at}
 

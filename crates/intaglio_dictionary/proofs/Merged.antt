@@ -3,7 +3,7 @@ use Rattle.std.proofs.Common.{◌≡◌, ◌∙◌, sym, ap, refl, subst, ℕ, z
 use Rattle.std.specs.List.{slice_get}
 use Rattle.std.proofs.lemmas.List.{map-append}
 use Rattle.std.proofs.lemmas.Option.{get_or_from_slice_get, slice_get_within, slice_get-get_or}
-use Rattle.intaglio_columns.specs.Shards.{BelongTo, sum_of}
+use Rattle.intaglio_merge.specs.Shards.{BelongTo, sum_of}
 use Rattle.intaglio_dictionary.specs.MergedShard.{DiffersAt, FitsAt, MergedAreShards, strings_in}
 use Rattle.intaglio_dictionary.specs.declared.merged_shard.MergedShard.{MergedShard}
 use Rattle.intaglio_dictionary.proofs.Counted.{sum-push}

@@ -2,9 +2,9 @@
 use Rattle.std.proofs.Common.{◌≡◌, ◌∙◌, ◌==◌, ℕ, zero, suc, ◌<◌, Bool, true, false, cond, List, [], ◌∷◌, map, Option, Some, None, refl, sym, ap, subst}
 use Rattle.std.specs.List.{filter, slice_get}
 use Rattle.std.proofs.lemmas.Bool.{eqb-true, eq-eqb}
-use Rattle.intaglio_columns.specs.Columns.{union}
-use Rattle.intaglio_columns.specs.Shards.{BelongTo, shard_of}
-use Rattle.intaglio_columns.proofs.Filtered.{filter-union}
+use Rattle.intaglio_merge.specs.Merging.{union}
+use Rattle.intaglio_merge.specs.Shards.{BelongTo, shard_of}
+use Rattle.intaglio_merge.proofs.Filtered.{filter-union}
 use Rattle.intaglio_dictionary.specs.Frozen.{IsMergingRefusal, IsUnionRefusal}
 use Rattle.intaglio_dictionary.specs.ShardMerging.{AreOwn}
 use Rattle.intaglio_dictionary.specs.declared.error.FreezingError.{FreezingError}

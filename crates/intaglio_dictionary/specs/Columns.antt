@@ -5,7 +5,7 @@ use Rattle.std.specs.Int.{w32, to_le_bytes, from_le_bytes}
 use Rattle.intaglio_lines.specs.Lines.{lines_of}
 use Rattle.intaglio_lines.specs.Output.{spelling_line}
 use Rattle.intaglio_lines.specs.Decoded.{with_last_line_ended}
-use Rattle.intaglio_columns.specs.Columns.{missing, IsMap}
+use Rattle.intaglio_merge.specs.Merging.{missing, IsMap}
 use Rattle.intaglio_dictionary.specs.Answers.{position_in}
 use Rattle.intaglio_dictionary.specs.Translation.{IsFirstMisfit}
 use Rattle.intaglio_dictionary.specs.declared.error.ColumnError.{ColumnError}

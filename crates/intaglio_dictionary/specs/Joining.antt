@@ -1,7 +1,7 @@
 -- Why maps of shards can't be one map.
 use Rattle.std.specs.Prelude.{◌≡◌, ℕ, ◌+◌, ◌<◌, ◌≤◌, ◌⊎◌, ⊤, List, [], Some, get_or, length, slice_get, take}
-use Rattle.intaglio_columns.specs.Columns.{missing}
-use Rattle.intaglio_columns.specs.Shards.{sum_of, AreWithin}
+use Rattle.intaglio_merge.specs.Merging.{missing}
+use Rattle.intaglio_merge.specs.Shards.{sum_of, AreWithin}
 use Rattle.intaglio_dictionary.specs.declared.error.MapError.{MapError}
 use Rattle.intaglio_dictionary.specs.declared.error.MapError.TheVariants.{NoString, TooMany, Memory}
 

@@ -1,7 +1,7 @@
 -- What a merge says of a shard, and when such shards are joined.
 use Rattle.std.specs.Prelude.{◌≡◌, ◌≢◌, ◌⊎◌, ⊤, ℕ, ◌^◌, ◌<◌, List, [], ◌∷◌, ◌++◌, Some, codes, length, map, slice_get}
-use Rattle.intaglio_columns.specs.Columns.{missing}
-use Rattle.intaglio_columns.specs.Shards.{BelongTo, AreShards, sum_of}
+use Rattle.intaglio_merge.specs.Merging.{missing}
+use Rattle.intaglio_merge.specs.Shards.{BelongTo, AreShards, sum_of}
 use Rattle.intaglio_dictionary.specs.ShardIndex.{HasNumbers, number_field, shard_line}
 use Rattle.intaglio_dictionary.specs.declared.merged_shard.ShardPlace.{ShardPlace}
 use Rattle.intaglio_dictionary.specs.declared.merged_shard.MergedShard.{MergedShard}

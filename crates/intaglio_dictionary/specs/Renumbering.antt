@@ -1,7 +1,7 @@
 -- Column files by a map of a merge.
 use Rattle.std.specs.Prelude.{◌≡◌, ◌≢◌, ℕ, ◌≤◌, List, length, Option}
 use Rattle.std.specs.List.{flat_map}
-use Rattle.intaglio_columns.specs.Columns.{IsMap, missing, renumber}
+use Rattle.intaglio_merge.specs.Merging.{IsMap, missing, renumber}
 use Rattle.intaglio_column_file.specs.Writing.{IsRefusal}
 use Rattle.intaglio_dictionary.specs.Rows.{code_line}
 use Rattle.intaglio_dictionary.specs.declared.error.RenumberError.{RenumberError}

@@ -3,7 +3,7 @@ use Rattle.std.specs.Prelude.{◌≡◌, ℕ, ◌+◌, ◌-◌, ◌≤◌, ◌==
 use Rattle.std.specs.List.{flat_map}
 use Rattle.intaglio_lines.specs.Output.{spelling_line}
 use Rattle.intaglio_lines.specs.StreamError.{IsWritingError}
-use Rattle.intaglio_columns.specs.Columns.{missing}
+use Rattle.intaglio_merge.specs.Merging.{missing}
 use Rattle.intaglio_dictionary.specs.declared.rows.RowRange.{RowRange}
 use Rattle.intaglio_dictionary.specs.declared.error.RowsError.{RowsError}
 use Rattle.intaglio_dictionary.specs.declared.error.RowsError.TheVariants.{NoRow, NoLine, Stream}

@@ -1,8 +1,8 @@
 -- A shard that is merged of those of several parts.
 use Rattle.std.specs.Prelude.{◌≡◌, ◌⊎◌, ℕ, ◌<◌, ◌≤◌, List, Some, length, slice_get}
 use Rattle.intaglio_column_file.specs.Identity.{IsIdOfTable}
-use Rattle.intaglio_columns.specs.Columns.{missing, union}
-use Rattle.intaglio_columns.specs.Shards.{BelongTo, IsMisplaced}
+use Rattle.intaglio_merge.specs.Merging.{missing, union}
+use Rattle.intaglio_merge.specs.Shards.{BelongTo, IsMisplaced}
 use Rattle.intaglio_frozen.specs.declared.kind.Kind.{Kind}
 use Rattle.intaglio_dictionary.specs.Frozen.{IsUnionRefusal}
 use Rattle.intaglio_dictionary.specs.declared.error.ShardMergeError.{ShardMergeError}

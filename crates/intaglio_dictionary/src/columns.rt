@@ -4,7 +4,7 @@ ghost use Rattle.std.proofs.Common.{refl};
 ghost use Rattle.std.specs.Io.KnownBytes.{IsAtEnd};
 ghost use Rattle.intaglio_lines.specs.Lines.{lines_of};
 ghost use Rattle.intaglio_lines.specs.Puts.{Writes};
-ghost use Rattle.intaglio_columns.specs.Columns.{missing};
+ghost use Rattle.intaglio_merge.specs.Merging.{missing};
 ghost use Rattle.intaglio_dictionary.specs.Columns.{DecodesAsBefore, DecodesToInput, ReportsCode, ReportsLine, code_pieces, decoded_column, encoded_column, encoded_line, has_code, has_number, has_string, line_of, renumbered_code, renumbered_column};
 ghost use Rattle.intaglio_dictionary.specs.Translation.{AllFit, ReportsMisfit, WritesPart, count_of};
 

@@ -2,13 +2,13 @@
 ghost use Rattle.std.specs.Prelude.{◌≡◌, ◌^◌, ◌≤◌, ℕ, List, length, map, slice_get, IfOk, IfSome, Some, option_copied};
 ghost use Rattle.intaglio_frozen.specs.IsFrozen.{IsFrozen};
 ghost use Rattle.intaglio_frozen.specs.Layout.{strings as strings_of_bytes};
-ghost use Rattle.intaglio_columns.specs.Shards.{joined};
+ghost use Rattle.intaglio_merge.specs.Shards.{joined};
 ghost use Rattle.intaglio_column_file.specs.Id.{IsIdOfStrings};
 ghost use Rattle.intaglio_dictionary.specs.Answers.{position_in};
 
 use intaglio_column_file::DictionaryId;
-use intaglio_columns::Shards;
 use intaglio_frozen::{Frozen, TrustedFrozen};
+use intaglio_merge::Shards;
 use intaglio_symbol::Symbol;
 use std::alloc::{AllocError, Global};
 

@@ -4,7 +4,7 @@ ghost use Rattle.std.proofs.Common.{refl};
 ghost use Rattle.std.specs.List.{flat_map};
 ghost use Rattle.intaglio_lines.specs.Lines.{lines_of};
 ghost use Rattle.intaglio_lines.specs.Puts.{Puts, WritesFront};
-ghost use Rattle.intaglio_columns.specs.Columns.{missing};
+ghost use Rattle.intaglio_merge.specs.Merging.{missing};
 ghost use Rattle.intaglio_dictionary.specs.Columns.{HasNoEnd, code_bytes, encoded_line, has_code};
 ghost use Rattle.intaglio_dictionary.specs.Translation.{AllFit, GoesOn, IsFailure, ReportsAmong, ReportsPiece, StartsWith, StopsIn, WritesIn, WritesPart, last_piece};
 ghost use Rattle.intaglio_dictionary.specs.Answers.{position_in};

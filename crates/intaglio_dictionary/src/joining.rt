@@ -1,7 +1,7 @@
 //! Maps of shards, as one map.
 ghost use Rattle.std.specs.Prelude.{◌≡◌, ◌+◌, ◌++◌, ◌<◌, ◌≤◌, get_or, length, map, All, OnOk, IfErr, IfOk};
-ghost use Rattle.intaglio_columns.specs.Columns.{missing, renumber};
-ghost use Rattle.intaglio_columns.specs.Shards.{AreWithin, joined_map};
+ghost use Rattle.intaglio_merge.specs.Merging.{missing, renumber};
+ghost use Rattle.intaglio_merge.specs.Shards.{AreWithin, joined_map};
 ghost use Rattle.intaglio_dictionary.specs.Joining.{IsMapFault, IsPartMapFault, IsShardMapFault, IsSplitFault};
 ghost use Rattle.intaglio_dictionary.specs.declared.error.MapError.TheVariants.{Memory};
 
@@ -15,7 +15,7 @@ const MOST: usize = u32::MAX as usize;
 
 /// The map from one dictionary in shards to another, by the map of each shard and the number of strings of each new one:
 /// what [`renumber_column`](crate::columns::renumber_column) takes for codes of the first one. By
-/// [`joining_law`](intaglio_columns::laws::joining_law) it leads to the same strings.
+/// [`joining_law`](intaglio_merge::laws::joining_law) it leads to the same strings.
 ///
 /// # Errors
 ///
@@ -40,8 +40,8 @@ pub fn join_maps(
 }
 
 /// The map from a part to merged shards, by the part's own map, which leads to its shards
-/// ([`split_map`](intaglio_columns::split_map)), and [`join_maps`] of the maps that lead from these to the merged ones.
-/// By [`map_law`](intaglio_columns::laws::map_law) it leads to the same strings.
+/// ([`split_map`](intaglio_merge::split_map)), and [`join_maps`] of the maps that lead from these to the merged ones.
+/// By [`map_law`](intaglio_merge::laws::map_law) it leads to the same strings.
 ///
 /// # Errors
 ///

@@ -1,6 +1,6 @@
 //! What a merge says of a shard, in a file beside the shard's own, and when such shards are joined.
 ghost use Rattle.std.specs.Prelude.{◌≡◌, ◌≤◌, ◌<◌, ◌^◌, ◌++◌, ℕ, List, length, map, slice_get, IfErr, IfOk, IfSome, MatchOption, OnOk, Some};
-ghost use Rattle.intaglio_columns.specs.Columns.{missing};
+ghost use Rattle.intaglio_merge.specs.Merging.{missing};
 ghost use Rattle.intaglio_dictionary.specs.MergedShard.{AreOneMerge, FitsAt, HasMergedNumbers, IsJoinFault, MergedAreShards, merged_text, number_part, size_part, strings_in};
 ghost use Rattle.intaglio_dictionary.specs.declared.merged_shard.MergedShard.{MergedShard};
 ghost use Rattle.intaglio_dictionary.specs.declared.merged_shard.JoinError.TheVariants.{TooMany};

@@ -1,6 +1,6 @@
 //! Renumbers a column file by a map of a merge.
 ghost use Rattle.std.specs.Prelude.{◌≡◌, ℕ, List, IfErr, IfOk};
-ghost use Rattle.intaglio_columns.specs.Columns.{renumber};
+ghost use Rattle.intaglio_merge.specs.Merging.{renumber};
 ghost use Rattle.intaglio_column_file.specs.IsColumn.{Describes, IsColumn};
 ghost use Rattle.intaglio_column_file.specs.Layout.{codes, strings as strings_of};
 ghost use Rattle.intaglio_dictionary.specs.Renumbering.{IsRenumberingRefusal, KeepsLines};

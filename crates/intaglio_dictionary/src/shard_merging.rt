@@ -1,7 +1,7 @@
 //! Merges the same shard of several parts.
 ghost use Rattle.std.specs.Prelude.{◌≡◌, ◌<◌, map, IfErr, IfOk, IfSome, MatchOption, OnOk};
-ghost use Rattle.intaglio_columns.specs.Columns.{AreMaps, union};
-ghost use Rattle.intaglio_columns.specs.Shards.{BelongTo};
+ghost use Rattle.intaglio_merge.specs.Merging.{AreMaps, union};
+ghost use Rattle.intaglio_merge.specs.Shards.{BelongTo};
 ghost use Rattle.intaglio_dictionary.specs.Frozen.{HasKeysFor};
 ghost use Rattle.intaglio_dictionary.specs.MergedShard.{merged_text};
 ghost use Rattle.intaglio_dictionary.specs.ShardMerging.{AreOwn, IsNoPlace, IsShardIn, IsShardRefusal};
@@ -15,9 +15,9 @@ use crate::merged_shard::{MergedShard, ShardPlace, write_merged};
 use crate::merging::frozen_union;
 use crate::progress::Progress;
 use intaglio_column_file::id_of_table;
-use intaglio_columns::first_misplaced;
 use intaglio_frozen::{Frozen, Kind};
 use intaglio_lines::error::StreamError;
+use intaglio_merge::first_misplaced;
 use intaglio_symbol::Symbol;
 use std::alloc::Global;
 use std::hash::BuildHasher;

@@ -5,7 +5,7 @@ use crate::fault::Fault;
 use crate::outcome::Outcome;
 use crate::words::{COUNT, forms_of};
 use intaglio::{Work, bytes, packed};
-use intaglio_columns::absorb;
+use intaglio_merge::absorb;
 use std::alloc::Global;
 use std::hash::{BuildHasherDefault, FoldHasher};
 

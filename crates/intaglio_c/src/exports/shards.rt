@@ -1,8 +1,8 @@
 //! Dictionaries in shards: which shard a string belongs to is known from its bytes alone.
 ghost use Rattle.std.specs.Prelude.{◌≡◌, ◌<◌};
-ghost use Rattle.intaglio_columns.specs.Shards.{shard_of};
+ghost use Rattle.intaglio_merge.specs.Shards.{shard_of};
 
-use intaglio_columns::shard_of;
+use intaglio_merge::shard_of;
 
 /// The shard that a string belongs to, of `shards` ones: from 0 to `shards - 1`. If there are none, it is 0.
 #[unsafe(no_mangle)]

@@ -1,13 +1,13 @@
 //! What `absorb` does to tables of each kind: the symbols of a list's strings, or nothing if the table can't hold them.
-ghost use Rattle.intaglio_columns.specs.Columns.{AreAccepted};
+ghost use Rattle.intaglio_merge.specs.Merging.{AreAccepted};
 
 use super::assertions::{holds, same};
 use intaglio::packed::bytes::SymbolTable;
 use intaglio::{bytes, packed};
-use intaglio_columns::{FromString, absorb, are_texts};
 use intaglio_core::{BaseInterner, InternError, Symbol, Work};
 use intaglio_frozen::StringList;
 use intaglio_hash::FixedState;
+use intaglio_merge::{FromString, absorb, are_texts};
 use std::alloc::Global;
 use std::process::Abort;
 

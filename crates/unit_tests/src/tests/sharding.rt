@@ -1,10 +1,10 @@
 //! What `split` and `Shards` do with strings of a list: each is in its shard, and is found at its number in all.
 use super::assertions::{holds, same};
 use intaglio::packed::bytes::SymbolTable;
-use intaglio_columns::{Shards, ShardsError, shard_of, split, split_map};
 use intaglio_core::Symbol;
 use intaglio_frozen::{Frozen, Kind, freeze};
 use intaglio_hash::FixedState;
+use intaglio_merge::{Shards, ShardsError, shard_of, split, split_map};
 use std::alloc::Global;
 use std::process::Abort;
 

@@ -1,7 +1,7 @@
 -- The maps so far were joined.
 use Rattle.std.proofs.Common.{◌≡◌, ◌≤◌, take}
-use Rattle.intaglio_columns.specs.Columns.{missing}
-use Rattle.intaglio_columns.specs.Shards.{joined_map, sum_of, AreWithin}
+use Rattle.intaglio_merge.specs.Merging.{missing}
+use Rattle.intaglio_merge.specs.Shards.{joined_map, sum_of, AreWithin}
 use Rattle.intaglio_dictionary.proofs.joining.join_maps.Given as goal
 
 abbrev pub invariant-loop-i : goal.invariant-loop-i

@@ -1,6 +1,6 @@
 -- The new codes so far.
 use Rattle.std.proofs.Common.{◌≡◌, ◌≤◌, length, take, vec_len, vec_capacity}
-use Rattle.intaglio_columns.specs.Columns.{renumber}
+use Rattle.intaglio_merge.specs.Merging.{renumber}
 use Rattle.intaglio_dictionary.proofs.joining.renumbered.Given as goal
 
 abbrev pub invariant-loop-i : goal.invariant-loop-i

@@ -1,5 +1,5 @@
 use Rattle.std.proofs.Common.{◌≡◌, ◌+◌, ◌-◌, get_or, refl, take, arith}
-use Rattle.intaglio_columns.specs.Columns.{missing}
+use Rattle.intaglio_merge.specs.Merging.{missing}
 use Rattle.intaglio_dictionary.specs.MergedShard.{strings_in}
 use Rattle.intaglio_dictionary.proofs.Merged.{at-place, none, strings_front, strings_next}
 use Rattle.intaglio_dictionary.proofs.merged_shard.check_few.Goals as goal

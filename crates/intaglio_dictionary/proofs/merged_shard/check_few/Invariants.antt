@@ -1,6 +1,6 @@
 -- How many strings there may still be.
 use Rattle.std.proofs.Common.{◌≡◌, ◌+◌, take}
-use Rattle.intaglio_columns.specs.Columns.{missing}
+use Rattle.intaglio_merge.specs.Merging.{missing}
 use Rattle.intaglio_dictionary.specs.MergedShard.{strings_in}
 use Rattle.intaglio_dictionary.proofs.merged_shard.check_few.Given as goal
 

@@ -1,5 +1,5 @@
 use Rattle.std.proofs.lemmas.Result.{err_from_is_err_and}
-use Rattle.intaglio_columns.specs.Columns.{union}
+use Rattle.intaglio_merge.specs.Merging.{union}
 use Rattle.intaglio_dictionary.proofs.Owned.{refused-union}
 use Rattle.intaglio_dictionary.proofs.merging.merge.Goals as goal
 

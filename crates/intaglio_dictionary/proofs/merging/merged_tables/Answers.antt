@@ -1,6 +1,6 @@
 use Rattle.std.proofs.Common.{◌≡◌, ◌∙◌, ap, map, subst}
 use Rattle.std.proofs.lemmas.List.{map-id}
-use Rattle.intaglio_columns.specs.Columns.{union, AreMaps}
+use Rattle.intaglio_merge.specs.Merging.{union, AreMaps}
 use Rattle.intaglio_dictionary.proofs.merging.merged_tables.Goals as goal
 
 pub returns-in-Ok-clause-maps : goal.returns-in-Ok-clause-maps

@@ -1,7 +1,7 @@
 use Rattle.std.proofs.Common.{◌≡◌, ◌∙◌, ap, sym, None, unwrap_or}
 use Rattle.std.specs.List.{slice_get}
 use Rattle.std.proofs.lemmas.Option.{unwrap_or-slice_get}
-use Rattle.intaglio_columns.specs.Columns.{missing}
+use Rattle.intaglio_merge.specs.Merging.{missing}
 use Rattle.intaglio_dictionary.proofs.columns.Renumbering.number_of.Goals as goal
 
 pub returns-then-code-eq-MISSING-clause-number : goal.returns-then-code-eq-MISSING-clause-number

@@ -1,4 +1,4 @@
-use Rattle.intaglio_columns.specs.Shards.{joined}
+use Rattle.intaglio_merge.specs.Shards.{joined}
 use Rattle.intaglio_dictionary.proofs.Found.{position-string}
 use Rattle.intaglio_dictionary.proofs.dictionary.ShardsDictionary.symbol.Goals as goal
 

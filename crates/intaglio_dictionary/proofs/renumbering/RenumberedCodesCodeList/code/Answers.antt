@@ -1,6 +1,6 @@
 use Rattle.std.proofs.Common.{◌≡◌, ◌∙◌, ℕ, get_or, slice_get, Some, option_map, unwrap_or, ap, sym}
 use Rattle.std.proofs.lemmas.Option.{slice_get-map, unwrap_or-slice_get}
-use Rattle.intaglio_columns.specs.Columns.{missing}
+use Rattle.intaglio_merge.specs.Merging.{missing}
 use Rattle.intaglio_column_file.specs.Layout.{codes}
 use Rattle.intaglio_dictionary.proofs.renumbering.RenumberedCodesCodeList.code.Goals as goal
 
