@@ -52,8 +52,8 @@ pub record IsIdOfAll (tables : List (List ℕ)) (number : ℕ) (id : DictionaryI
   pub each : IsIdOfEach tables id
   pub all : number ≡ length tables
 
--- it is written; or an error is returned, with the number of the table that has it, or how many tables there are if none
--- has
+-- it is written; or an error is returned, with the number of the table that has it, or how many tables there are if
+-- none has
 abbrev pub MakesIdOfAll : List (List ℕ) → DictionaryId → DictionaryId → ℕ → Result (Unit {0}) Refusal → Type 0
 MakesIdOfAll tables old new number (Ok _) = IsIdOfAll tables number new
 MakesIdOfAll tables old new number (Err refusal) = (IsNoBlocks tables number refusal ⊎ HaveTooMany tables number refusal) × (new ≡ old)

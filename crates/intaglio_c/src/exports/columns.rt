@@ -103,8 +103,8 @@ fn shards_id(
 /// Writes what the dictionary is whose shards are these frozen tables: that of all their strings, those of one table
 /// behind those of the tables before it, and of texts if each table is. All ends and all texts are read.
 /// Fails with what is wrong with the header or the ends of a table, and then writes the number of the first table that
-/// has a fault. Fails with `TooMany` if there are 2^32 strings or more together, and with `NoMemory`. Unless a table has
-/// a fault, it writes how many tables there are. After an error no id is written.
+/// has a fault. Fails with `TooMany` if there are 2^32 strings or more together, and with `NoMemory`. Unless a table
+/// has a fault, it writes how many tables there are. After an error no id is written.
 #[unsafe(no_mangle)]
 pub extern "C" fn intaglio_shards_id(
     alloc: Global,
