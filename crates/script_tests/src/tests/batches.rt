@@ -1,7 +1,5 @@
 //! Batches: contents or forms that one call interns or looks up.
-use super::each::{Hashed, on_each, on_paths, try_on_each};
-use super::script::plays;
-use intaglio::{SymbolTable, packed};
+use super::each::{Hashed, Script, on_each, on_paths, try_on_each, try_on_texts};
 
 #[test]
 fn contents_interned_together_get_the_symbols_of_internings_in_order(rt: HostRuntime) {
@@ -38,7 +36,9 @@ hashers > 5",
 #[test]
 fn a_batch_that_makes_a_table_large_goes_on_in_groups(rt: HostRuntime) {
     // From 2^14 contents on, values are hashed ahead.
-    let script = "intern_numbers 16382 > done
+    let script = Script(
+        "new > done
+intern_numbers 16382 > done
 intern_all a b a c d b > \
 [Symbol(16382), Symbol(16383), Symbol(16382), Symbol(16384), Symbol(16385), Symbol(16383)]
 check_all d e a 7 > [Some(Symbol(16385)), None, Some(Symbol(16382)), Some(Symbol(7))]
@@ -46,11 +46,9 @@ get_or_intern_all e d f e 8 > \
 [Symbol(16386), Symbol(16385), Symbol(16387), Symbol(16386), Symbol(8)]
 intern_all > []
 check_all > []
-len > 16388";
-    let mut owned = SymbolTable::new(rt.alloc()).expect(&rt, "no table");
-    plays(&rt, rt.alloc(), &mut owned, script);
-    let mut packed = packed::SymbolTable::new(rt.alloc()).expect(&rt, "no table");
-    plays(&rt, rt.alloc(), &mut packed, script);
+len > 16388",
+    );
+    try_on_texts(&rt, &script);
 }
 
 #[test]

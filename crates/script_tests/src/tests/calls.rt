@@ -27,12 +27,19 @@ pub enum Ask {
     CheckAll,
     /// `is_interned`.
     IsInterned,
+    /// `get_interned`.
+    GetInterned,
     /// `contains`.
     Contains(Symbol),
     /// `get`.
     Get(Symbol),
     /// `table[symbol]`, if the symbol was issued; in one buffer `get`.
     Index(Symbol),
+}
+
+/// The content of a call by one.
+pub fn first<'a, C>(rt: &impl Abort, contents: &'a [C]) -> &'a C {
+    contents.first().expect(rt, "no content")
 }
 
 // The borrowed forms of contents.
@@ -69,7 +76,7 @@ where
     }
 }
 
-/// What any table returns for a call by the forms of these, but for `table[symbol]`.
+/// What any table returns for a call by the forms of these, but for `table[symbol]` and `get_interned`.
 pub fn answer_over<'a, L: Lends<'a> + LookedUpIn<'a> + Indexed, K, S: HasherCount>(
     rt: &impl Abort,
     alloc: Global,

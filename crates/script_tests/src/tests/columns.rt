@@ -1,17 +1,17 @@
 //! Scripts whose calls one call of `run` makes: by owned contents on a core and on tables of each kind, and by
 //! borrowed texts.
-use super::contents::TestContent;
+use super::contents::TestKind;
 use super::runs::{calls_by_contents, calls_by_texts, runs};
-use intaglio::bstr::BStrContent;
-use intaglio::bytes::BytesContent;
-use intaglio::cstr::CStrContent;
-use intaglio::osstr::OsStrContent;
+use intaglio::packed::bstr::BStrKind;
+use intaglio::packed::bytes::BytesKind;
+use intaglio::packed::osstr::OsStrKind;
+use intaglio::packed::path::PathKind;
 use intaglio::packed::{Packed, StrKind};
-use intaglio::path::PathContent;
 use intaglio::{
-    AddedTo, Call, Content, Copied, Core, Indexed, Moved, SoughtIn, SpelledStore, StrContent,
-    TableOver,
+    AddedTo, Call, Content, ContentOf, Copied, Indexed, IndexedStore, KindOwned, Moved, Packable,
+    SoughtIn, SpelledStore, TableOver,
 };
+use intaglio_cstr::CStrKind;
 use intaglio_hash::FixedState;
 use std::alloc::Global;
 use std::process::Abort;
@@ -35,37 +35,69 @@ where
 }
 
 // By owned contents.
-fn runs_on<C: TestContent>(rt: &impl Abort, alloc: Global, limit: usize, script: &'static str) {
-    let calls = calls_by_contents::<C>(rt, alloc, script);
-    runs_over::<Moved, Vec<C>, _, _>(rt, alloc, Fold::new(), limit, calls, script);
+fn runs_on<K: TestKind>(rt: &impl Abort, alloc: Global, limit: usize, script: &'static str) {
+    let calls = calls_by_contents::<ContentOf<K>>(rt, alloc, script);
+    runs_over::<Moved, Vec<ContentOf<K>>, _, _>(rt, alloc, Fold::new(), limit, calls, script);
 }
 
-fn runs_on_a_core<C: TestContent>(
+// On a core over this store: on a `Core`, if the store is a `Vec`.
+fn runs_on_core_over<H, L: SpelledStore + Indexed + Drop, Q: AddedTo<L, H>>(
     rt: &impl Abort,
     alloc: Global,
     limit: usize,
+    calls: Vec<Call<Q>>,
+    script: &'static str,
+)
+where
+    L::Content: Content + SoughtIn<L> + Drop,
+    L::Prepared: Drop,
+{
+    let made = IndexedStore::<L, Fold>::with_limit(alloc, limit, Fold::new());
+    runs::<H, _, _>(rt, alloc, made, calls, script);
+}
+
+fn runs_on_a_core<K: TestKind>(rt: &impl Abort, alloc: Global, limit: usize, script: &'static str) {
+    let calls = calls_by_contents::<ContentOf<K>>(rt, alloc, script);
+    runs_on_core_over::<Moved, Vec<ContentOf<K>>, _>(rt, alloc, limit, calls, script);
+}
+
+// By forms, on a table of owned contents.
+fn runs_by_forms<K: KindOwned, Q: Packable<K> + Copy + Drop>(
+    rt: &impl Abort,
+    alloc: Global,
+    limit: usize,
+    calls: Vec<Call<Q>>,
     script: &'static str,
 ) {
-    let made = Core::<C, Fold>::with_limit(alloc, limit, Fold::new());
-    let calls = calls_by_contents::<C>(rt, alloc, script);
-    runs::<Moved, _, _>(rt, alloc, made, calls, script);
+    runs_over::<Copied, Vec<ContentOf<K>>, _, _>(rt, alloc, Fold::new(), limit, calls, script);
+}
+
+// By forms, on a table in one buffer.
+fn runs_packed<K: KindOwned, Q: Packable<K> + Copy + Drop>(
+    rt: &impl Abort,
+    alloc: Global,
+    limit: usize,
+    calls: Vec<Call<Q>>,
+    script: &'static str,
+) {
+    runs_over::<Copied, Packed<K>, _, _>(rt, alloc, FixedState, limit, calls, script);
 }
 
 fn runs_by_texts(rt: &impl Abort, alloc: Global, limit: usize, script: &'static str) {
     let calls = calls_by_texts(rt, alloc, script);
-    runs_over::<Copied, Vec<StrContent>, _, _>(rt, alloc, Fold::new(), limit, calls, script);
+    runs_by_forms::<StrKind, _>(rt, alloc, limit, calls, script);
     let calls = calls_by_texts(rt, alloc, script);
-    runs_over::<Copied, Packed<StrKind>, _, _>(rt, alloc, FixedState, limit, calls, script);
+    runs_packed::<StrKind, _>(rt, alloc, limit, calls, script);
 }
 
 fn runs_on_each(rt: &impl Abort, alloc: Global, limit: usize, script: &'static str) {
-    runs_on::<StrContent>(rt, alloc, limit, script);
-    runs_on::<OsStrContent>(rt, alloc, limit, script);
-    runs_on::<BytesContent>(rt, alloc, limit, script);
-    runs_on::<BStrContent>(rt, alloc, limit, script);
-    runs_on::<CStrContent>(rt, alloc, limit, script);
-    runs_on::<PathContent>(rt, alloc, limit, script);
-    runs_on_a_core::<StrContent>(rt, alloc, limit, script);
+    runs_on::<StrKind>(rt, alloc, limit, script);
+    runs_on::<OsStrKind>(rt, alloc, limit, script);
+    runs_on::<BytesKind>(rt, alloc, limit, script);
+    runs_on::<BStrKind>(rt, alloc, limit, script);
+    runs_on::<CStrKind>(rt, alloc, limit, script);
+    runs_on::<PathKind>(rt, alloc, limit, script);
+    runs_on_a_core::<StrKind>(rt, alloc, limit, script);
     runs_by_texts(rt, alloc, limit, script);
 }
 
@@ -168,5 +200,5 @@ fn equal_patterns_are_issued_equal_symbols(rt: HostRuntime) {
     runs_on_each(&rt, rt.alloc(), 4294967296, left);
     runs_on_each(&rt, rt.alloc(), 4294967296, right);
     let paths = "intern x/y > 0\nintern x > 1\nintern x//y > 0";
-    runs_on::<PathContent>(&rt, rt.alloc(), 4294967296, paths);
+    runs_on::<PathKind>(&rt, rt.alloc(), 4294967296, paths);
 }

@@ -1,7 +1,7 @@
 //! Contents of each kind, made from their spelling, and the calls that differ by kind.
-use super::calls::{Ask, answer};
-use super::printed::paired;
-use super::steps::{Steps, walk_table};
+use super::calls::{Ask, answer, first};
+use super::printed::{paired, reply_text};
+use super::steps::{Steps, walk_owned};
 use bstr::BStr;
 use intaglio::bstr::BStrContent;
 use intaglio::bytes::BytesContent;
@@ -20,38 +20,20 @@ use std::process::Abort;
 use test_support::builders::HasherCount;
 use test_support::contents::{KindOfSpelling, OfSpelling};
 
-/// What differs between tables of the kinds.
+/// A content of any of the kinds.
 pub trait TestContent: OfSpelling {
     /// Whether it is compared as a path.
-    const ARE_PATHS: bool = false;
-
-    /// Looks its borrowed form up, as `get_interned`.
-    fn pair_in<S: HasherCount>(&self, alloc: Global, table: &Table<Self, S>) -> Reply;
-
-    /// Makes a call by the borrowed forms of contents, and returns its result as text.
-    fn ask<R: Abort, S: HasherCount>(
-        rt: &R,
-        alloc: Global,
-        table: &mut Table<Self, S>,
-        contents: &[Self],
-        ask: Ask,
-    ) -> String;
-
-    /// Makes the steps on the iterators of forms.
-    fn go<R: Abort, S: HasherCount>(rt: &R, alloc: Global, table: &Table<Self, S>, steps: &Steps);
+    const ARE_PATHS: bool;
 }
 
-/// The same, as a kind says it of its contents.
-pub trait TestKind: KindOfSpelling {
-    /// Whether they are compared as paths.
-    const ARE_PATHS: bool = false;
+impl<K: TestKind> TestContent for ContentOf<K> {
+    const ARE_PATHS: bool = K::ARE_PATHS;
+}
 
-    /// Looks the borrowed form of a content up, as `get_interned`.
-    fn pair_in<S: HasherCount>(
-        content: &ContentOf<Self>,
-        alloc: Global,
-        table: &Table<ContentOf<Self>, S>,
-    ) -> Reply;
+/// A kind, and what differs between tables of the kinds.
+pub trait TestKind: KindOfSpelling {
+    /// Whether its contents are compared as paths.
+    const ARE_PATHS: bool = false;
 
     /// Makes a call by the borrowed forms of contents, and returns its result as text.
     fn ask<R: Abort, S: HasherCount>(
@@ -71,45 +53,7 @@ pub trait TestKind: KindOfSpelling {
     );
 }
 
-impl<K: TestKind> TestContent for ContentOf<K> {
-    const ARE_PATHS: bool = K::ARE_PATHS;
-
-    fn pair_in<S: HasherCount>(&self, alloc: Global, table: &Table<ContentOf<K>, S>) -> Reply {
-        K::pair_in(self, alloc, table)
-    }
-
-    fn ask<R: Abort, S: HasherCount>(
-        rt: &R,
-        alloc: Global,
-        table: &mut Table<ContentOf<K>, S>,
-        contents: &[ContentOf<K>],
-        ask: Ask,
-    ) -> String {
-        K::ask(rt, alloc, table, contents, ask)
-    }
-
-    fn go<R: Abort, S: HasherCount>(
-        rt: &R,
-        alloc: Global,
-        table: &Table<ContentOf<K>, S>,
-        steps: &Steps,
-    ) {
-        K::go(rt, alloc, table, steps);
-    }
-}
-
 impl TestKind for StrKind {
-    fn pair_in<S: HasherCount>(
-        content: &StrContent,
-        alloc: Global,
-        table: &Table<StrContent, S>,
-    ) -> Reply {
-        match table.get_interned(content.form()) {
-            None => Reply::Pair(None),
-            Some((symbol, form)) => paired(alloc, symbol, form),
-        }
-    }
-
     fn ask<R: Abort, S: HasherCount>(
         rt: &R,
         alloc: Global,
@@ -117,7 +61,16 @@ impl TestKind for StrKind {
         contents: &[StrContent],
         ask: Ask,
     ) -> String {
-        answer(rt, alloc, table, contents, ask)
+        match ask {
+            Ask::GetInterned => {
+                let pair = match table.get_interned(first(rt, contents).form()) {
+                    None => Reply::Pair(None),
+                    Some((symbol, form)) => paired(alloc, symbol, form),
+                };
+                reply_text(rt, alloc, &pair)
+            }
+            _ => answer(rt, alloc, table, contents, ask),
+        }
     }
 
     fn go<R: Abort, S: HasherCount>(
@@ -126,22 +79,11 @@ impl TestKind for StrKind {
         table: &Table<ContentOf<Self>, S>,
         steps: &Steps,
     ) {
-        walk_table(rt, alloc, table, table.strings(), steps);
+        walk_owned(rt, alloc, table, table.strings(), steps);
     }
 }
 
 impl TestKind for OsStrKind {
-    fn pair_in<S: HasherCount>(
-        content: &OsStrContent,
-        alloc: Global,
-        table: &Table<OsStrContent, S>,
-    ) -> Reply {
-        match table.get_interned(content.form()) {
-            None => Reply::Pair(None),
-            Some((symbol, form)) => paired(alloc, symbol, form),
-        }
-    }
-
     fn ask<R: Abort, S: HasherCount>(
         rt: &R,
         alloc: Global,
@@ -149,7 +91,16 @@ impl TestKind for OsStrKind {
         contents: &[OsStrContent],
         ask: Ask,
     ) -> String {
-        answer(rt, alloc, table, contents, ask)
+        match ask {
+            Ask::GetInterned => {
+                let pair = match table.get_interned(first(rt, contents).form()) {
+                    None => Reply::Pair(None),
+                    Some((symbol, form)) => paired(alloc, symbol, form),
+                };
+                reply_text(rt, alloc, &pair)
+            }
+            _ => answer(rt, alloc, table, contents, ask),
+        }
     }
 
     fn go<R: Abort, S: HasherCount>(
@@ -158,22 +109,11 @@ impl TestKind for OsStrKind {
         table: &Table<ContentOf<Self>, S>,
         steps: &Steps,
     ) {
-        walk_table(rt, alloc, table, table.os_strings(), steps);
+        walk_owned(rt, alloc, table, table.os_strings(), steps);
     }
 }
 
 impl TestKind for BytesKind {
-    fn pair_in<S: HasherCount>(
-        content: &BytesContent,
-        alloc: Global,
-        table: &Table<BytesContent, S>,
-    ) -> Reply {
-        match table.get_interned(content.form()) {
-            None => Reply::Pair(None),
-            Some((symbol, form)) => paired(alloc, symbol, form),
-        }
-    }
-
     fn ask<R: Abort, S: HasherCount>(
         rt: &R,
         alloc: Global,
@@ -181,7 +121,16 @@ impl TestKind for BytesKind {
         contents: &[BytesContent],
         ask: Ask,
     ) -> String {
-        answer(rt, alloc, table, contents, ask)
+        match ask {
+            Ask::GetInterned => {
+                let pair = match table.get_interned(first(rt, contents).form()) {
+                    None => Reply::Pair(None),
+                    Some((symbol, form)) => paired(alloc, symbol, form),
+                };
+                reply_text(rt, alloc, &pair)
+            }
+            _ => answer(rt, alloc, table, contents, ask),
+        }
     }
 
     fn go<R: Abort, S: HasherCount>(
@@ -190,22 +139,11 @@ impl TestKind for BytesKind {
         table: &Table<ContentOf<Self>, S>,
         steps: &Steps,
     ) {
-        walk_table(rt, alloc, table, table.bytestrings(), steps);
+        walk_owned(rt, alloc, table, table.bytestrings(), steps);
     }
 }
 
 impl TestKind for BStrKind {
-    fn pair_in<S: HasherCount>(
-        content: &BStrContent,
-        alloc: Global,
-        table: &Table<BStrContent, S>,
-    ) -> Reply {
-        match table.get_interned(content.form()) {
-            None => Reply::Pair(None),
-            Some((symbol, form)) => paired(alloc, symbol, form),
-        }
-    }
-
     fn ask<R: Abort, S: HasherCount>(
         rt: &R,
         alloc: Global,
@@ -213,7 +151,16 @@ impl TestKind for BStrKind {
         contents: &[BStrContent],
         ask: Ask,
     ) -> String {
-        answer(rt, alloc, table, contents, ask)
+        match ask {
+            Ask::GetInterned => {
+                let pair = match table.get_interned(first(rt, contents).form()) {
+                    None => Reply::Pair(None),
+                    Some((symbol, form)) => paired(alloc, symbol, form),
+                };
+                reply_text(rt, alloc, &pair)
+            }
+            _ => answer(rt, alloc, table, contents, ask),
+        }
     }
 
     fn go<R: Abort, S: HasherCount>(
@@ -222,22 +169,11 @@ impl TestKind for BStrKind {
         table: &Table<ContentOf<Self>, S>,
         steps: &Steps,
     ) {
-        walk_table(rt, alloc, table, table.bstrings(), steps);
+        walk_owned(rt, alloc, table, table.bstrings(), steps);
     }
 }
 
 impl TestKind for CStrKind {
-    fn pair_in<S: HasherCount>(
-        content: &CStrContent,
-        alloc: Global,
-        table: &Table<CStrContent, S>,
-    ) -> Reply {
-        match table.get_interned(content.form()) {
-            None => Reply::Pair(None),
-            Some((symbol, form)) => paired(alloc, symbol, form),
-        }
-    }
-
     fn ask<R: Abort, S: HasherCount>(
         rt: &R,
         alloc: Global,
@@ -245,7 +181,16 @@ impl TestKind for CStrKind {
         contents: &[CStrContent],
         ask: Ask,
     ) -> String {
-        answer(rt, alloc, table, contents, ask)
+        match ask {
+            Ask::GetInterned => {
+                let pair = match table.get_interned(first(rt, contents).form()) {
+                    None => Reply::Pair(None),
+                    Some((symbol, form)) => paired(alloc, symbol, form),
+                };
+                reply_text(rt, alloc, &pair)
+            }
+            _ => answer(rt, alloc, table, contents, ask),
+        }
     }
 
     fn go<R: Abort, S: HasherCount>(
@@ -254,23 +199,12 @@ impl TestKind for CStrKind {
         table: &Table<ContentOf<Self>, S>,
         steps: &Steps,
     ) {
-        walk_table(rt, alloc, table, table.c_strings(), steps);
+        walk_owned(rt, alloc, table, table.c_strings(), steps);
     }
 }
 
 impl TestKind for PathKind {
     const ARE_PATHS: bool = true;
-
-    fn pair_in<S: HasherCount>(
-        content: &PathContent,
-        alloc: Global,
-        table: &Table<PathContent, S>,
-    ) -> Reply {
-        match table.get_interned(content.form()) {
-            None => Reply::Pair(None),
-            Some((symbol, form)) => paired(alloc, symbol, form),
-        }
-    }
 
     fn ask<R: Abort, S: HasherCount>(
         rt: &R,
@@ -279,7 +213,16 @@ impl TestKind for PathKind {
         contents: &[PathContent],
         ask: Ask,
     ) -> String {
-        answer(rt, alloc, table, contents, ask)
+        match ask {
+            Ask::GetInterned => {
+                let pair = match table.get_interned(first(rt, contents).form()) {
+                    None => Reply::Pair(None),
+                    Some((symbol, form)) => paired(alloc, symbol, form),
+                };
+                reply_text(rt, alloc, &pair)
+            }
+            _ => answer(rt, alloc, table, contents, ask),
+        }
     }
 
     fn go<R: Abort, S: HasherCount>(
@@ -288,7 +231,7 @@ impl TestKind for PathKind {
         table: &Table<ContentOf<Self>, S>,
         steps: &Steps,
     ) {
-        walk_table(rt, alloc, table, table.paths(), steps);
+        walk_owned(rt, alloc, table, table.paths(), steps);
     }
 }
 

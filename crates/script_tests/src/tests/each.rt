@@ -1,6 +1,6 @@
 //! What is run on tables of each kind: scripts, steps on iterators, and more.
 use super::assertions::same;
-use super::contents::TestContent;
+use super::contents::TestKind;
 use super::loops::{interns, keeps_new};
 use super::packed::{Buffer, PackedTests};
 use super::printed::reply_text;
@@ -8,12 +8,13 @@ use super::script::{line_of, plays, same_text, way};
 use super::steps::{Steps, walks};
 use super::table::{Made, Make, Owned, Table};
 use crate::replies::roomy;
-use intaglio::bstr::BStrContent;
-use intaglio::bytes::BytesContent;
-use intaglio::cstr::CStrContent;
-use intaglio::osstr::OsStrContent;
-use intaglio::path::PathContent;
-use intaglio::{AllSymbols, StrContent, Symbol, packed};
+use intaglio::packed::StrKind;
+use intaglio::packed::bstr::BStrKind;
+use intaglio::packed::bytes::BytesKind;
+use intaglio::packed::osstr::OsStrKind;
+use intaglio::packed::path::PathKind;
+use intaglio::{AllSymbols, Symbol, packed};
+use intaglio_cstr::CStrKind;
 use intaglio_hash::FixedState;
 use std::alloc::Global;
 use std::marker::PhantomData;
@@ -34,12 +35,12 @@ pub fn try_on_each<Q: Trial>(rt: &(impl Abort + AllocGlobal), trial: &Q) {
 
 // Runs the trial on tables of each kind of owned contents.
 fn try_on_owned<Q: Trial>(rt: &(impl Abort + AllocGlobal), trial: &Q) {
-    try_on::<StrContent, Q>(rt, trial);
-    try_on::<OsStrContent, Q>(rt, trial);
-    try_on::<BytesContent, Q>(rt, trial);
-    try_on::<BStrContent, Q>(rt, trial);
-    try_on::<CStrContent, Q>(rt, trial);
-    try_on::<PathContent, Q>(rt, trial);
+    try_owned::<StrKind, Q>(rt, trial);
+    try_owned::<OsStrKind, Q>(rt, trial);
+    try_owned::<BytesKind, Q>(rt, trial);
+    try_owned::<BStrKind, Q>(rt, trial);
+    try_owned::<CStrKind, Q>(rt, trial);
+    try_owned::<PathKind, Q>(rt, trial);
 }
 
 /// Runs the trial on tables in one buffer.
@@ -53,21 +54,27 @@ pub fn try_on_packed<Q: Trial>(rt: &(impl Abort + AllocGlobal), trial: &Q) {
 
 /// Runs the trial on tables of bytes.
 pub fn try_on_bytes<Q: Trial>(rt: &(impl Abort + AllocGlobal), trial: &Q) {
-    try_on::<BytesContent, Q>(rt, trial);
-    try_on::<BStrContent, Q>(rt, trial);
+    try_owned::<BytesKind, Q>(rt, trial);
+    try_owned::<BStrKind, Q>(rt, trial);
     try_packed(rt, trial, PhantomData::<packed::bytes::SymbolTable>);
     try_packed(rt, trial, PhantomData::<packed::bstr::SymbolTable>);
 }
 
-/// Runs the trial on tables of C strings.
-pub fn try_on_c_strings<Q: Trial>(rt: &(impl Abort + AllocGlobal), trial: &Q) {
-    try_on::<CStrContent, Q>(rt, trial);
+/// Runs the trial on tables of texts.
+pub fn try_on_texts<Q: Trial>(rt: &(impl Abort + AllocGlobal), trial: &Q) {
+    try_owned::<StrKind, Q>(rt, trial);
+    try_packed(rt, trial, PhantomData::<packed::SymbolTable>);
 }
 
-// On a table of such contents. Here alone the prover finds the calls of a table by those of its contents: it
-// takes seconds wherever a table is named.
-fn try_on<C: TestContent, Q: Trial>(rt: &(impl Abort + AllocGlobal), trial: &Q) {
-    trial.try_on::<Owned<C>, _>(rt, rt.alloc());
+/// Runs the trial on tables of C strings.
+pub fn try_on_c_strings<Q: Trial>(rt: &(impl Abort + AllocGlobal), trial: &Q) {
+    try_owned::<CStrKind, Q>(rt, trial);
+}
+
+// On a table of owned contents. The prover finds the calls of a table by those of its kind here and in `try_packed`
+// alone: it takes seconds wherever a table is named.
+fn try_owned<K: TestKind, Q: Trial>(rt: &(impl Abort + AllocGlobal), trial: &Q) {
+    trial.try_on::<Owned<K>, _>(rt, rt.alloc());
 }
 
 // On a table in one buffer, whose type is named.
@@ -87,7 +94,7 @@ pub fn on_each(rt: &(impl Abort + AllocGlobal), script: &'static str) {
 /// Plays the script on tables of paths.
 pub fn on_paths(rt: &(impl Abort + AllocGlobal), script: &'static str) {
     let trial = Script(script);
-    try_on::<PathContent, _>(rt, &trial);
+    try_owned::<PathKind, _>(rt, &trial);
     try_packed(rt, &trial, PhantomData::<packed::path::SymbolTable>);
 }
 

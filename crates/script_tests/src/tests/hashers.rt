@@ -1,10 +1,13 @@
 //! How many hashers a table makes, and tables whose hashes are equal, share buckets or are random.
 use super::assertions::same;
+use super::contents::TestKind;
 use super::each::{Hashed, try_on_each};
 use super::script::plays;
+use intaglio::packed::{Packed, StrKind};
 use intaglio::path::{Path, PathContent};
 use intaglio::{
-    AddedTo, BaseInterner, Keyed, Sought, StrContent, SymbolTable, Work, check_all, packed,
+    AddedTo, BaseInterner, Content, ContentOf, Copied, Indexed, Keyed, LookedUpIn, Sought,
+    SoughtIn, StrContent, Table, TableOver, Work, check_all,
 };
 use intaglio_core::look_ahead;
 use std::alloc::Global;
@@ -97,10 +100,23 @@ hashers > 14",
 #[test]
 fn a_table_made_of_forms_hashes_each_once(rt: HostRuntime) {
     let words = ["b", "a", "b"].as_slice();
-    let owned = SymbolTable::from_slice(rt.alloc(), Counted::new(None), words);
-    same(&rt, owned.expect(&rt, "memory").hasher().made(), Some(3));
-    let packed = packed::SymbolTable::from_slice(rt.alloc(), Counted::new(None), words);
-    same(&rt, packed.expect(&rt, "memory").hasher().made(), Some(3));
+    hashes_forms::<Vec<StrContent>>(&rt, rt.alloc(), words, 3);
+    hashes_forms::<Packed<StrKind>>(&rt, rt.alloc(), words, 3);
+}
+
+// Asserts how many hashers a table makes that is made of forms.
+fn hashes_forms<'q, L: LookedUpIn<'q> + Indexed + Drop>(
+    rt: &impl Abort,
+    alloc: Global,
+    forms: &[L::By],
+    wanted: usize,
+)
+where
+    L::Content: Content + SoughtIn<L> + Drop,
+    L::Prepared: Drop,
+{
+    let made = TableOver::<L, Counted>::from_slice(alloc, Counted::new(None), forms);
+    same(rt, made.expect(rt, "memory").hasher().made(), Some(wanted));
 }
 
 // Makes the calls with a `Work` for the first of these values: two hashings, calls by these hashes, and then three that
@@ -134,14 +150,25 @@ fn makes_counted_calls<H, T: BaseInterner, Q: AddedTo<T::Store, H> + Copy>(
 
 #[test]
 fn a_call_by_a_hash_makes_no_hasher(rt: HostRuntime) {
-    let hasher = Counted::new(None);
-    let mut owned = SymbolTable::with_hasher(rt.alloc(), hasher).expect(&rt, "no table");
-    makes_counted_calls(&rt, rt.alloc(), &mut owned, &["a"]);
-    same(&rt, owned.hasher().made(), Some(5));
-    let hasher = Counted::new(None);
-    let mut packed = packed::SymbolTable::with_hasher(rt.alloc(), hasher).expect(&rt, "no table");
-    makes_counted_calls(&rt, rt.alloc(), &mut packed, &["a"]);
-    same(&rt, packed.hasher().made(), Some(5));
+    hashes_counted_calls::<Copied, Vec<StrContent>, &str>(&rt, rt.alloc(), &["a"], 5);
+    hashes_counted_calls::<Copied, Packed<StrKind>, &str>(&rt, rt.alloc(), &["a"], 5);
+}
+
+// Asserts how many hashers a table makes for these calls.
+fn hashes_counted_calls<H, L: Indexed + Drop, Q: AddedTo<L, H> + Copy>(
+    rt: &impl Abort,
+    alloc: Global,
+    values: &[Q],
+    wanted: usize,
+)
+where
+    L::Content: Content + SoughtIn<L> + Drop,
+    L::Prepared: Drop,
+{
+    let made = TableOver::<L, Counted>::with_hasher(alloc, Counted::new(None));
+    let mut table = made.expect(rt, "no table");
+    makes_counted_calls::<H, _, _>(rt, alloc, &mut table, values);
+    same(rt, table.hasher().made(), Some(wanted));
 }
 
 #[test]
@@ -194,11 +221,10 @@ check e9 > none",
 #[test]
 fn random_hashes_serve_too(rt: HostRuntime) {
     let builder = RandomState::new(&rt).expect(&rt, "a seed");
-    let mut table = SymbolTable::with_hasher(rt.alloc(), builder).expect(&rt, "no table");
-    plays(
+    plays_under::<StrKind, _>(
         &rt,
         rt.alloc(),
-        &mut table,
+        builder,
         "capacity > 4096
 intern a > 0
 intern b > 1
@@ -216,6 +242,17 @@ check b > none
 clear > done
 len > 0",
     );
+}
+
+// Plays a script on a table with this hash builder.
+fn plays_under<K: TestKind, S: HasherCount>(
+    rt: &impl Abort,
+    alloc: Global,
+    hasher: S,
+    script: &'static str,
+) {
+    let made = Table::<ContentOf<K>, S>::with_hasher(alloc, hasher);
+    plays(rt, alloc, &mut made.expect(rt, "no table"), script);
 }
 
 fn hash<C: Keyed, Q: Sought<C>>(sought: &Q) -> u64 {

@@ -2,7 +2,7 @@
 use super::assertions::same;
 use super::calls::Ask;
 use super::contents::content;
-use super::printed::{number, text};
+use super::printed::{number, numbered, text};
 use super::table::Table;
 use intaglio::{Reply, Symbol};
 use std::alloc::Global;
@@ -113,9 +113,8 @@ fn finds<T: Table>(rt: &impl Abort, alloc: Global, table: &mut T, spelling: &[u8
         symbol.as_str(),
     );
     gives(rt, alloc, table, spelling, Ask::IsInterned, "true");
-    let pair = table.pair(alloc, &content(rt, alloc, spelling));
-    let copy = spelling.to_vec(alloc).expect(rt, "memory");
-    same(rt, pair, Reply::Pair(Some((wanted, copy))));
+    let pair = numbered(rt, alloc, wanted, spelling);
+    gives(rt, alloc, table, spelling, Ask::GetInterned, pair.as_str());
 }
 
 /// Interns a content that isn't interned yet twice, and asserts after each interning that it is kept.

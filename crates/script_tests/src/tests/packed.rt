@@ -1,8 +1,8 @@
 //! Tables in one buffer, by the calls of a [`Table`].
-use super::calls::{Ask, answer_over};
+use super::calls::{Ask, answer_over, first};
 use super::contents::TestKind;
-use super::printed::paired;
-use super::steps::{Steps, walk_table};
+use super::printed::{paired, reply_text};
+use super::steps::{Steps, walk_packed};
 use super::table::{Counts, Made, Make, Table, Update, counts_of, updated};
 use crate::replies::interned;
 use intaglio::bstr::BStrContent;
@@ -26,13 +26,6 @@ pub type Buffer<K, S> = TableOver<Packed<K>, S>;
 
 /// A kind of contents that are packed, and what differs between packed tables of the kinds.
 pub trait PackedTests: TestKind {
-    /// Looks the borrowed form of a content up, as `get_interned`.
-    fn pair_of<S: HasherCount>(
-        alloc: Global,
-        table: &Buffer<Self, S>,
-        sought: &ContentOf<Self>,
-    ) -> Reply;
-
     /// Makes a call by the borrowed forms of contents, and returns its result as text.
     fn ask_packed<R: Abort, S: HasherCount>(
         rt: &R,
@@ -52,17 +45,6 @@ pub trait PackedTests: TestKind {
 }
 
 impl PackedTests for StrKind {
-    fn pair_of<S: HasherCount>(
-        alloc: Global,
-        table: &Buffer<Self, S>,
-        sought: &StrContent,
-    ) -> Reply {
-        match table.get_interned(sought.form()) {
-            None => Reply::Pair(None),
-            Some((symbol, form)) => paired(alloc, symbol, form),
-        }
-    }
-
     fn ask_packed<R: Abort, S: HasherCount>(
         rt: &R,
         alloc: Global,
@@ -70,7 +52,16 @@ impl PackedTests for StrKind {
         contents: &[StrContent],
         ask: Ask,
     ) -> String {
-        answer_over(rt, alloc, table, contents, ask)
+        match ask {
+            Ask::GetInterned => {
+                let pair = match table.get_interned(first(rt, contents).form()) {
+                    None => Reply::Pair(None),
+                    Some((symbol, form)) => paired(alloc, symbol, form),
+                };
+                reply_text(rt, alloc, &pair)
+            }
+            _ => answer_over(rt, alloc, table, contents, ask),
+        }
     }
 
     fn go_packed<R: Abort, S: HasherCount>(
@@ -79,22 +70,11 @@ impl PackedTests for StrKind {
         table: &Buffer<Self, S>,
         steps: &Steps,
     ) {
-        walk_table(rt, alloc, table, table.strings(), steps);
+        walk_packed(rt, alloc, table, table.strings(), steps);
     }
 }
 
 impl PackedTests for OsStrKind {
-    fn pair_of<S: HasherCount>(
-        alloc: Global,
-        table: &Buffer<Self, S>,
-        sought: &OsStrContent,
-    ) -> Reply {
-        match table.get_interned(sought.form()) {
-            None => Reply::Pair(None),
-            Some((symbol, form)) => paired(alloc, symbol, form),
-        }
-    }
-
     fn ask_packed<R: Abort, S: HasherCount>(
         rt: &R,
         alloc: Global,
@@ -102,7 +82,16 @@ impl PackedTests for OsStrKind {
         contents: &[OsStrContent],
         ask: Ask,
     ) -> String {
-        answer_over(rt, alloc, table, contents, ask)
+        match ask {
+            Ask::GetInterned => {
+                let pair = match table.get_interned(first(rt, contents).form()) {
+                    None => Reply::Pair(None),
+                    Some((symbol, form)) => paired(alloc, symbol, form),
+                };
+                reply_text(rt, alloc, &pair)
+            }
+            _ => answer_over(rt, alloc, table, contents, ask),
+        }
     }
 
     fn go_packed<R: Abort, S: HasherCount>(
@@ -111,22 +100,11 @@ impl PackedTests for OsStrKind {
         table: &Buffer<Self, S>,
         steps: &Steps,
     ) {
-        walk_table(rt, alloc, table, table.os_strings(), steps);
+        walk_packed(rt, alloc, table, table.os_strings(), steps);
     }
 }
 
 impl PackedTests for BytesKind {
-    fn pair_of<S: HasherCount>(
-        alloc: Global,
-        table: &Buffer<Self, S>,
-        sought: &BytesContent,
-    ) -> Reply {
-        match table.get_interned(sought.form()) {
-            None => Reply::Pair(None),
-            Some((symbol, form)) => paired(alloc, symbol, form),
-        }
-    }
-
     fn ask_packed<R: Abort, S: HasherCount>(
         rt: &R,
         alloc: Global,
@@ -134,7 +112,16 @@ impl PackedTests for BytesKind {
         contents: &[BytesContent],
         ask: Ask,
     ) -> String {
-        answer_over(rt, alloc, table, contents, ask)
+        match ask {
+            Ask::GetInterned => {
+                let pair = match table.get_interned(first(rt, contents).form()) {
+                    None => Reply::Pair(None),
+                    Some((symbol, form)) => paired(alloc, symbol, form),
+                };
+                reply_text(rt, alloc, &pair)
+            }
+            _ => answer_over(rt, alloc, table, contents, ask),
+        }
     }
 
     fn go_packed<R: Abort, S: HasherCount>(
@@ -143,22 +130,11 @@ impl PackedTests for BytesKind {
         table: &Buffer<Self, S>,
         steps: &Steps,
     ) {
-        walk_table(rt, alloc, table, table.bytestrings(), steps);
+        walk_packed(rt, alloc, table, table.bytestrings(), steps);
     }
 }
 
 impl PackedTests for BStrKind {
-    fn pair_of<S: HasherCount>(
-        alloc: Global,
-        table: &Buffer<Self, S>,
-        sought: &BStrContent,
-    ) -> Reply {
-        match table.get_interned(sought.form()) {
-            None => Reply::Pair(None),
-            Some((symbol, form)) => paired(alloc, symbol, form),
-        }
-    }
-
     fn ask_packed<R: Abort, S: HasherCount>(
         rt: &R,
         alloc: Global,
@@ -166,7 +142,16 @@ impl PackedTests for BStrKind {
         contents: &[BStrContent],
         ask: Ask,
     ) -> String {
-        answer_over(rt, alloc, table, contents, ask)
+        match ask {
+            Ask::GetInterned => {
+                let pair = match table.get_interned(first(rt, contents).form()) {
+                    None => Reply::Pair(None),
+                    Some((symbol, form)) => paired(alloc, symbol, form),
+                };
+                reply_text(rt, alloc, &pair)
+            }
+            _ => answer_over(rt, alloc, table, contents, ask),
+        }
     }
 
     fn go_packed<R: Abort, S: HasherCount>(
@@ -175,22 +160,11 @@ impl PackedTests for BStrKind {
         table: &Buffer<Self, S>,
         steps: &Steps,
     ) {
-        walk_table(rt, alloc, table, table.bstrings(), steps);
+        walk_packed(rt, alloc, table, table.bstrings(), steps);
     }
 }
 
 impl PackedTests for PathKind {
-    fn pair_of<S: HasherCount>(
-        alloc: Global,
-        table: &Buffer<Self, S>,
-        sought: &PathContent,
-    ) -> Reply {
-        match table.get_interned(sought.form()) {
-            None => Reply::Pair(None),
-            Some((symbol, form)) => paired(alloc, symbol, form),
-        }
-    }
-
     fn ask_packed<R: Abort, S: HasherCount>(
         rt: &R,
         alloc: Global,
@@ -198,7 +172,16 @@ impl PackedTests for PathKind {
         contents: &[PathContent],
         ask: Ask,
     ) -> String {
-        answer_over(rt, alloc, table, contents, ask)
+        match ask {
+            Ask::GetInterned => {
+                let pair = match table.get_interned(first(rt, contents).form()) {
+                    None => Reply::Pair(None),
+                    Some((symbol, form)) => paired(alloc, symbol, form),
+                };
+                reply_text(rt, alloc, &pair)
+            }
+            _ => answer_over(rt, alloc, table, contents, ask),
+        }
     }
 
     fn go_packed<R: Abort, S: HasherCount>(
@@ -207,7 +190,7 @@ impl PackedTests for PathKind {
         table: &Buffer<Self, S>,
         steps: &Steps,
     ) {
-        walk_table(rt, alloc, table, table.paths(), steps);
+        walk_packed(rt, alloc, table, table.paths(), steps);
     }
 }
 
@@ -229,10 +212,6 @@ impl<K: PackedTests, S: HasherCount> Table for Buffer<K, S> {
         contents: Vec<ContentOf<K>>,
     ) -> String {
         K::ask_packed(rt, alloc, self, &contents, Ask::CountedAll)
-    }
-
-    fn pair(&self, alloc: Global, sought: &ContentOf<K>) -> Reply {
-        K::pair_of(alloc, self, sought)
     }
 
     fn ask<R: Abort>(

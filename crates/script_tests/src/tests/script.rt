@@ -83,7 +83,6 @@ fn replies<T: Table>(rt: &impl Abort, alloc: Global, table: &mut T, line: Line) 
     match line.name {
         "intern" => Some(table.put(content(rt, alloc, line.word.as_bytes()))),
         "lend" => Some(table.put(borrowed_content(rt, line.word))),
-        "get_interned" => Some(table.pair(alloc, &content(rt, alloc, line.word.as_bytes()))),
         _ => match update(rt, line) {
             Some(update) => Some(table.update(update)),
             None => counts(rt, table.counts(), line),
@@ -132,6 +131,7 @@ fn ask(rt: &impl Abort, line: Line) -> Option<Ask> {
         "insert_full" => Some(Ask::InsertFull),
         "check" => Some(Ask::CheckInterned),
         "is_interned" => Some(Ask::IsInterned),
+        "get_interned" => Some(Ask::GetInterned),
         "contains" => Some(Ask::Contains(symbol(rt, line.word))),
         "get" => Some(Ask::Get(symbol(rt, line.word))),
         "index" => Some(Ask::Index(symbol(rt, line.word))),

@@ -2,7 +2,11 @@
 use super::contents::Shown;
 use super::printed::{number, numbered, text, word};
 use super::script::same_text;
-use intaglio::{AllSymbols, Content, Forms, Indexed, Lends, Pairs, Symbol, TableOver};
+use intaglio::packed::{Packed, PackedForm};
+use intaglio::{
+    AllSymbols, Content, ContentOf, Forms, Indexed, KindForm, Lends, Pairs, Symbol, Table,
+    TableOver,
+};
 use std::alloc::Global;
 use std::process::Abort;
 use test_support::builders::HasherCount;
@@ -36,8 +40,35 @@ pub fn walks<W: Walk>(rt: &impl Abort, alloc: Global, mut walked: W, script: &st
     }
 }
 
-/// Makes the steps on the iterators of a table, one of which is given.
-pub fn walk_table<'a, L: Lends<'a> + Indexed, S: HasherCount>(
+/// Makes the steps on the iterators of a table of owned contents, one of which is given.
+pub fn walk_owned<'a, K: KindForm<'a>, S: HasherCount>(
+    rt: &impl Abort,
+    alloc: Global,
+    table: &'a Table<ContentOf<K>, S>,
+    forms: Forms<'a, Vec<ContentOf<K>>>,
+    steps: &Steps,
+)
+where
+    K::Form: Shown,
+{
+    walk_table(rt, alloc, table, forms, steps);
+}
+
+/// Makes the steps on the iterators of a table in one buffer, one of which is given.
+pub fn walk_packed<'a, K: PackedForm<'a>, S: HasherCount>(
+    rt: &impl Abort,
+    alloc: Global,
+    table: &'a TableOver<Packed<K>, S>,
+    forms: Forms<'a, Packed<K>>,
+    steps: &Steps,
+)
+where
+    K::Form: Shown,
+{
+    walk_table(rt, alloc, table, forms, steps);
+}
+
+fn walk_table<'a, L: Lends<'a> + Indexed, S: HasherCount>(
     rt: &impl Abort,
     alloc: Global,
     table: &'a TableOver<L, S>,

@@ -1,10 +1,15 @@
 //! A trait with the calls of a table and no contract, so that its callers are proved without that of each call.
+//!
+//! The prover takes seconds wherever a table of one kind is passed to a call of any table: here that is done once, for
+//! tables of any kind.
 use super::calls::Ask;
-use super::contents::TestContent;
+use super::contents::{TestContent, TestKind};
 use super::printed::symbols_text;
 use super::steps::Steps;
 use crate::replies::interned;
-use intaglio::{AllSymbols, Indexed, Mark, Reply, RoomError, TableOver, Work, intern_all};
+use intaglio::{
+    AllSymbols, ContentOf, Indexed, Mark, Reply, RoomError, TableOver, Work, intern_all,
+};
 use std::alloc::Global;
 use std::process::Abort;
 use test_support::builders::{Counted, Fold, HasherCount};
@@ -37,9 +42,6 @@ pub trait Table: Drop {
     /// By the function `intern_all`, or in one buffer by `get_or_intern_all`.
     fn put_counted<R: Abort>(&mut self, rt: &R, alloc: Global, contents: Vec<Self::Kind>) -> String;
 
-    /// As `get_interned`.
-    fn pair(&self, alloc: Global, sought: &Self::Kind) -> Reply;
-
     /// Makes a call by the borrowed forms of contents.
     fn ask<R: Abort>(&mut self, rt: &R, alloc: Global, contents: &[Self::Kind], ask: Ask) -> String;
 
@@ -56,28 +58,35 @@ pub trait Table: Drop {
     fn go<R: Abort>(&self, rt: &R, alloc: Global, steps: &Steps);
 }
 
-impl<C: TestContent, S: HasherCount> Table for intaglio::Table<C, S> {
-    type Kind = C;
+impl<K: TestKind, S: HasherCount> Table for intaglio::Table<ContentOf<K>, S> {
+    type Kind = ContentOf<K>;
 
-    fn put(&mut self, content: C) -> Reply {
+    fn put(&mut self, content: ContentOf<K>) -> Reply {
         interned(self.intern(content))
     }
 
-    fn put_all<R: Abort>(&mut self, rt: &R, alloc: Global, contents: Vec<C>) -> String {
+    fn put_all<R: Abort>(&mut self, rt: &R, alloc: Global, contents: Vec<ContentOf<K>>) -> String {
         symbols_text(rt, alloc, self.intern_all(contents))
     }
 
-    fn put_counted<R: Abort>(&mut self, rt: &R, alloc: Global, contents: Vec<C>) -> String {
+    fn put_counted<R: Abort>(
+        &mut self,
+        rt: &R,
+        alloc: Global,
+        contents: Vec<ContentOf<K>>,
+    ) -> String {
         let symbols = intern_all(alloc, self, contents, &mut Work::new());
         symbols_text(rt, alloc, symbols)
     }
 
-    fn pair(&self, alloc: Global, sought: &C) -> Reply {
-        sought.pair_in(alloc, self)
-    }
-
-    fn ask<R: Abort>(&mut self, rt: &R, alloc: Global, contents: &[C], ask: Ask) -> String {
-        C::ask(rt, alloc, self, contents, ask)
+    fn ask<R: Abort>(
+        &mut self,
+        rt: &R,
+        alloc: Global,
+        contents: &[ContentOf<K>],
+        ask: Ask,
+    ) -> String {
+        K::ask(rt, alloc, self, contents, ask)
     }
 
     fn update(&mut self, update: Update) -> Reply {
@@ -93,7 +102,7 @@ impl<C: TestContent, S: HasherCount> Table for intaglio::Table<C, S> {
     }
 
     fn go<R: Abort>(&self, rt: &R, alloc: Global, steps: &Steps) {
-        C::go(rt, alloc, self, steps);
+        K::go(rt, alloc, self, steps);
     }
 }
 
@@ -126,10 +135,10 @@ pub trait Made: Table {
 }
 
 /// A table of owned contents.
-pub type Owned<C> = intaglio::Table<C, Fold>;
+pub type Owned<K> = intaglio::Table<ContentOf<K>, Fold>;
 
-impl<C: TestContent> Made for Owned<C> {
-    type Counting = intaglio::Table<C, Counted>;
+impl<K: TestKind> Made for Owned<K> {
+    type Counting = intaglio::Table<ContentOf<K>, Counted>;
 
     fn make(alloc: Global, how: Make) -> Result<Self, RoomError> {
         make_table(alloc, how)
@@ -139,7 +148,7 @@ impl<C: TestContent> Made for Owned<C> {
         alloc: Global,
         capacity: usize,
         hasher: Counted,
-    ) -> Result<intaglio::Table<C, Counted>, RoomError> {
+    ) -> Result<intaglio::Table<ContentOf<K>, Counted>, RoomError> {
         intaglio::Table::with_capacity_and_hasher(alloc, capacity, hasher)
     }
 }
