@@ -224,7 +224,8 @@ INTAGLIO_MUST_USE intaglio_code intaglio_intern(intaglio_table *table, const uin
 /* The same without a copy, but a packed table copies a new string all the same. The bytes must not change until the program ends. */
 INTAGLIO_MUST_USE intaglio_code intaglio_intern_static(intaglio_table *table, const uint8_t *bytes, size_t len, uint32_t *symbol);
 
-/* Returns whether a string is in the table. If so, its symbol is stored in *symbol; otherwise *symbol is unchanged. */
+/* Returns whether a string is in the table. If so, its symbol is stored in *symbol; otherwise *symbol is unchanged. A string that
+ * isn't valid for the kind is in no table. Only a path is tested for that, and other strings are looked up as they are. */
 bool intaglio_check_interned(const intaglio_table *table, const uint8_t *bytes, size_t len, uint32_t *symbol);
 
 /* Stores the address and the length of a symbol's bytes in *out. The bytes stay valid until the table is cleared, rolled back to

@@ -1,5 +1,5 @@
 -- What a change of a table is to the bytes of its contents.
-use Rattle.intaglio_c.proofs.Names.{◌≡◌, ℕ, ◌+◌, ◌<◌, ◌≤◌, inl, inr, Bool, true, false, List, [], ◌∷◌, ◌++◌, map, refl, sym, ap, subst, ◌∙◌, arith, max, ◌↔◌, option_map, slice_get, Option, Some, None, MatchOption, Result, Ok, Err, take-map, length-map, map-append, slice_get-map, State, Table, first, first_of, AddsNew, InternsValue, IsOutOfMemory, IsRefused, Reserves, Shrinks, TakesBack, StaleMark, fault, key, Seen, as_bytes, seen_of, position, look_up, unless, IsChangedBy, InternsBy, InternsNew, KeyedState, Kind, Refusal}
+use Rattle.intaglio_c.proofs.Names.{◌≡◌, ℕ, ◌+◌, ◌<◌, ◌≤◌, inl, inr, Bool, true, false, List, [], ◌∷◌, ◌++◌, map, refl, sym, ap, subst, ◌∙◌, arith, max, ◌↔◌, option_map, slice_get, Option, Some, None, MatchOption, Result, Ok, Err, take-map, length-map, map-append, slice_get-map, State, Table, first, first_of, AddsNew, InternsValue, IsOutOfMemory, IsRefused, Reserves, Shrinks, TakesBack, StaleMark, fault, has_key, key, IsFaultless, Seen, as_bytes, seen_of, position, look_up, unless, IsChangedBy, InternsBy, InternsNew, KeyedState, Kind, Refusal}
 use Rattle.intaglio_content.specs.Key.{Key}
 use Rattle.intaglio_content.specs.Store.{IsMoved, IsPushed}
 use Rattle.intaglio_symbol.specs.declared.error.InternError.{InternError}
@@ -7,6 +7,8 @@ use Rattle.intaglio_symbol.specs.declared.error.InternError.TheVariants.{Overflo
 use Rattle.intaglio_symbol.specs.declared.error.RoomError.{RoomError}
 use Rattle.intaglio_symbol.specs.declared.error.RoomError.TheVariants as room_error
 use Rattle.intaglio_c.specs.Answers.{symbol_answer}
+use Rattle.intaglio_c.specs.Handles.{found}
+use Rattle.intaglio_c.proofs.Faults.{untested}
 
 -- a table whose state alone changed, as it is seen
 pub changed : {C : Type 0} (old : Seen) (kind : Kind) (bytes : C → List ℕ) (s s' : State C) (h h' : KeyedState) (Step : State (List ℕ) → State (List ℕ) → Type 0)
@@ -87,11 +89,10 @@ module _ {C : Type 0} (kind : Kind) (bytes : C → List ℕ) (content_key : C �
   place cs b k spelled = ap (λ (ks : List Key). first_of ks k) (keys cs) ∙ ap (first (key kind) (map bytes cs)) spelled
 
   -- a look-up
-  pub found : (old : Seen) (held : State C) (h : KeyedState) (b : List ℕ) (sought : Key) (result : Option ℕ) → old ≡ seen_of kind bytes held h → fault old.kind b ≡ None → sought ≡ key kind b → result ≡ first content_key held.contents sought
-      → Ok result ≡ look_up old b
-  found old held h b sought result is allowed spelled answer =
-      let faultless : fault kind b ≡ None = subst (λ (x : Seen). fault x.kind b ≡ None) is allowed in
-      subst (λ (x : Seen). Ok result ≡ look_up x b) (sym is) (rw faultless (ap Ok (answer ∙ place held.contents b sought spelled)))
+  pub finds : (old : Seen) (held : State C) (h : KeyedState) (b : List ℕ) (sought : Key) (result : Option ℕ) → old ≡ seen_of kind bytes held h → has_key old.kind b ≡ true → sought ≡ key kind b → result ≡ first content_key held.contents sought
+      → IsFaultless old → result ≡ found (look_up old b)
+  finds old held h b sought result is some spelled answer faultless =
+      answer ∙ place held.contents b sought spelled ∙ sym (ap (λ (x : Seen). position x b) is) ∙ untested old b faultless some
 
   -- an interning
   pub interned : (copies : Kind → Bool) (adds : List C → List C → Type 0) (old : Seen) (held : State C) (h : KeyedState) (t' : Table C KeyedState) (b : List ℕ) (k : Key) (result : Result ℕ InternError) (answer : Result ℕ Refusal)
@@ -100,8 +101,8 @@ module _ {C : Type 0} (kind : Kind) (bytes : C → List ℕ) (content_key : C �
   interned copies adds old held h t' b k result answer is hasher allowed spelled grows step answered =
       let s = as_bytes bytes held in let s' = as_bytes bytes t'.state in let given = symbol_answer result in
       let looked_up = by_look_up bytes adds (copies kind) (first content_key held.contents k) held t'.state b result grows step in
-      let found = subst (λ (o : Option ℕ). InternsBy (copies kind) b s (Ok o) given s') (place held.contents b k spelled) looked_up in
-      let tested = subst (λ (f : Option Refusal). InternsBy (copies kind) b s (unless f (position (seen_of kind bytes held h) b)) given s') (sym (subst (λ (x : Seen). fault x.kind b ≡ None) is allowed)) found in
+      let placed = subst (λ (o : Option ℕ). InternsBy (copies kind) b s (Ok o) given s') (place held.contents b k spelled) looked_up in
+      let tested = subst (λ (f : Option Refusal). InternsBy (copies kind) b s (unless f (position (seen_of kind bytes held h) b)) given s') (sym (subst (λ (x : Seen). fault x.kind b ≡ None) is allowed)) placed in
       subst (λ (a : Result ℕ Refusal). IsChangedBy old (seen_of kind bytes t'.state t'.hasher) (λ _ x. InternsBy (copies old.kind) b old.state (look_up old b) a x)) (sym answered)
       (changed old kind bytes held t'.state h t'.hasher (λ _ x. InternsBy (copies old.kind) b old.state (look_up old b) given x) is hasher
       (subst (λ (x : Seen). InternsBy (copies x.kind) b x.state (look_up x b) given s') (sym is) tested))

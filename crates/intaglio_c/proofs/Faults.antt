@@ -1,10 +1,15 @@
 -- Which bytes a kind doesn't take.
-use Rattle.intaglio_c.proofs.Names.{◌∙◌, Bool, ◌≡◌, ℕ, zero, suc, ◌+◌, ◌-◌, ◌<◌, true, false, List, [], ◌∷◌, ◌++◌, length, take, refl, sym, ap, arith, cond, inl, inr, ◌⊎◌, if◌then◌else◌, Option, Some, None, Result, Ok, Err, ◌==◌, IsUtf8, is_some, eqb-true, none-some, TakesBack, interned, interned_all, State, first, StaleMark, Either, InternsOr, IsRolledBack, earlier, fault, first_fault, key, utf8_fault, zero_fault, zero_fault_at, Kind, Refusal, BadEnds, Full, NoMemory, NotUtf8, InnerZero, MissingZero, Seen, look_up, position, unless, InternsBy}
+use Rattle.intaglio_c.proofs.Names.{◌∙◌, Bool, ◌≡◌, ℕ, zero, suc, ◌+◌, ◌-◌, ◌<◌, true, false, List, [], ◌∷◌, ◌++◌, length, take, refl, sym, ap, arith, cond, inl, inr, ◌⊎◌, if◌then◌else◌, Option, Some, None, Result, Ok, Err, ◌==◌, IsUtf8, is_some, get_or, eqb-true, none-some, TakesBack, interned, interned_all, State, first, StaleMark, Either, InternsOr, IsRolledBack, broken, earlier, fault, first_fault, has_key, key, utf8_fault, zero_fault, zero_fault_at, Kind, Refusal, BadEnds, Full, NoMemory, NotUtf8, InnerZero, MissingZero, IsFaultless, Seen, look_up, position, unless, InternsBy}
+use Rattle.std.specs.Prelude.{◌≢◌}
 use Rattle.std.specs.Str.{is_utf8}
+use Rattle.std.proofs.lemmas.Bool.{false_from_ne_true}
 use Rattle.std.proofs.lemmas.Str.{IsUtf8-from_is_utf8, is_utf8-from_IsUtf8}
 use Rattle.intaglio_frozen.specs.Layout.{strings}
 use Rattle.intaglio_cstr.specs.Zeros.{EndsAtFirstZero, first_zero}
+use Rattle.intaglio_interner.proofs.First.{key_eq-unequal}
 use Rattle.intaglio_c.specs.Frozen.{Absorbs}
+use Rattle.intaglio_c.specs.Handles.{found}
+use Rattle.intaglio_c.specs.declared.kind.Kind.TheVariants.{Owned, Path, Packed}
 
 -- texts
 abbrev utf8_fault_by : Bool → Option Refusal
@@ -18,6 +23,9 @@ bad_text bs bad = elim (is_utf8 bs) as (λ b. is_utf8 bs ≡ b → utf8_fault bs
 
 pub is_text : (bs : List ℕ) → utf8_fault bs ≡ None → IsUtf8 bs
 is_text bs none = elim (is_utf8 bs) as (λ b. is_utf8 bs ≡ b → IsUtf8 bs) [ true ↦ λ e. IsUtf8-from_is_utf8 bs e | false ↦ λ e. absurd (none-some NotUtf8 (sym none ∙ ap utf8_fault_by e)) ] refl
+
+pub no_text : (bs : List ℕ) → ¬ (IsUtf8 bs) → is_utf8 bs ≡ false
+no_text bs bad = false_from_ne_true (is_utf8 bs) (λ e. bad (IsUtf8-from_is_utf8 bs e))
 
 -- C strings
 ends : (n : ℕ) (first : Option ℕ) → zero_fault_at n first ≡ None → first ≡ Some (n - 1)
@@ -70,10 +78,6 @@ after None None copies b s s' (Err _) never = absurd never
 after None (Some i) copies b s s' result known = inl (ap (λ (x : State (List ℕ)). x.contents) known.1)
 after (Some r) o copies b s s' result refused = inl (ap (λ (x : State (List ℕ)). x.contents) refused.1)
 
--- all contents are strings of the table's kind
-abbrev pub IsFaultless : Seen → Type 0
-IsFaultless t = first_fault t.kind t.state.contents ≡ None
-
 -- a table that changes, all of whose strings are what its kind takes
 module _ (t t' : Seen) (same_kind : t'.kind ≡ t.kind) (faultless : IsFaultless t) where
   pub with_contents : (xs : List (List ℕ)) → t'.state.contents ≡ xs → first_fault t.kind xs ≡ None → IsFaultless t'
@@ -106,3 +110,24 @@ module _ (t t' : Seen) (same_kind : t'.kind ≡ t.kind) (faultless : IsFaultless
   pub with_frozen : (bs places symbols : List ℕ) (result : Result (Unit {0}) Refusal) → Absorbs bs places symbols t result t'.state → IsFaultless t'
   with_frozen bs places symbols result (inl some) = with_either (length places == length (strings bs)) (strings bs) symbols result some.1
   with_frozen bs places symbols result (inr none) = with_same none.2
+
+-- bytes that a kind doesn't take have no key, or not that of a string which it takes
+other_key : (k : Kind) (x b : List ℕ) (r : Refusal) → fault k x ≡ None → fault k b ≡ Some r → has_key k b ≡ true → key k x ≢ key k b
+other_key (Owned rule) x b r good bad some same = none-some r (sym good ∙ ap (λ (ks : List (List ℕ)). broken rule (get_or ks 0 [])) same ∙ bad)
+other_key Path x b r good bad some same = none-some r (sym (ap utf8_fault_by some) ∙ bad)
+other_key (Packed rule) x b r good bad some same = none-some r (sym good ∙ ap (λ (ks : List (List ℕ)). broken rule (get_or ks 0 [])) same ∙ bad)
+
+-- so a table doesn't have them
+not_there : (k : Kind) (xs : List (List ℕ)) (b : List ℕ) (r : Refusal) → first_fault k xs ≡ None → fault k b ≡ Some r → has_key k b ≡ true → first (key k) xs (key k b) ≡ None
+not_there k [] b r none bad some = refl
+not_there k (x ∷ xs) b r none bad some =
+    let both = neither (fault k x) (first_fault k xs) none in
+    rw (key_eq-unequal (key k x) (key k b) (other_key k x b r both.0 bad some), not_there k xs b r both.1 bad some) refl
+
+-- what a look-up finds without a test
+pub untested : (t : Seen) (b : List ℕ) → IsFaultless t → has_key t.kind b ≡ true → position t b ≡ found (look_up t b)
+untested t b faultless some = by_fault (fault t.kind b) refl
+  where
+    by_fault : (f : Option Refusal) → fault t.kind b ≡ f → position t b ≡ found (unless f (position t b))
+    by_fault None is = refl
+    by_fault (Some r) is = not_there t.kind t.state.contents b r faultless is some

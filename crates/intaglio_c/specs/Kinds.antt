@@ -73,10 +73,16 @@ abbrev pub first_fault : Kind → List (List ℕ) → Option Refusal
 first_fault kind [] = None
 first_fault kind (string ∷ strings) = earlier (fault kind string) (first_fault kind strings)
 
+-- whether bytes have a key of a kind: only a text has the components of a path
+abbrev pub has_key : Kind → List ℕ → Bool
+has_key (Owned r) bytes = true
+has_key Path bytes = is_utf8 bytes
+has_key (Packed r) bytes = true
+
 -- the hash of a key under a table's keys
 abbrev pub keyed_hash : KeyedState → Key → ℕ
 keyed_hash keys k = key_hash finish write (initial_hasher keys) k
 
--- the hash of the content with these bytes, or any number if they are no content of the kind
+-- the hash of the key of these bytes, or any number if they have none
 abbrev pub IsHash : Kind → KeyedState → List ℕ → ℕ → Type 0
-IsHash kind keys bytes n = fault kind bytes ≡ None → n ≡ keyed_hash keys (key kind bytes)
+IsHash kind keys bytes n = has_key kind bytes ≡ true → n ≡ keyed_hash keys (key kind bytes)

@@ -46,6 +46,10 @@ abbrev pub fault_in : Option AnyTable → Option Refusal
 fault_in None = None
 fault_in (Some table) = first_fault (seen table).kind (contents_of table)
 
+-- all contents are strings of the table's kind
+abbrev pub IsFaultless : Seen → Type 0
+IsFaultless t = first_fault t.kind t.state.contents ≡ None
+
 -- a new table, whose capacity is that of its buckets
 abbrev pub new_table : Kind → ℕ → ℕ → KeyedState → Seen
 new_table which room most keys = record { kind = which; state = empty_state room most; hasher = keys }

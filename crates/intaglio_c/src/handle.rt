@@ -19,7 +19,7 @@ pub struct Handle {
     pub(crate) live: bool,
     pub ptr: TablePtr,
     pub ghost agrees: { live ≡ is_some ptr.table },
-    // All strings of the table are what its kind takes.
+    // All strings of the table are what its kind takes, so a look-up needn't test what it seeks.
     pub ghost faultless: { fault_in ptr.table ≡ None },
 }
 

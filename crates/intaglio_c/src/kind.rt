@@ -1,5 +1,6 @@
 //! The kinds of tables, and what each wants of the bytes that come in.
 ghost use Rattle.std.specs.Prelude.{◌≡◌, IfOk, IfErr, None, Some};
+ghost use Rattle.std.specs.Str.{is_utf8};
 ghost use Rattle.intaglio_c.specs.Kinds.{broken, kind_of, utf8_fault, zero_fault};
 
 use crate::refusal::Refusal;
@@ -56,6 +57,17 @@ pub(crate) fn text_of(bytes: &[u8]) -> Result<&str, Refusal>
     match str::from_utf8(bytes) {
         Ok(text) => Ok(text),
         Err(_) => Err(Refusal::NotUtf8),
+    }
+}
+
+// Whether these bytes are a text.
+#[inline(always)]
+pub(crate) fn is_text(bytes: &[u8]) -> bool
+    ensures text { result ≡ is_utf8 bytes.now }
+{
+    match str::from_utf8(bytes) {
+        Ok(_) => true,
+        Err(_) => false,
     }
 }
 

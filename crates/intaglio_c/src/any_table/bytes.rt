@@ -1,16 +1,16 @@
 //! Strings as their bytes.
-ghost use Rattle.std.specs.Prelude.{◌≡◌, ⊤, [], ◌∷◌, None, Some, IfOk, IfErr, IfSome, slice_get};
+ghost use Rattle.std.specs.Prelude.{◌≡◌, ⊤, true, [], ◌∷◌, None, Some, IfOk, IfErr, IfSome, slice_get};
 ghost use Rattle.std.specs.Option.{option_map};
 ghost use Rattle.intaglio_path.specs.Components.{components};
 ghost use Rattle.intaglio_c.specs.Batches.{or_absent};
 ghost use Rattle.intaglio_c.specs.Handles.{found};
-ghost use Rattle.intaglio_c.specs.Kinds.{IsHash, fault, keyed_hash, utf8_fault};
-ghost use Rattle.intaglio_c.specs.Seen.{TakesStep, contents_of, look_up, seen};
+ghost use Rattle.intaglio_c.specs.Kinds.{IsHash, fault, has_key, keyed_hash, utf8_fault};
+ghost use Rattle.intaglio_c.specs.Seen.{IsFaultless, TakesStep, contents_of, look_up, seen};
 ghost use Rattle.intaglio_c.specs.Steps.{Interns, InternsStatic};
 
 use super::AnyTable;
 use crate::ahead::LookUps;
-use crate::kind::text_of;
+use crate::kind::{is_text, text_of};
 use crate::refusal::{Refusal, symbol_answer};
 use intaglio_bytes::bytes::BytesContent;
 use intaglio_core::{BaseInterner, Sought, Symbol, Work, touch_all};
@@ -55,11 +55,22 @@ impl AnyTable {
         }
     }
 
-    // The known hash of a string that the table takes, or what it is. A path isn't tested again.
+    // Whether the bytes have a key of the table's kind. Only those of a path need a test.
+    #[inline(always)]
+    fn has_key(&self, bytes: &[u8]) -> bool
+        ensures key { result ≡ has_key (seen self.now).kind bytes.now }
+    {
+        match self {
+            AnyTable::Path(_) => is_text(bytes),
+            _ => true,
+        }
+    }
+
+    // The known hash of bytes that have a key, or what it is. A path isn't tested again.
     #[inline(always)]
     fn hash_or(&self, known: Option<u64>, bytes: &[u8]) -> u64
         requires known { IfSome known (IsHash (seen self.now).kind (seen self.now).hasher bytes.now) }
-        requires faultless { fault (seen self.now).kind bytes.now ≡ None }
+        requires key { has_key (seen self.now).kind bytes.now ≡ true }
         ensures hash { IsHash (seen self.now).kind (seen self.now).hasher bytes.now result }
     {
         if let Some(hash) = known {
@@ -80,23 +91,22 @@ impl AnyTable {
         self.rule().check(bytes)
     }
 
-    // The symbol of the string that is equal to these bytes, whose hash may be known, if there is one.
+    // The symbol of the string that is equal to these bytes, whose hash may be known, if there is one. The bytes aren't
+    // tested: a table has only strings that its kind takes, so it has none that is equal to others.
     #[inline(always)]
-    pub(crate) fn find(&self, known: Option<u64>, bytes: &[u8]) -> Result<Option<Symbol>, Refusal>
+    pub(crate) fn find(&self, known: Option<u64>, bytes: &[u8]) -> Option<Symbol>
         requires known { IfSome known (IsHash (seen self.now).kind (seen self.now).hasher bytes.now) }
-        ensures found { result ≡ look_up (seen self.now) bytes.now }
+        ensures found { IsFaultless (seen self.now) → result ≡ found (look_up (seen self.now) bytes.now) }
     {
-        self.check(bytes)?;
+        if !self.has_key(bytes) {
+            return None;
+        }
         let hash = self.hash_or(known, bytes);
         let work = &mut Work::new();
         match self {
-            AnyTable::Owned(_, table) => Ok(table.search_hashed(hash, &bytes, work)),
-            AnyTable::Path(table) => Ok(table.search_hashed(
-                hash,
-                &Path::new(text_in(bytes)),
-                work,
-            )),
-            AnyTable::Packed(_, table) => Ok(table.search_hashed(hash, &bytes, work)),
+            AnyTable::Owned(_, table) => table.search_hashed(hash, &bytes, work),
+            AnyTable::Path(table) => table.search_hashed(hash, &Path::new(text_in(bytes)), work),
+            AnyTable::Packed(_, table) => table.search_hashed(hash, &bytes, work),
         }
     }
 
@@ -136,12 +146,12 @@ impl AnyTable {
 }
 
 // The number that is written for a look-up.
-fn or_absent(answer: Result<Option<Symbol>, Refusal>) -> u64
-    ensures number { result ≡ or_absent (found answer) }
+fn or_absent(known: Option<Symbol>) -> u64
+    ensures number { result ≡ or_absent known }
 {
-    match answer {
-        Ok(Some(symbol)) => symbol.id() as u64,
-        _ => u64::MAX,
+    match known {
+        Some(symbol) => symbol.id() as u64,
+        None => u64::MAX,
     }
 }
 
@@ -150,11 +160,12 @@ impl LookUps for AnyTable {
 
     ghost may_be = { λ table bytes n. ⊤ };
 
-    ghost is_exact = { λ table. ⊤ };
+    // A table that has a string which its kind doesn't take may find it.
+    ghost is_exact = { λ table. IsFaultless (seen table) };
 
     ghost number = { λ table bytes. or_absent (found (look_up (seen table) bytes)) };
 
-    // Any number if the table doesn't take the bytes.
+    // Any number if the bytes have no key.
     #[inline(always)]
     fn hash(&self, bytes: &[u8]) -> u64 {
         match self {

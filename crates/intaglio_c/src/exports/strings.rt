@@ -51,11 +51,11 @@ pub extern "C" fn intaglio_check_interned(
 {
     let table = table_of!(handle, false);
     match table.find(None, bytes) {
-        Ok(Some(known)) => {
+        Some(known) => {
             *symbol = known.id();
             true
         }
-        _ => false,
+        None => false,
     }
 }
 

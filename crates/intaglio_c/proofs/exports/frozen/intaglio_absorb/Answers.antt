@@ -1,6 +1,6 @@
 -- Without a table, and what the strings are with those of a frozen table.
-use Rattle.intaglio_c.proofs.Names.{rules, ap, sym, ◌∙◌, Err, NoTable, fault_in, seen}
-use Rattle.intaglio_c.proofs.Faults.{IsFaultless, with_frozen}
+use Rattle.intaglio_c.proofs.Names.{rules, ap, sym, ◌∙◌, Err, NoTable, IsFaultless, fault_in, seen}
+use Rattle.intaglio_c.proofs.Faults.{with_frozen}
 use Rattle.intaglio_c.proofs.exports.frozen.intaglio_absorb.Goals as goal
 
 pub returns-then-not-handle : goal.returns-then-not-handle

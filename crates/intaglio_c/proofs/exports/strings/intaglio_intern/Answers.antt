@@ -1,6 +1,6 @@
 -- Without a table, and what the strings are with a new one.
-use Rattle.intaglio_c.proofs.Names.{rules, ap, sym, ◌∙◌, true, Err, NoTable, fault_in, seen}
-use Rattle.intaglio_c.proofs.Faults.{IsFaultless, with_interned}
+use Rattle.intaglio_c.proofs.Names.{rules, ap, sym, ◌∙◌, true, Err, NoTable, IsFaultless, fault_in, seen}
+use Rattle.intaglio_c.proofs.Faults.{with_interned}
 use Rattle.intaglio_c.proofs.exports.strings.intaglio_intern.Goals as goal
 
 pub returns-then-not-handle : goal.returns-then-not-handle

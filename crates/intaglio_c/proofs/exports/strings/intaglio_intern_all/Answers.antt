@@ -1,6 +1,6 @@
 -- Without a table, and what the strings are with those of a batch.
-use Rattle.intaglio_c.proofs.Names.{rules, ap, sym, ◌∙◌, Err, length, NoTable, is_batch, pieces, fault_in, seen}
-use Rattle.intaglio_c.proofs.Faults.{IsFaultless, with_either}
+use Rattle.intaglio_c.proofs.Names.{rules, ap, sym, ◌∙◌, Err, length, NoTable, is_batch, pieces, IsFaultless, fault_in, seen}
+use Rattle.intaglio_c.proofs.Faults.{with_either}
 use Rattle.intaglio_c.proofs.exports.strings.intaglio_intern_all.Goals as goal
 
 pub returns-then-not-handle : goal.returns-then-not-handle

@@ -1,6 +1,6 @@
 -- Without a table, and what the rest of the strings are.
-use Rattle.intaglio_c.proofs.Names.{rules, ap, sym, ◌∙◌, Err, NoTable, fault_in, seen}
-use Rattle.intaglio_c.proofs.Faults.{IsFaultless, with_first_ones}
+use Rattle.intaglio_c.proofs.Names.{rules, ap, sym, ◌∙◌, Err, NoTable, IsFaultless, fault_in, seen}
+use Rattle.intaglio_c.proofs.Faults.{with_first_ones}
 use Rattle.intaglio_c.proofs.exports.tables.intaglio_take_back.Goals as goal
 
 pub returns-then-not-handle : goal.returns-then-not-handle
