@@ -10,9 +10,9 @@ import tempfile
 from collections import Counter
 from pathlib import Path
 
-from columns import CODED, DONE, NAME, WAS, ended, failing, left, merged, packed, put, random_parts, read, said, shown
+from columns import CODED, DONE, NAME, WAS, ended, failing, left, merged, packed, put, random_parts, read, said, shown, unpacked
 from frozen_columns import HEADER, MAGIC, MISSING, Column, column, faults_of, id_of, id_of_strings
-from frozen_shards import OTHER, folder_of, made, shards_of
+from frozen_shards import NOT_ITS_MAP, OTHER, folder_of, made, shards_of
 from frozen_shards import put as put_folder
 from frozen_tables import BYTES, TEXT, freeze
 from programs import run
@@ -328,8 +328,10 @@ def refused_parts_in_shards(tool, folder):
         (with_word(whole, few), WRONG_WORDS, 2),
     ):
         yield f"{some}", is_refused(some, told, status)
+    fitting = [*unpacked(before[of_part])[1:], 0]
     for file, data, told in (
-        (shard, before[shard][:-1] + b"x", OTHER), (of_part, packed([10_000] * size), f"not a map to shard 1 of {whole}"),
+        (shard, before[shard][:-1] + b"x", OTHER), (of_part, packed([10_000] * size), NOT_ITS_MAP),
+        (of_part, packed(fitting), NOT_ITS_MAP),
     ):
         Path(file).write_bytes(data)
         yield f"{file}, damaged", is_refused(words, f"{file}: {told}")

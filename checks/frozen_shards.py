@@ -13,7 +13,7 @@ import tempfile
 import time
 from pathlib import Path
 
-from columns import DONE, decoded, encoded, ended, left, merged, packed, random_parts, read, said
+from columns import DONE, decoded, encoded, ended, left, merged, packed, random_parts, read, said, unpacked
 from frozen_columns import Id, id_of
 from frozen_tables import BYTES, TEXT, Frozen, freeze, scaled, sip_hash
 from programs import run
@@ -26,6 +26,8 @@ MISPLACED = "belongs to another shard, or there is another number of shards"
 NO_LINE = "not the line of a merged shard"
 NOT_MERGED = "no such file: it is made by merge --shard, with the shard and its maps"
 NOT_ITS_FILE = "not the shard that its line is of: it is damaged, or was written again"
+NOT_ITS_MAP = "not the map that the index names: it is damaged, or was written again"
+NO_CHECKSUM = "does not end with the checksum of a map, two numbers of sixteen digits"
 # How often a process is killed.
 KILLS = 24
 
@@ -48,10 +50,14 @@ def split_map(strings, count):
     return [symbols[it] for it in strings]
 
 
+def words_of(id):
+    """What an index says of a dictionary."""
+    return f"{('bytes', 'text')[id.kind]} {id.strings:016x} {id.hash0:016x} {id.hash1:016x}"
+
+
 def index_of(ids):
     """The index of shards."""
-    lines = [f"{('bytes', 'text')[it.kind]} {it.strings:016x} {it.hash0:016x} {it.hash1:016x}\n" for it in ids]
-    return "".join([f"intaglio shards 1 {len(ids):016x}\n", *lines]).encode()
+    return "".join([f"intaglio shards 1 {len(ids):016x}\n", *(f"{words_of(it)}\n" for it in ids)]).encode()
 
 
 def ids_in(index):
@@ -78,10 +84,29 @@ def line_of(number, indexes, table):
     return head.encode() + index_of([id_of(table)]).split(b"\n", 1)[1]
 
 
+def checksum_of(data):
+    """The checksum of a map, as an index of maps has it."""
+    return f"{sip_hash(0, 0, data):016x} {sip_hash(0, 1, data):016x}"
+
+
+def map_index_of(maps, ids, into):
+    """The index of maps from these dictionaries to that one."""
+    lines = [f"{words_of(id)} {checksum_of(data)}\n" for id, data in zip(ids, maps)]
+    return "".join([f"intaglio maps 1 {len(ids):016x}\n", *lines, f"{words_of(into)}\n"]).encode()
+
+
 def maps_of(numbers, tables, table):
     """The files of a folder with the maps of these tables to this one, and their index."""
-    files = {f"{part}.map": packed(it) for part, it in enumerate(numbers)}
-    return files | {"index": index_of([id_of(it) for it in (*tables, table)])}
+    maps = [packed(it) for it in numbers]
+    files = {f"{part}.map": it for part, it in enumerate(maps)}
+    return files | {"index": map_index_of(maps, [id_of(it) for it in tables], id_of(table))}
+
+
+def put_map(folder, part, data):
+    """Puts a map in the place of another one, and its checksum in the index."""
+    lines = read(f"{folder}/index").split(b"\n")
+    lines[part + 1] = b" ".join([*lines[part + 1].split(b" ")[:4], checksum_of(data).encode()])
+    put(folder, {f"{part}.map": data, "index": b"\n".join(lines)})
 
 
 def strings_in(folder):
@@ -290,8 +315,8 @@ def requests(tool, folder):
     def with_word(old, new):
         return [new if it == old else it for it in into]
 
-    part_map = f"{maps}/1/0.map"
-    of_map = Path(part_map).read_bytes()
+    part_map, map_index = f"{maps}/1/0.map", f"{maps}/1/index"
+    of_map, of_index = read(part_map), read(map_index)
     merge = ["merge", "-o", out, f"{folder}/0", f"{folder}/five", "--shard"]
     needed = "the number of a shard is needed, counted from 0"
     for words, message, status in (
@@ -313,10 +338,12 @@ def requests(tool, folder):
         ("shorter", of_map[:-4], f"another part's map: it has {size - 1} codes, and the part has {size} strings here"),
         ("of other strings", packed([10_000] * size), f"not a map to shard 1 of {whole}"),
     ):
-        Path(part_map).write_bytes(data)
+        put_map(f"{maps}/1", 0, data)
         yield f"a map {what}", refused(tool, into, b"", f"{part_map}: {message}", folder)
+        Path(map_index).write_bytes(of_index)
     Path(part_map).write_bytes(of_map)
     yield "the maps again", run([tool, *into]) == DONE
+    yield from changed_maps(tool, folder, into)
     yield from other_maps(tool, folder, into)
     for name in (part_map, f"{folder}/0/map", f"{folder}/0/shards", f"{whole}/shards", codes):
         told = said(2, f"{name}: this input is also the output {name}; nothing was written")
@@ -350,6 +377,28 @@ def requests(tool, folder):
     yield "a line that is the index", refused(tool, ["join", *shards, "-o", f"{folder}/new"], b"", told, folder, 2)
 
 
+def changed_maps(tool, folder, into):
+    """Yields what `renumber` says of a map that was changed and whose numbers are those of strings: it is the map of another
+    part or shard, or has another number, by which lines would be wrong."""
+    maps, whole = f"{folder}/maps", f"{folder}/whole"
+    for shard in range(3):
+        name, index = f"{maps}/{shard}/0.map", f"{maps}/{shard}/index"
+        was, of_index = read(name), read(index)
+        codes, count = unpacked(was), len(Frozen(read(f"{whole}/{shard}.dict")))
+        swapped, last = [codes[1], codes[0], *codes[2:]], [*codes[:-1], (codes[-1] + 1) % count]
+        for what, numbers in (
+            ("with another first number", [(codes[0] + 1) % count, *codes[1:]]), ("with another last number", last),
+            ("with two numbers exchanged", swapped), ("of zeros", [0] * len(codes)),
+        ):
+            Path(name).write_bytes(packed(numbers))
+            yield f"shard {shard}: a map {what}", refused(tool, into, b"", f"{name}: {NOT_ITS_MAP}", folder)
+            # Its numbers fit: with its checksum in the index it isn't noticed.
+            put_map(f"{maps}/{shard}", 0, packed(numbers))
+            yield f"shard {shard}: a map {what}, with its checksum", run([tool, *into]) == DONE
+            put(f"{maps}/{shard}", {"0.map": was, "index": of_index})
+    yield "the maps as they were", run([tool, *into]) == DONE
+
+
 def other_maps(tool, folder, into):
     """Yields what `renumber` says of maps of another merge, whose numbers fit, of an index of maps that is damaged or isn't
     there, and of maps that were written again."""
@@ -366,11 +415,10 @@ def other_maps(tool, folder, into):
         yield f"maps of {what}", refused(tool, into, b"", f"{index}: {message}", folder)
         shutil.rmtree(f"{maps}/1")
         put(f"{maps}/1", was)
-    for what, data, line in (("empty", b"", 1), ("cut", was["index"][:-1], 4), ("a line", read(f"{folder}/1.merged.line"), 1)):
+    for what, data, fault in damaged_indexes(was["index"], read(f"{folder}/1.merged.line")):
         Path(index).write_bytes(data)
-        told = f"{index}: line {line} is not that of an index of shards"
-        yield f"an index of maps that is {what}", refused(tool, into, b"", told, folder)
-    Path(index).write_bytes(index_of([]))
+        yield f"an index of maps that is {what}", refused(tool, into, b"", f"{index}: {fault}", folder)
+    Path(index).write_bytes(map_index_of([], [], id_of(read(f"{whole}/1.dict"))))
     told = f"{index}: 0 parts were merged, so there is no part 0, counted from 0"
     yield "an index of no maps", refused(tool, into, b"", told, folder)
     os.remove(index)
@@ -387,6 +435,34 @@ def other_maps(tool, folder, into):
     told = said(2, f"{index}: this input is also the output {index}; nothing was written")
     yield "renumber to an index of maps", run([tool, *into[:-1], index]) == told and files_in(f"{maps}/1") == was
     yield "after that", run([tool, *into]) == DONE
+
+
+def damaged_indexes(index, other):
+    """Yields damaged forms of the index of two maps, and what is said of them."""
+    lines = index.split(b"\n")
+    head, one, two, into, _ = lines
+    id, sums = one.rsplit(b" ", 2)[0], one.split(b" ")[4:]
+
+    def with_line(number, line):
+        return b"\n".join([*lines[: number - 1], line, *lines[number:]])
+
+    for what, data, number in (
+        ("empty", b"", 1), ("cut", index[:-1], 4), ("a line", other, 1), ("of shards", index.replace(b"maps", b"shards"), 1),
+        ("of another version", index.replace(b"maps 1", b"maps 2"), 1), ("longer", index + b"\n", 5),
+        ("of a map more", b"\n".join([head, one, two, two, into, b""]), 4),
+        ("without its last line", b"\n".join([head, one, two, b""]), 4), ("of another kind", with_line(2, b"x" + one), 2),
+        ("with a digit more in a count", with_line(3, two.replace(b" ", b" 0", 1)), 3),
+    ):
+        yield what, data, f"line {number} is not that of an index of maps"
+    for what, line in (
+        ("without checksums", id), ("with half of a checksum", id + b" " + sums[0]), ("with a digit less", one[:-1]),
+        ("with a digit more", one + b"0"), ("with a digit less in front", b" ".join([id, sums[0][1:], sums[1]])),
+        ("with a checksum in upper case", b" ".join([id, b"ABCDEF0123456789", sums[1]])),
+        ("with a number more", one + b" " + sums[0]), ("with a letter that is no digit", one[:-1] + b"g"),
+        ("with a space more", one + b" "),
+    ):
+        yield what, with_line(2, line), f"line 2 {NO_CHECKSUM}"
+    yield "of a map less", b"\n".join([head, one, into, b""]), f"line 3 {NO_CHECKSUM}"
 
 
 def is_joined(tool, shards, folder, message):

@@ -16,11 +16,12 @@ use intaglio_dict_shards::folder::misplaced;
 use intaglio_dict_shards::lines::{remove_line, write_shard};
 use intaglio_dict_shards::parts::{ShardOfParts, names_in, shard_of_folders};
 use intaglio_dictionary::error::ShardMergeError;
-use intaglio_dictionary::map_index::write_map_index;
+use intaglio_dictionary::map_index::{IndexedMap, write_map_index};
 use intaglio_dictionary::merging::{merge, write_codes};
-use intaglio_dictionary::shard_merging::merge_shard;
+use intaglio_dictionary::shard_merging::{NewShard, merge_shard};
 use intaglio_frozen::{Frozen, Kind};
 use intaglio_symbol::Symbol;
+use std::alloc::{AllocError, Global};
 use std::io::Write;
 use std::random::RandomSource;
 use std::rt::Files;
@@ -206,7 +207,7 @@ fn write_merged<R: Files + RandomSource + Print + Tell + AllocGlobal>(
         &mut merging.shown,
     ) {
         Ok(made) => {
-            let Ok(index) = write_map_index(alloc, &shard.ids, &made.shard.id) else {
+            let Ok(index) = index_of_maps(alloc, shard, &made) else {
                 return Err(report::out_of_memory(rt));
             };
             merging.count = count_of(&made.maps);
@@ -216,6 +217,19 @@ fn write_merged<R: Files + RandomSource + Print + Tell + AllocGlobal>(
         }
         Err(refused) => Err(unmerged(rt, output, shard, refused)),
     }
+}
+
+// The index of the maps of a merged shard, with a checksum of each.
+fn index_of_maps(
+    alloc: Global,
+    shard: &ShardOfParts,
+    made: &NewShard,
+) -> Result<Vec<u8>, AllocError> {
+    let mut maps = Vec::new(alloc);
+    for (from, codes) in shard.ids.iter().zip(made.maps.iter()) {
+        maps.push(IndexedMap::of(from, codes))?;
+    }
+    write_map_index(alloc, &maps, &made.shard.id)
 }
 
 // The exit status after a shard wasn't merged.

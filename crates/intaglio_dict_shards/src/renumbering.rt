@@ -10,11 +10,10 @@ use intaglio_dict_io::report;
 use intaglio_dict_io::report::Tell;
 use intaglio_dict_io::symbols::plain_number;
 use intaglio_dictionary::codes::CodeMap;
-use intaglio_dictionary::error::{MapError, MapIndexError};
+use intaglio_dictionary::error::{MapError, MapIndexError, MapTextError};
 use intaglio_dictionary::joining::map_into_shards;
-use intaglio_dictionary::map_index::check_map;
+use intaglio_dictionary::map_index::{Checksum, check_map, read_map_index};
 use intaglio_dictionary::merging::write_codes;
-use intaglio_dictionary::shard_index::{IndexError, read_index};
 use std::rt::Files;
 
 // What the maps of a part lead from and to.
@@ -72,11 +71,26 @@ fn map_of_part<R: Files + Input + Tell + AllocGlobal>(
         ));
     }
     let split = read_split(rt, part.folder, &ids)?;
-    for (shard, (from, into)) in ids.iter().zip(merged.iter()).enumerate() {
-        check_index(rt, part, shard, from, into)?;
-    }
-    let files = read_maps(rt, part, &ids)?;
+    let checksums = read_checksums(rt, part, &ids, &merged)?;
+    let files = read_maps(rt, part, &ids, &checksums)?;
     joined_bytes(rt, part, &split, &files, &merged)
+}
+
+// The checksum of the part's map of each shard, after a check that each leads from the part's shard to the merged one.
+fn read_checksums<R: Files + Input + Tell + AllocGlobal>(
+    rt: &R,
+    part: &Part<'_>,
+    ids: &[DictionaryId],
+    merged: &[DictionaryId],
+) -> Result<Vec<Checksum>, u8> {
+    let mut checksums = Vec::new(rt.alloc());
+    for (shard, (from, into)) in ids.iter().zip(merged.iter()).enumerate() {
+        let checksum = read_checksum(rt, part, shard, from, into)?;
+        if checksums.push(checksum).is_err() {
+            return Err(report::out_of_memory(rt));
+        }
+    }
+    Ok(checksums)
 }
 
 // The folder with the maps of a shard.
@@ -91,26 +105,27 @@ fn folder_of_maps<R: Tell + AllocGlobal>(
     }
 }
 
-// Checks, by the index of the maps of a shard, that the part's leads from its dictionary to the merged one.
-fn check_index<R: Files + Input + Tell + AllocGlobal>(
+// The checksum of the part's map of a shard, by the index of its maps, after a check that this map leads from the
+// part's dictionary to the merged one.
+fn read_checksum<R: Files + Input + Tell + AllocGlobal>(
     rt: &R,
     part: &Part<'_>,
     shard: usize,
     from: &DictionaryId,
     into: &DictionaryId,
-) -> Result<(), u8> {
+) -> Result<Checksum, u8> {
     let folder = folder_of_maps(rt, part, shard)?;
     let Ok(name) = map_index_name(rt.alloc(), folder.as_str()) else {
         return Err(report::out_of_memory(rt));
     };
     let text = made_by_merge(rt, name.as_str())?;
-    let ids = match read_index(rt.alloc(), &text) {
-        Ok(ids) => ids,
-        Err(IndexError::Memory) => return Err(report::out_of_memory(rt)),
+    let index = match read_map_index(rt.alloc(), &text) {
+        Ok(index) => index,
+        Err(MapTextError::Memory) => return Err(report::out_of_memory(rt)),
         Err(fault) => return Err(report::failed(rt, name.as_str(), fault)),
     };
-    match check_map(&ids, part.number, from, into) {
-        Ok(()) => Ok(()),
+    match check_map(&index, part.number, from, into) {
+        Ok(checksum) => Ok(checksum),
         Err(fault) => Err(not_its_map(rt, part, shard, name.as_str(), fault)),
     }
 }
@@ -158,23 +173,37 @@ fn read_split<R: Files + Input + Tell + AllocGlobal>(
     read_map(rt, name.as_str(), strings)
 }
 
-// The bytes of the part's map of each shard, each of which has a code for each string of the shard.
+// The bytes of the part's map of each shard. Each has a code for each string of the shard, and its checksum.
 fn read_maps<R: Files + Input + Tell + AllocGlobal>(
     rt: &R,
     part: &Part<'_>,
     ids: &[DictionaryId],
+    checksums: &[Checksum],
 ) -> Result<Vec<Vec<u8>>, u8> {
     let mut files = Vec::new(rt.alloc());
-    for (shard, id) in ids.iter().enumerate() {
+    for (shard, (id, checksum)) in ids.iter().zip(checksums.iter()).enumerate() {
         let folder = folder_of_maps(rt, part, shard)?;
         let Ok(name) = map_name(rt.alloc(), folder.as_str(), part.number) else {
             return Err(report::out_of_memory(rt));
         };
-        if files.push(read_map(rt, name.as_str(), id.count)?).is_err() {
+        let bytes = read_map(rt, name.as_str(), id.count)?;
+        if !checksum.is_of(&bytes) {
+            return Err(other_bytes(rt, name.as_str()));
+        }
+        if files.push(bytes).is_err() {
             return Err(report::out_of_memory(rt));
         }
     }
     Ok(files)
+}
+
+// Of a map that hasn't the bytes which the merge wrote.
+fn other_bytes<R: Tell>(rt: &R, name: &str) -> u8 {
+    report::failed(
+        rt,
+        name,
+        "not the map that the index names: it is damaged, or was written again",
+    )
 }
 
 // The bytes of a map with this many codes.

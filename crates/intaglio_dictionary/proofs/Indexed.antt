@@ -5,9 +5,9 @@ use Rattle.std.specs.Int.{to_be_bytes}
 use Rattle.hex.proofs.HexLemmas.{decode_sized-encode_lower, length-encode_with}
 use Rattle.hex.specs.Hex.{IsBytes, decode_sized, lower_digits}
 use Rattle.std.specs.List.{flat_map}
-use Rattle.std.proofs.lemmas.List.{flat_map_more}
+use Rattle.std.proofs.lemmas.List.{append_cancel_left, flat_map_more}
 use Rattle.intaglio_column_file.specs.declared.id.DictionaryId.{DictionaryId}
-use Rattle.intaglio_dictionary.specs.ShardIndex.{HasNumbers, digits, shard_line}
+use Rattle.intaglio_dictionary.specs.ShardIndex.{HasNumbers, digits, heading, number_field, shard_line}
 
 -- eight remainders are bytes
 eight : (a b c d e f g h : ℕ) → IsBytes (a % 256 ∷ b % 256 ∷ c % 256 ∷ d % 256 ∷ e % 256 ∷ f % 256 ∷ g % 256 ∷ h % 256 ∷ [])
@@ -42,6 +42,12 @@ front-digits n text tail e = rw e (subst (λ k. take k (digits n ++ tail) ≡ di
 -- a text that begins with digits has at least sixteen bytes
 pub room-digits : (n : ℕ) (text tail : List ℕ) → text ≡ digits n ++ tail → 16 ≤ length text
 room-digits n text tail e = omega (arith, ap length e, length-append (digits n) tail, length-digits n)
+
+-- what is behind the start of a first line
+pub behind-start : (start text rest tail : List ℕ) (count : ℕ) → text ≡ start ++ rest → text ≡ heading start count ++ tail → rest ≡ number_field count ++ (10 ∷ tail)
+unfolding heading
+behind-start start text rest tail count e h =
+    append_cancel_left start _ _ (sym e ∙ h ∙ append_assoc start (number_field count ++ 10 ∷ []) tail ∙ ap (λ t. start ++ t) (append_assoc (number_field count) (10 ∷ []) tail))
 
 -- one more shard was read
 pub right-next : (front text rest behind : List ℕ) (ids : List DictionaryId) (id : DictionaryId) → text ≡ front ++ (flat_map shard_line ids ++ rest)

@@ -14,3 +14,4 @@ pub mod Indexed
 pub mod Merged
 pub mod Kept
 pub mod Owned
+pub mod Mapped

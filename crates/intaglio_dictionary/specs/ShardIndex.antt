@@ -19,13 +19,21 @@ number_field n = 32 ∷ digits n
 abbrev pub kind_word : Bool → List ℕ
 kind_word is_text = cond is_text (codes "text") (codes "bytes")
 
+-- a first line that begins so: behind that it has a number
+unfoldable pub heading : List ℕ → ℕ → List ℕ
+heading start count = start ++ (number_field count ++ 10 ∷ [])
+
 -- the first line: the version, and how many shards there are
-unfoldable pub first_line : ℕ → List ℕ
-first_line count = codes "intaglio shards 1" ++ (number_field count ++ 10 ∷ [])
+abbrev pub first_line : ℕ → List ℕ
+first_line count = heading (codes "intaglio shards 1") count
+
+-- what a dictionary is, at the front of a line
+unfoldable pub id_fields : DictionaryId → List ℕ
+id_fields id = kind_word id.is_text ++ (number_field id.count ++ (number_field id.hash0 ++ number_field id.hash1))
 
 -- the line of a shard
 unfoldable pub shard_line : DictionaryId → List ℕ
-shard_line id = kind_word id.is_text ++ (number_field id.count ++ (number_field id.hash0 ++ (number_field id.hash1 ++ 10 ∷ [])))
+shard_line id = id_fields id ++ 10 ∷ []
 
 -- the text of these shards
 abbrev pub index_text : List DictionaryId → List ℕ

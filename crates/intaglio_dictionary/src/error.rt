@@ -123,6 +123,20 @@ impl From<AllocError> for MapError {
     }
 }
 
+/// Why a text is no index of maps. A line is counted from 1.
+#[derive(Clone, Copy, Debug, PartialEq, Eq, Error)]
+pub enum MapTextError {
+    /// The line with this number is the first that isn't as it must be, or that is one too many.
+    #[error("line {0} is not that of an index of maps")]
+    WrongLine(u64),
+    /// The line with this number is the first that names a dictionary, and doesn't end with the checksum of its map.
+    #[error("line {0} does not end with the checksum of a map, two numbers of sixteen digits")]
+    NoChecksum(u64),
+    /// An allocation failed.
+    #[error("out of memory")]
+    Memory,
+}
+
 /// Why a map isn't the one that is wanted.
 #[derive(Clone, Copy, Debug, PartialEq, Eq, Error)]
 pub enum MapIndexError {

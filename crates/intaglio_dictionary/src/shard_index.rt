@@ -1,7 +1,7 @@
 //! The index of a folder of shards: a text that says which shards belong together.
 ghost use Rattle.std.specs.Prelude.{◌≡◌, ◌≢◌, ◌<◌, ◌^◌, ◌++◌, ℕ, List, Bool, length, IfErr, IfOk, IfSome, MatchOption, MatchResult, OnOk};
 ghost use Rattle.intaglio_column_file.specs.declared.id.DictionaryId.{DictionaryId};
-ghost use Rattle.intaglio_dictionary.specs.ShardIndex.{AreIds, HasNumbers, IsIndexFault, digits, first_line, index_text, kind_word, number_field, shard_line};
+ghost use Rattle.intaglio_dictionary.specs.ShardIndex.{AreIds, HasNumbers, IsIndexFault, digits, heading, id_fields, index_text, kind_word, number_field, shard_line};
 ghost use Rattle.intaglio_dictionary.specs.declared.shard_index.IndexError.TheVariants.{Memory};
 
 use intaglio_column_file::DictionaryId;
@@ -40,9 +40,7 @@ pub fn write_index(alloc: Global, ids: &[DictionaryId]) -> Result<Vec<u8>, Alloc
     ensures text { IfOk result (λ text. text.items ≡ index_text ids.now) }
 {
     let mut text = Vec::new(alloc);
-    text.extend_from_slice(START)?;
-    put_number(ids.len() as u64, &mut text)?;
-    text.push(b'\n')?;
+    put_heading(START, ids.len() as u64, &mut text)?;
     for id in ids {
         put_shard(id, &mut text)?;
     }
@@ -67,7 +65,7 @@ pub fn read_index(alloc: Global, text: &[u8]) -> Result<Vec<DictionaryId>, Index
         → MatchResult result (λ read. read.items ≡ ids) (λ e. e ≡ Memory) }
     ensures err { IfErr result (IsIndexFault text.now) }
 {
-    let Some((count, mut rest)) = first_count(text) else {
+    let Some((count, mut rest)) = first_count(text, START) else {
         return Err(IndexError::WrongLine(1));
     };
     let mut ids = Vec::new(alloc);
@@ -86,14 +84,14 @@ pub fn read_index(alloc: Global, text: &[u8]) -> Result<Vec<DictionaryId>, Index
     Ok(ids)
 }
 
-// The number of shards that the first line has, and what is behind it.
-#[tactic(auto, unfolding(crate::specs::ShardIndex::first_line))]
-fn first_count(text: &[u8]) -> Option<(u64, &[u8])>
-    ensures read { IfSome result (λ found. text.now ≡ first_line found.0 ++ found.1.now) }
-    ensures written { (count : ℕ) (tail : List ℕ) → count < 2 ^ 64 → text.now ≡ first_line count ++ tail
+// The number of a first line that begins so, and what is behind it.
+#[tactic(auto, unfolding(crate::specs::ShardIndex::heading))]
+pub(crate) fn first_count<'a>(text: &'a [u8], start: &[u8]) -> Option<(u64, &'a [u8])>
+    ensures read { IfSome result (λ found. text.now ≡ heading start.now found.0 ++ found.1.now) }
+    ensures written { (count : ℕ) (tail : List ℕ) → count < 2 ^ 64 → text.now ≡ heading start.now count ++ tail
         → MatchOption result ⊥ (λ found. (found.0 ≡ count) × (found.1.now ≡ tail)) }
 {
-    let Some(rest) = behind(text, START) else {
+    let Some(rest) = behind(text, start) else {
         return None;
     };
     let Some((count, rest)) = first_number(rest) else {
@@ -112,11 +110,22 @@ pub(crate) fn first_shard(text: &[u8]) -> Option<(DictionaryId, &[u8])>
     ensures written { (id : DictionaryId) (tail : List ℕ) → HasNumbers id → text.now ≡ shard_line id ++ tail
         → MatchOption result ⊥ (λ found. (found.0 ≡ id) × (found.1.now ≡ tail)) }
 {
+    let (id, rest) = first_id(text)?;
+    let rest = behind(rest, b"\n")?;
+    Some((id, rest))
+}
+
+// The dictionary with which a line begins, and what is behind it.
+#[tactic(auto, unfolding(crate::specs::ShardIndex::id_fields))]
+pub(crate) fn first_id(text: &[u8]) -> Option<(DictionaryId, &[u8])>
+    ensures read { IfSome result (λ found. text.now ≡ id_fields found.0 ++ found.1.now) }
+    ensures written { (id : DictionaryId) (tail : List ℕ) → HasNumbers id → text.now ≡ id_fields id ++ tail
+        → MatchOption result ⊥ (λ found. (found.0 ≡ id) × (found.1.now ≡ tail)) }
+{
     let (is_text, rest) = first_kind(text)?;
     let (count, rest) = first_number(rest)?;
     let (hash0, rest) = first_number(rest)?;
     let (hash1, rest) = first_number(rest)?;
-    let rest = behind(rest, b"\n")?;
     let id = DictionaryId {
         is_text,
         count,
@@ -190,16 +199,34 @@ pub(crate) fn behind<'a>(text: &'a [u8], front: &[u8]) -> Option<&'a [u8]>
     text.strip_prefix(front)
 }
 
+// Writes a first line that begins so.
+#[tactic(auto, unfolding(crate::specs::ShardIndex::heading))]
+pub(crate) fn put_heading(start: &[u8], count: u64, text: &mut Vec<u8>) -> Result<(), AllocError>
+    ensures { OnOk result (text.new.items ≡ text.old.items ++ heading start.now count) }
+{
+    text.extend_from_slice(start)?;
+    put_number(count, text)?;
+    text.extend_from_slice(b"\n")
+}
+
 // Writes the line of a shard.
 #[tactic(auto, unfolding(crate::specs::ShardIndex::shard_line))]
 pub(crate) fn put_shard(id: &DictionaryId, text: &mut Vec<u8>) -> Result<(), AllocError>
     ensures { OnOk result (text.new.items ≡ text.old.items ++ shard_line id.now) }
 {
+    put_id(id, text)?;
+    text.extend_from_slice(b"\n")
+}
+
+// Writes the dictionary with which a line begins.
+#[tactic(auto, unfolding(crate::specs::ShardIndex::id_fields))]
+pub(crate) fn put_id(id: &DictionaryId, text: &mut Vec<u8>) -> Result<(), AllocError>
+    ensures { OnOk result (text.new.items ≡ text.old.items ++ id_fields id.now) }
+{
     text.extend_from_slice(kind_word(id.is_text))?;
     put_number(id.count, text)?;
     put_number(id.hash0, text)?;
-    put_number(id.hash1, text)?;
-    text.extend_from_slice(b"\n")
+    put_number(id.hash1, text)
 }
 
 // What a kind is called.

@@ -1,4 +1,5 @@
-use Rattle.std.proofs.Common.{[], ◌∷◌, ◌++◌, ◌≡◌, ap, sym, ◌∙◌, append_assoc, rules}
+use Rattle.std.proofs.Common.{[], ◌∷◌, ◌++◌, ◌≡◌, ap, arith, inr, length, sym, ◌∙◌, append_assoc, rules}
+use Rattle.std.proofs.lemmas.Grind.{common_steps}
 use Rattle.intaglio_dictionary.proofs.Indexed.{more-left, next-shard, right-next}
 use Rattle.intaglio_dictionary.proofs.shard_index.read_index.Goals as goal
 
@@ -26,3 +27,17 @@ loop-number-preserved c =
           let split = known.2 ∙ ap (λ more. c.loop-number.ids.items ++ more) (next.2 ∙ ap (λ id. id ∷ next.1) (sym got.0)) in
           (next.1, known.1, rw pushed (split ∙ sym (append_assoc c.loop-number.ids.items (c.in-Some-first_shard.id ∷ []) next.1)), got.1, next.5);
     }
+
+pub returns-then-not-is_empty-clause-err : goal.returns-then-not-is_empty-clause-err
+returns-then-not-is_empty-clause-err c =
+    let ids = c.loop-number.ids.items in
+    inr (
+      c.in-Some.count,
+      ids,
+      c.loop-number.rest.now,
+      grind (arith, c.len-then-not-is_empty.ensures),
+      record {
+        right = c.loop-number.invariant.right;
+        wrong = inr (omega (arith, c.loop-number.invariant.len, c.loop-number-test.false, c.loop-number.auto.number-end), λ e. grind (arith, common_steps, c.is_empty.ensures, c.if-not-is_empty.true, ap length e));
+      },
+    )
