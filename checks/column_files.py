@@ -12,7 +12,7 @@ from pathlib import Path
 
 from columns import CODED, DONE, NAME, WAS, ended, failing, left, merged, packed, put, random_parts, read, said, shown, unpacked
 from frozen_columns import HEADER, MAGIC, MISSING, Column, column, faults_of, id_of, id_of_strings
-from frozen_shards import NOT_ITS_MAP, OTHER, folder_of, made, shards_of
+from frozen_shards import NOT_ITS_MAP, NOT_SPLIT, OTHER, folder_of, made, shards_of
 from frozen_shards import put as put_folder
 from frozen_tables import BYTES, TEXT, freeze
 from programs import run
@@ -300,6 +300,10 @@ def refused_parts_in_shards(tool, folder):
     Path(name).write_bytes(column(id_of(read(table)), [0, 29, MISSING, 7]))
     Path(few).write_bytes(freeze(lists[0][:5]))
     Path(f"{few}.column").write_bytes(column(id_of(read(few)), [4]))
+    # (of as many strings, so that the map has a code for each)
+    turned = f"{folder}/turned"
+    Path(turned).write_bytes(freeze(lists[0][::-1]))
+    Path(f"{turned}.column").write_bytes(column(id_of(read(turned)), [4]))
     words = ["renumber", "-o", out, "--column", name, "--dict", table, "--into", whole, "--maps", maps, "--part", "0"]
     words.append(f"{folder}/0")
 
@@ -320,11 +324,13 @@ def refused_parts_in_shards(tool, folder):
         (words[:9] + words[11:], needed, 2), (words[:11] + words[13:], needed, 2),
         (with_word("0", "1"), f"{maps}/0/index: part 1 of the merge had another shard 0 than {folder}/0 has", 1),
         (with_word(f"{folder}/0", table), f"{table}/shards: Not a directory", 1),
-        (with_word(f"{folder}/0", whole), f"{whole}/map: No such file or directory", 1),
+        (with_word(f"{folder}/0", whole), f"{whole}/map.index: {NOT_SPLIT}", 1),
         (with_word(table, f"{folder}/1.dict"), of_another(name, f"{folder}/1.dict"), 1),
         (with_word(table, f"{folder}/0"), f"{folder}/0: {IN_ONE_FILE}", 1),
         ([few if it == table else f"{few}.column" if it == name else it for it in words],
-         f"{folder}/0: a map of 30 codes, and {few} has 5 strings", 1),
+         f"{folder}/0/map.index: {folder}/0 was split from another dictionary than {few}", 1),
+        ([turned if it == table else f"{turned}.column" if it == name else it for it in words],
+         f"{folder}/0/map.index: {folder}/0 was split from another dictionary than {turned}", 1),
         (with_word(whole, few), WRONG_WORDS, 2),
     ):
         yield f"{some}", is_refused(some, told, status)
@@ -336,7 +342,7 @@ def refused_parts_in_shards(tool, folder):
         Path(file).write_bytes(data)
         yield f"{file}, damaged", is_refused(words, f"{file}: {told}")
         Path(file).write_bytes(before[file])
-    for file in (of_part, shard, f"{whole}/shards", f"{folder}/0/map", name, table):
+    for file in (of_part, shard, f"{whole}/shards", f"{folder}/0/map", f"{folder}/0/map.index", name, table):
         told, was = said(2, f"{file}: this input is also the output {file}; nothing was written"), read(file)
         yield f"renumber to {file}", run([tool, *with_word(out, file)]) == told and read(file) == was
 

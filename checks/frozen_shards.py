@@ -25,6 +25,7 @@ OTHER = "not the shard that the index names: it is damaged, or of another split 
 MISPLACED = "belongs to another shard, or there is another number of shards"
 NO_LINE = "not the line of a merged shard"
 NOT_MERGED = "no such file: it is made by merge --shard, with the shard and its maps"
+NOT_SPLIT = "no such file: it is made by split, with the shards and their map"
 NOT_ITS_FILE = "not the shard that its line is of: it is damaged, or was written again"
 NOT_ITS_MAP = "not the map that the index names: it is damaged, or was written again"
 NO_CHECKSUM = "does not end with the checksum of a map, two numbers of sixteen digits"
@@ -93,6 +94,19 @@ def map_index_of(maps, ids, into):
     """The index of maps from these dictionaries to that one."""
     lines = [f"{words_of(id)} {checksum_of(data)}\n" for id, data in zip(ids, maps)]
     return "".join([f"intaglio maps 1 {len(ids):016x}\n", *lines, f"{words_of(into)}\n"]).encode()
+
+
+def split_folder(strings, count, kind=BYTES):
+    """The files of the folder into which a dictionary of these strings is split."""
+    files, data = folder_of(shards_of(strings, count), kind), packed(split_map(strings, count))
+    return files | {"map": data, "map.index": map_index_of([data], [id_of(freeze(strings, kind))], id_of_folder(files["shards"]))}
+
+
+def id_of_folder(index):
+    """What the index of a map says of the shards of a folder with this index."""
+    ids = ids_in(index) or []
+    hashes = (sip_hash(0, key, index) for key in (0, 1))
+    return Id(min(it.kind for it in ids), sum(it.strings for it in ids), *hashes)
 
 
 def maps_of(numbers, tables, table):
@@ -179,7 +193,7 @@ def of_parts(tool, chance, size, kind, count, folder):
         yield "freeze", run([tool, *words]) == DONE
         split = [tool, "split", table, "--shards", str(count), "-o", shards]
         yield "split", run(split) == DONE
-        wanted = folder_of(shards_of(lists[part], count), kind) | {"map": packed(split_map(lists[part], count))}
+        wanted = split_folder(lists[part], count, kind)
         yield f"part {part}: what split wrote", files_in(shards) == wanted
         yield "split again", run([*split, "--verbose"]) == said(0, f"{len(lists[part])} strings split") and files_in(
             shards
@@ -221,7 +235,7 @@ def made(folder, count=3):
     """Two parts in shards, their merged shards, the joined folder, and the maps, by the writer here. Returns the two lists."""
     lists = [[b"w%d" % it for it in range(start, start + 30)] for start in (0, 20)]
     for part, strings in enumerate(lists):
-        put(f"{folder}/{part}", folder_of(shards_of(strings, count)) | {"map": packed(split_map(strings, count))})
+        put(f"{folder}/{part}", split_folder(strings, count))
         Path(f"{folder}/{part}.dict").write_bytes(freeze(strings))
     each = [merged(shards_of(it, count)[shard] for it in lists) for shard in range(count)]
     put(f"{folder}/whole", folder_of([strings for strings, _ in each]))
@@ -308,7 +322,7 @@ def damages(tool, folder):
 def requests(tool, folder):
     """Yields what is said of folders that don't belong together, and of wrong arguments."""
     lists = made(folder)
-    put(f"{folder}/five", folder_of(shards_of(lists[0], 5)) | {"map": packed(split_map(lists[0], 5))})
+    put(f"{folder}/five", split_folder(lists[0], 5))
     out, codes, whole, maps = (f"{folder}/{it}" for it in ("out", "codes", "whole", "maps"))
     into = ["renumber", "--into", whole, "--maps", maps, "--part", "0", f"{folder}/0", codes, "-o", out]
 
@@ -329,7 +343,7 @@ def requests(tool, folder):
         (with_word("0", "x"), "--part 'x': the number of a part is needed, counted from 0", 2),
         (into[:3] + into[5:], f"{whole}: after --into, --maps and --part are needed too", 2),
         (into[:5] + into[7:], f"{whole}: after --into, --maps and --part are needed too", 2),
-        (with_word(f"{folder}/0", whole), f"{whole}/map: No such file or directory", 1),
+        (with_word(f"{folder}/0", whole), f"{whole}/map.index: {NOT_SPLIT}", 1),
     ):
         yield f"{words}", refused(tool, words, b"", message, folder, status)
     size = len(of_map) // 4
@@ -345,7 +359,8 @@ def requests(tool, folder):
     yield "the maps again", run([tool, *into]) == DONE
     yield from changed_maps(tool, folder, into)
     yield from other_maps(tool, folder, into)
-    for name in (part_map, f"{folder}/0/map", f"{folder}/0/shards", f"{whole}/shards", codes):
+    yield from other_split_maps(tool, folder, into)
+    for name in (part_map, f"{folder}/0/map", f"{folder}/0/map.index", f"{folder}/0/shards", f"{whole}/shards", codes):
         told = said(2, f"{name}: this input is also the output {name}; nothing was written")
         before = read(name)
         yield f"renumber to {name}", run([tool, *into[:-1], name]) == told and read(name) == before
@@ -435,6 +450,45 @@ def other_maps(tool, folder, into):
     told = said(2, f"{index}: this input is also the output {index}; nothing was written")
     yield "renumber to an index of maps", run([tool, *into[:-1], index]) == told and files_in(f"{maps}/1") == was
     yield "after that", run([tool, *into]) == DONE
+
+
+def other_split_maps(tool, folder, into):
+    """Yields what `renumber` says of a map of a split that was changed and whose numbers are those of strings, of that of another
+    split, and of an index of it that is damaged or isn't there."""
+    of_part, index, file = f"{folder}/0", f"{folder}/0/map.index", f"{folder}/0/map"
+    was = {it: read(f"{of_part}/{it}") for it in ("map", "map.index")}
+    codes, head, words = unpacked(was["map"]), was["map.index"].split(b"\n")[0], was["map.index"].split(b"\n")[1]
+    for what, numbers in (
+        ("with another first number", [(codes[0] + 1) % len(codes), *codes[1:]]), ("of zeros", [0] * len(codes)),
+        ("with two numbers exchanged", [codes[1], codes[0], *codes[2:]]),
+    ):
+        data = packed(numbers)
+        put(of_part, {"map": data})
+        yield f"a map of a split {what}", refused(tool, into, b"", f"{file}: {NOT_ITS_MAP}", folder)
+        line = b" ".join([*words.split(b" ")[:4], checksum_of(data).encode()])
+        put(of_part, {"map.index": was["map.index"].replace(words, line)})
+        yield f"a map of a split {what}, with its checksum", run([tool, *into]) == DONE
+        put(of_part, was)
+    others = {it: read(f"{folder}/1/{it}") for it in was}
+    put(of_part, {"map": others["map"]})
+    yield "the map of another split", refused(tool, into, b"", f"{file}: {NOT_ITS_MAP}", folder)
+    put(of_part, others)
+    told = f"{index}: the map leads to other shards than those of {of_part}"
+    yield "the map of another split, with its index", refused(tool, into, b"", told, folder)
+    put(of_part, was)
+    for what, data, told in (
+        ("empty", b"", "line 1 is not that of an index of maps"),
+        ("cut", was["map.index"][:-1], "line 3 is not that of an index of maps"),
+        ("longer", was["map.index"] + b"\n", "line 4 is not that of an index of maps"),
+        ("without a checksum", was["map.index"].replace(words, words.rsplit(b" ", 2)[0]), f"line 2 {NO_CHECKSUM}"),
+        ("of no map", was["map.index"].replace(head, head[:-1] + b"0").replace(words + b"\n", b""), "no map"),
+    ):
+        put(of_part, {"map.index": data})
+        yield f"an index of a split that is {what}", refused(tool, into, b"", f"{index}: {told}", folder)
+    os.remove(index)
+    yield "no index of a split", refused(tool, into, b"", f"{index}: {NOT_SPLIT}", folder)
+    yield "split again", run([tool, "split", f"{folder}/0.dict", "--shards", "3", "-o", of_part]) == DONE
+    yield "the index again", files_in(of_part) == split_folder([b"w%d" % it for it in range(30)], 3)
 
 
 def damaged_indexes(index, other):
@@ -629,7 +683,7 @@ def kills(tool, folder):
     strings = [b"w%d" % it for it in range(4_000)]
     table, chance = f"{folder}/table", random.Random(5)
     Path(table).write_bytes(freeze(strings))
-    new = folder_of(shards_of(strings, 8)) | {"map": packed(split_map(strings, 8))}
+    new = split_folder(strings, 8)
     began = time.monotonic()
     target = f"{folder}/shards"
     yield "split", run([tool, "split", table, "--shards", "8", "-o", target]) == DONE and files_in(target) == new
@@ -691,7 +745,7 @@ def killed(tool, words, seconds):
 def failing(tool, library, folder):
     """The N-th request for memory, read or write fails, for each N until none does: the folder has no index then, or is whole."""
     lists = made(folder)
-    wanted = folder_of(shards_of(lists[0], 3)) | {"map": packed(split_map(lists[0], 3))}
+    wanted = split_folder(lists[0], 3)
     target, failures = f"{folder}/new", {"REFUSE": "out of memory", "FAIL_READ": "Input/output error"}
     failures["FULL"] = "No space left on device"
     shards = [f"{folder}/{it}.merged" for it in range(3)]

@@ -1,13 +1,13 @@
 """`intaglio_dict` as a program among others: standard streams by the name `-`, statuses, symbols from standard input, an output
-that is an input (frozen_apart.py has more of that), lines that aren't UTF-8, trusted dictionaries, progress in percents, a closed
-pipe, and the name in usage lines and messages.
+that is an input (frozen_apart.py has more of that), lines that aren't UTF-8, lines over the ends of blocks, trusted dictionaries,
+progress in percents, a closed pipe, and the name in usage lines and messages.
 """
 import os
 import subprocess
 import tempfile
 from pathlib import Path
 
-from frozen_tables import Frozen, freeze
+from frozen_tables import TEXT, Frozen, freeze
 from programs import run
 
 NAME = "intaglio_dict"
@@ -131,6 +131,29 @@ def texts(tool, folder):
     )
 
 
+def blocks(tool, folder):
+    """The input is read in blocks: lines that reach over the end of one are whole, and lines that repeat take no memory."""
+    made, codes = f"{folder}/made", f"{folder}/codes"
+    for name, lines in (
+        ("lines that end where a block does", [b"a" * length for length in (65_534, 65_535, 1, 65_536, 131_071, 0, 65_535)]),
+        ("a line of many blocks", [b"a", b"b" * 500_000, b"c"]),
+        ("short lines over many blocks", [b"%d" % (number % 20_000) for number in range(60_000)]),
+        ("characters over the ends of blocks", [it.encode() for it in ("é" * 32_767, "é" * 40_000, "é" * 3, "a" + "é" * 70_000)]),
+    ):
+        given, distinct = b"\n".join(lines), list(dict.fromkeys(lines))
+        wanted = b"".join(distinct.index(line).to_bytes(4, "little") for line in lines[:100])
+        for ends in (b"", b"\n"):
+            wrote = run([tool, "freeze", "--kind", "text", "-o", made, "--codes", codes], given + ends)
+            right = Path(made).read_bytes() == freeze(distinct, TEXT)
+            yield name, wrote == done() and right and Path(codes).read_bytes()[: len(wanted)] == wanted
+            yield f"{name}, without codes", run([tool, "freeze", "-o", "-"], given + ends) == done(freeze(distinct))
+    given = b"".join(b"a line that is there a thousand times: %d\n" % (number % 1_000) for number in range(1_000_000))
+    limited = ["/bin/sh", "-c", 'ulimit -v 40000; exec "$0" "$@"', tool, "freeze", "-o", made]
+    yield "repeated lines in little memory", run(limited, given) == done()
+    yield "repeated lines in little memory, with codes", run([*limited, "--codes", codes], given) == done()
+    yield "the codes of repeated lines", os.path.getsize(codes) == 4_000_000
+
+
 def trusted(tool, folder):
     """A trusted dictionary is opened by its header: a damaged one too, but what is found is there."""
     name, damaged = f"{folder}/words", f"{folder}/damaged"
@@ -200,7 +223,7 @@ def usage(tool, folder):
         )
 
 
-CASES = (streams, statuses, symbols, outputs, texts, trusted, progress, usage)
+CASES = (streams, statuses, symbols, outputs, texts, blocks, trusted, progress, usage)
 
 
 def wrong_cases(tool):

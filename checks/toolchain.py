@@ -50,6 +50,8 @@ PROOF_ERROR = re.compile(r"^(?:\./)?proofs/(\S+)/(?:Answers|Invariants|Proof)\.a
 GOAL = re.compile(r"(?:error: `|\(`)([^`]+)`[:)]")
 OF_CLAUSE = re.compile(r"clause-([a-z]\w*)")
 OF_OTHERS = {"invariant_of": "invariant", "requires": "requires", "loop": "loop", "returns": "ensures", "bounds": "bounds"}
+# The answers that rest on a lemma of their file which isn't proved.
+RESTING = re.compile(r"declarations? that depends? on `([^`]+)`, which was rejected, (?:was|were) not checked: (.+)$")
 # An answer that names what an edit took away. That shows nothing of the contract, and `rt must-fail` says so too.
 BROKEN_NAME = re.compile(r"has no field|is not in scope|has no `|was not admitted")
 # The answer by which a function is spoilt.

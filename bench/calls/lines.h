@@ -1,4 +1,4 @@
-/* What the programs in C share: the lines of a file, each in a block of its own, and the time of calls on each of them. */
+/* What the programs in C and C++ share: the lines of a file, each in a block of its own, and the time of calls on each of them. */
 #ifndef LINES_H
 #define LINES_H
 #include <stdint.h>
@@ -24,12 +24,13 @@ static strings read_lines(const char *path) {
     if (!file) exit(2);
     while (fgets(line, sizeof line, file)) {
         size_t len = strcspn(line, "\n");
-        if (lines.count % 1024 == 0) lines.items = realloc(lines.items, (lines.count + 1024) * sizeof *lines.items);
-        uint8_t *at = malloc(len + 1);
+        if (lines.count % 1024 == 0) lines.items = (string *)realloc(lines.items, (lines.count + 1024) * sizeof *lines.items);
+        uint8_t *at = (uint8_t *)malloc(len + 1);
         if (!lines.items || !at) exit(2);
         memcpy(at, line, len);
         at[len] = 0;
-        lines.items[lines.count++] = (string){at, len};
+        string read = {at, len};
+        lines.items[lines.count++] = read;
     }
     fclose(file);
     return lines;

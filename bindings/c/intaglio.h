@@ -434,6 +434,10 @@ INTAGLIO_MUST_USE intaglio_code intaglio_shards_id(const intaglio_block *shards,
  * is 0. */
 uint32_t intaglio_shard_of(uint32_t shards, const uint8_t *string, size_t len);
 
+/* Returns the hash of bytes under two keys, by SipHash-1-3. Two of these, under the keys 0 and 0, and under 0 and 1, are the checksum of a map in a
+ * folder of shards. */
+uint64_t intaglio_keyed_hash(uint64_t key0, uint64_t key1, const uint8_t *bytes, size_t len);
+
 /* The functions on tables for each kind, on a struct of that kind, such as intaglio_text. Initialize it with INTAGLIO_NONE. */
 /* clang-format off */
 #define INTAGLIO_NONE {{false, NULL}}

@@ -38,9 +38,10 @@ def decoded(strings, is_text):
 
 def files_of(strings, count, is_text, has_map=True):
     """The files of a folder that has these strings in so many shards, by the writer in plain Python."""
-    data = encoded(strings)
-    files = frozen_shards.folder_of(frozen_shards.shards_of(data, count), KINDS[is_text][0])
-    return files | {"map": columns.packed(frozen_shards.split_map(data, count))} if has_map else files
+    data, kind = encoded(strings), KINDS[is_text][0]
+    if has_map:
+        return frozen_shards.split_folder(data, count, kind)
+    return frozen_shards.folder_of(frozen_shards.shards_of(data, count), kind)
 
 
 def merged_shards(lists, count):
@@ -159,7 +160,8 @@ class OfShards(unittest.TestCase):
         for keys in (None, (5, 6)):
             split(self.freeze(WORDS), self.folder, 3, keys=keys)
             files = frozen_shards.files_in(self.folder)
-            self.assertEqual({it: files[it] for it in ("shards", "map")}, {it: before[it] for it in ("shards", "map")})
+            for name in ("shards", "map", "map.index"):
+                self.assertEqual(files[name], before[name])
             self.assertNotEqual(files["0.dict"], before["0.dict"])
             self.assertEqual(encoded(Shards(self.folder)), frozen_shards.strings_in(self.folder))
 
@@ -344,14 +346,48 @@ class OfShards(unittest.TestCase):
         for changed, wanted, said in (
             (data[:-1], intaglio.NotShards, "not a map: its length is no multiple of 4"),
             (data[:-4], intaglio.NotShards, f"another part's map: {numbers}"),
-            (data[:-4] + b"\xf0\xff\xff\xff", intaglio.NoSymbol, f"code 4294967280 at position {len(WORDS) - 1} is no symbol"),
+            (data[4:] + data[:4], intaglio.NotShards, "not the map that the index names: it is damaged, or was written again"),
         ):
             path.write_bytes(changed)
             with self.assertRaisesRegex(wanted, f"^{path}: {said}") as caught:
                 merge([self.folder], self.at / "out", shards=3)
             self.assertEqual(caught.exception.filename, str(path))
+        path.write_bytes(data)
         with self.assertRaisesRegex(ValueError, f"^{self.folder}: it has 3 shards, and 4 are to be merged$"):
             merge([self.folder], self.at / "out", shards=4)
+
+    def test_a_map_to_no_string_is_refused(self):
+        # (with its checksum, which says nothing of the codes)
+        self.put(WORDS, 3)
+        path, index = self.folder / "map", self.folder / "map.index"
+        data = path.read_bytes()
+        changed = data[:-4] + b"\xf0\xff\xff\xff"
+        sums = (frozen_shards.checksum_of(it).encode() for it in (data, changed))
+        index.write_bytes(index.read_bytes().replace(*sums))
+        path.write_bytes(changed)
+        said = f"^{path}: code 4294967280 at position {len(WORDS) - 1} is no symbol"
+        with self.assertRaisesRegex(intaglio.NoSymbol, said) as caught:
+            merge([self.folder], self.at / "out", shards=3)
+        self.assertEqual(caught.exception.filename, str(path))
+
+    def test_an_index_of_another_map_is_refused(self):
+        self.put(WORDS, 3)
+        path = self.folder / "map.index"
+        data = path.read_bytes()
+        lines = data.split(b"\n")
+        other, no_index = "the map leads to other shards than those of", "not the index of one map"
+        for changed, said in (
+            (b"", no_index), (data[:-1], no_index), (data + b"\n", no_index), (data.replace(b"maps 1", b"maps 2"), no_index),
+            (b"\n".join([lines[0], lines[1], lines[1].rsplit(b" ", 2)[0], b""]), f"{other} {self.folder}"),
+        ):
+            path.write_bytes(changed)
+            with self.assertRaisesRegex(intaglio.NotShards, f"^{path}: {said}") as caught:
+                merge([self.folder], self.at / "out", shards=3)
+            self.assertEqual(caught.exception.filename, str(path))
+        path.unlink()
+        with self.assertRaises(FileNotFoundError) as lacking:
+            merge([self.folder], self.at / "out", shards=3)
+        self.assertEqual(lacking.exception.filename, str(path))
 
     def test_an_input_is_not_written_over(self):
         self.put(WORDS, 3)

@@ -1,6 +1,8 @@
-//! Measures tables of texts on generated words: that of the Rust crate `intaglio`, two over hashbrown, and `IndexSet`. The
-//! program in `crates/bench` makes the same calls on the same words, and prints the same lines.
+//! Measures tables of texts, on generated words or on lines of the input: that of the Rust crate `intaglio`, two over hashbrown,
+//! `IndexSet`, and std's map beside an arena. The program in `crates/bench` makes the same calls on the same words, and prints
+//! the same lines.
 
+mod arena;
 mod fold;
 #[cfg(feature = "index_set")]
 mod index_set;
@@ -20,11 +22,13 @@ use std::io;
 use table::Table;
 use turn::{copy, hash_alone, hold, turn};
 
-const USAGE: &str = "check|time|hold|hash|copy crate|boxes|buffer|index_set fold|std|hashbrown CAPACITY SIZE TURNS";
+const USAGE: &str = "check|time|hold|hash|copy crate|boxes|buffer|index_set|arena fold|std|hashbrown CAPACITY SIZE|- TURNS";
 
 fn main() -> io::Result<()> {
     let arguments: Vec<String> = std::env::args().collect();
-    let Some(plan) = Plan::read(&arguments) else {
+    let from_input = arguments.get(5).is_some_and(|size| size == "-");
+    let lines: Vec<String> = if from_input { io::stdin().lines().collect::<Result<_, _>>()? } else { Vec::new() };
+    let Some(plan) = Plan::read(&arguments, &lines) else {
         println!("usage: {USAGE}");
         return Ok(());
     };
@@ -36,7 +40,7 @@ fn main() -> io::Result<()> {
     }
 }
 
-fn with_builder<S: BuildHasher>(plan: Plan, builder: impl Fn() -> S) -> io::Result<()> {
+fn with_builder<S: BuildHasher>(plan: Plan<'_>, builder: impl Fn() -> S) -> io::Result<()> {
     let capacity = plan.capacity;
     match plan.kind {
         Kind::Crate => run(plan, || SymbolTable::with_capacity_and_hasher(capacity, builder())),
@@ -46,10 +50,11 @@ fn with_builder<S: BuildHasher>(plan: Plan, builder: impl Fn() -> S) -> io::Resu
         Kind::Buffer => run(plan, || rivals::Rival::<rivals::Buffer, S>::new(capacity, builder())),
         #[cfg(feature = "index_set")]
         Kind::IndexSet => run(plan, || index_set::Indexed::<S>::new(capacity, builder())),
+        Kind::Arena => run(plan, || arena::Arena::new(capacity, builder())),
     }
 }
 
-fn run<T: Table>(plan: Plan, make: impl Fn() -> T) -> io::Result<()> {
+fn run<T: Table>(plan: Plan<'_>, make: impl Fn() -> T) -> io::Result<()> {
     for _ in 0..plan.turns {
         let mut table = make();
         match plan.task {

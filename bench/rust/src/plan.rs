@@ -1,5 +1,7 @@
 //! What the arguments ask for.
 
+use crate::words::Source;
+
 /// What is done with each table.
 #[derive(Clone, Copy, PartialEq)]
 pub enum Task {
@@ -26,6 +28,7 @@ pub enum Kind {
     Buffer,
     #[cfg(feature = "index_set")]
     IndexSet,
+    Arena,
 }
 
 /// Which hashers.
@@ -41,21 +44,23 @@ pub enum Hashing {
 }
 
 #[derive(Clone, Copy)]
-pub struct Plan {
+pub struct Plan<'a> {
     pub task: Task,
     pub kind: Kind,
     pub hashing: Hashing,
     /// The capacity that each table begins with.
     pub capacity: usize,
+    pub source: Source<'a>,
     /// How many distinct words.
     pub size: u32,
     /// How many tables, one after the other.
     pub turns: u32,
 }
 
-impl Plan {
-    /// Reads `check|time|hold|hash|copy crate|boxes|buffer|index_set fold|std|hashbrown CAPACITY SIZE TURNS`.
-    pub fn read(arguments: &[String]) -> Option<Plan> {
+impl<'a> Plan<'a> {
+    /// Reads `check|time|hold|hash|copy crate|boxes|buffer|index_set|arena fold|std|hashbrown CAPACITY SIZE|- TURNS`. For `-` the
+    /// words are these lines: the first half of them is interned, and the others are absent.
+    pub fn read(arguments: &[String], lines: &'a [String]) -> Option<Plan<'a>> {
         let [_, task, kind, hashing, capacity, size, turns] = arguments else {
             return None;
         };
@@ -76,6 +81,7 @@ impl Plan {
                 "buffer" => Kind::Buffer,
                 #[cfg(feature = "index_set")]
                 "index_set" => Kind::IndexSet,
+                "arena" => Kind::Arena,
                 _ => return None,
             },
             hashing: match hashing.as_str() {
@@ -86,7 +92,8 @@ impl Plan {
                 _ => return None,
             },
             capacity: capacity.parse().ok()?,
-            size: size.parse().ok()?,
+            source: if size == "-" { Source::Listed(lines) } else { Source::Generated },
+            size: if size == "-" { u32::try_from(lines.len() / 2).ok()? } else { size.parse().ok()? },
             turns: turns.parse().ok()?,
         })
     }

@@ -66,7 +66,7 @@ class MissingZero(Refused, ValueError):
 
 
 class BadEnds(Refused, ValueError):
-    """The ends of a batch don't ascend within its bytes."""
+    """The ends of a batch decrease, or are beyond its bytes."""
 
     code = 9
 

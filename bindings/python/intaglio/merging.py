@@ -1,12 +1,19 @@
 """Merges frozen tables, to one or to a dictionary in shards."""
 import contextlib
 import os
+import re
 from array import array
 
 from intaglio._table import BytesTable, SymbolTable, Table, frozen_shards, renumber, split_map
 from intaglio.errors import NoSymbol, NotShards, name_file
 from intaglio.frozen import HEADER, Frozen, refuse_bytes, replace
-from intaglio.shards import MAP, MOST, Shards, count_of, open_shard, read_index, refuse_within, too_many, write_folder
+from intaglio.shards import (
+    MAP, MAP_INDEX, MOST, Shards, count_of, map_index_parts, open_shard, read_index, refuse_within, too_many, write_folder,
+)
+
+# The index of one map: a dictionary, the checksum of the map, and the shards to which it leads.
+ID, SUM = rb"(?:bytes|text)(?: [0-9a-f]{16}){3}", rb"(?: [0-9a-f]{16}){2}"
+OF_MAP = re.compile(rb"intaglio maps 1 0{15}1\n%s(%s)\n(%s)\n" % (ID, SUM, ID))
 
 
 def path_of(table, position):
@@ -114,9 +121,10 @@ class OfFolder:
     """A part that is the path of a folder of shards."""
 
     def __init__(self, folder, count):
-        self.path, self.ids = folder, read_index(folder)[1]
+        index, self.ids = read_index(folder)
+        self.path = folder
         refuse_count(folder, len(self.ids), count)
-        self.map = read_map(os.path.join(folder, MAP), sum(strings for _, strings, *_ in self.ids))
+        self.map = read_map(folder, index, self.ids)
 
     def is_text_in(self, shard):
         return self.ids[shard][0]
@@ -158,20 +166,43 @@ def refuse_count(folder, found, count):
         raise ValueError(f"{folder}: it has {found} shards, and {count} are to be merged")
 
 
-def read_map(path, strings):
-    """The map of a folder whose shards have so many strings, or None if it has none."""
+def read_map(folder, index, ids):
+    """The map of a folder with this index, or None if it has none: it has a code for each string of the shards, and its own index
+    names it and these shards."""
+    path, strings = os.path.join(folder, MAP), sum(strings for _, strings, *_ in ids)
     try:
         with open(path, "rb") as file:
             data = file.read()
     except FileNotFoundError:
         return None
-    if len(data) == 4 * strings:
-        return array("I", data)
     is_cut, codes = len(data) % 4, len(data) // 4
-    others = f"another part's map: it has {codes} codes, and the part has {strings} strings here"
-    error = NotShards("not a map: its length is no multiple of 4" if is_cut else others)
+    if is_cut:
+        raise no_map(path, "not a map: its length is no multiple of 4")
+    if codes != strings:
+        raise no_map(path, f"another part's map: it has {codes} codes, and the part has {strings} strings here")
+    check_map(folder, data, index, ids)
+    return array("I", data)
+
+
+def check_map(folder, data, index, ids):
+    """Checks that a map is the one which its index names, and leads to the shards of a folder with this index."""
+    path = os.path.join(folder, MAP_INDEX)
+    with open(path, "rb") as file:
+        found = OF_MAP.fullmatch(file.read())
+    if not found:
+        raise no_map(path, "not the index of one map")
+    ending, into = map_index_parts(data, index, ids)
+    if found[2] != into:
+        raise no_map(path, f"the map leads to other shards than those of {folder}")
+    if found[1] != ending:
+        raise no_map(os.path.join(folder, MAP), "not the map that the index names: it is damaged, or was written again")
+
+
+def no_map(path, what):
+    """The error of a file that isn't the map of a folder, or its index."""
+    error = NotShards(what)
     name_file(error, path)
-    raise error
+    return error
 
 
 def part_of(position, table, count):

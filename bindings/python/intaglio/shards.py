@@ -10,14 +10,16 @@ import zlib
 from array import array
 
 from intaglio._table import (
-    BytesTable, SymbolTable, column_bytes, frozen_id, frozen_is_text, frozen_misplaced, frozen_shards, shards_id, split_map,
+    BytesTable, SymbolTable, checksum, column_bytes, frozen_id, frozen_is_text, frozen_misplaced, frozen_shards, shards_id,
+    split_map,
 )
 from intaglio.errors import NotShards, OtherShard, Refused, TooMany, misplaced, name_file, wrong_line
 from intaglio.frozen import Frozen, replace
 from intaglio.strings import Strings
 
-# The files of a folder beside the shards: the index, and the map from the symbols of a dictionary that was split.
-INDEX, MAP = "shards", "map"
+# The files of a folder beside the shards: the index, and the map from the symbols of a dictionary that was split, with its own
+# index.
+INDEX, MAP, MAP_INDEX = "shards", "map", "map.index"
 # The lines of an index.
 FIRST = re.compile(rb"intaglio shards 1 ([0-9a-f]{16})\n")
 LINE = re.compile(rb"(bytes|text) ([0-9a-f]{16}) ([0-9a-f]{16}) ([0-9a-f]{16})\n")
@@ -30,10 +32,28 @@ def shard_name(folder, number):
     return os.path.join(folder, f"{number}.dict")
 
 
+def line_of(id):
+    """What an index says of a dictionary."""
+    is_text, *numbers = id
+    return b"%s %016x %016x %016x" % (b"text" if is_text else b"bytes", *numbers)
+
+
 def index_of(ids):
     """The index of shards that are these."""
-    lines = [b"%s %016x %016x %016x\n" % (b"text" if is_text else b"bytes", *numbers) for is_text, *numbers in ids]
-    return b"".join([b"intaglio shards 1 %016x\n" % len(ids), *lines])
+    return b"".join([b"intaglio shards 1 %016x\n" % len(ids), *(line_of(it) + b"\n" for it in ids)])
+
+
+def map_index_parts(codes, index, ids):
+    """The ends of the two lines that the index of a map has: the checksum of the map, and what it says of the shards of a folder
+    with this index, to which the map leads."""
+    into = all(is_text for is_text, *_ in ids), sum(strings for _, strings, *_ in ids), *checksum(index)
+    return b" %016x %016x" % checksum(codes), line_of(into)
+
+
+def map_index_of(id, codes, index, ids):
+    """The index of the map with these codes, from a dictionary to the shards of a folder."""
+    ending, into = map_index_parts(codes, index, ids)
+    return b"intaglio maps 1 %016x\n%s%s\n%s\n" % (1, line_of(id), ending, into)
 
 
 def ids_in(text):
@@ -265,10 +285,12 @@ def ids_there(folder):
         return []
 
 
-def write_folder(folder, count, tables, codes=None):
-    """Writes shards to a folder, of which `tables` yields the bytes of each, then the map if there is one, and last the index.
-    Each file is replaced at once. If the folder has an index, the shards that it names are written again, and the first other
-    one raises FileExistsError. So at any time a folder has no index, or its shards are those that its index names."""
+def write_folder(folder, count, tables, origin=None):
+    """Writes shards to a folder, of which `tables` yields the bytes of each, and last the index. Each file is replaced at once.
+
+    If the folder has an index, the shards that it names are written again, and the first other one raises FileExistsError. So at
+    any time a folder has no index, or its shards are those that its index names. Where a dictionary is split, `origin` says what
+    it is, and has the map from its symbols. The map is written before the index."""
     there, ids = ids_there(folder), []
     with contextlib.suppress(FileExistsError):
         os.mkdir(folder)
@@ -279,9 +301,21 @@ def write_folder(folder, count, tables, codes=None):
         if there is not None and there[number] != ids[number]:
             raise other_shards(folder)
         replace(shard_name(folder, number), data)
-    if codes is not None:
-        replace(os.path.join(folder, MAP), codes)
-    replace(os.path.join(folder, INDEX), index_of(ids))
+    index = index_of(ids)
+    if origin is not None:
+        id, codes = origin
+        write_map(folder, id, codes, index, ids)
+    replace(os.path.join(folder, INDEX), index)
+
+
+def write_map(folder, id, codes, index, ids):
+    """Writes the map from a dictionary to the shards of a folder, and then its index. The index that was there is removed before,
+    so that at any time it is that of the map, or there is none."""
+    path = os.path.join(folder, MAP_INDEX)
+    with contextlib.suppress(FileNotFoundError):
+        os.remove(path)
+    replace(os.path.join(folder, MAP), codes)
+    replace(path, map_index_of(id, codes, index, ids))
 
 
 def other_shards(folder):
@@ -298,8 +332,8 @@ def frozen_shard(data, numbers, number, keys):
 
 def split(frozen, folder, shards, /, *, keys=(0, 0)):
     """Writes a frozen table, which is a Frozen or a path, to a folder as a dictionary in so many shards: the shards, a map from
-    the table's symbols to those of the shards, and the index. The folder is made if it isn't there. `intaglio_dict split` writes
-    the same bytes. The keys are as of Table.freeze.
+    the table's symbols to those of the shards, with an index of this map, and the index of the shards. The folder is made if it
+    isn't there. `intaglio_dict split` writes the same bytes. The keys are as of Table.freeze.
 
     Folders with the same number of shards can be merged shard by shard, by merge(.., shards=..) or by `intaglio_dict`.
 
@@ -313,4 +347,5 @@ def split(frozen, folder, shards, /, *, keys=(0, 0)):
     refuse_within(folder, frozen._path)
     data = frozen._data
     numbers = frozen_shards(data, count)
-    write_folder(folder, count, (frozen_shard(data, numbers, it, keys) for it in range(count)), split_map(numbers, count))
+    shards_of = (frozen_shard(data, numbers, it, keys) for it in range(count))
+    write_folder(folder, count, shards_of, (frozen_id(data), split_map(numbers, count)))

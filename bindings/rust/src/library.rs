@@ -397,11 +397,12 @@ impl<K: Kind> RawTable<K> {
         }
         let bytes = match out.len {
             0 => &[],
-            // SAFETY: The bytes stay where they are until the table is cleared, rolled back, or freed. Each of these takes
-            // `&mut self` or `self`, so not while the slice is borrowed from `self`.
+            // SAFETY: `out` leads to the string of the symbol, which stays where it is until the table is cleared, rolled back,
+            // or freed. Both are only tested. Each of those calls takes `&mut self` or `self`, so not while the slice is
+            // borrowed from `self`.
             len => unsafe { core::slice::from_raw_parts(out.at, len) },
         };
-        // SAFETY: The bytes come from this table.
+        // SAFETY: The bytes are those that the table accepted, which are of its kind. That they are these is only tested.
         Some(unsafe { K::content(bytes) })
     }
 

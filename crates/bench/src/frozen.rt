@@ -3,7 +3,7 @@ use crate::operations::{get, get_or_intern, look_up};
 use crate::plan::Plan;
 use crate::table::Searched;
 use crate::turn::{first_words, other_words, report, shuffled_numbers};
-use crate::words::{word, words};
+use crate::words::words;
 use anyhow::Result;
 use intaglio::packed;
 use intaglio_frozen::{Frozen, Kind, TrustedFrozen, freeze};
@@ -32,9 +32,9 @@ struct Sought {
 }
 
 impl Sought {
-    fn of(alloc: Global, plan: Plan) -> Result<Sought, AllocError> {
+    fn of(alloc: Global, plan: Plan<'_>) -> Result<Sought, AllocError> {
         let symbols = shuffled_numbers(alloc, plan)?;
-        let known = words(alloc, &symbols)?;
+        let known = words(alloc, plan.source, &symbols)?;
         let absent = other_words(alloc, plan)?;
         Ok(Sought {
             known,
@@ -44,9 +44,9 @@ impl Sought {
     }
 }
 
-/// Prints a line for each operation: interning the words in a new packed table, freezing it, opening the bytes,
-/// and the look-ups in the packed table, in the frozen one, and in its trusted bytes.
-pub fn frozen<R: Print + Clock + AllocGlobal>(rt: &R, plan: Plan) -> Result<()> {
+/// Prints a line for each operation: interning the words in a new packed table, freezing it, opening the
+/// bytes, and the look-ups in the packed table, in the frozen one, and in its trusted bytes.
+pub fn frozen<R: Print + Clock + AllocGlobal>(rt: &R, plan: Plan<'_>) -> Result<()> {
     let table = filled(rt, plan)?;
     let bytes = frozen_bytes(rt, plan, &table)?;
     open_and_search(rt, plan, &table, &bytes)
@@ -55,7 +55,7 @@ pub fn frozen<R: Print + Clock + AllocGlobal>(rt: &R, plan: Plan) -> Result<()> 
 // Interns the words in a new packed table.
 fn filled<R: Print + Clock + AllocGlobal>(
     rt: &R,
-    plan: Plan,
+    plan: Plan<'_>,
 ) -> Result<packed::SymbolTable<KeyedState>> {
     let fresh = first_words(rt.alloc(), plan)?;
     let start = Instant::now(rt)?;
@@ -72,7 +72,7 @@ fn filled<R: Print + Clock + AllocGlobal>(
 // Freezes the table.
 fn frozen_bytes<R: Print + Clock + AllocGlobal, S: BuildHasher>(
     rt: &R,
-    plan: Plan,
+    plan: Plan<'_>,
     table: &packed::SymbolTable<S>,
 ) -> Result<Vec<u8>> {
     let start = Instant::now(rt)?;
@@ -84,7 +84,7 @@ fn frozen_bytes<R: Print + Clock + AllocGlobal, S: BuildHasher>(
 // Opens the bytes that the table was frozen to, and searches both.
 fn open_and_search<R: Print + Clock + AllocGlobal, S: BuildHasher>(
     rt: &R,
-    plan: Plan,
+    plan: Plan<'_>,
     table: &packed::SymbolTable<S>,
     bytes: &[u8],
 ) -> Result<()> {
@@ -99,7 +99,7 @@ fn open_and_search<R: Print + Clock + AllocGlobal, S: BuildHasher>(
 
 fn search_trusted<R: Print + Clock>(
     rt: &R,
-    plan: Plan,
+    plan: Plan<'_>,
     bytes: &[u8],
     sought: &Sought,
 ) -> Result<()> {
@@ -109,7 +109,7 @@ fn search_trusted<R: Print + Clock>(
 
 fn search<R: Print + Clock, T: Searched>(
     rt: &R,
-    plan: Plan,
+    plan: Plan<'_>,
     names: [&str; 3],
     table: &T,
     sought: &Sought,
@@ -123,7 +123,7 @@ fn search<R: Print + Clock, T: Searched>(
 
 fn look_ups<R: Print + Clock, T: Searched>(
     rt: &R,
-    plan: Plan,
+    plan: Plan<'_>,
     name: &str,
     table: &T,
     words: &[String],
@@ -134,9 +134,9 @@ fn look_ups<R: Print + Clock, T: Searched>(
 }
 
 /// Prints the words, a line each: those that the tables have, and as many others.
-pub fn print_words<R: Print + AllocGlobal>(rt: &R, plan: Plan) -> Result<()> {
+pub fn print_words<R: Print + AllocGlobal>(rt: &R, plan: Plan<'_>) -> Result<()> {
     for number in 0..plan.size.saturating_mul(2) {
-        let text = word(rt.alloc(), number)?;
+        let text = plan.source.word(rt.alloc(), number)?;
         println!(rt; "{text}")?;
     }
     Ok(())

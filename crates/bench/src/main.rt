@@ -1,5 +1,5 @@
-//! Measures tables of texts on generated words. The program in `bench/rust` makes the same calls on
-//! the same words.
+//! Measures tables of texts on generated words, or on lines of the input. The program in `bench/rust` makes
+//! the same calls on the same words.
 #![tactic(auto)]
 
 mod frozen;
@@ -22,31 +22,45 @@ use table::WordTable;
 use turn::{copy, hash_alone, hold, turn};
 
 const USAGE: &str =
-    "check|time|hold|hash|copy|frozen|words single|batch|both|packed|packed_batch|packed_both fold|fixed|keyed|std CAPACITY SIZE TURNS";
+    "check|time|hold|hash|copy|frozen|words single|batch|both|packed|packed_batch|packed_both \
+     fold|fixed|keyed|std CAPACITY SIZE|- TURNS";
 
 fn main(rt: HostRuntime) -> Result<()> {
     let mut arguments = Vec::new(rt.alloc());
     for word in env::args(&rt)? {
         arguments.push(word)?;
     }
-    let Some(plan) = Plan::read(&arguments) else {
+    let mut lines = Vec::new(rt.alloc());
+    if arguments.get(5).is_some_and(|size| size.as_str() == "-") {
+        for line in rt.lines(rt.alloc()) {
+            lines.push(line?)?;
+        }
+    }
+    let Some(plan) = Plan::read(&arguments, &lines) else {
         println!(rt; "usage: {USAGE}")?;
         return Ok(());
     };
     for _ in 0..plan.turns {
-        match plan.task {
-            Task::Frozen => frozen(&rt, plan)?,
-            Task::Words => print_words(&rt, plan)?,
-            _ => on_a_table(&rt, plan)?,
-        }
+        run_once(&rt, plan)?;
     }
     Ok(())
+}
+
+fn run_once<R: Print + Input + Clock + RandomSource + AllocGlobal>(
+    rt: &R,
+    plan: Plan<'_>,
+) -> Result<()> {
+    match plan.task {
+        Task::Frozen => frozen(rt, plan),
+        Task::Words => print_words(rt, plan),
+        _ => on_a_table(rt, plan),
+    }
 }
 
 // A turn with the hasher that the plan names.
 fn on_a_table<R: Print + Input + Clock + RandomSource + AllocGlobal>(
     rt: &R,
-    plan: Plan,
+    plan: Plan<'_>,
 ) -> Result<()> {
     match plan.hashing {
         Hashing::Fold => run_with(rt, plan, BuildHasherDefault::<FoldHasher>::new()),
@@ -61,7 +75,7 @@ fn on_a_table<R: Print + Input + Clock + RandomSource + AllocGlobal>(
 
 fn run_with<R: Print + Input + Clock + AllocGlobal, S: BuildHasher + Drop>(
     rt: &R,
-    plan: Plan,
+    plan: Plan<'_>,
     builder: S,
 ) -> Result<()> {
     let (alloc, capacity) = (rt.alloc(), plan.capacity);
@@ -80,7 +94,7 @@ fn run_with<R: Print + Input + Clock + AllocGlobal, S: BuildHasher + Drop>(
 fn run<R: Print + Input + Clock + AllocGlobal, T: WordTable + Drop>(
     rt: &R,
     mut table: T,
-    plan: Plan,
+    plan: Plan<'_>,
 ) -> Result<()> {
     match plan.task {
         Task::Check | Task::Time => turn(rt, &mut table, plan),

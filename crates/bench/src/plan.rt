@@ -1,5 +1,7 @@
 //! The arguments of the program.
 
+use crate::words::Source;
+
 /// What is done with each table.
 #[derive(Clone, Copy)]
 pub enum Task {
@@ -54,22 +56,24 @@ pub enum Hashing {
 
 /// What the arguments ask for.
 #[derive(Clone, Copy)]
-pub struct Plan {
+pub struct Plan<'a> {
     pub task: Task,
     pub calls: Calls,
     pub place: Place,
     pub hashing: Hashing,
     /// The initial capacity of each table.
     pub capacity: usize,
+    pub source: Source<'a>,
     /// The number of distinct words.
     pub size: u32,
     /// The number of tables, one after the other.
     pub turns: u32,
 }
 
-impl Plan {
-    /// Reads the arguments that the program's usage says, after its name.
-    pub fn read(arguments: &[String]) -> Option<Plan> {
+impl<'a> Plan<'a> {
+    /// Reads the arguments that the program's usage says, after its name. If the size is `-`, the words are
+    /// these lines: the first half of them is interned, and the others are absent.
+    pub fn read(arguments: &[String], lines: &'a [String]) -> Option<Plan<'a>> {
         let [_, task, calls, hashing, capacity, size, turns] = arguments else {
             return None;
         };
@@ -79,9 +83,24 @@ impl Plan {
             place: place_of(calls),
             hashing: hashing_of(hashing)?,
             capacity: capacity.as_str().parse().ok()?,
-            size: size.as_str().parse().ok()?,
+            source: source_of(size, lines),
+            size: size_of(size, lines)?,
             turns: turns.as_str().parse().ok()?,
         })
+    }
+}
+
+fn source_of<'a>(word: &str, lines: &'a [String]) -> Source<'a> {
+    match word {
+        "-" => Source::Listed(lines),
+        _ => Source::Generated,
+    }
+}
+
+fn size_of(word: &str, lines: &[String]) -> Option<u32> {
+    match word {
+        "-" => u32::try_from(lines.len() / 2).ok(),
+        _ => word.parse().ok(),
     }
 }
 

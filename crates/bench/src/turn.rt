@@ -6,7 +6,7 @@ use crate::operations::{
 };
 use crate::plan::{Calls, Plan, Task};
 use crate::table::{WordTable, forms};
-use crate::words::{numbers, shuffle, word, words};
+use crate::words::{numbers, shuffle, words};
 use anyhow::Result;
 use intaglio::InternError;
 use std::alloc::{AllocError, Global};
@@ -50,7 +50,7 @@ impl<'a> Operation<'a> {
 pub fn turn<R: Print + Clock + AllocGlobal, T: WordTable>(
     rt: &R,
     table: &mut T,
-    plan: Plan,
+    plan: Plan<'_>,
 ) -> Result<()> {
     match plan.calls {
         Calls::Single => single_calls(rt, table, plan),
@@ -66,12 +66,12 @@ pub fn turn<R: Print + Clock + AllocGlobal, T: WordTable>(
 fn single_calls<R: Print + Clock + AllocGlobal, T: WordTable>(
     rt: &R,
     table: &mut T,
-    plan: Plan,
+    plan: Plan<'_>,
 ) -> Result<()> {
     let shuffled = shuffled_numbers(rt.alloc(), plan)?;
     let fresh = first_words(rt.alloc(), plan)?;
     measure(rt, table, plan, "new", Operation::Intern(fresh))?;
-    let known = words(rt.alloc(), &shuffled)?;
+    let known = words(rt.alloc(), plan.source, &shuffled)?;
     call_on_known(rt, table, plan, known)?;
     let absent = other_words(rt.alloc(), plan)?;
     measure(rt, table, plan, "miss", Operation::LookUp(&absent))?;
@@ -83,7 +83,7 @@ fn single_calls<R: Print + Clock + AllocGlobal, T: WordTable>(
 fn call_on_known<R: Print + Clock + AllocGlobal, T: WordTable>(
     rt: &R,
     table: &mut T,
-    plan: Plan,
+    plan: Plan<'_>,
     known: Vec<String>,
 ) -> Result<()> {
     measure(rt, table, plan, "hit", Operation::LookUp(&known))?;
@@ -95,7 +95,7 @@ fn call_on_known<R: Print + Clock + AllocGlobal, T: WordTable>(
 fn read_and_clear<R: Print + Clock + AllocGlobal, T: WordTable>(
     rt: &R,
     table: &mut T,
-    plan: Plan,
+    plan: Plan<'_>,
     numbers: &[u32],
 ) -> Result<()> {
     measure(rt, table, plan, "get", Operation::Get(numbers))?;
@@ -104,12 +104,12 @@ fn read_and_clear<R: Print + Clock + AllocGlobal, T: WordTable>(
     measure(rt, table, plan, "clear", Operation::Clear)
 }
 
-// The same operations in batches, as far as there is a call that takes a batch. The lists of the batches are made
-// before the clock starts, as the words are.
+// The same operations in batches, as far as there is a call that takes a batch. The lists of the batches are
+// made before the clock starts, as the words are.
 fn batches<R: Print + Clock + AllocGlobal, T: WordTable>(
     rt: &R,
     table: &mut T,
-    plan: Plan,
+    plan: Plan<'_>,
 ) -> Result<()> {
     let fresh = first_words(rt.alloc(), plan)?;
     measure_batches(rt, table, plan, "new", fresh)?;
@@ -125,7 +125,7 @@ fn batches<R: Print + Clock + AllocGlobal, T: WordTable>(
 fn call_on_known_in_batches<R: Print + Clock + AllocGlobal, T: WordTable>(
     rt: &R,
     table: &mut T,
-    plan: Plan,
+    plan: Plan<'_>,
     known: &[String],
 ) -> Result<()> {
     let known = forms(rt.alloc(), known)?;
@@ -142,7 +142,7 @@ fn call_on_known_in_batches<R: Print + Clock + AllocGlobal, T: WordTable>(
 fn call_on_absent_in_batches<R: Print + Clock + AllocGlobal, T: WordTable>(
     rt: &R,
     table: &mut T,
-    plan: Plan,
+    plan: Plan<'_>,
     absent: &[String],
 ) -> Result<()> {
     let absent = forms(rt.alloc(), absent)?;
@@ -153,7 +153,7 @@ fn call_on_absent_in_batches<R: Print + Clock + AllocGlobal, T: WordTable>(
 fn measure_batches<R: Print + Clock + AllocGlobal, T: WordTable>(
     rt: &R,
     table: &mut T,
-    plan: Plan,
+    plan: Plan<'_>,
     name: &str,
     words: Vec<String>,
 ) -> Result<()> {
@@ -164,30 +164,30 @@ fn measure_batches<R: Print + Clock + AllocGlobal, T: WordTable>(
 }
 
 /// All words, in the order of their numbers.
-pub fn first_words(alloc: Global, plan: Plan) -> Result<Vec<String>, AllocError> {
-    words(alloc, &numbers(alloc, 0, plan.size)?)
+pub fn first_words(alloc: Global, plan: Plan<'_>) -> Result<Vec<String>, AllocError> {
+    words(alloc, plan.source, &numbers(alloc, 0, plan.size)?)
 }
 
-fn shuffled_words(alloc: Global, plan: Plan) -> Result<Vec<String>, AllocError> {
-    words(alloc, &shuffled_numbers(alloc, plan)?)
+fn shuffled_words(alloc: Global, plan: Plan<'_>) -> Result<Vec<String>, AllocError> {
+    words(alloc, plan.source, &shuffled_numbers(alloc, plan)?)
 }
 
 /// The numbers of all words, in an order that looks random.
-pub fn shuffled_numbers(alloc: Global, plan: Plan) -> Result<Vec<u32>, AllocError> {
+pub fn shuffled_numbers(alloc: Global, plan: Plan<'_>) -> Result<Vec<u32>, AllocError> {
     let mut shuffled = numbers(alloc, 0, plan.size)?;
     shuffle(&mut shuffled);
     Ok(shuffled)
 }
 
 /// As many words, none of them among the first ones.
-pub fn other_words(alloc: Global, plan: Plan) -> Result<Vec<String>, AllocError> {
-    words(alloc, &numbers(alloc, plan.size, plan.size)?)
+pub fn other_words(alloc: Global, plan: Plan<'_>) -> Result<Vec<String>, AllocError> {
+    words(alloc, plan.source, &numbers(alloc, plan.size, plan.size)?)
 }
 
 fn measure<R: Print + Clock + AllocGlobal, T: WordTable>(
     rt: &R,
     table: &mut T,
-    plan: Plan,
+    plan: Plan<'_>,
     name: &str,
     operation: Operation<'_>,
 ) -> Result<()> {
@@ -199,7 +199,7 @@ fn measure<R: Print + Clock + AllocGlobal, T: WordTable>(
 /// Prints the line of an operation that has just ended.
 pub fn report<R: Print + Clock>(
     rt: &R,
-    plan: Plan,
+    plan: Plan<'_>,
     name: &str,
     start: Instant,
     sum: u64,
@@ -219,7 +219,7 @@ pub fn report<R: Print + Clock>(
 pub fn hash_alone<R: Print + Clock + AllocGlobal, T: WordTable>(
     rt: &R,
     table: &mut T,
-    plan: Plan,
+    plan: Plan<'_>,
 ) -> Result<()> {
     let fresh = first_words(rt.alloc(), plan)?;
     measure(rt, table, plan, "hash", Operation::Hash(&fresh))
@@ -229,7 +229,7 @@ pub fn hash_alone<R: Print + Clock + AllocGlobal, T: WordTable>(
 pub fn copy<R: Print + Clock + AllocGlobal, T: WordTable>(
     rt: &R,
     table: &mut T,
-    plan: Plan,
+    plan: Plan<'_>,
 ) -> Result<()> {
     let fresh = first_words(rt.alloc(), plan)?;
     measure(rt, table, plan, "copied", Operation::GetOrIntern(&fresh))
@@ -240,7 +240,7 @@ pub fn copy<R: Print + Clock + AllocGlobal, T: WordTable>(
 pub fn hold<R: Print + Input + AllocGlobal, T: WordTable>(
     rt: &R,
     table: &mut T,
-    plan: Plan,
+    plan: Plan<'_>,
 ) -> Result<()> {
     let bytes = fill(rt.alloc(), table, plan)?;
     let count = table.len();
@@ -249,10 +249,10 @@ pub fn hold<R: Print + Input + AllocGlobal, T: WordTable>(
 }
 
 // Interns words made one at a time, and returns how many bytes they have.
-fn fill<T: WordTable>(alloc: Global, table: &mut T, plan: Plan) -> Result<u64> {
+fn fill<T: WordTable>(alloc: Global, table: &mut T, plan: Plan<'_>) -> Result<u64> {
     let mut bytes = 0u64;
     for number in 0..plan.size {
-        let text = word(alloc, number)?;
+        let text = plan.source.word(alloc, number)?;
         bytes = bytes.wrapping_add(text.len() as u64);
         table.intern_word(text)?;
     }

@@ -10,72 +10,102 @@ use Rattle.intaglio.specs.Lookup.{IsFound, Keeps}
 use Rattle.intaglio.specs.State.{State, first, IsValid}
 use Rattle.intaglio.specs.StrContent.{str_content_bytes}
 use Rattle.intaglio.specs.Types.{StrContent}
-use Rattle.intaglio.proofs.CallerLaws.{has_content, keeps_text, keeps_below, spelled_at}
+use Rattle.intaglio.proofs.CallerLaws.{has_content, keeps_text, spelled_at}
 use Rattle.example_interpreter.specs.Names.{name_of, IsLast}
 
 -- what is found by a name has this name
-pub name_found : (s : State StrContent) (w : List ℕ) (n : ℕ) → IsValid str_key s → IsFound str_key s (w ∷ []) n → name_of s n ≡ w
-name_found s w n valid found = ap (λ (o : Option (List ℕ)). unwrap_or o []) ((spelled_at str_key str_content_bytes (λ c. refl) s w n valid).1 found)
+pub name_found : (s : State StrContent) (w : List ℕ) (n : ℕ) → IsValid str_key s →
+    IsFound str_key s (w ∷ []) n → name_of s n ≡ w
+name_found s w n valid found =
+    ap (λ (o : Option (List ℕ)). unwrap_or o [])
+    ((spelled_at str_key str_content_bytes (λ c. refl) s w n valid).1 found)
 
 -- and what has it is found by it
-found_by : (s : State StrContent) (n : ℕ) → IsValid str_key s → n < length s.contents → IsFound str_key s (name_of s n ∷ []) n
+found_by : (s : State StrContent) (n : ℕ) → IsValid str_key s → n < length s.contents →
+    IsFound str_key s (name_of s n ∷ []) n
 found_by s n valid below =
     let held = has_content str_key s n below in
     (spelled_at str_key str_content_bytes (λ c. refl) s (name_of s n) n valid).0 (rw held.1 refl)
 
 -- declarations keep their names
-pub names_kept : (old new : State StrContent) (symbols : List ℕ) → Keeps str_key old new → All (λ n. n < length old.contents) symbols → map (name_of new) symbols ≡ map (name_of old) symbols
+pub names_kept : (old new : State StrContent) (symbols : List ℕ) → Keeps str_key old new →
+    All (λ n. n < length old.contents) symbols → map (name_of new) symbols ≡ map (name_of old) symbols
 names_kept old new [] kept issued = refl
 names_kept old new (n ∷ ns) kept issued =
     let same = keeps_text str_key str_content_bytes old new n kept (issued 0 n (omega arith)) in
     rw (same, names_kept old new ns kept (λ i d lt. issued (suc i) d (omega arith))) refl
 
-pub issued_kept : (old new : State StrContent) (symbols : List ℕ) → Keeps str_key old new → All (λ n. n < length old.contents) symbols → All (λ n. n < length new.contents) symbols
-issued_kept old new symbols kept issued = λ i d lt. keeps_below str_key old new (get_or symbols i d) kept (issued i d lt)
-
 -- with one more symbol there is one more name
-pub declared_name : (old new : State StrContent) (symbols after : List ℕ) (n : ℕ) (w : List ℕ) → Keeps str_key old new → All (λ n. n < length old.contents) symbols → after ≡ symbols ++ n ∷ []
-    → IsValid str_key new → IsFound str_key new (w ∷ []) n → map (name_of new) after ≡ map (name_of old) symbols ++ w ∷ []
+pub declared_name : (old new : State StrContent) (symbols after : List ℕ) (n : ℕ) (w : List ℕ) →
+    Keeps str_key old new → All (λ n. n < length old.contents) symbols → after ≡ symbols ++ n ∷ []
+    → IsValid str_key new → IsFound str_key new (w ∷ []) n →
+    map (name_of new) after ≡ map (name_of old) symbols ++ w ∷ []
 declared_name old new symbols after n w kept issued added valid found =
-    rw (added, map-append (name_of new) symbols (n ∷ []), names_kept old new symbols kept issued, name_found new w n valid found) refl
+    rw (
+      added,
+      map-append (name_of new) symbols (n ∷ []),
+      names_kept old new symbols kept issued,
+      name_found new w n valid found,
+    ) refl
 
-module _ (s : State StrContent) (symbols : List ℕ) (w : List ℕ) (valid : IsValid str_key s) (issued : All (λ n. n < length s.contents) symbols) where
+module _ (s : State StrContent) (symbols : List ℕ) (w : List ℕ) (valid : IsValid str_key s)
+    (issued : All (λ n. n < length s.contents) symbols) where
   from_some : (o : Option ℕ) → option_map (name_of s) o ≡ Some w → (n : ℕ) × (o ≡ Some n) × (name_of s n ≡ w)
   from_some None e = cc
   from_some (Some n) e = (n, refl, same_Some (name_of s n) w e)
 
   -- a declaration of the name has the symbol that the name is found at
-  declared_at : (j : ℕ) → slice_get (map (name_of s) symbols) j ≡ Some w → (n : ℕ) × (slice_get symbols j ≡ Some n) × IsFound str_key s (w ∷ []) n
+  declared_at : (j : ℕ) → slice_get (map (name_of s) symbols) j ≡ Some w →
+      (n : ℕ) × (slice_get symbols j ≡ Some n) × IsFound str_key s (w ∷ []) n
   declared_at j e =
       let at = from_some (slice_get symbols j) (sym (slice_get-map (name_of s) symbols j) ∙ e) in
-      let below : get_or symbols j 0 < length s.contents = issued j 0 (slice_get_within symbols j at.0 at.1) in
-      (at.0, at.1, rw at.2 at (found_by s at.0 valid (rw (get_or_from_slice_get symbols j at.0 0 at.1) at below)))
+      let below : get_or symbols j 0 < length s.contents =
+      issued j 0 (slice_get_within symbols j at.0 at.1) in (
+        at.0,
+        at.1,
+        rw at.2 at (found_by s at.0 valid (rw (get_or_from_slice_get symbols j at.0 0 at.1) at below)),
+      )
 
   -- so the last declaration of the symbol is that of the name
-  pub last_name : (n : ℕ) (r : Option ℕ) → IsFound str_key s (w ∷ []) n → IsLast symbols n r → IsLast (map (name_of s) symbols) w r
-  last_name n None found last = λ j e. let at = declared_at j e in last j (at.1 ∙ ap Some (same_Some at.0 n (sym at.2 ∙ found)))
+  pub last_name : (n : ℕ) (r : Option ℕ) → IsFound str_key s (w ∷ []) n → IsLast symbols n r →
+      IsLast (map (name_of s) symbols) w r
+  last_name n None found last = λ j e. let at = declared_at j e in
+      last j (at.1 ∙ ap Some (same_Some at.0 n (sym at.2 ∙ found)))
   last_name n (Some i) found last = (
-    slice_get-map (name_of s) symbols i ∙ ap (option_map (name_of s)) last.0 ∙ ap Some (name_found s w n valid found),
+    slice_get-map (name_of s) symbols i ∙ ap (option_map (name_of s)) last.0
+        ∙ ap Some (name_found s w n valid found),
     λ j lt e. let at = declared_at j e in last.1 j lt (at.1 ∙ ap Some (same_Some at.0 n (sym at.2 ∙ found))),
   )
 
   -- and a name that isn't found isn't declared
   pub undeclared : first str_key s.contents (w ∷ []) ≡ None → IsLast (map (name_of s) symbols) w None
-  undeclared none = λ j e. let at = declared_at j e in let found : first str_key s.contents (w ∷ []) ≡ Some at.0 = at.2 in cc
+  undeclared none = λ j e. let at = declared_at j e in
+      let found : first str_key s.contents (w ∷ []) ≡ Some at.0 = at.2 in cc
 
 -- there is one last position
 pub same_last : {X : Type 0} (xs : List X) (x : X) (r q : Option ℕ) → IsLast xs x r → IsLast xs x q → r ≡ q
 same_last xs x None None a b = refl
 same_last xs x None (Some j) a b = absurd (a j b.0)
 same_last xs x (Some i) None a b = absurd (b i a.0)
-same_last xs x (Some i) (Some j) a b = ap Some (elim (cases_order i j) [ inl same ↦ same | inr other ↦ elim other [ inl below ↦ absurd (a.1 j below b.0) | inr above ↦ absurd (b.1 i above a.0) ] ])
+same_last xs x (Some i) (Some j) a b =
+    ap Some (elim (cases_order i j) [
+      | inl same ↦ same
+      | inr other ↦
+          elim other [ inl below ↦ absurd (a.1 j below b.0) | inr above ↦ absurd (b.1 i above a.0) ]
+    ])
 
 -- after a declaration it is the last one of its name
-pub last_added : {X : Type 0} (xs : List X) (x : X) (r : Option ℕ) → IsLast (xs ++ x ∷ []) x r → r ≡ Some (length xs)
+pub last_added : {X : Type 0} (xs : List X) (x : X) (r : Option ℕ) → IsLast (xs ++ x ∷ []) x r →
+    r ≡ Some (length xs)
 last_added xs x r last =
     let size : length (xs ++ x ∷ []) ≡ length xs + 1 = length-append xs (x ∷ []) in
-    let there : slice_get (xs ++ x ∷ []) (length xs) ≡ Some x = slice_get-get_or (xs ++ x ∷ []) (length xs) x (omega arith) ∙ ap Some (get_or-append_seam xs x [] x) in
-    same_last (xs ++ x ∷ []) x r (Some (length xs)) last (there, λ j above e. let within = slice_get_within (xs ++ x ∷ []) j x e in absurd (omega arith))
+    let there : slice_get (xs ++ x ∷ []) (length xs) ≡ Some x =
+    slice_get-get_or (xs ++ x ∷ []) (length xs) x (omega arith) ∙ ap Some (get_or-append_seam xs x [] x) in
+    same_last (xs ++ x ∷ []) x r (Some (length xs)) last (
+      there,
+      λ j above e. let within =
+          slice_get_within (xs ++ x ∷ []) j x e in absurd (omega arith),
+    )
 
 -- and after the scope is left, the declarations are those before it
 pub scope_left : {X : Type 0} (xs : List X) (x : X) → take (length xs) (xs ++ x ∷ []) ≡ xs

@@ -41,7 +41,8 @@ impl Bindings {
         })
     }
 
-    /// How many declarations there are: what [`leave`](Bindings::leave) takes at the end of a scope that begins here.
+    /// How many declarations there are: what [`leave`](Bindings::leave) takes at the
+    /// end of a scope that begins here.
     pub fn depth(&self) -> usize
         ensures { result ≡ length self.now }
     {

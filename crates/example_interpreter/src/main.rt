@@ -1,8 +1,9 @@
 //! The names of an interpreter: a lexer's symbols, keywords first, and names with scopes.
 //!
-//! The program prints the tokens of a source, and then the source again, put together from the tokens. Then
-//! it declares `x` and `y`, visits two blocks that declare names of their own, and finds `x` as it was. At last
-//! it declares `x` in a block where another `x` is visible, and finds the inner one there and the outer one behind.
+//! The program prints the tokens of a source, and then the source again, put together from the
+//! tokens. Then it declares `x` and `y`, visits two blocks that declare names of their own, and
+//! finds `x` as it was. At last it declares `x` in a block where another `x` is visible, and
+//! finds the inner one there and the outer one behind.
 #![tactic(auto)]
 
 mod bindings;

@@ -1,7 +1,7 @@
 //! The fields of a message: each name has one entry, in whatever case it is written.
 //!
-//! The program prints the entry of each line's name, under the spelling that was read first. The tables have a kind of
-//! strings of this crate's own, [`NameKind`], one stored string by string and one in one buffer.
+//! The program prints the entry of each line's name, under the spelling that was read first. The tables have
+//! a kind of strings of this crate's own, [`NameKind`], one stored string by string and one in one buffer.
 #![tactic(auto)]
 
 ghost use Rattle.std.specs.Prelude.{◌≡◌, ◌↔◌, IfOk, IsTrue};

@@ -1,4 +1,5 @@
-//! A kind of strings of this crate's own: names, which are equal if they differ only in the case of ASCII letters.
+//! A kind of strings of this crate's own: names, which are equal if they differ
+//! only in the case of ASCII letters.
 ghost use Rattle.std.specs.Prelude.{◌≡◌, refl, IsUtf8, string_bytes};
 ghost use Rattle.example_names.specs.Letters.{letters, name_text};
 

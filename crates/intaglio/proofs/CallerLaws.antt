@@ -1,43 +1,25 @@
--- The laws that callers cite. Those from `below` are proved in `intaglio_interner`, and stated again here so that a crate
--- that lists only `intaglio` finds them.
-use Rattle.std.proofs.Common.{◌≡◌, ◌≢◌, ◌∙◌, ap, refl, sym, arith, ℕ, zero, suc, ◌+◌, ◌<◌, Bool, true, false, cond, List, [], ◌∷◌, ◌++◌, length, map, take, get_or, length-append, Option, Some, None, option_map, is_some, MatchOption, Result, Ok}
+-- The laws that callers cite. Those from `below` are proved in `intaglio_interner`, and stated again here so
+-- that a crate that lists only `intaglio` finds them.
+use Rattle.std.proofs.Common.{◌≡◌, ◌≢◌, ◌∙◌, ap, refl, sym, arith, ℕ, zero, suc, ◌+◌, ◌<◌, List, [], ◌∷◌, ◌++◌, length, map, take, get_or, length-append, Option, Some, None, option_map, is_some, MatchOption, Result, Ok}
 use Rattle.std.specs.Prelude.{slice_get, ◌↔◌, IsTrue, Contains, AllPairs}
 use Rattle.std.proofs.lemmas.List.{length-map, map-append}
 use Rattle.std.proofs.lemmas.Option.{same_Some, slice_get_within}
 use Rattle.intaglio_content.specs.Key.{Key}
+use Rattle.intaglio_content.specs.Store.{IsMoved, IsPushed}
 use Rattle.intaglio_symbol.specs.declared.error.InternError.{InternError}
-use Rattle.intaglio_interner.specs.State.{State, key_eq, first_of, first, spelling_at, IsValid}
-use Rattle.intaglio_interner.specs.Change.{Empties, IsAppended, Interns, IsCopyAppended, InternsForm}
+use Rattle.intaglio_interner.specs.State.{State, first_of, first, spelling_at, IsValid}
+use Rattle.intaglio_interner.specs.Change.{Empties, IsAdded, IsAppended, Interns, IsCopyAppended, InternsForm}
 use Rattle.intaglio_interner.specs.Lookup.{IsFound, FindsNothing, IsStored, Keeps}
 use Rattle.intaglio_interner.specs.Issue.{issue_from, interned_all}
-use Rattle.intaglio_interner.proofs.First.{key_eq-decides, some-below}
+use Rattle.intaglio_interner.proofs.First.{first-tells, none-each, some-below}
 use Rattle.intaglio_interner.proofs.Laws as below
 use Rattle.intaglio.specs.Grows.{Grows, GrowsByForm}
 
-contained : (b : Bool) (x : Key) (xs : List Key) (k : Key) (o : Option ℕ) (i : ℕ) → (b ≡ true → x ≡ k) → ((j : ℕ) → o ≡ Some j → Contains xs k) → cond b (Some 0) (option_map (λ j. 1 + j) o) ≡ Some i → Contains (x ∷ xs) k
-contained true x xs k o i here there e = (0, omega arith, here refl)
-contained false x xs k None i here there e = cc
-contained false x xs k (Some j) i here there e = let h = there j refl in let lt = h.1 in (suc h.0, omega arith, h.2)
-
-first_of-contains : (keys : List Key) (k : Key) (i : ℕ) → first_of keys k ≡ Some i → Contains keys k
-first_of-contains [] k i e = cc
-first_of-contains (x ∷ xs) k i e = contained (key_eq x k) x xs k (first_of xs k) i (key_eq-decides x k).0 (λ j f. first_of-contains xs k j f) e
-
-missed : (b : Bool) (o : Option ℕ) → cond b (Some 0) (option_map (λ j. 1 + j) o) ≡ None → (b ≡ false) × (o ≡ None)
-missed true o e = cc
-missed false None e = (refl, refl)
-missed false (Some j) e = cc
-
-first_of-misses : (keys : List Key) (k : Key) → first_of keys k ≡ None → (j : ℕ) (d : Key) → j < length keys → get_or keys j d ≡ k → ⊥
-first_of-misses [] k e j d lt same = omega arith
-first_of-misses (x ∷ xs) k e zero d lt same =
-    let b : key_eq x k ≡ true = (key_eq-decides x k).1 same in
-    let h : key_eq x k ≡ false = (missed (key_eq x k) (first_of xs k) e).0 in cc
-first_of-misses (x ∷ xs) k e (suc j) d lt same = first_of-misses xs k (missed (key_eq x k) (first_of xs k) e).1 j d (omega arith) same
-
-found-or-not : (keys : List Key) (k : Key) (o : Option ℕ) → first_of keys k ≡ o → IsTrue (is_some o) ↔ Contains keys k
-found-or-not keys k None e = (λ t. cc, λ c. absurd (first_of-misses keys k e c.0 k c.1 c.2))
-found-or-not keys k (Some i) e = (λ t. first_of-contains keys k i e, λ c. refl)
+-- a search among keys finds a position exactly if one of them is the sought key
+found-or-not : (keys : List Key) (k : Key) (o : Option ℕ) → first_of keys k ≡ o → IsTrue (is_some o) ↔
+    Contains keys k
+found-or-not keys k None e = (λ t. cc, λ c. absurd (none-each keys k e c.0 k c.1 c.2))
+found-or-not keys k (Some i) e = let at = first-tells keys k (Some i) e in (λ t. (i, at.0, at.1 k), λ c. refl)
 
 -- the content at a symbol below the number of contents
 pub content-at : {C : Type 0} (cs : List C) (i : ℕ) → i < length cs → (c : C) × (slice_get cs i ≡ Some c)
@@ -47,7 +29,8 @@ content-at (c ∷ cs) (suc i) below = content-at cs i (omega arith)
 
 module _ {C : Type 0} (key : C → Key) where
   -- what is found has the key that was looked up
-  pub first_key : (cs : List C) (k : Key) (i : ℕ) → first key cs k ≡ Some i → option_map key (slice_get cs i) ≡ Some k
+  pub first_key : (cs : List C) (k : Key) (i : ℕ) → first key cs k ≡ Some i →
+      option_map key (slice_get cs i) ≡ Some k
   first_key = below.first-key key
 
   -- what is found is stored under the symbol at which it is found
@@ -59,7 +42,8 @@ module _ {C : Type 0} (key : C → Key) where
   found_below s k i e = omega (arith, some-below (map key s.contents) k i e, length-map s.contents key)
 
   -- a symbol below the number of contents has a content
-  pub has_content : (s : State C) (i : ℕ) → i < length s.contents → (c : C) × (slice_get s.contents i ≡ Some c)
+  pub has_content : (s : State C) (i : ℕ) → i < length s.contents →
+      (c : C) × (slice_get s.contents i ≡ Some c)
   has_content s i below = content-at s.contents i below
 
   -- a content is found at its symbol
@@ -67,10 +51,12 @@ module _ {C : Type 0} (key : C → Key) where
   stored_found = below.stored-found key
 
   -- equal contents have the same symbol, and different ones different symbols
-  pub same_symbol : (s : State C) (k l : Key) (i j : ℕ) → IsFound key s k i → IsFound key s l j → (k ≡ l) ↔ (i ≡ j)
+  pub same_symbol : (s : State C) (k l : Key) (i j : ℕ) → IsFound key s k i → IsFound key s l j →
+      (k ≡ l) ↔ (i ≡ j)
   same_symbol s k l i j a b = (
     λ e. same_Some i j (sym a ∙ ap (λ (x : Key). first key s.contents x) e ∙ b),
-    λ e. same_Some k l (sym (first_key s.contents k i a) ∙ ap (λ (n : ℕ). option_map key (slice_get s.contents n)) e ∙ first_key s.contents l j b),
+    λ e. same_Some k l (sym (first_key s.contents k i a)
+        ∙ ap (λ (n : ℕ). option_map key (slice_get s.contents n)) e ∙ first_key s.contents l j b),
   )
 
   -- if there are no contents, nothing is found
@@ -90,22 +76,29 @@ module _ {C : Type 0} (key : C → Key) where
   keeps_then = below.keeps-then key
 
   -- a symbol keeps its content, and so its spelling
-  pub keeps_content : (old new : State C) (i : ℕ) → Keeps key old new → i < length old.contents → slice_get new.contents i ≡ slice_get old.contents i
-  keeps_content old new i kept below = let held = has_content old i below in kept.stored i held.0 held.1 ∙ sym held.1
+  pub keeps_content : (old new : State C) (i : ℕ) → Keeps key old new → i < length old.contents →
+      slice_get new.contents i ≡ slice_get old.contents i
+  keeps_content old new i kept below = let held = has_content old i below in
+      kept.stored i held.0 held.1 ∙ sym held.1
 
-  pub keeps_text : (spelling : C → List ℕ) (old new : State C) (i : ℕ) → Keeps key old new → i < length old.contents → spelling_at spelling new i ≡ spelling_at spelling old i
+  pub keeps_text : (spelling : C → List ℕ) (old new : State C) (i : ℕ) → Keeps key old new →
+      i < length old.contents → spelling_at spelling new i ≡ spelling_at spelling old i
   keeps_text spelling old new i kept below = ap (option_map spelling) (keeps_content old new i kept below)
 
   -- a symbol stays below the number of contents
-  pub keeps_below : (old new : State C) (i : ℕ) → Keeps key old new → i < length old.contents → i < length new.contents
-  keeps_below old new i kept below = let held = has_content old i below in slice_get_within new.contents i held.0 (kept.stored i held.0 held.1)
+  pub keeps_below : (old new : State C) (i : ℕ) → Keeps key old new → i < length old.contents →
+      i < length new.contents
+  keeps_below old new i kept below = let held = has_content old i below in
+      slice_get_within new.contents i held.0 (kept.stored i held.0 held.1)
 
   -- the contents that are kept are the first ones afterwards
-  pub keeps_front : (old new : State C) → Keeps key old new → take (length old.contents) new.contents ≡ old.contents
+  pub keeps_front : (old new : State C) → Keeps key old new →
+      take (length old.contents) new.contents ≡ old.contents
   keeps_front = below.keeps-front key
 
   -- after contents were interned in order, each is found at the symbol that it was issued
-  pub issued_each : (held cs : List C) (n : ℕ) (c : C) (i : ℕ) → slice_get cs n ≡ Some c → slice_get (issue_from key held cs) n ≡ Some i → first key (interned_all key held cs) (key c) ≡ Some i
+  pub issued_each : (held cs : List C) (n : ℕ) (c : C) (i : ℕ) → slice_get cs n ≡ Some c →
+      slice_get (issue_from key held cs) n ≡ Some i → first key (interned_all key held cs) (key c) ≡ Some i
   issued_each = below.issued-each key
 
   -- a look-up finds a symbol exactly if a content has the key
@@ -113,89 +106,125 @@ module _ {C : Type 0} (key : C → Key) where
   found_contains cs k = found-or-not (map key cs) k (first key cs k) refl
 
   -- a content that wasn't found is interned at the end of the list
-  pub absent_grows : (old new : State C) (c : C) (i : ℕ) → first key old.contents (key c) ≡ None → Interns key old c (Ok i) new → Grows old c i new
-  absent_grows old new c i none step = let taken : IsAppended old c i new = rw none at step in (taken.position, taken.contents)
+  pub absent_grows : (old new : State C) (c : C) (i : ℕ) → first key old.contents (key c) ≡ None →
+      Interns key old c (Ok i) new → Grows old c i new
+  absent_grows old new c i none step = let taken : IsAppended old c i new = rw none at step in
+      (taken.position, taken.contents)
 
   -- a content that was found is there already, and nothing changes
-  pub found_same : (old new : State C) (c : C) (i j : ℕ) → IsFound key old (key c) j → Interns key old c (Ok i) new → (i ≡ j) × (new ≡ old)
-  found_same old new c i j found step = let same : (◌≡◌ {A = Result ℕ InternError} (Ok i) (Ok j)) × (new ≡ old) = rw found at step in (cc, same.1)
+  pub found_same : (old new : State C) (c : C) (i j : ℕ) → IsFound key old (key c) j →
+      Interns key old c (Ok i) new → (i ≡ j) × (new ≡ old)
+  found_same old new c i j found step = let same : (◌≡◌ {A = Result ℕ InternError} (Ok i) (Ok j))
+      × (new ≡ old) = rw found at step in (cc, same.1)
 
-  by-count : (o : Option ℕ) (old new : State C) (c : C) (i : ℕ) → MatchOption o (IsAppended old c i new) (λ j. (◌≡◌ {A = Result ℕ InternError} (Ok i) (Ok j)) × (new ≡ old))
-      → (length new.contents ≡ length old.contents → (o ≡ Some i) × (new ≡ old)) × (length new.contents ≢ length old.contents → (o ≡ None) × Grows old c i new)
-  by-count None old new c i h = (
-    λ e. absurd (let more : length new.contents ≡ length old.contents + 1 = rw h.contents (length-append old.contents (c ∷ [])) in omega arith),
-    λ n. (refl, (h.position, h.contents)),
-  )
-  by-count (Some j) old new c i h = (λ e. (cc, h.1), λ n. absurd (n (ap (λ (s : State C). length s.contents) h.1)))
+  by-count : (adds : List C → List C → Type 0) (o : Option ℕ) (old new : State C) (i : ℕ) (G : Type 0) →
+      (IsAdded adds old i new → (length new.contents ≡ length old.contents + 1) × G)
+      → MatchOption o (IsAdded adds old i new) (λ j. (◌≡◌ {A = Result ℕ InternError} (Ok i) (Ok j))
+      × (new ≡ old))
+      → (length new.contents ≡ length old.contents → (o ≡ Some i) × (new ≡ old))
+      × (length new.contents ≢ length old.contents → (o ≡ None) × G)
+  by-count adds None old new i G grows h = let one = grows h in
+      (λ e. absurd (omega (arith, e, one.0)), λ n. (refl, one.1))
+  by-count adds (Some j) old new i G grows h =
+      (λ e. (cc, h.1), λ n. absurd (n (ap (λ (s : State C). length s.contents) h.1)))
 
   -- whether there are more contents says whether it was found
   pub counted : (old new : State C) (c : C) (i : ℕ) → Interns key old c (Ok i) new
-      → (length new.contents ≡ length old.contents → IsFound key old (key c) i × (new ≡ old)) × (length new.contents ≢ length old.contents → (first key old.contents (key c) ≡ None) × Grows old c i new)
-  counted old new c i step = by-count (first key old.contents (key c)) old new c i step
+      → (length new.contents ≡ length old.contents → IsFound key old (key c) i × (new ≡ old))
+      × (length new.contents ≢ length old.contents → (first key old.contents (key c) ≡ None)
+      × Grows old c i new)
+  counted old new c i step =
+      by-count (IsMoved c) (first key old.contents (key c)) old new i (Grows old c i new)
+      (λ h. (rw h.contents (length-append old.contents (c ∷ [])), (h.position, h.contents))) step
 
   module _ (spelling : C → List ℕ) where
-    form-grows : (old new : State C) (k : Key) (w : List ℕ) (i : ℕ) → IsCopyAppended key spelling old k w i new → GrowsByForm key spelling old k w i new
+    form-grows : (old new : State C) (k : Key) (w : List ℕ) (i : ℕ) →
+        IsCopyAppended key spelling old k w i new → GrowsByForm key spelling old k w i new
     form-grows old new k w i h = record {
       position = h.position;
-      keys = rw (h.contents.added, map-append key old.contents (h.contents.copy ∷ []), h.contents.same_key) refl;
-      spellings = rw (h.contents.added, map-append spelling old.contents (h.contents.copy ∷ []), h.contents.same_spelling) refl;
+      keys = rw (
+        h.contents.added,
+        map-append key old.contents (h.contents.copy ∷ []),
+        h.contents.same_key,
+      ) refl;
+      spellings = rw (
+        h.contents.added,
+        map-append spelling old.contents (h.contents.copy ∷ []),
+        h.contents.same_spelling,
+      ) refl;
     }
 
     -- the same for a form, of which a copy is interned
-    pub absent_form_grows : (old new : State C) (k : Key) (w : List ℕ) (i : ℕ) → first key old.contents k ≡ None → InternsForm key spelling old k w (Ok i) new → GrowsByForm key spelling old k w i new
-    absent_form_grows old new k w i none step = let taken : IsCopyAppended key spelling old k w i new = rw none at step in form-grows old new k w i taken
+    pub absent_form_grows : (old new : State C) (k : Key) (w : List ℕ) (i : ℕ) →
+        first key old.contents k ≡ None → InternsForm key spelling old k w (Ok i) new →
+        GrowsByForm key spelling old k w i new
+    absent_form_grows old new k w i none step = let taken : IsCopyAppended key spelling old k w i new =
+        rw none at step in form-grows old new k w i taken
 
-    pub found_form_same : (old new : State C) (k : Key) (w : List ℕ) (i j : ℕ) → IsFound key old k j → InternsForm key spelling old k w (Ok i) new → (i ≡ j) × (new ≡ old)
-    found_form_same old new k w i j found step = let same : (◌≡◌ {A = Result ℕ InternError} (Ok i) (Ok j)) × (new ≡ old) = rw found at step in (cc, same.1)
+    pub found_form_same : (old new : State C) (k : Key) (w : List ℕ) (i j : ℕ) → IsFound key old k j →
+        InternsForm key spelling old k w (Ok i) new → (i ≡ j) × (new ≡ old)
+    found_form_same old new k w i j found step = let same : (◌≡◌ {A = Result ℕ InternError} (Ok i) (Ok j))
+        × (new ≡ old) = rw found at step in (cc, same.1)
 
-    form-by-count : (o : Option ℕ) (old new : State C) (k : Key) (w : List ℕ) (i : ℕ) → MatchOption o (IsCopyAppended key spelling old k w i new) (λ j. (◌≡◌ {A = Result ℕ InternError} (Ok i) (Ok j)) × (new ≡ old))
-        → (length new.contents ≡ length old.contents → (o ≡ Some i) × (new ≡ old)) × (length new.contents ≢ length old.contents → (o ≡ None) × GrowsByForm key spelling old k w i new)
-    form-by-count None old new k w i h = (
-      λ e. absurd (let more : length new.contents ≡ length old.contents + 1 = rw h.contents.added (length-append old.contents (h.contents.copy ∷ [])) in omega arith),
-      λ n. (refl, form-grows old new k w i h),
-    )
-    form-by-count (Some j) old new k w i h = (λ e. (cc, h.1), λ n. absurd (n (ap (λ (s : State C). length s.contents) h.1)))
-
-    pub counted_form : (old new : State C) (k : Key) (w : List ℕ) (i : ℕ) → InternsForm key spelling old k w (Ok i) new
-        → (length new.contents ≡ length old.contents → IsFound key old k i × (new ≡ old)) × (length new.contents ≢ length old.contents → (first key old.contents k ≡ None) × GrowsByForm key spelling old k w i new)
-    counted_form old new k w i step = form-by-count (first key old.contents k) old new k w i step
+    pub counted_form : (old new : State C) (k : Key) (w : List ℕ) (i : ℕ) →
+        InternsForm key spelling old k w (Ok i) new
+        → (length new.contents ≡ length old.contents → IsFound key old k i × (new ≡ old))
+        × (length new.contents ≢ length old.contents → (first key old.contents k ≡ None)
+        × GrowsByForm key spelling old k w i new)
+    counted_form old new k w i step =
+        by-count (IsPushed key spelling k w) (first key old.contents k) old new i
+        (GrowsByForm key spelling old k w i new)
+        (λ h. (
+          rw h.contents.added (length-append old.contents (h.contents.copy ∷ [])),
+          form-grows old new k w i h,
+        )) step
 
 -- of the kinds whose key is the spelling as one item: all but paths
-module _ {C : Type 0} (key : C → Key) (spelling : C → List ℕ) (bytewise : (c : C) → key c ≡ spelling c ∷ []) where
-  keys-spelled : (cs : List C) → map key cs ≡ map (λ (w : List ℕ). w ∷ []) (map spelling cs)
-  keys-spelled [] = refl
-  keys-spelled (c ∷ cs) = rw (bytewise c, keys-spelled cs) refl
-
-  key-at : (cs : List C) (i : ℕ) (d : List ℕ) → get_or (map key cs) i (d ∷ []) ≡ get_or (map spelling cs) i d ∷ []
+module _ {C : Type 0} (key : C → Key) (spelling : C → List ℕ) (bytewise : (c : C) →
+    key c ≡ spelling c ∷ []) where
+  key-at : (cs : List C) (i : ℕ) (d : List ℕ) →
+      get_or (map key cs) i (d ∷ []) ≡ get_or (map spelling cs) i d ∷ []
   key-at [] i d = refl
   key-at (c ∷ cs) zero d = bytewise c
   key-at (c ∷ cs) (suc i) d = key-at cs i d
 
   -- a look-up finds a symbol exactly if a content has the spelling
-  pub found_spelled : (cs : List C) (w : List ℕ) → IsTrue (is_some (first key cs (w ∷ []))) ↔ Contains (map spelling cs) w
+  pub found_spelled : (cs : List C) (w : List ℕ) → IsTrue (is_some (first key cs (w ∷ []))) ↔
+      Contains (map spelling cs) w
   found_spelled cs w =
       let law = found_contains key cs (w ∷ []) in
-      let size : length (map key cs) ≡ length (map spelling cs) = length-map cs key ∙ sym (length-map cs spelling) in (
-        λ t. let c = law.0 t in let lt = c.1 in let e : get_or (map spelling cs) c.0 w ∷ [] ≡ w ∷ [] = sym (key-at cs c.0 w) ∙ c.2 in (c.0, omega arith, cc),
+      let size : length (map key cs) ≡ length (map spelling cs) =
+      length-map cs key ∙ sym (length-map cs spelling) in (
+        λ t. let c = law.0 t in let lt = c.1 in let e : get_or (map spelling cs) c.0 w ∷ [] ≡ w ∷ [] =
+            sym (key-at cs c.0 w) ∙ c.2 in (c.0, omega arith, cc),
         λ c. let lt = c.1 in law.1 (c.0, omega arith, key-at cs c.0 w ∙ ap (λ (v : List ℕ). v ∷ []) c.2),
       )
 
   -- a symbol has a spelling exactly if a look-up of the spelling finds this symbol
-  pub spelled_at : (s : State C) (w : List ℕ) (i : ℕ) → IsValid key s → (spelling_at spelling s i ≡ Some w) ↔ IsFound key s (w ∷ []) i
+  pub spelled_at : (s : State C) (w : List ℕ) (i : ℕ) → IsValid key s → (spelling_at spelling s i ≡ Some w) ↔
+      IsFound key s (w ∷ []) i
   spelled_at s w i valid = (
     λ read. below.spelling-found key spelling (λ (v : List ℕ). v ∷ []) s w i bytewise valid (sym read),
-    λ found. let is = found_stored key s (w ∷ []) i found in let same : spelling is.content ∷ [] ≡ w ∷ [] = sym (bytewise is.content) ∙ is.same_key in rw is.stands (cc),
+    λ found. let is = found_stored key s (w ∷ []) i found in let same : spelling is.content ∷ [] ≡ w ∷ [] =
+        sym (bytewise is.content) ∙ is.same_key in rw is.stands (cc),
   )
 
   -- the spellings of a table's contents are distinct
   pub spellings_differ : (s : State C) → IsValid key s → AllPairs (λ v w. v ≢ w) (map spelling s.contents)
   spellings_differ s valid = λ i j d lt below e.
-      let size : length (map key s.contents) ≡ length (map spelling s.contents) = length-map s.contents key ∙ sym (length-map s.contents spelling) in
-      valid.distinct i j (d ∷ []) lt (omega arith) (key-at s.contents i d ∙ ap (λ (v : List ℕ). v ∷ []) e ∙ sym (key-at s.contents j d))
+      let size : length (map key s.contents) ≡ length (map spelling s.contents) =
+      length-map s.contents key ∙ sym (length-map s.contents spelling) in
+      valid.distinct i j (d ∷ []) lt (omega arith) (key-at s.contents i d ∙ ap (λ (v : List ℕ). v ∷ []) e
+      ∙ sym (key-at s.contents j d))
 
   -- whether there are more contents says whether a text was there, and the list of the texts afterwards
-  pub counted_spelled : (old new : State C) (w : List ℕ) (i : ℕ) → InternsForm key spelling old (w ∷ []) w (Ok i) new
-      → (length new.contents ≡ length old.contents → Contains (map spelling old.contents) w × (new ≡ old)) × (length new.contents ≢ length old.contents → map spelling new.contents ≡ map spelling old.contents ++ w ∷ [])
+  pub counted_spelled : (old new : State C) (w : List ℕ) (i : ℕ) →
+      InternsForm key spelling old (w ∷ []) w (Ok i) new
+      → (length new.contents ≡ length old.contents → Contains (map spelling old.contents) w × (new ≡ old))
+      × (length new.contents ≢ length old.contents →
+      map spelling new.contents ≡ map spelling old.contents ++ w ∷ [])
   counted_spelled old new w i step =
-      let law = counted_form key spelling old new (w ∷ []) w i step in
-      (λ e. ((found_spelled old.contents w).0 (ap (λ (o : Option ℕ). is_some o) (law.0 e).0), (law.0 e).1), λ n. (law.1 n).1.spellings)
+      let law = counted_form key spelling old new (w ∷ []) w i step in (
+        λ e. ((found_spelled old.contents w).0 (ap (λ (o : Option ℕ). is_some o) (law.0 e).0), (law.0 e).1),
+        λ n. (law.1 n).1.spellings,
+      )

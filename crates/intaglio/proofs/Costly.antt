@@ -1,23 +1,28 @@
 -- What is no cost of a search or of an interning.
-use Rattle.std.proofs.Common.{◌≡◌, ◌≢◌, ℕ, suc, ◌+◌, ◌<◌, List, [], ◌∷◌, ◌++◌, length, All, length-append, refl, ap, arith}
+use Rattle.std.proofs.Common.{◌≡◌, ◌≢◌, ℕ, suc, ◌+◌, ◌<◌, List, [], ◌∷◌, ◌++◌, None, length, All, length-append, refl, ap, arith}
 use Rattle.std.specs.Prelude.{Contains}
 use Rattle.std.proofs.lemmas.List.Elements.{All-nil, All-cons, All-head, All-tail, All-same}
 use Rattle.intaglio_content.specs.Key.{Key}
 use Rattle.intaglio_content.specs.Work.{Event, hashed, compared, placed}
 use Rattle.intaglio_interner.specs.State.{State, AreDistinct}
-use Rattle.intaglio_interner.specs.Cost.{hashed_keys, sought_keys, stored_keys, placed_count, IsAddingCost}
-use Rattle.intaglio_run.proofs.Growth.{placed_count-append}
-use Rattle.intaglio_run.proofs.InOrder.{hashed_keys-append}
+use Rattle.intaglio_interner.specs.Cost.{hashed_keys, sought_keys, stored_keys, placed_count}
+use Rattle.intaglio_interner.proofs.Growth.{added-hashes, adding-places, placed_count-append}
+use Rattle.intaglio_interner.proofs.InOrder.{hashed_keys-append}
 use Rattle.intaglio.specs.Costly.{SearchesAreCheap, InterningsAreCheap}
 
 -- how many keys are hashed by events, one after the other
-hashings-sum : (a b : List Event) → length (hashed_keys (a ++ b)) ≡ length (hashed_keys a) + length (hashed_keys b)
+hashings-sum : (a b : List Event) →
+    length (hashed_keys (a ++ b)) ≡ length (hashed_keys a) + length (hashed_keys b)
 hashings-sum a b = rw (hashed_keys-append a b) (length-append (hashed_keys a) (hashed_keys b))
 
+-- events with two hashings among them have more than one hashed key
 two-hashings : (x y : Key) (a b c : List Event) → 1 < length (hashed_keys (a ++ hashed x ∷ b ++ hashed y ∷ c))
 two-hashings x y a b c =
-    let whole : length (hashed_keys (a ++ hashed x ∷ b ++ hashed y ∷ c)) ≡ length (hashed_keys (a ++ hashed x ∷ b)) + length (y ∷ hashed_keys c) = hashings-sum (a ++ hashed x ∷ b) (hashed y ∷ c) in
-    let begins : length (hashed_keys (a ++ hashed x ∷ b)) ≡ length (hashed_keys a) + length (x ∷ hashed_keys b) = hashings-sum a (hashed x ∷ b) in
+    let whole : length (hashed_keys (a ++ hashed x ∷ b ++ hashed y ∷ c))
+    ≡ length (hashed_keys (a ++ hashed x ∷ b)) + length (y ∷ hashed_keys c) =
+    hashings-sum (a ++ hashed x ∷ b) (hashed y ∷ c) in
+    let begins : length (hashed_keys (a ++ hashed x ∷ b)) ≡ length (hashed_keys a)
+    + length (x ∷ hashed_keys b) = hashings-sum a (hashed x ∷ b) in
     omega (arith, whole, begins)
 
 module _ (P : Key → Type 0) where
@@ -28,69 +33,77 @@ module _ (P : Key → Type 0) where
 
   sought-holds : (x y : Key) (a b : List Event) → All P (sought_keys (a ++ compared x y ∷ b)) → P x
   sought-holds x y [] b h = All-head P x (sought_keys b) h
-  sought-holds x y (compared k l ∷ a) b h = sought-holds x y a b (All-tail P k (sought_keys (a ++ compared x y ∷ b)) h)
+  sought-holds x y (compared k l ∷ a) b h =
+      sought-holds x y a b (All-tail P k (sought_keys (a ++ compared x y ∷ b)) h)
   sought-holds x y (_ ∷ a) b h = sought-holds x y a b h
 
   stored-holds : (x y : Key) (a b : List Event) → All P (stored_keys (a ++ compared x y ∷ b)) → P y
   stored-holds x y [] b h = All-head P y (stored_keys b) h
-  stored-holds x y (compared k l ∷ a) b h = stored-holds x y a b (All-tail P l (stored_keys (a ++ compared x y ∷ b)) h)
+  stored-holds x y (compared k l ∷ a) b h =
+      stored-holds x y a b (All-tail P l (stored_keys (a ++ compared x y ∷ b)) h)
   stored-holds x y (_ ∷ a) b h = stored-holds x y a b h
 
+-- where keys are distinct, the first one differs from all others
 pairs-head : (x : Key) (xs : List Key) → AreDistinct (x ∷ xs) → All (λ y. x ≢ y) xs
 pairs-head x xs h k d lt = h 0 (suc k) d (omega arith) (omega arith)
 
+-- where keys are distinct, those behind the first are distinct too
 pairs-tail : (x : Key) (xs : List Key) → AreDistinct (x ∷ xs) → AreDistinct xs
 pairs-tail x xs h i j d lt below = h (suc i) (suc j) d (omega arith) (omega arith)
 
-compared-once : (x x' y : Key) (a b c : List Event) → AreDistinct (stored_keys (a ++ compared x y ∷ b ++ compared x' y ∷ c)) → ⊥
+-- if the stored keys of comparisons are distinct, no stored key is compared twice
+compared-once : (x x' y : Key) (a b c : List Event) →
+    AreDistinct (stored_keys (a ++ compared x y ∷ b ++ compared x' y ∷ c)) → ⊥
 compared-once x x' y [] b c h =
-    absurd (stored-holds (λ (z : Key). y ≢ z) x' y b c (pairs-head y (stored_keys (b ++ compared x' y ∷ c)) h) refl)
+    absurd (stored-holds (λ (z : Key). y ≢ z) x' y b c (pairs-head y (stored_keys (b ++ compared x' y ∷ c)) h)
+    refl)
 compared-once x x' y (compared k l ∷ a) b c h =
     compared-once x x' y a b c (pairs-tail l (stored_keys (a ++ compared x y ∷ b ++ compared x' y ∷ c)) h)
 compared-once x x' y (_ ∷ a) b c h = compared-once x x' y a b c h
 
+-- among events with a placement, more than 0 placements are counted
 placed-one : (a b : List Event) → 0 < placed_count (a ++ placed ∷ b)
-placed-one a b = let sum : placed_count (a ++ placed ∷ b) ≡ placed_count a + (1 + placed_count b) = placed_count-append a (placed ∷ b) in omega (arith, sum)
+placed-one a b = let sum : placed_count (a ++ placed ∷ b) ≡ placed_count a + (1 + placed_count b) =
+    placed_count-append a (placed ∷ b) in omega (arith, sum)
 
-pub searches_are_cheap : (hash : Key → ℕ) (k : Key) (bucket : List Key) → SearchesAreCheap hash k bucket
-searches_are_cheap hash k bucket = record {
-  no_second_hashing = λ x y a b c is. absurd (omega (arith, two-hashings x y a b c, ap (λ (ks : List Key). length ks) is.hashings));
+-- a search hashes the sought key alone, and not twice, compares it in its bucket alone, and places no symbol
+pub searches-are-cheap : (hash : Key → ℕ) (k : Key) (bucket : List Key) → SearchesAreCheap hash k bucket
+searches-are-cheap hash k bucket = record {
+  no_second_hashing =
+      λ x y a b c is.
+      absurd (omega (arith, two-hashings x y a b c, ap (λ (ks : List Key). length ks) is.hashings));
   hashes_sought_key = λ x a b other is.
-      absurd (other (hashed-holds (λ (z : Key). z ≡ k) x a b (All-same (λ (z : Key). z ≡ k) _ (k ∷ []) is.hashings (All-cons (λ (z : Key). z ≡ k) k [] refl (All-nil (λ (z : Key). z ≡ k))))));
-  compares_sought_key = λ x y a b other is. absurd (other (sought-holds (λ (z : Key). z ≡ k) x y a b is.sought));
+      absurd (other
+      (hashed-holds (λ (z : Key). z ≡ k) x a b
+      (All-same (λ (z : Key). z ≡ k) _ (k ∷ []) is.hashings
+      (All-cons (λ (z : Key). z ≡ k) k [] refl (All-nil (λ (z : Key). z ≡ k))))));
+  compares_sought_key =
+      λ x y a b other is. absurd (other (sought-holds (λ (z : Key). z ≡ k) x y a b is.sought));
   stays_in_bucket = λ x y a b outside is. absurd (outside (stored-holds (Contains bucket) x y a b is.within));
-  compares_equal_hashes = λ x y a b other is. absurd (other (stored-holds (λ (z : Key). hash z ≡ hash k) x y a b is.equal_hashes));
+  compares_equal_hashes =
+      λ x y a b other is.
+      absurd (other (stored-holds (λ (z : Key). hash z ≡ hash k) x y a b is.equal_hashes));
   compares_once = λ x x' y a b c is. compared-once x x' y a b c is.once;
   places_nothing = λ a b is. absurd (omega (arith, placed-one a b, is.placements));
 }
 
 module _ {C : Type 0} (key : C → Key) (hash : Key → ℕ) (old : State C) (k : Key) (new : State C) where
-  adding-hashes : (cost : List Event) → IsAddingCost key hash old k new cost → length (hashed_keys cost) ≡ 1
-  adding-hashes cost is =
-      let parts : length (hashed_keys cost) ≡ length (hashed_keys (is.search ++ is.growth ++ placed ∷ [])) = ap (λ (ms : List Event). length (hashed_keys ms)) is.parts in
-      let whole : length (hashed_keys (is.search ++ is.growth ++ placed ∷ [])) ≡ length (hashed_keys (is.search ++ is.growth)) + 0 = hashings-sum (is.search ++ is.growth) (placed ∷ []) in
-      let begins : length (hashed_keys (is.search ++ is.growth)) ≡ length (hashed_keys is.search) + length (hashed_keys is.growth) = hashings-sum is.search is.growth in
-      let one : length (hashed_keys is.search) ≡ 1 = ap (λ (ks : List Key). length ks) is.searches.0.hashings in
-      let none : length (hashed_keys is.growth) ≡ 0 = ap (λ (ks : List Key). length ks) is.grows.hashings in
-      omega (arith, parts, whole, begins, one, none)
-
-  adding-places : (cost : List Event) (is : IsAddingCost key hash old k new cost) → placed_count cost ≡ placed_count is.growth + 1
-  adding-places cost is =
-      let parts : placed_count cost ≡ placed_count (is.search ++ is.growth ++ placed ∷ []) = ap (λ (ms : List Event). placed_count ms) is.parts in
-      let whole : placed_count (is.search ++ is.growth ++ placed ∷ []) ≡ placed_count (is.search ++ is.growth) + 1 = placed_count-append (is.search ++ is.growth) (placed ∷ []) in
-      let begins : placed_count (is.search ++ is.growth) ≡ placed_count is.search + placed_count is.growth = placed_count-append is.search is.growth in
-      let none : placed_count is.search ≡ 0 = is.searches.0.placements in
-      omega (arith, parts, whole, begins, none)
-
   pub internings_are_cheap : InterningsAreCheap key hash old k new
   internings_are_cheap = record {
-    no_second_hashing = λ x y a b c is. absurd (omega (arith, two-hashings x y a b c, adding-hashes _ is));
+    no_second_hashing =
+        λ x y a b c is.
+        absurd (omega (
+          arith,
+          two-hashings x y a b c,
+          ap (λ (ks : List Key). length ks) (added-hashes key hash None old new k _ is),
+        ));
     places_one = λ same cost is.
-        let none : placed_count is.growth ≡ 0 = ap (λ (ms : List Event). placed_count ms) (is.grows.only_growth same) in
-        let more : placed_count cost ≡ placed_count is.growth + 1 = adding-places cost is in
+        let none : placed_count is.growth ≡ 0 =
+        ap (λ (ms : List Event). placed_count ms) (is.grows.only_growth same) in
+        let more = adding-places key hash old new k cost is in
         omega (arith, more, none);
     places_each_again = λ grown cost is.
         let again : placed_count is.growth ≡ length old.contents = is.grows.placements grown in
-        let more : placed_count cost ≡ placed_count is.growth + 1 = adding-places cost is in
+        let more = adding-places key hash old new k cost is in
         omega (arith, more, again);
   }

@@ -19,13 +19,13 @@ mod text;
 
 pub use error::TableError;
 pub use intaglio_core::{
-    AddedTo, AllSymbols, BaseInterner, ByteStore, Content, ContentOf, Copied, CopiedTo, Core,
+    AddedTo, AllSymbols, BaseInterner, ByteStore, Call, Content, ContentOf, Copied, CopiedTo, Core,
     DEFAULT_SYMBOL_TABLE_CAPACITY, Forms, Index, IndexOf, Indexed, IndexedStore, InternError,
     Interner, Keyed, Kind, KindForm, KindOwned, Lends, LookedUpIn, Mark, Moved, Packable,
-    PackedForm, Pairs, RoomError, Sought, SoughtIn, Spelled, SpelledStore, Spells, StaleMark,
-    Store, Symbol, SymbolOverflowError, Work, check_all, get_or_intern_all, intern_all,
+    PackedForm, Pairs, Reply, RoomError, Sought, SoughtIn, Spelled, SpelledStore, Spells,
+    StaleMark, Store, Symbol, SymbolOverflowError, Work, check_all, get_or_intern_all, intern_all,
+    run,
 };
-pub use intaglio_run::{Call, Reply, run};
 pub use intaglio_text::StrContent;
 pub use table::{Table, TableOver};
 pub use text::{Iter, Strings, SymbolTable};

@@ -1,5 +1,5 @@
-//! Tables whose contents are in one buffer: of texts here, of the other kinds in [`bytes`], [`bstr`], [`osstr`]
-//! and [`path`].
+//! Tables whose contents are in one buffer: of texts here, of the other kinds in [`bytes`],
+//! [`bstr`], [`osstr`] and [`path`].
 //!
 //! They have the calls of the other tables that take or give a borrowed string, with the same contracts, and
 //! they take less memory, since a string has no allocation of its own. Each new string is copied. By default

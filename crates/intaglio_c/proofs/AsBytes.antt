@@ -11,15 +11,18 @@ use Rattle.intaglio_c.specs.Handles.{found}
 use Rattle.intaglio_c.proofs.Faults.{untested}
 
 -- a table whose state alone changed, as it is seen
-pub changed : {C : Type 0} (old : Seen) (kind : Kind) (bytes : C → List ℕ) (s s' : State C) (h h' : KeyedState) (Step : State (List ℕ) → State (List ℕ) → Type 0)
+pub changed : {C : Type 0} (old : Seen) (kind : Kind) (bytes : C → List ℕ) (s s' : State C)
+    (h h' : KeyedState) (Step : State (List ℕ) → State (List ℕ) → Type 0)
     → old ≡ seen_of kind bytes s h → h' ≡ h → Step (as_bytes bytes s) (as_bytes bytes s')
     → IsChangedBy old (seen_of kind bytes s' h') Step
 changed old kind bytes s s' h h' Step is same step =
-    subst (λ (x : Seen). IsChangedBy x (seen_of kind bytes s' h') Step) (sym is) (record { kind = refl; hasher = same; step = step })
+    subst (λ (x : Seen). IsChangedBy x (seen_of kind bytes s' h') Step) (sym is)
+    (record { kind = refl; hasher = same; step = step })
 
 module _ {C : Type 0} (bytes : C → List ℕ) where
   -- a rollback
-  pub taken_back : (old new : State C) (n : ℕ) (result : Result (Unit {0}) StaleMark) → TakesBack old n result new → TakesBack (as_bytes bytes old) n result (as_bytes bytes new)
+  pub taken_back : (old new : State C) (n : ℕ) (result : Result (Unit {0}) StaleMark) →
+      TakesBack old n result new → TakesBack (as_bytes bytes old) n result (as_bytes bytes new)
   taken_back old new n (Ok done) cut =
       let count = length-map old.contents bytes in let left = length-map new.contents bytes in record {
         within = subst (λ (m : ℕ). n ≤ m) (sym count) cut.within;
@@ -29,7 +32,8 @@ module _ {C : Type 0} (bytes : C → List ℕ) where
         buckets = cut.buckets;
         limit = cut.limit;
       }
-  taken_back old new n (Err stale) kept = (subst (λ (m : ℕ). m < n) (sym (length-map old.contents bytes)) kept.0, ap (as_bytes bytes) kept.1)
+  taken_back old new n (Err stale) kept =
+      (subst (λ (m : ℕ). m < n) (sym (length-map old.contents bytes)) kept.0, ap (as_bytes bytes) kept.1)
 
   -- an interning of what isn't stored
   refused : (old new : State C) → IsRefused old new → IsRefused (as_bytes bytes old) (as_bytes bytes new)
@@ -42,16 +46,24 @@ module _ {C : Type 0} (bytes : C → List ℕ) where
     limit = refusal.limit;
   }
 
-  out_of_memory : (copies : Bool) (old new : State C) → IsOutOfMemory copies old new → IsOutOfMemory copies (as_bytes bytes old) (as_bytes bytes new)
+  out_of_memory : (copies : Bool) (old new : State C) → IsOutOfMemory copies old new →
+      IsOutOfMemory copies (as_bytes bytes old) (as_bytes bytes new)
   out_of_memory false old new refusal = refused old new refusal
-  out_of_memory true old new (inl before) = inl (record { below_limit = subst (λ (m : ℕ). m < old.limit) (sym (length-map old.contents bytes)) before.below_limit; same = ap (as_bytes bytes) before.same })
+  out_of_memory true old new (inl before) =
+      inl (record {
+        below_limit =
+            subst (λ (m : ℕ). m < old.limit) (sym (length-map old.contents bytes)) before.below_limit;
+        same =
+            ap (as_bytes bytes) before.same;
+      })
   out_of_memory true old new (inr refusal) = inr (refused old new refusal)
 
   -- a list becomes one whose bytes are those before, with these behind them
   abbrev pub Adds : (List C → List C → Type 0) → List C → List ℕ → Type 0
   Adds adds cs b = (cs' : List C) → adds cs cs' → map bytes cs' ≡ map bytes cs ++ b ∷ []
 
-  added : (adds : List C → List C → Type 0) (copies : Bool) (old new : State C) (b : List ℕ) (result : Result ℕ InternError) → Adds adds old.contents b → AddsNew adds copies old result new
+  added : (adds : List C → List C → Type 0) (copies : Bool) (old new : State C) (b : List ℕ)
+      (result : Result ℕ InternError) → Adds adds old.contents b → AddsNew adds copies old result new
       → InternsNew copies b (as_bytes bytes old) (symbol_answer result) (as_bytes bytes new)
   added adds copies old new b (Ok symbol) grows taken =
       let count = length-map old.contents bytes in record {
@@ -62,47 +74,73 @@ module _ {C : Type 0} (bytes : C → List ℕ) where
         growth = λ grown. (count ∙ (taken.growth grown).0, (taken.growth grown).1);
         limit = taken.limit;
       }
-  added adds copies old new b (Err (Overflow full)) grows kept = (length-map old.contents bytes ∙ kept.0, ap (as_bytes bytes) kept.1)
+  added adds copies old new b (Err (Overflow full)) grows kept =
+      (length-map old.contents bytes ∙ kept.0, ap (as_bytes bytes) kept.1)
   added adds copies old new b (Err (Memory e)) grows failed = out_of_memory copies old new failed
 
   -- by the result of the look-up
-  by_look_up : (adds : List C → List C → Type 0) (copies : Bool) (o : Option ℕ) (old new : State C) (b : List ℕ) (result : Result ℕ InternError)
-      → Adds adds old.contents b → MatchOption o (AddsNew adds copies old result new) (λ i. (result ≡ Ok i) × (new ≡ old))
+  by_look_up : (adds : List C → List C → Type 0) (copies : Bool) (o : Option ℕ) (old new : State C)
+      (b : List ℕ) (result : Result ℕ InternError)
+      → Adds adds old.contents b →
+      MatchOption o (AddsNew adds copies old result new) (λ i. (result ≡ Ok i) × (new ≡ old))
       → InternsBy copies b (as_bytes bytes old) (Ok o) (symbol_answer result) (as_bytes bytes new)
   by_look_up adds copies None old new b result grows step = added adds copies old new b result grows step
-  by_look_up adds copies (Some i) old new b result grows step = (ap symbol_answer step.0, ap (as_bytes bytes) step.1)
+  by_look_up adds copies (Some i) old new b result grows step =
+      (ap symbol_answer step.0, ap (as_bytes bytes) step.1)
 
   -- a content that is moved in, and one that a form is copied to
   pub moved : (c : C) (cs : List C) (b : List ℕ) → bytes c ≡ b → Adds (IsMoved c) cs b
-  moved c cs b is cs' grown = ap (map bytes) grown ∙ map-append bytes cs (c ∷ []) ∙ ap (λ (x : List ℕ). map bytes cs ++ x ∷ []) is
+  moved c cs b is cs' grown = ap (map bytes) grown ∙ map-append bytes cs (c ∷ [])
+      ∙ ap (λ (x : List ℕ). map bytes cs ++ x ∷ []) is
 
-  pub pushed : (content_key : C → Key) (k : Key) (w : List ℕ) (cs : List C) (b : List ℕ) → w ≡ b → Adds (IsPushed content_key bytes k w) cs b
+  pub pushed : (content_key : C → Key) (k : Key) (w : List ℕ) (cs : List C) (b : List ℕ) → w ≡ b →
+      Adds (IsPushed content_key bytes k w) cs b
   pushed content_key k w cs b is cs' one = moved one.copy cs b (one.same_spelling ∙ is) cs' one.added
 
 -- a kind whose contents have their bytes' keys
-module _ {C : Type 0} (kind : Kind) (bytes : C → List ℕ) (content_key : C → Key) (same : (c : C) → content_key c ≡ key kind (bytes c)) where
+module _ {C : Type 0} (kind : Kind) (bytes : C → List ℕ) (content_key : C → Key) (same : (c : C) →
+    content_key c ≡ key kind (bytes c)) where
   keys : (cs : List C) → map content_key cs ≡ map (key kind) (map bytes cs)
   keys [] = refl
   keys (c ∷ cs) = λ i. same c i ∷ keys cs i
 
-  place : (cs : List C) (b : List ℕ) (k : Key) → k ≡ key kind b → first content_key cs k ≡ first (key kind) (map bytes cs) (key kind b)
-  place cs b k spelled = ap (λ (ks : List Key). first_of ks k) (keys cs) ∙ ap (first (key kind) (map bytes cs)) spelled
+  place : (cs : List C) (b : List ℕ) (k : Key) → k ≡ key kind b →
+      first content_key cs k ≡ first (key kind) (map bytes cs) (key kind b)
+  place cs b k spelled = ap (λ (ks : List Key). first_of ks k) (keys cs)
+      ∙ ap (first (key kind) (map bytes cs)) spelled
 
   -- a look-up
-  pub finds : (old : Seen) (held : State C) (h : KeyedState) (b : List ℕ) (sought : Key) (result : Option ℕ) → old ≡ seen_of kind bytes held h → has_key old.kind b ≡ true → sought ≡ key kind b → result ≡ first content_key held.contents sought
+  pub finds : (old : Seen) (held : State C) (h : KeyedState) (b : List ℕ) (sought : Key) (result : Option ℕ) →
+      old ≡ seen_of kind bytes held h → has_key old.kind b ≡ true → sought ≡ key kind b →
+      result ≡ first content_key held.contents sought
       → IsFaultless old → result ≡ found (look_up old b)
   finds old held h b sought result is some spelled answer faultless =
-      answer ∙ place held.contents b sought spelled ∙ sym (ap (λ (x : Seen). position x b) is) ∙ untested old b faultless some
+      answer ∙ place held.contents b sought spelled ∙ sym (ap (λ (x : Seen). position x b) is)
+      ∙ untested old b faultless some
 
   -- an interning
-  pub interned : (copies : Kind → Bool) (adds : List C → List C → Type 0) (old : Seen) (held : State C) (h : KeyedState) (t' : Table C KeyedState) (b : List ℕ) (k : Key) (result : Result ℕ InternError) (answer : Result ℕ Refusal)
-      → old ≡ seen_of kind bytes held h → t'.hasher ≡ h → fault old.kind b ≡ None → k ≡ key kind b → Adds bytes adds held.contents b → InternsValue content_key adds (copies kind) held k result t'.state → answer ≡ symbol_answer result
-      → IsChangedBy old (seen_of kind bytes t'.state t'.hasher) (λ _ s'. InternsBy (copies old.kind) b old.state (look_up old b) answer s')
+  pub interned : (copies : Kind → Bool) (adds : List C → List C → Type 0) (old : Seen) (held : State C)
+      (h : KeyedState) (t' : Table C KeyedState) (b : List ℕ) (k : Key) (result : Result ℕ InternError)
+      (answer : Result ℕ Refusal)
+      → old ≡ seen_of kind bytes held h → t'.hasher ≡ h → fault old.kind b ≡ None → k ≡ key kind b →
+      Adds bytes adds held.contents b → InternsValue content_key adds (copies kind) held k result t'.state →
+      answer ≡ symbol_answer result
+      → IsChangedBy old (seen_of kind bytes t'.state t'.hasher)
+      (λ _ s'. InternsBy (copies old.kind) b old.state (look_up old b) answer s')
   interned copies adds old held h t' b k result answer is hasher allowed spelled grows step answered =
       let s = as_bytes bytes held in let s' = as_bytes bytes t'.state in let given = symbol_answer result in
-      let looked_up = by_look_up bytes adds (copies kind) (first content_key held.contents k) held t'.state b result grows step in
-      let placed = subst (λ (o : Option ℕ). InternsBy (copies kind) b s (Ok o) given s') (place held.contents b k spelled) looked_up in
-      let tested = subst (λ (f : Option Refusal). InternsBy (copies kind) b s (unless f (position (seen_of kind bytes held h) b)) given s') (sym (subst (λ (x : Seen). fault x.kind b ≡ None) is allowed)) placed in
-      subst (λ (a : Result ℕ Refusal). IsChangedBy old (seen_of kind bytes t'.state t'.hasher) (λ _ x. InternsBy (copies old.kind) b old.state (look_up old b) a x)) (sym answered)
-      (changed old kind bytes held t'.state h t'.hasher (λ _ x. InternsBy (copies old.kind) b old.state (look_up old b) given x) is hasher
+      let looked_up = by_look_up bytes adds (copies kind) (first content_key held.contents k) held t'.state b
+      result grows step in
+      let placed =
+      subst (λ (o : Option ℕ). InternsBy (copies kind) b s (Ok o) given s')
+      (place held.contents b k spelled) looked_up in
+      let tested =
+      subst (λ (f : Option Refusal).
+      InternsBy (copies kind) b s (unless f (position (seen_of kind bytes held h) b)) given s')
+      (sym (subst (λ (x : Seen). fault x.kind b ≡ None) is allowed)) placed in
+      subst (λ (a : Result ℕ Refusal).
+      IsChangedBy old (seen_of kind bytes t'.state t'.hasher)
+      (λ _ x. InternsBy (copies old.kind) b old.state (look_up old b) a x)) (sym answered)
+      (changed old kind bytes held t'.state h t'.hasher
+      (λ _ x. InternsBy (copies old.kind) b old.state (look_up old b) given x) is hasher
       (subst (λ (x : Seen). InternsBy (copies x.kind) b x.state (look_up x b) given s') (sym is) tested))

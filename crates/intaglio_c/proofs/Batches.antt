@@ -5,12 +5,13 @@ use Rattle.std.proofs.lemmas.List.Folds.{concat-append}
 use borrow.Rule.Slice.PartMut.{put_mid}
 use Rattle.intaglio_interner.proofs.Laws.{interned_all-found}
 use Rattle.intaglio_interner.proofs.Held.{interned_all-append, interned_all-longer, issue_from-append}
-use Rattle.intaglio_c.proofs.Faults.{one_more}
+use Rattle.intaglio_c.proofs.Faults.{one-more}
 use Rattle.intaglio_c.proofs.Pieces.{drop_there, take_there}
 use Rattle.intaglio_c.specs.declared.refusal.Refusal.TheVariants as refusal
 
 -- the capacity after one interning
-taken-capacity : (s s' : State (List ℕ)) (string : List ℕ) (symbol : ℕ) → IsAppended s string symbol s' → length s.contents + s.spare ≤ length s'.contents + s'.spare
+taken-capacity : (s s' : State (List ℕ)) (string : List ℕ) (symbol : ℕ) → IsAppended s string symbol s' →
+    length s.contents + s.spare ≤ length s'.contents + s'.spare
 taken-capacity s s' string symbol taken = by_room s.spare refl
   where
     count : length s'.contents ≡ length s.contents + 1
@@ -20,40 +21,71 @@ taken-capacity s s' string symbol taken = by_room s.spare refl
     by_room zero e = omega (arith, count, e)
     by_room (suc n) e = omega (arith, count, (taken.spare (omega (arith, e))).0)
 
+-- if the state stays the same, the capacity isn't lower
 same-capacity : (s s' : State (List ℕ)) → s' ≡ s → length s.contents + s.spare ≤ length s'.contents + s'.spare
-same-capacity s s' same = subst (λ (x : State (List ℕ)). length s.contents + s.spare ≤ length x.contents + x.spare) (sym same) (le_refl _)
+same-capacity s s' same =
+    subst (λ (x : State (List ℕ)). length s.contents + s.spare ≤ length x.contents + x.spare) (sym same)
+    (le_refl _)
 
 -- one interning of a batch
-accepted-by : (fault : Option Refusal) (o : Option ℕ) (s s' : State (List ℕ)) (string : List ℕ) (symbol : ℕ) → InternsBy true string s (unless fault o) (Ok symbol) s'
-    → (fault ≡ None) × (symbol ≡ unwrap_or o (length s.contents)) × (s'.contents ≡ cond (is_some o) s.contents (s.contents ++ string ∷ [])) × (length s.contents + s.spare ≤ length s'.contents + s'.spare) × (s'.limit ≡ s.limit)
-accepted-by None None s s' string symbol taken = (refl, taken.position, taken.contents, taken-capacity s s' string symbol taken, taken.limit)
-accepted-by None (Some i) s s' string symbol known = (refl, IfOk-at_ok (λ n. symbol ≡ n) known.0 refl, ap (λ (x : State (List ℕ)). x.contents) known.1, same-capacity s s' known.1, ap (λ (x : State (List ℕ)). x.limit) known.1)
+accepted-by : (fault : Option Refusal) (o : Option ℕ) (s s' : State (List ℕ)) (string : List ℕ) (symbol : ℕ) →
+    InternsBy true string s (unless fault o) (Ok symbol) s'
+    → (fault ≡ None) × (symbol ≡ unwrap_or o (length s.contents))
+    × (s'.contents ≡ cond (is_some o) s.contents (s.contents ++ string ∷ []))
+    × (length s.contents + s.spare ≤ length s'.contents + s'.spare) × (s'.limit ≡ s.limit)
+accepted-by None None s s' string symbol taken =
+    (refl, taken.position, taken.contents, taken-capacity s s' string symbol taken, taken.limit)
+accepted-by None (Some i) s s' string symbol known = (
+  refl,
+  IfOk-at_ok (λ n. symbol ≡ n) known.0 refl,
+  ap (λ (x : State (List ℕ)). x.contents) known.1,
+  same-capacity s s' known.1,
+  ap (λ (x : State (List ℕ)). x.limit) known.1,
+)
 accepted-by (Some r) o s s' string symbol refused = absurd (IfErr-at_err (λ _. ⊥) refused.0 tt)
 
 -- one that fails
 unchanged : (s s' : State (List ℕ)) → s' ≡ s → IsRolledBack s s'
-unchanged s s' same = record { contents = ap (λ (x : State (List ℕ)). x.contents) same; capacity = same-capacity s s' same; limit = ap (λ (x : State (List ℕ)). x.limit) same }
+unchanged s s' same = record {
+  contents = ap (λ (x : State (List ℕ)). x.contents) same;
+  capacity =
+      same-capacity s s' same;
+  limit = ap (λ (x : State (List ℕ)). x.limit) same;
+}
 
-kept-by : (f : Option Refusal) (o : Option ℕ) (s s' : State (List ℕ)) (string : List ℕ) (r : Refusal) → InternsBy true string s (unless f o) (Err r) s' → IsRolledBack s s'
+-- if interning a string by a copy fails, the strings and the limit stay, and the capacity isn't lower
+kept-by : (f : Option Refusal) (o : Option ℕ) (s s' : State (List ℕ)) (string : List ℕ) (r : Refusal) →
+    InternsBy true string s (unless f o) (Err r) s' → IsRolledBack s s'
 kept-by None None s s' string refusal.Full full = unchanged s s' full.1
 kept-by None None s s' string refusal.NoMemory (inl kept) = unchanged s s' kept.same
-kept-by None None s s' string refusal.NoMemory (inr kept) = record { contents = kept.contents; capacity = omega (arith, ap length kept.contents, kept.spare); limit = kept.limit }
+kept-by None None s s' string refusal.NoMemory (inr kept) =
+    record {
+      contents = kept.contents;
+      capacity = omega (arith, ap length kept.contents, kept.spare);
+      limit =
+          kept.limit;
+    }
 kept-by None None s s' string _ never = absurd never
 kept-by None (Some i) s s' string r known = unchanged s s' known.1
 kept-by (Some f) o s s' string r refused = unchanged s s' refused.1
 
 -- what is held stays in front of what is interned
-front : (kind : Kind) (n : ℕ) (held strings : List (List ℕ)) → n ≤ length held → take n (interned_all (key kind) held strings) ≡ take n held
+front : (kind : Kind) (n : ℕ) (held strings : List (List ℕ)) → n ≤ length held →
+    take n (interned_all (key kind) held strings) ≡ take n held
 front kind n held [] within = refl
 front kind n held (string ∷ strings) within =
     let one = by_known (is_some (first (key kind) held (key kind string))) in
     front kind n (interned (key kind) held string) strings one.0 ∙ one.1
   where
-    by_known : (b : Bool) → (n ≤ length (cond b held (held ++ string ∷ []))) × (take n (cond b held (held ++ string ∷ [])) ≡ take n held)
+    by_known : (b : Bool) → (n ≤ length (cond b held (held ++ string ∷ [])))
+        × (take n (cond b held (held ++ string ∷ [])) ≡ take n held)
     by_known true = (within, refl)
-    by_known false = (omega (arith, within, length-append held (string ∷ [])), take-append-le n held (string ∷ []) within)
+    by_known false =
+        (omega (arith, within, length-append held (string ∷ [])), take-append-le n held (string ∷ []) within)
 
-begun : (t : Seen) (strings : List (List ℕ)) (symbols : List ℕ) (s s' : State (List ℕ)) → AreInterned t strings symbols s → IsRolledBack s s' → IsBegun t.state s'
+-- after strings are interned, a state with these contents and no less capacity begins with what was held
+begun : (t : Seen) (strings : List (List ℕ)) (symbols : List ℕ) (s s' : State (List ℕ)) →
+    AreInterned t strings symbols s → IsRolledBack s s' → IsBegun t.state s'
 begun t strings symbols s s' all kept =
     let held = t.state.contents in
     let are : s'.contents ≡ interned_all (key t.kind) held strings = kept.contents ∙ all.contents in record {
@@ -68,39 +100,53 @@ module _ (t0 : Seen) (strings : List (List ℕ)) where
   abbrev pub Begins : Seen → ℕ → List ℕ → Type 0
   Begins t n issued = IsChangedBy t0 t (λ _ s'. AreInterned t0 (take n strings) issued s')
 
-  pub turned : (t t' : Seen) (symbols : List ℕ) (i symbol : ℕ) (string : List ℕ) (result : Result ℕ Refusal) → slice_get strings i ≡ Some string → length symbols ≡ length strings → Begins t i (take i symbols)
+  pub turned : (t t' : Seen) (symbols : List ℕ) (i symbol : ℕ) (string : List ℕ) (result : Result ℕ Refusal) →
+      slice_get strings i ≡ Some string → length symbols ≡ length strings → Begins t i (take i symbols)
       → result ≡ Ok symbol → IsChangedBy t t' (λ _ s'. Interns string t result s')
       → Begins t' (i + 1) (take (i + 1) (set symbols i symbol))
   turned t t' symbols i symbol string result there places begins ok step =
       let k = key t0.kind in let held = t0.state.contents in let one = string ∷ [] in let all = begins.step in
       let more = take_there strings i string there in
-      let taken = accepted-by (fault t.kind string) (position t string) t.state t'.state string symbol (subst (λ (r : Result ℕ Refusal). Interns string t r t'.state) ok step.step) in
-      let none : fault t0.kind string ≡ None = subst (λ (x : Kind). fault x string ≡ None) begins.kind taken.0 in
-      let issue : symbol ≡ issued k t.state.contents string = subst (λ (x : Kind). symbol ≡ issued (key x) t.state.contents string) begins.kind taken.1 in
-      let grown : t'.state.contents ≡ interned k t.state.contents string = subst (λ (x : Kind). t'.state.contents ≡ interned (key x) t.state.contents string) begins.kind taken.2 in
+      let taken = accepted-by (fault t.kind string) (position t string) t.state t'.state string symbol
+      (subst (λ (r : Result ℕ Refusal). Interns string t r t'.state) ok step.step) in
+      let none : fault t0.kind string ≡ None =
+      subst (λ (x : Kind). fault x string ≡ None) begins.kind taken.0 in
+      let issue : symbol ≡ issued k t.state.contents string =
+      subst (λ (x : Kind). symbol ≡ issued (key x) t.state.contents string) begins.kind taken.1 in
+      let grown : t'.state.contents ≡ interned k t.state.contents string =
+      subst (λ (x : Kind). t'.state.contents ≡ interned (key x) t.state.contents string)
+      begins.kind taken.2 in
       let given : take (i + 1) (set symbols i symbol) ≡ issue_from k held (take (i + 1) strings) =
-      take_more_set symbols i symbol (omega (arith, slice_get_within strings i string there, places)) ∙ (λ j. all.symbols j ++ (issue ∙ ap (λ (cs : List (List ℕ)). issued k cs string) all.contents) j ∷ [])
+      take_more_set symbols i symbol (omega (arith, slice_get_within strings i string there, places))
+      ∙ (λ j. all.symbols j ++ (issue ∙ ap (λ (cs : List (List ℕ)). issued k cs string) all.contents) j
+      ∷ [])
       ∙ sym (issue_from-append k held (take i strings) one) ∙ ap (issue_from k held) (sym more) in
       let after : t'.state.contents ≡ interned_all k held (take (i + 1) strings) =
-      grown ∙ ap (λ (cs : List (List ℕ)). interned k cs string) all.contents ∙ sym (interned_all-append k held (take i strings) one) ∙ ap (interned_all k held) (sym more) in record {
+      grown ∙ ap (λ (cs : List (List ℕ)). interned k cs string) all.contents
+      ∙ sym (interned_all-append k held (take i strings) one) ∙ ap (interned_all k held) (sym more) in
+      record {
         kind = step.kind ∙ begins.kind;
         hasher = step.hasher ∙ begins.hasher;
         step = record {
-          faultless = ap (first_fault t0.kind) more ∙ one_more t0.kind (take i strings) string all.faultless none;
+          faultless =
+              ap (first_fault t0.kind) more ∙ one-more t0.kind (take i strings) string all.faultless none;
           symbols = given;
           contents = after;
           found = interned_all-found k t0.state t'.state (take (i + 1) strings) _ given after;
-          kept = ap (take (length held)) after ∙ front t0.kind (length held) held (take (i + 1) strings) (le_refl _) ∙ take-length held;
+          kept = ap (take (length held)) after
+              ∙ front t0.kind (length held) held (take (i + 1) strings) (le_refl _) ∙ take-length held;
           capacity = omega (arith, all.capacity, taken.3);
           limit = taken.4 ∙ all.limit;
         };
       }
 
-  pub stopped : (t t' : Seen) (issued symbols : List ℕ) (i : ℕ) (string : List ℕ) (refusal : Refusal) (result : Result ℕ Refusal) → slice_get strings i ≡ Some string → Begins t i issued
+  pub stopped : (t t' : Seen) (issued symbols : List ℕ) (i : ℕ) (string : List ℕ) (refusal : Refusal)
+      (result : Result ℕ Refusal) → slice_get strings i ≡ Some string → Begins t i issued
       → result ≡ Err refusal → IsChangedBy t t' (λ _ s'. Interns string t result s')
       → IsChangedBy t0 t' (λ _ s'. InternsOr IsBegun strings symbols t0 (Err refusal) s')
   stopped t t' issued symbols i string refusal result there begins err step =
-      let failed : Interns string t (Err refusal) t'.state = subst (λ (r : Result ℕ Refusal). Interns string t r t'.state) err step.step in record {
+      let failed : Interns string t (Err refusal) t'.state =
+      subst (λ (r : Result ℕ Refusal). Interns string t r t'.state) err step.step in record {
         kind = step.kind ∙ begins.kind;
         hasher = step.hasher ∙ begins.hasher;
         step = (
@@ -108,29 +154,40 @@ module _ (t0 : Seen) (strings : List (List ℕ)) where
             before = take i strings;
             string = string;
             behind = drop (i + 1) strings;
-            are = sym (take-append-drop i strings) ∙ ap (λ (x : List (List ℕ)). take i strings ++ x) (drop_there strings i string there);
+            are = sym (take-append-drop i strings)
+                ∙ ap (λ (x : List (List ℕ)). take i strings ++ x) (drop_there strings i string there);
             faultless = begins.step.faultless;
             reached = t.state;
             contents = begins.step.contents;
             limit = begins.step.limit;
             left = t'.state;
-            alone = subst (λ (x : Kind). Interns string (record { kind = x; state = t.state; hasher = t0.hasher }) (Err refusal) t'.state) begins.kind failed;
+            alone = subst (λ (x : Kind).
+                Interns string (record { kind = x; state = t.state; hasher = t0.hasher }) (Err refusal)
+                t'.state) begins.kind failed;
           },
-          begun t0 (take i strings) issued t.state t'.state begins.step (kept-by (fault t.kind string) (position t string) t.state t'.state string refusal failed),
+          begun t0 (take i strings) issued t.state t'.state begins.step
+              (kept-by (fault t.kind string) (position t string) t.state t'.state string refusal failed),
         );
       }
 
-  pub finished : (t : Seen) (symbols : List ℕ) (i : ℕ) → length strings ≤ i → length symbols ≡ length strings → Begins t i (take i symbols) → IsChangedBy t0 t (λ _ s'. InternsOr IsBegun strings symbols t0 (Ok tt) s')
+  pub finished : (t : Seen) (symbols : List ℕ) (i : ℕ) → length strings ≤ i →
+      length symbols ≡ length strings → Begins t i (take i symbols) →
+      IsChangedBy t0 t (λ _ s'. InternsOr IsBegun strings symbols t0 (Ok tt) s')
   finished t symbols i end places all =
-      subst (λ (ws : List (List ℕ)). IsChangedBy t0 t (λ _ s'. AreInterned t0 ws symbols s')) (take_all i strings end)
-      (subst (λ (ns : List ℕ). IsChangedBy t0 t (λ _ s'. AreInterned t0 (take i strings) ns s')) (take_all i symbols (omega (arith, end, places))) all)
+      subst (λ (ws : List (List ℕ)). IsChangedBy t0 t (λ _ s'. AreInterned t0 ws symbols s'))
+      (take_all i strings end)
+      (subst (λ (ns : List ℕ). IsChangedBy t0 t (λ _ s'. AreInterned t0 (take i strings) ns s'))
+      (take_all i symbols (omega (arith, end, places))) all)
 
 -- the strings of symbols
-ends_from-append : (n : ℕ) (xs ys : List (List ℕ)) → ends_from n (xs ++ ys) ≡ ends_from n xs ++ ends_from (n + length (concat xs)) ys
+ends_from-append : (n : ℕ) (xs ys : List (List ℕ)) →
+    ends_from n (xs ++ ys) ≡ ends_from n xs ++ ends_from (n + length (concat xs)) ys
 ends_from-append n [] ys = ap (λ (k : ℕ). ends_from k ys) (omega arith)
 ends_from-append n (x ∷ xs) ys =
-    let place : n + length x + length (concat xs) ≡ n + length (x ++ concat xs) = omega (arith, length-append x (concat xs)) in
-    ap (λ (zs : List ℕ). (n + length x) ∷ zs) (ends_from-append (n + length x) xs ys ∙ ap (λ (k : ℕ). ends_from (n + length x) xs ++ ends_from k ys) place)
+    let place : n + length x + length (concat xs) ≡ n + length (x ++ concat xs) =
+    omega (arith, length-append x (concat xs)) in
+    ap (λ (zs : List ℕ). (n + length x) ∷ zs) (ends_from-append (n + length x) xs ys
+    ∙ ap (λ (k : ℕ). ends_from (n + length x) xs ++ ends_from k ys) place)
 
 module _ (contents : List (List ℕ)) (old : List ℕ) where
   -- a copy on its way: the strings of these symbols are at the front of the buffer
@@ -143,50 +200,89 @@ module _ (contents : List (List ℕ)) (old : List ℕ) where
     pub written : ends ≡ ends_from 0 done
 
   size : (symbols new ends : List ℕ) (start : ℕ) → IsCopied symbols new start ends → length new ≡ length old
-  size symbols new ends start at = omega (arith, ap length at.buffer, length-append (concat at.done) (drop start old), at.place, length-drop start old, at.within)
+  size symbols new ends start at =
+      omega (
+        arith,
+        ap length at.buffer,
+        length-append (concat at.done) (drop start old),
+        at.place,
+        length-drop start old,
+        at.within,
+      )
 
   -- one string more is stored
-  stored_more : (symbols new ends : List ℕ) (start i : ℕ) (string : List ℕ) → i < length symbols → (at : IsCopied (take i symbols) new start ends) → slice_get contents (get_or symbols i 0) ≡ Some string
+  stored_more : (symbols new ends : List ℕ) (start i : ℕ) (string : List ℕ) → i < length symbols →
+      (at : IsCopied (take i symbols) new start ends) → slice_get contents (get_or symbols i 0) ≡ Some string
       → AreStored contents (take (i + 1) symbols) (at.done ++ string ∷ [])
   stored_more symbols new ends start i string inside at there =
-      ap (map (slice_get contents)) (take_more symbols i 0 inside) ∙ map_push (slice_get contents) (take i symbols) (get_or symbols i 0) ∙ (λ j. at.stored j ++ there j ∷ []) ∙ sym (map_push Some at.done string)
+      ap (map (slice_get contents)) (take_more symbols i 0 inside)
+      ∙ map_push (slice_get contents) (take i symbols) (get_or symbols i 0)
+      ∙ (λ j. at.stored j ++ there j ∷ []) ∙ sym (map_push Some at.done string)
 
-  concat_more : (done : List (List ℕ)) (string : List ℕ) → concat (done ++ string ∷ []) ≡ concat done ++ string
-  concat_more done string = concat-append done (string ∷ []) ∙ ap (λ (x : List ℕ). concat done ++ x) (append-nil string)
+  concat_more : (done : List (List ℕ)) (string : List ℕ) →
+      concat (done ++ string ∷ []) ≡ concat done ++ string
+  concat_more done string =
+      concat-append done (string ∷ []) ∙ ap (λ (x : List ℕ). concat done ++ x) (append-nil string)
 
-  pub too_short : (symbols new ends : List ℕ) (start i : ℕ) (string : List ℕ) → i < length symbols → IsCopied (take i symbols) new start ends → slice_get contents (get_or symbols i 0) ≡ Some string
+  pub too_short : (symbols new ends : List ℕ) (start i : ℕ) (string : List ℕ) → i < length symbols →
+      IsCopied (take i symbols) new start ends → slice_get contents (get_or symbols i 0) ≡ Some string
       → length new - start < length string
-      → (n : ℕ) × (strings : List (List ℕ)) × AreStored contents (take n symbols) strings × (length old < length (concat strings))
+      → (n : ℕ) × (strings : List (List ℕ)) × AreStored contents (take n symbols) strings
+      × (length old < length (concat strings))
   too_short symbols new ends start i string inside at there less = (
     i + 1,
     at.done ++ string ∷ [],
     stored_more symbols new ends start i string inside at there,
-    omega (arith, less, size _ _ _ _ at, at.place, at.within, ap length (concat_more at.done string), length-append (concat at.done) string),
+    omega (
+      arith,
+      less,
+      size _ _ _ _ at,
+      at.place,
+      at.within,
+      ap length (concat_more at.done string),
+      length-append (concat at.done) string,
+    ),
   )
 
-  pub copied_more : (symbols new ends written : List ℕ) (start i : ℕ) (string : List ℕ) → i < length symbols → i < length ends → IsCopied (take i symbols) new start (take i ends) → slice_get contents (get_or symbols i 0) ≡ Some string
+  pub copied_more : (symbols new ends written : List ℕ) (start i : ℕ) (string : List ℕ) → i < length symbols →
+      i < length ends → IsCopied (take i symbols) new start (take i ends) →
+      slice_get contents (get_or symbols i 0) ≡ Some string
       → start + length string ≤ length new → written ≡ string
-      → IsCopied (take (i + 1) symbols) (put_mid start (start + length string - start) new written) (start + length string) (take (i + 1) (set ends i (start + length string)))
+      → IsCopied (take (i + 1) symbols) (put_mid start (start + length string - start) new written)
+      (start + length string) (take (i + 1) (set ends i (start + length string)))
   copied_more symbols new ends written start i string inside inside' at there fits same =
       let end = start + length string in let rest = drop end old in
       let more = concat_more at.done string in
-      let front : take start new ≡ concat at.done = ap (take start) at.buffer ∙ take_at (concat at.done) (drop start old) start (omega (arith, at.place)) in
-      let left : drop start new ≡ drop start old = ap (drop start) at.buffer ∙ drop_at (concat at.done) (drop start old) start (omega (arith, at.place)) in
+      let front : take start new ≡ concat at.done = ap (take start) at.buffer
+      ∙ take_at (concat at.done) (drop start old) start (omega (arith, at.place)) in
+      let left : drop start new ≡ drop start old = ap (drop start) at.buffer
+      ∙ drop_at (concat at.done) (drop start old) start (omega (arith, at.place)) in
       let sum : start + (end - start) ≡ end = omega arith in
-      let back : drop (end - start) (drop start new) ≡ rest = ap (drop (end - start)) left ∙ drop-drop (end - start) start old ∙ ap (λ (n : ℕ). drop n old) sum in
+      let back : drop (end - start) (drop start new) ≡ rest =
+      ap (drop (end - start)) left ∙ drop-drop (end - start) start old ∙ ap (λ (n : ℕ). drop n old) sum in
       let ending : end ≡ 0 + length (concat at.done) + length string = omega (arith, at.place) in record {
         done = at.done ++ string ∷ [];
         stored = stored_more symbols new _ start i string inside at there;
         place = omega (arith, at.place, ap length more, length-append (concat at.done) string);
         within = omega (arith, fits, size _ _ _ _ at);
-        buffer = (λ j. front j ++ (same j ++ back j)) ∙ sym (append_assoc (concat at.done) string rest) ∙ ap (λ (x : List ℕ). x ++ rest) (sym more);
-        written = take_more_set ends i end inside' ∙ (λ j. at.written j ++ end ∷ []) ∙ ap (λ (n : ℕ). ends_from 0 at.done ++ n ∷ []) ending ∙ sym (ends_from-append 0 at.done (string ∷ []));
+        buffer = (λ j. front j ++ (same j ++ back j)) ∙ sym (append_assoc (concat at.done) string rest)
+            ∙ ap (λ (x : List ℕ). x ++ rest) (sym more);
+        written = take_more_set ends i end inside' ∙ (λ j. at.written j ++ end ∷ [])
+            ∙ ap (λ (n : ℕ). ends_from 0 at.done ++ n ∷ []) ending
+            ∙ sym (ends_from-append 0 at.done (string ∷ []));
       }
 
-  pub all_copied : (symbols new ends : List ℕ) (start i : ℕ) → length symbols ≤ i → length ends ≡ length symbols → IsCopied (take i symbols) new start (take i ends)
+  pub all_copied : (symbols new ends : List ℕ) (start i : ℕ) → length symbols ≤ i →
+      length ends ≡ length symbols → IsCopied (take i symbols) new start (take i ends)
       → (strings : List (List ℕ)) × AreStored contents symbols strings × AreCopied strings old new ends
   all_copied symbols new ends start i end places at = (
     at.done,
     ap (map (slice_get contents)) (sym (take_all i symbols end)) ∙ at.stored,
-    record { within = omega (arith, at.place, at.within); buffer = at.buffer ∙ ap (λ (n : ℕ). concat at.done ++ drop n old) at.place; ends = sym (take_all i ends (omega (arith, end, places))) ∙ at.written },
+    record {
+      within = omega (arith, at.place, at.within);
+      buffer = at.buffer
+          ∙ ap (λ (n : ℕ). concat at.done ++ drop n old) at.place;
+      ends =
+          sym (take_all i ends (omega (arith, end, places))) ∙ at.written;
+    },
   )

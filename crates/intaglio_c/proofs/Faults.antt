@@ -1,11 +1,10 @@
 -- Which bytes a kind doesn't take.
-use Rattle.intaglio_c.proofs.Names.{◌∙◌, Bool, ◌≡◌, ℕ, zero, suc, ◌+◌, ◌-◌, ◌<◌, true, false, List, [], ◌∷◌, ◌++◌, length, take, refl, sym, ap, arith, cond, inl, inr, ◌⊎◌, if◌then◌else◌, Option, Some, None, Result, Ok, Err, ◌==◌, IsUtf8, is_some, get_or, eqb-true, none-some, TakesBack, interned, interned_all, State, first, StaleMark, Either, InternsOr, IsRolledBack, broken, earlier, fault, first_fault, has_key, key, utf8_fault, zero_fault, zero_fault_at, Kind, Refusal, BadEnds, Full, NoMemory, NotUtf8, InnerZero, MissingZero, IsFaultless, Seen, look_up, position, unless, InternsBy}
+use Rattle.intaglio_c.proofs.Names.{◌∙◌, Bool, ◌≡◌, ℕ, zero, suc, ◌+◌, ◌-◌, true, false, List, [], ◌∷◌, ◌++◌, length, take, refl, sym, ap, cond, inl, inr, ◌⊎◌, if◌then◌else◌, Option, Some, None, Result, Ok, Err, ◌==◌, IsUtf8, is_some, get_or, none-some, TakesBack, interned, interned_all, State, first, StaleMark, Either, InternsOr, IsRolledBack, broken, earlier, fault, first_fault, has_key, key, utf8_fault, Kind, Refusal, BadEnds, Full, NoMemory, NotUtf8, IsFaultless, Seen, look_up, position, unless, InternsBy}
 use Rattle.std.specs.Prelude.{◌≢◌}
 use Rattle.std.specs.Str.{is_utf8}
 use Rattle.std.proofs.lemmas.Bool.{false_from_ne_true}
 use Rattle.std.proofs.lemmas.Str.{IsUtf8-from_is_utf8, is_utf8-from_IsUtf8}
 use Rattle.intaglio_frozen.specs.Layout.{strings}
-use Rattle.intaglio_cstr.specs.Zeros.{EndsAtFirstZero, first_zero}
 use Rattle.intaglio_interner.proofs.First.{key_eq-unequal}
 use Rattle.intaglio_c.specs.Frozen.{Absorbs}
 use Rattle.intaglio_c.specs.Handles.{found}
@@ -15,64 +14,83 @@ use Rattle.intaglio_c.specs.declared.kind.Kind.TheVariants.{Owned, Path, Packed}
 abbrev utf8_fault_by : Bool → Option Refusal
 utf8_fault_by valid = if valid then None else Some NotUtf8
 
-pub good_text : (bs : List ℕ) → IsUtf8 bs → utf8_fault bs ≡ None
-good_text bs good = ap utf8_fault_by (is_utf8-from_IsUtf8 bs good)
+-- bytes that are UTF-8 have no fault as a text
+pub good-text : (bs : List ℕ) → IsUtf8 bs → utf8_fault bs ≡ None
+good-text bs good = ap utf8_fault_by (is_utf8-from_IsUtf8 bs good)
 
-pub bad_text : (bs : List ℕ) → ¬ (IsUtf8 bs) → utf8_fault bs ≡ Some NotUtf8
-bad_text bs bad = elim (is_utf8 bs) as (λ b. is_utf8 bs ≡ b → utf8_fault bs ≡ Some NotUtf8) [ true ↦ λ e. absurd (bad (IsUtf8-from_is_utf8 bs e)) | false ↦ λ e. ap utf8_fault_by e ] refl
+-- bytes that aren't UTF-8 have the fault `NotUtf8`
+pub bad-text : (bs : List ℕ) → ¬ (IsUtf8 bs) → utf8_fault bs ≡ Some NotUtf8
+bad-text bs bad = elim (is_utf8 bs) as (λ b. is_utf8 bs ≡ b → utf8_fault bs ≡ Some NotUtf8) [
+  | true ↦
+      λ e. absurd (bad (IsUtf8-from_is_utf8 bs e))
+  | false ↦ λ e. ap utf8_fault_by e
+] refl
 
+-- bytes without a fault as a text are UTF-8
 pub is_text : (bs : List ℕ) → utf8_fault bs ≡ None → IsUtf8 bs
-is_text bs none = elim (is_utf8 bs) as (λ b. is_utf8 bs ≡ b → IsUtf8 bs) [ true ↦ λ e. IsUtf8-from_is_utf8 bs e | false ↦ λ e. absurd (none-some NotUtf8 (sym none ∙ ap utf8_fault_by e)) ] refl
+is_text bs none =
+    elim (is_utf8 bs) as (λ b. is_utf8 bs ≡ b → IsUtf8 bs) [
+      | true ↦ λ e. IsUtf8-from_is_utf8 bs e
+      | false ↦
+          λ e. absurd (none-some NotUtf8 (sym none ∙ ap utf8_fault_by e))
+    ] refl
 
-pub no_text : (bs : List ℕ) → ¬ (IsUtf8 bs) → is_utf8 bs ≡ false
-no_text bs bad = false_from_ne_true (is_utf8 bs) (λ e. bad (IsUtf8-from_is_utf8 bs e))
-
--- C strings
-ends : (n : ℕ) (first : Option ℕ) → zero_fault_at n first ≡ None → first ≡ Some (n - 1)
-ends n None fault = absurd (none-some MissingZero (sym fault))
-ends n (Some place) fault = elim (place == n - 1) as (λ b. (place == n - 1) ≡ b → Some place ≡ Some (n - 1)) [ true ↦ λ e. ap Some (eqb-true place (n - 1) e) | false ↦ λ e. absurd (none-some InnerZero (sym (rw e at fault))) ] refl
-
-pub is_c_string : (bs : List ℕ) → zero_fault bs ≡ None → EndsAtFirstZero bs
-is_c_string bs none = ends (length bs) (first_zero bs) none
+-- the test for UTF-8 is false for bytes that aren't UTF-8
+pub no-text : (bs : List ℕ) → ¬ (IsUtf8 bs) → is_utf8 bs ≡ false
+no-text bs bad = false_from_ne_true (is_utf8 bs) (λ e. bad (IsUtf8-from_is_utf8 bs e))
 
 -- lists of strings
 earlier-assoc : (a b c : Option Refusal) → earlier (earlier a b) c ≡ earlier a (earlier b c)
 earlier-assoc None b c = refl
 earlier-assoc (Some r) b c = refl
 
-pub first_fault-append : (k : Kind) (xs ys : List (List ℕ)) → first_fault k (xs ++ ys) ≡ earlier (first_fault k xs) (first_fault k ys)
+-- the first fault of a list and another behind it is that of the first, or else that of the second
+pub first_fault-append : (k : Kind) (xs ys : List (List ℕ)) →
+    first_fault k (xs ++ ys) ≡ earlier (first_fault k xs) (first_fault k ys)
 first_fault-append k [] ys = refl
-first_fault-append k (x ∷ xs) ys = ap (earlier (fault k x)) (first_fault-append k xs ys) ∙ sym (earlier-assoc (fault k x) (first_fault k xs) (first_fault k ys))
+first_fault-append k (x ∷ xs) ys = ap (earlier (fault k x)) (first_fault-append k xs ys)
+    ∙ sym (earlier-assoc (fault k x) (first_fault k xs) (first_fault k ys))
 
-pub one_more : (k : Kind) (xs : List (List ℕ)) (x : List ℕ) → first_fault k xs ≡ None → fault k x ≡ None → first_fault k (xs ++ x ∷ []) ≡ None
-one_more k xs x none last = first_fault-append k xs (x ∷ []) ∙ (λ i. earlier (none i) (earlier (last i) None))
+-- strings without a fault have none when one more without a fault comes behind them
+pub one-more : (k : Kind) (xs : List (List ℕ)) (x : List ℕ) → first_fault k xs ≡ None → fault k x ≡ None →
+    first_fault k (xs ++ x ∷ []) ≡ None
+one-more k xs x none last = first_fault-append k xs (x ∷ []) ∙ (λ i. earlier (none i) (earlier (last i) None))
 
+-- if there is no first of two faults, there is neither of them
 pub neither : (a b : Option Refusal) → earlier a b ≡ None → (a ≡ None) × (b ≡ None)
 neither None b none = (refl, none)
 neither (Some r) b some = absurd (none-some r (sym some))
 
-pub first_ones : (k : Kind) (n : ℕ) (xs : List (List ℕ)) → first_fault k xs ≡ None → first_fault k (take n xs) ≡ None
-first_ones k zero xs none = refl
-first_ones k (suc n) [] none = refl
-first_ones k (suc n) (x ∷ xs) none = let both = neither (fault k x) (first_fault k xs) none in λ i. earlier (both.0 i) (first_ones k n xs both.1 i)
+-- if strings have no fault, the first n of them have none
+pub first-ones : (k : Kind) (n : ℕ) (xs : List (List ℕ)) → first_fault k xs ≡ None →
+    first_fault k (take n xs) ≡ None
+first-ones k zero xs none = refl
+first-ones k (suc n) [] none = refl
+first-ones k (suc n) (x ∷ xs) none = let both = neither (fault k x) (first_fault k xs) none in
+    λ i. earlier (both.0 i) (first-ones k n xs both.1 i)
 
-pub all_interned : (k : Kind) (xs strings : List (List ℕ)) → first_fault k xs ≡ None → first_fault k strings ≡ None → first_fault k (interned_all (key k) xs strings) ≡ None
-all_interned k xs [] none more = none
-all_interned k xs (s ∷ strings) none more =
+-- if neither the held strings nor those that are interned have a fault, what is held then has none
+pub all-interned : (k : Kind) (xs strings : List (List ℕ)) → first_fault k xs ≡ None →
+    first_fault k strings ≡ None → first_fault k (interned_all (key k) xs strings) ≡ None
+all-interned k xs [] none more = none
+all-interned k xs (s ∷ strings) none more =
     let both = neither (fault k s) (first_fault k strings) more in
-    all_interned k (interned (key k) xs s) strings (by_known (is_some (first (key k) xs (key k s))) both.0) both.1
+    all-interned k (interned (key k) xs s) strings (by_known (is_some (first (key k) xs (key k s))) both.0)
+    both.1
   where
     by_known : (known : Bool) → fault k s ≡ None → first_fault k (cond known xs (xs ++ s ∷ [])) ≡ None
     by_known true last = none
-    by_known false last = one_more k xs s none last
+    by_known false last = one-more k xs s none last
 
 -- what an interning leaves
-after : (f : Option Refusal) (o : Option ℕ) (copies : Bool) (b : List ℕ) (s s' : State (List ℕ)) (result : Result ℕ Refusal) → InternsBy copies b s (unless f o) result s'
+after : (f : Option Refusal) (o : Option ℕ) (copies : Bool) (b : List ℕ) (s s' : State (List ℕ))
+    (result : Result ℕ Refusal) → InternsBy copies b s (unless f o) result s'
     → (s'.contents ≡ s.contents) ⊎ ((f ≡ None) × (s'.contents ≡ s.contents ++ b ∷ []))
 after None None copies b s s' (Ok i) taken = inr (refl, taken.contents)
 after None None copies b s s' (Err Full) full = inl (ap (λ (x : State (List ℕ)). x.contents) full.1)
 after None None false b s s' (Err NoMemory) kept = inl kept.contents
-after None None true b s s' (Err NoMemory) (inl kept) = inl (ap (λ (x : State (List ℕ)). x.contents) kept.same)
+after None None true b s s' (Err NoMemory) (inl kept) =
+    inl (ap (λ (x : State (List ℕ)). x.contents) kept.same)
 after None None true b s s' (Err NoMemory) (inr kept) = inl kept.contents
 after None None copies b s s' (Err _) never = absurd never
 after None (Some i) copies b s s' result known = inl (ap (λ (x : State (List ℕ)). x.contents) known.1)
@@ -80,54 +98,74 @@ after (Some r) o copies b s s' result refused = inl (ap (λ (x : State (List ℕ
 
 -- a table that changes, all of whose strings are what its kind takes
 module _ (t t' : Seen) (same_kind : t'.kind ≡ t.kind) (faultless : IsFaultless t) where
-  pub with_contents : (xs : List (List ℕ)) → t'.state.contents ≡ xs → first_fault t.kind xs ≡ None → IsFaultless t'
+  pub with_contents : (xs : List (List ℕ)) → t'.state.contents ≡ xs → first_fault t.kind xs ≡ None →
+      IsFaultless t'
   with_contents xs are none = (λ i. first_fault (same_kind i) (are i)) ∙ none
 
   with_same : t'.state ≡ t.state → IsFaultless t'
   with_same same = with_contents _ (ap (λ (x : State (List ℕ)). x.contents) same) faultless
 
-  pub with_interned : (copies : Bool) (b : List ℕ) (result : Result ℕ Refusal) → InternsBy copies b t.state (look_up t b) result t'.state → IsFaultless t'
-  with_interned copies b result step = by_case (after (fault t.kind b) (position t b) copies b t.state t'.state result step)
+  pub with_interned : (copies : Bool) (b : List ℕ) (result : Result ℕ Refusal) →
+      InternsBy copies b t.state (look_up t b) result t'.state → IsFaultless t'
+  with_interned copies b result step =
+      by_case (after (fault t.kind b) (position t b) copies b t.state t'.state result step)
     where
-      by_case : (t'.state.contents ≡ t.state.contents) ⊎ ((fault t.kind b ≡ None) × (t'.state.contents ≡ t.state.contents ++ b ∷ [])) → IsFaultless t'
+      by_case : (t'.state.contents ≡ t.state.contents)
+          ⊎ ((fault t.kind b ≡ None) × (t'.state.contents ≡ t.state.contents ++ b ∷ [])) → IsFaultless t'
       by_case (inl same) = with_contents _ same faultless
-      by_case (inr more) = with_contents _ more.1 (one_more t.kind t.state.contents b faultless more.0)
+      by_case (inr more) = with_contents _ more.1 (one-more t.kind t.state.contents b faultless more.0)
 
-  pub with_first_ones : (n : ℕ) (result : Result (Unit {0}) StaleMark) → TakesBack t.state n result t'.state → IsFaultless t'
-  with_first_ones n (Ok done) cut = with_contents _ cut.contents (first_ones t.kind n t.state.contents faultless)
+  pub with_first_ones : (n : ℕ) (result : Result (Unit {0}) StaleMark) → TakesBack t.state n result t'.state →
+      IsFaultless t'
+  with_first_ones n (Ok done) cut =
+      with_contents _ cut.contents (first-ones t.kind n t.state.contents faultless)
   with_first_ones n (Err stale) kept = with_same kept.1
 
-  pub with_strings : (strings : List (List ℕ)) (symbols : List ℕ) (result : Result (Unit {0}) Refusal) → InternsOr IsRolledBack strings symbols t result t'.state → IsFaultless t'
-  with_strings strings symbols (Ok done) all = with_contents _ all.contents (all_interned t.kind t.state.contents strings faultless all.faultless)
+  pub with_strings : (strings : List (List ℕ)) (symbols : List ℕ) (result : Result (Unit {0}) Refusal) →
+      InternsOr IsRolledBack strings symbols t result t'.state → IsFaultless t'
+  with_strings strings symbols (Ok done) all =
+      with_contents _ all.contents (all-interned t.kind t.state.contents strings faultless all.faultless)
   with_strings strings symbols (Err refusal) stopped = with_contents _ stopped.1.contents faultless
 
   -- the strings that are interned are as many as the places, or there is nothing to do
-  pub with_either : (good : Bool) (strings : List (List ℕ)) (symbols : List ℕ) (result : Result (Unit {0}) Refusal)
-      → Either good (InternsOr IsRolledBack strings symbols t result t'.state) ((result ≡ Err BadEnds) × (t'.state ≡ t.state)) → IsFaultless t'
+  pub with_either : (good : Bool) (strings : List (List ℕ)) (symbols : List ℕ)
+      (result : Result (Unit {0}) Refusal)
+      → Either good (InternsOr IsRolledBack strings symbols t result t'.state) ((result ≡ Err BadEnds)
+      × (t'.state ≡ t.state)) → IsFaultless t'
   with_either true strings symbols result some = with_strings strings symbols result some
   with_either false strings symbols result kept = with_same kept.1
 
-  pub with_frozen : (bs places symbols : List ℕ) (result : Result (Unit {0}) Refusal) → Absorbs bs places symbols t result t'.state → IsFaultless t'
-  with_frozen bs places symbols result (inl some) = with_either (length places == length (strings bs)) (strings bs) symbols result some.1
+  pub with_frozen : (bs places symbols : List ℕ) (result : Result (Unit {0}) Refusal) →
+      Absorbs bs places symbols t result t'.state → IsFaultless t'
+  with_frozen bs places symbols result (inl some) =
+      with_either (length places == length (strings bs)) (strings bs) symbols result some.1
   with_frozen bs places symbols result (inr none) = with_same none.2
 
 -- bytes that a kind doesn't take have no key, or not that of a string which it takes
-other_key : (k : Kind) (x b : List ℕ) (r : Refusal) → fault k x ≡ None → fault k b ≡ Some r → has_key k b ≡ true → key k x ≢ key k b
-other_key (Owned rule) x b r good bad some same = none-some r (sym good ∙ ap (λ (ks : List (List ℕ)). broken rule (get_or ks 0 [])) same ∙ bad)
-other_key Path x b r good bad some same = none-some r (sym (ap utf8_fault_by some) ∙ bad)
-other_key (Packed rule) x b r good bad some same = none-some r (sym good ∙ ap (λ (ks : List (List ℕ)). broken rule (get_or ks 0 [])) same ∙ bad)
+other-key : (k : Kind) (x b : List ℕ) (r : Refusal) → fault k x ≡ None → fault k b ≡ Some r →
+    has_key k b ≡ true → key k x ≢ key k b
+other-key (Owned rule) x b r good bad some same =
+    none-some r (sym good ∙ ap (λ (ks : List (List ℕ)). broken rule (get_or ks 0 [])) same ∙ bad)
+other-key Path x b r good bad some same = none-some r (sym (ap utf8_fault_by some) ∙ bad)
+other-key (Packed rule) x b r good bad some same =
+    none-some r (sym good ∙ ap (λ (ks : List (List ℕ)). broken rule (get_or ks 0 [])) same ∙ bad)
 
 -- so a table doesn't have them
-not_there : (k : Kind) (xs : List (List ℕ)) (b : List ℕ) (r : Refusal) → first_fault k xs ≡ None → fault k b ≡ Some r → has_key k b ≡ true → first (key k) xs (key k b) ≡ None
-not_there k [] b r none bad some = refl
-not_there k (x ∷ xs) b r none bad some =
+not-there : (k : Kind) (xs : List (List ℕ)) (b : List ℕ) (r : Refusal) → first_fault k xs ≡ None →
+    fault k b ≡ Some r → has_key k b ≡ true → first (key k) xs (key k b) ≡ None
+not-there k [] b r none bad some = refl
+not-there k (x ∷ xs) b r none bad some =
     let both = neither (fault k x) (first_fault k xs) none in
-    rw (key_eq-unequal (key k x) (key k b) (other_key k x b r both.0 bad some), not_there k xs b r both.1 bad some) refl
+    rw (
+      key_eq-unequal (key k x) (key k b) (other-key k x b r both.0 bad some),
+      not-there k xs b r both.1 bad some,
+    ) refl
 
 -- what a look-up finds without a test
-pub untested : (t : Seen) (b : List ℕ) → IsFaultless t → has_key t.kind b ≡ true → position t b ≡ found (look_up t b)
+pub untested : (t : Seen) (b : List ℕ) → IsFaultless t → has_key t.kind b ≡ true →
+    position t b ≡ found (look_up t b)
 untested t b faultless some = by_fault (fault t.kind b) refl
   where
     by_fault : (f : Option Refusal) → fault t.kind b ≡ f → position t b ≡ found (unless f (position t b))
     by_fault None is = refl
-    by_fault (Some r) is = not_there t.kind t.state.contents b r faultless is some
+    by_fault (Some r) is = not-there t.kind t.state.contents b r faultless is some

@@ -3,33 +3,43 @@ use Rattle.intaglio_c.proofs.Names.{◌≡◌, ℕ, zero, suc, ◌+◌, ◌-◌,
 
 module _ {X : Type 0} (xs : List X) (i : ℕ) (x : X) (there : slice_get xs i ≡ Some x) where
   pub drop_there : drop i xs ≡ x ∷ drop (i + 1) xs
-  drop_there = drop_more xs i x (slice_get_within xs i x there) ∙ ap (λ y. y ∷ drop (i + 1) xs) (get_or_from_slice_get xs i x x there)
+  drop_there = drop_more xs i x (slice_get_within xs i x there)
+      ∙ ap (λ y. y ∷ drop (i + 1) xs) (get_or_from_slice_get xs i x x there)
 
   pub take_there : take (i + 1) xs ≡ take i xs ++ x ∷ []
-  take_there = take_more xs i x (slice_get_within xs i x there) ∙ ap (λ y. take i xs ++ y ∷ []) (get_or_from_slice_get xs i x x there)
+  take_there = take_more xs i x (slice_get_within xs i x there)
+      ∙ ap (λ y. take i xs ++ y ∷ []) (get_or_from_slice_get xs i x x there)
 
 -- the strings of a batch
-pub pieces_length : (bytes : List ℕ) (start : ℕ) (ends : List ℕ) → length (pieces bytes start ends) ≡ length ends
+pub pieces_length : (bytes : List ℕ) (start : ℕ) (ends : List ℕ) →
+    length (pieces bytes start ends) ≡ length ends
 pieces_length bytes start [] = refl
 pieces_length bytes start (end ∷ ends) = ap suc (pieces_length bytes end ends)
 
+-- each string of a batch is the bytes from the end before it, or from the start, to its own end
 pub piece : (bytes : List ℕ) (start : ℕ) (ends : List ℕ) (i : ℕ) → i < length ends
-    → slice_get (pieces bytes start ends) i ≡ Some (take (get_or ends i 0 - get_or (start ∷ ends) i 0) (drop (get_or (start ∷ ends) i 0) bytes))
+    → slice_get (pieces bytes start ends) i
+    ≡ Some (take (get_or ends i 0 - get_or (start ∷ ends) i 0) (drop (get_or (start ∷ ends) i 0) bytes))
 piece bytes start [] i inside = absurd (omega (arith, inside))
 piece bytes start (end ∷ ends) zero inside = refl
 piece bytes start (end ∷ ends) (suc i) inside = piece bytes end ends i (omega (arith, inside))
 
 -- its ends
-ascends : (size start end : ℕ) (rest b c : Bool) → nat_lt end start ≡ b → nat_lt size end ≡ c → (if b then false else if c then false else rest) ≡ true → (start ≤ end) × (end ≤ size) × (rest ≡ true)
+ascends : (size start end : ℕ) (rest b c : Bool) → nat_lt end start ≡ b → nat_lt size end ≡ c →
+    (if b then false else if c then false else rest) ≡ true → (start ≤ end) × (end ≤ size) × (rest ≡ true)
 ascends size start end rest true c is also good = absurd (let differs : false ≡ true = good in cc)
 ascends size start end rest false true is also good = absurd (let differs : false ≡ true = good in cc)
 ascends size start end rest false false is also good = (ltb-false end start is, ltb-false size end also, good)
 
-pub in_order : (size start : ℕ) (ends : List ℕ) (i : ℕ) → are_ends size start ends ≡ true → i < length ends → (get_or (start ∷ ends) i 0 ≤ get_or ends i 0) × (get_or ends i 0 ≤ size)
+-- each of the ends that pass the test is at least the one before it, or the start, and at most the size
+pub in_order : (size start : ℕ) (ends : List ℕ) (i : ℕ) → are_ends size start ends ≡ true → i < length ends →
+    (get_or (start ∷ ends) i 0 ≤ get_or ends i 0) × (get_or ends i 0 ≤ size)
 in_order size start [] i good inside = absurd (omega (arith, inside))
 in_order size start (end ∷ ends) zero good inside =
-    let first = ascends size start end (are_ends size end ends) (nat_lt end start) (nat_lt size end) refl refl good in
+    let first =
+    ascends size start end (are_ends size end ends) (nat_lt end start) (nat_lt size end) refl refl good in
     (first.0, first.1)
 in_order size start (end ∷ ends) (suc i) good inside =
-    let first = ascends size start end (are_ends size end ends) (nat_lt end start) (nat_lt size end) refl refl good in
+    let first =
+    ascends size start end (are_ends size end ends) (nat_lt end start) (nat_lt size end) refl refl good in
     in_order size end ends i first.2 (omega (arith, inside))

@@ -1,4 +1,5 @@
--- Batches, as C passes them, many strings in one list of bytes with the end of each; and what becomes of them.
+-- Batches, as C passes them, many strings in one list of bytes with the end of
+-- each; and what becomes of them.
 use Rattle.std.specs.Prelude.{◌≡◌, ℕ, ◌+◌, ◌-◌, ◌^◌, ◌<◌, ◌≤◌, ◌==◌, Bool, true, false, if◌then◌else◌, nat_lt, List, [], ◌∷◌, ◌++◌, length, map, take, drop, slice_get, get_or, Option, Some, None, MatchOption, Result, Ok, Err}
 use Rattle.intaglio_c.specs.Words.{State, Refusal, NoTable, BadEnds, NoSymbol, NoSpace}
 use Rattle.std.specs.List.{concat}
@@ -23,7 +24,8 @@ pieces bytes start (end ∷ ends) = take (end - start) (drop start bytes) ∷ pi
 -- whether the ends don't decrease, from a position on, and stay within this many bytes
 abbrev pub are_ends : ℕ → ℕ → List ℕ → Bool
 are_ends size start [] = true
-are_ends size start (end ∷ ends) = if nat_lt end start then false else if nat_lt size end then false else are_ends size end ends
+are_ends size start (end ∷ ends) = if nat_lt end start then false else if nat_lt size end then false else
+    are_ends size end ends
 
 -- whether bytes and ends are a batch, with as many strings as there are places for symbols
 abbrev pub is_batch : List ℕ → List ℕ → ℕ → Bool
@@ -42,10 +44,12 @@ AreAll P strings ns = (length ns ≡ length strings) × AreFirst P strings ns
 -- a batch is looked up: what is written for each string is what f says
 abbrev pub FindsBy : (List ℕ → ℕ) → List ℕ → List ℕ → List ℕ → List ℕ → Result (Unit {0}) Refusal → Type 0
 FindsBy f batch ends places symbols result =
-    Either (is_batch batch ends (length places)) ((result ≡ Ok tt) × (symbols ≡ map f (pieces batch 0 ends))) ((result ≡ Err BadEnds) × (symbols ≡ places))
+    Either (is_batch batch ends (length places)) ((result ≡ Ok tt) × (symbols ≡ map f (pieces batch 0 ends)))
+    ((result ≡ Err BadEnds) × (symbols ≡ places))
 
 -- all strings are interned, in order: each is found at its symbol, behind what was there
-pub record AreInterned (t : Seen) (strings : List (List ℕ)) (issued : List ℕ) (new : State (List ℕ)) : Type 0 where
+pub record AreInterned (t : Seen) (strings : List (List ℕ)) (issued : List ℕ)
+    (new : State (List ℕ)) : Type 0 where
   pub faultless : first_fault t.kind strings ≡ None
   pub symbols : issued ≡ issue_from (key t.kind) t.state.contents strings
   pub contents : new.contents ≡ interned_all (key t.kind) t.state.contents strings
@@ -81,14 +85,18 @@ pub record StopsAt (t : Seen) (strings : List (List ℕ)) (refusal : Refusal) : 
   pub alone : Interns string (record { kind = t.kind; state = reached; hasher = t.hasher }) (Err refusal) left
 
 -- all strings are interned, or Left holds after the error of the first one that can't be
-abbrev pub InternsOr : (State (List ℕ) → State (List ℕ) → Type 0) → List (List ℕ) → List ℕ → Seen → Result (Unit {0}) Refusal → State (List ℕ) → Type 0
+abbrev pub InternsOr : (State (List ℕ) → State (List ℕ) → Type 0) → List (List ℕ) → List ℕ → Seen →
+    Result (Unit {0}) Refusal → State (List ℕ) → Type 0
 InternsOr Left strings symbols t (Ok _) s' = AreInterned t strings symbols s'
 InternsOr Left strings symbols t (Err refusal) s' = StopsAt t strings refusal × Left t.state s'
 
 -- a batch is interned, all or none
-abbrev pub InternsAll : List ℕ → List ℕ → List ℕ → List ℕ → Seen → Result (Unit {0}) Refusal → State (List ℕ) → Type 0
+abbrev pub InternsAll : List ℕ → List ℕ → List ℕ → List ℕ → Seen → Result (Unit {0}) Refusal →
+    State (List ℕ) → Type 0
 InternsAll bytes ends places symbols t result s' =
-    Either (is_batch bytes ends (length places)) (InternsOr IsRolledBack (pieces bytes 0 ends) symbols t result s') ((result ≡ Err BadEnds) × (s' ≡ t.state))
+    Either (is_batch bytes ends (length places))
+    (InternsOr IsRolledBack (pieces bytes 0 ends) symbols t result s') ((result ≡ Err BadEnds)
+    × (s' ≡ t.state))
 
 -- what is written for a string: its symbol, or 2^64 - 1, which is no symbol's number
 abbrev pub or_absent : Option ℕ → ℕ
@@ -98,7 +106,8 @@ or_absent (Some symbol) = symbol
 -- a batch is looked up
 abbrev pub FindsAll : List ℕ → List ℕ → List ℕ → List ℕ → Handle → Result (Unit {0}) Refusal → Type 0
 FindsAll bytes ends places symbols handle result =
-    MatchOption (table_of handle) ((result ≡ Err NoTable) × (symbols ≡ places)) (λ t. FindsBy (λ string. or_absent (found (look_up t string))) bytes ends places symbols result)
+    MatchOption (table_of handle) ((result ≡ Err NoTable) × (symbols ≡ places))
+    (λ t. FindsBy (λ string. or_absent (found (look_up t string))) bytes ends places symbols result)
 
 -- these are the strings of symbols
 abbrev pub AreStored : List (List ℕ) → List ℕ → List (List ℕ) → Type 0
@@ -115,15 +124,22 @@ pub record AreCopied (strings : List (List ℕ)) (old new written : List ℕ) : 
   pub buffer : new ≡ concat strings ++ drop (length (concat strings)) old
   pub ends : written ≡ ends_from 0 strings
 
--- the strings of symbols are copied; or one has no string; or the strings of the first ones are longer than the buffer
+-- the strings of symbols are copied; or one has no string; or the strings of the
+-- first ones are longer than the buffer
 abbrev pub CopiesEach : List (List ℕ) → List ℕ → List ℕ → Result (Unit {0}) Refusal → List ℕ → List ℕ → Type 0
-CopiesEach contents symbols buffer (Ok _) buffer' ends = (strings : List (List ℕ)) × AreStored contents symbols strings × AreCopied strings buffer buffer' ends
-CopiesEach contents symbols buffer (Err NoSymbol) buffer' ends = (i : ℕ) × (i < length symbols) × (slice_get contents (get_or symbols i 0) ≡ None)
-CopiesEach contents symbols buffer (Err NoSpace) buffer' ends = (n : ℕ) × (strings : List (List ℕ)) × AreStored contents (take n symbols) strings × (length buffer < length (concat strings))
+CopiesEach contents symbols buffer (Ok _) buffer' ends =
+    (strings : List (List ℕ)) × AreStored contents symbols strings × AreCopied strings buffer buffer' ends
+CopiesEach contents symbols buffer (Err NoSymbol) buffer' ends =
+    (i : ℕ) × (i < length symbols) × (slice_get contents (get_or symbols i 0) ≡ None)
+CopiesEach contents symbols buffer (Err NoSpace) buffer' ends = (n : ℕ) × (strings : List (List ℕ))
+    × AreStored contents (take n symbols) strings × (length buffer < length (concat strings))
 CopiesEach contents symbols buffer (Err _) buffer' ends = ⊥
 
 -- the same, with a place for the end of each
-abbrev pub CopiesAll : List ℕ → List ℕ → List ℕ → List ℕ → List ℕ → Handle → Result (Unit {0}) Refusal → Type 0
+abbrev pub CopiesAll : List ℕ → List ℕ → List ℕ → List ℕ → List ℕ → Handle →
+    Result (Unit {0}) Refusal → Type 0
 CopiesAll symbols buffer places buffer' ends handle result =
     MatchOption (table_of handle) ((result ≡ Err NoTable) × (buffer' ≡ buffer) × (ends ≡ places))
-    (λ t. Either (length places == length symbols) (CopiesEach t.state.contents symbols buffer result buffer' ends) ((result ≡ Err BadEnds) × (buffer' ≡ buffer) × (ends ≡ places)))
+    (λ t. Either (length places == length symbols)
+    (CopiesEach t.state.contents symbols buffer result buffer' ends) ((result ≡ Err BadEnds)
+    × (buffer' ≡ buffer) × (ends ≡ places)))

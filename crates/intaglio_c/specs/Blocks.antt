@@ -27,7 +27,8 @@ pub record IsFirstFault (tables : List (List ℕ)) (number : ℕ) (refusal : Ref
 
 -- the tables aren't read, by an error of one of them, or for want of memory
 abbrev pub IsNoBlocks : List (List ℕ) → ℕ → Refusal → Type 0
-IsNoBlocks tables number refusal = IsFirstFault tables number refusal ⊎ ((number ≡ length tables) × (refusal ≡ NoMemory))
+IsNoBlocks tables number refusal =
+    IsFirstFault tables number refusal ⊎ ((number ≡ length tables) × (refusal ≡ NoMemory))
 
 -- all tables are read, and have too many strings together
 pub record HaveTooMany (tables : List (List ℕ)) (number : ℕ) (refusal : Refusal) : Type 0 where
@@ -42,7 +43,8 @@ AreBytes bs = (k : ℕ) → get_or bs k 0 < 256
 
 -- it is what each frozen table is that has all strings of these tables, in their order, and the same kind
 abbrev pub IsIdOfEach : List (List ℕ) → DictionaryId → Type 0
-IsIdOfEach tables id = (bs : List ℕ) → AreBytes bs → IsBlock bs → is_text_number (kind bs) ≡ are_texts tables → strings bs ≡ strings_of tables → IsIdOfTable bs id
+IsIdOfEach tables id = (bs : List ℕ) → AreBytes bs → IsBlock bs →
+    is_text_number (kind bs) ≡ are_texts tables → strings bs ≡ strings_of tables → IsIdOfTable bs id
 
 -- what the dictionary of all strings of these tables is, in their order
 pub record IsIdOfAll (tables : List (List ℕ)) (number : ℕ) (id : DictionaryId) : Type 0 where
@@ -52,8 +54,9 @@ pub record IsIdOfAll (tables : List (List ℕ)) (number : ℕ) (id : DictionaryI
   pub each : IsIdOfEach tables id
   pub all : number ≡ length tables
 
--- it is written; or an error is returned, with the number of the table that has it, or how many tables there are if
--- none has
+-- it is written; or an error is returned, with the number of the table that has it, or how
+-- many tables there are if none has
 abbrev pub MakesIdOfAll : List (List ℕ) → DictionaryId → DictionaryId → ℕ → Result (Unit {0}) Refusal → Type 0
 MakesIdOfAll tables old new number (Ok _) = IsIdOfAll tables number new
-MakesIdOfAll tables old new number (Err refusal) = (IsNoBlocks tables number refusal ⊎ HaveTooMany tables number refusal) × (new ≡ old)
+MakesIdOfAll tables old new number (Err refusal) =
+    (IsNoBlocks tables number refusal ⊎ HaveTooMany tables number refusal) × (new ≡ old)

@@ -37,7 +37,8 @@ IsNoColumn bs refusal = (what : ColumnError) × (refusal ≡ column_refusal what
 abbrev pub ChecksColumn : List ℕ → Result (Unit {0}) Refusal → Type 0
 ChecksColumn bs result = MatchResult result (λ _. IsColumn bs) (IsNoColumn bs)
 
--- which dictionary a column belongs to is written; or what is wrong with the bytes is returned, and nothing is
+-- which dictionary a column belongs to is written; or what is wrong with the
+-- bytes is returned, and nothing is
 abbrev pub ReadsId : List ℕ → DictionaryId → DictionaryId → Result (Unit {0}) Refusal → Type 0
 ReadsId bs old new (Ok _) = HasRows bs × Describes bs new
 ReadsId bs old new (Err refusal) = (¬ HasRows bs) × IsNoColumn bs refusal × (new ≡ old)
@@ -47,15 +48,18 @@ abbrev pub MakesId : List ℕ → DictionaryId → DictionaryId → Result (Unit
 MakesId bs old new (Ok _) = HasSections bs × IsIdOfTable bs new
 MakesId bs old new (Err refusal) = (¬ HasSections bs) × IsRefused bs refusal × (new ≡ old)
 
--- counts are written over places, one for each string; or nothing is, since there are more or fewer places, or the
--- bytes have no rows
+-- counts are written over places, one for each string; or nothing is, since there are more or fewer
+-- places, or the bytes have no rows
 abbrev pub Counts : List ℕ → List ℕ → List ℕ → ℕ → ℕ → Result (Unit {0}) Refusal → Type 0
-Counts bs places counts gone gone' (Ok _) = HasRows bs × (length places ≡ strings bs) × AreCounts (strings bs) (codes bs) counts gone'
-Counts bs places counts gone gone' (Err BadEnds) = HasRows bs × (length places ≢ strings bs) × (counts ≡ places) × (gone' ≡ gone)
-Counts bs places counts gone gone' (Err refusal) = (¬ HasRows bs) × IsNoColumn bs refusal × (counts ≡ places) × (gone' ≡ gone)
+Counts bs places counts gone gone' (Ok _) =
+    HasRows bs × (length places ≡ strings bs) × AreCounts (strings bs) (codes bs) counts gone'
+Counts bs places counts gone gone' (Err BadEnds) =
+    HasRows bs × (length places ≢ strings bs) × (counts ≡ places) × (gone' ≡ gone)
+Counts bs places counts gone gone' (Err refusal) = (¬ HasRows bs) × IsNoColumn bs refusal × (counts ≡ places)
+    × (gone' ≡ gone)
 
--- bytes are the column of these codes; their number is written, and they are copied to the start of a buffer if it has
--- space for them
+-- bytes are the column of these codes; their number is written, and they are copied to the start of a
+-- buffer if it has space for them
 pub record IsColumnWritten (id : DictionaryId) (cs old new : List ℕ) (size : ℕ) (bs : List ℕ) : Type 0 where
   pub bytes : bs ≡ column_of id cs
   pub column : IsColumn bs
@@ -72,6 +76,9 @@ write_refusal error.Memory = NoMemory
 
 -- codes are made a column, by the result
 abbrev pub WritesColumn : DictionaryId → List ℕ → List ℕ → List ℕ → ℕ → ℕ → Result (Unit {0}) Refusal → Type 0
-WritesColumn id cs buffer buffer' len len' (Ok _) = (bs : List ℕ) × IsColumnWritten id cs buffer buffer' len' bs × (length bs ≤ length buffer)
-WritesColumn id cs buffer buffer' len len' (Err NoSpace) = (bs : List ℕ) × IsColumnWritten id cs buffer buffer' len' bs × (length buffer < length bs)
-WritesColumn id cs buffer buffer' len len' (Err refusal) = (why : ColumnWriteError) × (refusal ≡ write_refusal why) × IsRefusal id.count cs why × (buffer' ≡ buffer) × (len' ≡ len)
+WritesColumn id cs buffer buffer' len len' (Ok _) =
+    (bs : List ℕ) × IsColumnWritten id cs buffer buffer' len' bs × (length bs ≤ length buffer)
+WritesColumn id cs buffer buffer' len len' (Err NoSpace) =
+    (bs : List ℕ) × IsColumnWritten id cs buffer buffer' len' bs × (length buffer < length bs)
+WritesColumn id cs buffer buffer' len len' (Err refusal) = (why : ColumnWriteError)
+    × (refusal ≡ write_refusal why) × IsRefusal id.count cs why × (buffer' ≡ buffer) × (len' ≡ len)

@@ -54,21 +54,28 @@ position_in list w = first (λ s. s ∷ []) list (w ∷ [])
 abbrev pub FindsEach : List (List ℕ) → List ℕ → List ℕ → List ℕ → List ℕ → Result (Unit {0}) Refusal → Type 0
 FindsEach list = FindsBy (λ w. or_absent (position_in list w))
 
--- what is written for a string that is looked up in bytes that may be no frozen table: that it isn't found, or a symbol that has it
+-- what is written for a string that is looked up in bytes that may be no frozen table: that it isn't
+-- found, or a symbol that has it
 abbrev pub IsEqualOrAbsent : List (List ℕ) → List ℕ → ℕ → Type 0
 IsEqualOrAbsent list w n = (n ≡ or_absent None) ⊎ (slice_get list n ≡ Some w)
 
 -- a batch is looked up in bytes with the sections of a frozen table, and otherwise nothing is written
 abbrev pub FindsEachTrusted : List ℕ → List ℕ → List ℕ → List ℕ → List ℕ → Result (Unit {0}) Refusal → Type 0
-FindsEachTrusted bs batch ends places symbols (Ok _) = HasSections bs × (is_batch batch ends (length places) ≡ true) × AreAll (IsEqualOrAbsent (strings bs)) (pieces batch 0 ends) symbols
-FindsEachTrusted bs batch ends places symbols (Err BadEnds) = HasSections bs × (is_batch batch ends (length places) ≡ false) × (symbols ≡ places)
-FindsEachTrusted bs batch ends places symbols (Err refusal) = (¬ HasSections bs) × IsRefused bs refusal × (symbols ≡ places)
+FindsEachTrusted bs batch ends places symbols (Ok _) = HasSections bs
+    × (is_batch batch ends (length places) ≡ true)
+    × AreAll (IsEqualOrAbsent (strings bs)) (pieces batch 0 ends) symbols
+FindsEachTrusted bs batch ends places symbols (Err BadEnds) =
+    HasSections bs × (is_batch batch ends (length places) ≡ false) × (symbols ≡ places)
+FindsEachTrusted bs batch ends places symbols (Err refusal) =
+    (¬ HasSections bs) × IsRefused bs refusal × (symbols ≡ places)
 
--- all strings of a frozen table are interned, all or none, as are those of any bytes with its header whose strings fill
--- their text; other bytes are refused
+-- all strings of a frozen table are interned, all or none, as are those of any bytes with its header whose
+-- strings fill their text; other bytes are refused
 abbrev pub Absorbs : List ℕ → List ℕ → List ℕ → Seen → Result (Unit {0}) Refusal → State (List ℕ) → Type 0
 Absorbs bs places symbols t result s' =
-    (IsBlock bs × Either (length places == length (strings bs)) (InternsOr IsRolledBack (strings bs) symbols t result s') ((result ≡ Err BadEnds) × (s' ≡ t.state)))
+    (IsBlock bs
+    × Either (length places == length (strings bs))
+    (InternsOr IsRolledBack (strings bs) symbols t result s') ((result ≡ Err BadEnds) × (s' ≡ t.state)))
     ⊎ ((¬ IsBlock bs) × IsErrAnd result (IsRefused bs) × (s' ≡ t.state))
 
 -- the error for C of an error of freezing
@@ -86,7 +93,8 @@ frozen_kind rule.Bytes = frozen.Bytes
 frozen_kind rule.Text = frozen.Text
 frozen_kind rule.CStr = frozen.Bytes
 
--- bytes are a frozen table of the strings of a table, as C sees them, each at its symbol, under these keys or the next ones
+-- bytes are a frozen table of the strings of a table, as C sees them, each at its symbol,
+-- under these keys or the next ones
 pub record IsFrozenOf (t : Seen) (keys : ℕ × ℕ) (bs : List ℕ) : Type 0 where
   pub table : IsTableOf (frozen_kind (rule_of t.kind)) t.state.contents bs
   pub keyed : HasKeys keys.0 keys.1 bs
@@ -99,11 +107,16 @@ pub record IsWrittenTo (t : Seen) (keys : ℕ × ℕ) (old new : List ℕ) (size
 
 -- a table is frozen under keys, by the result
 abbrev pub Freezes : ℕ × ℕ → List ℕ → List ℕ → ℕ → ℕ → Seen → Result (Unit {0}) Refusal → Type 0
-Freezes keys buffer buffer' len len' t (Ok _) = (bs : List ℕ) × IsWrittenTo t keys buffer buffer' len' bs × (length bs ≤ length buffer)
-Freezes keys buffer buffer' len len' t (Err NoSpace) = (bs : List ℕ) × IsWrittenTo t keys buffer buffer' len' bs × (length buffer < length bs)
-Freezes keys buffer buffer' len len' t (Err refusal) = (error : FreezeError) × (refusal ≡ freeze_refusal error) × IsRefusal (frozen_kind (rule_of t.kind)) t.state.contents error × (buffer' ≡ buffer) × (len' ≡ len)
+Freezes keys buffer buffer' len len' t (Ok _) = (bs : List ℕ) × IsWrittenTo t keys buffer buffer' len' bs
+    × (length bs ≤ length buffer)
+Freezes keys buffer buffer' len len' t (Err NoSpace) =
+    (bs : List ℕ) × IsWrittenTo t keys buffer buffer' len' bs × (length buffer < length bs)
+Freezes keys buffer buffer' len len' t (Err refusal) = (error : FreezeError)
+    × (refusal ≡ freeze_refusal error) × IsRefusal (frozen_kind (rule_of t.kind)) t.state.contents error
+    × (buffer' ≡ buffer) × (len' ≡ len)
 
 -- the same of the table that a handle holds
 abbrev pub FreezesHeld : Handle → ℕ × ℕ → List ℕ → List ℕ → ℕ → ℕ → Result (Unit {0}) Refusal → Type 0
 FreezesHeld handle keys buffer buffer' len len' result =
-    MatchOption (table_of handle) ((result ≡ Err NoTable) × (buffer' ≡ buffer) × (len' ≡ len)) (λ t. Freezes keys buffer buffer' len len' t result)
+    MatchOption (table_of handle) ((result ≡ Err NoTable) × (buffer' ≡ buffer) × (len' ≡ len))
+    (λ t. Freezes keys buffer buffer' len len' t result)

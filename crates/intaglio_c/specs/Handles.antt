@@ -22,21 +22,28 @@ abbrev pub HoldsNone : Handle → Type 0
 HoldsNone handle = handle.ptr.table ≡ None
 
 -- a call may change the state of the table; without a table it returns `NoTable`
-abbrev pub Changes : {X : Type 0} → Handle → Handle → Result X Refusal → (Seen → Result X Refusal → State (List ℕ) → Type 0) → Type 0
+abbrev pub Changes : {X : Type 0} → Handle → Handle → Result X Refusal →
+    (Seen → Result X Refusal → State (List ℕ) → Type 0) → Type 0
 Changes old new result Step =
-    MatchOption (table_of old) ((result ≡ Err NoTable) × HoldsNone new) (λ before. IsSomeAnd (table_of new) (λ after. IsChangedBy before after (λ _ s'. Step before result s')))
+    MatchOption (table_of old) ((result ≡ Err NoTable) × HoldsNone new) (λ before.
+    IsSomeAnd (table_of new) (λ after. IsChangedBy before after (λ _ s'. Step before result s')))
 
 -- the same from C, which gets the code of the result
-abbrev pub ChangesWithCode : Handle → Handle → ℕ → (Seen → Result (Unit {0}) Refusal → State (List ℕ) → Type 0) → Type 0
+abbrev pub ChangesWithCode : Handle → Handle → ℕ →
+    (Seen → Result (Unit {0}) Refusal → State (List ℕ) → Type 0) → Type 0
 ChangesWithCode old new code Step = IsCodeOf code (λ answer. Changes old new answer Step)
 
 -- and the symbol, which is written over another number
-abbrev pub ChangesWithSymbol : Handle → Handle → ℕ → ℕ → ℕ → (Seen → Result ℕ Refusal → State (List ℕ) → Type 0) → Type 0
-ChangesWithSymbol old new code before after Step = (answer : Result ℕ Refusal) × (code ≡ answer_code answer) × IsWritten answer before after × Changes old new answer Step
+abbrev pub ChangesWithSymbol : Handle → Handle → ℕ → ℕ → ℕ →
+    (Seen → Result ℕ Refusal → State (List ℕ) → Type 0) → Type 0
+ChangesWithSymbol old new code before after Step = (answer : Result ℕ Refusal) × (code ≡ answer_code answer)
+    × IsWritten answer before after × Changes old new answer Step
 
 -- the table, if there is one, is cleared
 abbrev pub Clears : Handle → Handle → Type 0
-Clears old new = MatchOption (table_of old) (HoldsNone new) (λ before. IsSomeAnd (table_of new) (λ after. IsChangedBy before after Empties))
+Clears old new =
+    MatchOption (table_of old) (HoldsNone new) (λ before.
+    IsSomeAnd (table_of new) (λ after. IsChangedBy before after Empties))
 
 -- a new table, whose builder makes this hasher
 pub record IsNew (t : Seen) (which : Kind) (room limit : ℕ) (made : DefaultHasher) : Type 0 where
@@ -55,7 +62,9 @@ Makes (Some kind) new (Err _) IsTooLarge IsMade = ⊥
 
 -- a table of this size is made
 abbrev pub MakesSized : ℕ → Size → DefaultHasher → Handle → Result (Unit {0}) Refusal → Type 0
-MakesSized kind size hasher new result = Makes (kind_of kind) new result (IsOutside size) (λ which t. IsNew t which (room_of size) (most_of size) hasher)
+MakesSized kind size hasher new result =
+    Makes (kind_of kind) new result (IsOutside size) (λ which t.
+    IsNew t which (room_of size) (most_of size) hasher)
 
 -- what a look-up found
 abbrev pub found : Result (Option ℕ) Refusal → Option ℕ
@@ -73,7 +82,8 @@ stored handle symbol = option_and_then (λ t. slice_get t.state.contents symbol)
 -- a buffer, with bytes at its start if it has space for them
 abbrev pub filled : List ℕ → Option (List ℕ) → List ℕ
 filled buffer None = buffer
-filled buffer (Some bytes) = if nat_lt (length buffer) (length bytes) then buffer else bytes ++ drop (length bytes) buffer
+filled buffer (Some bytes) =
+    if nat_lt (length buffer) (length bytes) then buffer else bytes ++ drop (length bytes) buffer
 
 -- the number of contents, and the capacity
 abbrev pub count : Option Seen → ℕ

@@ -9,8 +9,8 @@ use Rattle.intaglio_path.specs.Components.{components}
 use Rattle.intaglio_c.specs.declared.kind.Kind.TheVariants.{Owned, Path, Packed}
 use Rattle.intaglio_c.specs.declared.kind.Rule.TheVariants as rule
 
--- the kind with a number: of texts, bytes, C strings, paths, OS strings, byte strings, packed texts and packed
--- bytes
+-- the kind with a number: of texts, bytes, C strings, paths, OS strings, byte
+-- strings, packed texts and packed bytes
 abbrev pub kind_of : ℕ → Option Kind
 kind_of n =
     if n == 0 then Some (Owned rule.Text)

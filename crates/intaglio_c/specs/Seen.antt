@@ -18,7 +18,8 @@ pub record Seen : Type 0 where
 
 -- a state with contents as their bytes
 abbrev pub as_bytes : {C : Type 0} → (C → List ℕ) → State C → State (List ℕ)
-as_bytes bytes s = record { contents = map bytes s.contents; spare = s.spare; buckets = s.buckets; limit = s.limit }
+as_bytes bytes s =
+    record { contents = map bytes s.contents; spare = s.spare; buckets = s.buckets; limit = s.limit }
 
 -- a state of a table of this kind, by the bytes of its contents
 abbrev pub seen_of : {C : Type 0} → Kind → (C → List ℕ) → State C → KeyedState → Seen
@@ -88,5 +89,6 @@ abbrev pub IsChanged : AnyTable → AnyTable → (State (List ℕ) → State (Li
 IsChanged old new step = IsChangedBy (seen old) (seen new) step
 
 -- a call takes a step, by its result
-abbrev pub TakesStep : {X : Type 0} → AnyTable → AnyTable → Result X Refusal → (Seen → Result X Refusal → State (List ℕ) → Type 0) → Type 0
+abbrev pub TakesStep : {X : Type 0} → AnyTable → AnyTable → Result X Refusal →
+    (Seen → Result X Refusal → State (List ℕ) → Type 0) → Type 0
 TakesStep old new result Step = IsChanged old new (λ _ s'. Step (seen old) result s')

@@ -12,7 +12,8 @@ InternsNew copies bytes s (Err NoMemory) s' = IsOutOfMemory copies s s'
 InternsNew copies bytes s (Err _) s' = ⊥
 
 -- bytes are interned, given the result of looking them up
-abbrev pub InternsBy : Bool → List ℕ → State (List ℕ) → Result (Option ℕ) Refusal → Result ℕ Refusal → State (List ℕ) → Type 0
+abbrev pub InternsBy : Bool → List ℕ → State (List ℕ) → Result (Option ℕ) Refusal → Result ℕ Refusal →
+    State (List ℕ) → Type 0
 InternsBy copies bytes s (Err refusal) result s' = (result ≡ Err refusal) × (s' ≡ s)
 InternsBy copies bytes s (Ok (Some symbol)) result s' = (result ≡ Ok symbol) × (s' ≡ s)
 InternsBy copies bytes s (Ok None) result s' = InternsNew copies bytes s result s'

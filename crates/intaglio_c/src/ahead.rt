@@ -1,6 +1,6 @@
-//! Groups of strings: all of a group are hashed, then what their look-ups will read is read, and only then is each
-//! looked up. So the cache misses of their look-ups overlap, and nothing is allocated. Where the table is small, each
-//! string is hashed when it is looked up.
+//! Look-ups of strings in groups. First all strings of a group are hashed, then the memory that their
+//! look-ups will read is read, and only then is each string looked up. So the cache misses of these look-ups
+//! overlap. Nothing is allocated. If the table is small, each string is hashed when it is looked up.
 ghost use Rattle.std.specs.Prelude.{◌≡◌, ◌<◌, ◌≤◌, ℕ, List, drop, length, map};
 ghost use Rattle.intaglio_c.specs.Batches.{AreAll, AreFirst, or_absent};
 
@@ -36,8 +36,8 @@ pub(crate) trait LookUps {
         ensures exact { is_exact self.now → result ≡ number self.now bytes.now };
 }
 
-// Begins a group unless there are hashes left of the one before, of one string if the table is small. Returns where
-// those that are left begin.
+// Begins a group unless there are hashes left of the one before, of one string if the table is small. Returns
+// where those that are left begin.
 #[inline(always)]
 pub(crate) fn look_ahead<T: LookUps, L: StringList>(
     table: &T,
@@ -65,7 +65,8 @@ pub(crate) fn look_ahead<T: LookUps, L: StringList>(
     0
 }
 
-// Hashes the strings from a position on, one for each place, and reads what look-ups by these hashes will read.
+// Hashes the strings from a position on, one for each place, and reads what
+// look-ups by these hashes will read.
 #[inline(never)]
 fn hash_group<T: LookUps, L: StringList>(table: &T, list: &L, place: usize, hashes: &mut [u64])
     requires within { place ≤ length (L.strings list.now) }
@@ -130,7 +131,8 @@ impl LookUps for TrustedFrozen<'_> {
     }
 }
 
-// The bytes that are read are written, and the call isn't inlined, so that the compiler can't leave out the reads.
+// The bytes that are read are written, and the call isn't inlined, so that the
+// compiler can't leave out the reads.
 #[inline(never)]
 fn touch_each(table: &TrustedFrozen<'_>, hashes: &[u64], touched: &mut [u8]) {
     for place in 0..hashes.len().min(touched.len()) {

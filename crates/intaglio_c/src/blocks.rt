@@ -13,8 +13,8 @@ use std::alloc::Global;
 // How many strings there may be in all tables together: fewer than the code of a missing string.
 const MOST: u64 = u32::MAX as u64;
 
-// Reads the header and the ends of each table. `number` becomes that of the first table that is none, and otherwise how
-// many there are.
+// Reads the header and the ends of each table. `number` becomes that of the first table that is none,
+// and otherwise how many there are.
 pub(crate) fn read_blocks<'a>(
     alloc: Global,
     tables: &[&'a [u8]],

@@ -1,5 +1,5 @@
-//! The calls that C sees. A handle knows the kind of its table, so one function serves all kinds; the header also has
-//! names for each. A frozen table has no handle, and neither has a column: they are their bytes.
+//! The calls that C sees. A handle knows the kind of its table, so one function serves all kinds; the header
+//! also has names for each. A frozen table has no handle, and neither has a column: they are their bytes.
 ghost use Rattle.std.specs.Prelude.{◌≡◌};
 
 // The table of a handle, lent. Without a table the call returns at once.

@@ -49,8 +49,8 @@ impl Handle {
     ghost use Rattle.intaglio_hash.specs.KeyedState.{initial_hasher};
     ghost use Rattle.intaglio_c.specs.Handles.{MakesSized};
 
-    // Puts a new table of a kind and a size into the handle. The earlier one is freed. For a number that is no kind's
-    // it returns `NoKind`, and then, as after each error, the handle holds no table.
+    // Puts a new table of a kind and a size into the handle. The earlier one is freed. For a number that is
+    // no kind's it returns `NoKind`, and then, as after each error, the handle holds no table.
     pub(crate) fn make(
         &mut self,
         alloc: Global,

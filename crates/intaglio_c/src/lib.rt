@@ -1,9 +1,9 @@
-//! The tables of texts, bytes, C strings, paths, OS strings and byte strings for C, and packed tables of texts
-//! and of bytes.
+//! The tables of texts, bytes, C strings, paths, OS strings and byte strings for C, and
+//! packed tables of texts and of bytes.
 //!
-//! C sees bytes. It holds a [`Handle`], which owns an [`AnyTable`]: one of three stores, with what its strings are.
-//! Each call borrows the table from the handle. Its contract is about the table as C sees it, with its contents as
-//! their bytes, before and after the call.
+//! C sees bytes. It holds a [`Handle`], which owns an [`AnyTable`]: one of three stores, with what its
+//! strings are. Each call borrows the table from the handle. Its contract is about the table as C sees it,
+//! with its contents as their bytes, before and after the call.
 #![tactic(auto)]
 
 mod ahead;

@@ -45,7 +45,8 @@ pub enum Refusal {
     Reserved = 15,
     /// There are more strings than a frozen table can have.
     TooMany = 16,
-    /// The bytes of a frozen table end within its header or a section, or those of a column before its last row.
+    /// The bytes of a frozen table end within its header or a section, or those
+    /// of a column before its last row.
     Truncated = 17,
     /// The strings of a frozen table don't fill its text.
     TextEnds = 18,

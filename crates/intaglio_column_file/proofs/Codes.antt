@@ -2,50 +2,66 @@
 use Rattle.std.proofs.Common.{◌≡◌, ◌∙◌, ℕ, zero, suc, ◌+◌, ◌*◌, ◌<◌, List, length, get_or, slice_get, Some, refl, sym, ap, arith}
 use Rattle.std.proofs.lemmas.Option.{get_or_from_slice_get, slice_get-get_or}
 use Rattle.intaglio_column_file.specs.Width.{bytes_of}
-use Rattle.intaglio_column_file.specs.Numbers.{u8_at, u16_at, u32_at}
+use Rattle.intaglio_hash.specs.Numbers.{u8_at, u16_at, u32_at}
 use Rattle.intaglio_column_file.specs.Layout.{code_at, codes_at, widened, rows, width, codes}
 use Rattle.intaglio_column_file.specs.declared.width.Width.{Width}
 use Rattle.intaglio_column_file.specs.declared.width.Width.TheVariants.{One, Two, Four}
 
+-- the list of n codes that follow each other in bytes has n items
 pub codes_length : (bs : List ℕ) (w : Width) (at n : ℕ) → length (codes_at bs w at n) ≡ n
 codes_length bs w at zero = refl
 codes_length bs w at (suc n) = ap suc (codes_length bs w (at + bytes_of w) n)
 
-pub codes_get : (bs : List ℕ) (w : Width) (at n i : ℕ) → i < n → get_or (codes_at bs w at n) i 0 ≡ code_at bs w (at + bytes_of w * i)
+-- of n codes that follow each other in bytes, the one at position i stands i widths behind the first
+pub codes_get : (bs : List ℕ) (w : Width) (at n i : ℕ) → i < n →
+    get_or (codes_at bs w at n) i 0 ≡ code_at bs w (at + bytes_of w * i)
 codes_get bs w at zero i l = absurd (omega arith)
 codes_get bs w at (suc n) zero l = ap (code_at bs w) (omega arith)
-codes_get bs w at (suc n) (suc i) l = codes_get bs w (at + bytes_of w) n i (omega arith) ∙ ap (code_at bs w) (omega arith)
+codes_get bs w at (suc n) (suc i) l = codes_get bs w (at + bytes_of w) n i (omega arith)
+    ∙ ap (code_at bs w) (omega arith)
 
 -- all codes of a column
 pub all_length : (bs : List ℕ) → length (codes bs) ≡ rows bs
 unfolding codes
 all_length bs = codes_length bs (width bs) 64 (rows bs)
 
-pub all_get : (bs : List ℕ) (i : ℕ) → i < rows bs → slice_get (codes bs) i ≡ Some (code_at bs (width bs) (64 + bytes_of (width bs) * i))
+-- the code of a row stands as many widths behind the header as there are rows before it
+pub all_get : (bs : List ℕ) (i : ℕ) → i < rows bs →
+    slice_get (codes bs) i ≡ Some (code_at bs (width bs) (64 + bytes_of (width bs) * i))
 unfolding codes
 all_get bs i l =
     let read = codes_get bs (width bs) 64 (rows bs) i l in
     slice_get-get_or (codes bs) i 0 (omega (arith, l, all_length bs)) ∙ ap Some read
 
 -- a code that was read
-pub read_get : (bs : List ℕ) (w : Width) (row size code : ℕ) → w ≡ width bs → row < rows bs → size ≡ bytes_of w → code ≡ code_at bs w (64 + size * row) → slice_get (codes bs) row ≡ Some code
+pub read_get : (bs : List ℕ) (w : Width) (row size code : ℕ) → w ≡ width bs → row < rows bs →
+    size ≡ bytes_of w → code ≡ code_at bs w (64 + size * row) → slice_get (codes bs) row ≡ Some code
 read_get bs w row size code ew l es e =
-    let at = ap (λ v. code_at bs v (64 + bytes_of v * row)) (sym ew) ∙ ap (λ s. code_at bs w (64 + s * row)) (sym es) ∙ sym e in
+    let at = ap (λ v. code_at bs v (64 + bytes_of v * row)) (sym ew)
+    ∙ ap (λ s. code_at bs w (64 + s * row)) (sym es) ∙ sym e in
     all_get bs row l ∙ ap Some at
 
 -- the same, where a row without a code reads as 0
-pub read_or : (bs : List ℕ) (w : Width) (row size : ℕ) → w ≡ width bs → row < rows bs → size ≡ bytes_of w → code_at bs w (64 + size * row) ≡ get_or (codes bs) row 0
-read_or bs w row size ew l es = sym (get_or_from_slice_get (codes bs) row (code_at bs w (64 + size * row)) 0 (read_get bs w row size (code_at bs w (64 + size * row)) ew l es refl))
+pub read_or : (bs : List ℕ) (w : Width) (row size : ℕ) → w ≡ width bs → row < rows bs → size ≡ bytes_of w →
+    code_at bs w (64 + size * row) ≡ get_or (codes bs) row 0
+read_or bs w row size ew l es =
+    sym (get_or_from_slice_get (codes bs) row (code_at bs w (64 + size * row)) 0
+    (read_get bs w row size (code_at bs w (64 + size * row)) ew l es refl))
 
 -- the code at a position, by its width
-pub one_at : (bs : List ℕ) (w : Width) (at code byte : ℕ) → w ≡ One → byte ≡ u8_at bs at → code ≡ widened One byte → code ≡ code_at bs w at
+pub one_at : (bs : List ℕ) (w : Width) (at code byte : ℕ) → w ≡ One → byte ≡ u8_at bs at →
+    code ≡ widened One byte → code ≡ code_at bs w at
 unfolding code_at u8_at
 one_at bs w at code byte is read e = e ∙ ap (widened One) read ∙ ap (λ v. code_at bs v at) (sym is)
 
-pub two_at : (bs : List ℕ) (w : Width) (at code read : ℕ) → w ≡ Two → read ≡ u16_at bs at → code ≡ widened Two read → code ≡ code_at bs w at
+-- if codes have two bytes, the number of two bytes at a position, once widened, is the code there
+pub two_at : (bs : List ℕ) (w : Width) (at code read : ℕ) → w ≡ Two → read ≡ u16_at bs at →
+    code ≡ widened Two read → code ≡ code_at bs w at
 unfolding code_at u16_at
 two_at bs w at code read is same e = e ∙ ap (widened Two) same ∙ ap (λ v. code_at bs v at) (sym is)
 
-pub four_at : (bs : List ℕ) (w : Width) (at code read : ℕ) → w ≡ Four → read ≡ u32_at bs at → code ≡ widened Four read → code ≡ code_at bs w at
+-- if codes have four bytes, the number of four bytes at a position, once widened, is the code there
+pub four_at : (bs : List ℕ) (w : Width) (at code read : ℕ) → w ≡ Four → read ≡ u32_at bs at →
+    code ≡ widened Four read → code ≡ code_at bs w at
 unfolding code_at u32_at
 four_at bs w at code read is same e = e ∙ ap (widened Four) same ∙ ap (λ v. code_at bs v at) (sym is)

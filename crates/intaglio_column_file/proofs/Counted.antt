@@ -1,8 +1,5 @@
 -- How often each string occurs in the codes so far.
-use Rattle.std.proofs.Common.{◌≡◌, ◌≢◌, ◌∙◌, ℕ, ◌+◌, ◌<◌, ◌≤◌, ◌==◌, inl, inr, List, length, get_or, set, take, replicate, slice_get, Some, refl, sym, ap, arith, eq-eqb, length-set, get_or-set_other}
-use Rattle.std.proofs.Math.Seq.{take-length}
-use Rattle.std.proofs.lemmas.List.{get_or-replicate, length-replicate}
-use Rattle.std.proofs.lemmas.List.Folds.{sum_by-replicate}
+use Rattle.std.proofs.Common.{◌≡◌, ◌≢◌, ◌∙◌, ℕ, ◌+◌, ◌<◌, ◌≤◌, ◌==◌, inl, inr, List, length, get_or, set, take, slice_get, Some, sym, ap, arith, eq-eqb, length-set, get_or-set_other}
 use Rattle.std.specs.List.{sum}
 use Rattle.std.proofs.lemmas.Bool.{cases_eq, ne_eqb}
 use Rattle.std.proofs.lemmas.Grind.{get_or-set_at}
@@ -10,7 +7,7 @@ use Rattle.std.proofs.lemmas.List.Sums.{count_by_more_yes, count_by_more_no, sum
 use Rattle.std.proofs.lemmas.Option.{slice_get_within, get_or_from_slice_get}
 use Rattle.intaglio_column_file.specs.Width.{missing}
 use Rattle.intaglio_column_file.specs.IsColumn.{AreCodes}
-use Rattle.intaglio_column_file.specs.Rows.{AreCounts, count_of}
+use Rattle.intaglio_column_file.specs.Rows.{count_of}
 
 pub record IsTally (n : ℕ) (cs : List ℕ) (i : ℕ) (counts : List ℕ) (gone : ℕ) : Type 0 where
   pub strings : length counts ≡ n
@@ -20,35 +17,19 @@ pub record IsTally (n : ℕ) (cs : List ℕ) (i : ℕ) (counts : List ℕ) (gone
   pub few_missing : gone ≤ i
   pub all : AreCodes n cs → sum counts + gone ≡ i
 
-pub tally_none : (n : ℕ) (cs : List ℕ) → IsTally n cs 0 (replicate n 0) 0
-tally_none n cs = record {
-  strings = length-replicate {A = ℕ} n 0;
-  each = λ s l. get_or-replicate {A = ℕ} n s 0 0 l;
-  missing = refl;
-  few = λ s l. omega (arith, get_or-replicate {A = ℕ} n s 0 0 l);
-  few_missing = omega arith;
-  all = λ ok. omega (arith, sum_by-replicate (λ x. x) n 0);
-}
-
-pub tally_whole : (n : ℕ) (cs counts : List ℕ) (i gone : ℕ) → i ≡ length cs → IsTally n cs i counts gone → AreCounts n cs counts gone
-tally_whole n cs counts i gone e t =
-    let whole : take i cs ≡ cs = rw e (take-length cs) in
-    record {
-      strings = t.strings;
-      each = λ s l. t.each s l ∙ ap (count_of s) whole;
-      missing = t.missing ∙ ap (count_of missing) whole;
-      all = λ ok. t.all ok ∙ e;
-    }
-
-module _ (n : ℕ) (cs : List ℕ) (i : ℕ) (counts : List ℕ) (gone c : ℕ) (at : slice_get cs i ≡ Some c) (before : IsTally n cs i counts gone) where
+module _ (n : ℕ) (cs : List ℕ) (i : ℕ) (counts : List ℕ) (gone c : ℕ) (at : slice_get cs i ≡ Some c)
+    (before : IsTally n cs i counts gone) where
   is : get_or cs i 0 ≡ c
   is = get_or_from_slice_get cs i c 0 at
 
   yes : (s : ℕ) → c ≡ s → count_of s (take (i + 1) cs) ≡ count_of s (take i cs) + 1
-  yes s e = count_by_more_yes (λ x. x == s) cs i 0 (slice_get_within cs i c at) (eq-eqb (get_or cs i 0) s (is ∙ e))
+  yes s e =
+      count_by_more_yes (λ x. x == s) cs i 0 (slice_get_within cs i c at) (eq-eqb (get_or cs i 0) s (is ∙ e))
 
   no : (s : ℕ) → c ≢ s → count_of s (take (i + 1) cs) ≡ count_of s (take i cs)
-  no s e = count_by_more_no (λ x. x == s) cs i 0 (slice_get_within cs i c at) (ne_eqb (get_or cs i 0) s (λ h. e (sym is ∙ h)))
+  no s e =
+      count_by_more_no (λ x. x == s) cs i 0 (slice_get_within cs i c at)
+      (ne_eqb (get_or cs i 0) s (λ h. e (sym is ∙ h)))
 
   pub tally_missing : c ≡ missing → n ≤ missing → IsTally n cs (i + 1) counts (gone + 1)
   tally_missing e small = record {
@@ -64,12 +45,15 @@ module _ (n : ℕ) (cs : List ℕ) (i : ℕ) (counts : List ℕ) (gone c : ℕ) 
   tally_string l ne =
       let below : c < length counts = omega (arith, l, before.strings) in
       let more = get_or counts c 0 + 1 in
-      let same : (s : ℕ) → s ≡ c → get_or (set counts c more) s 0 ≡ more = λ s e. get_or-set_at counts c s more 0 e below in
+      let same : (s : ℕ) → s ≡ c → get_or (set counts c more) s 0 ≡ more =
+      λ s e. get_or-set_at counts c s more 0 e below in
       record {
         strings = length-set counts c more ∙ before.strings;
         each = λ s m. elim (cases_eq s c) [
-          | inl e ↦ same s e ∙ ap (λ x. get_or counts x 0 + 1) (sym e) ∙ ap (λ x. x + 1) (before.each s m) ∙ sym (yes s (sym e))
-          | inr other ↦ get_or-set_other counts c s more 0 other ∙ before.each s m ∙ sym (no s (λ h. other (sym h)))
+          | inl e ↦ same s e ∙ ap (λ x. get_or counts x 0 + 1) (sym e) ∙ ap (λ x. x + 1) (before.each s m)
+              ∙ sym (yes s (sym e))
+          | inr other ↦ get_or-set_other counts c s more 0 other ∙ before.each s m
+              ∙ sym (no s (λ h. other (sym h)))
         ];
         missing = before.missing ∙ sym (no missing ne);
         few = λ s m. elim (cases_eq s c) [

@@ -12,6 +12,7 @@ pub record ArePlaced (p : ℕ → Bool) (cs places : List ℕ) (from : ℕ) (now
   pub size : count ≡ length done
   pub few : count ≤ from
 
+-- before the first row, no row has been written over the places
 pub none_placed : (p : ℕ → Bool) (cs places : List ℕ) → ArePlaced p cs places 0 places 0
 none_placed p cs places = record {
   done = [];
@@ -21,8 +22,10 @@ none_placed p cs places = record {
   few = omega arith;
 }
 
-module _ (p : ℕ → Bool) (cs places : List ℕ) (from : ℕ) (now : List ℕ) (count : ℕ) (before : ArePlaced p cs places from now count) where
-  pub next_placed : (new : List ℕ) (row : ℕ) → IsFirstRow p from cs row → (count < length now → new ≡ set now count row) → (length now ≤ count → new ≡ now)
+module _ (p : ℕ → Bool) (cs places : List ℕ) (from : ℕ) (now : List ℕ) (count : ℕ)
+    (before : ArePlaced p cs places from now count) where
+  pub next_placed : (new : List ℕ) (row : ℕ) → IsFirstRow p from cs row →
+      (count < length now → new ≡ set now count row) → (length now ≤ count → new ≡ now)
       → ArePlaced p cs places (row + 1) new (count + 1)
   next_placed new row is there none =
       let long : length now ≡ length places = ap length before.over ∙ overlaid_length before.done places in

@@ -8,16 +8,6 @@ use Rattle.intaglio_column_file.specs.Width.{bytes_of, greatest, missing}
 use Rattle.intaglio_column_file.specs.declared.width.Width.{Width}
 use Rattle.intaglio_column_file.specs.declared.width.Width.TheVariants.{One, Two, Four}
 
-pub more_rows : (w : Width) (room whole rows : ℕ) → room < bytes_of w * (whole + 1) → whole < rows → room < bytes_of w * rows
-more_rows One room whole rows h l = omega arith
-more_rows Two room whole rows h l = omega arith
-more_rows Four room whole rows h l = omega arith
-
-pub rows_fit : (w : Width) (room whole rows : ℕ) → bytes_of w * whole ≤ room → rows ≤ whole → bytes_of w * rows ≤ room
-rows_fit One room whole rows h l = omega arith
-rows_fit Two room whole rows h l = omega arith
-rows_fit Four room whole rows h l = omega arith
-
 -- the code of a row ends where the rows do, or before
 pub row_fits : (w : Width) (row rows : ℕ) → row < rows → bytes_of w * row + bytes_of w ≤ bytes_of w * rows
 row_fits One row rows l = omega arith
@@ -25,7 +15,8 @@ row_fits Two row rows l = omega arith
 row_fits Four row rows l = omega arith
 
 -- two codes of a width are equal if they are as those of four bytes
-pub same_widened : (w : Width) (a b : ℕ) → a ≤ greatest w → b ≤ greatest w → (a == b) ≡ (widened w a == widened w b)
+pub same_widened : (w : Width) (a b : ℕ) → a ≤ greatest w → b ≤ greatest w →
+    (a == b) ≡ (widened w a == widened w b)
 same_widened One a b la lb = grind (arith, nat_tests)
 same_widened Two a b la lb = grind (arith, nat_tests)
 same_widened Four a b la lb = grind (arith, nat_tests)
@@ -34,9 +25,11 @@ same_widened Four a b la lb = grind (arith, nat_tests)
 pub widened_greatest : (w : Width) (a : ℕ) → a ≡ greatest w → missing ≡ widened w a
 widened_greatest w a e = sym (ap (λ b. cond b missing a) (eq-eqb a (greatest w) e))
 
+-- a code other than the greatest of its width stays itself when it is widened
 pub widened_other : (w : Width) (a : ℕ) → a ≢ greatest w → a ≡ widened w a
 widened_other w a e = sym (ap (λ b. cond b missing a) (ne_eqb a (greatest w) e))
 
+-- a code of four bytes stays itself when it is widened
 pub widened_four : (a : ℕ) → a ≡ widened Four a
 widened_four a = elim (cases_eq a (greatest Four)) [
   | inl e ↦ e ∙ widened_greatest Four a e
@@ -44,11 +37,13 @@ widened_four a = elim (cases_eq a (greatest Four)) [
 ]
 
 -- a code is neither that of one of n strings nor the missing one if it isn't less than n, nor the greatest
-pub unknown_above : (w : Width) (n a : ℕ) → a ≤ greatest w → n ≤ a → not (a == greatest w) ≡ is_unknown n (widened w a)
+pub unknown_above : (w : Width) (n a : ℕ) → a ≤ greatest w → n ≤ a →
+    not (a == greatest w) ≡ is_unknown n (widened w a)
 unknown_above One n a l m = grind (arith, nat_tests)
 unknown_above Two n a l m = grind (arith, nat_tests)
 unknown_above Four n a l m = grind (arith, nat_tests)
 
+-- if a code of a width is less than n, the comparison with n says whether it is unknown once widened
 pub unknown_below : (w : Width) (n a : ℕ) → a ≤ greatest w → a < n → nat_le n a ≡ is_unknown n (widened w a)
 unknown_below One n a l m = grind (arith, nat_tests)
 unknown_below Two n a l m = grind (arith, nat_tests)

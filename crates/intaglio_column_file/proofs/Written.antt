@@ -7,7 +7,7 @@ use Rattle.std.proofs.lemmas.Bool.{cases_lt, ne_eqb, le-leb, lt-leb}
 use Rattle.std.proofs.lemmas.List.{get_or-append-add}
 use Rattle.std.proofs.lemmas.Nat.{from_le_bytes-to_le_bytes_2, from_le_bytes-to_le_bytes_4, from_le_bytes-to_le_bytes_8}
 use Rattle.intaglio_hash.specs.Push.{number}
-use Rattle.intaglio_column_file.specs.Numbers.{u32_at, u64_at}
+use Rattle.intaglio_hash.specs.Numbers.{u32_at, u64_at}
 use Rattle.intaglio_column_file.specs.Id.{kind_number}
 use Rattle.intaglio_column_file.specs.Width.{bytes_of, greatest, missing, width_for}
 use Rattle.intaglio_column_file.specs.Layout.{code_at, codes_at, codes, widened, rows, strings, width}
@@ -21,103 +21,144 @@ use Rattle.intaglio_column_file.specs.declared.width.Width.TheVariants.{One, Two
 number_behind : (xs ys : List ℕ) (j n : ℕ) → number (xs ++ ys) (length xs) j n ≡ number ys 0 j n
 number_behind xs ys j zero = refl
 number_behind xs ys j (suc n) =
-    let byte : get_or (xs ++ ys) (length xs + j) 0 ≡ get_or ys (0 + j) 0 = get_or-append-add xs ys j 0 ∙ ap (λ p. get_or ys p 0) (omega arith) in
+    let byte : get_or (xs ++ ys) (length xs + j) 0 ≡ get_or ys (0 + j) 0 =
+    get_or-append-add xs ys j 0 ∙ ap (λ p. get_or ys p 0) (omega arith) in
     let rest = number_behind xs ys (suc j) n in
     cc
 
-code_behind : (xs ys : List ℕ) (w : Width) (at : ℕ) → at ≡ length xs → code_at (xs ++ ys) w at ≡ code_at ys w 0
+-- the code right behind some bytes is the first one of what follows them
+code_behind : (xs ys : List ℕ) (w : Width) (at : ℕ) → at ≡ length xs →
+    code_at (xs ++ ys) w at ≡ code_at ys w 0
 unfolding code_at
-code_behind xs ys w at e = ap (λ p. widened w (number (xs ++ ys) p 0 (bytes_of w))) e ∙ ap (widened w) (number_behind xs ys 0 (bytes_of w))
+code_behind xs ys w at e = ap (λ p. widened w (number (xs ++ ys) p 0 (bytes_of w))) e
+    ∙ ap (widened w) (number_behind xs ys 0 (bytes_of w))
 
 -- numbers that were written are read
 same2 : (a b : ℕ) → number (a ∷ b ∷ []) 0 0 2 ≡ from_le_bytes w16 (a ∷ b ∷ [])
 same2 a b = omega arith
 
+-- four bytes make the number that `from_le_bytes` makes of them
 same4 : (a b c d : ℕ) → number (a ∷ b ∷ c ∷ d ∷ []) 0 0 4 ≡ from_le_bytes w32 (a ∷ b ∷ c ∷ d ∷ [])
 same4 a b c d = omega arith
 
-same8 : (a b c d e f g h : ℕ) → number (a ∷ b ∷ c ∷ d ∷ e ∷ f ∷ g ∷ h ∷ []) 0 0 8 ≡ from_le_bytes w64 (a ∷ b ∷ c ∷ d ∷ e ∷ f ∷ g ∷ h ∷ [])
+-- eight bytes make the number that `from_le_bytes` makes of them
+same8 : (a b c d e f g h : ℕ) →
+    number (a ∷ b ∷ c ∷ d ∷ e ∷ f ∷ g ∷ h ∷ []) 0 0 8 ≡ from_le_bytes w64 (a ∷ b ∷ c ∷ d ∷ e ∷ f ∷ g ∷ h ∷ [])
 same8 a b c d e f g h = omega arith
 
+-- a number below 2 ^ 16 is read from its two little-endian bytes
 le2 : (x : ℕ) → x < 2 ^ 16 → number (to_le_bytes w16 x) 0 0 2 ≡ x
 le2 x l = same2 (x % 256) (x / 256 % 256) ∙ from_le_bytes-to_le_bytes_2 x l
 
+-- a number below 2 ^ 32 is read from its four little-endian bytes
 le4 : (x : ℕ) → x < 2 ^ 32 → number (to_le_bytes w32 x) 0 0 4 ≡ x
-le4 x l = same4 (x % 256) (x / 256 % 256) (x / 65536 % 256) (x / 16777216 % 256) ∙ from_le_bytes-to_le_bytes_4 x l
+le4 x l = same4 (x % 256) (x / 256 % 256) (x / 65536 % 256) (x / 16777216 % 256)
+    ∙ from_le_bytes-to_le_bytes_4 x l
 
+-- a number below 2 ^ 64 is read from its eight little-endian bytes
 le8 : (x : ℕ) → x < 2 ^ 64 → number (to_le_bytes w64 x) 0 0 8 ≡ x
 le8 x l =
-    same8 (x % 256) (x / 256 % 256) (x / 65536 % 256) (x / 16777216 % 256) (x / 4294967296 % 256) (x / 1099511627776 % 256) (x / 281474976710656 % 256)
+    same8 (x % 256) (x / 256 % 256) (x / 65536 % 256) (x / 16777216 % 256) (x / 4294967296 % 256)
+    (x / 1099511627776 % 256) (x / 281474976710656 % 256)
     (x / 72057594037927936 % 256) ∙ from_le_bytes-to_le_bytes_8 x l
 
 -- a code that a width has
 abbrev Fits : Width → ℕ → Type 0
 Fits w c = (c < greatest w) ⊎ (c ≡ missing)
 
+-- a code below the greatest of its width stays itself when it is widened
 widened_same : (w : Width) (c : ℕ) → c < greatest w → widened w c ≡ c
 widened_same w c l = let other : c ≢ greatest w = omega (arith, l) in rw (ne_eqb c (greatest w) other) refl
 
+-- the greatest code of a width is the missing one when it is widened
 widened_missing : (w : Width) (c : ℕ) → c ≡ greatest w → widened w c ≡ missing
 widened_missing w c e = rw (eq-eqb c (greatest w) e) refl
 
+-- a number that equals a code below the greatest of a width is that code when it is widened
 code_one : (c m : ℕ) (w : Width) → m ≡ c → c < greatest w → widened w m ≡ c
 code_one c m w e l = ap (widened w) e ∙ widened_same w c l
 
+-- a number that equals the greatest code of a width is the missing code when it is widened
 code_gone : (c m : ℕ) (w : Width) → m ≡ greatest w → c ≡ missing → widened w m ≡ c
 code_gone c m w e g = widened_missing w m e ∙ sym g
 
+-- of a code that was written as one byte, the code modulo 2 ^ 8 is read
 read_one : (c : ℕ) (ys : List ℕ) → number (code_bytes One c ++ ys) 0 0 1 ≡ c % 2 ^ 8
 read_one c ys = omega arith
 
+-- of a code that was written as two bytes, the code modulo 2 ^ 16 is read
 read_two : (c : ℕ) (ys : List ℕ) → number (code_bytes Two c ++ ys) 0 0 2 ≡ c % 2 ^ 16
 read_two c ys = le2 (c % 2 ^ 16) (omega arith)
 
+-- of a code below 2 ^ 32 that was written as four bytes, the code is read
 read_four : (c : ℕ) (ys : List ℕ) → c < 2 ^ 32 → number (code_bytes Four c ++ ys) 0 0 4 ≡ c
 read_four c ys l = le4 c l
 
+-- a code that fits a width is read from its bytes, whatever follows them
 code_back : (w : Width) (c : ℕ) (ys : List ℕ) → Fits w c → code_at (code_bytes w c ++ ys) w 0 ≡ c
 unfolding code_at
-code_back One c ys (inl l) = code_one c (number (code_bytes One c ++ ys) 0 0 1) One (omega (arith, read_one c ys, l)) l
-code_back One c ys (inr e) = code_gone c (number (code_bytes One c ++ ys) 0 0 1) One (omega (arith, read_one c ys, e)) e
-code_back Two c ys (inl l) = code_one c (number (code_bytes Two c ++ ys) 0 0 2) Two (omega (arith, read_two c ys, l)) l
-code_back Two c ys (inr e) = code_gone c (number (code_bytes Two c ++ ys) 0 0 2) Two (omega (arith, read_two c ys, e)) e
-code_back Four c ys (inl l) = code_one c (number (code_bytes Four c ++ ys) 0 0 4) Four (read_four c ys (omega (arith, l))) l
-code_back Four c ys (inr e) = code_gone c (number (code_bytes Four c ++ ys) 0 0 4) Four (omega (arith, read_four c ys (omega (arith, e)), e)) e
+code_back One c ys (inl l) =
+    code_one c (number (code_bytes One c ++ ys) 0 0 1) One (omega (arith, read_one c ys, l)) l
+code_back One c ys (inr e) =
+    code_gone c (number (code_bytes One c ++ ys) 0 0 1) One (omega (arith, read_one c ys, e)) e
+code_back Two c ys (inl l) =
+    code_one c (number (code_bytes Two c ++ ys) 0 0 2) Two (omega (arith, read_two c ys, l)) l
+code_back Two c ys (inr e) =
+    code_gone c (number (code_bytes Two c ++ ys) 0 0 2) Two (omega (arith, read_two c ys, e)) e
+code_back Four c ys (inl l) =
+    code_one c (number (code_bytes Four c ++ ys) 0 0 4) Four (read_four c ys (omega (arith, l))) l
+code_back Four c ys (inr e) =
+    code_gone c (number (code_bytes Four c ++ ys) 0 0 4) Four
+    (omega (arith, read_four c ys (omega (arith, e)), e)) e
 
+-- a code has as many bytes as its width says
 code_size : (w : Width) (c : ℕ) → length (code_bytes w c) ≡ bytes_of w
 code_size One c = refl
 code_size Two c = refl
 code_size Four c = refl
 
+-- each of these codes fits the width
 abbrev AllFit : Width → List ℕ → Type 0
 AllFit w cs = (row code : ℕ) → slice_get cs row ≡ Some code → Fits w code
 
-codes_back : (w : Width) (cs xs : List ℕ) (at : ℕ) → at ≡ length xs → AllFit w cs → codes_at (xs ++ flat_map (code_bytes w) cs) w at (length cs) ≡ cs
+-- codes that fit a width are read from their bytes, where these begin behind other bytes
+codes_back : (w : Width) (cs xs : List ℕ) (at : ℕ) → at ≡ length xs → AllFit w cs →
+    codes_at (xs ++ flat_map (code_bytes w) cs) w at (length cs) ≡ cs
 codes_back w [] xs at e fit = refl
 codes_back w (c ∷ cs) xs at e fit =
     let rest = flat_map (code_bytes w) cs in
-    let head : code_at (xs ++ (code_bytes w c ++ rest)) w at ≡ c = code_behind xs (code_bytes w c ++ rest) w at e ∙ code_back w c rest (fit 0 c refl) in
-    let further : at + bytes_of w ≡ length (xs ++ code_bytes w c) = omega (arith, e, length-append xs (code_bytes w c), code_size w c) in
-    let tail : codes_at ((xs ++ code_bytes w c) ++ rest) w (at + bytes_of w) (length cs) ≡ cs = codes_back w cs (xs ++ code_bytes w c) (at + bytes_of w) further (λ row code is. fit (suc row) code is) in
-    let same : (xs ++ code_bytes w c) ++ rest ≡ xs ++ (code_bytes w c ++ rest) = append_assoc xs (code_bytes w c) rest in
-    let moved : codes_at (xs ++ (code_bytes w c ++ rest)) w (at + bytes_of w) (length cs) ≡ cs = rw same at tail in
+    let head : code_at (xs ++ (code_bytes w c ++ rest)) w at ≡ c =
+    code_behind xs (code_bytes w c ++ rest) w at e ∙ code_back w c rest (fit 0 c refl) in
+    let further : at + bytes_of w ≡ length (xs ++ code_bytes w c) =
+    omega (arith, e, length-append xs (code_bytes w c), code_size w c) in
+    let tail : codes_at ((xs ++ code_bytes w c) ++ rest) w (at + bytes_of w) (length cs) ≡ cs =
+    codes_back w cs (xs ++ code_bytes w c) (at + bytes_of w) further (λ row code is.
+    fit (suc row) code is) in
+    let same : (xs ++ code_bytes w c) ++ rest ≡ xs ++ (code_bytes w c ++ rest) =
+    append_assoc xs (code_bytes w c) rest in
+    let moved : codes_at (xs ++ (code_bytes w c ++ rest)) w (at + bytes_of w) (length cs) ≡ cs =
+    rw same at tail in
     cc
 
 -- the least width has each code
 fits_in : (n c : ℕ) (w : Width) → width_for n ≡ w → c < greatest w → Fits (width_for n) c
 fits_in n c w e l = subst (λ (v : Width). Fits v c) (sym e) (inl l)
 
+-- codes of at most 0xff strings have one byte
 width_one : (n : ℕ) → n ≤ 0xff → width_for n ≡ One
 width_one n l = rw (le-leb n 0xff l) refl
 
+-- codes of more than 0xff and at most 0xffff strings have two bytes
 width_two : (n : ℕ) → 0xff < n → n ≤ 0xffff → width_for n ≡ Two
 width_two n m l = rw (lt-leb n 0xff m) (rw (le-leb n 0xffff l) refl)
 
+-- codes of more than 0xffff strings have four bytes
 width_four : (n : ℕ) → 0xffff < n → width_for n ≡ Four
 width_four n m =
     let more : 0xff < n = omega (arith, m) in
     rw (lt-leb n 0xff more) (rw (lt-leb n 0xffff m) refl)
 
+-- the code of one of at most 2 ^ 31 strings, or the missing one, fits the width for so many
 fits_width : (n c : ℕ) → n ≤ 2 ^ 31 → IsCode n c → Fits (width_for n) c
 fits_width n c few (inr e) = inr e
 fits_width n c few (inl l) = elim (cases_lt 0xff n) [
@@ -128,16 +169,19 @@ fits_width n c few (inl l) = elim (cases_lt 0xff n) [
   ]
 ]
 
+-- the bytes of codes are the bytes of the width, times the number of codes
 codes_size : (w : Width) (cs : List ℕ) → length (flat_map (code_bytes w) cs) ≡ bytes_of w * length cs
 codes_size w [] = omega arith
 codes_size w (c ∷ cs) =
     let rest = flat_map (code_bytes w) cs in
     omega (arith, length-append (code_bytes w c) rest, code_size w c, codes_size w cs)
 
+-- the number of a kind, which is 1 or 0, is at most 1
 kind_small : (b : Bool) → cond b 1 0 ≤ 1
 kind_small true = omega arith
 kind_small false = omega arith
 
+-- the number of bytes of a width is below 2 ^ 32
 width_small : (w : Width) → bytes_of w < 2 ^ 32
 width_small One = omega arith
 width_small Two = omega arith
@@ -186,7 +230,8 @@ module _ (id : DictionaryId) (w : Width) (rows : ℕ) (rest : List ℕ) where
   size_is : length whole ≡ 64 + length rest
   size_is = length-append (header_of id w rows) rest
 
-module _ (id : DictionaryId) (cs : List ℕ) (few : id.count ≤ 2 ^ 31) (h0 : id.hash0 < 2 ^ 64) (h1 : id.hash1 < 2 ^ 64) (long : length cs < 2 ^ 64) (ok : AreCodes id.count cs) where
+module _ (id : DictionaryId) (cs : List ℕ) (few : id.count ≤ 2 ^ 31) (h0 : id.hash0 < 2 ^ 64)
+    (h1 : id.hash1 < 2 ^ 64) (long : length cs < 2 ^ 64) (ok : AreCodes id.count cs) where
   abbrev w : Width
   w = width_for id.count
 
@@ -210,12 +255,14 @@ module _ (id : DictionaryId) (cs : List ℕ) (few : id.count ≤ 2 ^ 31) (h0 : i
   codes_same =
       let bs = column_of id cs in
       ap (λ v. codes_at bs v 64 (rows bs)) width_same ∙ ap (λ r. codes_at bs w 64 r) rows_same
-      ∙ codes_back w cs (header_of id w n) 64 refl (λ row code is. fits_width id.count code few (ok row code is))
+      ∙ codes_back w cs (header_of id w n) 64 refl (λ row code is.
+      fits_width id.count code few (ok row code is))
 
   size_same : length (column_of id cs) ≡ 64 + bytes_of (width (column_of id cs)) * rows (column_of id cs)
   size_same =
       let bs = column_of id cs in
-      size_is id w n rest ∙ ap (λ k. 64 + k) (codes_size w cs) ∙ ap (λ v. 64 + bytes_of v * n) (sym width_same)
+      size_is id w n rest ∙ ap (λ k. 64 + k) (codes_size w cs)
+      ∙ ap (λ v. 64 + bytes_of v * n) (sym width_same)
       ∙ ap (λ r. 64 + bytes_of (width bs) * r) (sym rows_same)
 
   pub column_same : IsColumn (column_of id cs)
@@ -238,7 +285,8 @@ module _ (id : DictionaryId) (cs : List ℕ) (few : id.count ≤ 2 ^ 31) (h0 : i
       };
       whole = size_same;
     };
-    codes = λ row code is. subst (λ (k : ℕ). IsCode k code) (sym strings_same) (ok row code (rw codes_same at is));
+    codes = λ row code is.
+        subst (λ (k : ℕ). IsCode k code) (sym strings_same) (ok row code (rw codes_same at is));
   }
 
   pub describes_same : Describes (column_of id cs) id
@@ -250,8 +298,10 @@ module _ (id : DictionaryId) (cs : List ℕ) (few : id.count ≤ 2 ^ 31) (h0 : i
   }
 
 -- nine parts that were added one by one
-pub nine_parts : (o a b c d e f g h i : List ℕ) (x1 x2 x3 x4 x5 x6 x7 x8 x9 : List ℕ) → x1 ≡ o ++ a → x2 ≡ x1 ++ b → x3 ≡ x2 ++ c → x4 ≡ x3 ++ d → x5 ≡ x4 ++ e
-    → x6 ≡ x5 ++ f → x7 ≡ x6 ++ g → x8 ≡ x7 ++ h → x9 ≡ x8 ++ i → x9 ≡ o ++ (a ++ b ++ c ++ d ++ e ++ f ++ g ++ h ++ i)
+pub nine_parts : (o a b c d e f g h i : List ℕ) (x1 x2 x3 x4 x5 x6 x7 x8 x9 : List ℕ) → x1 ≡ o ++ a →
+    x2 ≡ x1 ++ b → x3 ≡ x2 ++ c → x4 ≡ x3 ++ d → x5 ≡ x4 ++ e
+    → x6 ≡ x5 ++ f → x7 ≡ x6 ++ g → x8 ≡ x7 ++ h → x9 ≡ x8 ++ i →
+    x9 ≡ o ++ (a ++ b ++ c ++ d ++ e ++ f ++ g ++ h ++ i)
 nine_parts o a b c d e f g h i x1 x2 x3 x4 x5 x6 x7 x8 x9 e1 e2 e3 e4 e5 e6 e7 e8 e9 =
     let all : x9 ≡ o ++ a ++ b ++ c ++ d ++ e ++ f ++ g ++ h ++ i = cc in
     all ∙ simp append_assoc

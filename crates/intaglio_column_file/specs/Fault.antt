@@ -1,15 +1,15 @@
 -- What is wrong with bytes that are no column.
 use Rattle.std.specs.Prelude.{◌≡◌, ◌≢◌, ℕ, ◌^◌, ◌<◌, ◌≤◌, List, length, slice_get, Some}
-use Rattle.intaglio_column_file.specs.Numbers.{u32_at}
+use Rattle.intaglio_hash.specs.Numbers.{u32_at}
 use Rattle.intaglio_column_file.specs.Width.{bytes_of}
 use Rattle.intaglio_column_file.specs.Layout.{kind, strings, width, codes}
-use Rattle.intaglio_column_file.specs.IsColumn.{HasMagic, HasVersion, HasKind, HasWidth, HasHeader, HasRows, IsReserved, IsCode, end_of}
+use Rattle.intaglio_column_file.specs.IsColumn.{HasMagic, HasVersion, HasKind, HasWidth, HasHeader, HasRows, IsReserved, IsCode, AreCodesBefore, end_of}
 use Rattle.intaglio_column_file.specs.declared.error.ColumnError.{ColumnError}
 use Rattle.intaglio_column_file.specs.declared.error.ColumnError.TheVariants.{Magic, Header, Version, Kind, TooMany, Width, Reserved, Truncated, TooLong, NoString}
 
--- the code of this row is none of n strings, nor the missing one
+-- this row is the first whose code is that of none of n strings, nor the missing one
 abbrev pub HasNoString : ℕ → List ℕ → ℕ → Type 0
-HasNoString n cs row = (code : ℕ) × (slice_get cs row ≡ Some code) × ¬ IsCode n code
+HasNoString n cs row = (code : ℕ) × (slice_get cs row ≡ Some code) × AreCodesBefore row n cs × ¬ IsCode n code
 
 -- the bytes have this fault, and what is read before it is right
 abbrev pub IsFault : List ℕ → ColumnError → Type 0

@@ -1,6 +1,6 @@
 -- Which bytes are a column.
 use Rattle.std.specs.Prelude.{◌≡◌, ℕ, ◌+◌, ◌*◌, ◌^◌, ◌<◌, ◌≤◌, ◌⊎◌, ◌==◌, ◌&&◌, not, nat_le, Bool, List, length, slice_get, Some}
-use Rattle.intaglio_column_file.specs.Numbers.{u32_at, u64_at}
+use Rattle.intaglio_hash.specs.Numbers.{u32_at, u64_at}
 use Rattle.intaglio_column_file.specs.Width.{missing}
 use Rattle.intaglio_column_file.specs.Id.{kind_number}
 use Rattle.intaglio_column_file.specs.Width.{bytes_of}
@@ -62,6 +62,10 @@ IsCode n code = (code < n) ⊎ (code ≡ missing)
 -- whether a code is neither
 abbrev pub is_unknown : ℕ → ℕ → Bool
 is_unknown n code = nat_le n code && not (code == missing)
+
+-- each of these before n is one of both
+abbrev pub AreCodesBefore : ℕ → ℕ → List ℕ → Type 0
+AreCodesBefore n strings cs = (row code : ℕ) → row < n → slice_get cs row ≡ Some code → IsCode strings code
 
 -- each of these is one of both
 abbrev pub AreCodes : ℕ → List ℕ → Type 0

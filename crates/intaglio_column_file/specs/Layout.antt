@@ -1,12 +1,13 @@
 -- The header and the codes of a column, in its bytes.
 use Rattle.std.specs.Prelude.{ℕ, zero, suc, ◌+◌, ◌==◌, cond, List, [], ◌∷◌}
 use Rattle.intaglio_hash.specs.Push.{number}
-use Rattle.intaglio_column_file.specs.Numbers.{u32_at, u64_at}
+use Rattle.intaglio_hash.specs.Numbers.{u32_at, u64_at}
 use Rattle.intaglio_column_file.specs.Width.{missing}
 use Rattle.intaglio_column_file.specs.Width.{bytes_of, greatest, width_for}
 use Rattle.intaglio_column_file.specs.declared.width.Width.{Width}
 
--- the header: the kind of the dictionary, its two hashes, how many strings it has, and how many rows there are
+-- the header: the kind of the dictionary, its two hashes, how many strings it
+-- has, and how many rows there are
 abbrev pub kind : List ℕ → ℕ
 kind bs = u32_at bs 12
 

@@ -1,5 +1,4 @@
 -- What the contracts of this crate cite.
-pub mod Numbers
 pub mod Width
 pub mod Layout
 pub mod Id

@@ -29,7 +29,8 @@ IsNextRow p from cs found = MatchOption found (rows_past p from cs ≡ []) (IsFi
 
 -- the first that passes from one row on and before another, if there is one
 abbrev pub IsFirstAmong : (ℕ → Bool) → ℕ → ℕ → List ℕ → Option ℕ → Type 0
-IsFirstAmong p from end cs found = MatchOption found (rows_past p from cs ≡ rows_past p end cs) (IsFirstRow p from cs)
+IsFirstAmong p from end cs found =
+    MatchOption found (rows_past p from cs ≡ rows_past p end cs) (IsFirstRow p from cs)
 
 -- so many rows pass from one on and before another
 pub record CountsAmong (p : ℕ → Bool) (from end : ℕ) (cs : List ℕ) (many : ℕ) : Type 0 where

@@ -12,7 +12,7 @@ use Rattle.intaglio_column_file.specs.declared.width.Width.TheVariants.{One, Two
 use Rattle.intaglio_column_file.specs.declared.error.ColumnWriteError.{ColumnWriteError}
 use Rattle.intaglio_column_file.specs.declared.error.ColumnWriteError.TheVariants.{TooMany, NoString, Memory}
 
--- n zeros
+-- the twelve zeros at the end of the header
 abbrev pub reserved_bytes : List ℕ
 reserved_bytes = 0 ∷ 0 ∷ 0 ∷ 0 ∷ 0 ∷ 0 ∷ 0 ∷ 0 ∷ 0 ∷ 0 ∷ 0 ∷ 0 ∷ []
 
@@ -20,7 +20,8 @@ reserved_bytes = 0 ∷ 0 ∷ 0 ∷ 0 ∷ 0 ∷ 0 ∷ 0 ∷ 0 ∷ 0 ∷ 0 ∷ 0 �
 abbrev pub header_of : DictionaryId → Width → ℕ → List ℕ
 header_of id w rows =
     to_le_bytes w64 magic ++ to_le_bytes w32 1 ++ to_le_bytes w32 (kind_number id.is_text)
-    ++ to_le_bytes w64 id.hash0 ++ to_le_bytes w64 id.hash1 ++ to_le_bytes w64 id.count ++ to_le_bytes w64 rows
+    ++ to_le_bytes w64 id.hash0 ++ to_le_bytes w64 id.hash1 ++ to_le_bytes w64 id.count
+    ++ to_le_bytes w64 rows
     ++ to_le_bytes w32 (bytes_of w) ++ reserved_bytes
 
 -- a code in the bytes of a width

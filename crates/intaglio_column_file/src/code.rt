@@ -6,7 +6,10 @@ ghost use Rattle.intaglio_column_file.specs.IsColumn.{is_unknown};
 ghost use Rattle.intaglio_column_file.specs.declared.width.Width.{Width};
 ghost use Rattle.intaglio_column_file.specs.declared.width.Width.TheVariants.{Four, One, Two};
 
-use crate::numbers::{MISSING, read_u8, read_u16, read_u32};
+use intaglio_hash::numbers::{read_u8, read_u16, read_u32};
+
+/// The code of a row whose line isn't in the dictionary. No dictionary has that many strings.
+pub const MISSING: u32 = u32::MAX;
 
 /// A code of one width.
 pub(crate) trait Code: Copy {

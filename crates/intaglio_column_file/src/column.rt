@@ -51,8 +51,8 @@ impl<'a> Column<'a> {
         }
     }
 
-    /// The column in these bytes, after a check of the header and of how many bytes there are: then a code may be
-    /// that of no string. Nothing behind the header is read.
+    /// The column in these bytes, after a check of the header and of how many bytes there are: then a code
+    /// may be that of no string. Nothing behind the header is read.
     ///
     /// # Errors
     ///
@@ -97,8 +97,8 @@ impl<'a> Column<'a> {
         self.width
     }
 
-    /// The code of a row, counted from 0: a symbol, or [`MISSING`]. If the bytes were trusted, it may be that of no
-    /// string.
+    /// The code of a row, counted from 0: a symbol, or [`MISSING`]. If the bytes were
+    /// trusted, it may be that of no string.
     #[inline]
     pub fn code(&self, row: usize) -> Option<u32>
         ensures { result ≡ slice_get (codes self.now) row }

@@ -8,7 +8,8 @@ use crate::column::Column;
 use crate::width::Width;
 
 impl Column<'_> {
-    /// Writes the codes of the rows from one on, as many as there are places and rows, and returns how many that is.
+    /// Writes the codes of the rows from one on, as many as there are places and
+    /// rows, and returns how many that is.
     pub fn codes_into(&self, from: usize, places: &mut [u32]) -> usize
         ensures codes { places.new ≡ overlaid (drop from (codes self.now)) places.old }
         ensures count { result ≡ min (length places.old) (length (codes self.now) - from) }
@@ -33,8 +34,8 @@ impl Column<'_> {
         count
     }
 
-    /// Writes the rows with this code, in ascending order, as far as there are places. Returns how many rows have the
-    /// code.
+    /// Writes the rows with this code, in ascending order, as far as there are places.
+    /// Returns how many rows have the code.
     pub fn rows_into(&self, code: u32, places: &mut [u64]) -> usize
         ensures rows { places.new ≡ overlaid (rows_of code (codes self.now)) places.old }
         ensures count { result ≡ length (rows_of code (codes self.now)) }

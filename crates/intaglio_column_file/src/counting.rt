@@ -3,9 +3,8 @@ ghost use Rattle.std.specs.Prelude.{◌≡◌, IfOk, replicate};
 ghost use Rattle.intaglio_column_file.specs.Layout.{codes, strings, width as width_of};
 ghost use Rattle.intaglio_column_file.specs.Rows.{AreCounts};
 
-use crate::code::Code;
+use crate::code::{Code, MISSING};
 use crate::column::Column;
-use crate::numbers::MISSING;
 use crate::width::Width;
 use std::alloc::{AllocError, Global};
 
@@ -19,8 +18,8 @@ pub struct Counts {
 }
 
 impl Column<'_> {
-    /// How often each string occurs, and how many rows are missing. Together that is the number of rows, if each code
-    /// was checked.
+    /// How often each string occurs, and how many rows are missing. Together that is the number of
+    /// rows, if each code was checked.
     ///
     /// # Errors
     ///

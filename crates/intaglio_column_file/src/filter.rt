@@ -4,9 +4,8 @@ ghost use Rattle.intaglio_column_file.specs.Layout.{codes, strings, widened, wid
 ghost use Rattle.intaglio_column_file.specs.Rows.{IsNextRow};
 ghost use Rattle.intaglio_column_file.specs.Filter.{selects};
 
-use crate::code::Code;
+use crate::code::{Code, MISSING};
 use crate::column::Column;
-use crate::numbers::MISSING;
 use crate::testing::HasCode;
 use crate::width::Width;
 use std::alloc::{AllocError, Global};
@@ -38,7 +37,8 @@ impl RowFilter {
         if self.inverts { !is_meant } else { is_meant }
     }
 
-    /// The symbol of a string whose rows are selected, if no others are. `None` says nothing. Each mark is read.
+    /// The symbol of a string whose rows are selected, if no others are. `None`
+    /// says nothing. Each mark is read.
     pub fn only_code(&self) -> Option<u32>
         ensures { IfSome result (λ code. (c : ℕ) → selects self.now c ≡ (c == code)) }
     {

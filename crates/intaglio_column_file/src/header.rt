@@ -3,13 +3,13 @@ ghost use Rattle.std.specs.Prelude.{◌≡◌, ◌==◌, ◌&&◌, IfErr, IfOk, 
 ghost use Rattle.intaglio_column_file.specs.Id.{kind_number};
 ghost use Rattle.intaglio_column_file.specs.Layout.{kind, rows, width};
 ghost use Rattle.intaglio_column_file.specs.IsColumn.{Describes, HasHeader, HasKind, HasWidth, magic_start};
-ghost use Rattle.intaglio_column_file.specs.Numbers.{u32_at};
+ghost use Rattle.intaglio_hash.specs.Numbers.{u32_at};
 ghost use Rattle.intaglio_column_file.specs.Fault.{IsFault};
 
 use crate::error::ColumnError;
 use crate::id::DictionaryId;
-use crate::numbers::{read_u32, read_u64};
 use crate::width::Width;
+use intaglio_hash::numbers::{read_u32, read_u64};
 
 /// How many bytes the header of a column has. Its codes follow.
 pub const HEADER: usize = 64;
@@ -68,7 +68,8 @@ impl ColumnHeader {
     }
 }
 
-/// Whether these bytes begin as those of a column do, by the first four: those of no plain code.
+/// Whether these bytes begin as those of a column do, by the first four. No plain code of a dictionary in
+/// one file has these.
 pub fn begins_as_column(bytes: &[u8]) -> bool
     ensures { result ≡ (nat_le 4 (length bytes.now) && (u32_at bytes.now 0 == magic_start)) }
 {

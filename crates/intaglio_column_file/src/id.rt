@@ -1,4 +1,4 @@
-//! What a dictionary is.
+//! The identity of a dictionary.
 ghost use Rattle.std.specs.Prelude.{◌≡◌};
 ghost use Rattle.std.specs.Hash.DefaultHasher.{with_keys, write, finish};
 ghost use Rattle.intaglio_column_file.specs.Id.{IsIdOf, kind_number};
@@ -8,8 +8,8 @@ use std::hash::Hasher;
 
 /// What a dictionary is: its kind and its strings in their order, by their number and two hashes.
 ///
-/// It is the same for a dictionary that is frozen again under other keys. That two dictionaries with equal ones are
-/// equal is an assumption.
+/// It is the same for a dictionary that is frozen again under other keys. That two dictionaries with equal
+/// ones are equal is an assumption.
 #[repr(C)]
 #[derive(Debug, Clone, Copy, PartialEq, Eq)]
 pub struct DictionaryId {
@@ -24,8 +24,8 @@ pub struct DictionaryId {
 }
 
 impl DictionaryId {
-    /// That of a dictionary of so many strings, of which these are the ends, four bytes each, and the text, as a
-    /// frozen table has them. Each byte is read.
+    /// That of a dictionary of so many strings, of which these are the ends, four bytes each, and the text,
+    /// as a frozen table has them. Each byte is read.
     pub fn of(is_text: bool, count: u64, ends: &[u8], text: &[u8]) -> DictionaryId
         ensures { IsIdOf is_text count ends.now text.now result }
     {

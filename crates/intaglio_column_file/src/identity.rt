@@ -1,4 +1,4 @@
-//! What a dictionary is, by its bytes.
+//! The identity of a dictionary, from the bytes of its frozen table.
 ghost use Rattle.std.specs.Prelude.{◌≡◌, IfErr, IfOk, IsOk};
 ghost use Rattle.intaglio_frozen.specs.Fault.{IsFault};
 ghost use Rattle.intaglio_frozen.specs.IsFrozen.{HasSections, number_of};
@@ -10,8 +10,8 @@ use intaglio_frozen::{FrozenError, Header, Kind, TrustedFrozen};
 // How many bytes the header of a frozen table has.
 const HEADER: usize = 64;
 
-/// What the dictionary in these bytes is, for the header of a column file. The header of the dictionary is checked, and
-/// that the bytes are as long as it requires; each byte of the ends and of the text is read.
+/// What the dictionary in these bytes is, for the header of a column file. The header of the dictionary is
+/// checked, and that the bytes are as long as it requires; each byte of the ends and of the text is read.
 ///
 /// # Errors
 ///

@@ -1,4 +1,5 @@
-//! Columns in files: the codes of a list of lines under a dictionary, behind a header that says which dictionary.
+//! Columns in files: the codes of a list of lines under a dictionary, behind a
+//! header that says which dictionary.
 #![tactic(auto)]
 
 mod code;
@@ -12,7 +13,6 @@ mod id;
 mod identity;
 pub mod laws;
 mod list;
-mod numbers;
 mod scanning;
 mod selecting;
 mod strings;
@@ -20,6 +20,7 @@ mod testing;
 mod width;
 mod writing;
 
+pub use code::MISSING;
 pub use column::Column;
 pub use counting::Counts;
 pub use error::{ColumnError, ColumnWriteError};
@@ -28,6 +29,5 @@ pub use header::{ColumnHeader, HEADER, begins_as_column};
 pub use id::DictionaryId;
 pub use identity::id_of_table;
 pub use list::CodeList;
-pub use numbers::MISSING;
 pub use width::Width;
 pub use writing::{column_bytes, header_bytes};

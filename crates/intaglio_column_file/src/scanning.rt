@@ -7,12 +7,13 @@ use crate::code::Code;
 use crate::column::Column;
 use crate::testing::CodeTest;
 
-// How many rows a block has. Their codes are tested without a branch, so that the compiler can test many at once.
+// How many rows a block has. Their codes are tested without a branch, so that the
+// compiler can test many at once.
 const BLOCK: usize = 32;
 
 impl Column<'_> {
-    // The first row from this one on that passes a test. Each row is tested at most twice by calls that go on behind
-    // the row that the call before returned.
+    // The first row from this one on that passes a test. Each row is tested at most twice by calls that go on
+    // behind the row that the call before returned.
     #[inline(always)]
     pub(crate) fn next_row<C: Code, T: CodeTest<C>>(&self, test: &T, from: usize) -> Option<usize>
         requires { C.width ≡ width_of self.now }

@@ -30,7 +30,8 @@ impl Column<'_> {
         Ok(rows)
     }
 
-    /// The first row, from this one on, with this code. Rows are tested in blocks of 32, without a branch for each.
+    /// The first row, from this one on, with this code. Rows are tested in blocks of
+    /// 32, without a branch for each.
     pub fn next_row_of(&self, code: u32, from: usize) -> Option<usize>
         ensures { IsNextRow (λ c. c == code) from (codes self.now) result }
     {

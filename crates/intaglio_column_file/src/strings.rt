@@ -1,4 +1,4 @@
-//! What a dictionary is, by its strings.
+//! The identity of a dictionary, from lists of its strings.
 ghost use Rattle.std.specs.Prelude.{◌≡◌, ◌++◌, ℕ, List, length};
 ghost use Rattle.std.specs.List.{concat, flat_map};
 ghost use Rattle.std.specs.Hash.DefaultHasher.{with_keys, write, finish};
@@ -23,8 +23,8 @@ impl DictionaryId {
         }
     }
 
-    /// That of the dictionary that has the strings of these lists, one list after the other: so many in all. A
-    /// dictionary in one file with the same strings in the same order has the same
+    /// That of the dictionary that has the strings of these lists, one list after the other: so many in all.
+    /// A dictionary in one file with the same strings in the same order has the same
     /// ([`strings_law`](crate::laws::strings_law)). Each string is read twice.
     pub fn of_lists<L: StringList>(is_text: bool, count: u64, lists: &[L]) -> DictionaryId
         requires { count ≡ length (flat_map L.strings lists.now) }
@@ -71,8 +71,8 @@ fn write_all_ends<L: StringList>(hasher: &mut KeyedHasher, lists: &[L])
     }
 }
 
-// Writes the ends of strings behind the end of those before them, and returns the last. If there are more strings,
-// their ends follow.
+// Writes the ends of strings behind the end of those before them, and returns the last. If there are
+// more strings, their ends follow.
 fn write_ends<L: StringList>(hasher: &mut KeyedHasher, start: u32, list: &L) -> u32
     ensures all { hasher.new ≡ write hasher.old (end_bytes start (L.strings list.now)) }
     ensures more { (more : List (List ℕ)) → write hasher.new (end_bytes result more)

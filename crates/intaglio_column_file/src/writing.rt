@@ -6,16 +6,16 @@ ghost use Rattle.intaglio_column_file.specs.Layout.{codes as codes_of};
 ghost use Rattle.intaglio_column_file.specs.IsColumn.{AreCodes, Describes, IsColumn};
 ghost use Rattle.intaglio_column_file.specs.Writing.{IsRefusal, code_bytes, column_of, header_of, reserved_bytes};
 
+use crate::code::MISSING;
 use crate::error::ColumnWriteError;
 use crate::header::{ColumnHeader, HEADER, MAGIC, MAX_COUNT, VERSION};
 use crate::id::{DictionaryId, kind_number};
 use crate::list::CodeList;
-use crate::numbers::MISSING;
 use crate::width::Width;
 use std::alloc::{AllocError, Global};
 
-/// The bytes of a column of these codes, under this dictionary: they open, to the same codes. The same arguments
-/// always give the same bytes.
+/// The bytes of a column of these codes, under this dictionary: they open, to the same codes. The same
+/// arguments always give the same bytes.
 ///
 /// # Errors
 ///
@@ -36,7 +36,8 @@ pub fn column_bytes<L: CodeList>(
     Ok(bytes)
 }
 
-/// The bytes of a header. With as many codes behind it as it has rows, each in the bytes of its width, it is a column.
+/// The bytes of a header. With as many codes behind it as it has rows, each in the
+/// bytes of its width, it is a column.
 ///
 /// # Errors
 ///

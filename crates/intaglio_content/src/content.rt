@@ -12,8 +12,8 @@ use std::hash::BuildHasher;
 pub trait Keyed {
     ghost key: { Self → Key };
 
-    /// Reads a byte that a comparison of this value will read, so that it is in the cache then. The byte itself
-    /// means nothing. A type need not have this: by default nothing is read.
+    /// Reads a byte that a comparison of this value will read, so that it is in the cache then. The byte
+    /// itself means nothing. A type need not have this: by default nothing is read.
     #[inline(always)]
     fn touch(&self) -> u8 {
         0

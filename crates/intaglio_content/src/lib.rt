@@ -1,10 +1,10 @@
 #![tactic(auto)]
 //! What tables store and compare.
 //!
-//! - [`Kind`], [`KindOwned`], [`KindForm`], [`PackedForm`]: kinds of strings; [`ContentOf`], [`Keyed`], [`Content`],
-//!   [`Spells`], [`Packable`]: their contents and forms.
-//! - [`Store`], [`ByteStore`], [`SoughtIn`], [`AddedTo`], [`CopiedTo`], [`Lends`], [`LookedUpIn`], [`SpelledStore`]:
-//!   where contents are kept.
+//! - [`Kind`], [`KindOwned`], [`KindForm`], [`PackedForm`]: kinds of strings; [`ContentOf`], [`Keyed`],
+//!   [`Content`], [`Spells`], [`Packable`]: their contents and forms.
+//! - [`Store`], [`ByteStore`], [`SoughtIn`], [`AddedTo`], [`CopiedTo`], [`Lends`], [`LookedUpIn`],
+//!   [`SpelledStore`]: where contents are kept.
 //! - [`Packed`]: spellings of a [`Kind`] in one buffer.
 //! - [`Forms`], [`Pairs`]: iterators over a store; [`OfKind`] is what names an iterator after its kind.
 //! - [`Work`]: what a call did, for contracts. [`feed_item`], [`same_bytes`]: kinds compared by bytes.

@@ -3,8 +3,8 @@ use crate::content_of::ContentOf;
 use crate::kind::{Kind, KindOwned};
 use crate::spelling::Spelling;
 
-/// A content that is of a kind, which decides how its tables call the iterator over their contents: `strings`,
-/// `paths` and so on.
+/// A content that is of a kind, which decides how its tables call the iterator over their
+/// contents: `strings`, `paths` and so on.
 pub trait OfKind {
     /// Its kind.
     type Kind;

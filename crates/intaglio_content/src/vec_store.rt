@@ -124,7 +124,11 @@ impl<C: Keyed + SoughtIn<Vec<C>> + Drop> AddedTo<Vec<C>, Moved> for C {
         store.push_reserved(self);
     }
 
-    ghost adds_one = { λ content old new added. record { content = content; same_key = refl; added = added } };
+    ghost adds_one = { λ content old new added. record {
+      content = content;
+      same_key = refl;
+      added = added;
+    } };
 }
 
 impl<K: KindOwned, Q: Packable<K> + Copy> AddedTo<Vec<ContentOf<K>>, Copied> for Q {

@@ -1,47 +1,46 @@
 -- A search that compares the contents with one hash, by their numbers.
-use Rattle.std.proofs.Common.{◌≡◌, ◌≢◌, ℕ, zero, suc, ◌+◌, ◌%◌, ◌<◌, ◌≤◌, ◌==◌, ◌&&◌, nat_lt, Bool, true, false, cond, List, [], ◌∷◌, ◌++◌, length, map, filter, get_or, Option, Some, None, refl, sym, ap, ◌∙◌, subst, arith, append_assoc, append-nil, length-append, inl, inr}
+use Rattle.std.proofs.Common.{◌≡◌, ◌≢◌, ℕ, zero, suc, ◌+◌, ◌%◌, ◌<◌, ◌≤◌, ◌==◌, ◌&&◌, nat_lt, Bool, true, false, cond, List, [], ◌∷◌, ◌++◌, replicate, length, map, filter, get_or, Some, None, refl, sym, ap, ◌∙◌, subst, arith, append_assoc, append-nil, length-append, inl, inr}
 use Rattle.std.specs.List.{All, AllPairs, Contains, sum_by}
 use Rattle.std.specs.Cmp.{IsEquivalence}
-use Rattle.std.proofs.lemmas.Bool.{cases_lt, eq-eqb, lt-ltb, le-ltb}
+use Rattle.std.specs.Cmp.Lexicographic.{lists_equiv, nat_list_eq_equiv}
+use Rattle.std.proofs.lemmas.Bool.{cases_lt, eq-eqb, false≢true, lt-ltb, le-ltb}
 use Rattle.std.proofs.lemmas.Bool.Decides.{eqb_tells}
 use Rattle.std.proofs.lemmas.List.{get_or-map, get_or_default, length-map, map-append, get_or_append_left}
 use Rattle.std.proofs.Math.Seq.{get_or-append_seam}
-use Rattle.std.proofs.lemmas.List.Sums.{sum_by-cons}
+use Rattle.std.proofs.lemmas.List.Sums.{get_or-le-sum_by, sum_by-cons}
 use Rattle.std.proofs.lemmas.List.Kept.{AllPairs-cons}
-use Rattle.std.proofs.lemmas.List.Elements.{All-append, All-cons, All-contains, All-contains_itself, All-map, All-nil}
+use Rattle.std.proofs.lemmas.List.Elements.{All-append, All-cons, All-contains, All-map, All-nil, Contains-append_right}
 use Rattle.std.proofs.lemmas.Grind.{get_or_default_zero}
 use Rattle.std.proofs.lemmas.Map.Made.{IsDistinct-from_AllPairs, is_member-Decides, length-le_from_is_member}
-use Rattle.intaglio_index.proofs.ChainLemmas.{eqb-equal}
 use Rattle.intaglio_content.specs.Key.{Key}
+use Rattle.intaglio_content.specs.Store.{IsCompared}
 use Rattle.intaglio_content.specs.Work.{Event, hashed, compared, step}
 use Rattle.intaglio_interner.specs.State.{first_of, key_eq, AreDistinct}
 use Rattle.intaglio_interner.specs.Cost.{hashed_keys, sought_keys, stored_keys, step_count, placed_count, bucket_keys, IsSearchCost, IsRecorded, Adds}
 use Rattle.intaglio_interner.proofs.First.{first-none, first-some, key_eq-decides}
 use Rattle.intaglio_records.specs.Matches.{one_of, AreAll}
 
--- an element of a list is one of a longer list
-contains_later : {X : Type 0} (x y : X) (xs : List X) → Contains xs y → Contains (x ∷ xs) y
-contains_later x y xs c = (suc c.0, omega (arith, c.1), c.2)
-
-contains_by : {X : Type 0} (b : Bool) (x y : X) (xs : List X) → Contains xs y → Contains (cond b (x ∷ xs) xs) y
-contains_by true x y xs c = contains_later x y xs c
-contains_by false x y xs c = c
+-- what a list contains is still in it when an item is put in front, or none is
+contains-by : {X : Type 0} (b : Bool) (x y : X) (xs : List X) → Contains xs y →
+    Contains (cond b (x ∷ xs) xs) y
+contains-by true x y xs c = Contains-append_right (x ∷ []) xs y c
+contains-by false x y xs c = c
 
 -- an element that passes a test is one of those that do
-contains-filter : {X : Type 0} (p : X → Bool) (x : X) (xs : List X) (i : ℕ) → p x ≡ true → i < length xs → get_or xs i x ≡ x → Contains (filter p xs) x
+pub contains-filter : {X : Type 0} (p : X → Bool) (x : X) (xs : List X) (i : ℕ) → p x ≡ true → i < length xs →
+    get_or xs i x ≡ x → Contains (filter p xs) x
 contains-filter p x [] i holds l e = absurd (omega (arith, l))
 contains-filter p x (y ∷ ys) zero holds l e =
     let passes : p y ≡ true = ap p e ∙ holds in
     rw passes (zero, omega arith, e)
-contains-filter p x (y ∷ ys) (suc i) holds l e = contains_by (p y) y x (filter p ys) (contains-filter p x ys i holds (omega (arith, l)) e)
+contains-filter p x (y ∷ ys) (suc i) holds l e =
+    contains-by (p y) y x (filter p ys) (contains-filter p x ys i holds (omega (arith, l)) e)
 
 -- how often a number is in a list, where it is
 positive : (i : ℕ) (xs : List ℕ) (at : ℕ) → at < length xs → get_or xs at 0 ≡ i → 0 < sum_by (one_of i) xs
-positive i [] at l e = absurd (omega (arith, l))
-positive i (x ∷ xs) zero l e =
-    let one : one_of i x ≡ 1 = rw (eqb-equal x i e) refl in
-    omega (arith, sum_by-cons (one_of i) x xs, one)
-positive i (x ∷ xs) (suc at) l e = omega (arith, sum_by-cons (one_of i) x xs, positive i xs at (omega (arith, l)) e)
+positive i xs at l e =
+    let one : one_of i (get_or xs at 0) ≡ 1 = rw (eq-eqb (get_or xs at 0) i e) refl in
+    omega (arith, get_or-le-sum_by (one_of i) xs at 0 l, one)
 
 -- and where it is, if it is there
 contained : (i : ℕ) (xs : List ℕ) → 0 < sum_by (one_of i) xs → Contains xs i
@@ -50,84 +49,110 @@ contained i (x ∷ xs) some = elim (eqb_tells x i) [
   | inl e ↦ (zero, omega arith, e.1)
   | inr n ↦
       (let none : one_of i x ≡ 0 = rw (n.0) refl in
-      contains_later x i xs (contained i xs (omega (arith, some, sum_by-cons (one_of i) x xs, none))))
+      Contains-append_right (x ∷ []) xs i
+      (contained i xs (omega (arith, some, sum_by-cons (one_of i) x xs, none))))
 ]
 
 -- numbers that are there once at most
 apart-once : (xs : List ℕ) → ((i : ℕ) → sum_by (one_of i) xs ≤ 1) → AllPairs (λ i j. i ≢ j) xs
 apart-once [] once = λ i j d l lj. absurd (omega (arith, lj))
 apart-once (x ∷ xs) once =
-    let one : one_of x x ≡ 1 = rw (eqb-equal x x refl) refl in
+    let one : one_of x x ≡ 1 = rw (eq-eqb x x refl) refl in
     let none : sum_by (one_of x) xs ≡ 0 = omega (arith, once x, sum_by-cons (one_of x) x xs, one) in
-    let others : All (λ j. x ≢ j) xs = λ at d l e. absurd (omega (arith, none, positive x xs at l (sym (get_or_default_zero xs at d l) ∙ sym e))) in
-    AllPairs-cons (λ i j. i ≢ j) x xs others (apart-once xs (λ i. omega (arith, once i, sum_by-cons (one_of i) x xs)))
+    let others : All (λ j. x ≢ j) xs =
+    λ at d l e.
+    absurd (omega (arith, none, positive x xs at l (sym (get_or_default_zero xs at d l) ∙ sym e))) in
+    AllPairs-cons (λ i j. i ≢ j) x xs others
+    (apart-once xs (λ i. omega (arith, once i, sum_by-cons (one_of i) x xs)))
 
+-- the comparison of keys is an equivalence
 key_eq-equivalence : IsEquivalence key_eq
-key_eq-equivalence = record {
-  refl = λ x. (key_eq-decides x x).1 refl;
-  symm = λ x y. flips (key_eq x y) (key_eq y x) (λ e. (key_eq-decides y x).1 (sym ((key_eq-decides x y).0 e))) (λ e. (key_eq-decides x y).1 (sym ((key_eq-decides y x).0 e)));
-  congr = λ x y z e. ap (λ q. key_eq q z) ((key_eq-decides x y).0 e);
-}
-  where
-    flips : (b d : Bool) → (b ≡ true → d ≡ true) → (d ≡ true → b ≡ true) → b ≡ d
-    flips true d f g = sym (f refl)
-    flips false true f g = g refl
-    flips false false f g = refl
+key_eq-equivalence = lists_equiv nat_list_eq_equiv
+
+-- a comparison with the content of a number, by their keys
+pub compared-as : {C : Type 0} (key : C → Key) (contents : List C) (s : ℕ) (k : Key) (result : Bool)
+    (now later : List Event) → s < length contents → IsCompared key contents s k result now later
+    → let x = get_or (map key contents) s [] in
+    (later ≡ now ++ compared k x ∷ []) × (result ≡ true → x ≡ k) × (result ≡ false → x ≢ k)
+compared-as key contents s k result now later l is =
+    let read : get_or (map key contents) s [] ≡ key is.content =
+    get_or-map key contents s is.content [] l ∙ ap key (sym is.stands) in (
+      rw read is.event,
+      λ e. read ∙ sym (is.same_keys.0 e),
+      λ e q. false≢true (sym e ∙ is.same_keys.1 (sym q ∙ read)),
+    )
 
 module _ (keys : List Key) (k : Key) where
   abbrev pub key_at : ℕ → Key
   key_at i = get_or keys i []
 
   -- what is recorded when the contents of these numbers were compared, and none was equal
-  abbrev pub walked : List ℕ → List Event
+  abbrev walked : List ℕ → List Event
   walked [] = []
   walked (i ∷ is) = compared k (key_at i) ∷ step ∷ walked is
 
-  -- a search that has compared some of the numbers, and has others left
-  pub record IsSearching (numbers left : List ℕ) (start now : List Event) : Type 0 where
+  -- and so many steps before
+  abbrev spent : ℕ → List ℕ → List Event
+  spent n is = replicate n step ++ walked is
+
+  -- a search that has passed so many others, has compared some of the numbers, and has others left
+  pub record IsSearching (passed : ℕ) (numbers left : List ℕ) (start now : List Event) : Type 0 where
     pub seen : List ℕ
     pub split : numbers ≡ seen ++ left
     pub others : All (λ i. key_at i ≢ k) seen
-    pub events : now ≡ start ++ step ∷ walked seen
+    pub events : now ≡ start ++ spent (passed + 1) seen
 
-  pub begins : (numbers : List ℕ) (start now : List Event) → now ≡ start ++ step ∷ [] → IsSearching numbers numbers start now
-  begins numbers start now e = record { seen = []; split = refl; others = All-nil (λ i. key_at i ≢ k); events = e }
+  pub begins : (passed : ℕ) (numbers : List ℕ) (start now : List Event) →
+      now ≡ start ++ replicate (passed + 1) step → IsSearching passed numbers numbers start now
+  begins passed numbers start now e = record {
+    seen = [];
+    split = refl;
+    others = All-nil (λ i. key_at i ≢ k);
+    events = e ∙ ap (λ es. start ++ es) (sym (append-nil (replicate (passed + 1) step)));
+  }
 
-  walked-append : (is js : List ℕ) → walked (is ++ js) ≡ walked is ++ walked js
-  walked-append [] js = refl
-  walked-append (i ∷ is) js = ap (λ es. compared k (key_at i) ∷ step ∷ es) (walked-append is js)
+  spent-push : (n : ℕ) (is : List ℕ) (s : ℕ) → spent n (is ++ s ∷ []) ≡ spent n is ++ compared k (key_at s)
+      ∷ step ∷ []
+  spent-push zero [] s = refl
+  spent-push zero (i ∷ is) s = ap (λ es. compared k (key_at i) ∷ step ∷ es) (spent-push zero is s)
+  spent-push (suc n) is s = ap (λ es. step ∷ es) (spent-push n is s)
 
-  pub goes_on : (numbers rest : List ℕ) (s : ℕ) (start now middle later : List Event) → IsSearching numbers (s ∷ rest) start now → key_at s ≢ k
-      → middle ≡ now ++ compared k (key_at s) ∷ [] → later ≡ middle ++ step ∷ [] → IsSearching numbers rest start later
-  goes_on numbers rest s start now middle later is other compares steps =
-      let more : start ++ step ∷ walked (is.seen ++ s ∷ []) ≡ ((start ++ step ∷ walked is.seen) ++ compared k (key_at s) ∷ []) ++ step ∷ [] =
-      rw (walked-append is.seen (s ∷ [])) (sym (append_assoc (start ++ step ∷ walked is.seen) (compared k (key_at s) ∷ []) (step ∷ []) ∙ append_assoc start (step ∷ walked is.seen) (compared k (key_at s) ∷ step ∷ []))) in
+  pub goes_on : (passed : ℕ) (numbers rest : List ℕ) (s : ℕ) (start now middle later : List Event) →
+      IsSearching passed numbers (s ∷ rest) start now → key_at s ≢ k
+      → middle ≡ now ++ compared k (key_at s) ∷ [] → later ≡ middle ++ step ∷ [] →
+      IsSearching passed numbers rest start later
+  goes_on passed numbers rest s start now middle later is other compares steps =
+      let events = spent (passed + 1) is.seen in
+      let more : start ++ spent (passed + 1) (is.seen ++ s ∷ [])
+      ≡ ((start ++ events) ++ compared k (key_at s) ∷ []) ++ step ∷ [] =
+      ap (λ es. start ++ es) (spent-push (passed + 1) is.seen s)
+      ∙ sym (append_assoc (start ++ events) (compared k (key_at s) ∷ []) (step ∷ [])
+      ∙ append_assoc start events (compared k (key_at s) ∷ step ∷ [])) in
       record {
         seen = is.seen ++ s ∷ [];
         split = is.split ∙ sym (append_assoc is.seen (s ∷ []) rest);
-        others = All-append (λ i. key_at i ≢ k) is.seen (s ∷ []) is.others (All-cons (λ i. key_at i ≢ k) s [] other (All-nil (λ i. key_at i ≢ k)));
+        others =
+            All-append (λ i. key_at i ≢ k) is.seen (s ∷ []) is.others
+            (All-cons (λ i. key_at i ≢ k) s [] other (All-nil (λ i. key_at i ≢ k)));
         events = rw more (rw (← is.events, ← compares) steps);
       }
 
-  walked-hashed : (is : List ℕ) (last : List Event) → hashed_keys (walked is ++ last) ≡ hashed_keys last
-  walked-hashed [] last = refl
-  walked-hashed (i ∷ is) last = walked-hashed is last
-
-  walked-sought : (is : List ℕ) (last : List Event) → All (λ x. x ≡ k) (sought_keys last) → All (λ x. x ≡ k) (sought_keys (walked is ++ last))
-  walked-sought [] last all = all
-  walked-sought (i ∷ is) last all = All-cons (λ x. x ≡ k) k (sought_keys (walked is ++ last)) refl (walked-sought is last all)
-
-  walked-stored : (is : List ℕ) (last : List Event) → stored_keys (walked is ++ last) ≡ map key_at is ++ stored_keys last
-  walked-stored [] last = refl
-  walked-stored (i ∷ is) last = ap (λ ks. key_at i ∷ ks) (walked-stored is last)
-
-  walked-steps : (is : List ℕ) (last : List Event) → step_count (walked is ++ last) ≡ length is + step_count last
-  walked-steps [] last = omega arith
-  walked-steps (i ∷ is) last = omega (arith, walked-steps is last)
-
-  walked-placed : (is : List ℕ) (last : List Event) → placed_count (walked is ++ last) ≡ placed_count last
-  walked-placed [] last = refl
-  walked-placed (i ∷ is) last = walked-placed is last
+  -- what these events record before others: hashings, sought keys, stored keys, steps and placements
+  recorded : (n : ℕ) (is : List ℕ) (last : List Event) → let all = spent n is ++ last in
+      (hashed_keys all ≡ hashed_keys last)
+      × (All (λ x. x ≡ k) (sought_keys last) → All (λ x. x ≡ k) (sought_keys all))
+      × (stored_keys all ≡ map key_at is ++ stored_keys last)
+      × (step_count all ≡ n + length is + step_count last) × (placed_count all ≡ placed_count last)
+  recorded zero [] last = (refl, λ all. all, refl, omega arith, refl)
+  recorded zero (i ∷ is) last =
+      let r = recorded zero is last in (
+        r.0,
+        λ all. All-cons (λ x. x ≡ k) k _ refl (r.1 all),
+        ap (λ ks. key_at i ∷ ks) r.2,
+        omega (arith, r.3),
+        r.4,
+      )
+  recorded (suc n) is last = let r = recorded n is last in (r.0, r.1, r.2, omega (arith, r.3), r.4)
 
 module _ (hash : Key → ℕ) (keys : List Key) (k : Key) where
   -- the contents with the hash of the key, by their numbers: each once, and no other
@@ -151,7 +176,8 @@ module _ (hash : Key → ℕ) (keys : List Key) (k : Key) where
         let in_ : i < length numbers = omega (arith, l, lj, size) in
         let a = equal.each i 0 in_ in
         let b = equal.each j 0 jn in
-        rw (get_or-map (key_at keys k) numbers i 0 d in_, get_or-map (key_at keys k) numbers j 0 d jn) (keys_apart (get_or numbers i 0) (get_or numbers j 0) a.0 b.0 (equal.apart i j 0 l jn))
+        rw (get_or-map (key_at keys k) numbers i 0 d in_, get_or-map (key_at keys k) numbers j 0 d jn)
+        (keys_apart (get_or numbers i 0) (get_or numbers j 0) a.0 b.0 (equal.apart i j 0 l jn))
 
     all_within : (places : ℕ) → All (Contains (bucket_keys hash places keys k)) (map (key_at keys k) numbers)
     all_within places =
@@ -159,107 +185,173 @@ module _ (hash : Key → ℕ) (keys : List Key) (k : Key) where
         (λ at d l.
         (let is = equal.each at d l in
         let i = get_or numbers at d in
-        let same : ((hash (key_at keys k i) % places) == (hash k % places)) ≡ true = eqb-equal (hash (key_at keys k i) % places) (hash k % places) (ap (λ h. h % places) is.1) in
-        contains-filter (λ x. (hash x % places) == (hash k % places)) (key_at keys k i) keys i same is.0 (sym (get_or_default keys i [] (key_at keys k i) is.0))))
+        let same : ((hash (key_at keys k i) % places) == (hash k % places)) ≡ true =
+        eq-eqb (hash (key_at keys k i) % places) (hash k % places) (ap (λ h. h % places) is.1) in
+        contains-filter (λ x. (hash x % places) == (hash k % places)) (key_at keys k i) keys i same is.0
+        (sym (get_or_default keys i [] (key_at keys k i) is.0))))
 
     -- so the bucket of the key has as many keys at least
-    few : (places : ℕ) → length numbers ≤ length (bucket_keys hash places keys k)
-    few places =
-        let found = length-le_from_is_member key_eq-equivalence (map (key_at keys k) numbers) (bucket_keys hash places keys k) (IsDistinct-from_AllPairs key_eq-decides (map (key_at keys k) numbers) all_apart)
+    pub none_passed : (places : ℕ) → 0 + length numbers ≤ length (bucket_keys hash places keys k)
+    none_passed places =
+        let found =
+        length-le_from_is_member key_eq-equivalence (map (key_at keys k) numbers)
+        (bucket_keys hash places keys k)
+        (IsDistinct-from_AllPairs key_eq-decides (map (key_at keys k) numbers) all_apart)
         (λ q there. (is_member-Decides key_eq-decides (bucket_keys hash places keys k) q).1
-        (All-contains (Contains (bucket_keys hash places keys k)) (map (key_at keys k) numbers) q (all_within places) ((is_member-Decides key_eq-decides (map (key_at keys k) numbers) q).0 there))) in
+        (All-contains (Contains (bucket_keys hash places keys k)) (map (key_at keys k) numbers) q
+        (all_within places) ((is_member-Decides key_eq-decides (map (key_at keys k) numbers) q).0 there)))
+        in
         omega (arith, found, length-map numbers (key_at keys k))
 
-    cost : (places : ℕ) (seen met tail : List ℕ) (last : List Event) → numbers ≡ met ++ tail → map (key_at keys k) seen ++ stored_keys last ≡ map (key_at keys k) met → hashed_keys last ≡ []
-        → All (λ x. x ≡ k) (sought_keys last) → length seen + step_count last ≤ length numbers → placed_count last ≡ 0
-        → IsSearchCost hash k (bucket_keys hash places keys k) (hashed k ∷ step ∷ (walked keys k seen ++ last))
-    cost places seen met tail last split stored none sought steps placements =
-        let is : stored_keys (walked keys k seen ++ last) ≡ map (key_at keys k) met = walked-stored keys k seen last ∙ stored in
-        let all : map (key_at keys k) numbers ≡ map (key_at keys k) met ++ map (key_at keys k) tail = ap (map (key_at keys k)) split ∙ map-append (key_at keys k) met tail in
-        let sizes : length (map (key_at keys k) numbers) ≡ length (map (key_at keys k) met) + length (map (key_at keys k) tail) = ap length all ∙ length-append (map (key_at keys k) met) (map (key_at keys k) tail) in
-        let left : (i : ℕ) (d : Key) → i < length (map (key_at keys k) met) → get_or (map (key_at keys k) numbers) i d ≡ get_or (map (key_at keys k) met) i d =
-        λ i d l. ap (λ ks. get_or ks i d) all ∙ get_or_append_left (map (key_at keys k) met) (map (key_at keys k) tail) d i l in
-        record {
-          hashings = ap (λ ks. k ∷ ks) (walked-hashed keys k seen last ∙ none);
-          sought = walked-sought keys k seen last sought;
-          once = rw is (λ i j d l lj. rw (← left i d (omega (arith, l, lj)), ← left j d lj) (all_apart i j d l (omega (arith, lj, sizes))));
-          within = rw is (λ i d l. rw (← left i d l) (all_within places i d (omega (arith, l, sizes))));
-          equal_hashes = rw is (λ i d l. rw (← left i d l) (All-map (λ x. hash x ≡ hash k) (key_at keys k) numbers (λ at d l. (equal.each at d l).1) i d (omega (arith, l, sizes))));
-          steps = omega (arith, steps, walked-steps keys k seen last, few places);
-          placements = walked-placed keys k seen last ∙ placements;
-        }
+    module _ (passed places : ℕ)
+        (few : passed + length numbers ≤ length (bucket_keys hash places keys k)) where
+      cost : (seen met tail : List ℕ) (last : List Event) → numbers ≡ met ++ tail →
+          map (key_at keys k) seen ++ stored_keys last ≡ map (key_at keys k) met → hashed_keys last ≡ []
+          → All (λ x. x ≡ k) (sought_keys last) → length seen + step_count last ≤ length numbers →
+          placed_count last ≡ 0
+          → IsSearchCost hash k (bucket_keys hash places keys k)
+          (hashed k ∷ (spent keys k (passed + 1) seen ++ last))
+      cost seen met tail last split stored none sought steps placements =
+          let r = recorded keys k (passed + 1) seen last in
+          let is : stored_keys (spent keys k (passed + 1) seen ++ last) ≡ map (key_at keys k) met =
+          r.2 ∙ stored in
+          let all : map (key_at keys k) numbers ≡ map (key_at keys k) met ++ map (key_at keys k) tail =
+          ap (map (key_at keys k)) split ∙ map-append (key_at keys k) met tail in
+          let sizes : length (map (key_at keys k) numbers) ≡ length (map (key_at keys k) met)
+          + length (map (key_at keys k) tail) =
+          ap length all ∙ length-append (map (key_at keys k) met) (map (key_at keys k) tail) in
+          let left : (i : ℕ) (d : Key) → i < length (map (key_at keys k) met) →
+          get_or (map (key_at keys k) numbers) i d ≡ get_or (map (key_at keys k) met) i d =
+          λ i d l. ap (λ ks. get_or ks i d) all
+          ∙ get_or_append_left (map (key_at keys k) met) (map (key_at keys k) tail) d i l in
+          record {
+            hashings = ap (λ ks. k ∷ ks) (r.0 ∙ none);
+            sought = r.1 sought;
+            once = rw is (λ i j d l lj.
+                rw (
+                  ← left i d (omega (arith, l, lj)),
+                  ← left j d lj,
+                ) (all_apart i j d l (omega (arith, lj, sizes))));
+            within = rw is (λ i d l. rw (← left i d l) (all_within places i d (omega (arith, l, sizes))));
+            equal_hashes =
+                rw is (λ i d l.
+                rw (← left i d l)
+                (All-map (λ x. hash x ≡ hash k) (key_at keys k) numbers (λ at d l. (equal.each at d l).1) i
+                d (omega (arith, l, sizes))));
+            steps = omega (arith, steps, r.3, few);
+            placements = r.4 ∙ placements;
+          }
 
-    -- all were compared, and none has the key
-    pub ends : (places : ℕ) (start now : List Event) → IsSearching keys k numbers [] start now
-        → (None ≡ first_of keys k)
-        × Adds start now (λ cost. IsSearchCost hash k (bucket_keys hash places keys k) (hashed k ∷ cost) × IsRecorded k (first_of keys k) (hashed k ∷ cost))
-    ends places start now is =
-        let all : numbers ≡ is.seen = is.split ∙ append-nil is.seen in
-        let none : first_of keys k ≡ None = first-none keys k (λ j l same. All-contains (λ i. key_at keys k i ≢ k) is.seen j is.others (subst (λ ns. Contains ns j) all (equal.every j l (ap hash same))) same) in
-        let spent = cost places is.seen is.seen [] [] (all ∙ sym (append-nil is.seen)) (append-nil (map (key_at keys k) is.seen)) refl (All-nil (λ x. x ≡ k)) (omega (arith, ap length all)) refl in
-        let last : walked keys k is.seen ++ [] ≡ walked keys k is.seen = append-nil (walked keys k is.seen) in (
-          sym none,
-          (
-            step ∷ walked keys k is.seen,
-            is.events,
+      -- all were compared, and none has the key
+      pub ends : (start now : List Event) → IsSearching keys k passed numbers [] start now
+          → (None ≡ first_of keys k)
+          × Adds start now (λ cost. IsSearchCost hash k (bucket_keys hash places keys k) (hashed k ∷ cost)
+          × IsRecorded k (first_of keys k) (hashed k ∷ cost))
+      ends start now is =
+          let all : numbers ≡ is.seen = is.split ∙ append-nil is.seen in
+          let none : first_of keys k ≡ None =
+          first-none keys k (λ j l same. All-contains (λ i. key_at keys k i ≢ k) is.seen j is.others
+          (subst (λ ns. Contains ns j) all (equal.every j l (ap hash same))) same) in
+          let costs =
+          cost is.seen is.seen [] [] (all ∙ sym (append-nil is.seen))
+          (append-nil (map (key_at keys k) is.seen)) refl (All-nil (λ x. x ≡ k))
+          (omega (arith, ap length all)) refl in
+          let events = spent keys k (passed + 1) is.seen in
+          let last : events ++ [] ≡ events = append-nil events in
+          let stepped : 1 ≤ step_count (events ++ []) =
+          omega (arith, (recorded keys k (passed + 1) is.seen []).3) in (
+            sym none,
             (
-              rw last at spent,
-              rw none (record { steps = omega arith; comparison = tt }),
+              events,
+              is.events,
+              (rw last at costs, rw none (record { steps = rw last at stepped; comparison = tt })),
             ),
-          ),
-        )
+          )
 
-    -- the content of the next number has the key
-    pub finds : (places s : ℕ) (rest : List ℕ) (start now later : List Event) → IsSearching keys k numbers (s ∷ rest) start now → key_at keys k s ≡ k → later ≡ now ++ compared k (key_at keys k s) ∷ []
-        → (Some s ≡ first_of keys k)
-        × Adds start later (λ cost. IsSearchCost hash k (bucket_keys hash places keys k) (hashed k ∷ cost) × IsRecorded k (first_of keys k) (hashed k ∷ cost))
-    finds places s rest start now later is same compares =
-        let n = length is.seen in
-        let size : length numbers ≡ n + suc (length rest) = ap length is.split ∙ length-append is.seen (s ∷ rest) in
-        let here : get_or numbers n 0 ≡ s = ap (λ ns. get_or ns n 0) is.split ∙ get_or-append_seam is.seen s rest 0 in
-        let within : s < length keys = subst (λ i. i < length keys) here (equal.each n 0 (omega (arith, size))).0 in
-        let found : first_of keys k ≡ Some s = first-some keys k s within same (λ j l e. distinct j s [] l within (e ∙ sym same)) in
-        let split : numbers ≡ (is.seen ++ s ∷ []) ++ rest = is.split ∙ sym (append_assoc is.seen (s ∷ []) rest) in
-        let spent = cost places is.seen (is.seen ++ s ∷ []) rest (compared k (key_at keys k s) ∷ []) split (sym (map-append (key_at keys k) is.seen (s ∷ []))) refl (All-cons (λ x. x ≡ k) k [] refl (All-nil (λ x. x ≡ k))) (omega (arith, size)) refl in (
-          sym found,
-          (
-            step ∷ (walked keys k is.seen ++ compared k (key_at keys k s) ∷ []),
-            rw (compares, is.events) (append_assoc start (step ∷ walked keys k is.seen) (compared k (key_at keys k s) ∷ [])),
+      -- the content of the next number has the key
+      pub finds : (s : ℕ) (rest : List ℕ) (start now later : List Event) →
+          IsSearching keys k passed numbers (s ∷ rest) start now → key_at keys k s ≡ k →
+          later ≡ now ++ compared k (key_at keys k s) ∷ []
+          → (Some s ≡ first_of keys k)
+          × Adds start later (λ cost. IsSearchCost hash k (bucket_keys hash places keys k) (hashed k ∷ cost)
+          × IsRecorded k (first_of keys k) (hashed k ∷ cost))
+      finds s rest start now later is same compares =
+          let n = length is.seen in
+          let size : length numbers ≡ n + suc (length rest) =
+          ap length is.split ∙ length-append is.seen (s ∷ rest) in
+          let here : get_or numbers n 0 ≡ s =
+          ap (λ ns. get_or ns n 0) is.split ∙ get_or-append_seam is.seen s rest 0 in
+          let within : s < length keys =
+          subst (λ i. i < length keys) here (equal.each n 0 (omega (arith, size))).0 in
+          let found : first_of keys k ≡ Some s =
+          first-some keys k s within same (λ j l e. distinct j s [] l within (e ∙ sym same)) in
+          let split : numbers ≡ (is.seen ++ s ∷ []) ++ rest =
+          is.split ∙ sym (append_assoc is.seen (s ∷ []) rest) in
+          let last = compared k (key_at keys k s) ∷ [] in
+          let costs =
+          cost is.seen (is.seen ++ s ∷ []) rest last split
+          (sym (map-append (key_at keys k) is.seen (s ∷ []))) refl
+          (All-cons (λ x. x ≡ k) k [] refl (All-nil (λ x. x ≡ k))) (omega (arith, size)) refl in
+          let events = spent keys k (passed + 1) is.seen in
+          let steps = (recorded keys k (passed + 1) is.seen last).3 in (
+            sym found,
             (
-              spent,
-              rw found (record { steps = omega arith; comparison = (hashed k ∷ step ∷ walked keys k is.seen, [], ap (λ x. hashed k ∷ step ∷ (walked keys k is.seen ++ compared k x ∷ [])) same) }),
+              events ++ last,
+              rw (compares, is.events) (append_assoc start events last),
+              (
+                costs,
+                rw found
+                    (record {
+                      steps = omega (arith, steps);
+                      comparison =
+                          (hashed k ∷ events, [], ap (λ x. hashed k ∷ (events ++ compared k x ∷ [])) same);
+                    }),
+              ),
             ),
-          ),
-        )
+          )
 
-one_at_most : (b : Bool) → cond b 1 0 ≤ 1
-one_at_most true = omega arith
-one_at_most false = omega arith
+-- a count that is 1 or 0, by a test, is at most 1
+one-at-most : (b : Bool) → cond b 1 0 ≤ 1
+one-at-most true = omega arith
+one-at-most false = omega arith
 
+-- a position that the test for those below n with the known hash counts is below n and has that hash
 tells : (i n h known : ℕ) → 0 < cond (nat_lt i n && (h == known)) 1 0 → (i < n) × (h ≡ known)
 tells i n h known some = elim (cases_lt i n) [
   | inl low ↦ elim (eqb_tells h known) [
     | inl e ↦ (low, e.1)
-    | inr d ↦ absurd (let none : ◌≡◌ {A = ℕ} (cond (nat_lt i n && (h == known)) 1 0) 0 = rw (lt-ltb i n low, d.0) refl in omega (arith, some, none))
+    | inr d ↦ absurd (let none : ◌≡◌ {A = ℕ} (cond (nat_lt i n && (h == known)) 1 0) 0 =
+        rw (lt-ltb i n low, d.0) refl in omega (arith, some, none))
   ]
-  | inr high ↦ absurd (let none : ◌≡◌ {A = ℕ} (cond (nat_lt i n && (h == known)) 1 0) 0 = rw (le-ltb i n high) refl in omega (arith, some, none))
+  | inr high ↦ absurd (let none : ◌≡◌ {A = ℕ} (cond (nat_lt i n && (h == known)) 1 0) 0 =
+      rw (le-ltb i n high) refl in omega (arith, some, none))
 ]
 
 -- the numbers that a search by records gives are those of the contents with the hash
-pub equal_hashes : (hash : Key → ℕ) (keys : List Key) (k : Key) (xs : List (ℕ × List ℕ)) (known : ℕ) (numbers : List ℕ) → map (λ (p : ℕ × List ℕ). p.0) xs ≡ map hash keys → known ≡ hash k
+pub equal-hashes : (hash : Key → ℕ) (keys : List Key) (k : Key) (xs : List (ℕ × List ℕ)) (known : ℕ)
+    (numbers : List ℕ) → map (λ (p : ℕ × List ℕ). p.0) xs ≡ map hash keys → known ≡ hash k
     → AreAll xs known numbers → AreEqualHashes hash keys k numbers
-equal_hashes hash keys k xs known numbers same is all =
-    let size : length xs ≡ length keys = sym (length-map xs (λ (p : ℕ × List ℕ). p.0)) ∙ ap length same ∙ length-map keys hash in
+equal-hashes hash keys k xs known numbers same is all =
+    let size : length xs ≡ length keys = sym (length-map xs (λ (p : ℕ × List ℕ). p.0)) ∙ ap length same
+    ∙ length-map keys hash in
     let hash_is : (i : ℕ) → i < length keys → (get_or xs i (0, [])).0 ≡ hash (get_or keys i []) = λ i l.
     (let lx : i < length xs = omega (arith, l, size) in
-    sym (get_or-map (λ (p : ℕ × List ℕ). p.0) xs i (0, []) 0 lx) ∙ ap (λ hs. get_or hs i 0) same ∙ get_or-map hash keys i [] 0 l) in
+    sym (get_or-map (λ (p : ℕ × List ℕ). p.0) xs i (0, []) 0 lx) ∙ ap (λ hs. get_or hs i 0) same
+    ∙ get_or-map hash keys i [] 0 l) in
     record {
-      apart = apart-once numbers (λ i. rw (all i) (one_at_most (nat_lt i (length xs) && ((get_or xs i (0, [])).0 == known))));
+      apart = apart-once numbers
+          (λ i. rw (all i) (one-at-most (nat_lt i (length xs) && ((get_or xs i (0, [])).0 == known))));
       each = λ at d l.
           (let i = get_or numbers at d in
-          let there : 0 < sum_by (one_of i) numbers = positive i numbers at l (sym (get_or_default_zero numbers at d l)) in
+          let there : 0 < sum_by (one_of i) numbers =
+          positive i numbers at l (sym (get_or_default_zero numbers at d l)) in
           let told = tells i (length xs) (get_or xs i (0, [])).0 known (rw (all i) at there) in
           let within : i < length keys = omega (arith, told.0, size) in
           (within, sym (hash_is i within) ∙ told.1 ∙ is));
-      every = λ i l e. contained i numbers (rw (all i, lt-ltb i (length xs) (omega (arith, l, size)), eq-eqb (get_or xs i (0, [])).0 known (hash_is i l ∙ e ∙ sym is)) (omega arith));
+      every = λ i l e.
+          contained i numbers (rw (
+            all i,
+            lt-ltb i (length xs) (omega (arith, l, size)),
+            eq-eqb (get_or xs i (0, [])).0 known (hash_is i l ∙ e ∙ sym is),
+          ) (omega arith));
     }

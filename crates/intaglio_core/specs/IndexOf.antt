@@ -10,15 +10,17 @@ use Rattle.intaglio_records.specs.declared.index.RecordIndex.{RecordIndex}
 use Rattle.intaglio_interner.specs.State.{first}
 use Rattle.intaglio_interner.specs.Cost.{bucket_keys, IsSearchCost, IsRecorded}
 
--- the hashes by which the contents were added, in their order; how many contents it can hold; and for how many it was
--- made. Contents whose hashes are equal modulo the places share a bucket, as far as the cost of a search is stated
+-- the hashes by which the contents were added, in their order; how many contents it can hold; and
+-- for how many it was made. Contents whose hashes are equal modulo the places share a bucket, as
+-- far as the cost of a search is stated
 pub record IndexState : Type 0 where
   pub hashes : List ℕ
   pub room : ℕ
   pub places : ℕ
 
 -- a list is what another one was, but for room that it gave up: for contents, or for their bytes
-pub record HasLessRoom {L C : Type 0} (contents : L → List C) (hashes : L → List ℕ) (most spare_bytes : L → ℕ) (new old : L) : Type 0 where
+pub record HasLessRoom {L C : Type 0} (contents : L → List C) (hashes : L → List ℕ) (most spare_bytes : L →
+    ℕ) (new old : L) : Type 0 where
   pub same_contents : contents new ≡ contents old
   pub same_hashes : hashes new ≡ hashes old
   pub no_more : most new ≤ most old
@@ -37,7 +39,8 @@ abbrev pub empty_index : ℕ → IndexState
 empty_index n = record { hashes = []; room = n; places = n }
 
 -- the contents were added by the hashes of their keys, and this is the hash of the sought key
-pub record AreHashed {C : Type 0} (key : C → Key) (hash : Key → ℕ) (contents : List C) (given : List ℕ) (k : Key) (known : ℕ) : Type 0 where
+pub record AreHashed {C : Type 0} (key : C → Key) (hash : Key → ℕ) (contents : List C) (given : List ℕ)
+    (k : Key) (known : ℕ) : Type 0 where
   pub stored : given ≡ map (λ c. hash (key c)) contents
   pub sought : known ≡ hash k
 
@@ -48,7 +51,8 @@ IsHashed key contents given k known = (hash : Key → ℕ) × AreHashed key hash
 -- what a search by a known hash records, in an index that was made for this many
 abbrev pub LookupCost : {C : Type 0} → (C → Key) → (Key → ℕ) → List C → ℕ → Key → List Event → Type 0
 LookupCost key hash contents places k cost =
-    IsSearchCost hash k (bucket_keys hash places (map key contents) k) (hashed k ∷ cost) × IsRecorded k (first key contents k) (hashed k ∷ cost)
+    IsSearchCost hash k (bucket_keys hash places (map key contents) k) (hashed k ∷ cost)
+    × IsRecorded k (first key contents k) (hashed k ∷ cost)
 
 -- the entries stay, and the room isn't less
 pub record KeepsEntries (old new : IndexState) : Type 0 where
@@ -56,8 +60,8 @@ pub record KeepsEntries (old new : IndexState) : Type 0 where
   pub room : old.room ≤ new.room
   pub fits : new.room ≤ new.places
 
--- there is room for more than n contents. If the index held as many as it was made for, it grew, and all entries were
--- placed again
+-- there is room for more than n contents. If the index held as many as it was made for, it grew,
+-- and all entries were placed again
 pub record FindsRoom (n limit : ℕ) (old new : IndexState) (before after : Work) : Type 0 where
   pub free : n < new.room
   pub kept : n < old.places → new.places ≡ old.places

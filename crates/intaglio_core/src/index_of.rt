@@ -25,12 +25,12 @@ pub trait Indexed: Store {
 
 /// An index over a list of contents, which finds them by their hashes.
 ///
-/// Each call takes the list too, and what changes one of them changes both. So an index may depend on more of its
-/// list than the contents, or be a part of it.
+/// Each call takes the list too, and what changes one of them changes both. So an index may depend on more of
+/// its list than the contents, or be a part of it.
 ///
-/// A contract sees an index as the hashes by which the contents were added, its room, and its places. The room is
-/// how many contents it can hold. The places are for how many it was made: a search takes at most a step for each
-/// content whose hash is equal modulo the places, and one.
+/// A contract sees an index as the hashes by which the contents were added, its room, and its places. The
+/// room is how many contents it can hold. The places are for how many it was made: a search takes at most a
+/// step for each content whose hash is equal modulo the places, and one.
 pub trait IndexOf<L: Store> {
     ghost state: { Self → L → IndexState };
 
@@ -59,8 +59,8 @@ pub trait IndexOf<L: Store> {
         ensures within { length (L.contents list.now) ≤ result }
         ensures fits { result ≤ (state self.now list.now).places };
 
-    /// The symbol of the content with the sought key, if there is one, by the hash of the key. Compares only with
-    /// contents of this hash.
+    /// The symbol of the content with the sought key, if there is one, by the hash of the key. Compares
+    /// only with contents of this hash.
     fn search<Q: SoughtIn<L>>(
         &self,
         list: &L,
@@ -78,8 +78,8 @@ pub trait IndexOf<L: Store> {
             let cost = LookupCost L.Content.key h (L.contents list.now) index.places in
             Costs work.old work.new (cost (Q.key sought.now)) };
 
-    /// Reads what a search by this hash will read: of the index, and a byte of the content that it compares first.
-    /// The byte itself means nothing.
+    /// Reads what a search by this hash will read: of the index, and a byte of the content that it compares
+    /// first. The byte itself means nothing.
     fn touch(&self, list: &L, hash: u64) -> u8
         requires { is_over self.now list.now };
 
@@ -108,8 +108,9 @@ pub trait IndexOf<L: Store> {
         ensures moved { Q.copies ≡ false → IsOk result }
         ensures none_needed { Q.in_store → Q.needs value.now ≤ L.spare_bytes list.old → IsOk result };
 
-    /// Makes room for one more content, in the list and in the index. An index that is full grows for twice as many
-    /// contents, for 4 at least and the limit at most. It grows last, so that a failed growth records no event.
+    /// Makes room for one more content, in the list and in the index. An index that is full grows
+    /// for twice as many contents, for 4 at least and the limit at most. It grows last, so that a
+    /// failed growth records no event.
     ///
     /// # Errors
     ///
@@ -125,14 +126,15 @@ pub trait IndexOf<L: Store> {
         ensures spare_bytes { L.spare_bytes list.new ≡ L.spare_bytes list.old }
         ensures index { KeepsEntries (state self.old list.old) (state self.new list.new) }
         ensures free { OnOk result (length (L.contents list.old) < L.most list.new) }
-        ensures place { let finds = FindsRoom (length (L.contents list.old)) limit (state self.old list.old) in
+        ensures place { let finds = FindsRoom (length (L.contents list.old)) limit
+            (state self.old list.old) in
             OnOk result (finds (state self.new list.new) work.old work.new) }
         ensures refused { let n = length (L.contents list.old) in
             let finds = FindsNoRoom n (L.most list.old) (state self.old list.old) in
             OnErr result (finds (state self.new list.new) work.old work.new) };
 
-    /// Adds the value to the list, and its hash with the symbol that it gets to the index. Nothing is allocated. Records
-    /// one placement.
+    /// Adds the value to the list, and its hash with the symbol that it gets to the index. Nothing is
+    /// allocated. Records one placement.
     fn push<H, Q: AddedTo<L, H>>(
         &mut self,
         list: &mut L,
@@ -190,8 +192,8 @@ pub trait IndexOf<L: Store> {
         ensures byte_room { L.spare_bytes list.new
             ≡ byte_room L.takes (L.contents list.old) (L.spare_bytes list.old) };
 
-    /// Makes room for this many more contents, in the list and in the index. The index is then made for as many as
-    /// before, or for just the contents that there are and these.
+    /// Makes room for this many more contents, in the list and in the index. The index is then made for as
+    /// many as before, or for just the contents that there are and these.
     ///
     /// # Errors
     ///
@@ -207,7 +209,8 @@ pub trait IndexOf<L: Store> {
         ensures over { is_over self.new list.new }
         ensures contents { L.contents list.new ≡ L.contents list.old }
         ensures capacity { L.most list.old ≤ L.most list.new }
-        ensures grows { Doubles (length (L.contents list.old) + additional) (L.most list.old) (L.most list.new) }
+        ensures grows { Doubles (length (L.contents list.old) + additional) (L.most list.old)
+            (L.most list.new) }
         ensures spare_bytes { L.spare_bytes list.new ≡ L.spare_bytes list.old }
         ensures index { KeepsEntries (state self.old list.old) (state self.new list.new) }
         ensures free { OnOk result (length (L.contents list.old) + additional ≤ L.most list.new) }
@@ -242,7 +245,8 @@ pub trait IndexOf<L: Store> {
         ensures state { let less = HasLessRoom L.contents L.hashes L.most L.spare_bytes list.now in
             KeepsState (state self.now) (is_over self.now) less list.now };
 
-    /// Makes room for this many more bytes of contents. If the list has to grow for them, its room at least doubles.
+    /// Makes room for this many more bytes of contents. If the list has to grow for
+    /// them, its room at least doubles.
     ///
     /// # Errors
     ///

@@ -1,12 +1,12 @@
 //! The engine of symbol tables: a list of contents with an index over it.
 //!
 //! [`IndexedStore`] gives each distinct content the next number, and returns the content for its number. The
-//! contents may be in any [`Store`]; [`Core`] keeps owned ones, in a `Vec`. Each table of the crate `intaglio` is a
-//! thin type over an `IndexedStore`. It does what [`BaseInterner`] says of every table, and `Core` what
-//! [`Interner`] says too.
+//! contents may be in any [`Store`]; [`Core`] keeps owned ones, in a `Vec`. Each table of the crate
+//! `intaglio` is a thin type over an `IndexedStore`. It does what [`BaseInterner`] says of every table, and
+//! `Core` what [`Interner`] says too.
 //!
-//! What a caller of a `Core` needs is here too: contents of texts and of bytes, and [`run`], which makes a list of
-//! [`Call`]s on it.
+//! What a caller of a `Core` needs is here too: contents of texts and of bytes, and [`run`], which
+//! makes a list of [`Call`]s on it.
 #![tactic(auto)]
 
 pub mod index_of;
@@ -22,10 +22,9 @@ pub use intaglio_content::{
 };
 pub use intaglio_index::Index;
 pub use intaglio_interner::{
-    AHEAD_FROM, BaseInterner, GROUP, Interner, check_all, get_or_intern_all, intern_all,
-    look_ahead, touch_all,
+    AHEAD_FROM, BaseInterner, Call, GROUP, Interner, Reply, check_all, get_or_intern_all,
+    intern_all, look_ahead, run, touch_all,
 };
-pub use intaglio_run::{Call, Reply, run};
 pub use intaglio_symbol::{
     AllSymbols, DEFAULT_SYMBOL_TABLE_CAPACITY, InternError, Mark, RoomError, StaleMark, Symbol,
     SymbolOverflowError,

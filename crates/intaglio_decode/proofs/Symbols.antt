@@ -13,66 +13,89 @@ use Rattle.intaglio_decode.specs.declared.error.RestoreError.{RestoreError}
 use Rattle.intaglio_decode.specs.declared.error.RestoreError.TheVariants.{NotANumber, NoString, NoEmptyLine, NotEnded, Stream}
 
 -- where the first line isn't empty, it is the first of the symbols
-before-written : (line : List ℕ) (more : List (List ℕ)) → is_blank line ≡ false → before_first is_blank (line ∷ more) ≡ line ∷ before_first is_blank more
+before-written : (line : List ℕ) (more : List (List ℕ)) → is_blank line ≡ false →
+    before_first is_blank (line ∷ more) ≡ line ∷ before_first is_blank more
 before-written line more written = rw (written, one-add) refl
 
-pub symbol_lines-more : (bytes line after : List ℕ) → lines_of bytes ≡ line ∷ lines_of after → is_blank line ≡ false → symbol_lines bytes ≡ line ∷ symbol_lines after
-symbol_lines-more bytes line after lines written = ap (before_first is_blank) lines ∙ before-written line (lines_of after) written
+-- if the first line isn't empty, the symbol lines are that line and those of what follows it
+pub symbol_lines-more : (bytes line after : List ℕ) → lines_of bytes ≡ line ∷ lines_of after →
+    is_blank line ≡ false → symbol_lines bytes ≡ line ∷ symbol_lines after
+symbol_lines-more bytes line after lines written =
+    ap (before_first is_blank) lines ∙ before-written line (lines_of after) written
 
 -- an error that reports the first fault of two
-pub Reports-or : (e : RestoreError) (fault more : Option Fault) → Reports e fault → Reports e (option_or fault more)
+pub Reports-or : (e : RestoreError) (fault more : Option Fault) → Reports e fault →
+    Reports e (option_or fault more)
 Reports-or (NotANumber line) fault more is = rw is refl
 Reports-or (NoString line number) fault more is = rw is refl
 Reports-or NoEmptyLine fault more is = rw is refl
 Reports-or NotEnded fault more is = rw is refl
 Reports-or (Stream failure) fault more is = tt
 
--- bytes are ended exactly if their last byte is 10
-last-cons : (byte : ℕ) (bytes : List ℕ) → 1 ≤ length bytes → get_or (byte ∷ bytes) (length (byte ∷ bytes) - 1) 0 ≡ get_or bytes (length bytes - 1) 0
+-- with one more byte in front of some, the last byte is the same
+last-cons : (byte : ℕ) (bytes : List ℕ) → 1 ≤ length bytes →
+    get_or (byte ∷ bytes) (length (byte ∷ bytes) - 1) 0 ≡ get_or bytes (length bytes - 1) 0
 last-cons byte bytes some =
     let place : length (byte ∷ bytes) - 1 ≡ suc (length bytes - 1) = omega arith in
     ap (λ n. get_or (byte ∷ bytes) n 0) place
 
-pub is_ended-last : (bytes : List ℕ) → 1 ≤ length bytes → eqb (get_or bytes (length bytes - 1) 0) 10 ≡ is_ended bytes
+-- if there is a byte, the test whether the last one is 10 says whether the bytes are ended
+pub is_ended-last : (bytes : List ℕ) → 1 ≤ length bytes →
+    eqb (get_or bytes (length bytes - 1) 0) 10 ≡ is_ended bytes
 is_ended-last [] some = absurd (omega arith)
 is_ended-last (byte ∷ []) some = refl
 is_ended-last (byte ∷ next ∷ more) some =
-    ap (λ b. eqb b 10) (last-cons byte (next ∷ more) (omega arith)) ∙ is_ended-last (next ∷ more) (omega arith)
+    ap (λ b. eqb b 10) (last-cons byte (next ∷ more) (omega arith))
+    ∙ is_ended-last (next ∷ more) (omega arith)
 
-module _ (bytes line after : List ℕ) (lines : lines_of bytes ≡ line ∷ lines_of after) (written : is_blank line ≡ false) where
+module _ (bytes line after : List ℕ) (lines : lines_of bytes ≡ line ∷ lines_of after)
+    (written : is_blank line ≡ false) where
   -- the first fault is that of the first line, or of a later one
   pub first_fault-more : (count : Option ℕ) (number : ℕ)
-      → first_fault count number (symbol_lines bytes) ≡ option_or (line_fault count number line) (first_fault count (number + 1) (symbol_lines after))
-  first_fault-more count number = ap (first_fault count number) (symbol_lines-more bytes line after lines written)
+      → first_fault count number (symbol_lines bytes) ≡ option_or (line_fault count number line)
+      (first_fault count (number + 1) (symbol_lines after))
+  first_fault-more count number =
+      ap (first_fault count number) (symbol_lines-more bytes line after lines written)
 
   -- where each line is known, so are the first one and the others
-  pub known-more : (count : ℕ) → AreKnown count (symbol_lines bytes) → ((is_number line ≡ true) × (digits_value 10 line < count)) × AreKnown count (symbol_lines after)
+  pub known-more : (count : ℕ) → AreKnown count (symbol_lines bytes) →
+      ((is_number line ≡ true) × (digits_value 10 line < count)) × AreKnown count (symbol_lines after)
   known-more count known = subst (AreKnown count) (symbol_lines-more bytes line after lines written) known
 
   -- what the symbols stand for begins with what the first one stands for
   pub decoded-more : (spellings : List (List ℕ)) (done : List ℕ)
-      → (done ++ spelling_line (get_or spellings (digits_value 10 line) [])) ++ decoded (map (digits_value 10) (symbol_lines after)) spellings
+      → (done ++ spelling_line (get_or spellings (digits_value 10 line) []))
+      ++ decoded (map (digits_value 10) (symbol_lines after)) spellings
       ≡ done ++ decoded (map (digits_value 10) (symbol_lines bytes)) spellings
   decoded-more spellings done =
-      append_assoc done (spelling_line (get_or spellings (digits_value 10 line) [])) (decoded (map (digits_value 10) (symbol_lines after)) spellings)
-      ∙ ap (λ t. done ++ decoded (map (digits_value 10) t) spellings) (sym (symbol_lines-more bytes line after lines written))
+      append_assoc done (spelling_line (get_or spellings (digits_value 10 line) []))
+      (decoded (map (digits_value 10) (symbol_lines after)) spellings)
+      ∙ ap (λ t. done ++ decoded (map (digits_value 10) t) spellings)
+      (sym (symbol_lines-more bytes line after lines written))
 
 -- the number that a known line says
-pub number-known : (line : List ℕ) (result : Option ℕ) → result ≡ cond (is_number line) (Some (min (digits_value 10 line) (2 ^ 64 - 1))) None
+pub number-known : (line : List ℕ) (result : Option ℕ) →
+    result ≡ cond (is_number line) (Some (min (digits_value 10 line) (2 ^ 64 - 1))) None
     → is_number line ≡ true → result ≡ Some (min (digits_value 10 line) (2 ^ 64 - 1))
 number-known line result gives is = rw is at gives
 
 -- what is wrong with nothing isn't wrong
-pub no-fault-read : (bytes : List ℕ) → list_any is_blank (lines_of bytes) ≡ true → first_fault (Some (length (spellings_of bytes))) 1 (symbol_lines bytes) ≡ None
+pub no-fault-read : (bytes : List ℕ) → list_any is_blank (lines_of bytes) ≡ true →
+    first_fault (Some (length (spellings_of bytes))) 1 (symbol_lines bytes) ≡ None
     → is_ended bytes ≡ true → fault_of bytes ≡ None
 no-fault-read bytes any first ended =
     let count : spelling_count bytes ≡ Some (length (spellings_of bytes)) = rw any refl in
-    let front : first_fault (spelling_count bytes) 1 (symbol_lines bytes) ≡ None = ap (λ t. first_fault t 1 (symbol_lines bytes)) count ∙ first in
+    let front : first_fault (spelling_count bytes) 1 (symbol_lines bytes) ≡ None =
+    ap (λ t. first_fault t 1 (symbol_lines bytes)) count ∙ first in
     rw (front, ended, any) refl
 
 -- and is read whole
-pub holds-parts : (bytes : List ℕ) (spellings : List (List ℕ)) → length bytes < 2 ^ 64 → list_any is_blank (lines_of bytes) ≡ true → spellings ≡ spellings_of bytes
-    → first_fault (Some (length spellings)) 1 (symbol_lines bytes) ≡ None → is_ended bytes ≡ true → Holds (map (digits_value 10) (symbol_lines bytes)) spellings bytes
+pub holds-parts : (bytes : List ℕ) (spellings : List (List ℕ)) → length bytes < 2 ^ 64 →
+    list_any is_blank (lines_of bytes) ≡ true → spellings ≡ spellings_of bytes
+    → first_fault (Some (length spellings)) 1 (symbol_lines bytes) ≡ None → is_ended bytes ≡ true →
+    Holds (map (digits_value 10) (symbol_lines bytes)) spellings bytes
 holds-parts bytes spellings few any same first ended =
     subst (λ t. Holds (map (digits_value 10) (symbol_lines bytes)) t bytes) (sym same)
-    (holds-read bytes few (no-fault-read bytes any (ap (λ t. first_fault (Some (length t)) 1 (symbol_lines bytes)) (sym same) ∙ first) ended))
+    (holds-read bytes few
+    (no-fault-read bytes any (ap (λ t. first_fault (Some (length t)) 1 (symbol_lines bytes)) (sym same)
+    ∙ first) ended))

@@ -33,7 +33,8 @@ use std::rt::Files;
 enum Translation<'a, 't, D> {
     // The code of each line, also of one that isn't in the dictionary if that is asked for.
     Encode(&'a D, bool),
-    // The line of each code, and this text for a line that wasn't in the dictionary, which has this name and kind.
+    // The line of each code, and this text for a line that wasn't in the
+    // dictionary, which has this name and kind.
     Decode(&'a D, Option<&'a [u8]>, &'a str, Kind),
     // The code at each code.
     Renumber(&'a CodeMap<'t>),
@@ -309,7 +310,8 @@ fn decode_with<
     translate(rt, found, "CODES", translation, "codes decoded")
 }
 
-/// Writes the code at each code of the inputs, or a column with those of a column. Otherwise the exit status after a message.
+/// Writes the code at each code of the inputs, or a column with those of a column.
+/// Otherwise the exit status after a message.
 pub fn renumber_codes<R: Files + RandomSource + Input + Print + Tell + AllocGlobal>(
     rt: &R,
     found: &ArgMatches<'_>,
@@ -321,7 +323,7 @@ pub fn renumber_codes<R: Files + RandomSource + Input + Print + Tell + AllocGlob
         return Err(2);
     };
     let bytes = match found.get_str("INTO") {
-        Some(into) => sharded_map(rt, found, name, into)?,
+        Some(into) => sharded_map(rt, found, name, into, None)?,
         None => whole(rt, name, &mut Meter::silent())?,
     };
     renumber_by(rt, found, name, &bytes)

@@ -2,16 +2,15 @@
 use crate::hashing::random_builder;
 use crate::progress::Shown;
 use clap::ArgMatches;
-use intaglio_dict_io::input::{STANDARD_INPUT, lines};
+use intaglio_dict_io::input::STANDARD_INPUT;
+use intaglio_dict_io::inputs::Inputs;
 use intaglio_dict_io::keys::keys_of;
 use intaglio_dict_io::noticing::Noticing;
 use intaglio_dict_io::output::{Bytes, Payload, write_to};
 use intaglio_dict_io::report;
-use intaglio_dict_io::report::Tell;
+use intaglio_dict_io::report::{Stream, Tell};
 use intaglio_dictionary::error::FreezingError;
-use intaglio_dictionary::freezing::{
-    freeze_column, freeze_column_file, freeze_lines, freeze_lines_with_default_keys,
-};
+use intaglio_dictionary::freezing::{freeze_column, freeze_column_file, freeze_lines};
 use intaglio_frozen::{FreezeError, Kind};
 use std::io;
 use std::io::Write;
@@ -20,14 +19,16 @@ use std::rt::Files;
 
 // The dictionary of lines: strings of a kind, under these keys, or under those that the library chooses.
 #[derive(Drop)]
-struct Freezing<'a, R> {
+struct Freezing<'a, R: Files + Input> {
     kind: Kind,
     keys: Option<(u64, u64)>,
-    input: &'a [u8],
+    inputs: Inputs<'a, R>,
     // The output for the codes of the lines, and whether they are written as a column.
     codes: Option<&'a str>,
     is_column: bool,
     shown: Shown<'a, R>,
+    // How many lines were frozen.
+    count: u64,
 }
 
 /// Freezes the lines of files or of standard input. Otherwise the exit status after a message.
@@ -41,40 +42,21 @@ pub fn freeze<R: Files + RandomSource + Input + Print + Tell + AllocGlobal>(
     let names = found.get_strs("FILE").unwrap_or(STANDARD_INPUT);
     let (kind, keys) = (kind_of(found), keys_of(rt, found)?);
     let is_shown = found.get_flag("PROGRESS");
-    let input = lines(rt, names, kind == Kind::Text, is_shown)?;
-    let freezing = Freezing {
+    let mut freezing = Freezing {
         kind,
         keys,
-        input: &input,
+        inputs: Inputs::new(rt, names, kind == Kind::Text, is_shown),
         codes: found.get_str("COLUMN").or(found.get_str("CODES")),
         is_column: found.get_str("COLUMN").is_some(),
         shown: Shown::new(rt, is_shown),
+        count: 0,
     };
-    freeze_to(rt, name, freezing, found.get_flag("VERBOSE"))
-}
-
-fn freeze_to<R: Files + RandomSource + Print + Tell + AllocGlobal>(
-    rt: &R,
-    name: &str,
-    mut freezing: Freezing<'_, R>,
-    is_counted: bool,
-) -> Result<(), u8> {
-    let read = freezing.input.len();
-    freezing.shown.stage(read, "bytes read");
     write_to(rt, name, &mut freezing)?;
-    if is_counted {
-        report::count(rt, count_of_lines(freezing.input), "lines frozen");
+    if found.get_flag("VERBOSE") {
+        report::count(rt, freezing.count, "lines frozen");
         report::count(rt, freezing.shown.distinct as u64, "distinct lines");
     }
     Ok(())
-}
-
-fn count_of_lines(input: &[u8]) -> u64 {
-    let ends = input.iter().filter(|b| **b == b'\n').count() as u64;
-    match input.last() {
-        None | Some(b'\n') => ends,
-        Some(_) => ends.saturating_add(1),
-    }
 }
 
 // The arguments take no other kind.
@@ -85,8 +67,8 @@ fn kind_of(found: &ArgMatches<'_>) -> Kind {
     }
 }
 
-impl<R: Files + RandomSource + Print + Tell + AllocGlobal> Payload<R> for Freezing<'_, R> {
-    // The codes are written before the dictionary has its place: whoever sees that can read them.
+impl<R: Files + RandomSource + Input + Print + Tell + AllocGlobal> Payload<R> for Freezing<'_, R> {
+    // The codes have their place before the dictionary has its own: whoever sees that can read them.
     fn write<W: Write>(&mut self, rt: &R, name: &str, output: &mut Noticing<W>) -> Result<(), u8> {
         let Some(codes) = self.codes else {
             return self.write_table(rt, name, output);
@@ -98,47 +80,57 @@ impl<R: Files + RandomSource + Print + Tell + AllocGlobal> Payload<R> for Freezi
     }
 }
 
-impl<R: Tell> Freezing<'_, R> {
+impl<R: Files + RandomSource + Input + Tell + AllocGlobal> Freezing<'_, R> {
     // Writes the dictionary.
-    fn write_table<Q: RandomSource + Tell + AllocGlobal, W: Write>(
+    fn write_table<W: Write>(
         &mut self,
-        rt: &Q,
+        rt: &R,
         name: &str,
         output: &mut Noticing<W>,
     ) -> Result<(), u8> {
         let builder = random_builder(rt)?;
-        let (alloc, kind, input) = (rt.alloc(), self.kind, self.input);
-        let shown = &mut self.shown;
-        let written = match self.keys {
-            Some(keys) => freeze_lines(alloc, kind, keys, builder, input, output, shown),
-            None => freeze_lines_with_default_keys(alloc, kind, builder, input, output, shown),
-        };
-        match written {
-            Ok(()) => Ok(()),
-            Err(refused) => Err(refusal(rt, name, refused, output.error)),
+        let (alloc, kind, keys) = (rt.alloc(), self.kind, self.keys);
+        let (inputs, shown) = (&mut self.inputs, &mut self.shown);
+        match freeze_lines(alloc, kind, keys, builder, inputs, output, shown) {
+            Ok(count) => {
+                self.count = count;
+                Ok(())
+            }
+            Err(refused) => Err(self.refused(rt, refused, (name, output.error))),
         }
     }
 
     // Writes the dictionary, and the codes or the column to memory.
-    fn write_column<Q: RandomSource + Tell + AllocGlobal, W: Write>(
+    fn write_column<W: Write>(
         &mut self,
-        rt: &Q,
+        rt: &R,
         name: &str,
         output: &mut Noticing<W>,
         codes: &mut Noticing<Vec<u8>>,
     ) -> Result<(), u8> {
         let builder = random_builder(rt)?;
-        let (alloc, kind, keys, input) = (rt.alloc(), self.kind, self.keys, self.input);
-        let shown = &mut self.shown;
+        let (alloc, kind, keys) = (rt.alloc(), self.kind, self.keys);
+        let (inputs, shown) = (&mut self.inputs, &mut self.shown);
         let written = if self.is_column {
-            freeze_column_file(alloc, kind, keys, builder, input, output, codes, shown)
+            freeze_column_file(alloc, kind, keys, builder, inputs, output, codes, shown)
         } else {
-            freeze_column(alloc, kind, keys, builder, input, output, codes, shown)
+            freeze_column(alloc, kind, keys, builder, inputs, output, codes, shown)
         };
         match written {
-            Ok(()) => Ok(()),
+            Ok(count) => {
+                self.count = count;
+                Ok(())
+            }
             Err(_) if codes.error.is_some() => Err(report::out_of_memory(rt)),
-            Err(refused) => Err(refusal(rt, name, refused, output.error)),
+            Err(refused) => Err(self.refused(rt, refused, (name, output.error))),
+        }
+    }
+
+    // The exit status after the inputs weren't frozen. What is wrong with an input was said when it was read.
+    fn refused(&self, rt: &R, refused: FreezingError, output: Stream<'_>) -> u8 {
+        match self.inputs.status {
+            Some(status) => status,
+            None => refusal(rt, output.0, refused, output.1),
         }
     }
 }

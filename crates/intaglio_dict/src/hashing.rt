@@ -1,4 +1,4 @@
-//! How the tables hash in which strings are interned.
+//! The hash builder of the tables in which strings are interned.
 use intaglio_dict_io::report;
 use intaglio_dict_io::report::Tell;
 use intaglio_hash::KeyedState;

@@ -3,15 +3,14 @@ ghost use Rattle.std.specs.Prelude.{None};
 
 use intaglio_dict_io::metered::Metered;
 use intaglio_dict_io::report::Tell;
+use intaglio_dictionary::codes::CODE;
 use std::alloc::AllocError;
 use std::io;
 use std::io::{ErrorKind, Read};
 use std::rt::Files;
 
-/// How many bytes a code has.
-pub const CODE: usize = 4;
-
-/// Reads through an input, and keeps the bytes that were read last, with the part of a line or code before them.
+/// Reads through an input, and keeps the bytes that were read last, with the
+/// part of a line or code before them.
 #[derive(Drop)]
 pub struct Keeping<'a, R: Files + Input> {
     /// The input.
@@ -19,7 +18,8 @@ pub struct Keeping<'a, R: Files + Input> {
     // Whether it has codes. Otherwise it has lines.
     has_codes: bool,
     kept: Vec<u8>,
-    // How many of the kept bytes were read before the last ones, or were looked through for the end of a line.
+    // How many of the kept bytes were read before the last ones, or were looked
+    // through for the end of a line.
     seen: usize,
 }
 

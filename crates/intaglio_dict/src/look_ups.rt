@@ -18,8 +18,8 @@ use intaglio_symbol::Symbol;
 use std::io;
 use std::rt::Files;
 
-/// Writes the symbols of lines, and returns the exit status, as `grep` has it: 1 if some lines weren't found, and
-/// 2 after an error.
+/// Writes the symbols of lines, and returns the exit status, as `grep` has it: 1 if some lines
+/// weren't found, and 2 after an error.
 pub fn find<R: Files + Input + Print + Tell + AllocGlobal>(rt: &R, found: &ArgMatches<'_>) -> u8 {
     match find_all(rt, found) {
         Ok(true) => 0,

@@ -77,8 +77,9 @@ impl<R: Files + RandomSource + Print + Tell + AllocGlobal> Payload<R> for Mergin
 }
 
 impl<R> Merging<'_, '_, R> {
-    // Writes the map of each dictionary to the folder, if one is given, and then their index, if they have one. The index
-    // that was there is removed before a map is written, so that at any time it is that of the maps, or there is none.
+    // Writes the map of each dictionary to the folder, if one is given, and then their index, if they
+    // have one. The index that was there is removed before a map is written, so that at any time it is
+    // that of the maps, or there is none.
     fn write_maps<Q: Files + RandomSource + Print + Tell + AllocGlobal>(
         &self,
         rt: &Q,
@@ -187,8 +188,8 @@ fn merge_to<R: Files + RandomSource + Print + Tell + AllocGlobal>(
     Ok(())
 }
 
-// Merges a shard, and writes its maps, then the shard, and last the line beside it. The line that was there is removed
-// before anything is written.
+// Merges a shard, and writes its maps, then the shard, and last the line beside it. The line that was there
+// is removed before anything is written.
 fn write_merged<R: Files + RandomSource + Print + Tell + AllocGlobal>(
     rt: &R,
     output: &str,

@@ -1,7 +1,6 @@
 //! Messages on a line or code that isn't translated.
-use crate::keeping::CODE;
 use intaglio_dict_io::report::{Tell, failed};
-use intaglio_dictionary::codes::{CodeMap, MISSING};
+use intaglio_dictionary::codes::{CODE, CodeMap, MISSING};
 use intaglio_dictionary::dictionary::WholeDictionary;
 use intaglio_symbol::Symbol;
 use std::str;
@@ -59,8 +58,9 @@ fn is_shown(text: &str) -> bool {
     text.len() <= MAX_SHOWN && !text.chars().any(|c| c.is_control())
 }
 
-/// Of the code with this number, counted from 1, which is the first of these that stands for no line: no string of
-/// the dictionary has it, nor is it the code of lines that weren't in a dictionary, if these have a text.
+/// Of the code with this number, counted from 1, which is the first of these that stands for no
+/// line: no string of the dictionary has it, nor is it the code of lines that weren't in a
+/// dictionary, if these have a text.
 pub fn no_string<R: Tell, D: WholeDictionary>(
     rt: &R,
     name: &str,
@@ -69,7 +69,7 @@ pub fn no_string<R: Tell, D: WholeDictionary>(
     has_text: bool,
     codes: &[u8],
 ) -> u8 {
-    match first_code(
+    match find_code(
         codes,
         |code| table.string_of(Symbol::new(code)).is_none() && !(has_text && code == MISSING),
     ) {
@@ -92,7 +92,7 @@ pub fn no_string<R: Tell, D: WholeDictionary>(
 
 /// Of the code with this number, counted from 1, which is the first of these that a map hasn't.
 pub fn no_number<R: Tell>(rt: &R, name: &str, number: u64, map: &CodeMap<'_>, codes: &[u8]) -> u8 {
-    match first_code(codes, |code| map.get(code).is_none() && code != MISSING) {
+    match find_code(codes, |code| map.get(code).is_none() && code != MISSING) {
         Some(code) => failed(
             rt,
             name,
@@ -107,7 +107,7 @@ pub fn no_number<R: Tell>(rt: &R, name: &str, number: u64, map: &CodeMap<'_>, co
 }
 
 // The first whole code of which this holds.
-fn first_code<P: FnMut(u32) -> bool + Drop>(codes: &[u8], mut holds: P) -> Option<u32>
+fn find_code<P: FnMut(u32) -> bool + Drop>(codes: &[u8], mut holds: P) -> Option<u32>
     requires { (f : _) (x : _) → P.pre f x }
 {
     for bytes in codes.chunks_exact(CODE) {

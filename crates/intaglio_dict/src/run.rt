@@ -92,8 +92,9 @@ fn check<R: Files + Input + Tell + AllocGlobal>(rt: &R, found: &ArgMatches<'_>) 
     let mut status = 0;
     let mut last = None;
     if let Some(names) = found.get_strs("DICT") {
-        for name in names {
-            status = check_one(rt, name, &mut last).max(status);
+        for (place, name) in names.iter().enumerate() {
+            let is_followed = place.saturating_add(1) < names.len();
+            status = check_one(rt, name, is_followed, &mut last).max(status);
         }
     }
     status
@@ -102,10 +103,11 @@ fn check<R: Files + Input + Tell + AllocGlobal>(rt: &R, found: &ArgMatches<'_>) 
 fn check_one<'a, R: Files + Input + Tell + AllocGlobal>(
     rt: &R,
     name: &'a str,
+    is_followed: bool,
     last: &mut Option<LastDictionary<'a>>,
 ) -> u8 {
     match read_dictionary(rt, name) {
-        Ok(bytes) => check_bytes(rt, name, &bytes, last),
+        Ok(bytes) => check_bytes(rt, name, &bytes, is_followed, last),
         Err(status) => status,
     }
 }
@@ -114,6 +116,7 @@ fn check_bytes<'a, R: Tell + AllocGlobal>(
     rt: &R,
     name: &'a str,
     bytes: &Bytes,
+    is_followed: bool,
     last: &mut Option<LastDictionary<'a>>,
 ) -> u8 {
     if let Bytes::OfFile(file) = bytes {
@@ -121,9 +124,9 @@ fn check_bytes<'a, R: Tell + AllocGlobal>(
             return status_of(check_column(rt, *last, name, file));
         }
     }
-    match id_of(rt, name, bytes) {
+    match id_of(rt, name, bytes, is_followed) {
         Ok(id) => {
-            *last = Some(LastDictionary { name, id: Some(id) });
+            *last = Some(LastDictionary { name, id });
             0
         }
         Err(status) => {
@@ -133,17 +136,23 @@ fn check_bytes<'a, R: Tell + AllocGlobal>(
     }
 }
 
-// What the dictionary in these bytes is, after a check of all of them. Otherwise the exit status after a message.
-fn id_of<R: Tell + AllocGlobal>(rt: &R, name: &str, bytes: &Bytes) -> Result<DictionaryId, u8> {
+// What the dictionary in these bytes is, after a check of all of them. That is asked only for columns, so
+// nothing is hashed for it if no file follows. Otherwise the exit status after a message.
+fn id_of<R: Tell + AllocGlobal>(
+    rt: &R,
+    name: &str,
+    bytes: &Bytes,
+    is_followed: bool,
+) -> Result<Option<DictionaryId>, u8> {
     match bytes {
-        Bytes::OfFile(bytes) => match checked(rt, name, bytes) {
-            Ok(table) => Ok(table.id(kind_of(bytes) == Kind::Text)),
-            Err(status) => Err(status),
-        },
-        Bytes::OfShards(all) => match open_shards(rt, name, all) {
-            Ok(shards) => Ok(shards.id(common_kind(all) == Kind::Text)),
-            Err(status) => Err(status),
-        },
+        Bytes::OfFile(bytes) => {
+            let table = checked(rt, name, bytes)?;
+            Ok(is_followed.then(|| table.id(kind_of(bytes) == Kind::Text)))
+        }
+        Bytes::OfShards(all) => {
+            let shards = open_shards(rt, name, all)?;
+            Ok(is_followed.then(|| shards.id(common_kind(all) == Kind::Text)))
+        }
     }
 }
 

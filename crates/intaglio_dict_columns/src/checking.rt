@@ -1,4 +1,5 @@
-//! Checks a column after its dictionary, and tells what a column has.
+//! Checks whether a column belongs to the dictionary that was checked before it, and writes statistics of a
+//! column.
 use crate::opening::{Pair, checked_column, no_column, other_dictionary};
 use intaglio_column_file::{Column, DictionaryId, MISSING};
 use intaglio_dict_io::input::name_of;
@@ -19,8 +20,9 @@ pub struct LastDictionary<'a> {
     pub id: Option<DictionaryId>,
 }
 
-/// Checks a column, which must be of the last dictionary before it. Otherwise the exit status after a message: of bytes
-/// that are no column, whatever that dictionary is, and else of a column of another dictionary.
+/// Checks a column, which must be of the last dictionary before it. Otherwise the exit
+/// status after a message: of bytes that are no column, whatever that dictionary is, and
+/// else of a column of another dictionary.
 pub fn check_column<R: Tell>(
     rt: &R,
     last: Option<LastDictionary<'_>>,
@@ -58,8 +60,8 @@ fn of_no_dictionary<R: Tell>(rt: &R, pair: Pair<'_>) -> u8 {
     }
 }
 
-/// Writes the kind and the number of the dictionary's strings, how many rows there are and how many of them are missing,
-/// how many bytes a code has, and the bytes of the file. Returns the exit status.
+/// Writes the kind and the number of the dictionary's strings, how many rows there are and how many of them
+/// are missing, how many bytes a code has, and the bytes of the file. Returns the exit status.
 pub fn stat_column<R: Print + Tell + AllocGlobal>(rt: &R, name: &str, bytes: &[u8]) -> u8 {
     match Column::open(bytes) {
         Ok(column) => write_stat(rt, &column, bytes.len()),

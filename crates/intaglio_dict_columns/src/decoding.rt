@@ -14,9 +14,9 @@ use std::io::Write;
 // How many rows are decoded at a time.
 const CHUNK: usize = 64 * 1024;
 
-/// Writes the line of each row of a column, after a check of all of it, and returns how many rows there are. Otherwise
-/// the exit status after a message: nothing is written if the column is of another dictionary, or a row is missing and
-/// missing rows have no line.
+/// Writes the line of each row of a column, after a check of all of it, and returns how many rows there are.
+/// Otherwise the exit status after a message: nothing is written if the column is of another dictionary, or a
+/// row is missing and missing rows have no line.
 pub fn decode_file<R: Tell + AllocGlobal, D: Dictionary, W: Write>(
     rt: &R,
     table: &D,

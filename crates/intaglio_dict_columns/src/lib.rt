@@ -1,5 +1,5 @@
-//! What the program `intaglio_dict` does with column files: lines of rows, counts and matches, checks and statistics,
-//! and columns that are written and decoded.
+//! What the program `intaglio_dict` does with column files: lines of rows, counts and matches, checks and
+//! statistics, and columns that are written and decoded.
 #![tactic(auto)]
 
 pub mod checking;

@@ -23,8 +23,8 @@ struct Matching<'a> {
     is_count: bool,
 }
 
-/// Writes the numbers of the rows of strings, and returns the exit status, as `grep` has it: 1 if there are none, and
-/// 2 after an error.
+/// Writes the numbers of the rows of strings, and returns the exit status, as `grep` has it: 1 if there
+/// are none, and 2 after an error.
 pub fn match_rows<R: Files + Input + Print + Tell + AllocGlobal>(
     rt: &R,
     found: &ArgMatches<'_>,

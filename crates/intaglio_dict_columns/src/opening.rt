@@ -37,8 +37,8 @@ pub struct Pair<'a> {
     pub bytes: &'a [u8],
 }
 
-/// Answers a question about the column and the dictionary that the arguments name. Otherwise the exit status after a
-/// message.
+/// Answers a question about the column and the dictionary that the arguments name.
+/// Otherwise the exit status after a message.
 pub fn ask<R: Files + Input + Tell + AllocGlobal, Q: Question<R>>(
     rt: &R,
     found: &ArgMatches<'_>,
@@ -62,8 +62,8 @@ pub fn ask<R: Files + Input + Tell + AllocGlobal, Q: Question<R>>(
     }
 }
 
-/// The name and the bytes of a dictionary that is trusted, which is in one file. Otherwise the exit status after a
-/// message.
+/// The name and the bytes of a dictionary that is trusted, which is in one file. Otherwise
+/// the exit status after a message.
 pub fn trusted_dictionary<'a, R: Files + Input + Tell + AllocGlobal>(
     rt: &R,
     found: &ArgMatches<'a>,
@@ -136,8 +136,8 @@ fn ask_of_trusted<R: Tell, Q: Question<R>>(
     }
 }
 
-/// The column, after a check of all of it and of whether it is of this dictionary. Otherwise the exit status after a
-/// message.
+/// The column, after a check of all of it and of whether it is of this dictionary.
+/// Otherwise the exit status after a message.
 pub fn checked_column<'a, R: Tell>(
     rt: &R,
     pair: Pair<'a>,
@@ -157,8 +157,8 @@ pub fn checked_column<'a, R: Tell>(
     }
 }
 
-// The column, after a check of its header, and of whether the dictionary in these bytes has as many strings and is of
-// the same kind.
+// The column, after a check of its header, and of whether the dictionary in these bytes has as many
+// strings and is of the same kind.
 fn trusted_column<'a, R: Tell>(rt: &R, pair: Pair<'a>, table: &[u8]) -> Result<Column<'a>, u8> {
     match Column::open_trusted(pair.bytes) {
         Ok(column) => {

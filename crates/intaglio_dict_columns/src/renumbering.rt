@@ -3,7 +3,7 @@ ghost use Rattle.intaglio_column_file.specs.IsColumn.{IsColumn};
 
 use crate::opening::{Pair, checked_column};
 use clap::ArgMatches;
-use intaglio_column_file::{Column, ColumnWriteError, DictionaryId};
+use intaglio_column_file::{Column, ColumnWriteError};
 use intaglio_dict_io::checking::common_kind;
 use intaglio_dict_io::folders::is_folder;
 use intaglio_dict_io::input::{STANDARD, first_input, name_of};
@@ -13,6 +13,7 @@ use intaglio_dict_io::report::Tell;
 use intaglio_dict_shards::folder::{open_shards, read_shards};
 use intaglio_dict_shards::identity::id_of;
 use intaglio_dict_shards::renumbering::sharded_map;
+use intaglio_dict_shards::split_map::Source;
 use intaglio_dictionary::codes::CodeMap;
 use intaglio_dictionary::dictionary::WholeDictionary;
 use intaglio_dictionary::error::RenumberError;
@@ -28,13 +29,12 @@ struct Merged<'a> {
     map_name: &'a str,
     // Its bytes.
     map: &'a [u8],
-    // The name of the merged dictionary.
-    name: &'a str,
-    // What it is.
-    id: DictionaryId,
+    // The merged dictionary.
+    into: Source<'a>,
 }
 
-/// Writes a column of the merged dictionary. Otherwise the exit status after a message, and then nothing was written.
+/// Writes a column of the merged dictionary. Otherwise the exit status after a
+/// message, and then nothing was written.
 pub fn renumber_rows<R: Files + RandomSource + Input + Print + Tell + AllocGlobal>(
     rt: &R,
     found: &ArgMatches<'_>,
@@ -47,67 +47,77 @@ pub fn renumber_rows<R: Files + RandomSource + Input + Print + Tell + AllocGloba
         return Err(wrong_words(rt));
     };
     refuse_shards(rt, dictionary)?;
-    match is_folder(rt, into) {
-        Ok(true) => renumber_into_shards(rt, found, into),
-        Ok(false) => renumber_into_table(rt, found),
-        Err(_) => Err(report::out_of_memory(rt)),
-    }
-}
-
-// Writes a column of a dictionary in one file, by the map that its merge gave.
-fn renumber_into_table<R: Files + RandomSource + Input + Print + Tell + AllocGlobal>(
-    rt: &R,
-    found: &ArgMatches<'_>,
-) -> Result<(), u8> {
-    if found.contains_id("MAPS") || found.contains_id("PART") {
+    let Ok(is_sharded) = is_folder(rt, into) else {
+        return Err(report::out_of_memory(rt));
+    };
+    if !is_sharded && (found.contains_id("MAPS") || found.contains_id("PART")) {
         return Err(wrong_words(rt));
     }
-    let (map_name, map) = first_input(rt, found, "MAP")?;
-    let (into, table) = first_input(rt, found, "INTO")?;
-    let id = id_of(rt, into, &table)?;
-    renumber_into(
-        rt,
-        found,
-        Merged {
-            map_name,
-            map: &map,
-            name: into,
-            id,
-        },
-    )
+    let from = table_of(rt, found, "DICT")?;
+    let whole = if is_sharded {
+        folder_of(rt, into)?
+    } else {
+        table_of(rt, found, "INTO")?
+    };
+    let (name, bytes) = first_input(rt, found, "COLUMN")?;
+    let pair = Pair {
+        dictionary: from.name,
+        name,
+        bytes: &bytes,
+    };
+    match checked_column(rt, pair, from.id) {
+        Ok(column) => {
+            let (map_name, map) = read_map(rt, found, from, is_sharded)?;
+            let merged = Merged {
+                map_name,
+                map: &map,
+                into: whole,
+            };
+            write_renumbered(rt, found, pair, &column, merged)
+        }
+        Err(status) => Err(status),
+    }
 }
 
-// Writes a column of a folder of merged shards, by the part's own map to its shards and the map of each shard.
-fn renumber_into_shards<R: Files + RandomSource + Input + Print + Tell + AllocGlobal>(
+// The dictionary in one file that an argument names.
+fn table_of<'a, R: Files + Input + Tell + AllocGlobal>(
     rt: &R,
-    found: &ArgMatches<'_>,
-    into: &str,
-) -> Result<(), u8> {
-    let Some(folder) = found.get_str("MAP") else {
+    found: &ArgMatches<'a>,
+    argument: &str,
+) -> Result<Source<'a>, u8> {
+    let (name, table) = first_input(rt, found, argument)?;
+    let id = id_of(rt, name, &table)?;
+    Ok(Source { name, id })
+}
+
+// The name and the bytes of the map: the one that is named, or that of the part to a folder of merged shards.
+fn read_map<'a, R: Files + Input + Tell + AllocGlobal>(
+    rt: &R,
+    found: &ArgMatches<'a>,
+    from: Source<'_>,
+    is_sharded: bool,
+) -> Result<(&'a str, Vec<u8>), u8> {
+    if !is_sharded {
+        return first_input(rt, found, "MAP");
+    }
+    let (Some(folder), Some(into)) = (found.get_str("MAP"), found.get_str("INTO")) else {
         return Err(2);
     };
-    let map = sharded_map(rt, found, folder, into)?;
-    let id = id_of_folder(rt, into)?;
-    renumber_into(
-        rt,
-        found,
-        Merged {
-            map_name: folder,
-            map: &map,
-            name: into,
-            id,
-        },
-    )
+    let map = sharded_map(rt, found, folder, into, Some(from))?;
+    Ok((folder, map))
 }
 
-// What the dictionary in the shards of a folder is, after a check of all of them.
-fn id_of_folder<R: Files + Input + Tell + AllocGlobal>(
+// The dictionary in the shards of a folder, after a check of all of them.
+fn folder_of<'a, R: Files + Input + Tell + AllocGlobal>(
     rt: &R,
-    folder: &str,
-) -> Result<DictionaryId, u8> {
-    let all = read_shards(rt, folder)?;
-    match open_shards(rt, folder, &all) {
-        Ok(shards) => Ok(shards.id(common_kind(&all) == Kind::Text)),
+    name: &'a str,
+) -> Result<Source<'a>, u8> {
+    let all = read_shards(rt, name)?;
+    match open_shards(rt, name, &all) {
+        Ok(shards) => {
+            let id = shards.id(common_kind(&all) == Kind::Text);
+            Ok(Source { name, id })
+        }
         Err(status) => Err(status),
     }
 }
@@ -116,7 +126,8 @@ fn id_of_folder<R: Files + Input + Tell + AllocGlobal>(
 fn wrong_words<R: Tell>(rt: &R) -> u8 {
     report::say(
         rt,
-        "--column needs --dict, the column's dictionary, and --into, the merged one; with --maps and --part that is a folder of shards",
+        "--column needs --dict, the column's dictionary, and --into, the merged one; \
+         with --maps and --part that is a folder of shards",
     );
     2
 }
@@ -134,30 +145,23 @@ fn refuse_shards<R: Files + Tell + AllocGlobal>(rt: &R, name: &str) -> Result<()
     }
 }
 
-fn renumber_into<R: Files + RandomSource + Input + Print + Tell + AllocGlobal>(
+// Writes the column with its codes renumbered.
+fn write_renumbered<R: Files + RandomSource + Print + Tell + AllocGlobal>(
     rt: &R,
     found: &ArgMatches<'_>,
+    pair: Pair<'_>,
+    column: &Column<'_>,
     merged: Merged<'_>,
-) -> Result<(), u8> {
-    let (dictionary, table) = first_input(rt, found, "DICT")?;
-    let (name, bytes) = first_input(rt, found, "COLUMN")?;
-    let pair = Pair {
-        dictionary,
-        name,
-        bytes: &bytes,
-    };
-    match checked_column(rt, pair, id_of(rt, dictionary, &table)?) {
-        Ok(column) => {
-            let renumbered = renumbered(rt, pair, &column, merged)?;
-            let output = found.get_str("OUT").unwrap_or(STANDARD);
-            write_to(rt, output, &mut Bytes { bytes: &renumbered })?;
-            if found.get_flag("VERBOSE") {
-                report::count(rt, column.len() as u64, "codes renumbered");
-            }
-            Ok(())
-        }
-        Err(status) => Err(status),
+) -> Result<(), u8>
+    requires { IsColumn column.now }
+{
+    let renumbered = renumbered(rt, pair, column, merged)?;
+    let output = found.get_str("OUT").unwrap_or(STANDARD);
+    write_to(rt, output, &mut Bytes { bytes: &renumbered })?;
+    if found.get_flag("VERBOSE") {
+        report::count(rt, column.len() as u64, "codes renumbered");
     }
+    Ok(())
 }
 
 // The bytes of the new column.
@@ -173,7 +177,7 @@ fn renumbered<R: Tell + AllocGlobal>(
     let Some(map) = CodeMap::of(merged.map) else {
         return Err(report::failed(rt, map_name, "not a map: its length is no multiple of 4"));
     };
-    match renumber_file(rt.alloc(), &map, column, merged.id) {
+    match renumber_file(rt.alloc(), &map, column, merged.into.id) {
         Ok(bytes) => Ok(bytes),
         Err(RenumberError::OtherLength) => {
             let (codes, strings) = (map.len(), column.id().count);
@@ -187,11 +191,11 @@ fn renumbered<R: Tell + AllocGlobal>(
         Err(RenumberError::Column(ColumnWriteError::Memory)) => Err(report::out_of_memory(rt)),
         Err(RenumberError::Column(ColumnWriteError::TooMany)) => Err(report::failed(
             rt,
-            name_of(merged.name),
+            name_of(merged.into.name),
             ColumnWriteError::TooMany,
         )),
         Err(RenumberError::Column(fault)) => {
-            let into = name_of(merged.name);
+            let into = name_of(merged.into.name);
             Err(report::failed(
                 rt,
                 map_name,

@@ -1,4 +1,4 @@
-//! No output of a command is also one of its inputs or another output.
+//! Refuses an output of a command that is also one of its inputs or another output.
 use crate::identity::Identity;
 use crate::input::STANDARD;
 use crate::report;
@@ -50,7 +50,8 @@ impl Named {
     }
 }
 
-/// What these names lead to, each of which may be that of a standard stream, with this path and what it is called.
+/// What these names lead to, each of which may be that of a standard stream, with
+/// this path and what it is called.
 ///
 /// # Errors
 ///

@@ -1,4 +1,4 @@
-//! Dictionaries, after a check of all their bytes.
+//! Opens dictionaries, after a check of all their bytes.
 use crate::input::name_of;
 use crate::report;
 use crate::report::Tell;

@@ -16,7 +16,8 @@ enum Takes {
     Flag(&'static str),
     // One value, after this option.
     Value(&'static str),
-    // The name of an output, after -o or --output, and whether it is required: otherwise it is standard output.
+    // The name of an output, after -o or --output, and whether it is required: otherwise it is standard
+    // output.
     Output(bool),
     // The same, which isn't required, or the value of another argument as the name of the output.
     OutputOr(&'static str),
@@ -40,7 +41,8 @@ enum Takes {
     ReadInstead(&'static str, &'static str),
     // The name of an input, by its position.
     One,
-    // The names of inputs, by their position, and whether they are required: otherwise standard input is read.
+    // The names of inputs, by their position, and whether they are required: otherwise standard input is
+    // read.
     Many(bool),
     // The same, which aren't required. Standard input isn't read either if this other argument is given.
     ManyOr(&'static str),
@@ -231,7 +233,8 @@ static SUBCOMMANDS: [Subcommand; 15] = [
     ),
     (
         "count",
-        "Writes how often each line occurs in a column, and the line, the most frequent first, and the missing last",
+        "Writes how often each line occurs in a column, and the line, the most frequent first, \
+         and the missing last",
         &[
             TRUSTED_PAIR,
             (
@@ -270,13 +273,15 @@ static SUBCOMMANDS: [Subcommand; 15] = [
             (
                 "SHARD",
                 Takes::Shard("shard", "OUT"),
-                "merges the shards with this number, counted from 0, of dictionaries that are folders of shards",
+                "merges the shards with this number, counted from 0, \
+                 of dictionaries that are folders of shards",
             ),
             ("OUT", Takes::Output(true), OUT),
             (
                 "FOLDER",
                 Takes::Maps("maps"),
-                "also writes the new symbols of each dictionary, to 0.map, 1.map and so on in this folder, and with --shard an index of them",
+                "also writes the new symbols of each dictionary, to 0.map, 1.map and so on in this folder, \
+                 and with --shard an index of them",
             ),
             KEYS,
             RANDOM_KEYS,
@@ -301,7 +306,8 @@ static SUBCOMMANDS: [Subcommand; 15] = [
             (
                 "INTO",
                 Takes::Read("into"),
-                "the merged dictionary of a column; or, for codes or a column, the folder of the merged shards, with the folder of the part's shards as MAP",
+                "the merged dictionary of a column; or, for codes or a column, \
+                 the folder of the merged shards, with the folder of the part's shards as MAP",
             ),
             (
                 "MAPS",
@@ -319,7 +325,8 @@ static SUBCOMMANDS: [Subcommand; 15] = [
     ),
     (
         "split",
-        "Writes a dictionary in shards to a folder, with an index and the map from its symbols to those of the shards",
+        "Writes a dictionary in shards to a folder, \
+         with an index and the map from its symbols to those of the shards",
         &[
             (
                 "SHARDS",
@@ -335,7 +342,8 @@ static SUBCOMMANDS: [Subcommand; 15] = [
     ),
     (
         "join",
-        "Puts merged shards into a folder, with an index: as hard links if the file system allows them, and as copies if not",
+        "Puts merged shards into a folder, with an index: as hard links if the file system allows them, \
+         and as copies if not",
         &[
             ("FOLDER", Takes::Joined, FOLDER_HELP),
             VERBOSE,
@@ -357,7 +365,8 @@ static SUBCOMMANDS: [Subcommand; 15] = [
     ),
     (
         "stat",
-        "Writes the kind and number of strings, and the bytes of the file and the longest, or what a column has",
+        "Writes the kind and number of strings, and the bytes of the file and the longest, \
+         or what a column has",
         &[("DICT", Takes::One, "a dictionary or a column")],
     ),
 ];
@@ -429,7 +438,8 @@ fn program<'a>(alloc: Global) -> Command<'a> {
     Command::new(alloc, "intaglio_dict")
         .version("3.0.0")
         .about(
-            "Numbers the distinct lines of files, and keeps them in a file in which both strings and numbers are found",
+            "Numbers the distinct lines of files, \
+             and keeps them in a file in which both strings and numbers are found",
         )
         .after_help(NOTES)
         .subcommand_required(true)

@@ -103,9 +103,9 @@ impl<'a> CommandFiles<'a> {
         }
     }
 
-    /// Checks, before anything is read or written, that no output is also an input or another output, that standard
-    /// input is one input at most, and that no map would stay that isn't replaced. Otherwise the exit status after
-    /// a message.
+    /// Checks, before anything is read or written, that no output is also an input or another output,
+    /// that standard input is one input at most, and that no map would stay that isn't replaced.
+    /// Otherwise the exit status after a message.
     pub fn check<R: Files + Tell + AllocGlobal>(mut self, rt: &R) -> Result<(), u8> {
         if !self.has_output && self.add_output(None).is_err() {
             return Err(report::out_of_memory(rt));
@@ -151,8 +151,8 @@ impl<'a> CommandFiles<'a> {
         Ok(inputs)
     }
 
-    // The outputs, the maps in the folder and their index, what is in the folder for shards, what is joined, and the line
-    // of a shard.
+    // The outputs, the maps in the folder and their index, what is in the folder for shards, what is
+    // joined, and the line of a shard.
     fn named_outputs<R: Files + AllocGlobal>(&self, rt: &R) -> io::Result<Vec<Named>> {
         let mut outputs = streams_of(rt, &self.outputs, OUTPUT_PATH, OUTPUT)?;
         if let Some(folder) = self.folder {
@@ -174,8 +174,8 @@ impl<'a> CommandFiles<'a> {
         Ok(outputs)
     }
 
-    // Adds the index and the shards of a folder into which the inputs are joined. An input that is at its place already
-    // isn't written.
+    // Adds the index and the shards of a folder into which the inputs are joined. An input that is at
+    // its place already isn't written.
     fn add_places<R: Files + AllocGlobal>(
         &self,
         rt: &R,

@@ -15,6 +15,11 @@ pub fn split_map_name(alloc: Global, folder: &str) -> Result<String, AllocError>
     format!(in alloc; "{folder}/map")
 }
 
+/// The name of the file in a folder that says from where its map leads, and to which shards.
+pub fn split_map_index_name(alloc: Global, folder: &str) -> Result<String, AllocError> {
+    format!(in alloc; "{folder}/map.index")
+}
+
 /// The name of the shard with this number in a folder.
 pub fn shard_name(alloc: Global, folder: &str, number: usize) -> Result<String, AllocError> {
     format!(in alloc; "{folder}/{number}.dict")

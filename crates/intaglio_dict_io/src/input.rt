@@ -6,7 +6,6 @@ use crate::report::Tell;
 use clap::ArgMatches;
 use intaglio_lines::error::StreamError;
 use intaglio_lines::read::read_all;
-use std::alloc::AllocError;
 use std::io::{ErrorKind, Read};
 use std::rt::Files;
 use std::{fs, str};
@@ -20,8 +19,10 @@ pub const STANDARD_INPUT: &[&str] = &[STANDARD];
 /// What standard input is called in messages.
 pub const INPUT: &str = "standard input";
 
-// What is said of a file that a merge of shards would have written.
+// What is said of a file that isn't there and that a merge of shards, or a split, would have written.
 const NOT_MERGED: &str = "no such file: it is made by merge --shard, with the shard and its maps";
+
+const NOT_SPLIT: &str = "no such file: it is made by split, with the shards and their map";
 
 /// What an input is called in messages.
 pub fn name_of<'a>(name: &'a str) -> &'a str {
@@ -62,14 +63,32 @@ pub fn whole<R: Files + Input + Tell + AllocGlobal>(
     read
 }
 
-/// The bytes of a file that a merge of shards writes beside others, or the exit status after a message. If the file isn't
-/// there, the message says what makes it.
+/// The bytes of a file that a merge of shards writes beside others, or the exit status after a message. If
+/// the file isn't there, the message says what makes it.
 pub fn made_by_merge<R: Files + Input + Tell + AllocGlobal>(
     rt: &R,
     name: &str,
 ) -> Result<Vec<u8>, u8> {
+    whole_or(rt, name, NOT_MERGED)
+}
+
+/// The bytes of a file that a split writes beside the shards, or the exit status after a message. If the file
+/// isn't there, the message says what makes it.
+pub fn made_by_split<R: Files + Input + Tell + AllocGlobal>(
+    rt: &R,
+    name: &str,
+) -> Result<Vec<u8>, u8> {
+    whole_or(rt, name, NOT_SPLIT)
+}
+
+// The bytes of a file. If it isn't there, this is what is said.
+fn whole_or<R: Files + Input + Tell + AllocGlobal>(
+    rt: &R,
+    name: &str,
+    not_there: &str,
+) -> Result<Vec<u8>, u8> {
     match fs::metadata(rt, name) {
-        Err(e) if e.kind() == ErrorKind::NotFound => Err(report::failed(rt, name, NOT_MERGED)),
+        Err(e) if e.kind() == ErrorKind::NotFound => Err(report::failed(rt, name, not_there)),
         _ => whole(rt, name, &mut Meter::silent()),
     }
 }
@@ -129,30 +148,6 @@ pub fn first_input<'a, R: Files + Input + Tell + AllocGlobal>(
     Ok((name, bytes))
 }
 
-/// The lines of several inputs, or the exit status after a message. The last line of each is ended, but for the
-/// last input's. If they must be texts, the message names the input and the line that isn't UTF-8.
-pub fn lines<R: Files + Input + Tell + AllocGlobal>(
-    rt: &R,
-    names: &[&str],
-    are_texts: bool,
-    is_shown: bool,
-) -> Result<Vec<u8>, u8> {
-    let mut meter = meter_of(rt, names, is_shown);
-    let mut bytes = Vec::new(rt.alloc());
-    for name in names {
-        let more = whole(rt, name, &mut meter)?;
-        if are_texts {
-            check_text(rt, name, &more)?;
-        }
-        if bytes.is_empty() {
-            bytes = more;
-        } else if add(&mut bytes, &more).is_err() {
-            return Err(report::out_of_memory(rt));
-        }
-    }
-    Ok(bytes)
-}
-
 /// Whether bytes are UTF-8: otherwise the exit status after a message that names the input and the line.
 pub fn check_text<R: Tell>(rt: &R, name: &str, bytes: &[u8]) -> Result<(), u8> {
     match str::from_utf8(bytes) {
@@ -169,12 +164,4 @@ pub fn check_text<R: Tell>(rt: &R, name: &str, bytes: &[u8]) -> Result<(), u8> {
 fn line_at(bytes: &[u8], position: usize) -> usize {
     let before = bytes.iter().take(position).filter(|b| **b == b'\n');
     before.count().saturating_add(1)
-}
-
-// Ends the last line, and adds more bytes.
-fn add(bytes: &mut Vec<u8>, more: &[u8]) -> Result<(), AllocError> {
-    if bytes.last() != Some(&b'\n') {
-        bytes.extend_from_slice(b"\n")?;
-    }
-    bytes.extend_from_slice(more)
 }

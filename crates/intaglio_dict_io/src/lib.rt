@@ -8,6 +8,7 @@ pub mod files;
 pub mod folders;
 pub mod identity;
 pub mod input;
+pub mod inputs;
 pub mod keys;
 pub mod maps;
 pub mod metered;

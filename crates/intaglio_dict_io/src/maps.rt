@@ -28,8 +28,8 @@ fn number_of(name: &str) -> Option<usize> {
     }
 }
 
-/// Refuses a folder with a map behind this many, which no merge of so many dictionaries replaces, or one that can't be
-/// read: then the exit status after a message.
+/// Refuses a folder with a map behind this many, which no merge of so many dictionaries replaces, or one that
+/// can't be read: then the exit status after a message.
 pub fn check_stale<R: Files + Tell + AllocGlobal>(
     rt: &R,
     folder: &str,

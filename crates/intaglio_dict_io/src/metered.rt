@@ -34,6 +34,11 @@ impl Meter {
         Meter::of(0)
     }
 
+    /// How many bytes were read.
+    pub fn done(self) -> u64 {
+        self.done
+    }
+
     // More bytes were read. A line that can't be written is lost.
     fn add<R: Tell>(&mut self, rt: &R, count: usize) {
         self.done = self.done.saturating_add(count as u64);
@@ -92,8 +97,8 @@ impl<'a, R: Files + Input + Tell + AllocGlobal> Metered<'a, R> {
         })
     }
 
-    /// Looks at the first four bytes, or at all if there are fewer. They are read again. Otherwise the exit status after
-    /// a message.
+    /// Looks at the first four bytes, or at all if there are fewer. They are read again.
+    /// Otherwise the exit status after a message.
     pub fn look_ahead(&mut self, name: &str) -> Result<&[u8], u8> {
         let looked = self.fill_ahead();
         if looked.is_err() {

@@ -43,8 +43,8 @@ fn write_whole<W: Write>(bytes: &[u8], output: &mut W) -> io::Result<()> {
     output.flush()
 }
 
-/// Writes to standard output, to a device or a pipe, or beside a file, which is replaced when the new one is whole.
-/// Otherwise the exit status after a message.
+/// Writes to standard output, to a device or a pipe, or beside a file, which is replaced when the new one is
+/// whole. Otherwise the exit status after a message.
 pub fn write_to<R: Files + RandomSource + Print + Tell + AllocGlobal, C: Payload<R>>(
     rt: &R,
     name: &str,

@@ -1,4 +1,4 @@
-//! Puts a file to another place too, by a hard link where there can be one.
+//! Makes a file at another place too: by a hard link if there can be one, and otherwise by a copy.
 use crate::identity::Identity;
 use crate::metered::{Meter, Metered};
 use crate::noticing::Noticing;
@@ -13,8 +13,8 @@ use std::random::RandomSource;
 use std::rt::Files;
 use std::{fs, io};
 
-/// Makes or replaces the file `to`, so that it is the file `from`: by a hard link, or, if there can't be one, by a copy.
-/// It is replaced when the new one is whole. Otherwise the exit status after a message.
+/// Makes or replaces the file `to`, so that it is the file `from`: by a hard link, or, if there can't be one,
+/// by a copy. It is replaced when the new one is whole. Otherwise the exit status after a message.
 pub fn put_file<R: Files + RandomSource + Input + Print + Tell + AllocGlobal>(
     rt: &R,
     from: &str,

@@ -65,8 +65,8 @@ impl<'a> Place<'a> {
         Err(report::failed(rt, self.name, "no name is free beside it"))
     }
 
-    /// Makes a hard link to a file in the folder of the place, and returns its path, or none if there can't be one.
-    /// Otherwise the exit status after a message.
+    /// Makes a hard link to a file in the folder of the place, and returns its path, or none if there can't
+    /// be one. Otherwise the exit status after a message.
     pub fn link_beside<R: Files + RandomSource + Tell + AllocGlobal>(
         &self,
         rt: &R,
@@ -132,8 +132,8 @@ impl<'a> Place<'a> {
         }
     }
 
-    /// Renames a hard link, whose file is whole, to this place. The file keeps its mode, which it has by its other
-    /// names too. Otherwise the exit status after a message.
+    /// Renames a hard link, whose file is whole, to this place. The file keeps its mode, which it has by its
+    /// other names too. Otherwise the exit status after a message.
     pub fn replace_by_link<R: Files + Tell + AllocGlobal>(
         &self,
         rt: &R,
@@ -161,8 +161,8 @@ fn sync_at<R: Files>(rt: &R, path: Path<'_>) -> io::Result<()> {
     fs::open(rt, path)?.sync_all()
 }
 
-/// The path to which symbolic links lead from this one, whether or not a file is there. (The system has refused a
-/// circle of links.)
+/// The path to which symbolic links lead from this one, whether or not a file is there. (The
+/// system has refused a circle of links.)
 ///
 /// # Errors
 ///

@@ -32,8 +32,8 @@ pub fn read_index_text<R: Files + Input + Tell + AllocGlobal>(
     }
 }
 
-/// The shards that the text of a folder's index names, of which there is at least one. Otherwise the exit status after
-/// a message.
+/// The shards that the text of a folder's index names, of which there is at least one. Otherwise
+/// the exit status after a message.
 pub fn ids_in<R: Tell + AllocGlobal>(
     rt: &R,
     folder: &str,
@@ -50,7 +50,8 @@ pub fn ids_in<R: Tell + AllocGlobal>(
     }
 }
 
-/// The bytes of the shard with this number, which is this one by the index. Otherwise the exit status after a message.
+/// The bytes of the shard with this number, which is this one by the index. Otherwise
+/// the exit status after a message.
 pub fn read_shard<R: Files + Input + Tell + AllocGlobal>(
     rt: &R,
     folder: &str,
@@ -87,8 +88,8 @@ pub fn read_shards<R: Files + Input + Tell + AllocGlobal>(
     Ok(all)
 }
 
-/// The dictionary whose shards have these bytes, after a check of all of them. Otherwise the exit status after a
-/// message that names the shard.
+/// The dictionary whose shards have these bytes, after a check of all of them. Otherwise the exit status
+/// after a message that names the shard.
 pub fn open_shards<'a, R: Tell + AllocGlobal>(
     rt: &R,
     folder: &str,

@@ -1,4 +1,4 @@
-//! What a dictionary is.
+//! The identity of a dictionary in a file.
 use intaglio_column_file::DictionaryId;
 use intaglio_dict_io::input::name_of;
 use intaglio_dict_io::report;

@@ -17,8 +17,9 @@ use std::rt::Files;
 // How many bytes the header of a frozen table has.
 const HEADER: usize = 64;
 
-/// Puts shards into a folder, after a check that they are all shards of one merge, by their lines, and that each file
-/// is as its line says, by its length and its header. Otherwise the exit status after a message. No string is read.
+/// Puts shards into a folder, after a check that they are all shards of one merge, by their
+/// lines, and that each file is as its line says, by its length and its header. Otherwise the
+/// exit status after a message. No string is read.
 pub fn join_shards<R: Files + RandomSource + Input + Print + Tell + AllocGlobal>(
     rt: &R,
     found: &ArgMatches<'_>,

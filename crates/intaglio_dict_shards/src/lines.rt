@@ -10,8 +10,8 @@ use intaglio_dictionary::merged_shard::{MergedShard, read_merged};
 use std::random::RandomSource;
 use std::rt::Files;
 
-/// Writes a merged shard, and then its line beside it, unless the shard goes to a stream. Otherwise the exit status
-/// after a message.
+/// Writes a merged shard, and then its line beside it, unless the shard goes to a stream.
+/// Otherwise the exit status after a message.
 pub fn write_shard<R: Files + RandomSource + Print + Tell + AllocGlobal>(
     rt: &R,
     name: &str,
@@ -32,8 +32,8 @@ fn has_line<R: Files>(rt: &R, name: &str) -> bool {
     name != STANDARD && !is_stream(rt, name)
 }
 
-/// Removes the line beside a shard that is to be replaced, if there is one: then no line is of another file at any
-/// time. Otherwise the exit status after a message.
+/// Removes the line beside a shard that is to be replaced, if there is one: then no line is of another file
+/// at any time. Otherwise the exit status after a message.
 pub fn remove_line<R: Files + Tell + AllocGlobal>(rt: &R, shard: &str) -> Result<(), u8> {
     if !has_line(rt, shard) {
         return Ok(());

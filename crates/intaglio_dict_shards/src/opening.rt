@@ -27,8 +27,8 @@ impl Bytes {
     }
 }
 
-/// The name and the bytes of the dictionary by which the other inputs are read. Otherwise the exit status after a
-/// message.
+/// The name and the bytes of the dictionary by which the other inputs are read. Otherwise
+/// the exit status after a message.
 pub fn first_dictionary<'a, R: Files + Input + Tell + AllocGlobal>(
     rt: &R,
     found: &ArgMatches<'a>,

@@ -46,8 +46,8 @@ impl PartHashers {
     }
 }
 
-/// The shard with this number, as it was typed, of folders that have the same number of shards. Otherwise the exit
-/// status after a message.
+/// The shard with this number, as it was typed, of folders that have the same number of shards.
+/// Otherwise the exit status after a message.
 pub fn shard_of_folders<R: Files + Input + Tell + AllocGlobal>(
     rt: &R,
     folders: &[&str],

@@ -1,18 +1,17 @@
 //! The map by which the codes of a part are renumbered to those of a dictionary in shards.
-use crate::folder::read_ids;
+use crate::folder::{ids_in, read_ids, read_index_text};
+use crate::split_map::{FolderIndex, Source, index_in, read_map, read_split_map};
 use clap::ArgMatches;
 use intaglio_column_file::DictionaryId;
-use intaglio_dict_io::folders::split_map_name;
-use intaglio_dict_io::input::{made_by_merge, whole};
+use intaglio_dict_io::input::made_by_merge;
 use intaglio_dict_io::maps::{map_index_name, map_name};
-use intaglio_dict_io::metered::Meter;
 use intaglio_dict_io::report;
 use intaglio_dict_io::report::Tell;
 use intaglio_dict_io::symbols::plain_number;
 use intaglio_dictionary::codes::CodeMap;
-use intaglio_dictionary::error::{MapError, MapIndexError, MapTextError};
+use intaglio_dictionary::error::{MapError, MapIndexError};
 use intaglio_dictionary::joining::map_into_shards;
-use intaglio_dictionary::map_index::{Checksum, check_map, read_map_index};
+use intaglio_dictionary::map_index::{Checksum, check_map};
 use intaglio_dictionary::merging::write_codes;
 use std::rt::Files;
 
@@ -21,6 +20,8 @@ use std::rt::Files;
 struct Part<'a> {
     // The folder of the part's shards.
     folder: &'a str,
+    // The dictionary from which these must have been split, if it is given.
+    from: Option<Source<'a>>,
     // The folder of the merged shards.
     into: &'a str,
     // The folder with the maps of each shard.
@@ -29,13 +30,14 @@ struct Part<'a> {
     number: usize,
 }
 
-/// The map of a part, in bytes, from its symbols to those of the folder of merged shards. Otherwise the exit status
-/// after a message.
+/// The map of a part, in bytes, from its symbols to those of the folder of merged shards. The part's folder
+/// must have been split from this dictionary, if one is given. Otherwise the exit status after a message.
 pub fn sharded_map<R: Files + Input + Tell + AllocGlobal>(
     rt: &R,
     found: &ArgMatches<'_>,
     folder: &str,
     into: &str,
+    from: Option<Source<'_>>,
 ) -> Result<Vec<u8>, u8> {
     let (Some(maps), Some(typed)) = (found.get_str("MAPS"), found.get_str("PART")) else {
         return Err(report::of_folder(rt, into, "after --into, --maps and --part are needed too"));
@@ -48,6 +50,7 @@ pub fn sharded_map<R: Files + Input + Tell + AllocGlobal>(
         rt,
         &Part {
             folder,
+            from,
             into,
             maps,
             number,
@@ -59,7 +62,8 @@ fn map_of_part<R: Files + Input + Tell + AllocGlobal>(
     rt: &R,
     part: &Part<'_>,
 ) -> Result<Vec<u8>, u8> {
-    let ids = read_ids(rt, part.folder)?;
+    let text = read_index_text(rt, part.folder)?;
+    let ids = ids_in(rt, part.folder, &text)?;
     let merged = read_ids(rt, part.into)?;
     if ids.len() != merged.len() {
         let (count, others) = (ids.len(), merged.len());
@@ -70,13 +74,18 @@ fn map_of_part<R: Files + Input + Tell + AllocGlobal>(
             format_args!("it has {count} shards, and {into} has {others}"),
         ));
     }
-    let split = read_split(rt, part.folder, &ids)?;
+    let shards = FolderIndex {
+        text: &text,
+        ids: &ids,
+    };
+    let split = read_split_map(rt, part.folder, shards, part.from)?;
     let checksums = read_checksums(rt, part, &ids, &merged)?;
     let files = read_maps(rt, part, &ids, &checksums)?;
     joined_bytes(rt, part, &split, &files, &merged)
 }
 
-// The checksum of the part's map of each shard, after a check that each leads from the part's shard to the merged one.
+// The checksum of the part's map of each shard, after a check that each leads from the
+// part's shard to the merged one.
 fn read_checksums<R: Files + Input + Tell + AllocGlobal>(
     rt: &R,
     part: &Part<'_>,
@@ -105,8 +114,8 @@ fn folder_of_maps<R: Tell + AllocGlobal>(
     }
 }
 
-// The checksum of the part's map of a shard, by the index of its maps, after a check that this map leads from the
-// part's dictionary to the merged one.
+// The checksum of the part's map of a shard, by the index of its maps, after a check that this map leads from
+// the part's dictionary to the merged one.
 fn read_checksum<R: Files + Input + Tell + AllocGlobal>(
     rt: &R,
     part: &Part<'_>,
@@ -118,12 +127,7 @@ fn read_checksum<R: Files + Input + Tell + AllocGlobal>(
     let Ok(name) = map_index_name(rt.alloc(), folder.as_str()) else {
         return Err(report::out_of_memory(rt));
     };
-    let text = made_by_merge(rt, name.as_str())?;
-    let index = match read_map_index(rt.alloc(), &text) {
-        Ok(index) => index,
-        Err(MapTextError::Memory) => return Err(report::out_of_memory(rt)),
-        Err(fault) => return Err(report::failed(rt, name.as_str(), fault)),
-    };
+    let index = index_in(rt, name.as_str(), &made_by_merge(rt, name.as_str())?)?;
     match check_map(&index, part.number, from, into) {
         Ok(checksum) => Ok(checksum),
         Err(fault) => Err(not_its_map(rt, part, shard, name.as_str(), fault)),
@@ -158,21 +162,6 @@ fn not_its_map<R: Tell>(
     }
 }
 
-// The bytes of the map from the part to its shards, which has a code for each string.
-fn read_split<R: Files + Input + Tell + AllocGlobal>(
-    rt: &R,
-    folder: &str,
-    ids: &[DictionaryId],
-) -> Result<Vec<u8>, u8> {
-    let Ok(name) = split_map_name(rt.alloc(), folder) else {
-        return Err(report::out_of_memory(rt));
-    };
-    let strings = ids
-        .iter()
-        .fold(0u64, |sum, id| sum.saturating_add(id.count));
-    read_map(rt, name.as_str(), strings)
-}
-
 // The bytes of the part's map of each shard. Each has a code for each string of the shard, and its checksum.
 fn read_maps<R: Files + Input + Tell + AllocGlobal>(
     rt: &R,
@@ -186,48 +175,12 @@ fn read_maps<R: Files + Input + Tell + AllocGlobal>(
         let Ok(name) = map_name(rt.alloc(), folder.as_str(), part.number) else {
             return Err(report::out_of_memory(rt));
         };
-        let bytes = read_map(rt, name.as_str(), id.count)?;
-        if !checksum.is_of(&bytes) {
-            return Err(other_bytes(rt, name.as_str()));
-        }
+        let bytes = read_map(rt, name.as_str(), id.count, *checksum)?;
         if files.push(bytes).is_err() {
             return Err(report::out_of_memory(rt));
         }
     }
     Ok(files)
-}
-
-// Of a map that hasn't the bytes which the merge wrote.
-fn other_bytes<R: Tell>(rt: &R, name: &str) -> u8 {
-    report::failed(
-        rt,
-        name,
-        "not the map that the index names: it is damaged, or was written again",
-    )
-}
-
-// The bytes of a map with this many codes.
-fn read_map<R: Files + Input + Tell + AllocGlobal>(
-    rt: &R,
-    name: &str,
-    strings: u64,
-) -> Result<Vec<u8>, u8> {
-    let bytes = whole(rt, name, &mut Meter::silent())?;
-    let codes = match CodeMap::of(&bytes) {
-        Some(map) => map.len() as u64,
-        None => return Err(report::failed(rt, name, "not a map: its length is no multiple of 4")),
-    };
-    if codes == strings {
-        Ok(bytes)
-    } else {
-        Err(report::failed(
-            rt,
-            name,
-            format_args!(
-                "another part's map: it has {codes} codes, and the part has {strings} strings here"
-            ),
-        ))
-    }
 }
 
 // The map to the merged shards, in bytes.

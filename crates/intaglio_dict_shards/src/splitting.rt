@@ -1,4 +1,5 @@
 //! The subcommand that writes a dictionary in shards.
+use crate::identity::id_of;
 use crate::writing::write_folder;
 use clap::ArgMatches;
 use intaglio_dict_io::checking::{checked, kind_of};
@@ -10,7 +11,7 @@ use intaglio_dict_io::symbols::plain_number;
 use intaglio_dictionary::freezing::freeze_table;
 use intaglio_dictionary::merging::write_codes;
 use intaglio_frozen::{FreezeError, Frozen, Kind};
-use intaglio_merge::{split, split_map};
+use intaglio_merge::split_with_map;
 use std::random::RandomSource;
 use std::rt::Files;
 
@@ -60,9 +61,8 @@ fn split_bytes<R: Files + RandomSource + Input + Print + Tell + AllocGlobal>(
     };
     match checked(rt, name, bytes) {
         Ok(table) => {
-            let all = frozen_shards(rt, name, &table, kind_of(bytes), splitting)?;
-            let map = map_bytes(rt, name, &table, splitting.count)?;
-            write_folder(rt, folder, &all, Some(&map))?;
+            let (all, map) = split_table(rt, name, &table, kind_of(bytes), splitting)?;
+            write_folder(rt, folder, &all, id_of(rt, name, bytes)?, &map)?;
             if found.get_flag("VERBOSE") {
                 report::count(rt, table.len() as u64, "strings split");
             }
@@ -72,23 +72,39 @@ fn split_bytes<R: Files + RandomSource + Input + Print + Tell + AllocGlobal>(
     }
 }
 
-// The bytes of each shard.
-fn frozen_shards<R: Tell + AllocGlobal>(
+// The bytes of each shard, and those of the map to the shards.
+fn split_table<R: Tell + AllocGlobal>(
     rt: &R,
     name: &str,
     table: &Frozen<'_>,
     kind: Kind,
     splitting: Splitting,
-) -> Result<Vec<Vec<u8>>, u8> {
-    if splitting.count == 0 {
-        return Err(2);
+) -> Result<(Vec<Vec<u8>>, Vec<u8>), u8> {
+    if splitting.count == 0 || table.len() >= u32::MAX as usize {
+        return Err(report::failed(rt, name, FreezeError::TooMany));
     }
-    let Ok(shards) = split(rt.alloc(), table, splitting.count) else {
+    let Ok((shards, map)) = split_with_map(rt.alloc(), table, splitting.count) else {
         return Err(report::out_of_memory(rt));
     };
+    let all = frozen_shards(rt, name, &shards, kind, splitting.keys)?;
+    let mut bytes = Vec::new(rt.alloc());
+    match write_codes(rt.alloc(), &map, &mut bytes) {
+        Ok(()) => Ok((all, bytes)),
+        Err(_) => Err(report::out_of_memory(rt)),
+    }
+}
+
+// The bytes of each shard.
+fn frozen_shards<R: Tell + AllocGlobal>(
+    rt: &R,
+    name: &str,
+    shards: &[Vec<&[u8]>],
+    kind: Kind,
+    keys: Option<(u64, u64)>,
+) -> Result<Vec<Vec<u8>>, u8> {
     let mut all = Vec::new(rt.alloc());
     for (number, strings) in shards.iter().enumerate() {
-        match freeze_table(rt.alloc(), strings, kind, splitting.keys) {
+        match freeze_table(rt.alloc(), strings, kind, keys) {
             Ok(bytes) => {
                 if all.push(bytes).is_err() {
                     return Err(report::out_of_memory(rt));
@@ -110,25 +126,5 @@ fn unfrozen<R: Tell>(rt: &R, name: &str, number: usize, fault: FreezeError) -> u
             format_args!("shard {number}: {fault}; other keys may do: --random-keys"),
         ),
         _ => report::failed(rt, name, format_args!("shard {number}: {fault}")),
-    }
-}
-
-// The map to the shards, in bytes.
-fn map_bytes<R: Tell + AllocGlobal>(
-    rt: &R,
-    name: &str,
-    table: &Frozen<'_>,
-    count: u32,
-) -> Result<Vec<u8>, u8> {
-    if count == 0 || table.len() >= u32::MAX as usize {
-        return Err(report::failed(rt, name, FreezeError::TooMany));
-    }
-    let Ok(map) = split_map(rt.alloc(), table, count) else {
-        return Err(report::out_of_memory(rt));
-    };
-    let mut bytes = Vec::new(rt.alloc());
-    match write_codes(rt.alloc(), &map, &mut bytes) {
-        Ok(()) => Ok(bytes),
-        Err(_) => Err(report::out_of_memory(rt)),
     }
 }

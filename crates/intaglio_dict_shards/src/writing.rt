@@ -1,7 +1,8 @@
 //! Writes folders of shards.
 use crate::identity::id_of;
+use crate::split_map::{FolderIndex, write_split_map};
 use intaglio_column_file::DictionaryId;
-use intaglio_dict_io::folders::{index_name, shard_name, split_map_name};
+use intaglio_dict_io::folders::{index_name, shard_name};
 use intaglio_dict_io::input::whole;
 use intaglio_dict_io::maps::make_folder;
 use intaglio_dict_io::metered::Meter;
@@ -15,30 +16,33 @@ use std::io::ErrorKind;
 use std::random::RandomSource;
 use std::rt::Files;
 
-/// Writes these shards to a folder, the map if there is one, and last the index. Otherwise the exit status after a
-/// message.
+/// Writes these shards to a folder, the map from the dictionary from which they were split, with its index,
+/// and last the index of the shards. Otherwise the exit status after a message.
 ///
-/// A folder that has an index of other shards stays as it is. One that has the index which would be written is written
-/// again, so that at any time its shards are those that its index names.
+/// A folder that has an index of other shards stays as it is. One that has the index which would be written
+/// is written again, so that at any time its shards are those that its index names.
 pub fn write_folder<R: Files + RandomSource + Input + Print + Tell + AllocGlobal>(
     rt: &R,
     folder: &str,
     all: &[Vec<u8>],
-    map: Option<&[u8]>,
+    from: DictionaryId,
+    map: &[u8],
 ) -> Result<(), u8> {
     let ids = ids_of(rt, folder, all)?;
     let index = begin_folder(rt, folder, &ids)?;
     for (number, bytes) in all.iter().enumerate() {
         write_named(rt, shard_name(rt.alloc(), folder, number), bytes)?;
     }
-    if let Some(bytes) = map {
-        write_named(rt, split_map_name(rt.alloc(), folder), bytes)?;
-    }
+    let shards = FolderIndex {
+        text: &index,
+        ids: &ids,
+    };
+    write_split_map(rt, folder, shards, from, map)?;
     write_named(rt, index_name(rt.alloc(), folder), &index)
 }
 
-/// Makes the folder of these shards if it isn't there, and returns the index that is to be written when they are in it.
-/// Otherwise the exit status after a message: a folder that has another index stays as it is.
+/// Makes the folder of these shards if it isn't there, and returns the index that is to be written when they
+/// are in it. Otherwise the exit status after a message: a folder that has another index stays as it is.
 pub fn begin_folder<R: Files + Input + Tell + AllocGlobal>(
     rt: &R,
     folder: &str,

@@ -5,7 +5,8 @@ use Rattle.std.proofs.lemmas.Option.{none-some}
 use Rattle.std.proofs.lemmas.List.Elements.{All-from_recursion}
 
 module _ (n : ℕ) where
-  step : (b : Bool) (x : ℕ) (xs : List ℕ) → nat_le n x ≡ b → cond b (Some x) (find (λ y. nat_le n y) xs) ≡ None
+  step : (b : Bool) (x : ℕ) (xs : List ℕ) → nat_le n x ≡ b →
+      cond b (Some x) (find (λ y. nat_le n y) xs) ≡ None
       → (x < n) × (find (λ y. nat_le n y) xs ≡ None)
   step true x xs large none = absurd (none-some x (sym none))
   step false x xs small none = (leb-false n x small, none)

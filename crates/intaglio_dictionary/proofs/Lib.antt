@@ -15,3 +15,4 @@ pub mod Merged
 pub mod Kept
 pub mod Owned
 pub mod Mapped
+pub mod Interned

@@ -25,17 +25,20 @@ answers strings input = flat_map (λ line. answer_line (position_in strings line
 -- what a look-up finds of a line is the symbol of an equal string, and in a whole dictionary the first one
 abbrev pub IsFound : List (List ℕ) → Type 0 → List ℕ → Option ℕ → Type 0
 IsFound strings IsWhole line found =
-    IfSome found (λ symbol. slice_get strings symbol ≡ Some line) × (IsWhole → found ≡ position_in strings line)
+    IfSome found (λ symbol. slice_get strings symbol ≡ Some line)
+    × (IsWhole → found ≡ position_in strings line)
 
 -- these are found of these lines
 abbrev pub AreFound : List (List ℕ) → Type 0 → List (List ℕ) → List (Option ℕ) → Type 0
 AreFound strings IsWhole [] [] = ⊤
 AreFound strings IsWhole [] (found ∷ more) = ⊥
 AreFound strings IsWhole (line ∷ lines) [] = ⊥
-AreFound strings IsWhole (line ∷ lines) (found ∷ more) = IsFound strings IsWhole line found × AreFound strings IsWhole lines more
+AreFound strings IsWhole (line ∷ lines) (found ∷ more) =
+    IsFound strings IsWhole line found × AreFound strings IsWhole lines more
 
 -- what is found of the lines of an input is written, and whether something is found of each line
-abbrev pub WritesFound : {W : Type 0} → List (List ℕ) → Type 0 → Bool → (W → Option (List ℕ)) → W → W → List ℕ → Type 0
+abbrev pub WritesFound : {W : Type 0} → List (List ℕ) → Type 0 → Bool → (W → Option (List ℕ)) → W → W →
+    List ℕ → Type 0
 WritesFound strings IsWhole all contents old new input =
     (found : List (Option ℕ)) × AreFound strings IsWhole (lines_of input) found
     × Writes contents old new (flat_map answer_line found) × (all ≡ list_all is_some found)

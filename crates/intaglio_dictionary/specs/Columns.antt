@@ -50,7 +50,9 @@ encoded_column strings input = flat_map (encoded_line strings) (lines_of input)
 
 -- whether four bytes are the code of a string, or the missing code where that has a text
 abbrev pub has_string : List (List ℕ) → Option (List ℕ) → List ℕ → Bool
-has_string strings text piece = (length piece == 4) && (is_some (slice_get strings (code_of piece)) || (is_some text && (code_of piece == missing)))
+has_string strings text piece =
+    (length piece == 4) &&
+    (is_some (slice_get strings (code_of piece)) || (is_some text && (code_of piece == missing)))
 
 -- the line of a code
 abbrev pub line_of : List (List ℕ) → Option (List ℕ) → List ℕ → List ℕ
@@ -62,7 +64,8 @@ decoded_column strings text bytes = flat_map (line_of strings text) (code_pieces
 
 -- whether four bytes are a code that a map has, or the missing code
 abbrev pub has_number : List ℕ → List ℕ → Bool
-has_number numbers piece = (length piece == 4) && (is_some (slice_get numbers (code_of piece)) || (code_of piece == missing))
+has_number numbers piece =
+    (length piece == 4) && (is_some (slice_get numbers (code_of piece)) || (code_of piece == missing))
 
 -- the code that a map has for a code
 abbrev pub renumbered_code : List ℕ → List ℕ → List ℕ
@@ -74,11 +77,13 @@ renumbered_column numbers bytes = flat_map (renumbered_code numbers) (code_piece
 
 -- what is encoded and then decoded is the input, its last line ended
 abbrev pub DecodesToInput : List (List ℕ) → List ℕ → Type 0
-DecodesToInput strings input = (text : Option (List ℕ)) → decoded_column strings text (encoded_column strings input) ≡ with_last_line_ended input
+DecodesToInput strings input = (text : Option (List ℕ)) →
+    decoded_column strings text (encoded_column strings input) ≡ with_last_line_ended input
 
 -- renumbered codes are decoded as before
 abbrev pub DecodesAsBefore : List ℕ → List ℕ → Type 0
-DecodesAsBefore numbers bytes = (old new : List (List ℕ)) (text : Option (List ℕ)) → IsMap old new numbers → length new ≤ missing
+DecodesAsBefore numbers bytes = (old new : List (List ℕ)) (text : Option (List ℕ)) → IsMap old new numbers →
+    length new ≤ missing
     → decoded_column new text (renumbered_column numbers bytes) ≡ decoded_column old text bytes
 
 -- a position counted from 1, which stops at the largest `u64`
@@ -88,7 +93,8 @@ from_one position = min (position + 1) (2 ^ 64 - 1)
 module _ (fits : List ℕ → Bool) where
   -- the first line without a code is reported, by its number
   abbrev pub ReportsLine : ColumnError → List (List ℕ) → Type 0
-  ReportsLine (NoSymbol number) lines = (position size : ℕ) × (number ≡ from_one position) × IsFirstMisfit fits lines position size
+  ReportsLine (NoSymbol number) lines =
+      (position size : ℕ) × (number ≡ from_one position) × IsFirstMisfit fits lines position size
   ReportsLine (NoString number) lines = ⊥
   ReportsLine (ShortCode number) lines = ⊥
   ReportsLine (Stream failure) lines = Unit {0}
@@ -96,6 +102,8 @@ module _ (fits : List ℕ → Bool) where
   -- the first code that is none is reported, by its number, and whether it is cut short
   abbrev pub ReportsCode : ColumnError → List (List ℕ) → Type 0
   ReportsCode (NoSymbol number) codes = ⊥
-  ReportsCode (NoString number) codes = (position size : ℕ) × (number ≡ from_one position) × (4 ≤ size) × IsFirstMisfit fits codes position size
-  ReportsCode (ShortCode number) codes = (position size : ℕ) × (number ≡ from_one position) × (size < 4) × IsFirstMisfit fits codes position size
+  ReportsCode (NoString number) codes = (position size : ℕ) × (number ≡ from_one position) × (4 ≤ size)
+      × IsFirstMisfit fits codes position size
+  ReportsCode (ShortCode number) codes = (position size : ℕ) × (number ≡ from_one position) × (size < 4)
+      × IsFirstMisfit fits codes position size
   ReportsCode (Stream failure) codes = Unit {0}

@@ -15,8 +15,8 @@ use Rattle.intaglio_dictionary.specs.declared.error.DictionaryError.TheVariants.
 abbrev pub occurring : List ℕ → List ℕ
 occurring counts = rows_from (λ n. not (n == 0)) 0 counts
 
--- the rank of a symbol is the lesser the more often its string occurs, and of equal counts the lesser that of the
--- lesser symbol
+-- the rank of a symbol is the lesser the more often its string occurs, and of equal counts the
+-- lesser that of the lesser symbol
 abbrev pub rank_of : List ℕ → ℕ → ℕ × ℕ
 rank_of counts symbol = (2 ^ 64 - 1 - get_or counts symbol 0, symbol)
 
@@ -27,7 +27,8 @@ ranks counts = map (rank_of counts) (occurring counts)
 pub record AreInOrder (by_symbol : Bool) (counts : List ℕ) (ordered : List (ℕ × ℕ)) : Type 0 where
   pub all : IsPermutation (ranks counts) ordered
   pub ascending : by_symbol ≡ true → ordered ≡ ranks counts
-  pub frequent : by_symbol ≡ false → IsSorted (λ a b. ordering_then (nat_cmp a.0 b.0) (nat_cmp a.1 b.1)) ordered
+  pub frequent : by_symbol ≡ false →
+      IsSorted (λ a b. ordering_then (nat_cmp a.0 b.0) (nat_cmp a.1 b.1)) ordered
 
 -- a count and a tab, and the string
 abbrev pub count_line : ℕ → List ℕ → List ℕ
@@ -41,8 +42,10 @@ rank_line strings counts rank = count_line (get_or counts rank.1 0) (get_or stri
 abbrev pub missing_line : ℕ → List ℕ
 missing_line gone = cond (gone == 0) [] (number_line gone)
 
--- the counts of codes under n strings are written: those of the strings that occur, and at last that of the missing rows
-pub record WritesCounts {W : Type 0} (by_symbol : Bool) (n : ℕ) (strings : List (List ℕ)) (cs : List ℕ) (contents : W → Option (List ℕ))
+-- the counts of codes under n strings are written: those of the strings that occur,
+-- and at last that of the missing rows
+pub record WritesCounts {W : Type 0} (by_symbol : Bool) (n : ℕ) (strings : List (List ℕ)) (cs : List ℕ)
+    (contents : W → Option (List ℕ))
     (old new : W) : Type 0 where
   pub counts : List ℕ
   pub gone : ℕ
@@ -53,10 +56,12 @@ pub record WritesCounts {W : Type 0} (by_symbol : Bool) (n : ℕ) (strings : Lis
 
 -- when each error is returned, of ranks: one has no string
 abbrev pub IsRankFault : List (List ℕ) → Type 0 → List (ℕ × ℕ) → DictionaryError → Type 0
-IsRankFault strings IsWhole ordered (NoString symbol) = (rank : ℕ × ℕ) × Contains ordered rank × (rank.1 ≡ symbol) × (IsWhole → slice_get strings symbol ≡ None)
+IsRankFault strings IsWhole ordered (NoString symbol) =
+    (rank : ℕ × ℕ) × Contains ordered rank × (rank.1 ≡ symbol) × (IsWhole → slice_get strings symbol ≡ None)
 IsRankFault strings IsWhole ordered (Stream failure) = IsWritingError failure
 
 -- and of codes under n strings: one of them occurs and isn't there
 abbrev pub IsCountsFault : List (List ℕ) → Type 0 → ℕ → List ℕ → DictionaryError → Type 0
-IsCountsFault strings IsWhole n cs (NoString symbol) = (symbol < n) × (0 < count_of symbol cs) × (IsWhole → slice_get strings symbol ≡ None)
+IsCountsFault strings IsWhole n cs (NoString symbol) =
+    (symbol < n) × (0 < count_of symbol cs) × (IsWhole → slice_get strings symbol ≡ None)
 IsCountsFault strings IsWhole n cs (Stream failure) = IsWritingError failure

@@ -29,7 +29,8 @@ Allows Bytes input = ⊤
 Allows Text input = IsUtf8 input
 
 -- a frozen table of this kind, of these strings, under keys that are allowed, is written
-abbrev pub WritesTable : {W : Type 0} → Kind → (List ℕ → Type 0) → List (List ℕ) → (W → Option (List ℕ)) → W → W → Type 0
+abbrev pub WritesTable : {W : Type 0} → Kind → (List ℕ → Type 0) → List (List ℕ) → (W → Option (List ℕ)) →
+    W → W → Type 0
 WritesTable kind HasAllowedKeys lines contents old new =
     (bytes : List ℕ) × IsTableOf kind lines bytes × HasAllowedKeys bytes × Writes contents old new bytes
 
@@ -51,7 +52,7 @@ HasKeysFor None lines bytes = HasDefaultKeys lines bytes
 abbrev pub IsRefusal : Kind → List ℕ → FreezingError → Type 0
 IsRefusal kind input NotUtf8 = ¬ (Allows kind input)
 IsRefusal kind input (Table error) = IsTableRefusal kind (distinct_lines input) error
-IsRefusal kind input (Stream failure) = IsWritingError failure
+IsRefusal kind input (Stream failure) = ⊤
 
 -- when each error is returned before anything is written of a union
 abbrev pub IsUnionRefusal : Kind → List (List ℕ) → FreezingError → Type 0

@@ -20,7 +20,8 @@ IsShardMapFault shard start count numbers Memory = ⊤
 
 -- why maps of shards, which have so many strings each, weren't joined
 abbrev pub IsMapFault : List ℕ → List (List ℕ) → MapError → Type 0
-IsMapFault counts maps (NoString s) = AreWithin (take s counts) (take s maps) × HasNoString (get_or counts s 0) (get_or maps s [])
+IsMapFault counts maps (NoString s) =
+    AreWithin (take s counts) (take s maps) × HasNoString (get_or counts s 0) (get_or maps s [])
 IsMapFault counts maps TooMany = (missing < sum_of counts) ⊎ ((s : ℕ) × (missing < length (get_or maps s [])))
 IsMapFault counts maps Memory = ⊤
 

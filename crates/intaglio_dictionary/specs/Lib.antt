@@ -1,6 +1,7 @@
 -- What the contracts of this crate cite.
 pub mod Answers
 pub mod Frozen
+pub mod Interning
 pub mod Translation
 pub mod Columns
 pub mod Rows

@@ -1,8 +1,8 @@
 -- Which dictionaries the maps of a merge lead from and to, and a checksum of each map.
 use Rattle.std.specs.Prelude.{◌≡◌, ◌≢◌, ◌⊎◌, ⊤, ℕ, ◌+◌, ◌^◌, ◌<◌, ◌≤◌, List, [], ◌∷◌, ◌++◌, Some, codes, length, slice_get, All}
 use Rattle.std.specs.List.{flat_map}
-use Rattle.std.specs.Hash.DefaultHasher.{with_keys, write, finish}
 use Rattle.intaglio_column_file.specs.declared.id.DictionaryId.{DictionaryId}
+use Rattle.intaglio_frozen.specs.LookUp.{hash_under}
 use Rattle.intaglio_dictionary.specs.Columns.{code_bytes}
 use Rattle.intaglio_dictionary.specs.ShardIndex.{HasNumbers, heading, id_fields, number_field, shard_line}
 use Rattle.intaglio_dictionary.specs.declared.map_index.Checksum.{Checksum}
@@ -12,13 +12,9 @@ use Rattle.intaglio_dictionary.specs.declared.error.MapIndexError.TheVariants.{N
 use Rattle.intaglio_dictionary.specs.declared.error.MapTextError.{MapTextError}
 use Rattle.intaglio_dictionary.specs.declared.error.MapTextError.TheVariants.{WrongLine, NoChecksum, Memory}
 
--- the hash of bytes under 0 and another key
-abbrev pub hash_under : ℕ → List ℕ → ℕ
-hash_under key1 bytes = finish (write (with_keys 0 key1) bytes)
-
 -- the checksum of the map with these bytes
 abbrev pub checksum_of : List ℕ → Checksum
-checksum_of bytes = record { hash0 = hash_under 0 bytes; hash1 = hash_under 1 bytes }
+checksum_of bytes = record { hash0 = hash_under 0 0 bytes; hash1 = hash_under 0 1 bytes }
 
 -- what an index says of the map with these codes, which leads from this dictionary
 abbrev pub indexed_map : DictionaryId → List ℕ → IndexedMap
@@ -72,14 +68,16 @@ HasNoIdLine text = (id : DictionaryId) (tail : List ℕ) → HasNumbers id → t
 abbrev pub HasNoChecksum : List ℕ → Type 0
 HasNoChecksum text = (sum : Checksum) (tail : List ℕ) → HasHashes sum → text ≢ checksum_end sum ++ tail
 
--- the lines of these maps are right, which are fewer than there should be; the next one begins with no dictionary
+-- the lines of these maps are right, which are fewer than there should be; the
+-- next one begins with no dictionary
 pub record HasWrongLine (count : ℕ) (text : List ℕ) (maps : List IndexedMap) : Type 0 where
   pub rest : List ℕ
   pub few : length maps < count
   pub right : text ≡ flat_map map_line maps ++ rest
   pub wrong : HasNoId rest
 
--- the lines of these maps are right, which are fewer than there should be; the next one begins with a dictionary, and has no checksum
+-- the lines of these maps are right, which are fewer than there should be; the next one begins with a
+-- dictionary, and has no checksum
 pub record LacksChecksum (count : ℕ) (text : List ℕ) (maps : List IndexedMap) : Type 0 where
   pub from : DictionaryId
   pub rest : List ℕ
@@ -89,8 +87,10 @@ pub record LacksChecksum (count : ℕ) (text : List ℕ) (maps : List IndexedMap
 
 -- which line of so many maps is wrong, where the first line was read
 abbrev pub IsMapLineFault : ℕ → List ℕ → MapTextError → Type 0
-IsMapLineFault count text (WrongLine n) = (maps : List IndexedMap) × (n ≡ length maps + 2) × HasWrongLine count text maps
-IsMapLineFault count text (NoChecksum n) = (maps : List IndexedMap) × (n ≡ length maps + 2) × LacksChecksum count text maps
+IsMapLineFault count text (WrongLine n) =
+    (maps : List IndexedMap) × (n ≡ length maps + 2) × HasWrongLine count text maps
+IsMapLineFault count text (NoChecksum n) =
+    (maps : List IndexedMap) × (n ≡ length maps + 2) × LacksChecksum count text maps
 IsMapLineFault count text Memory = ⊤
 
 -- the lines of these maps are right; the next one isn't that of a dictionary
@@ -122,7 +122,8 @@ IsMapTextFault text (NoChecksum n) = HasFaultBehind text (NoChecksum n)
 IsMapTextFault text Memory = ⊤
 
 -- the map with this number leads from this dictionary to that one, and has this checksum
-pub record Leads (maps : List IndexedMap) (end : DictionaryId) (number : ℕ) (origin target : DictionaryId) (sum : Checksum) : Type 0 where
+pub record Leads (maps : List IndexedMap) (end : DictionaryId) (number : ℕ) (origin target : DictionaryId)
+    (sum : Checksum) : Type 0 where
   pub map : IndexedMap
   pub there : slice_get maps number ≡ Some map
   pub from : map.from ≡ origin
@@ -130,7 +131,9 @@ pub record Leads (maps : List IndexedMap) (end : DictionaryId) (number : ℕ) (o
   pub checksum : map.checksum ≡ sum
 
 -- why there is no map with this number that leads from this dictionary to that one
-abbrev pub IsMapIndexFault : List IndexedMap → DictionaryId → ℕ → DictionaryId → DictionaryId → MapIndexError → Type 0
+abbrev pub IsMapIndexFault : List IndexedMap → DictionaryId → ℕ → DictionaryId → DictionaryId →
+    MapIndexError → Type 0
 IsMapIndexFault maps end number origin target (NoMap count) = (count ≡ length maps) × (count ≤ number)
-IsMapIndexFault maps end number origin target OtherFrom = (other : IndexedMap) × (slice_get maps number ≡ Some other) × (other.from ≢ origin)
+IsMapIndexFault maps end number origin target OtherFrom =
+    (other : IndexedMap) × (slice_get maps number ≡ Some other) × (other.from ≢ origin)
 IsMapIndexFault maps end number origin target OtherInto = end ≢ target

@@ -8,10 +8,13 @@ use Rattle.intaglio_column_file.specs.declared.filter.RowFilter.{RowFilter}
 use Rattle.intaglio_dictionary.specs.Answers.{position_in}
 
 -- of n symbols those of these words are marked, and no others: in a whole dictionary those of all words
-pub record AreMarked (n : ℕ) (strings : List (List ℕ)) (IsWhole : Type 0) (words : List (List ℕ)) (marks : List Bool) : Type 0 where
+pub record AreMarked (n : ℕ) (strings : List (List ℕ)) (IsWhole : Type 0) (words : List (List ℕ))
+    (marks : List Bool) : Type 0 where
   pub long : length marks ≡ n
-  pub sound : (symbol : ℕ) → get_or marks symbol false ≡ true → (word : List ℕ) × Contains words word × (slice_get strings symbol ≡ Some word)
-  pub whole : IsWhole → (symbol : ℕ) (word : List ℕ) → Contains words word → position_in strings word ≡ Some symbol → symbol < n
+  pub sound : (symbol : ℕ) → get_or marks symbol false ≡ true → (word : List ℕ) × Contains words word
+      × (slice_get strings symbol ≡ Some word)
+  pub whole : IsWhole → (symbol : ℕ) (word : List ℕ) → Contains words word →
+      position_in strings word ≡ Some symbol → symbol < n
       → get_or marks symbol false ≡ true
 
 -- the numbers of the selected rows, a line each

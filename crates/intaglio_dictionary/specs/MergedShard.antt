@@ -3,7 +3,6 @@ use Rattle.std.specs.Prelude.{◌≡◌, ◌≢◌, ◌⊎◌, ⊤, ℕ, ◌^◌
 use Rattle.intaglio_merge.specs.Merging.{missing}
 use Rattle.intaglio_merge.specs.Shards.{BelongTo, AreShards, sum_of}
 use Rattle.intaglio_dictionary.specs.ShardIndex.{HasNumbers, number_field, shard_line}
-use Rattle.intaglio_dictionary.specs.declared.merged_shard.ShardPlace.{ShardPlace}
 use Rattle.intaglio_dictionary.specs.declared.merged_shard.MergedShard.{MergedShard}
 use Rattle.intaglio_dictionary.specs.declared.merged_shard.JoinError.{JoinError}
 use Rattle.intaglio_dictionary.specs.declared.merged_shard.JoinError.TheVariants.{Empty, OtherNumber, OtherCount, OtherParts, OtherKind, TooMany, Memory}
@@ -40,7 +39,8 @@ pub record FitsAt (many : ℕ) (first : MergedShard) (i : ℕ) (shard : MergedSh
 
 -- these are all shards of one merge, in their order
 abbrev pub AreOneMerge : List MergedShard → Type 0
-AreOneMerge shards = (first shard : MergedShard) (i : ℕ) → slice_get shards 0 ≡ Some first → slice_get shards i ≡ Some shard
+AreOneMerge shards = (first shard : MergedShard) (i : ℕ) → slice_get shards 0 ≡ Some first →
+    slice_get shards i ≡ Some shard
     → FitsAt (length shards) first i shard
 
 -- how many strings shards have together
@@ -49,7 +49,8 @@ strings_in shards = sum_of (map (λ shard. shard.id.count) shards)
 
 -- the shard at i, and the first one, which differ in something
 abbrev pub DiffersAt : List MergedShard → ℕ → (MergedShard → MergedShard → Type 0) → Type 0
-DiffersAt shards i Differ = (first shard : MergedShard) × (slice_get shards 0 ≡ Some first) × (slice_get shards i ≡ Some shard)
+DiffersAt shards i Differ = (first shard : MergedShard) × (slice_get shards 0 ≡ Some first)
+    × (slice_get shards i ≡ Some shard)
     × Differ first shard
 
 -- why shards aren't joined
@@ -65,10 +66,12 @@ IsJoinFault shards Memory = ⊤
 
 -- each shard of a merge has strings of its own alone
 abbrev pub HaveOwnStrings : List MergedShard → List (List (List ℕ)) → Type 0
-HaveOwnStrings shards tables = (i : ℕ) (shard : MergedShard) (strings : List (List ℕ)) → slice_get shards i ≡ Some shard
+HaveOwnStrings shards tables = (i : ℕ) (shard : MergedShard) (strings : List (List ℕ)) →
+    slice_get shards i ≡ Some shard
     → slice_get tables i ≡ Some strings → BelongTo shard.place.count shard.place.number strings
 
 -- shards of one merge, of which each has strings of its own alone, are those of one dictionary
 abbrev pub MergedAreShards : Type 0
-MergedAreShards = (shards : List MergedShard) (tables : List (List (List ℕ))) → length tables ≡ length shards → AreOneMerge shards
+MergedAreShards = (shards : List MergedShard) (tables : List (List (List ℕ))) →
+    length tables ≡ length shards → AreOneMerge shards
     → HaveOwnStrings shards tables → AreShards tables

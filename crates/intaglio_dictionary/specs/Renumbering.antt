@@ -9,7 +9,8 @@ use Rattle.intaglio_dictionary.specs.declared.error.RenumberError.TheVariants.{C
 
 -- by a map from one dictionary to another, codes keep their lines
 abbrev pub KeepsLines : List ℕ → List ℕ → List ℕ → Type 0
-KeepsLines numbers cs renumbered = (old new : List (List ℕ)) (text : Option (List ℕ)) → IsMap old new numbers → length new ≤ missing
+KeepsLines numbers cs renumbered = (old new : List (List ℕ)) (text : Option (List ℕ)) →
+    IsMap old new numbers → length new ≤ missing
     → flat_map (code_line new text) renumbered ≡ flat_map (code_line old text) cs
 
 -- when each error is returned, of codes of n strings that are renumbered to those of more

@@ -1,5 +1,5 @@
 -- What is written of the rows of a column file.
-use Rattle.std.specs.Prelude.{◌≡◌, ℕ, ◌+◌, ◌-◌, ◌≤◌, ◌==◌, cond, Bool, false, List, [], length, take, drop, get_or, slice_get, is_some, unwrap_or, Option, Some}
+use Rattle.std.specs.Prelude.{◌≡◌, ℕ, ◌+◌, ◌-◌, ◌<◌, ◌≤◌, ◌==◌, cond, Bool, false, List, [], length, take, drop, get_or, slice_get, is_some, unwrap_or, Option, Some}
 use Rattle.std.specs.List.{flat_map}
 use Rattle.intaglio_lines.specs.Output.{spelling_line}
 use Rattle.intaglio_lines.specs.StreamError.{IsWritingError}
@@ -32,8 +32,37 @@ lines_between strings text cs range = flat_map (code_line strings text) (codes_b
 abbrev pub row_lines : List (List ℕ) → Option (List ℕ) → List ℕ → List RowRange → List ℕ
 row_lines strings text cs ranges = flat_map (lines_between strings text cs) ranges
 
--- when each error is returned: a row isn't there, or has a code without a line
-abbrev pub IsRowsFault : List (List ℕ) → Type 0 → Option (List ℕ) → List ℕ → RowsError → Type 0
-IsRowsFault strings IsWhole text cs (NoRow row) = length cs ≤ row
-IsRowsFault strings IsWhole text cs (NoLine row) = (code : ℕ) × (slice_get cs row ≡ Some code) × (IsWhole → has_line strings text code ≡ false)
-IsRowsFault strings IsWhole text cs (Stream failure) = IsWritingError failure
+-- the code of this row has no line
+abbrev pub HasNoLine : List (List ℕ) → Type 0 → Option (List ℕ) → List ℕ → ℕ → Type 0
+HasNoLine strings IsWhole text cs row =
+    (code : ℕ) × (slice_get cs row ≡ Some code) × (IsWhole → has_line strings text code ≡ false)
+
+-- when each error is returned of a range: its last row isn't there, or one of its rows has no line
+abbrev pub IsRangeFault : List (List ℕ) → Type 0 → Option (List ℕ) → List ℕ → RowRange → RowsError → Type 0
+IsRangeFault strings IsWhole text cs range (NoRow row) = (row ≡ range.last) × (length cs ≤ row)
+IsRangeFault strings IsWhole text cs range (NoLine row) =
+    (range.first ≤ row) × (row ≤ range.last) × HasNoLine strings IsWhole text cs row
+IsRangeFault strings IsWhole text cs range (Stream failure) = IsWritingError failure
+
+-- the ranges before n end at rows that are there
+abbrev pub AreRangesBefore : ℕ → List ℕ → List RowRange → Type 0
+AreRangesBefore n cs ranges = (m : ℕ) (range : RowRange) → m < n → slice_get ranges m ≡ Some range →
+    range.last < length cs
+
+-- one of several ranges has this fault, and those before it end at rows that are there
+pub record HasRangeFault (strings : List (List ℕ)) (IsWhole : Type 0) (text : Option (List ℕ)) (cs : List ℕ)
+    (ranges : List RowRange) (e : RowsError) : Type 0 where
+  pub number : ℕ
+  pub range : RowRange
+  pub there : slice_get ranges number ≡ Some range
+  pub before : AreRangesBefore number cs ranges
+  pub fault : IsRangeFault strings IsWhole text cs range e
+
+-- when each error is returned
+abbrev pub IsRowsFault : List (List ℕ) → Type 0 → Option (List ℕ) → List ℕ → List RowRange → RowsError →
+    Type 0
+IsRowsFault strings IsWhole text cs ranges (Stream failure) = IsWritingError failure
+IsRowsFault strings IsWhole text cs ranges (NoRow row) =
+    HasRangeFault strings IsWhole text cs ranges (NoRow row)
+IsRowsFault strings IsWhole text cs ranges (NoLine row) =
+    HasRangeFault strings IsWhole text cs ranges (NoLine row)

@@ -29,7 +29,8 @@ first_line count = heading (codes "intaglio shards 1") count
 
 -- what a dictionary is, at the front of a line
 unfoldable pub id_fields : DictionaryId → List ℕ
-id_fields id = kind_word id.is_text ++ (number_field id.count ++ (number_field id.hash0 ++ number_field id.hash1))
+id_fields id =
+    kind_word id.is_text ++ (number_field id.count ++ (number_field id.hash0 ++ number_field id.hash1))
 
 -- the line of a shard
 unfoldable pub shard_line : DictionaryId → List ℕ
@@ -61,10 +62,11 @@ HasNoShardLine text = (id : DictionaryId) (tail : List ℕ) → HasNumbers id �
 -- the first line is right, and those of these shards; the next one isn't, or there is one too many
 pub record IsWrongBehind (text : List ℕ) (count : ℕ) (ids : List DictionaryId) (rest : List ℕ) : Type 0 where
   pub right : text ≡ first_line count ++ (flat_map shard_line ids ++ rest)
-  pub wrong : HasNoShardLine rest ⊎ ((length ids ≡ count) × (rest ≢ []))
+  pub wrong : ((length ids < count) × HasNoShardLine rest) ⊎ ((length ids ≡ count) × (rest ≢ []))
 
 -- what each error says: the line, counted from 1, is the first that is wrong
 abbrev pub IsIndexFault : List ℕ → IndexError → Type 0
 IsIndexFault text (WrongLine n) = ((n ≡ 1) × HasNoFirstLine text)
-    ⊎ ((count : ℕ) × (ids : List DictionaryId) × (rest : List ℕ) × (n ≡ length ids + 2) × IsWrongBehind text count ids rest)
+    ⊎ ((count : ℕ) × (ids : List DictionaryId) × (rest : List ℕ) × (n ≡ length ids + 2)
+    × IsWrongBehind text count ids rest)
 IsIndexFault text Memory = ⊤

@@ -16,7 +16,8 @@ IsNoPlace place = (missing < place.count) ⊎ (place.count ≤ place.number)
 
 -- each string of each part belongs to this shard of so many
 abbrev pub AreOwn : ℕ → ℕ → List (List (List ℕ)) → Type 0
-AreOwn count number parts = (p : ℕ) (strings : List (List ℕ)) → slice_get parts p ≡ Some strings → BelongTo count number strings
+AreOwn count number parts = (p : ℕ) (strings : List (List ℕ)) → slice_get parts p ≡ Some strings →
+    BelongTo count number strings
 
 -- this is said of the shard whose file has these bytes
 pub record IsShardIn (wanted : ShardPlace) (bytes : List ℕ) (shard : MergedShard) : Type 0 where
@@ -24,11 +25,17 @@ pub record IsShardIn (wanted : ShardPlace) (bytes : List ℕ) (shard : MergedSha
   pub size : shard.size ≡ length bytes
   pub id : IsIdOfTable bytes shard.id
 
--- the string i of part p belongs to another shard
+-- each string of each part before n belongs to this shard of so many
+abbrev pub AreOwnBefore : ℕ → ℕ → ℕ → List (List (List ℕ)) → Type 0
+AreOwnBefore n count number parts = (p : ℕ) (strings : List (List ℕ)) → p < n →
+    slice_get parts p ≡ Some strings → BelongTo count number strings
+
+-- the string i of part p is the first that belongs to another shard
 pub record IsMisplacedIn (count number : ℕ) (parts : List (List (List ℕ))) (p i : ℕ) : Type 0 where
   pub strings : List (List ℕ)
   pub there : slice_get parts p ≡ Some strings
   pub misplaced : IsMisplaced count number strings i
+  pub before : AreOwnBefore p count number parts
 
 -- why a shard wasn't merged of these parts
 abbrev pub IsShardRefusal : Kind → ShardPlace → List (List (List ℕ)) → ShardMergeError → Type 0

@@ -12,14 +12,14 @@ use std::io;
 use std::io::Write;
 use std::marker::Model;
 
-// How many bytes a code has.
-pub(crate) const CODE: usize = 4;
+/// How many bytes a code has.
+pub const CODE: usize = 4;
 
 /// The code of a line that a dictionary doesn't have. No frozen table has that many strings.
 pub const MISSING: u32 = u32::MAX;
 
-/// A map from the codes of one dictionary to those of another, in the bytes of a file: the new code of each old
-/// one, in order. A contract sees the new codes.
+/// A map from the codes of one dictionary to those of another, in the bytes of a file: the new code of each
+/// old one, in order. A contract sees the new codes.
 #[derive(Drop)]
 pub struct CodeMap<'a> {
     bytes: &'a [u8],

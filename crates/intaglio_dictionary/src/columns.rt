@@ -30,9 +30,11 @@ pub struct Decoding<'a, D> {
 impl<D: WholeDictionary> Translator for Decoding<'_, D> {
     ghost pieces = { code_pieces };
 
-    ghost fits = { λ decoding piece. has_string (D.strings decoding.table.now) (option_map (λ t. t.now) decoding.text) piece };
+    ghost fits = { λ decoding piece.
+        has_string (D.strings decoding.table.now) (option_map (λ t. t.now) decoding.text) piece };
 
-    ghost translated = { λ decoding piece. line_of (D.strings decoding.table.now) (option_map (λ t. t.now) decoding.text) piece };
+    ghost translated = { λ decoding piece.
+        line_of (D.strings decoding.table.now) (option_map (λ t. t.now) decoding.text) piece };
 
     ghost no_pieces = { refl };
 
@@ -74,8 +76,8 @@ impl<D: WholeDictionary> FrontTranslator for Decoding<'_, D> {
 }
 
 impl<'a, D: WholeDictionary> Decoding<'a, D> {
-    // Reads the first byte of the string of each of the first codes. The bytes that are read are written, and the
-    // call isn't inlined, so that the compiler can't leave out the reads.
+    // Reads the first byte of the string of each of the first codes. The bytes that are read are written, and
+    // the call isn't inlined, so that the compiler can't leave out the reads.
     #[inline(never)]
     fn touch_each(&self, codes: &[u8], touched: &mut [u8]) {
         for i in 0..touched.len().min(codes.len() / CODE) {
@@ -174,17 +176,18 @@ impl Renumbering<'_, '_> {
     }
 }
 
-/// Writes the code of each line of an input, the symbol of its string, and returns how many lines there are, or
-/// `u64::MAX` if there are more. If `missing` is true, the code of a line that isn't in the table is [`MISSING`].
+/// Writes the code of each line of an input, the symbol of its string, and returns how many lines
+/// there are, or `u64::MAX` if there are more. If `missing` is true, the code of a line that
+/// isn't in the table is [`MISSING`].
 ///
-/// The input is read in blocks of 64 KiB, and only a line that isn't read to its end is kept. Lines are looked up in
-/// groups of 64, so that the cache misses of their look-ups overlap; for each group a list of its lines and one of
-/// their symbols are allocated.
+/// The input is read in blocks of 64 KiB, and only a line that isn't read to its end is kept. Lines are
+/// looked up in groups of 64, so that the cache misses of their look-ups overlap; for each group a list of
+/// its lines and one of their symbols are allocated.
 ///
 /// # Errors
 ///
-/// `NoSymbol` for the first line that isn't in the table, unless `missing` is true; `Memory`, `Read` or `Write`.
-/// What was written then is the front of the codes of the lines before that one.
+/// `NoSymbol` for the first line that isn't in the table, unless `missing` is true; `Memory`, `Read` or
+/// `Write`. What was written then is the front of the codes of the lines before that one.
 pub fn encode_column<D: WholeDictionary, R: Read, W: Write>(
     alloc: Global,
     table: &D,
@@ -201,7 +204,8 @@ pub fn encode_column<D: WholeDictionary, R: Read, W: Write>(
     ensures all_read { OnOk result (IsAtEnd (R.remaining reader.new)) }
     ensures unknown { IfErr result (λ e. IfSome (R.remaining reader.old)
         (λ input. ReportsLine (has_code (D.strings table.now) missing) e (lines_of input))) }
-    ensures part { let Part = WritesPart (has_code (D.strings table.now) missing) (encoded_line (D.strings table.now)) in
+    ensures part { let Part = WritesPart (has_code (D.strings table.now) missing)
+        (encoded_line (D.strings table.now)) in
         OnErr result (IfSome (R.remaining reader.old)
         (λ input. Part (W.contents writer.old) [] (W.contents writer.new) (lines_of input))) }
 
@@ -217,15 +221,15 @@ pub fn encode_column<D: WholeDictionary, R: Read, W: Write>(
     }
 }
 
-/// Writes the string of each code of an input, each on a line, and returns how many codes there are, or `u64::MAX`
-/// if there are more. If `missing` is a text, it is what [`MISSING`] stands for.
+/// Writes the string of each code of an input, each on a line, and returns how many codes there are, or
+/// `u64::MAX` if there are more. If `missing` is a text, it is what [`MISSING`] stands for.
 ///
 /// The input is read in blocks of 64 KiB.
 ///
 /// # Errors
 ///
-/// `NoString` for the first code that no string has, `ShortCode` if the input ends within a code; `Memory`, `Read`
-/// or `Write`. What was written then is the front of the lines of the codes before that one.
+/// `NoString` for the first code that no string has, `ShortCode` if the input ends within a code; `Memory`,
+/// `Read` or `Write`. What was written then is the front of the lines of the codes before that one.
 ///
 /// ```
 /// # use intaglio::SymbolTable;
@@ -251,7 +255,8 @@ pub fn decode_column<D: WholeDictionary, R: Read, W: Write>(
 ) -> Result<u64, ColumnError>
     ensures written { let text = option_map (λ t. t.now) missing.entry in
         OnOk result (IfSome (R.remaining reader.old)
-        (λ input. Writes W.contents writer.old writer.new (decoded_column (D.strings table.now) text input))) }
+        (λ input.
+        Writes W.contents writer.old writer.new (decoded_column (D.strings table.now) text input))) }
     ensures known { let text = option_map (λ t. t.now) missing.entry in
         OnOk result (IfSome (R.remaining reader.old)
         (λ input. AllFit (has_string (D.strings table.now) text) (code_pieces input))) }
@@ -276,15 +281,16 @@ pub fn decode_column<D: WholeDictionary, R: Read, W: Write>(
     }
 }
 
-/// Writes for each code of an input its new code by a map, and returns how many codes there are, or `u64::MAX` if
-/// there are more. [`MISSING`] stays as it is.
+/// Writes for each code of an input its new code by a map, and returns how many codes there are, or
+/// `u64::MAX` if there are more. [`MISSING`] stays as it is.
 ///
 /// The input is read in blocks of 64 KiB.
 ///
 /// # Errors
 ///
-/// `NoString` for the first code that isn't in the map, `ShortCode` if the input ends within a code; `Memory`,
-/// `Read` or `Write`. What was written then is the front of the new codes of the codes before that one.
+/// `NoString` for the first code that isn't in the map, `ShortCode` if the input ends
+/// within a code; `Memory`, `Read` or `Write`. What was written then is the front of the
+/// new codes of the codes before that one.
 pub fn renumber_column<R: Read, W: Write>(
     alloc: Global,
     map: &CodeMap<'_>,

@@ -20,16 +20,17 @@ use std::io::Write;
 // The length of the longest count: twenty digits and a tab.
 const MAX_COUNT: usize = 21;
 
-/// Writes how often each string of a column occurs: its count, a tab and the string, each on a line, and at last the
-/// count of the missing rows alone. Strings that don't occur aren't written, nor is a count of no missing rows.
+/// Writes how often each string of a column occurs: its count, a tab and the string, each on a
+/// line, and at last the count of the missing rows alone. Strings that don't occur aren't
+/// written, nor is a count of no missing rows.
 ///
-/// The most frequent string comes first, and of equally frequent ones that of the lesser symbol; if `by_symbol` is
-/// true, strings come in the order of their symbols.
+/// The most frequent string comes first, and of equally frequent ones that of the lesser symbol; if
+/// `by_symbol` is true, strings come in the order of their symbols.
 ///
 /// # Errors
 ///
-/// `NoString` for a symbol that occurs and has no string; `Memory` or `Write`. After each but `Write` nothing was
-/// written.
+/// `NoString` for a symbol that occurs and has no string; `Memory` or `Write`. After each
+/// but `Write` nothing was written.
 ///
 /// ```
 /// # use intaglio::SymbolTable;
@@ -54,7 +55,8 @@ pub fn write_counts<D: Dictionary, W: Write>(
     by_symbol: bool,
     writer: &mut W,
 ) -> Result<(), DictionaryError>
-    ensures written { let Counts = WritesCounts by_symbol (strings_of column.now) (D.strings table.now) (codes column.now) in
+    ensures written { let Counts = WritesCounts by_symbol (strings_of column.now) (D.strings table.now)
+        (codes column.now) in
         OnOk result (Counts W.contents writer.old writer.new) }
     ensures err { let n = strings_of column.now in
         IfErr result (IsCountsFault (D.strings table.now) (D.is_whole table.now) n (codes column.now)) }
@@ -152,7 +154,8 @@ pub struct CountLines<'a, 't> {
 }
 
 impl Output for CountLines<'_, '_> {
-    ghost bytes = { λ output. flat_map (λ it. count_line it.0 it.1.now) output.lines.now ++ missing_line output.missing };
+    ghost bytes = { λ output. flat_map (λ it. count_line it.0 it.1.now) output.lines.now
+        ++ missing_line output.missing };
 
     ghost is_ready = { λ _. Unit {0} };
 

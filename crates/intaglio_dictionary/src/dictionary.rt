@@ -12,8 +12,8 @@ use intaglio_merge::Shards;
 use intaglio_symbol::Symbol;
 use std::alloc::{AllocError, Global};
 
-/// A dictionary in which lines and symbols are looked up: a frozen table that was checked, or one whose bytes are
-/// trusted, or frozen tables that are the shards of one dictionary.
+/// A dictionary in which lines and symbols are looked up: a frozen table that was checked, or one whose bytes
+/// are trusted, or frozen tables that are the shards of one dictionary.
 pub trait Dictionary {
     // Its strings, in the order of their symbols.
     ghost strings: { Self → List (List ℕ) };
@@ -30,7 +30,8 @@ pub trait Dictionary {
         ensures found { IfSome result (λ s. slice_get (strings self.now) symbol ≡ Some s.now) }
         ensures whole { is_whole self.now → option_copied result ≡ slice_get (strings self.now) symbol };
 
-    /// The symbol of a string, if it is found. If the dictionary isn't whole, a string of a symbol may not be.
+    /// The symbol of a string, if it is found. If the dictionary isn't whole, a
+    /// string of a symbol may not be.
     fn symbol(&self, string: &[u8]) -> Option<Symbol>
         ensures found { IfSome result (λ s. slice_get (strings self.now) s ≡ Some string.now) }
         ensures whole { is_whole self.now → result ≡ position_in (strings self.now) string.now };
@@ -99,8 +100,8 @@ impl Dictionary for Shards<'_> {
     }
 }
 
-/// A dictionary of which all was checked: a frozen table, or the shards of one dictionary. Each string and each symbol
-/// is found.
+/// A dictionary of which all was checked: a frozen table, or the shards of one dictionary. Each
+/// string and each symbol is found.
 pub trait WholeDictionary {
     // Its strings, in the order of their symbols.
     ghost strings: { Self → List (List ℕ) };
@@ -127,7 +128,8 @@ pub trait WholeDictionary {
         ensures { IfOk result (λ found.
             found.items ≡ map (λ w. position_in (strings self.now) w.now) batch.now) };
 
-    /// What it is, for the header of a column file, as a dictionary of texts or of any bytes. Each string is read twice.
+    /// What it is, for the header of a column file, as a dictionary of texts or of any
+    /// bytes. Each string is read twice.
     fn id(&self, is_text: bool) -> DictionaryId
         ensures { IsIdOfStrings is_text (strings self.now) result };
 }

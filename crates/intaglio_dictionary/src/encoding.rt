@@ -1,5 +1,5 @@
 //! Lines to codes, a group of lines at a time.
-ghost use Rattle.std.specs.Prelude.{◌≡◌, ◌+◌, ◌-◌, ◌^◌, ◌<◌, ◌≤◌, ◌==◌, ◌||◌, [], ◌∷◌, ◌++◌, true, false, Ok, drop, is_some, length, map, min, position, take, unwrap_or, IfErr, IfOk, IfSome, None, OnErr, OnOk};
+ghost use Rattle.std.specs.Prelude.{◌≡◌, ◌+◌, ◌-◌, ◌^◌, ◌<◌, ◌≤◌, ◌||◌, [], ◌∷◌, ◌++◌, true, false, Ok, drop, is_some, length, map, min, take, unwrap_or, IfErr, IfOk, IfSome, None, OnErr, OnOk};
 ghost use Rattle.std.proofs.Common.{refl};
 ghost use Rattle.std.specs.List.{flat_map};
 ghost use Rattle.intaglio_lines.specs.Lines.{lines_of};
@@ -14,6 +14,7 @@ use crate::dictionary::WholeDictionary;
 use crate::translate::{FrontTranslator, TranslateError, Translator};
 use intaglio_core::GROUP;
 use intaglio_lines::error::StreamError;
+use intaglio_lines::lines::end_of_line;
 use intaglio_symbol::Symbol;
 use std::alloc::Global;
 use std::io;
@@ -70,9 +71,9 @@ impl<D: WholeDictionary> FrontTranslator for Encoding<'_, D> {
 }
 
 impl<D: WholeDictionary> Encoding<'_, D> {
-    // Writes the codes of the lines at the front of the bytes, but for a last one that may go on. Returns where that
-    // begins, and how many were written with those before. Of the bytes so many were searched for a line end before,
-    // and have none.
+    // Writes the codes of the lines at the front of the bytes, but for a last one that may go on. Returns
+    // where that begins, and how many were written with those before. Of the bytes so many were searched for
+    // a line end before, and have none.
     fn put_lines<W: Write>(
         &self,
         alloc: Global,
@@ -89,13 +90,16 @@ impl<D: WholeDictionary> Encoding<'_, D> {
             IfOk result (λ end. On (W.contents writer.old) block.old.items bytes.now number
             (W.contents writer.new) block.new.items (drop end.0 bytes.now) end.1) }
         ensures within { IfOk result (λ end. end.0 ≤ length bytes.now) }
-        ensures last { IfOk result (λ end. lines_of (drop end.0 bytes.now) ≡ last_piece (drop end.0 bytes.now)) }
-        ensures misfit { let Stops = StopsIn lines_of (has_code (D.strings self.now.table.now) self.now.missing)
+        ensures last { IfOk result (λ end. lines_of (drop end.0 bytes.now)
+            ≡ last_piece (drop end.0 bytes.now)) }
+        ensures misfit { let Stops = StopsIn lines_of
+            (has_code (D.strings self.now.table.now) self.now.missing)
             (encoded_line (D.strings self.now.table.now)) in
             IfErr result (Stops (W.contents writer.old) block.old.items bytes.now number) }
         ensures part { let Part = WritesIn lines_of (has_code (D.strings self.now.table.now) self.now.missing)
             (encoded_line (D.strings self.now.table.now)) in
-            OnErr result (Part (W.contents writer.old) block.old.items bytes.now number (W.contents writer.new)) }
+            OnErr result
+            (Part (W.contents writer.old) block.old.items bytes.now number (W.contents writer.new)) }
     {
         let mut at = 0;
         let mut count = number;
@@ -123,15 +127,18 @@ impl<D: WholeDictionary> Encoding<'_, D> {
     ) -> Result<u64, TranslateError>
         ensures fit { let has_code = has_code (D.strings self.now.table.now) self.now.missing in
             OnOk result (AllFit has_code (map (λ line. line.now) lines.now)) }
-        ensures put { let codes = flat_map (encoded_line (D.strings self.now.table.now)) (map (λ line. line.now) lines.now) in
+        ensures put { let codes = flat_map (encoded_line (D.strings self.now.table.now))
+            (map (λ line. line.now) lines.now) in
             OnOk result (Puts W.contents writer.old block.old writer.new block.new codes) }
         ensures count { IfOk result (λ count. count ≡ min (number + length lines.now) (2 ^ 64 - 1)) }
         ensures misfit { let has_code = has_code (D.strings self.now.table.now) self.now.missing in
             IfErr result (λ e. ReportsAmong has_code e (map (λ line. line.now) lines.now) number) }
-        ensures front { let codes = flat_map (encoded_line (D.strings self.now.table.now)) (map (λ line. line.now) lines.now) in
+        ensures front { let codes = flat_map (encoded_line (D.strings self.now.table.now))
+            (map (λ line. line.now) lines.now) in
             OnOk result (WritesFront W.contents writer.old writer.new (block.old.items ++ codes)) }
         ensures part { let lines = map (λ line. line.now) lines.now in
-            let Part = WritesPart (has_code (D.strings self.now.table.now) self.now.missing) (encoded_line (D.strings self.now.table.now)) in
+            let Part = WritesPart (has_code (D.strings self.now.table.now) self.now.missing)
+            (encoded_line (D.strings self.now.table.now)) in
             OnErr result (Part (W.contents writer.old) block.old.items (W.contents writer.new) lines) }
     {
         let Ok(found) = self.table.symbols_of(alloc, lines) else {
@@ -152,15 +159,18 @@ impl<D: WholeDictionary> Encoding<'_, D> {
         requires { found.now ≡ map (λ line. position_in (D.strings self.now.table.now) line.now) lines.now }
         ensures fit { let has_code = has_code (D.strings self.now.table.now) self.now.missing in
             OnOk result (AllFit has_code (map (λ line. line.now) lines.now)) }
-        ensures put { let codes = flat_map (encoded_line (D.strings self.now.table.now)) (map (λ line. line.now) lines.now) in
+        ensures put { let codes = flat_map (encoded_line (D.strings self.now.table.now))
+            (map (λ line. line.now) lines.now) in
             OnOk result (Puts W.contents writer.old block.old writer.new block.new codes) }
         ensures count { IfOk result (λ count. count ≡ min (number + length lines.now) (2 ^ 64 - 1)) }
         ensures misfit { let has_code = has_code (D.strings self.now.table.now) self.now.missing in
             IfErr result (λ e. ReportsAmong has_code e (map (λ line. line.now) lines.now) number) }
-        ensures front { let codes = flat_map (encoded_line (D.strings self.now.table.now)) (map (λ line. line.now) lines.now) in
+        ensures front { let codes = flat_map (encoded_line (D.strings self.now.table.now))
+            (map (λ line. line.now) lines.now) in
             OnOk result (WritesFront W.contents writer.old writer.new (block.old.items ++ codes)) }
         ensures part { let lines = map (λ line. line.now) lines.now in
-            let Part = WritesPart (has_code (D.strings self.now.table.now) self.now.missing) (encoded_line (D.strings self.now.table.now)) in
+            let Part = WritesPart (has_code (D.strings self.now.table.now) self.now.missing)
+            (encoded_line (D.strings self.now.table.now)) in
             OnErr result (Part (W.contents writer.old) block.old.items (W.contents writer.new) lines) }
     {
         for i in 0..lines.len() {
@@ -186,14 +196,17 @@ impl<D: WholeDictionary> Encoding<'_, D> {
         writer: &mut W,
     ) -> Result<(), TranslateError>
         requires { found ≡ position_in (D.strings self.now.table.now) line.now }
-        ensures fits { OnOk result (has_code (D.strings self.now.table.now) self.now.missing line.now ≡ true) }
+        ensures fits { OnOk result
+            (has_code (D.strings self.now.table.now) self.now.missing line.now ≡ true) }
         ensures put { let code = encoded_line (D.strings self.now.table.now) line.now in
             OnOk result (Puts W.contents writer.old block.old writer.new block.new code) }
         ensures misfit { let has_code = has_code (D.strings self.now.table.now) self.now.missing in
             IfErr result (λ e. ReportsPiece has_code e line.now number) }
-        ensures front { has_code (D.strings self.now.table.now) self.now.missing line.now ≡ true → WritesFront W.contents
+        ensures front { has_code (D.strings self.now.table.now) self.now.missing line.now ≡ true →
+            WritesFront W.contents
             writer.old writer.new (block.old.items ++ encoded_line (D.strings self.now.table.now) line.now) }
-        ensures unfit { has_code (D.strings self.now.table.now) self.now.missing line.now ≡ false → writer.new ≡ writer.old }
+        ensures unfit { has_code (D.strings self.now.table.now) self.now.missing line.now ≡ false →
+            writer.new ≡ writer.old }
     {
         match self.put_found(found, block, writer) {
             Ok(true) => Ok(()),
@@ -232,13 +245,14 @@ impl<D: WholeDictionary> Encoding<'_, D> {
     }
 }
 
-// The lines at the front of the bytes: a group of them, or all that are whole if they are fewer. So many bytes at the
-// front have no line end.
+// The lines at the front of the bytes: a group of them, or all that are whole if they are fewer. So many
+// bytes at the front have no line end.
 fn first_lines<'a>(alloc: Global, bytes: &'a [u8], seen: usize) -> Result<Lines<'a>, TranslateError>
     requires within { seen ≤ length bytes.now }
     requires seen { HasNoEnd (take seen bytes.now) }
     ensures whole { IfOk result (λ group.
-        StartsWith lines_of bytes.now (map (λ line. line.now) group.lines.items) (drop group.size bytes.now)) }
+        StartsWith lines_of bytes.now (map (λ line. line.now) group.lines.items)
+        (drop group.size bytes.now)) }
     ensures within { IfOk result (λ group. group.size ≤ length bytes.now) }
     ensures some { IfOk result (λ group. length group.lines.items ≤ group.size) }
     ensures none { IfOk result (λ group.
@@ -259,7 +273,8 @@ fn first_lines<'a>(alloc: Global, bytes: &'a [u8], seen: usize) -> Result<Lines<
     Ok(Lines { lines, size })
 }
 
-// Where the first line of the bytes ends, and where the next begins. So many bytes at the front have no line end.
+// Where the first line of the bytes ends, and where the next begins. So many
+// bytes at the front have no line end.
 fn first_whole_line(bytes: &[u8], seen: usize) -> Option<(usize, usize)>
     requires within { seen ≤ length bytes.now }
     requires seen { HasNoEnd (take seen bytes.now) }
@@ -274,12 +289,4 @@ fn first_whole_line(bytes: &[u8], seen: usize) -> Option<(usize, usize)>
         Some(end) => Some((seen + end, seen + end + 1)),
         None => None,
     }
-}
-
-// The position of the first byte 10.
-fn end_of_line(bytes: &[u8]) -> Option<usize>
-    ensures place { result ≡ position (λ b. b == 10) bytes.now }
-    ensures bound { IfSome result (λ end. end < length bytes.now) }
-{
-    bytes.iter().position(|b| *b == b'\n')
 }

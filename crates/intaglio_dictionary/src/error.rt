@@ -67,8 +67,8 @@ pub enum ShardMergeError {
     /// The shard's number isn't below the number of shards, or there are 2^32 shards or more.
     #[error("there is no such shard")]
     NoShard,
-    /// In the part with the first number the string with the second one belongs to another shard. Both are counted
-    /// from 0.
+    /// In the part with the first number the string with the second one belongs to another
+    /// shard. Both are counted from 0.
     #[error("string {1} of part {0} belongs to another shard")]
     Misplaced(usize, u32),
     /// The strings have no frozen table, or weren't given one.
@@ -129,7 +129,8 @@ pub enum MapTextError {
     /// The line with this number is the first that isn't as it must be, or that is one too many.
     #[error("line {0} is not that of an index of maps")]
     WrongLine(u64),
-    /// The line with this number is the first that names a dictionary, and doesn't end with the checksum of its map.
+    /// The line with this number is the first that names a dictionary, and doesn't
+    /// end with the checksum of its map.
     #[error("line {0} does not end with the checksum of a map, two numbers of sixteen digits")]
     NoChecksum(u64),
     /// An allocation failed.

@@ -1,2 +1,2 @@
-//! What a dictionary is, by its bytes.
+//! The identity of a dictionary, from the bytes of its frozen table.
 pub use intaglio_column_file::id_of_table;

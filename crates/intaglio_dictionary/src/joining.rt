@@ -13,14 +13,14 @@ use std::alloc::{AllocError, Global};
 // How many symbols there may be: fewer than the code of a missing string.
 const MOST: usize = u32::MAX as usize;
 
-/// The map from one dictionary in shards to another, by the map of each shard and the number of strings of each new one:
-/// what [`renumber_column`](crate::columns::renumber_column) takes for codes of the first one. By
-/// [`joining_law`](intaglio_merge::laws::joining_law) it leads to the same strings.
+/// The map from one dictionary in shards to another, by the map of each shard and the number of strings of
+/// each new one: what [`renumber_column`](crate::columns::renumber_column) takes for codes of the first one.
+/// By [`joining_law`](intaglio_merge::laws::joining_law) it leads to the same strings.
 ///
 /// # Errors
 ///
-/// `NoString` for the first map with a number that isn't below the number of strings of its shard, `TooMany` if the
-/// shards have 2^32 strings or more, or a map has as many codes, `Memory` if an allocation fails.
+/// `NoString` for the first map with a number that isn't below the number of strings of its shard, `TooMany`
+/// if the shards have 2^32 strings or more, or a map has as many codes, `Memory` if an allocation fails.
 pub fn join_maps(
     alloc: Global,
     maps: &[CodeMap<'_>],
@@ -40,8 +40,8 @@ pub fn join_maps(
 }
 
 /// The map from a part to merged shards, by the part's own map, which leads to its shards
-/// ([`split_map`](intaglio_merge::split_map)), and [`join_maps`] of the maps that lead from these to the merged ones.
-/// By [`map_law`](intaglio_merge::laws::map_law) it leads to the same strings.
+/// ([`split_map`](intaglio_merge::split_map)), and [`join_maps`] of the maps that lead from these to the
+/// merged ones. By [`map_law`](intaglio_merge::laws::map_law) it leads to the same strings.
 ///
 /// # Errors
 ///

@@ -1,5 +1,5 @@
-//! Makes a dictionary, a frozen table in a file, and answers what is asked of one: the symbols of the lines of an
-//! input, the strings of symbols, all strings, and how large they are.
+//! Makes a dictionary, a frozen table in a file, and answers what is asked of one: the symbols of the lines
+//! of an input, the strings of symbols, all strings, and how large they are.
 #![tactic(auto)]
 
 pub mod answer;
@@ -11,6 +11,7 @@ mod encoding;
 pub mod error;
 pub mod freezing;
 pub mod identity;
+pub mod interning;
 pub mod joining;
 pub mod look_up;
 pub mod map_index;

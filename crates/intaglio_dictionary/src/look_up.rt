@@ -21,8 +21,8 @@ use intaglio_symbol::Symbol;
 use std::alloc::Global;
 use std::io::{Read, Write};
 
-/// Looks up each line of an input, and writes its symbol, or a dash if it isn't found. Returns whether each line
-/// was found.
+/// Looks up each line of an input, and writes its symbol, or a dash if it isn't found.
+/// Returns whether each line was found.
 ///
 /// The whole input is read before anything is written.
 ///
@@ -59,9 +59,9 @@ fn are_all_there(found: &[Option<Symbol>]) -> bool
 ///
 /// # Errors
 ///
-/// `NoString` for the first symbol that no string has, before anything is written; `Memory` or `Write`. After
-/// each but `Write` nothing was written. If the dictionary isn't whole, `NoString` also for a symbol whose string
-/// isn't there.
+/// `NoString` for the first symbol that no string has, before anything is written; `Memory` or `Write`.
+/// After each but `Write` nothing was written. If the dictionary isn't whole, `NoString` also for a
+/// symbol whose string isn't there.
 pub fn write_strings<D: Dictionary, W: Write>(
     alloc: Global,
     table: &D,

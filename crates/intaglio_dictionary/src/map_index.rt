@@ -1,9 +1,11 @@
-//! Which dictionaries the maps of a merge lead from and to, and a checksum of each map, in a file in their folder.
+//! Which dictionaries the maps of a merge lead from and to, and a checksum of each
+//! map, in a file in their folder.
 ghost use Rattle.std.specs.Prelude.{◌≡◌, ◌↔◌, ◌++◌, ℕ, List, length, All, IfErr, IfOk, IfSome, IsTrue, MatchOption, MatchResult, OnOk};
 ghost use Rattle.std.specs.List.{flat_map};
 ghost use Rattle.intaglio_column_file.specs.declared.id.DictionaryId.{DictionaryId};
 ghost use Rattle.intaglio_dictionary.specs.Columns.{code_bytes};
-ghost use Rattle.intaglio_dictionary.specs.MapIndex.{AreMapsInto, HasHashes, HasMapNumbers, IsMapIndexFault, IsMapLineFault, IsMapTextFault, Leads, checksum_end, checksum_of, hash_under, indexed_map, map_index_text, map_line};
+ghost use Rattle.intaglio_frozen.specs.LookUp.{hash_under};
+ghost use Rattle.intaglio_dictionary.specs.MapIndex.{AreMapsInto, HasHashes, HasMapNumbers, IsMapIndexFault, IsMapLineFault, IsMapTextFault, Leads, checksum_end, checksum_of, indexed_map, map_index_text, map_line};
 ghost use Rattle.intaglio_dictionary.specs.declared.map_index.Checksum.{Checksum};
 ghost use Rattle.intaglio_dictionary.specs.declared.map_index.IndexedMap.{IndexedMap};
 ghost use Rattle.intaglio_dictionary.specs.declared.error.MapTextError.TheVariants.{Memory};
@@ -66,7 +68,7 @@ impl Checksum {
 
 // The hash of bytes under 0 and another key.
 fn hash_under(key1: u64, bytes: &[u8]) -> u64
-    ensures { result ≡ hash_under key1 bytes.now }
+    ensures { result ≡ hash_under 0 key1 bytes.now }
 {
     let mut hasher = KeyedHasher::with_keys(0, key1);
     hasher.write(bytes);
@@ -83,8 +85,8 @@ pub struct IndexedMap {
 }
 
 impl IndexedMap {
-    /// What an index says of the map with these codes, which leads from this dictionary. The checksum is that of the
-    /// bytes which [`write_codes`](crate::merging::write_codes) writes of the codes.
+    /// What an index says of the map with these codes, which leads from this dictionary. The checksum is that
+    /// of the bytes which [`write_codes`](crate::merging::write_codes) writes of the codes.
     ///
     /// ```
     /// # use intaglio_column_file::DictionaryId;
@@ -111,7 +113,7 @@ impl IndexedMap {
 
 // The hash of the bytes of codes, under 0 and another key.
 fn hash_codes(key1: u64, codes: &[Symbol]) -> u64
-    ensures { result ≡ hash_under key1 (flat_map code_bytes codes.now) }
+    ensures { result ≡ hash_under 0 key1 (flat_map code_bytes codes.now) }
 {
     let mut hasher = KeyedHasher::with_keys(0, key1);
     for code in codes {
@@ -129,8 +131,8 @@ pub struct MapIndex {
     pub into: DictionaryId,
 }
 
-/// The text that says from which dictionaries maps lead, in the order of the maps, with a checksum of each, and to
-/// which one. [`read_map_index`] reads it.
+/// The text that says from which dictionaries maps lead, in the order of the maps, with a checksum of each,
+/// and to which one. [`read_map_index`] reads it.
 ///
 /// # Errors
 ///
@@ -155,8 +157,9 @@ pub fn write_map_index(
 ///
 /// # Errors
 ///
-/// `NoChecksum` if the first line that is wrong begins with a dictionary, and doesn't end with a checksum behind it, as
-/// it must; `WrongLine` for another text that isn't such an index; `Memory` if an allocation fails.
+/// `NoChecksum` if the first line that is wrong begins with a dictionary, and doesn't end with a
+/// checksum behind it, as it must; `WrongLine` for another text that isn't such an index;
+/// `Memory` if an allocation fails.
 ///
 /// ```
 /// # use intaglio_column_file::DictionaryId;
@@ -250,8 +253,8 @@ fn put_map(indexed: &IndexedMap, text: &mut Vec<u8>) -> Result<(), AllocError>
 ///
 /// # Errors
 ///
-/// `NoMap` if there is no such map, `OtherFrom` if it leads from another dictionary, `OtherInto` if the maps lead to
-/// another one.
+/// `NoMap` if there is no such map, `OtherFrom` if it leads from another dictionary, `OtherInto`
+/// if the maps lead to another one.
 ///
 /// ```
 /// # use intaglio_column_file::DictionaryId;
@@ -275,7 +278,8 @@ pub fn check_map(
     into: &DictionaryId,
 ) -> Result<Checksum, MapIndexError>
     ensures leads { IfOk result (Leads index.now.maps.items index.now.into number from.now into.now) }
-    ensures err { IfErr result (IsMapIndexFault index.now.maps.items index.now.into number from.now into.now) }
+    ensures err { IfErr result (IsMapIndexFault index.now.maps.items index.now.into number from.now
+        into.now) }
 {
     let count = index.maps.len();
     if number >= count {

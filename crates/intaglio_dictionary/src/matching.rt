@@ -18,8 +18,8 @@ use std::alloc::{AllocError, Global};
 use std::io;
 use std::io::Write;
 
-/// A filter that selects the rows with one of these strings, or, if it inverts, all others. The string of a row is
-/// told by its code.
+/// A filter that selects the rows with one of these strings, or, if it inverts, all others. The
+/// string of a row is told by its code.
 ///
 /// # Errors
 ///
@@ -31,7 +31,8 @@ pub fn filter_of<D: Dictionary>(
     strings: &[&str],
     inverts: bool,
 ) -> Result<RowFilter, AllocError>
-    ensures strings { let Are = AreMarked (strings_of column.now) (D.strings table.now) (D.is_whole table.now) in
+    ensures strings { let Are = AreMarked (strings_of column.now) (D.strings table.now)
+        (D.is_whole table.now) in
         IfOk result (λ filter. Are (map (λ s. s.now) strings.now) filter.strings.items) }
     ensures missing { IfOk result (λ filter. filter.missing ≡ false) }
     ensures inverts { IfOk result (λ filter. filter.inverts ≡ inverts) }

@@ -1,4 +1,4 @@
-//! What a merge says of a shard, in a file beside the shard's own, and when such shards are joined.
+//! The file that a merge writes beside a merged shard, and whether shards can be joined by these files.
 ghost use Rattle.std.specs.Prelude.{◌≡◌, ◌≤◌, ◌<◌, ◌^◌, ◌++◌, ℕ, List, length, map, slice_get, IfErr, IfOk, IfSome, MatchOption, OnOk, Some};
 ghost use Rattle.intaglio_merge.specs.Merging.{missing};
 ghost use Rattle.intaglio_dictionary.specs.MergedShard.{AreOneMerge, FitsAt, HasMergedNumbers, IsJoinFault, MergedAreShards, merged_text, number_part, size_part, strings_in};
@@ -212,7 +212,8 @@ fn first_number_part(text: &[u8]) -> Option<(u64, u64, &[u8])>
 #[tactic(auto, unfolding(crate::specs::MergedShard::size_part))]
 fn first_size_part(text: &[u8]) -> Option<(u64, u64, u64, &[u8])>
     ensures read { IfSome result (λ found. text.now ≡ size_part found.0 found.1 found.2 ++ found.3.now) }
-    ensures written { (parts0 parts1 size : ℕ) (tail : List ℕ) → parts0 < 2 ^ 64 → parts1 < 2 ^ 64 → size < 2 ^ 64
+    ensures written { (parts0 parts1 size : ℕ) (tail : List ℕ) → parts0 < 2 ^ 64 → parts1 < 2 ^ 64 →
+        size < 2 ^ 64
         → text.now ≡ size_part parts0 parts1 size ++ tail
         → MatchOption result ⊥ (λ found. (found.0 ≡ parts0) × (found.1 ≡ parts1) × (found.2 ≡ size)
         × (found.3.now ≡ tail)) }

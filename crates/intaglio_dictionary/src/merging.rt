@@ -24,18 +24,16 @@ use std::alloc::Global;
 use std::hash::BuildHasher;
 use std::io::Write;
 
-/// Writes a frozen table of the distinct strings of several, in the order of their first occurrences, and returns
-/// for each the symbols of its strings: the map by which its codes are renumbered.
+/// Writes a frozen table of the distinct strings of several, in the order of their first occurrences, and
+/// returns for each the symbols of its strings: the map by which its codes are renumbered.
 ///
-/// The builder is that of the table in which the strings are interned; the keys are those of the frozen table, as
-/// for [`freeze_lines`](crate::freezing::freeze_lines), or, if none are given, as for
-/// [`freeze_lines_with_default_keys`](crate::freezing::freeze_lines_with_default_keys). All is made before anything
-/// is written.
+/// The builder is that of the table in which the strings are interned. The keys are as for
+/// [`freeze_lines`](crate::freezing::freeze_lines). All is made before anything is written.
 ///
 /// # Errors
 ///
-/// `Table` if the strings have no frozen table of this kind; `Memory` or `Write`. After each but `Write` nothing
-/// was written.
+/// `Table` if the strings have no frozen table of this kind; `Memory` or `Write`. After
+/// each but `Write` nothing was written.
 pub fn merge<S: BuildHasher + Drop, W: Write, P: Progress>(
     alloc: Global,
     tables: &[Frozen<'_>],
@@ -47,7 +45,8 @@ pub fn merge<S: BuildHasher + Drop, W: Write, P: Progress>(
 ) -> Result<Vec<Vec<Symbol>>, FreezingError>
     ensures written { let strings = union tables.now in
         OnOk result (WritesTable kind (HasKeysFor keys strings) strings W.contents writer.old writer.new) }
-    ensures maps { IfOk result (λ maps. AreMaps tables.now (union tables.now) (map (λ m. m.items) maps.items)) }
+    ensures maps { IfOk result
+        (λ maps. AreMaps tables.now (union tables.now) (map (λ m. m.items) maps.items)) }
     ensures err { IfErr result (IsMergingRefusal kind (union tables.now)) }
     ensures nothing_written { IfErr result (λ e. e ≢ Stream WriteFailed → writer.new ≡ writer.old) }
 {
@@ -69,7 +68,8 @@ pub(crate) fn frozen_union<S: BuildHasher + Drop, P: Progress>(
 ) -> Result<(Vec<u8>, Vec<Vec<Symbol>>), FreezingError>
     ensures table { IfOk result (λ made. IsTableOf kind (union tables.now) made.0.items) }
     ensures keyed { IfOk result (λ made. HasKeysFor keys (union tables.now) made.0.items) }
-    ensures maps { IfOk result (λ made. AreMaps tables.now (union tables.now) (map (λ m. m.items) made.1.items)) }
+    ensures maps { IfOk result
+        (λ made. AreMaps tables.now (union tables.now) (map (λ m. m.items) made.1.items)) }
     ensures err { IfErr result (IsUnionRefusal kind (union tables.now)) }
 {
     let merged = merged_tables(alloc, tables, builder)?;
@@ -109,7 +109,8 @@ pub fn write_codes<W: Write>(
 ) -> Result<(), StreamError>
     ensures written { OnOk result
         (Writes W.contents writer.old writer.new (flat_map code_bytes codes.now)) }
-    ensures read { All (λ code. code < 2 ^ 32) codes.now → codes_of (flat_map code_bytes codes.now) ≡ codes.now }
+    ensures read { All (λ code. code < 2 ^ 32) codes.now →
+        codes_of (flat_map code_bytes codes.now) ≡ codes.now }
     ensures nothing_written { IfErr result (λ e. e ≢ WriteFailed → writer.new ≡ writer.old) }
     ensures err { IfErr result IsWritingError }
 {

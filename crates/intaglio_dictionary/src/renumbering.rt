@@ -1,5 +1,5 @@
 //! Renumbers a column file by a map of a merge.
-ghost use Rattle.std.specs.Prelude.{◌≡◌, ℕ, List, IfErr, IfOk};
+ghost use Rattle.std.specs.Prelude.{◌≡◌, ℕ, List, length, IfErr, IfOk, OnOk};
 ghost use Rattle.intaglio_merge.specs.Merging.{renumber};
 ghost use Rattle.intaglio_column_file.specs.IsColumn.{Describes, IsColumn};
 ghost use Rattle.intaglio_column_file.specs.Layout.{codes, strings as strings_of};
@@ -10,14 +10,14 @@ use crate::error::RenumberError;
 use intaglio_column_file::{CodeList, Column, DictionaryId, column_bytes};
 use std::alloc::Global;
 
-/// The bytes of the column file that has the new code of each row by a map, under the dictionary into which the
-/// column's own was merged. Missing rows stay missing. If the map is the one that the merge gave, each row has the line
-/// that it had.
+/// The bytes of the column file that has the new code of each row by a map, under the dictionary into
+/// which the column's own was merged. Missing rows stay missing. If the map is the one that the merge
+/// gave, each row has the line that it had.
 ///
 /// # Errors
 ///
-/// `OtherLength` if the map has another number of codes than the column's dictionary has strings; `NoString` for the
-/// first row whose new code isn't that of a string, `TooMany` or `Memory` as for
+/// `OtherLength` if the map has another number of codes than the column's dictionary has strings; `NoString`
+/// for the first row whose new code isn't that of a string, `TooMany` or `Memory` as for
 /// [`column_bytes`](intaglio_column_file::column_bytes).
 pub fn renumber_file(
     alloc: Global,
@@ -30,6 +30,7 @@ pub fn renumber_file(
     ensures id { IfOk result (λ bytes. Describes bytes.items merged) }
     ensures codes { IfOk result (λ bytes. codes bytes.items ≡ renumber map.now (codes column.now)) }
     ensures lines { IfOk result (λ bytes. KeepsLines map.now (codes column.now) (codes bytes.items)) }
+    ensures fits { OnOk result (length map.now ≡ strings_of column.now) }
     ensures err { IfErr result
         (IsRenumberingRefusal map.now (strings_of column.now) merged.count (codes column.now)) }
 {

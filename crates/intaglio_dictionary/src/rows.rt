@@ -1,11 +1,11 @@
 //! Writes lines of a column file by the numbers of their rows.
-ghost use Rattle.std.specs.Prelude.{◌≡◌, ◌≢◌, ◌++◌, ◌≤◌, ◌==◌, cond, is_some, length, option_map, slice_get, IfErr, IfOk, IfSome, OnErr, OnOk};
+ghost use Rattle.std.specs.Prelude.{◌≡◌, ◌≢◌, ◌++◌, ◌<◌, ◌≤◌, ◌==◌, cond, is_some, length, option_map, slice_get, IfErr, IfOk, IfSome, OnErr, OnOk};
 ghost use Rattle.std.specs.List.{flat_map};
 ghost use Rattle.intaglio_lines.specs.Output.{spelling_line};
 ghost use Rattle.intaglio_lines.specs.Puts.{Writes};
 ghost use Rattle.intaglio_lines.specs.declared.error.StreamError.TheVariants.{Write as WriteFailed};
 ghost use Rattle.intaglio_column_file.specs.Layout.{codes};
-ghost use Rattle.intaglio_dictionary.specs.Rows.{IsRowsFault, has_line, lines_between, row_lines, string_at};
+ghost use Rattle.intaglio_dictionary.specs.Rows.{IsRangeFault, IsRowsFault, has_line, lines_between, row_lines, string_at};
 ghost use Rattle.intaglio_dictionary.specs.declared.error.RowsError.TheVariants.{Stream};
 
 use crate::codes::MISSING;
@@ -28,15 +28,16 @@ pub struct RowRange {
     pub last: usize,
 }
 
-/// Writes the line of each row of these ranges, one range after the other. If `missing` is a text, it is the line of
-/// missing rows.
+/// Writes the line of each row of these ranges, one range after the other. If `missing` is a
+/// text, it is the line of missing rows.
 ///
 /// A list of the lines is made before anything is written.
 ///
 /// # Errors
 ///
-/// `NoRow` for the last row of a range if it isn't there; `NoLine` for a row whose code has no string, and for a
-/// missing row unless `missing` is a text; `Memory` or `Write`. After each but `Write` nothing was written.
+/// `NoRow` for the last row of the first range whose last row isn't there; `NoLine` for a row of a range
+/// whose code has no string, and for a missing row unless `missing` is a text; `Memory` or `Write`. After
+/// each but `Write` nothing was written.
 ///
 /// ```
 /// # use intaglio::SymbolTable;
@@ -67,7 +68,8 @@ pub fn write_rows<D: Dictionary, W: Write>(
         let lines = row_lines (D.strings table.now) text (codes column.now) ranges.now in
         OnOk result (Writes W.contents writer.old writer.new lines) }
     ensures err { let text = option_map (λ t. t.now) missing.entry in
-        IfErr result (IsRowsFault (D.strings table.now) (D.is_whole table.now) text (codes column.now)) }
+        let fault = IsRowsFault (D.strings table.now) (D.is_whole table.now) text (codes column.now) in
+        IfErr result (fault ranges.now) }
     ensures nothing_written { IfErr result (λ e. e ≢ Stream WriteFailed → writer.new ≡ writer.old) }
 {
     let lines = lines_of_rows(alloc, table, column, ranges, missing)?;
@@ -87,7 +89,8 @@ fn lines_of_rows<'a, D: Dictionary>(
         let lines = row_lines (D.strings table.now) text (codes column.now) ranges.now in
         IfOk result (λ strings. flat_map (λ string. spelling_line string.now) strings.items ≡ lines) }
     ensures err { let text = option_map (λ t. t.now) missing.entry in
-        IfErr result (IsRowsFault (D.strings table.now) (D.is_whole table.now) text (codes column.now)) }
+        let fault = IsRowsFault (D.strings table.now) (D.is_whole table.now) text (codes column.now) in
+        IfErr result (fault ranges.now) }
 {
     let mut lines = Vec::new(alloc);
     for range in ranges {
@@ -109,7 +112,9 @@ fn add_lines<'a, D: Dictionary>(
         OnOk result (flat_map (λ string. spelling_line string.now) lines.new.items
         ≡ flat_map (λ string. spelling_line string.now) lines.old.items ++ more) }
     ensures err { let text = option_map (λ t. t.now) missing.entry in
-        IfErr result (IsRowsFault (D.strings table.now) (D.is_whole table.now) text (codes column.now)) }
+        let fault = IsRangeFault (D.strings table.now) (D.is_whole table.now) text (codes column.now) in
+        IfErr result (fault range) }
+    ensures within { OnOk result (range.last < length (codes column.now)) }
 {
     if range.last >= column.len() {
         return Err(RowsError::NoRow(range.last as u64));

@@ -17,7 +17,8 @@ const DIGITS: usize = 16;
 /// Why a text is no index.
 #[derive(Clone, Copy, Debug, PartialEq, Eq, Error)]
 pub enum IndexError {
-    /// The line with this number, counted from 1, is the first that isn't as it must be, or that is one too many.
+    /// The line with this number, counted from 1, is the first that isn't as it
+    /// must be, or that is one too many.
     #[error("line {0} is not that of an index of shards")]
     WrongLine(u64),
     /// An allocation failed.
@@ -88,7 +89,8 @@ pub fn read_index(alloc: Global, text: &[u8]) -> Result<Vec<DictionaryId>, Index
 #[tactic(auto, unfolding(crate::specs::ShardIndex::heading))]
 pub(crate) fn first_count<'a>(text: &'a [u8], start: &[u8]) -> Option<(u64, &'a [u8])>
     ensures read { IfSome result (λ found. text.now ≡ heading start.now found.0 ++ found.1.now) }
-    ensures written { (count : ℕ) (tail : List ℕ) → count < 2 ^ 64 → text.now ≡ heading start.now count ++ tail
+    ensures written { (count : ℕ) (tail : List ℕ) → count < 2 ^ 64 →
+        text.now ≡ heading start.now count ++ tail
         → MatchOption result ⊥ (λ found. (found.0 ≡ count) × (found.1.now ≡ tail)) }
 {
     let Some(rest) = behind(text, start) else {
@@ -194,7 +196,8 @@ fn digits_of(number: u64) -> [u8; DIGITS]
 
 // What is behind the front of a text, if it has that front.
 pub(crate) fn behind<'a>(text: &'a [u8], front: &[u8]) -> Option<&'a [u8]>
-    ensures { MatchOption result ((rest : List ℕ) → text.now ≢ front.now ++ rest) (λ rest. text.now ≡ front.now ++ rest.now) }
+    ensures { MatchOption result ((rest : List ℕ) → text.now ≢ front.now ++ rest)
+        (λ rest. text.now ≡ front.now ++ rest.now) }
 {
     text.strip_prefix(front)
 }

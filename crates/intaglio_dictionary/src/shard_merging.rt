@@ -31,12 +31,13 @@ pub struct NewShard {
     pub maps: Vec<Vec<Symbol>>,
     /// Which shard it is, how many bytes it has, and what its dictionary is.
     pub shard: MergedShard,
-    /// The text of that, for the file beside the table. [`read_merged`](crate::merged_shard::read_merged) reads it.
+    /// The text of that, for the file beside the table.
+    /// [`read_merged`](crate::merged_shard::read_merged) reads it.
     pub line: Vec<u8>,
 }
 
-/// Merges the same shard of several parts, each of which is a frozen table: into one of the distinct strings, in the
-/// order of their first occurrences, with a map for each part.
+/// Merges the same shard of several parts, each of which is a frozen table: into one of the distinct strings,
+/// in the order of their first occurrences, with a map for each part.
 ///
 /// Each string must belong to this shard. So the shards of one merge, joined, are one dictionary
 /// ([`merged_shards_law`](crate::merged_shard::merged_shards_law)). Kind, keys and builder are as for
@@ -44,8 +45,8 @@ pub struct NewShard {
 ///
 /// # Errors
 ///
-/// `NoShard` if the place isn't that of a shard, `Misplaced` for a string that belongs to another shard, `Strings` if
-/// the strings have no frozen table of this kind, or if an allocation fails.
+/// `NoShard` if the place isn't that of a shard, `Misplaced` for a string that belongs to another shard,
+/// `Strings` if the strings have no frozen table of this kind, or if an allocation fails.
 ///
 /// ```
 /// use anyhow::Result;
@@ -91,7 +92,8 @@ pub fn merge_shard<S: BuildHasher + Drop, P: Progress>(
 ) -> Result<NewShard, ShardMergeError>
     ensures table { IfOk result (λ made. IsTableOf kind (union parts.now) made.bytes.items) }
     ensures keyed { IfOk result (λ made. HasKeysFor keys (union parts.now) made.bytes.items) }
-    ensures maps { IfOk result (λ made. AreMaps parts.now (union parts.now) (map (λ m. m.items) made.maps.items)) }
+    ensures maps { IfOk result
+        (λ made. AreMaps parts.now (union parts.now) (map (λ m. m.items) made.maps.items)) }
     ensures shard { IfOk result (λ made. IsShardIn place made.bytes.items made.shard) }
     ensures line { IfOk result (λ made. made.line.items ≡ merged_text made.shard) }
     ensures own { OnOk result (BelongTo place.count place.number (union parts.now)) }

@@ -69,7 +69,8 @@ pub(crate) fn strings_of<'a, D: Dictionary>(
 ) -> Result<Vec<&'a [u8]>, DictionaryError>
     requires { AreSymbols symbols.now (D.strings table.now) }
     ensures lines { IfOk result (λ strings.
-        flat_map (λ string. spelling_line string.now) strings.items ≡ decoded symbols.now (D.strings table.now)) }
+        flat_map (λ string. spelling_line string.now) strings.items
+        ≡ decoded symbols.now (D.strings table.now)) }
     ensures err { D.is_whole table.now → IfErr result (λ e. e ≡ Stream Memory) }
 {
     let mut strings = Vec::new(alloc);

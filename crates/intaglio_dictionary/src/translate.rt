@@ -44,8 +44,8 @@ pub trait Translator {
 
     ghost no_pieces: { pieces [] ≡ [] };
 
-    /// Where the first piece of the bytes ends, whatever may follow them, and where the rest begins. If there is
-    /// none, the bytes are a part of a piece, or the last piece of an input.
+    /// Where the first piece of the bytes ends, whatever may follow them, and where the rest begins. If there
+    /// is none, the bytes are a part of a piece, or the last piece of an input.
     fn first(bytes: &[u8]) -> Option<(usize, usize)>
         ensures whole { IfSome result (λ cut.
             StartsWith pieces bytes.now (take cut.0 bytes.now ∷ []) (drop cut.1 bytes.now)) }
@@ -54,12 +54,12 @@ pub trait Translator {
         ensures within { IfSome result (λ cut. cut.1 ≤ length bytes.now) }
         ensures none { result ≡ None → pieces bytes.now ≡ last_piece bytes.now };
 
-    /// Reads what the translation of pieces that come soon will read, so that their cache misses overlap: these are
-    /// the bytes from `at` on. Called before each piece is translated.
+    /// Reads what the translation of pieces that come soon will read, so that their cache misses overlap:
+    /// these are the bytes from `at` on. Called before each piece is translated.
     fn look_ahead(&self, bytes: &[u8], at: usize);
 
-    /// Writes what a piece is translated to, and returns whether it can be translated. If it can't be, nothing is
-    /// written.
+    /// Writes what a piece is translated to, and returns whether it can be translated. If
+    /// it can't be, nothing is written.
     fn put<W: Write>(&self, piece: &[u8], block: &mut Vec<u8>, writer: &mut W) -> io::Result<bool>
         ensures fits { IfOk result (λ fit. fit ≡ fits self.now piece.now) }
         ensures put { result ≡ Ok true →
@@ -71,9 +71,9 @@ pub trait Translator {
 
 /// How the pieces at the front of bytes are translated: one by one, as by [`translate_pieces`], or in groups.
 pub trait FrontTranslator: Translator {
-    /// Writes what the pieces at the front of the bytes are translated to, but for a last one that may go on. Returns
-    /// where that begins, and how many were translated with those before. No piece ends within the first `seen`
-    /// bytes, so they needn't be searched again.
+    /// Writes what the pieces at the front of the bytes are translated to, but for a last one that may go on.
+    /// Returns where that begins, and how many were translated with those before. No piece ends within the
+    /// first `seen` bytes, so they needn't be searched again.
     ///
     /// # Errors
     ///
@@ -98,19 +98,20 @@ pub trait FrontTranslator: Translator {
         ensures misfit { let Stops = StopsIn Self.pieces (Self.fits self.now) (Self.translated self.now) in
             IfErr result (Stops (W.contents writer.old) block.old.items bytes.now number) }
         ensures part { let Part = WritesIn Self.pieces (Self.fits self.now) (Self.translated self.now) in
-            OnErr result (Part (W.contents writer.old) block.old.items bytes.now number (W.contents writer.new)) };
+            OnErr result
+            (Part (W.contents writer.old) block.old.items bytes.now number (W.contents writer.new)) };
 }
 
 /// Reads an input to its end, writes what its pieces are translated to, and returns how many there are, or
 /// `u64::MAX` if there are more.
 ///
-/// The input is read in blocks of 64 KiB, and what is written is buffered in one; a part of a piece is kept until
-/// the piece is whole. The bytes of a piece are searched for its end once.
+/// The input is read in blocks of 64 KiB, and what is written is buffered in one; a part of a piece is kept
+/// until the piece is whole. The bytes of a piece are searched for its end once.
 ///
 /// # Errors
 ///
-/// `Misfit` for the first piece that can't be translated, `Memory`, `Read` or `Write`. What was written then is the
-/// front of what the pieces before that one are translated to.
+/// `Misfit` for the first piece that can't be translated, `Memory`, `Read` or `Write`. What was written then
+/// is the front of what the pieces before that one are translated to.
 pub fn translate<T: FrontTranslator, R: Read, W: Write>(
     alloc: Global,
     translator: &T,
@@ -140,8 +141,8 @@ pub fn translate<T: FrontTranslator, R: Read, W: Write>(
     }
 }
 
-// Reads an input to its end, translates its pieces but for a last one that may go on, and returns that and how
-// many were translated.
+// Reads an input to its end, translates its pieces but for a last one that may go on, and returns
+// that and how many were translated.
 fn translate_whole<T: FrontTranslator, R: Read, W: Write>(
     alloc: Global,
     translator: &T,
@@ -150,7 +151,8 @@ fn translate_whole<T: FrontTranslator, R: Read, W: Write>(
     writer: &mut W,
 ) -> Result<(Vec<u8>, u64), TranslateError>
     requires { block.old.items ≡ [] }
-    ensures ok { IfOk result (λ end. HasTranslated T.pieces (T.fits translator.now) (T.translated translator.now)
+    ensures ok { IfOk result
+        (λ end. HasTranslated T.pieces (T.fits translator.now) (T.translated translator.now)
         (R.remaining reader.old) (W.contents writer.old) (W.contents writer.new) block.new.items
         end.0.items (R.remaining reader.new) end.1) }
     ensures last { IfOk result (λ end. T.pieces end.0.items ≡ last_piece end.0.items) }
@@ -174,9 +176,12 @@ fn translate_whole<T: FrontTranslator, R: Read, W: Write>(
     Err(TranslateError::Stream(StreamError::Read))
 }
 
-// Reads some bytes more, which are appended, and returns whether there may be others. An interrupted read gives
-// none.
-fn read_more<R: Read>(reader: &mut R, bytes: &mut Vec<u8>) -> Result<bool, TranslateError>
+// Reads some bytes more, which are appended, and returns whether there may be others.
+// An interrupted read gives none.
+pub(crate) fn read_more<R: Read>(
+    reader: &mut R,
+    bytes: &mut Vec<u8>,
+) -> Result<bool, TranslateError>
     ensures read { OnOk result
         (ReadsMore (R.remaining reader.old) (R.remaining reader.new) bytes.old.items bytes.new.items) }
     ensures same { IfOk result (λ more. more ≡ false → bytes.new.items ≡ bytes.old.items) }
@@ -201,8 +206,8 @@ fn read_more<R: Read>(reader: &mut R, bytes: &mut Vec<u8>) -> Result<bool, Trans
     }
 }
 
-// Translates the pieces at the front of the bytes, which are removed, and returns how many were translated with
-// those before them.
+// Translates the pieces at the front of the bytes, which are removed, and returns how many were
+// translated with those before them.
 fn translate_front<T: FrontTranslator, W: Write>(
     alloc: Global,
     translator: &T,
@@ -221,7 +226,8 @@ fn translate_front<T: FrontTranslator, W: Write>(
     ensures misfit { let Stops = StopsIn T.pieces (T.fits translator.now) (T.translated translator.now) in
         IfErr result (Stops (W.contents writer.old) block.old.items bytes.old.items number) }
     ensures part { let Part = WritesIn T.pieces (T.fits translator.now) (T.translated translator.now) in
-        OnErr result (Part (W.contents writer.old) block.old.items bytes.old.items number (W.contents writer.new)) }
+        OnErr result (Part (W.contents writer.old) block.old.items bytes.old.items number
+        (W.contents writer.new)) }
 {
     let (size, count) = translator.put_front(alloc, bytes, seen, number, block, writer)?;
     drop_front(bytes, size);
@@ -260,7 +266,8 @@ pub fn translate_pieces<T: Translator, W: Write>(
     Ok((at, count))
 }
 
-// Translates the last piece of an input, if there is one, and returns how many were translated with those before.
+// Translates the last piece of an input, if there is one, and returns how many
+// were translated with those before.
 fn translate_last<T: Translator, W: Write>(
     translator: &T,
     last: &[u8],
@@ -273,11 +280,13 @@ fn translate_last<T: Translator, W: Write>(
         IfOk result (λ count. (input old left : Option (List ℕ)) → IsAtEnd left →
         Before input old (W.contents writer.old) block.old.items last.now left number →
         Before input old (W.contents writer.new) block.new.items [] left count) }
-    ensures misfit { let Before = HasTranslated T.pieces (T.fits translator.now) (T.translated translator.now) in
+    ensures misfit { let Before = HasTranslated T.pieces (T.fits translator.now)
+        (T.translated translator.now) in
         IfErr result (λ e. (input old left : Option (List ℕ)) → IsAtEnd left →
         Before input old (W.contents writer.old) block.old.items last.now left number →
         IfSome input (λ input. ReportsMisfit (T.fits translator.now) e (T.pieces input))) }
-    ensures part { let Before = HasTranslated T.pieces (T.fits translator.now) (T.translated translator.now) in
+    ensures part { let Before = HasTranslated T.pieces (T.fits translator.now)
+        (T.translated translator.now) in
         let Part = WritesPart (T.fits translator.now) (T.translated translator.now) in
         OnErr result ((input old left : Option (List ℕ)) → IsAtEnd left →
         Before input old (W.contents writer.old) block.old.items last.now left number →
@@ -303,7 +312,8 @@ fn put_piece<T: Translator, W: Write>(
     ensures count { IfOk result (λ count. count ≡ min (number + 1) (2 ^ 64 - 1)) }
     ensures misfit { IfErr result (λ e. ReportsPiece (T.fits translator.now) e piece.now number) }
     ensures front { T.fits translator.now piece.now ≡ true →
-        WritesFront W.contents writer.old writer.new (block.old.items ++ T.translated translator.now piece.now) }
+        WritesFront W.contents writer.old writer.new
+        (block.old.items ++ T.translated translator.now piece.now) }
     ensures unfit { T.fits translator.now piece.now ≡ false → writer.new ≡ writer.old }
 {
     match translator.put(piece, block, writer) {
@@ -323,7 +333,7 @@ fn write_out<W: Write>(block: &[u8], writer: &mut W) -> io::Result<()>
 }
 
 // Removes the first bytes. If there are none to be removed, the others aren't moved.
-fn drop_front(bytes: &mut Vec<u8>, size: usize)
+pub(crate) fn drop_front(bytes: &mut Vec<u8>, size: usize)
     requires { size ≤ length bytes.old.items }
     ensures { bytes.new.items ≡ drop size bytes.old.items }
 {

@@ -12,7 +12,8 @@ abbrev pub Encodes : {W : Type 0} → Kind → Option (List ℕ) → (W → Opti
 Encodes kind known contents old new = IfSome known (λ input. Writes contents old new (encoded kind input))
 
 -- the same, for the kind that the arguments name
-abbrev pub EncodesBy : {W Z : Type 0} → List (String Z) → Option (List ℕ) → (W → Option (List ℕ)) → W → W → Type 0
+abbrev pub EncodesBy : {W Z : Type 0} → List (String Z) → Option (List ℕ) → (W → Option (List ℕ)) →
+    W → W → Type 0
 EncodesBy words known contents old new =
     IfSome (kind_of_words (map string_bytes words)) (λ kind. Encodes kind known contents old new)
 
@@ -31,7 +32,8 @@ Accepts kind input = Allows kind input × AllLinesFit (is_fit kind) input
 -- the status is 1, and nothing is written, if the input isn't one that the kind of the arguments accepts
 abbrev pub RefusesBy : {W Z : Type 0} → List (String Z) → Option (List ℕ) → ℕ → W → W → Type 0
 RefusesBy words known status old new =
-    IfSome (kind_of_words (map string_bytes words)) (λ kind. IfSome known (λ input. ¬ (Accepts kind input) → (status ≡ 1) × (new ≡ old)))
+    IfSome (kind_of_words (map string_bytes words)) (λ kind. IfSome known (λ input. ¬ (Accepts kind input) →
+    (status ≡ 1) × (new ≡ old)))
 
 -- there are more distinct lines than symbols
 abbrev pub IsTooMany : Kind → List ℕ → Type 0

@@ -57,8 +57,8 @@ pub fn serve<S: BuildHasher + Drop, R: Read, W: Write, E: Write>(
 ///
 /// # Errors
 ///
-/// `NoSeed` exactly if there is none, and then nothing was read; otherwise the error of [`encode`]. After each
-/// error but a failed write nothing was written.
+/// `NoSeed` exactly if there is none, and then nothing was read; otherwise the error of [`encode`]. After
+/// each error but a failed write nothing was written.
 pub fn run<S: BuildHasher + Drop, R: Read, W: Write>(
     alloc: Global,
     kind: Kind,

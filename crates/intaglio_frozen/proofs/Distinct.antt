@@ -11,22 +11,34 @@ use Rattle.intaglio_symbol.specs.declared.error.InternError.{InternError}
 use Rattle.intaglio_frozen.proofs.Found.{key, at-key}
 use Rattle.intaglio_frozen.specs.Freezing.{AreEqual, HasNoEqual}
 
-by-found : (o : Option ℕ) (old new : State (List ℕ)) (w : List ℕ) (s : ℕ) → ((i : ℕ) → o ≡ Some i → i < length old.contents)
-    → MatchOption o (InternsNewForm key (λ v. v) old (key w) w (Ok s) new) (λ i. ◌≡◌ {A = Result ℕ InternError} (Ok s) (Ok i) × (new ≡ old))
+-- if a search finds only old symbols, a string that is interned by its result with a new symbol is appended
+by-found : (o : Option ℕ) (old new : State (List ℕ)) (w : List ℕ) (s : ℕ) →
+    ((i : ℕ) → o ≡ Some i → i < length old.contents)
+    → MatchOption o (InternsNewForm key (λ v. v) old (key w) w (Ok s) new)
+    (λ i. ◌≡◌ {A = Result ℕ InternError} (Ok s) (Ok i) × (new ≡ old))
     → length old.contents ≤ s → new.contents ≡ old.contents ++ w ∷ []
-by-found None old new w s below step past = step.contents.added ∙ ap (λ v. old.contents ++ v ∷ []) step.contents.same_spelling
+by-found None old new w s below step past =
+    step.contents.added ∙ ap (λ v. old.contents ++ v ∷ []) step.contents.same_spelling
 by-found (Some i) old new w s below step past =
     let same : s ≡ i = cc in
     absurd (omega (arith, below i refl, same, past))
 
 -- a string whose symbol isn't one of those before is added
-pub added : (old new : State (List ℕ)) (w : List ℕ) (s : ℕ) → InternsForm key (λ v. v) old (key w) w (Ok s) new → length old.contents ≤ s → new.contents ≡ old.contents ++ w ∷ []
+pub added : (old new : State (List ℕ)) (w : List ℕ) (s : ℕ) →
+    InternsForm key (λ v. v) old (key w) w (Ok s) new → length old.contents ≤ s →
+    new.contents ≡ old.contents ++ w ∷ []
 added old new w s step past =
-    by-found (first key old.contents (key w)) old new w s (λ i e. omega (arith, some-below (map key old.contents) (key w) i e, length-map old.contents key)) step past
+    by-found (first key old.contents (key w)) old new w s
+    (λ i e. omega (arith, some-below (map key old.contents) (key w) i e, length-map old.contents key)) step
+    past
 
-pub take-next : (ws : List (List ℕ)) (i : ℕ) (w : List ℕ) → slice_get ws i ≡ Some w → take (i + 1) ws ≡ take i ws ++ w ∷ []
-take-next ws i w at = (take_at_read ws i w (slice_get_within ws i w at)).1 ∙ ap (λ t. take i ws ++ t ∷ []) (get_or_from_slice_get ws i w w at)
+-- the first i + 1 strings are the first i and the string at i
+pub take-next : (ws : List (List ℕ)) (i : ℕ) (w : List ℕ) → slice_get ws i ≡ Some w →
+    take (i + 1) ws ≡ take i ws ++ w ∷ []
+take-next ws i w at = (take_at_read ws i w (slice_get_within ws i w at)).1
+    ∙ ap (λ t. take i ws ++ t ∷ []) (get_or_from_slice_get ws i w w at)
 
+-- at a position below i, the first i strings have what all strings have there
 slice_get-take : (ws : List (List ℕ)) (i k : ℕ) → k < i → slice_get (take i ws) k ≡ slice_get ws k
 slice_get-take ws zero k l = absurd (omega (arith, l))
 slice_get-take [] (suc i) k l = refl
@@ -34,17 +46,21 @@ slice_get-take (w ∷ ws) (suc i) zero l = refl
 slice_get-take (w ∷ ws) (suc i) (suc k) l = slice_get-take ws i k (omega (arith, l))
 
 -- a string whose symbol is one of those before is equal to the string there
-pub again : (ws : List (List ℕ)) (old new : State (List ℕ)) (i s : ℕ) (w : List ℕ) → old.contents ≡ take i ws → slice_get ws i ≡ Some w → s < i
+pub again : (ws : List (List ℕ)) (old new : State (List ℕ)) (i s : ℕ) (w : List ℕ) →
+    old.contents ≡ take i ws → slice_get ws i ≡ Some w → s < i
     → Keeps key old new → IsStored key new (key w) s → AreEqual ws s i
 again ws old new i s w held at below kept stored =
     let v = get_or ws s [] in
-    let there : slice_get ws s ≡ Some v = slice_get-get_or ws s [] (omega (arith, below, slice_get_within ws i w at)) in
-    let before : slice_get old.contents s ≡ Some v = ap (λ t. slice_get t s) held ∙ slice_get-take ws i s below ∙ there in
+    let there : slice_get ws s ≡ Some v =
+    slice_get-get_or ws s [] (omega (arith, below, slice_get_within ws i w at)) in
+    let before : slice_get old.contents s ≡ Some v =
+    ap (λ t. slice_get t s) held ∙ slice_get-take ws i s below ∙ there in
     let after : Some v ≡ Some stored.content = sym (kept.stored s v before) ∙ stored.stands in
     let keys : key stored.content ≡ key w = stored.same_key in
     let same : v ≡ w = cc in
     (below, w, there ∙ ap Some same, at)
 
+-- if no two strings have equal keys, no string is equal to a later one
 pub none-equal : (ws : List (List ℕ)) → AreDistinct (map key ws) → HasNoEqual ws
 none-equal ws apart i j equal =
     let first = at-key ws i [] equal.1 equal.2 in

@@ -2,14 +2,15 @@
 use Rattle.std.proofs.Common.{◌≡◌, ℕ, ◌<◌, ◌≤◌, suc, zero, List, [], ◌∷◌, length, get_or, slice_get, slice_range, Some, refl, ap, arith}
 use Rattle.intaglio_frozen.specs.Strings.{strings_from, AreEnds}
 
--- the first end is within the bytes
+-- where the first string begins is within the bytes
 pub ends-within : (at all : ℕ) (es : List ℕ) → AreEnds at all es → at ≤ all
 ends-within at all [] h = omega (arith, h)
 ends-within at all (e ∷ es) h = omega (arith, h.0, ends-within e all es h.1)
 
-pub from_length : (at : ℕ) (bytes es : List ℕ) → length (strings_from at bytes es) ≡ length es
-from_length at bytes [] = refl
-from_length at bytes (e ∷ es) = ap suc (from_length e bytes es)
+-- there are as many strings as ends
+pub from-length : (at : ℕ) (bytes es : List ℕ) → length (strings_from at bytes es) ≡ length es
+from-length at bytes [] = refl
+from-length at bytes (e ∷ es) = ap suc (from-length e bytes es)
 
 -- where a string begins and ends
 pub ends-at : (at all : ℕ) (es : List ℕ) (i : ℕ) → AreEnds at all es → i < length es →
@@ -18,6 +19,7 @@ ends-at at all [] i h l = absurd (omega arith)
 ends-at at all (e ∷ es) zero h l = (h.0, ends-within e all es h.1)
 ends-at at all (e ∷ es) (suc i) h l = ends-at e all es i h.1 (omega arith)
 
+-- the string at i lies between the end before it, or the beginning if i is 0, and its own end
 pub strings-at : (at : ℕ) (bytes es : List ℕ) (i : ℕ) → i < length es →
     slice_get (strings_from at bytes es) i ≡ Some (slice_range bytes (get_or (at ∷ es) i 0) (get_or es i 0))
 strings-at at bytes [] i l = absurd (omega arith)

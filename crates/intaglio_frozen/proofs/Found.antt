@@ -11,7 +11,8 @@ use Rattle.intaglio_content.specs.Key.{Key}
 use Rattle.intaglio_interner.specs.State.{first, AreDistinct}
 use Rattle.intaglio_interner.proofs.First.{first-none, first-some}
 use Rattle.intaglio_frozen.proofs.Places.{strings_length}
-use Rattle.intaglio_frozen.specs.Layout.{count, u32_at, tags_at, strings}
+use Rattle.intaglio_hash.specs.Numbers.{u32_at}
+use Rattle.intaglio_frozen.specs.Layout.{count, tags_at, strings}
 use Rattle.intaglio_frozen.specs.IsFrozen.{IsFrozen}
 use Rattle.intaglio_frozen.specs.LookUp.{hash, place, if_same, find_at, find, FindsAll}
 
@@ -19,12 +20,16 @@ use Rattle.intaglio_frozen.specs.LookUp.{hash, place, if_same, find_at, find, Fi
 abbrev pub key : List ℕ → Key
 key w = w ∷ []
 
-key-at : (ts : List (List ℕ)) (j : ℕ) (d : Key) (w : List ℕ) → j < length (map key ts) → get_or (map key ts) j d ≡ key w → slice_get ts j ≡ Some w
+-- if the key at a position is that of a text, the text is there
+key-at : (ts : List (List ℕ)) (j : ℕ) (d : Key) (w : List ℕ) → j < length (map key ts) →
+    get_or (map key ts) j d ≡ key w → slice_get ts j ≡ Some w
 key-at [] j d w l e = absurd (omega arith)
 key-at (t ∷ ts) zero d w l e = cc
 key-at (t ∷ ts) (suc j) d w l e = key-at ts j d w (omega arith) e
 
-pub at-key : (ts : List (List ℕ)) (j : ℕ) (d : Key) (w : List ℕ) → slice_get ts j ≡ Some w → (j < length (map key ts)) × (get_or (map key ts) j d ≡ key w)
+-- where a text is, there is a key, and it is that text's
+pub at-key : (ts : List (List ℕ)) (j : ℕ) (d : Key) (w : List ℕ) → slice_get ts j ≡ Some w →
+    (j < length (map key ts)) × (get_or (map key ts) j d ≡ key w)
 at-key [] j d w e = cc
 at-key (t ∷ ts) zero d w e = (omega arith, cc)
 at-key (t ∷ ts) (suc j) d w e = let h = at-key ts j d w e in (omega (arith, h.0), h.1)
@@ -35,21 +40,30 @@ some-at [] j l = absurd (omega arith)
 some-at (t ∷ ts) zero l = (t, refl)
 some-at (t ∷ ts) (suc j) l = some-at ts j (omega arith)
 
-by-result : (ts : List (List ℕ)) (w : List ℕ) (r : Option ℕ) → ((s : ℕ) → r ≡ Some s → slice_get ts s ≡ Some w) → ((i : ℕ) → slice_get ts i ≡ Some w → r ≡ Some i) → r ≡ first key ts (key w)
+-- if a result is a position of a text or none, and each position of the text is the result, it is the first
+by-result : (ts : List (List ℕ)) (w : List ℕ) (r : Option ℕ) →
+    ((s : ℕ) → r ≡ Some s → slice_get ts s ≡ Some w) → ((i : ℕ) → slice_get ts i ≡ Some w → r ≡ Some i) →
+    r ≡ first key ts (key w)
 by-result ts w None sound complete =
-    sym (first-none (map key ts) (key w) (λ j l e. let q : ◌≡◌ {A = Option ℕ} None (Some j) = complete j (key-at ts j [] w l e) in cc))
+    sym (first-none (map key ts) (key w) (λ j l e. let q : ◌≡◌ {A = Option ℕ} None (Some j) =
+    complete j (key-at ts j [] w l e) in cc))
 by-result ts w (Some s) sound complete =
     let h = at-key ts s [] w (sound s refl) in
-    sym (first-some (map key ts) (key w) s h.0 h.1 (λ j l e. let q : Some s ≡ Some j = complete j (key-at ts j [] w (omega (arith, l, h.0)) e) in let same : s ≡ j = cc in omega (arith, l, same)))
+    sym (first-some (map key ts) (key w) s h.0 h.1 (λ j l e. let q : Some s ≡ Some j =
+    complete j (key-at ts j [] w (omega (arith, l, h.0)) e) in let same : s ≡ j = cc in
+    omega (arith, l, same)))
 
+-- if a test leaves a symbol or none, and a symbol is left, the test is passed, and it is that symbol
 tested : (b : Bool) (s i : ℕ) → cond b (Some s) None ≡ Some i → (b ≡ true) × (s ≡ i)
 tested true s i e = (refl, cc)
 tested false s i e = cc
 
+-- if a test leaves a result or none, and a symbol is left, the result was that symbol
 passed : (b : Bool) (o : Option ℕ) (i : ℕ) → cond b o None ≡ Some i → o ≡ Some i
 passed true o i e = e
 passed false o i e = cc
 
+-- if a comparison with the string of a symbol finds one, it is this symbol, and the string is the sought one
 same-sound : (o : Option (List ℕ)) (s i : ℕ) (w : List ℕ) → if_same o s w ≡ Some i → (o ≡ Some w) × (s ≡ i)
 same-sound None s i w e = cc
 same-sound (Some t) s i w e =
@@ -62,14 +76,18 @@ unfolding find
 find-sound bs w i e =
     let p = place bs (hash bs w) in
     let s = u32_at bs (64 + 4 * p) in
-    let h = same-sound (slice_get (strings bs) s) s i w (passed (get_or bs (tags_at bs + p) 0 == hash bs w % 256) (if_same (slice_get (strings bs) s) s w) i e) in
+    let h = same-sound (slice_get (strings bs) s) s i w
+    (passed (get_or bs (tags_at bs + p) 0 == hash bs w % 256) (if_same (slice_get (strings bs) s) s w) i
+    e) in
     ap (slice_get (strings bs)) (sym h.1) ∙ h.0
 
-pub find_is_first : (bs w : List ℕ) → FindsAll bs → find bs w ≡ first key (strings bs) (key w)
-find_is_first bs w all = by-result (strings bs) w (find bs w) (λ s e. find-sound bs w s e) (λ i e. all i w e)
+-- if each string is found where it is, a look-up finds the first position of a string, or none if it has none
+pub find-is-first : (bs w : List ℕ) → FindsAll bs → find bs w ≡ first key (strings bs) (key w)
+find-is-first bs w all = by-result (strings bs) w (find bs w) (λ s e. find-sound bs w s e) (λ i e. all i w e)
 
-pub all_distinct : (bs : List ℕ) → FindsAll bs → AreDistinct (map key (strings bs))
-all_distinct bs all = λ i j d l k e.
+-- if each string is found at its position, no two strings have equal keys
+pub all-distinct : (bs : List ℕ) → FindsAll bs → AreDistinct (map key (strings bs))
+all-distinct bs all = λ i j d l k e.
     let wi = some-at (strings bs) i (omega (arith, l, k)) in
     let wj = some-at (strings bs) j k in
     let ki = at-key (strings bs) i d wi.0 wi.1 in
@@ -83,54 +101,72 @@ all_distinct bs all = λ i j d l k e.
     omega (arith, l, positions)
 
 -- what is found, step by step
-pub find-by : (bs w : List ℕ) (h p : ℕ) → h ≡ hash bs w → p ≡ place bs h → find bs w ≡ find_at bs p (h % 256) w
+pub find-by : (bs w : List ℕ) (h p : ℕ) → h ≡ hash bs w → p ≡ place bs h →
+    find bs w ≡ find_at bs p (h % 256) w
 unfolding find
 find-by bs w h p eh ep = rw (ep, eh) refl
 
-pub at-other : (bs w : List ℕ) (p tag t : ℕ) → t ≡ tags_at bs → (get_or bs (t + p) 0 ≡ tag → ⊥) → find_at bs p tag w ≡ None
+-- at a place that has another tag, nothing is found
+pub at-other : (bs w : List ℕ) (p tag t : ℕ) → t ≡ tags_at bs → (get_or bs (t + p) 0 ≡ tag → ⊥) →
+    find_at bs p tag w ≡ None
 at-other bs w p tag t et n =
     let m : get_or bs (tags_at bs + p) 0 ≡ tag → ⊥ = rw et at n in
     rw (ne_eqb (get_or bs (tags_at bs + p) 0) tag m) refl
 
-pub at-past : (bs w : List ℕ) (p tag t s : ℕ) → t ≡ tags_at bs → get_or bs (t + p) 0 ≡ tag → s ≡ u32_at bs (64 + 4 * p) → count bs ≤ s → find_at bs p tag w ≡ None
+-- at a place that has the tag, but whose symbol isn't below the number of strings, nothing is found
+pub at-past : (bs w : List ℕ) (p tag t s : ℕ) → t ≡ tags_at bs → get_or bs (t + p) 0 ≡ tag →
+    s ≡ u32_at bs (64 + 4 * p) → count bs ≤ s → find_at bs p tag w ≡ None
 at-past bs w p tag t s et e es past =
     let m : get_or bs (tags_at bs + p) 0 ≡ tag = rw et at e in
-    let none : slice_get (strings bs) s ≡ None = slice_get_past (strings bs) s (omega (arith, past, strings_length bs)) in
+    let none : slice_get (strings bs) s ≡ None =
+    slice_get_past (strings bs) s (omega (arith, past, strings_length bs)) in
     rw (eq-eqb (get_or bs (tags_at bs + p) 0) tag m, ← es, none) refl
 
-pub at-same : (bs w : List ℕ) (p tag t s : ℕ) → t ≡ tags_at bs → get_or bs (t + p) 0 ≡ tag → s ≡ u32_at bs (64 + 4 * p) →
+-- at a place that has the tag, its symbol is found if its string is the sought one, and else nothing
+pub at-same : (bs w : List ℕ) (p tag t s : ℕ) → t ≡ tags_at bs → get_or bs (t + p) 0 ≡ tag →
+    s ≡ u32_at bs (64 + 4 * p) →
     find_at bs p tag w ≡ if_same (slice_get (strings bs) s) s w
 at-same bs w p tag t s et e es =
     let m : get_or bs (tags_at bs + p) 0 ≡ tag = rw et at e in
     rw (eq-eqb (get_or bs (tags_at bs + p) 0) tag m, ← es) refl
 
 -- what a test of the only symbol finds
-pub same-string : (s : ℕ) (o : Option (List ℕ)) (t w : List ℕ) (b : Bool) → o ≡ Some t → bytes_eq t w ≡ b → if_same o s w ≡ cond b (Some s) None
+pub same-string : (s : ℕ) (o : Option (List ℕ)) (t w : List ℕ) (b : Bool) → o ≡ Some t → bytes_eq t w ≡ b →
+    if_same o s w ≡ cond b (Some s) None
 same-string s o t w b e eb = rw (e, eb) refl
 
 -- the same, of a test that says whether the strings are equal
-pub same-compared : (s : ℕ) (o : Option (List ℕ)) (t w : List ℕ) (b : Bool) → o ≡ Some t → Decides b (t ≡ w) → if_same o s w ≡ cond b (Some s) None
-same-compared s o t w b e d = same-string s o t w b e (same_from_decides (bytes_eq t w) b (bytes_decides t w) d)
+pub same-compared : (s : ℕ) (o : Option (List ℕ)) (t w : List ℕ) (b : Bool) → o ≡ Some t → Decides b (t ≡ w) →
+    if_same o s w ≡ cond b (Some s) None
+same-compared s o t w b e d =
+    same-string s o t w b e (same_from_decides (bytes_eq t w) b (bytes_decides t w) d)
 
--- the string at i is found there exactly if its place has the symbol i
-pub found-same : (bs w : List ℕ) (s i : ℕ) → slice_get (strings bs) i ≡ Some w → find bs w ≡ if_same (slice_get (strings bs) s) s w → s ≡ i → find bs w ≡ Some i
+-- the string at i is found there if its place has the symbol i
+pub found-same : (bs w : List ℕ) (s i : ℕ) → slice_get (strings bs) i ≡ Some w →
+    find bs w ≡ if_same (slice_get (strings bs) s) s w → s ≡ i → find bs w ≡ Some i
 found-same bs w s i at e same =
-    e ∙ same-string s (slice_get (strings bs) s) w w true (ap (slice_get (strings bs)) same ∙ at) ((bytes_decides w w).1 refl) ∙ ap Some same
+    e ∙ same-string s (slice_get (strings bs) s) w w true (ap (slice_get (strings bs)) same
+    ∙ at) ((bytes_decides w w).1 refl) ∙ ap Some same
 
-pub found-other : (bs w : List ℕ) (s i : ℕ) → find bs w ≡ if_same (slice_get (strings bs) s) s w → (s ≡ i → ⊥) → find bs w ≡ Some i → ⊥
+-- if a look-up may find the symbol s alone, it finds no other
+pub found-other : (bs w : List ℕ) (s i : ℕ) → find bs w ≡ if_same (slice_get (strings bs) s) s w →
+    (s ≡ i → ⊥) → find bs w ≡ Some i → ⊥
 found-other bs w s i e other found = other (same-sound (slice_get (strings bs) s) s i w (sym e ∙ found)).1
 
-pub frozen_first : (bs w : List ℕ) (r : Option ℕ) → IsFrozen bs → find bs w ≡ r → r ≡ first key (strings bs) (key w)
-frozen_first bs w r frozen e = sym e ∙ find_is_first bs w frozen.found
+-- a look-up in a frozen table finds the first position of a string, or none if it has none
+pub frozen-first : (bs w : List ℕ) (r : Option ℕ) → IsFrozen bs → find bs w ≡ r →
+    r ≡ first key (strings bs) (key w)
+frozen-first bs w r frozen e = sym e ∙ find-is-first bs w frozen.found
 
 -- two lists with the same text at each position
-pub same_by_get : (xs ys : List (List ℕ)) (n : ℕ) → n ≡ length xs → n ≡ length ys → ((k : ℕ) → k < n → slice_get xs k ≡ slice_get ys k) → xs ≡ ys
-same_by_get [] [] n e f g = refl
-same_by_get [] (y ∷ ys) n e f g = absurd (omega arith)
-same_by_get (x ∷ xs) [] n e f g = absurd (omega arith)
-same_by_get (x ∷ xs) (y ∷ ys) zero e f g = absurd (omega arith)
-same_by_get (x ∷ xs) (y ∷ ys) (suc n) e f g =
+pub same-by-get : (xs ys : List (List ℕ)) (n : ℕ) → n ≡ length xs → n ≡ length ys →
+    ((k : ℕ) → k < n → slice_get xs k ≡ slice_get ys k) → xs ≡ ys
+same-by-get [] [] n e f g = refl
+same-by-get [] (y ∷ ys) n e f g = absurd (omega arith)
+same-by-get (x ∷ xs) [] n e f g = absurd (omega arith)
+same-by-get (x ∷ xs) (y ∷ ys) zero e f g = absurd (omega arith)
+same-by-get (x ∷ xs) (y ∷ ys) (suc n) e f g =
     let first : Some x ≡ Some y = g 0 (omega arith) in
     let head : x ≡ y = cc in
-    let tail : xs ≡ ys = same_by_get xs ys n (omega arith) (omega arith) (λ k l. g (suc k) (omega arith)) in
+    let tail : xs ≡ ys = same-by-get xs ys n (omega arith) (omega arith) (λ k l. g (suc k) (omega arith)) in
     cc

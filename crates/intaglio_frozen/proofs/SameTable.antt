@@ -8,13 +8,15 @@ use Rattle.std.specs.Str.{bytes_eq}
 use Rattle.intaglio_frozen.proofs.SameBytes.{AreBytes, AreSameAt, u64_same, u32_same, u32s_same, u16s_same}
 use Rattle.intaglio_frozen.proofs.HashBelow.{hash_below}
 use Rattle.intaglio_frozen.proofs.Used.{symbol_below, place_of_symbol}
-use Rattle.intaglio_frozen.proofs.Places.{strings_length, scaled_below, end_is}
+use Rattle.intaglio_frozen.proofs.Places.{strings_length, scaled-below, end-is}
 use Rattle.intaglio_frozen.proofs.Ends.{ends-within}
 use Rattle.intaglio_frozen.specs.Strings.{strings_from, AreEnds}
-use Rattle.intaglio_frozen.specs.Layout.{u16_at, u32_at, count, places, groups, ends_at, pilots_at, tags_at, text_at, symbol_of, tag_of, pilot_of, ends, strings}
-use Rattle.intaglio_frozen.specs.LookUp.{hash, scaled, mixed, place, if_same, find}
+use Rattle.intaglio_hash.specs.Numbers.{u16_at, u32_at}
+use Rattle.intaglio_frozen.specs.Layout.{count, places, groups, ends_at, pilots_at, tags_at, text_at, symbol_of, tag_of, ends, strings}
+use Rattle.intaglio_frozen.specs.LookUp.{hash, scaled, place, if_same, find}
 use Rattle.intaglio_frozen.specs.IsFrozen.{IsFrozen, HasHeader, no_symbol}
 use Rattle.intaglio_frozen.specs.SameTable.{AreSameTable}
+use Rattle.intaglio_frozen.proofs.Opened.{place_below}
 
 -- what a look-up that finds has read
 tag_read : (x y : ℕ) (o : Option ℕ) (i : ℕ) → cond (x == y) o None ≡ Some i → (x ≡ y) × (o ≡ Some i)
@@ -23,10 +25,12 @@ tag_read x y o i e = elim (cases_eq x y) [
   | inr other ↦ let gone : ◌≡◌ {A = Option ℕ} None (Some i) = rw (ne_eqb x y other) at e in cc
 ]
 
+-- if `Some s` or `None`, by a condition, is `Some i`, then s is i
 symbol_if : (b : Bool) (s i : ℕ) → cond b (Some s) None ≡ Some i → s ≡ i
 symbol_if true s i e = cc
 symbol_if false s i e = cc
 
+-- if comparing the string of symbol s with the sought one gives a symbol i, then s is i
 symbol_read : (o : Option (List ℕ)) (s i : ℕ) (w : List ℕ) → if_same o s w ≡ Some i → s ≡ i
 symbol_read None s i w e = cc
 symbol_read (Some t) s i w e = symbol_if (bytes_eq t w) s i e
@@ -35,43 +39,41 @@ symbol_read (Some t) s i w e = symbol_if (bytes_eq t w) s i e
 abbrev pub string_at : List ℕ → ℕ → List ℕ
 string_at bs i = get_or (strings bs) i []
 
+-- the place of the string at i, by its hash under the keys of the table
 abbrev pub place_at : List ℕ → ℕ → ℕ
 place_at bs i = place bs (hash bs (string_at bs i))
 
-pub placed : (bs : List ℕ) (i : ℕ) → IsFrozen bs → i < count bs → (symbol_of bs (place_at bs i) ≡ i) × (tag_of bs (place_at bs i) ≡ hash bs (string_at bs i) % 256)
+-- in a frozen table the place of the string at i has the symbol i, and as its tag the low byte of the hash
+pub placed : (bs : List ℕ) (i : ℕ) → IsFrozen bs → i < count bs → (symbol_of bs (place_at bs i) ≡ i)
+    × (tag_of bs (place_at bs i) ≡ hash bs (string_at bs i) % 256)
 unfolding find
 placed bs i b l =
     let w = string_at bs i in
     let p = place_at bs i in
     let s = symbol_of bs p in
     let there = slice_get-get_or (strings bs) i [] (omega (arith, l, strings_length bs)) in
-    let read = tag_read (tag_of bs p) (hash bs w % 256) (if_same (slice_get (strings bs) s) s w) i (b.found i w there) in
+    let read = tag_read (tag_of bs p) (hash bs w % 256) (if_same (slice_get (strings bs) s) s w) i
+    (b.found i w there) in
     (symbol_read (slice_get (strings bs) s) s i w read.1, read.0)
 
-mixed_below : (h q : ℕ) → mixed h q < 2 ^ 64
-unfolding mixed
-mixed_below h q = omega arith
-
-pub place_below : (bs : List ℕ) (h : ℕ) → place bs h < places bs
-unfolding place
-place_below bs h =
-    let m = mixed h (pilot_of bs (scaled (groups bs) h)) in
-    scaled_below (places bs) m (omega arith) (mixed_below h (pilot_of bs (scaled (groups bs) h)))
-
+-- the number of strings of a frozen table is at most `no_symbol`, the symbol of a place that no string has
 pub few : (bs : List ℕ) → IsFrozen bs → count bs ≤ no_symbol
 few bs b = omega (arith, b.block.sections.header.few)
 
 -- a place with a symbol is that of its string
-pub used_place : (bs : List ℕ) (p : ℕ) → IsFrozen bs → p < places bs → (symbol_of bs p ≡ no_symbol → ⊥) → (symbol_of bs p < count bs) × (p ≡ place_at bs (symbol_of bs p))
+pub used_place : (bs : List ℕ) (p : ℕ) → IsFrozen bs → p < places bs → (symbol_of bs p ≡ no_symbol → ⊥) →
+    (symbol_of bs p < count bs) × (p ≡ place_at bs (symbol_of bs p))
 used_place bs p b l used =
-    let within : (i : ℕ) → i < count bs → place_at bs i < places bs = λ i m. place_below bs (hash bs (string_at bs i)) in
+    let within : (i : ℕ) → i < count bs → place_at bs i < places bs =
+    λ i m. place_below bs (hash bs (string_at bs i)) in
     let has : (i : ℕ) → i < count bs → symbol_of bs (place_at bs i) ≡ i = λ i m. (placed bs i b m).0 in (
       symbol_below bs (count bs) (places bs) (place_at bs) (few bs b) b.unused.used within has p l used,
       place_of_symbol bs (count bs) (places bs) (place_at bs) (few bs b) b.unused.used within has p l used,
     )
 
 -- strings that follow each other in two byte lists
-same_range : (xs ys : List ℕ) (at e k : ℕ) → slice_range xs at e ≡ slice_range ys at e → at ≤ k → k < e → AreSameAt xs ys k
+same_range : (xs ys : List ℕ) (at e k : ℕ) → slice_range xs at e ≡ slice_range ys at e → at ≤ k → k < e →
+    AreSameAt xs ys k
 same_range xs ys at e k same l m =
     let pos : at + (k - at) ≡ k = omega arith in
     let x = get_or-between xs at e (k - at) 0 (omega arith) in
@@ -79,9 +81,11 @@ same_range xs ys at e k same l m =
     rw pos at (sym x ∙ ap (λ r. get_or r (k - at) 0) same ∙ y)
 
 -- strings that follow each other are the same in two lists of bytes only if their ends and bytes are
-pub same_strings : (at n m : ℕ) (xs ys es fs : List ℕ) → AreEnds at n es → AreEnds at m fs → length xs ≡ n → length ys ≡ m → strings_from at xs es ≡ strings_from at ys fs →
+pub same_strings : (at n m : ℕ) (xs ys es fs : List ℕ) → AreEnds at n es → AreEnds at m fs → length xs ≡ n →
+    length ys ≡ m → strings_from at xs es ≡ strings_from at ys fs →
     (es ≡ fs) × (n ≡ m) × ((k : ℕ) → at ≤ k → k < n → AreSameAt xs ys k)
-same_strings at n m xs ys [] [] he hf lx ly s = (refl, omega (arith, he, hf), λ k l r. absurd (omega (arith, he, l, r)))
+same_strings at n m xs ys [] [] he hf lx ly s =
+    (refl, omega (arith, he, hf), λ k l r. absurd (omega (arith, he, l, r)))
 same_strings at n m xs ys [] (f ∷ fs) he hf lx ly s = cc
 same_strings at n m xs ys (e ∷ es) [] he hf lx ly s = cc
 same_strings at n m xs ys (e ∷ es) (f ∷ fs) he hf lx ly s =
@@ -101,7 +105,8 @@ same_strings at n m xs ys (e ∷ es) (f ∷ fs) he hf lx ly s =
       ],
     )
 
-module _ (bs cs : List ℕ) (fb : AreBytes bs) (fc : AreBytes cs) (b : IsFrozen bs) (c : IsFrozen cs) (alike : AreSameTable bs cs) where
+module _ (bs cs : List ℕ) (fb : AreBytes bs) (fc : AreBytes cs) (b : IsFrozen bs) (c : IsFrozen cs)
+    (alike : AreSameTable bs cs) where
   count_same : count bs ≡ count cs
   count_same = sym (strings_length bs) ∙ ap length alike.strings ∙ strings_length cs
 
@@ -112,7 +117,7 @@ module _ (bs cs : List ℕ) (fb : AreBytes bs) (fc : AreBytes cs) (b : IsFrozen 
   place_same : (h : ℕ) → h < 2 ^ 64 → place bs h ≡ place cs h
   unfolding place
   place_same h l =
-      let g = scaled_below (groups bs) h (omega arith) l in
+      let g = scaled-below (groups bs) h (omega arith) l in
       rw (alike.pilots (scaled (groups bs) h) g, count_same) refl
 
   place_at_same : (i : ℕ) → place_at bs i ≡ place_at cs i
@@ -134,7 +139,8 @@ module _ (bs cs : List ℕ) (fb : AreBytes bs) (fc : AreBytes cs) (b : IsFrozen 
               let i = symbol_of cs p in
               let at = used_place cs p c m used in
               let below : i < count bs = omega (arith, at.0, count_same) in
-              let here : symbol_of bs p ≡ i = ap (symbol_of bs) (at.1 ∙ sym (place_at_same i)) ∙ (placed bs i b below).0 in
+              let here : symbol_of bs p ≡ i = ap (symbol_of bs) (at.1 ∙ sym (place_at_same i))
+              ∙ (placed bs i b below).0 in
               absurd (omega (arith, here, none, below, b.block.sections.header.few))
         ]
         | inr used ↦
@@ -154,14 +160,19 @@ module _ (bs cs : List ℕ) (fb : AreBytes bs) (fc : AreBytes cs) (b : IsFrozen 
             let at = used_place bs p b l used in
             let below : i < count cs = omega (arith, at.0, count_same) in
             let string : string_at bs i ≡ string_at cs i = ap (λ ws. get_or ws i []) alike.strings in
-            let first : tag_of bs p ≡ hash bs (string_at bs i) % 256 = ap (tag_of bs) at.1 ∙ (placed bs i b at.0).1 in
-            let second : tag_of cs p ≡ hash cs (string_at cs i) % 256 = ap (tag_of cs) (at.1 ∙ place_at_same i) ∙ (placed cs i c below).1 in
+            let first : tag_of bs p ≡ hash bs (string_at bs i) % 256 =
+            ap (tag_of bs) at.1 ∙ (placed bs i b at.0).1 in
+            let second : tag_of cs p ≡ hash cs (string_at cs i) % 256 =
+            ap (tag_of cs) (at.1 ∙ place_at_same i) ∙ (placed cs i c below).1 in
             first ∙ ap (λ h. h % 256) (hash_same (string_at bs i) ∙ ap (hash cs) string) ∙ sym second
       ]
 
-  texts_same : (ends bs ≡ ends cs) × (length bs - text_at bs ≡ length cs - text_at cs) × ((k : ℕ) → 0 ≤ k → k < length bs - text_at bs → AreSameAt (drop (text_at bs) bs) (drop (text_at cs) cs) k)
+  texts_same : (ends bs ≡ ends cs) × (length bs - text_at bs ≡ length cs - text_at cs)
+      × ((k : ℕ) → 0 ≤ k → k < length bs - text_at bs →
+      AreSameAt (drop (text_at bs) bs) (drop (text_at cs) cs) k)
   unfolding strings
-  texts_same = same_strings 0 (length bs - text_at bs) (length cs - text_at cs) (drop (text_at bs) bs) (drop (text_at cs) cs) (ends bs) (ends cs) b.block.ends c.block.ends
+  texts_same = same_strings 0 (length bs - text_at bs) (length cs - text_at cs) (drop (text_at bs) bs)
+      (drop (text_at cs) cs) (ends bs) (ends cs) b.block.ends c.block.ends
       (length-drop (text_at bs) bs) (length-drop (text_at cs) cs) alike.strings
 
   numbers_same : (p : ℕ) → 16 ≤ p → p < 64 → HasHeader bs → HasHeader cs → AreSameAt bs cs p
@@ -212,7 +223,8 @@ module _ (bs cs : List ℕ) (fb : AreBytes bs) (fc : AreBytes cs) (b : IsFrozen 
   end_same : (i : ℕ) → i < count bs → u32_at bs (ends_at bs + 4 * i) ≡ u32_at cs (ends_at bs + 4 * i)
   end_same i l =
       let m : i < count cs = omega (arith, l, count_same) in
-      sym (end_is bs i l) ∙ ap (λ es. get_or es i 0) texts_same.0 ∙ end_is cs i m ∙ ap (λ at. u32_at cs (at + 4 * i)) ends_at_same
+      sym (end-is bs i l) ∙ ap (λ es. get_or es i 0) texts_same.0 ∙ end-is cs i m
+      ∙ ap (λ at. u32_at cs (at + 4 * i)) ends_at_same
 
   pilot_same : (g : ℕ) → g < groups bs → u16_at bs (pilots_at bs + 2 * g) ≡ u16_at cs (pilots_at bs + 2 * g)
   pilot_same g l = alike.pilots g l ∙ ap (λ at. u16_at cs (at + 2 * g)) pilots_at_same
@@ -220,7 +232,8 @@ module _ (bs cs : List ℕ) (fb : AreBytes bs) (fc : AreBytes cs) (b : IsFrozen 
   tag_byte_same : (p : ℕ) → tags_at bs ≤ p → p < text_at bs → AreSameAt bs cs p
   tag_byte_same p l m =
       let at : tags_at bs + (p - tags_at bs) ≡ p = omega (arith, l) in
-      let same = tag_same (p - tags_at bs) (omega (arith, l, m)) ∙ ap (λ t. get_or cs (t + (p - tags_at bs)) 0) tags_at_same in
+      let same = tag_same (p - tags_at bs) (omega (arith, l, m))
+      ∙ ap (λ t. get_or cs (t + (p - tags_at bs)) 0) tags_at_same in
       rw at at same
 
   text_byte_same : (p : ℕ) → text_at bs ≤ p → p < length bs → AreSameAt bs cs p

@@ -15,18 +15,25 @@ use Rattle.intaglio_symbol.specs.declared.error.InternError.TheVariants.{Overflo
 none_before : (keys rest : List Key) (k : Key) → AreDistinct (keys ++ k ∷ rest) → first_of keys k ≡ None
 none_before keys rest k apart = first-none keys k (λ j lt.
     let size : length keys < length (keys ++ k ∷ rest) = omega (arith, length-append keys (k ∷ rest)) in
-    rw (get_or-append keys (k ∷ rest) [] j lt, get_or-append_seam keys k rest []) at (apart j (length keys) [] lt size))
+    rw (
+      get_or-append keys (k ∷ rest) [] j lt,
+      get_or-append_seam keys k rest [],
+    ) at (apart j (length keys) [] lt size))
 
-pub all_interned : {C : Type 0} (key : C → Key) (held cs : List C) → AreDistinct (map key (held ++ cs)) → interned_all key held cs ≡ held ++ cs
+-- if the contents that are held and further ones are all distinct, interning these appends them all in order
+pub all_interned : {C : Type 0} (key : C → Key) (held cs : List C) → AreDistinct (map key (held ++ cs)) →
+    interned_all key held cs ≡ held ++ cs
 all_interned key held [] apart = sym (append-nil held)
 all_interned key held (c ∷ cs) apart =
-    let none : first key held (key c) ≡ None = none_before (map key held) (map key cs) (key c) (rw (map-append key held (c ∷ cs)) at apart) in
+    let none : first key held (key c) ≡ None =
+    none_before (map key held) (map key cs) (key c) (rw (map-append key held (c ∷ cs)) at apart) in
     let grown : interned key held c ≡ held ++ c ∷ [] = rw none refl in
     let moved : held ++ c ∷ [] ++ cs ≡ held ++ c ∷ cs = append_assoc held (c ∷ []) cs in
     rw grown (all_interned key (held ++ c ∷ []) cs (rw moved apart) ∙ moved)
 
 -- where there are no more of them than the limit, an error is no overflow
-pub no_overflow : {C : Type 0} (key : C → Key) (cs : List C) (limit : ℕ) (e : InternError) → AreDistinct (map key cs) → length cs ≤ limit →
+pub no_overflow : {C : Type 0} (key : C → Key) (cs : List C) (limit : ℕ) (e : InternError) →
+    AreDistinct (map key cs) → length cs ≤ limit →
     IfOverflow e (limit < length (interned_all key [] cs)) → IfOverflow e ⊥
 no_overflow key cs limit (Overflow full) apart few more =
     let all = all_interned key [] cs apart in

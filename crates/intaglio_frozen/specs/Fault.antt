@@ -1,15 +1,16 @@
 -- What is wrong with bytes that are no frozen table.
 use Rattle.std.specs.Prelude.{◌≡◌, ◌≢◌, ℕ, ◌-◌, ◌^◌, ◌<◌, ◌≤◌, ◌⊎◌, List, length, slice_get, Some, IsUtf8}
 use Rattle.intaglio_frozen.specs.Strings.{AreEnds}
-use Rattle.intaglio_frozen.specs.Layout.{u32_at, kind, count, text_at, ends, strings}
-use Rattle.intaglio_frozen.specs.LookUp.{find}
-use Rattle.intaglio_frozen.specs.IsFrozen.{HasMagic, HasVersion, HasKind, HasHeader, HasSections, IsBlock, HasUnused, IsReserved, text_kind}
+use Rattle.intaglio_hash.specs.Numbers.{u32_at}
+use Rattle.intaglio_frozen.specs.Layout.{kind, count, text_at, ends, strings}
+use Rattle.intaglio_frozen.specs.Checked.{AreFoundBelow, IsNotFoundAt}
+use Rattle.intaglio_frozen.specs.IsFrozen.{HasMagic, HasVersion, HasKind, HasHeader, HasSections, IsBlock, HasUnused, IsReserved, AreTextsBefore, text_kind}
 use Rattle.intaglio_frozen.specs.declared.error.FrozenError.{FrozenError}
 use Rattle.intaglio_frozen.specs.declared.error.FrozenError.TheVariants.{Magic, Version, Kind, Reserved, TooMany, Truncated, Ends, Unused, NotFound, NotUtf8}
 
--- the string at i isn't UTF-8
+-- the string at i is the first that isn't UTF-8
 abbrev pub IsNoText : List (List ℕ) → ℕ → Type 0
-IsNoText ws i = (w : List ℕ) × (slice_get ws i ≡ Some w) × ¬ IsUtf8 w
+IsNoText ws i = (w : List ℕ) × (slice_get ws i ≡ Some w) × AreTextsBefore i ws × ¬ IsUtf8 w
 
 -- the bytes have this fault, and what is read before it is right
 abbrev pub IsFault : List ℕ → FrozenError → Type 0
@@ -21,5 +22,5 @@ IsFault bs Reserved = HasKind bs × ¬ IsReserved bs
 IsFault bs TooMany = HasKind bs × IsReserved bs × (2 ^ 31 < count bs)
 IsFault bs Ends = HasSections bs × ¬ AreEnds 0 (length bs - text_at bs) (ends bs)
 IsFault bs Unused = IsBlock bs × ¬ HasUnused bs
-IsFault bs (NotFound i) = IsBlock bs × (w : List ℕ) × (slice_get (strings bs) i ≡ Some w) × (find bs w ≢ Some i)
+IsFault bs (NotFound i) = IsBlock bs × AreFoundBelow bs i × IsNotFoundAt bs i
 IsFault bs (NotUtf8 i) = IsBlock bs × (kind bs ≡ text_kind) × IsNoText (strings bs) i

@@ -1,5 +1,5 @@
 -- The keys of the table that strings are given, and why strings have no frozen table, or weren't given one.
-use Rattle.std.specs.Prelude.{◌≡◌, ℕ, ◌+◌, ◌-◌, ◌%◌, ◌^◌, ◌<◌, ◌≤◌, ◌⊎◌, List, length, map, sum_by, slice_get, Some}
+use Rattle.std.specs.Prelude.{◌≡◌, ℕ, ◌+◌, ◌-◌, ◌%◌, ◌^◌, ◌<◌, ◌≤◌, ◌⊎◌, List, length, map, sum_by, slice_get, take, Some}
 use Rattle.std.specs.Hash.{u64}
 use Rattle.std.specs.Hash.DefaultHasher.{with_keys, write, finish}
 use Rattle.std.specs.List.{fold}
@@ -44,8 +44,8 @@ LacksPlaces ws k0 k1 n = ¬ HavePlaces (hashes_under ((k0 + n) % 2 ^ 64) k1 ws)
 abbrev pub LackAllPlaces : List (List ℕ) → ℕ → ℕ → Type 0
 LackAllPlaces ws k0 k1 = (n : ℕ) → n < 8 → LacksPlaces ws k0 k1 n
 
--- the bytes are the table that is written of these strings: that with the least pilots, under the first of eight pairs
--- of keys, from k0 and k1 on, that have a place for each string
+-- the bytes are the table that is written of these strings: that with the least pilots, under the first of
+-- eight pairs of keys, from k0 and k1 on, that have a place for each string
 pub record IsWritten (wanted : Kind) (ws : List (List ℕ)) (k0 k1 : ℕ) (bs : List ℕ) : Type 0 where
   pub pair : ℕ
   pub few : pair < 8
@@ -79,7 +79,8 @@ LackDefaultPlaces ws = LackAllPlaces ws 0 0 × LackAllPlaces ws (drawn_key0 ws) 
 -- the bytes are the table that is written of these strings if no keys are given
 abbrev pub IsWrittenWithDefaultKeys : Kind → List (List ℕ) → List ℕ → Type 0
 IsWrittenWithDefaultKeys wanted ws bs =
-    IsWritten wanted ws 0 0 bs ⊎ (LackAllPlaces ws 0 0 × IsWritten wanted ws (drawn_key0 ws) (drawn_key1 ws) bs)
+    IsWritten wanted ws 0 0 bs
+    ⊎ (LackAllPlaces ws 0 0 × IsWritten wanted ws (drawn_key0 ws) (drawn_key1 ws) bs)
 
 -- the strings at i and at j, which is greater, are equal
 abbrev pub AreEqual : List (List ℕ) → ℕ → ℕ → Type 0
@@ -89,18 +90,22 @@ AreEqual ws i j = (i < j) × (w : List ℕ) × (slice_get ws i ≡ Some w) × (s
 abbrev pub HasNoEqual : List (List ℕ) → Type 0
 HasNoEqual ws = (i j : ℕ) → ¬ AreEqual ws i j
 
+-- string j is the first one that is equal to an earlier one, and string i is that one
+abbrev pub IsFirstEqual : List (List ℕ) → ℕ → ℕ → Type 0
+IsFirstEqual ws i j = AreEqual ws i j × HasNoEqual (take j ws)
+
 -- a table of this kind can have the strings, as far as each by itself and their number and lengths go
 pub record AreAllowed (kind : Kind) (ws : List (List ℕ)) : Type 0 where
   pub few : length ws ≤ 2 ^ 31
   pub short : sum_by length ws < 2 ^ 32
   pub texts : kind ≡ Text → AreTexts ws
 
--- when each error is returned: the first four for strings that no frozen table of the kind has, the others for
--- strings without these faults (for `Memory` two may be equal, since memory is needed to find that)
+-- when each error is returned: the first four for strings that no frozen table of the kind has, the others
+-- for strings without these faults (for `Memory` two may be equal, since memory is needed to find that)
 abbrev pub IsRefusal : Kind → List (List ℕ) → FreezeError → Type 0
 IsRefusal kind ws TooMany = 2 ^ 31 < length ws
 IsRefusal kind ws TooLong = 2 ^ 32 ≤ sum_by length ws
-IsRefusal kind ws (Equal i j) = AreEqual ws i j
+IsRefusal kind ws (Equal i j) = IsFirstEqual ws i j
 IsRefusal kind ws (NotUtf8 i) = (kind ≡ Text) × IsNoText ws i
 IsRefusal kind ws NoPlaces = AreAllowed kind ws × HasNoEqual ws
 IsRefusal kind ws Memory = AreAllowed kind ws

@@ -1,7 +1,8 @@
 -- Which bytes are a frozen table.
 use Rattle.std.specs.Prelude.{◌≡◌, ℕ, zero, suc, ◌+◌, ◌-◌, ◌^◌, ◌<◌, ◌≤◌, ◌==◌, cond, List, length, slice_get, Some, IsUtf8}
 use Rattle.intaglio_frozen.specs.Strings.{AreEnds}
-use Rattle.intaglio_frozen.specs.Layout.{u32_at, u64_at, kind, key0, key1, count, places, text_at, ends, strings, symbol_of, tag_of}
+use Rattle.intaglio_hash.specs.Numbers.{u32_at, u64_at}
+use Rattle.intaglio_frozen.specs.Layout.{kind, key0, key1, count, places, text_at, ends, strings, symbol_of, tag_of}
 use Rattle.intaglio_frozen.specs.LookUp.{FindsAll}
 use Rattle.intaglio_frozen.specs.declared.header.Header.{Header}
 use Rattle.intaglio_frozen.specs.declared.kind.Kind.{Kind}
@@ -75,6 +76,10 @@ used_below bs (suc p) = used_below bs p + cond (symbol_of bs p == no_symbol) 0 1
 pub record HasUnused (bs : List ℕ) : Type 0 where
   pub tags : (p : ℕ) → p < places bs → symbol_of bs p ≡ no_symbol → tag_of bs p ≡ 0
   pub used : used_below bs (places bs) ≡ count bs
+
+-- each of these strings before n is UTF-8
+abbrev pub AreTextsBefore : ℕ → List (List ℕ) → Type 0
+AreTextsBefore n ws = (i : ℕ) (w : List ℕ) → i < n → slice_get ws i ≡ Some w → IsUtf8 w
 
 -- each of these strings is UTF-8
 abbrev pub AreTexts : List (List ℕ) → Type 0

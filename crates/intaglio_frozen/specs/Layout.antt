@@ -1,17 +1,7 @@
 -- The header and the sections of a frozen table, in its bytes.
 use Rattle.std.specs.Prelude.{ℕ, zero, suc, ◌+◌, ◌*◌, ◌/◌, List, [], ◌∷◌, drop, slice_index}
-use Rattle.intaglio_hash.specs.Push.{number}
+use Rattle.intaglio_hash.specs.Numbers.{u16_at, u32_at, u64_at}
 use Rattle.intaglio_frozen.specs.Strings.{strings_from}
-
--- little-endian numbers of two, four and eight bytes
-unfoldable pub u16_at : List ℕ → ℕ → ℕ
-u16_at bs at = number bs at 0 2
-
-unfoldable pub u32_at : List ℕ → ℕ → ℕ
-u32_at bs at = number bs at 0 4
-
-unfoldable pub u64_at : List ℕ → ℕ → ℕ
-u64_at bs at = number bs at 0 8
 
 -- the header: the kind of the strings, the two keys of the hasher, and how many strings there are
 abbrev pub kind : List ℕ → ℕ
@@ -39,8 +29,8 @@ places bs = places_for (count bs)
 abbrev pub groups : List ℕ → ℕ
 groups bs = groups_for (count bs)
 
--- where the sections begin: the symbols of the places (four bytes each), at 64; the ends of the strings (four),
--- the pilots of the groups (two), the tags of the places (one), and the text
+-- where the sections begin: the symbols of the places (four bytes each), at 64; the ends of the strings
+-- (four), the pilots of the groups (two), the tags of the places (one), and the text
 abbrev pub ends_at : List ℕ → ℕ
 ends_at bs = 64 + 4 * places bs
 

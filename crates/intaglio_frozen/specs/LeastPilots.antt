@@ -7,7 +7,8 @@ use Rattle.intaglio_frozen.specs.Pilots.{members}
 
 -- the groups that have so many strings, in the order of their numbers
 unfoldable pub groups_of_size : List ℕ → ℕ → List ℕ
-groups_of_size hs size = filter (λ g. length (members hs g) == size) (range_with_len 0 (groups_for (length hs)))
+groups_of_size hs size =
+    filter (λ g. length (members hs g) == size) (range_with_len 0 (groups_for (length hs)))
 
 -- the groups that have no more strings than that, the larger ones first
 unfoldable pub groups_up_to : List ℕ → ℕ → List ℕ
@@ -44,7 +45,8 @@ least_pilot count taken hs = first_from (λ q. are_new taken (places_under count
 unfoldable pub pilots_from : List ℕ → List ℕ → List ℕ → List ℕ → Option (List ℕ)
 pilots_from hs taken pilots [] = Some pilots
 pilots_from hs taken pilots (g ∷ gs) =
-    option_and_then (λ q. pilots_from hs (places_under (places_for (length hs)) (members hs g) q ++ taken) (set pilots g q) gs)
+    option_and_then (λ q. pilots_from hs (places_under (places_for (length hs)) (members hs g) q ++ taken)
+    (set pilots g q) gs)
     (least_pilot (places_for (length hs)) taken (members hs g))
 
 -- the least pilots of all groups

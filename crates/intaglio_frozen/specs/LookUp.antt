@@ -31,7 +31,8 @@ if_same (Some t) s w = cond (bytes_eq t w) (Some s) None
 
 -- the symbol of a place, if the place has this tag and the symbol has this string
 abbrev pub find_at : List ℕ → ℕ → ℕ → List ℕ → Option ℕ
-find_at bs p tag w = cond (tag_of bs p == tag) (if_same (slice_get (strings bs) (symbol_of bs p)) (symbol_of bs p) w) None
+find_at bs p tag w =
+    cond (tag_of bs p == tag) (if_same (slice_get (strings bs) (symbol_of bs p)) (symbol_of bs p) w) None
 
 -- what a look-up of a string finds
 unfoldable pub find : List ℕ → List ℕ → Option ℕ
@@ -39,7 +40,8 @@ find bs w = find_at bs (place bs (hash bs w)) (hash bs w % 256) w
 
 -- this is the only symbol that a look-up of a string may find, or none if it finds none
 abbrev pub IsCandidate : List ℕ → List ℕ → Option ℕ → Type 0
-IsCandidate bs w found = MatchOption found (find bs w ≡ None) (λ s. find bs w ≡ if_same (slice_get (strings bs) s) s w)
+IsCandidate bs w found =
+    MatchOption found (find bs w ≡ None) (λ s. find bs w ≡ if_same (slice_get (strings bs) s) s w)
 
 -- each string is found at its position
 abbrev pub FindsAll : List ℕ → Type 0

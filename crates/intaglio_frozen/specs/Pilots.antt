@@ -15,12 +15,14 @@ place_in hs g q i = place_of (places_for (length hs)) (members hs g) q i
 
 -- group f is placed before group g: it has more strings, or as many and a lower number
 abbrev pub IsBefore : List ℕ → ℕ → ℕ → Type 0
-IsBefore hs f g = (length (members hs g) < length (members hs f)) ⊎ ((length (members hs f) ≡ length (members hs g)) × (f < g))
+IsBefore hs f g = (length (members hs g) < length (members hs f))
+    ⊎ ((length (members hs f) ≡ length (members hs g)) × (f < g))
 
 -- under pilot q, the strings of group g have places of their own that no group before has taken
 pub record Fits (hs : List ℕ) (pilots : ℕ → ℕ) (g q : ℕ) : Type 0 where
   pub apart : (i j : ℕ) → i < j → j < length (members hs g) → place_in hs g q i ≢ place_in hs g q j
-  pub free : (f i j : ℕ) → f < groups_for (length hs) → IsBefore hs f g → i < length (members hs f) → j < length (members hs g) →
+  pub free : (f i j : ℕ) → f < groups_for (length hs) → IsBefore hs f g → i < length (members hs f) →
+      j < length (members hs g) →
       place_in hs f (pilots f) i ≢ place_in hs g q j
 
 -- the pilot of group g is the least that fits

@@ -31,7 +31,8 @@ pub record IsFree (words : List ℕ) (count : ℕ) (hs : List ℕ) (q : ℕ) : T
 pub record Takes (old : List ℕ) (count : ℕ) (hs : List ℕ) (q : ℕ) (new : List ℕ) : Type 0 where
   pub kept : (p : ℕ) → bit_of old p ≡ 1 → bit_of new p ≡ 1
   pub taken : (i : ℕ) → i < length hs → bit_of new (place_of count hs q i) ≡ 1
-  pub only : (p : ℕ) → bit_of new p ≡ 1 → (bit_of old p ≡ 1) ⊎ ((i : ℕ) × (i < length hs) × (place_of count hs q i ≡ p))
+  pub only : (p : ℕ) → bit_of new p ≡ 1 → (bit_of old p ≡ 1)
+      ⊎ ((i : ℕ) × (i < length hs) × (place_of count hs q i ≡ p))
 
 -- the same bits as those, but 0 at the places of these hashes under pilot q
 pub record GivesBack (old : List ℕ) (count : ℕ) (hs : List ℕ) (q : ℕ) (new : List ℕ) : Type 0 where
@@ -49,8 +50,10 @@ HasEightBits bits = (i : ℕ) → 8 ≤ i → bit_at bits i ≡ 0
 
 -- a bit is set for each of eight pilots from q on under which the hash has a free place
 abbrev pub AreFreeBits : List ℕ → ℕ → ℕ → ℕ → ℕ → Type 0
-AreFreeBits words count h q bits = (i : ℕ) → i < 8 → bit_at bits i ≡ 1 - bit_of words (scaled count (mixed h (q + i)))
+AreFreeBits words count h q bits =
+    (i : ℕ) → i < 8 → bit_at bits i ≡ 1 - bit_of words (scaled count (mixed h (q + i)))
 
--- under those of eight pilots from q on whose bit isn't set, not all hashes have places that are free and differ
+-- under those of eight pilots from q on whose bit isn't set, not all hashes have
+-- places that are free and differ
 abbrev pub RulesOut : List ℕ → ℕ → List ℕ → ℕ → ℕ → Type 0
 RulesOut words count hs q bits = (i : ℕ) → i < 8 → bit_at bits i ≡ 0 → ¬ IsFree words count hs (q + i)

@@ -1,6 +1,6 @@
-//! Batches of look-ups: before the first string of a group is looked up, all of the group are hashed, and what
-//! their look-ups will read is read. So the cache misses of these look-ups overlap. A small table stays in the caches,
-//! and there each string is hashed when it is looked up.
+//! Batches of look-ups. Before the first string of a group is looked up, all strings of the group are hashed,
+//! and the memory that their look-ups will read is read. So the cache misses of these look-ups overlap. A
+//! small table stays in the caches, so there each string is hashed when it is looked up.
 ghost use Rattle.std.specs.Prelude.{◌≡◌, [], ◌∷◌, ◌<◌, ◌≤◌, IfOk, drop, length, map, take};
 ghost use Rattle.intaglio_frozen.specs.LookUp.{find, hash};
 ghost use Rattle.intaglio_interner.specs.Batch.{AreHashed};
@@ -28,8 +28,8 @@ pub(crate) fn find_all(
     Ok(found)
 }
 
-// The hash of the first of these strings, of which `ahead` are hashed already. Where none are, it is hashed alone if
-// the table is small, and else with its group.
+// The hash of the first of these strings, of which `ahead` are hashed already. Where none are, it is hashed
+// alone if the table is small, and else with its group.
 #[inline(always)]
 fn next_hash(block: &Block<'_>, strings: &[&[u8]], ahead: &mut usize, hashes: &mut [u64]) -> u64
     requires some { 0 < length strings.now }
@@ -68,8 +68,8 @@ fn next_of_group(block: &Block<'_>, strings: &[&[u8]], ahead: &mut usize, hashes
     hash
 }
 
-// Hashes the first strings, one for each place of `hashes`, and reads what their look-ups will read. A call of its own,
-// so that `next_hash` is short where it is inlined.
+// Hashes the first strings, one for each place of `hashes`, and reads what their look-ups will read. A call
+// of its own, so that `next_hash` is short where it is inlined.
 #[inline(never)]
 fn look_ahead(block: &Block<'_>, strings: &[&[u8]], hashes: &mut [u64])
     ensures hashes { take (length strings.now) hashes.new
@@ -83,7 +83,8 @@ fn look_ahead(block: &Block<'_>, strings: &[&[u8]], hashes: &mut [u64])
     touch_each(block, &hashes[..count], &mut [0; GROUP]);
 }
 
-// The bytes that are read are written, and the call isn't inlined, so that the compiler can't leave out the reads.
+// The bytes that are read are written, and the call isn't inlined, so that the
+// compiler can't leave out the reads.
 #[inline(never)]
 fn touch_each(block: &Block<'_>, hashes: &[u64], touched: &mut [u8]) {
     for place in 0..hashes.len().min(touched.len()) {

@@ -3,9 +3,8 @@ ghost use Rattle.std.specs.Prelude.{◌≡◌, false, ◌↔◌, ◌^◌, ◌<�
 ghost use Rattle.intaglio_frozen.specs.Layout.{kind, strings};
 ghost use Rattle.intaglio_frozen.specs.LookUp.{find, hash};
 ghost use Rattle.intaglio_frozen.specs.IsFrozen.{number_of, HasUnused, IsBlock, AreTexts};
-ghost use Rattle.intaglio_frozen.specs.Checked.{IsHashAt, IsFoundAt, HasPilots};
+ghost use Rattle.intaglio_frozen.specs.Checked.{IsHashAt, IsFoundAt, IsNotFoundAt, HasPilots};
 ghost use Rattle.intaglio_frozen.specs.Fault.{IsFault};
-ghost use Rattle.intaglio_frozen.specs.declared.error.FrozenError.TheVariants.{NotFound};
 
 use crate::error::FrozenError;
 use crate::iter::FrozenStrings;
@@ -18,8 +17,8 @@ use std::marker::Model;
 
 /// Bytes with the header of a frozen table, whose strings fill their text. A contract sees the bytes.
 ///
-/// Its strings can be read in order. Whether each is found at its symbol, and whether those of a table of texts are
-/// UTF-8, only [`Frozen::open`](crate::Frozen::open) checks.
+/// Its strings can be read in order. Whether each is found at its symbol, and whether those of a table of
+/// texts are UTF-8, only [`Frozen::open`](crate::Frozen::open) checks.
 ///
 /// ```
 /// # use intaglio::{StrContent, SymbolTable};
@@ -134,7 +133,7 @@ impl<'a> Block<'a> {
         requires there { i < length (strings self.now) }
         requires hash { IsHashAt self.now i hash }
         ensures found { IsTrue result → IsFoundAt self.now i }
-        ensures not_found { result ≡ false → IsFault self.now (NotFound i) }
+        ensures not_found { result ≡ false → IsBlock self.now × IsNotFoundAt self.now i }
     {
         self.layout.is_at(hash, i)
     }

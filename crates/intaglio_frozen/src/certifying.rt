@@ -1,12 +1,12 @@
-//! A check of what the sort of the hashes gave, in one pass.
+//! Checks, in one pass, that the hashes are sorted by their groups, and where each group ends.
 ghost use Rattle.std.specs.Prelude.{◌≡◌, ℕ, ◌<◌, ◌≤◌, ◌^◌, IsTrue, length};
 ghost use Rattle.intaglio_frozen.specs.Grouped.{ArePaired, AreOfGroup, AreGrouped};
 
 use crate::grouping::Hashed;
 use crate::numbers::{groups_for, scaled};
 
-// Whether these are the hashes, which are those of the symbols 0, 1, 2 and so on, in the order of their groups
-// and, within a group, of their symbols, and whether these are the ends of the groups.
+// Whether these are the hashes, which are those of the symbols 0, 1, 2 and so on, in the order of their
+// groups and, within a group, of their symbols, and whether these are the ends of the groups.
 pub(crate) fn are_grouped(hashes: &[u64], grouped: &[Hashed], ends: &[u32]) -> bool
     requires few { length hashes.now ≤ 2 ^ 31 }
     requires paired { ArePaired hashes.now grouped.now }

@@ -2,8 +2,8 @@
 ghost use Rattle.std.specs.Prelude.{◌≡◌, ◌+◌, ◌≤◌, length, IfSome, MatchOption, None};
 ghost use Rattle.intaglio_frozen.specs.Layout.{kind, strings};
 ghost use Rattle.intaglio_frozen.specs.LookUp.{FindsAll};
-ghost use Rattle.intaglio_frozen.specs.Checked.{AreHashesFrom, AreFoundFrom};
-ghost use Rattle.intaglio_frozen.specs.IsFrozen.{text_kind, AreTexts};
+ghost use Rattle.intaglio_frozen.specs.Checked.{AreHashesFrom, AreFoundFrom, IsFirstNotFoundFrom};
+ghost use Rattle.intaglio_frozen.specs.IsFrozen.{IsBlock, text_kind, AreTexts};
 ghost use Rattle.intaglio_frozen.specs.Fault.{IsFault};
 ghost use Rattle.intaglio_frozen.specs.declared.error.FrozenError.TheVariants.{NotFound, NotUtf8};
 
@@ -49,7 +49,7 @@ pub(crate) fn first_misplaced(block: &Block<'_>, start: usize, hashes: &[u64]) -
     requires within { start + length hashes.now ≤ length (strings block.now) }
     requires hashes { AreHashesFrom block.now start hashes.now }
     ensures { MatchOption result (AreFoundFrom block.now start (length hashes.now))
-        (λ i. IsFault block.now (NotFound i)) }
+        (λ i. IsBlock block.now × IsFirstNotFoundFrom block.now start i) }
 {
     // The number of strings is at most 2^32.
     let _count = block.len();

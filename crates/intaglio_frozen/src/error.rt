@@ -49,7 +49,8 @@ pub enum FreezeError {
     /// The strings have 2^32 bytes or more together.
     #[error("the strings are too long")]
     TooLong,
-    /// The strings at these two positions are equal.
+    /// The strings at these two positions are equal, and no string before the second is equal to an
+    /// earlier one.
     #[error("strings {0} and {1} are equal")]
     Equal(u32, u32),
     /// The string at this position isn't UTF-8, and the kind is text.
@@ -58,8 +59,8 @@ pub enum FreezeError {
     /// No places were found for the strings under any of the keys that were tried.
     #[error("no places were found for the strings")]
     NoPlaces,
-    /// An allocation failed. A check of what was sorted or written would return this too, if it failed. It isn't
-    /// proved that none ever fails.
+    /// An allocation failed. A check of what was sorted or written would return this too, if it failed. It
+    /// isn't proved that none ever fails.
     #[error("out of memory")]
     Memory,
 }

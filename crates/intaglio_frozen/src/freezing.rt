@@ -5,14 +5,14 @@ ghost use Rattle.intaglio_frozen.specs.LookUp.{FindsAll};
 ghost use Rattle.intaglio_frozen.specs.IsFrozen.{IsFrozen, number_of};
 ghost use Rattle.intaglio_frozen.specs.Checked.{HasPilots};
 ghost use Rattle.intaglio_frozen.specs.Pilots.{HavePlaces};
-ghost use Rattle.intaglio_frozen.specs.Freezing.{AreAllowed, HasDefaultKeys, HasKeys, IsLeastTable, IsRefusal, IsTableOf, IsWritten, IsWrittenWithDefaultKeys, LackAllPlaces, LackDefaultPlaces, hashes_under};
+ghost use Rattle.intaglio_frozen.specs.Freezing.{AreAllowed, HasDefaultKeys, HasKeys, HasNoEqual, IsLeastTable, IsRefusal, IsTableOf, IsWritten, IsWrittenWithDefaultKeys, LackAllPlaces, LackDefaultPlaces, hashes_under};
 ghost use Rattle.intaglio_frozen.specs.FrozenBytes.{bytes_under, frozen_bytes, default_bytes};
 ghost use Rattle.intaglio_frozen.specs.declared.error.FreezeError.TheVariants.{NoPlaces};
 
 use crate::block::Block;
 use crate::checking::first_misplaced;
 use crate::drawing::hash_all;
-use crate::equal::{equal_pair, equal_strings};
+use crate::equal::equal_strings;
 use crate::error::FreezeError;
 use crate::hashing::hashes;
 use crate::header::{HEADER, Header, MAGIC, MAX_COUNT, VERSION};
@@ -35,8 +35,9 @@ const ATTEMPTS: u64 = 8;
 ///
 /// # Errors
 ///
-/// `TooMany`, `TooLong`, `NotUtf8` or `Equal` for strings that no frozen table of this kind can have;
-/// otherwise `Memory` if an allocation fails, which may hide that two strings are equal, and `NoPlaces` if a
+/// `TooMany`, `TooLong`, `NotUtf8` or `Equal` for strings that no frozen table of this kind can have.
+/// `Equal(i, j)` says that string j is the first one that is equal to an earlier one, which is string i.
+/// Otherwise `Memory` if an allocation fails, which may hide that two strings are equal, and `NoPlaces` if a
 /// string got no place under any of the keys. By chance that is very unlikely, but strings can be chosen for
 /// known keys; others can then serve.
 pub fn freeze<L: StringList>(
@@ -52,23 +53,25 @@ pub fn freeze<L: StringList>(
     ensures keys { IfOk result (λ bytes. HasKeys key0 key1 bytes.items) }
     ensures written { let IsWritten = IsWritten kind (L.strings list.now) key0 key1 in
         IfOk result (λ bytes. IsWritten bytes.items) }
-    ensures bytes { IfOk result (λ bytes. frozen_bytes kind key0 key1 (L.strings list.now) ≡ Some bytes.items) }
+    ensures bytes { IfOk result (λ bytes. frozen_bytes kind key0 key1 (L.strings list.now)
+        ≡ Some bytes.items) }
     ensures err { IfErr result (IsRefusal kind (L.strings list.now)) }
-    ensures no_places { IfErr result (λ error. error ≡ NoPlaces → LackAllPlaces (L.strings list.now) key0 key1) }
+    ensures no_places { IfErr result (λ error. error ≡ NoPlaces →
+        LackAllPlaces (L.strings list.now) key0 key1) }
     ensures no_bytes { let none = frozen_bytes kind key0 key1 (L.strings list.now) ≡ None in
         IfErr result (λ error. error ≡ NoPlaces → none) }
 {
     check_strings(kind, list)?;
     match freeze_near(alloc, list, kind, key0, key1)? {
         Some(bytes) => Ok(bytes),
-        None => Err(no_places(alloc, list)),
+        None => Err(FreezeError::NoPlaces),
     }
 }
 
-/// As [`freeze`], for a caller who has no keys: under the keys 0 and 0 and those that `freeze` tries after
-/// them, and if a string gets no place under any of these, under keys that are drawn from the strings, by a hash
-/// of all of them, and those that `freeze` tries after these. The same strings always give the same bytes,
-/// `default_bytes`.
+/// As [`freeze`], for a caller who has no keys: under the keys 0 and 0 and those that `freeze` tries
+/// after them, and if a string gets no place under any of these, under keys that are drawn from the
+/// strings, by a hash of all of them, and those that `freeze` tries after these. The same strings
+/// always give the same bytes, `default_bytes`.
 ///
 /// # Errors
 ///
@@ -98,7 +101,7 @@ pub fn freeze_with_default_keys<L: StringList>(
     let key1 = hash_all(list, key0, 0);
     match freeze_near(alloc, list, kind, key0, key1)? {
         Some(bytes) => Ok(bytes),
-        None => Err(no_places(alloc, list)),
+        None => Err(FreezeError::NoPlaces),
     }
 }
 
@@ -120,19 +123,6 @@ fn check_strings<L: StringList>(kind: Kind, list: &L) -> Result<(), FreezeError>
     }
 }
 
-// The error for strings that got no place under any of the keys.
-fn no_places<L: StringList>(alloc: Global, list: &L) -> FreezeError
-    requires { length (L.strings list.now) ≤ 2 ^ 31 }
-    ensures { let strings = L.strings list.now in
-        (kind : Kind) → AreAllowed kind strings → IsRefusal kind strings result }
-{
-    match equal_strings(alloc, list) {
-        Ok(Some((first, second))) => FreezeError::Equal(first, second),
-        Ok(None) => FreezeError::NoPlaces,
-        Err(_) => FreezeError::Memory,
-    }
-}
-
 // The bytes under these keys or one of the seven pairs after them, or nothing if each leaves a string no
 // place.
 fn freeze_near<L: StringList>(
@@ -148,6 +138,7 @@ fn freeze_near<L: StringList>(
         IfOk result (λ found. MatchOption found lacking (λ bytes. IsWritten bytes.items)) }
     ensures bytes { let bytes = frozen_bytes kind key0 key1 (L.strings list.now) in
         IfOk result (λ found. MatchOption found (bytes ≡ None) (λ made. bytes ≡ Some made.items)) }
+    ensures distinct { IfOk result (λ found. found ≡ None → HasNoEqual (L.strings list.now)) }
     ensures err { IfErr result (IsRefusal kind (L.strings list.now)) }
     ensures others { IfErr result (λ error. error ≢ NoPlaces) }
 {
@@ -173,14 +164,16 @@ fn freeze_under<L: StringList>(
         IfOk result (λ found. MatchOption found lacking (λ bytes. IsTable bytes.items)) }
     ensures bytes { let bytes = bytes_under kind (L.strings list.now) key0 key1 in
         IfOk result (λ found. MatchOption found (bytes ≡ None) (λ made. bytes ≡ Some made.items)) }
+    ensures distinct { IfOk result (λ found. found ≡ None → HasNoEqual (L.strings list.now)) }
     ensures err { IfErr result (IsRefusal kind (L.strings list.now)) }
     ensures others { IfErr result (λ error. error ≢ NoPlaces) }
 {
     let hashes = hashes(alloc, list, key0, key1)?;
     let Some(sections) = place_all(alloc, &hashes)? else {
-        return match equal_pair(alloc, list, &hashes)? {
-            Some((first, second)) => Err(FreezeError::Equal(first, second)),
-            None => Ok(None),
+        return match equal_strings(alloc, list) {
+            Ok(Some((first, second))) => Err(FreezeError::Equal(first, second)),
+            Ok(None) => Ok(None),
+            Err(_) => Err(FreezeError::Memory),
         };
     };
     let bytes = assemble(
@@ -209,8 +202,8 @@ fn byte_count<L: StringList>(list: &L) -> u64
     count
 }
 
-// Whether the bytes are a frozen table of these strings, which have these hashes, under these keys, and with these
-// pilots.
+// Whether the bytes are a frozen table of these strings, which have these hashes, under
+// these keys, and with these pilots.
 fn holds<L: StringList>(
     bytes: &[u8],
     list: &L,

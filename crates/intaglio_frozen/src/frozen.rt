@@ -37,8 +37,8 @@ impl<'a> Model for Frozen<'a> {
 }
 
 impl<'a> Frozen<'a> {
-    /// The table of these bytes, after a check of all of them: that each string is found at its symbol, that the
-    /// places without a string are empty, and, if the kind is text, that each string is UTF-8.
+    /// The table of these bytes, after a check of all of them: that each string is found at its symbol, that
+    /// the places without a string are empty, and, if the kind is text, that each string is UTF-8.
     ///
     /// # Errors
     ///
@@ -150,8 +150,9 @@ impl<'a> Frozen<'a> {
 
     /// The symbol of each string of a batch, where it is in the table.
     ///
-    /// If the table has at least 2^14 strings, then in groups of 64 all are hashed before the first is looked up, so
-    /// the cache misses of several look-ups overlap. It allocates the list that it returns, and nothing else.
+    /// If the table has at least 2^14 strings, then in groups of 64 all are hashed before the
+    /// first is looked up, so the cache misses of several look-ups overlap. It allocates the list
+    /// that it returns, and nothing else.
     ///
     /// # Errors
     ///

@@ -5,7 +5,7 @@ ghost use Rattle.intaglio_frozen.specs.Fault.{IsFault};
 
 use crate::error::FrozenError;
 use crate::kind::Kind;
-use crate::numbers::{read_u32, read_u64};
+use intaglio_hash::numbers::{read_u32, read_u64};
 
 // How many bytes the header has.
 pub(crate) const HEADER: usize = 64;

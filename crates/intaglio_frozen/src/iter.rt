@@ -7,7 +7,7 @@ ghost use Rattle.intaglio_frozen.specs.Strings.{strings_from, AreEnds};
 ghost use Rattle.intaglio_frozen.specs.Layout.{numbers_at};
 
 use crate::layout::part;
-use crate::numbers::read_u32;
+use intaglio_hash::numbers::read_u32;
 use intaglio_symbol::{AllSymbols, Symbol};
 use std::alloc::AllocError;
 use std::iter::FusedIterator;
@@ -117,8 +117,8 @@ impl<'a> Clone for FrozenStrings<'a> {
 
 /// An iterator over the symbols of a frozen table with their strings, in order.
 ///
-/// A contract sees it as the list of the numbers and strings that are left. After the last pair, `next` returns
-/// `None`. `size_hint` is exact, and a clone allocates nothing. There is no `next_back`.
+/// A contract sees it as the list of the numbers and strings that are left. After the last pair, `next`
+/// returns `None`. `size_hint` is exact, and a clone allocates nothing. There is no `next_back`.
 #[derive(Drop)]
 pub struct FrozenPairs<'a> {
     symbols: AllSymbols<'a>,

@@ -10,8 +10,8 @@ use intaglio::Table;
 use intaglio_content::Content;
 use std::hash::BuildHasher;
 
-/// A look-up in a table finds what a look-up in the list of its spellings finds, which is what a frozen table is,
-/// if a content's key is its spelling: for texts, bytes, byte strings and OS strings.
+/// A look-up in a table finds what a look-up in the list of its spellings finds, which is what a frozen table
+/// is, if a content's key is its spelling: for all kinds but paths.
 ///
 /// The function does nothing: where a proof needs the law, the code calls it there.
 ///
@@ -39,8 +39,8 @@ pub fn spelling_law<C: Content, S: BuildHasher>(table: &Table<C, S>, string: &[u
 
 /// Frozen tables are the same bytes if they have the same kind, keys, strings and pilots.
 ///
-/// So the pilots are all that those leave open: a group may have any pilot under which its strings are found, and a
-/// group without strings any at all. The function does nothing: its contract is the law.
+/// So the pilots are all that those leave open: a group may have any pilot under which its strings are found,
+/// and a group without strings any at all. The function does nothing: its contract is the law.
 pub fn one_file_law(first: &[u8], second: &[u8])
     requires first { IsFrozen first.now }
     requires second { IsFrozen second.now }
@@ -51,8 +51,8 @@ pub fn one_file_law(first: &[u8], second: &[u8])
     let _lengths = (first.len(), second.len());
 }
 
-/// What [`freeze`](crate::freeze) and [`freeze_with_default_keys`](crate::freeze_with_default_keys) write is the same
-/// bytes, if it is of the same kind, strings and keys.
+/// What [`freeze`](crate::freeze) and [`freeze_with_default_keys`](crate::freeze_with_default_keys) write is
+/// the same bytes, if it is of the same kind, strings and keys.
 ///
 /// The function does nothing: its contract is the law.
 ///

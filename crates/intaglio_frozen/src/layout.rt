@@ -11,9 +11,10 @@ use crate::error::FrozenError;
 use crate::header::HEADER;
 use crate::iter::FrozenStrings;
 use crate::kind::Kind;
-use crate::numbers::{NO_SYMBOL, hash_by, mixed, read_u16, read_u32, scaled};
+use crate::numbers::{NO_SYMBOL, hash_by, mixed, scaled};
 use crate::sections::Sections;
 use intaglio_hash::KeyedState;
+use intaglio_hash::numbers::{read_u16, read_u32};
 use std::marker::Model;
 use std::str;
 
@@ -22,7 +23,8 @@ use std::str;
 pub(crate) struct Layout<'a> {
     bytes: &'a [u8],
     text: &'a [u8],
-    // The ends of the strings, and the four bytes before them, so that each string has a number before its end.
+    // The ends of the strings, and the four bytes before them, so that each
+    // string has a number before its end.
     ends: &'a [u8],
     state: KeyedState,
     kind: Kind,
@@ -199,7 +201,8 @@ impl<'a> Layout<'a> {
         Some(symbol)
     }
 
-    // Reads what a look-up by this hash will read, and returns the first byte of the string that it will compare.
+    // Reads what a look-up by this hash will read, and returns the first byte
+    // of the string that it will compare.
     #[inline(always)]
     pub(crate) fn touch(&self, hashed: u64) -> u8 {
         let Some(symbol) = self.candidate(hashed) else {
@@ -211,13 +214,14 @@ impl<'a> Layout<'a> {
         }
     }
 
-    // Whether the string of a symbol is found at it, by the string's hash. No string is compared: what has the
-    // symbol in its place is the string itself.
+    // Whether the string of a symbol is found at it, by the string's hash. No string is compared: what has
+    // the symbol in its place is the string itself.
     #[inline(always)]
     pub(crate) fn is_at(&self, hashed: u64, i: usize) -> bool
         requires { IsHashAt self.now i hashed }
         ensures found { IsTrue result → IsFoundAt self.now i }
-        ensures not_found { result ≡ false → (w : List ℕ) → slice_get (strings self.now) i ≡ Some w → find self.now w ≢ Some i }
+        ensures not_found { result ≡ false → (w : List ℕ) → slice_get (strings self.now) i ≡ Some w →
+            find self.now w ≢ Some i }
     {
         let place = self.place(hashed);
         if self.bytes[self.tags_at + place] != (hashed % 256) as u8 {

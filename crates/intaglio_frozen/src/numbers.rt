@@ -1,8 +1,8 @@
-//! Little-endian numbers, and the places of hashes.
+//! The hash of a string, its place, and how many places there are.
 ghost use Rattle.std.specs.Prelude.{◌≡◌, ◌+◌, ◌<◌, ◌≤◌, ◌^◌, length};
 ghost use Rattle.std.specs.Hash.DefaultHasher.{write, finish};
 ghost use Rattle.intaglio_hash.specs.KeyedState.{initial_hasher};
-ghost use Rattle.intaglio_frozen.specs.Layout.{u16_at, u32_at, u64_at, places_for, groups_for};
+ghost use Rattle.intaglio_frozen.specs.Layout.{places_for, groups_for};
 ghost use Rattle.intaglio_frozen.specs.LookUp.{scaled, mixed};
 
 use intaglio_hash::KeyedState;
@@ -10,42 +10,6 @@ use std::hash::{BuildHasher, Hasher};
 
 // The symbol of a place that no string has.
 pub(crate) const NO_SYMBOL: u32 = u32::MAX;
-
-#[inline(always)]
-#[tactic(auto, unfolding(crate::specs::Layout::u16_at))]
-pub(crate) fn read_u16(bytes: &[u8], at: usize) -> u16
-    requires { at + 2 ≤ length bytes.now }
-    ensures { result ≡ u16_at bytes.now at }
-{
-    u16::from_le_bytes([bytes[at], bytes[at + 1]])
-}
-
-#[inline(always)]
-#[tactic(auto, unfolding(crate::specs::Layout::u32_at))]
-pub(crate) fn read_u32(bytes: &[u8], at: usize) -> u32
-    requires { at + 4 ≤ length bytes.now }
-    ensures { result ≡ u32_at bytes.now at }
-{
-    u32::from_le_bytes([bytes[at], bytes[at + 1], bytes[at + 2], bytes[at + 3]])
-}
-
-#[inline(always)]
-#[tactic(auto, unfolding(crate::specs::Layout::u64_at))]
-pub(crate) fn read_u64(bytes: &[u8], at: usize) -> u64
-    requires { at + 8 ≤ length bytes.now }
-    ensures { result ≡ u64_at bytes.now at }
-{
-    u64::from_le_bytes([
-        bytes[at],
-        bytes[at + 1],
-        bytes[at + 2],
-        bytes[at + 3],
-        bytes[at + 4],
-        bytes[at + 5],
-        bytes[at + 6],
-        bytes[at + 7],
-    ])
-}
 
 // A number below `n`, from the upper half of a hash.
 #[inline(always)]

@@ -33,8 +33,8 @@ pub(crate) fn place_all(alloc: Global, hashes: &[u64]) -> Result<Option<Sections
     place_sorted(alloc, hashes, &grouped.hashes, &grouped.ends, &order)
 }
 
-// The same, by the hashes in the order of their groups, which have these ends, and by the groups in the order in
-// which they are placed.
+// The same, by the hashes in the order of their groups, which have these ends, and by the groups in the
+// order in which they are placed.
 fn place_sorted(
     alloc: Global,
     hashes: &[u64],

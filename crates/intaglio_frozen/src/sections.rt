@@ -2,7 +2,8 @@
 ghost use Rattle.std.specs.Prelude.{◌≡◌, ℕ, List, ◌≤◌, ◌<◌, ◌+◌, ◌^◌, length, drop, slice_get, get_or, [], ◌∷◌, IfOk, IfErr, IfSome, IsOk, IsSome, Some, option_copied};
 ghost use Rattle.std.specs.Slice.{IsGetRangeResult};
 ghost use Rattle.intaglio_interner.specs.State.{first};
-ghost use Rattle.intaglio_frozen.specs.Layout.{u16_at, u32_at, count, ends, strings};
+ghost use Rattle.intaglio_hash.specs.Numbers.{u16_at, u32_at};
+ghost use Rattle.intaglio_frozen.specs.Layout.{count, ends, strings};
 ghost use Rattle.intaglio_frozen.specs.LookUp.{hash, place, scaled, IsCandidate};
 ghost use Rattle.intaglio_frozen.specs.IsFrozen.{HasSections, IsBlock, IsFrozen};
 ghost use Rattle.intaglio_frozen.specs.Sections.{AreSectionsOf};
@@ -11,18 +12,19 @@ ghost use Rattle.intaglio_frozen.specs.Fault.{IsFault};
 use crate::error::FrozenError;
 use crate::header::{HEADER, Header};
 use crate::kind::Kind;
-use crate::numbers::{groups_for, hash_by, mixed, places_for, read_u16, read_u32};
+use crate::numbers::{groups_for, hash_by, mixed, places_for};
 use intaglio_content::same_bytes;
 use intaglio_hash::KeyedState;
+use intaglio_hash::numbers::{read_u16, read_u32};
 use intaglio_symbol::Symbol;
 
-/// What the header of a frozen table says, and where its sections begin: read once, for many look-ups in the same
-/// bytes.
+/// What the header of a frozen table says, and where its sections begin: read once, for
+/// many look-ups in the same bytes.
 ///
-/// The numbers are plain, so that a caller in C can keep them. Each call is passed the bytes again, and reads their
-/// sections and not their header. Whatever the numbers and the bytes are, no call panics or reads outside the bytes.
-/// What a call returns is known only of the bytes that the numbers were read from: then it is what
-/// [`TrustedFrozen`](crate::TrustedFrozen) returns.
+/// The numbers are plain, so that a caller in C can keep them. Each call is passed the bytes again, and reads
+/// their sections and not their header. Whatever the numbers and the bytes are, no call panics or reads
+/// outside the bytes. If the numbers were read from the bytes of a frozen table, and the calls are passed the
+/// same bytes, they return what [`TrustedFrozen`](crate::TrustedFrozen) returns.
 ///
 /// ```
 /// # use intaglio::{StrContent, SymbolTable};
@@ -43,8 +45,8 @@ pub struct Sections {
     pub key1: u64,
     /// How many strings there are.
     pub count: usize,
-    /// Where the starts of the strings begin, four bytes each: the start of the first is always 0, whatever stands
-    /// there, and that of each other is the end of the one before.
+    /// Where the starts of the strings begin, four bytes each: the start of the first is always 0, whatever
+    /// stands there, and that of each other is the end of the one before.
     pub starts_at: usize,
     /// Where the pilots begin, two bytes each.
     pub pilots_at: usize,
@@ -61,8 +63,8 @@ pub struct Sections {
 }
 
 impl Sections {
-    /// The sections of these bytes, after a check of the header and of the length that it requires. Nothing behind
-    /// the header is read.
+    /// The sections of these bytes, after a check of the header and of the length that it requires.
+    /// Nothing behind the header is read.
     ///
     /// # Errors
     ///
@@ -111,8 +113,8 @@ impl Sections {
         self.string(bytes, symbol.id() as usize)
     }
 
-    /// The symbol of a string, if it is found. If the bytes aren't a frozen table, a string of a symbol may not
-    /// be found.
+    /// The symbol of a string, if it is found. If the bytes aren't a frozen table, a
+    /// string of a symbol may not be found.
     #[inline]
     pub fn check_interned(&self, bytes: &[u8], string: &[u8]) -> Option<Symbol>
         ensures found { AreSectionsOf bytes.now self.now

@@ -12,8 +12,9 @@ use intaglio_content::same_bytes;
 use intaglio_symbol::Symbol;
 use std::marker::Model;
 
-/// A frozen table whose bytes are trusted: only its header is checked, so it opens in constant time. No clause bears
-/// that, since none can say what a call reads; a test opens a table whose other bytes can't be read.
+/// A frozen table whose bytes are trusted: only its header is checked, so it opens in
+/// constant time. No clause bears that, since none can say what a call reads; a test opens
+/// a table whose other bytes can't be read.
 ///
 /// Any bytes that have a header and are as long as it requires can be opened. No call panics or reads outside
 /// them, and what a look-up finds is equal to what was sought. Each string is found at its symbol only if the
@@ -43,8 +44,8 @@ impl<'a> Model for TrustedFrozen<'a> {
 }
 
 impl<'a> TrustedFrozen<'a> {
-    /// The table of these bytes, after a check of the header and of the length that it requires. Nothing behind
-    /// the header is read.
+    /// The table of these bytes, after a check of the header and of the length that it requires.
+    /// Nothing behind the header is read.
     ///
     /// # Errors
     ///
@@ -78,18 +79,19 @@ impl<'a> TrustedFrozen<'a> {
         self.layout.checked_string(symbol.id() as usize)
     }
 
-    /// The symbol of a string, if it is found. If the bytes aren't a frozen table, a string of a symbol may not
-    /// be found.
+    /// The symbol of a string, if it is found. If the bytes aren't a frozen table, a
+    /// string of a symbol may not be found.
     #[inline]
     pub fn check_interned(&self, string: &[u8]) -> Option<Symbol>
         ensures found { IfSome result (λ s. slice_get (strings self.now) s ≡ Some string.now) }
-        ensures frozen { IsFrozen self.now → result ≡ first (λ w. w ∷ []) (strings self.now) (string.now ∷ []) }
+        ensures frozen { IsFrozen self.now →
+            result ≡ first (λ w. w ∷ []) (strings self.now) (string.now ∷ []) }
     {
         self.check_hashed(self.hash(string), string)
     }
 
-    /// The hash of a string under the keys of the table. For batches of a caller's own: the hashes of some dozens of
-    /// strings, then [`touch_hashed`](TrustedFrozen::touch_hashed) of each, then
+    /// The hash of a string under the keys of the table. For batches of a caller's own: the hashes of some
+    /// dozens of strings, then [`touch_hashed`](TrustedFrozen::touch_hashed) of each, then
     /// [`check_hashed`](TrustedFrozen::check_hashed) of each.
     #[inline]
     pub fn hash(&self, string: &[u8]) -> u64
@@ -98,8 +100,9 @@ impl<'a> TrustedFrozen<'a> {
         self.layout.hash(string)
     }
 
-    /// Reads what a look-up by this hash will read, so that the cache misses of several look-ups overlap. The byte
-    /// is one of those that were read, or 0; a caller who keeps it keeps the compiler from leaving out the reads.
+    /// Reads what a look-up by this hash will read, so that the cache misses of several look-ups
+    /// overlap. The byte is one of those that were read, or 0; a caller who keeps it keeps the
+    /// compiler from leaving out the reads.
     #[inline]
     pub fn touch_hashed(&self, hashed: u64) -> u8 {
         self.layout.touch(hashed)
@@ -110,7 +113,8 @@ impl<'a> TrustedFrozen<'a> {
     pub fn check_hashed(&self, hashed: u64, string: &[u8]) -> Option<Symbol>
         requires { hashed ≡ hash self.now string.now }
         ensures found { IfSome result (λ s. slice_get (strings self.now) s ≡ Some string.now) }
-        ensures frozen { IsFrozen self.now → result ≡ first (λ w. w ∷ []) (strings self.now) (string.now ∷ []) }
+        ensures frozen { IsFrozen self.now →
+            result ≡ first (λ w. w ∷ []) (strings self.now) (string.now ∷ []) }
     {
         let symbol = self.layout.candidate(hashed)?;
         let stored = self.layout.checked_string(symbol as usize)?;

@@ -24,5 +24,6 @@ module _ (bs : List ℕ) (byte : (k : ℕ) → get_or bs k 0 < 256) where
   pub number-word : (i : ℕ) → number bs i 0 8 ≡ read_u64 bs i
   unfolding read_u64
   number-word i =
-      let whole : (read_u32 bs (i + 4) * 2 ^ 32) % 2 ^ 64 ≡ read_u32 bs (i + 4) * 2 ^ 32 = omega (arith, half-below (i + 4)) in
+      let whole : (read_u32 bs (i + 4) * 2 ^ 32) % 2 ^ 64 ≡ read_u32 bs (i + 4) * 2 ^ 32 =
+      omega (arith, half-below (i + 4)) in
       rw whole (halves i ∙ sym (or_shifted_r (read_u32 bs (i + 4)) 32 (read_u32 bs i) (half-below i)))

@@ -6,9 +6,9 @@ use std::hash::BuildHasher;
 
 /// A hash builder of fixed seed: each [`FixedHasher`] that it builds is the same.
 ///
-/// Its hashes are those of std's `BuildHasherDefault<FoldHasher>`. Hashing alone takes longer than with that; a
-/// look-up in a packed table, which also compares, takes less time. Packed tables have it by default; an owned
-/// table gets it by `with_hasher`. The [crate's page](crate) compares the builders.
+/// Its hashes are those of std's `BuildHasherDefault<FoldHasher>`. Hashing alone takes longer than with that;
+/// a look-up in a packed table, which also compares, takes less time. Packed tables have it by default; an
+/// owned table gets it by `with_hasher`. The [crate's page](crate) compares the builders.
 ///
 /// ```
 /// use intaglio_hash::FixedState;

@@ -1,13 +1,13 @@
 #![tactic(auto)]
-//! Hash builders: one with two keys, whose hashers compute SipHash-1-3, as std's `DefaultHasher` does, and
-//! one of fixed seed, whose hashers compute what std's `FoldHasher` does.
+//! Two hash builders. One has two keys, and its hashers compute SipHash-1-3, as std's `DefaultHasher` does.
+//! The other has a fixed seed, and its hashers compute what std's `FoldHasher` does.
 //!
 //! A table hashes contents with the hashers of its hash builder. These are the builders to choose from:
 //!
-//! - std's `BuildHasherDefault<FoldHasher>`, the default of owned tables, has a fixed seed. Use it where nobody
-//!   chooses contents to slow the program down: hashing alone takes the least time with it.
-//! - [`FixedState`] has the same seed and hashes, computed with fewer branches on the length of a string. Packed
-//!   tables have it by default: their comparison branches on the same lengths, so hash and comparison
+//! - std's `BuildHasherDefault<FoldHasher>`, the default of owned tables, has a fixed seed. Use it where
+//!   nobody chooses contents to slow the program down: hashing alone takes the least time with it.
+//! - [`FixedState`] has the same seed and hashes, computed with fewer branches on the length of a string.
+//!   Packed tables have it by default: their comparison branches on the same lengths, so hash and comparison
 //!   together take less time there.
 //! - [`KeyedState`] has two keys: random ones, or two numbers of yours. Use it where contents come from
 //!   untrusted sources, or where several tables or runs must agree on hashes.
@@ -34,6 +34,7 @@ mod fixed_hasher;
 mod fixed_state;
 mod hasher;
 pub mod laws;
+pub mod numbers;
 mod state;
 mod words;
 

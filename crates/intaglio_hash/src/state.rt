@@ -10,8 +10,9 @@ use std::hash::{BuildHasher, RandomState};
 
 /// A hash builder: each [`KeyedHasher`] that it builds has the same two keys.
 ///
-/// Use it instead of std's `RandomState` if hashing should be faster, and with random keys instead of a
-/// builder with a fixed seed if contents come from untrusted sources. The [crate's page](crate) compares the builders.
+/// Use it instead of std's `RandomState` if hashing should be faster, and with random keys
+/// instead of a builder with a fixed seed if contents come from untrusted sources. The [crate's
+/// page](crate) compares the builders.
 ///
 /// Copies have the same keys. `Debug` doesn't print them.
 ///
@@ -52,7 +53,8 @@ impl KeyedState {
 
     /// A builder whose keys are `random.hash_one(0u64)` and `random.hash_one(1u64)`.
     ///
-    /// Its hashes aren't those of `random`, since the keys of a `RandomState` can't be read. The same `random` always gives the same builder.
+    /// Its hashes aren't those of `random`, since the keys of a `RandomState` can't be read. The same
+    /// `random` always gives the same builder.
     ///
     /// ```
     /// # use intaglio_hash::KeyedState;

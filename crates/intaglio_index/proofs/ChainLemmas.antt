@@ -2,231 +2,353 @@
 use Rattle.std.proofs.Common.{◌≡◌, ◌≢◌, ℕ, zero, suc, ◌+◌, ◌<◌, ◌≤◌, ◌%◌, Bool, true, false, cond, List, [], ◌∷◌, ◌++◌, length, get_or, refl, sym, ap, ◌∙◌, arith, eqb, ltb, length-append, append_assoc, inl, inr}
 use Rattle.std.specs.List.{Contains, AllByRecursion, IsDistinct}
 use Rattle.std.specs.List.Sorted.{IsPermutation}
-use Rattle.std.proofs.lemmas.Bool.{eqb-true, ltb-true, ltb-false, le-ltb, lt-ltb}
+use Rattle.std.proofs.lemmas.Bool.{eqb-true, ltb-true, ltb-false, le-ltb, lt-ltb, eq-eqb, ne_eqb}
 use Rattle.std.proofs.lemmas.Bool.Decides.{eqb_tells}
 use Rattle.std.proofs.lemmas.List.{get_or_at, append-nil}
-use Rattle.std.proofs.lemmas.List.Elements.{All-from_recursion}
+use Rattle.std.proofs.lemmas.List.Elements.{All-from_recursion, Contains-append_right}
 use Rattle.std.proofs.lemmas.List.Kept.{AllPairs-cons}
 use Rattle.std.proofs.lemmas.List.Sorted.{IsPermutation-refl, IsPermutation-trans, IsPermutation-middle, IsPermutation-sym, IsPermutation-cons, IsPermutation-append_right, Contains-permutation}
 use Rattle.std.proofs.lemmas.Map.Keys.{IsDistinct-IsPermutation}
-use Rattle.intaglio_index.specs.Placed.{Placed, chain, chain_from, places_from, members, insert_sorted, symbols_of, AreSorted, BeginsAtOrAbove, IsEntry, IsBucket}
+use Rattle.intaglio_index.specs.Placed.{Placed, chain, chain_from, places_from, members, insert_sorted, symbols_of, AreSorted, BeginsAtOrAbove, IsPredecessor, IsEntry, IsBucket}
 
-pub eqb-unequal : (a b : ℕ) → a ≢ b → eqb a b ≡ false
-eqb-unequal a b n = elim (eqb_tells a b) [ inl h ↦ absurd (n h.1) | inr h ↦ h.0 ]
-
-pub eqb-equal : (a b : ℕ) → a ≡ b → eqb a b ≡ true
-eqb-equal a b e = elim (eqb_tells a b) [ inl h ↦ h.0 | inr h ↦ absurd (h.1 e) ]
-
+-- the test of two numbers for equality is symmetric
 pub eqb-flips : (a b : ℕ) → eqb a b ≡ eqb b a
 eqb-flips a b =
-    elim (eqb_tells a b) [ inl h ↦ h.0 ∙ sym (eqb-equal b a (sym h.1)) | inr h ↦ h.0 ∙ sym (eqb-unequal b a (λ e. h.1 (sym e))) ]
+    elim (eqb_tells a b) [
+      | inl h ↦ h.0 ∙ sym (eq-eqb b a (sym h.1))
+      | inr h ↦ h.0
+          ∙ sym (ne_eqb b a (λ e. h.1 (sym e)))
+    ]
 
-pub Each-weaker : {X : Type 0} (P Q : X → Type 0) → ((x : X) → P x → Q x) → (xs : List X) → AllByRecursion P xs → AllByRecursion Q xs
+-- if P implies Q and holds of each element of a list, so does Q
+pub Each-weaker : {X : Type 0} (P Q : X → Type 0) → ((x : X) → P x → Q x) → (xs : List X) →
+    AllByRecursion P xs → AllByRecursion Q xs
 Each-weaker P Q f [] h = tt
 Each-weaker P Q f (x ∷ xs) h = (f x h.0, Each-weaker P Q f xs h.1)
 
-pub Each-left : {X : Type 0} (P : X → Type 0) (xs ys : List X) → AllByRecursion P (xs ++ ys) → AllByRecursion P xs
+-- what holds of each element of an append holds of each of the first list
+pub Each-left : {X : Type 0} (P : X → Type 0) (xs ys : List X) → AllByRecursion P (xs ++ ys) →
+    AllByRecursion P xs
 Each-left P [] ys h = tt
 Each-left P (x ∷ xs) ys h = (h.0, Each-left P xs ys h.1)
 
-pub Each-right : {X : Type 0} (P : X → Type 0) (xs ys : List X) → AllByRecursion P (xs ++ ys) → AllByRecursion P ys
+-- what holds of each element of an append holds of each of the second list
+pub Each-right : {X : Type 0} (P : X → Type 0) (xs ys : List X) → AllByRecursion P (xs ++ ys) →
+    AllByRecursion P ys
 Each-right P [] ys h = h
 Each-right P (x ∷ xs) ys h = Each-right P xs ys h.1
 
-pub Each-append : {X : Type 0} (P : X → Type 0) (xs ys : List X) → AllByRecursion P xs → AllByRecursion P ys → AllByRecursion P (xs ++ ys)
+-- what holds of each element of two lists holds of each of their append
+pub Each-append : {X : Type 0} (P : X → Type 0) (xs ys : List X) → AllByRecursion P xs → AllByRecursion P ys →
+    AllByRecursion P (xs ++ ys)
 Each-append P [] ys h k = k
 Each-append P (x ∷ xs) ys h k = (h.0, Each-append P xs ys h.1 k)
 
 -- what put keeps of each entry
-insert_sorted-each : (P : ℕ × ℕ → Type 0) (s h : ℕ) (es : List (ℕ × ℕ)) → P (s, h) → AllByRecursion P es → AllByRecursion P (insert_sorted s h es)
+insert_sorted-each : (P : ℕ × ℕ → Type 0) (s h : ℕ) (es : List (ℕ × ℕ)) → P (s, h) → AllByRecursion P es →
+    AllByRecursion P (insert_sorted s h es)
 insert_sorted-each P s h [] p a = (p, tt)
 insert_sorted-each P s h (e ∷ es) p a =
-    elim (ltb e.1 h) as (λ t. AllByRecursion P (cond t (e ∷ insert_sorted s h es) ((s, h) ∷ e ∷ es))) [ true ↦ (a.0, insert_sorted-each P s h es p a.1) | false ↦ (p, a) ]
+    elim (ltb e.1 h) as (λ t. AllByRecursion P (cond t (e ∷ insert_sorted s h es) ((s, h) ∷ e ∷ es))) [
+      | true ↦
+          (a.0, insert_sorted-each P s h es p a.1)
+      | false ↦ (p, a)
+    ]
 
 -- where the front part is smaller and the rest is not, put goes between
-pub insert_sorted-between : (s h : ℕ) (before behind : List (ℕ × ℕ)) → AllByRecursion (λ (e : ℕ × ℕ). e.1 < h) before → BeginsAtOrAbove h behind → insert_sorted s h (before ++ behind) ≡ before ++ (s, h) ∷ behind
+pub insert_sorted-between : (s h : ℕ) (before behind : List (ℕ × ℕ)) →
+    AllByRecursion (λ (e : ℕ × ℕ). e.1 < h) before → BeginsAtOrAbove h behind →
+    insert_sorted s h (before ++ behind) ≡ before ++ (s, h) ∷ behind
 insert_sorted-between s h [] [] a l = refl
 insert_sorted-between s h [] (e ∷ es) a l = rw (le-ltb e.1 h l) refl
-insert_sorted-between s h (e ∷ es) behind a l = rw (lt-ltb e.1 h a.0, insert_sorted-between s h es behind a.1 l) refl
+insert_sorted-between s h (e ∷ es) behind a l =
+    rw (lt-ltb e.1 h a.0, insert_sorted-between s h es behind a.1 l) refl
 
-pub put_some : (s h : ℕ) (es : List (ℕ × ℕ)) → insert_sorted s h es ≡ [] → ⊥
-put_some s h [] e = cc
-put_some s h (x ∷ xs) e =
-    (elim (ltb x.1 h) as (λ t. cond t (x ∷ insert_sorted s h xs) ((s, h) ∷ x ∷ xs) ≡ [] → ⊥) [ true ↦ λ q. cc | false ↦ λ q. cc ]) e
+-- a symbol is inserted directly behind the predecessor for its hash
+pub put-behind : (s h : ℕ) (path : List (ℕ × ℕ)) (last : ℕ) (pred : IsPredecessor h path last) →
+    insert_sorted s h path ≡ pred.front ++ (last, pred.hash) ∷ (s, h) ∷ pred.behind
+put-behind s h path last pred =
+    let joined : path ≡ (pred.front ++ (last, pred.hash) ∷ []) ++ pred.behind =
+    pred.split ∙ sym (append_assoc pred.front ((last, pred.hash) ∷ []) pred.behind) in
+    ap (insert_sorted s h) joined
+    ∙ insert_sorted-between s h (pred.front ++ (last, pred.hash) ∷ []) pred.behind pred.smaller pred.others
+    ∙ append_assoc pred.front ((last, pred.hash) ∷ []) ((s, h) ∷ pred.behind)
+
+-- a list with a symbol inserted isn't empty
+pub put-some : (s h : ℕ) (es : List (ℕ × ℕ)) → insert_sorted s h es ≡ [] → ⊥
+put-some s h [] e = cc
+put-some s h (x ∷ xs) e =
+    (elim (ltb x.1 h) as (λ t. cond t (x ∷ insert_sorted s h xs) ((s, h) ∷ x ∷ xs) ≡ [] → ⊥) [
+      | true ↦
+          λ q. cc
+      | false ↦ λ q. cc
+    ]) e
 
 -- one more hash at the end
-pub chain_from-push : (count b at : ℕ) (met : List (ℕ × ℕ)) (hs : List ℕ) (h : ℕ) → chain_from count b at met (hs ++ h ∷ []) ≡ cond (eqb (h % count) b) (insert_sorted (at + length hs) h (chain_from count b at met hs)) (chain_from count b at met hs)
+chain_from-push : (count b at : ℕ) (met : List (ℕ × ℕ)) (hs : List ℕ) (h : ℕ) →
+    chain_from count b at met (hs ++ h ∷ [])
+    ≡ cond (eqb (h % count) b) (insert_sorted (at + length hs) h (chain_from count b at met hs))
+    (chain_from count b at met hs)
 chain_from-push count b at met [] h = let e : at + 0 ≡ at = omega arith in rw e refl
 chain_from-push count b at met (y ∷ ys) h =
     let e : (at + 1) + length ys ≡ at + suc (length ys) = omega arith in
     rw (← e) (chain_from-push count b (at + 1) (cond (eqb (y % count) b) (insert_sorted at y met) met) ys h)
 
+-- with one more hash, its symbol is inserted into the chain of its bucket, and no other chain changes
+pub chain-push : (count b : ℕ) (hs : List ℕ) (h : ℕ) →
+    chain_from count b 0 [] (hs ++ h ∷ [])
+    ≡ cond (eqb (h % count) b) (insert_sorted (length hs) h (chain_from count b 0 [] hs))
+    (chain_from count b 0 [] hs)
+chain-push count b hs h = let zero : 0 + length hs ≡ length hs = omega arith in
+    rw zero at (chain_from-push count b 0 [] hs h)
+
 -- the hash's own bucket has one symbol more, and the others stay
-pub chain_grows : (count : ℕ) (hs : List ℕ) (h : ℕ) → chain_from count (h % count) 0 [] (hs ++ h ∷ []) ≡ insert_sorted (length hs) h (chain_from count (h % count) 0 [] hs)
-chain_grows count hs h =
-    let n_is : 0 + length hs ≡ length hs = omega arith in
-    chain_from-push count (h % count) 0 [] hs h
-    ∙ ap (λ t. cond t (insert_sorted (0 + length hs) h (chain_from count (h % count) 0 [] hs)) (chain_from count (h % count) 0 [] hs)) (eqb-equal (h % count) (h % count) refl)
-    ∙ ap (λ n. insert_sorted n h (chain_from count (h % count) 0 [] hs)) n_is
+pub chain-grows : (count : ℕ) (hs : List ℕ) (h : ℕ) →
+    chain_from count (h % count) 0 [] (hs ++ h ∷ [])
+    ≡ insert_sorted (length hs) h (chain_from count (h % count) 0 [] hs)
+chain-grows count hs h = chain-push count (h % count) hs h ∙ rw (eq-eqb (h % count) (h % count) refl) refl
 
-pub chain_stays : (count b : ℕ) (hs : List ℕ) (h : ℕ) → b ≢ h % count → chain_from count b 0 [] (hs ++ h ∷ []) ≡ chain_from count b 0 [] hs
-chain_stays count b hs h other =
-    chain_from-push count b 0 [] hs h
-    ∙ ap (λ t. cond t (insert_sorted (0 + length hs) h (chain_from count b 0 [] hs)) (chain_from count b 0 [] hs)) (eqb-unequal (h % count) b (λ e. other (sym e)))
+-- one more hash doesn't change the chain of another bucket
+pub chain-stays : (count b : ℕ) (hs : List ℕ) (h : ℕ) → b ≢ h % count →
+    chain_from count b 0 [] (hs ++ h ∷ []) ≡ chain_from count b 0 [] hs
+chain-stays count b hs h other = chain-push count b hs h ∙ rw (ne_eqb (h % count) b (λ e. other (sym e))) refl
 
-chain_from-each : (count b : ℕ) (all before hs : List ℕ) (met : List (ℕ × ℕ)) → all ≡ before ++ hs → AllByRecursion (IsEntry count b all) met → AllByRecursion (IsEntry count b all) (chain_from count b (length before) met hs)
+-- if those met so far are entries of a bucket, so are all after the rest of the hashes are added
+chain_from-each : (count b : ℕ) (all before hs : List ℕ) (met : List (ℕ × ℕ)) → all ≡ before ++ hs →
+    AllByRecursion (IsEntry count b all) met →
+    AllByRecursion (IsEntry count b all) (chain_from count b (length before) met hs)
 chain_from-each count b all before [] met e a = a
 chain_from-each count b all before (h ∷ hs) met e a =
     let more : length (before ++ h ∷ []) ≡ length before + 1 = length-append before (h ∷ []) in
     let split : all ≡ (before ++ h ∷ []) ++ hs = e ∙ sym (append_assoc before (h ∷ []) hs) in
-    let cases : (t : Bool) → eqb (h % count) b ≡ t → AllByRecursion (IsEntry count b all) (cond t (insert_sorted (length before) h met) met) = elim [
-      | true ↦ λ is. insert_sorted-each (IsEntry count b all) (length before) h met
-          (rw e (omega (arith, length-append before (h ∷ hs))), λ d. rw e (get_or_at before h hs d (length before) refl), eqb-true _ _ is) a
+    let cases : (t : Bool) → eqb (h % count) b ≡ t →
+    AllByRecursion (IsEntry count b all) (cond t (insert_sorted (length before) h met) met) = elim [
+      | true ↦ λ is. insert_sorted-each (IsEntry count b all) (length before) h met (
+        rw e (omega (arith, length-append before (h ∷ hs))),
+        λ d. rw e (get_or_at before h hs d (length before) refl),
+        eqb-true _ _ is,
+      ) a
       | false ↦ λ is. a
     ] in
     rw (← more) (chain_from-each count b all (before ++ h ∷ []) hs _ split (cases (eqb (h % count) b) refl))
 
-pub chain-each : (count b : ℕ) (hs : List ℕ) → AllByRecursion (IsEntry count b hs) (chain_from count b 0 [] hs)
+-- each entry of a chain is a placed symbol of its bucket with its hash
+pub chain-each : (count b : ℕ) (hs : List ℕ) →
+    AllByRecursion (IsEntry count b hs) (chain_from count b 0 [] hs)
 chain-each count b hs = chain_from-each count b hs [] hs [] refl tt
 
 -- a chain has the places of its bucket
-insert_sorted-permutation : (s h : ℕ) (es : List (ℕ × ℕ)) → IsPermutation (s ∷ symbols_of es) (symbols_of (insert_sorted s h es))
+insert_sorted-permutation : (s h : ℕ) (es : List (ℕ × ℕ)) →
+    IsPermutation (s ∷ symbols_of es) (symbols_of (insert_sorted s h es))
 insert_sorted-permutation s h [] = IsPermutation-refl (s ∷ [])
 insert_sorted-permutation s h (e ∷ es) =
-    elim (ltb e.1 h) as (λ t. IsPermutation (s ∷ e.0 ∷ symbols_of es) (symbols_of (cond t (e ∷ insert_sorted s h es) ((s, h) ∷ e ∷ es)))) [
-      | true ↦ IsPermutation-trans _ _ _ (IsPermutation-sym _ _ (IsPermutation-middle (e.0 ∷ []) s (symbols_of es))) (IsPermutation-cons e.0 _ _ (insert_sorted-permutation s h es))
+    elim (ltb e.1 h) as
+    (λ t. IsPermutation (s ∷ e.0 ∷ symbols_of es)
+    (symbols_of (cond t (e ∷ insert_sorted s h es) ((s, h) ∷ e ∷ es)))) [
+      | true ↦
+          IsPermutation-trans _ _ _
+          (IsPermutation-sym _ _ (IsPermutation-middle (e.0 ∷ []) s (symbols_of es)))
+          (IsPermutation-cons e.0 _ _ (insert_sorted-permutation s h es))
       | false ↦ IsPermutation-refl _
     ]
 
-chain_from-permutation : (count b at : ℕ) (met : List (ℕ × ℕ)) (hs : List ℕ) → IsPermutation (places_from count b at hs ++ symbols_of met) (symbols_of (chain_from count b at met hs))
+-- the symbols of a chain are the places of its bucket and the symbols met before, in some order
+chain_from-permutation : (count b at : ℕ) (met : List (ℕ × ℕ)) (hs : List ℕ) →
+    IsPermutation (places_from count b at hs ++ symbols_of met) (symbols_of (chain_from count b at met hs))
 chain_from-permutation count b at met [] = IsPermutation-refl (symbols_of met)
 chain_from-permutation count b at met (h ∷ hs) =
-    elim (eqb (h % count) b) as (λ t. IsPermutation (cond t (at ∷ places_from count b (at + 1) hs) (places_from count b (at + 1) hs) ++ symbols_of met) (symbols_of (chain_from count b (at + 1) (cond t (insert_sorted at h met) met) hs))) [
+    elim (eqb (h % count) b) as
+    (λ t. IsPermutation (cond t (at ∷ places_from count b (at + 1) hs) (places_from count b (at + 1) hs)
+    ++ symbols_of met)
+    (symbols_of (chain_from count b (at + 1) (cond t (insert_sorted at h met) met) hs))) [
       | true ↦ IsPermutation-trans _ _ _
-          (IsPermutation-trans _ _ _ (IsPermutation-sym _ _ (IsPermutation-middle (places_from count b (at + 1) hs) at (symbols_of met))) (IsPermutation-append_right (places_from count b (at + 1) hs) _ _ (insert_sorted-permutation at h met)))
+          (IsPermutation-trans _ _ _
+          (IsPermutation-sym _ _
+          (IsPermutation-middle (places_from count b (at + 1) hs) at (symbols_of met)))
+          (IsPermutation-append_right (places_from count b (at + 1) hs) _ _
+          (insert_sorted-permutation at h met)))
           (chain_from-permutation count b (at + 1) (insert_sorted at h met) hs)
       | false ↦ chain_from-permutation count b (at + 1) met hs
     ]
 
+-- the symbols of a bucket's chain are its members, in some order
 pub chain-permutation : (v : Placed) (b : ℕ) → IsPermutation (members v b) (symbols_of (chain v b))
 unfolding chain
-chain-permutation v b = let e = append-nil (places_from v.count b 0 v.hashes) in rw e at (chain_from-permutation v.count b 0 [] v.hashes)
+chain-permutation v b = let e = append-nil (places_from v.count b 0 v.hashes) in
+    rw e at (chain_from-permutation v.count b 0 [] v.hashes)
 
 -- the places of a bucket are distinct
 places-above : (count b at : ℕ) (hs : List ℕ) → AllByRecursion (λ s. at ≤ s) (places_from count b at hs)
 places-above count b at [] = tt
 places-above count b at (h ∷ hs) =
-    let rest = Each-weaker (λ s. at + 1 ≤ s) (λ s. at ≤ s) (λ s l. omega arith) _ (places-above count b (at + 1) hs) in
-    elim (eqb (h % count) b) as (λ t. AllByRecursion (λ s. at ≤ s) (cond t (at ∷ places_from count b (at + 1) hs) (places_from count b (at + 1) hs))) [ true ↦ (omega arith, rest) | false ↦ rest ]
+    let rest =
+    Each-weaker (λ s. at + 1 ≤ s) (λ s. at ≤ s) (λ s l. omega arith) _ (places-above count b (at + 1) hs) in
+    elim (eqb (h % count) b) as
+    (λ t. AllByRecursion (λ s. at ≤ s)
+    (cond t (at ∷ places_from count b (at + 1) hs) (places_from count b (at + 1) hs))) [
+      | true ↦
+          (omega arith, rest)
+      | false ↦ rest
+    ]
 
+-- no place of a bucket occurs twice
 places-distinct : (count b at : ℕ) (hs : List ℕ) → IsDistinct eqb (places_from count b at hs)
 unfolding IsDistinct
 places-distinct count b at [] = tt
 places-distinct count b at (h ∷ hs) =
     let rest = places-distinct count b (at + 1) hs in
     let apart : AllByRecursion (λ y. eqb at y ≡ false) (places_from count b (at + 1) hs) =
-    Each-weaker (λ s. at + 1 ≤ s) (λ y. eqb at y ≡ false) (λ s l. eqb-unequal at s (λ e. omega arith)) _ (places-above count b (at + 1) hs) in
-    elim (eqb (h % count) b) as (λ t. IsDistinct eqb (cond t (at ∷ places_from count b (at + 1) hs) (places_from count b (at + 1) hs))) [ true ↦ (apart, rest) | false ↦ rest ]
+    Each-weaker (λ s. at + 1 ≤ s) (λ y. eqb at y ≡ false) (λ s l. ne_eqb at s (λ e. omega arith)) _
+    (places-above count b (at + 1) hs) in
+    elim (eqb (h % count) b) as
+    (λ t. IsDistinct eqb (cond t (at ∷ places_from count b (at + 1) hs) (places_from count b (at + 1) hs)))
+    [ true ↦ (apart, rest) | false ↦ rest ]
 
+-- no symbol occurs twice on a chain
 pub chain-distinct : (count b : ℕ) (hs : List ℕ) → IsDistinct eqb (symbols_of (chain_from count b 0 [] hs))
 chain-distinct count b hs =
     let e = append-nil (places_from count b 0 hs) in
-    IsDistinct-IsPermutation eqb eqb-flips _ _ (rw e at (chain_from-permutation count b 0 [] hs)) (places-distinct count b 0 hs)
+    IsDistinct-IsPermutation eqb eqb-flips _ _ (rw e at (chain_from-permutation count b 0 [] hs))
+    (places-distinct count b 0 hs)
 
 -- the hashes along a chain do not decrease
 abbrev pub InOrder : List (ℕ × ℕ) → Type 0
 InOrder [] = Unit {0}
 InOrder (e ∷ es) = AllByRecursion (λ (f : ℕ × ℕ). e.1 ≤ f.1) es × InOrder es
 
+-- if hashes don't decrease along a list, they don't after an insertion either
 insert_sorted-in_order : (s h : ℕ) (es : List (ℕ × ℕ)) → InOrder es → InOrder (insert_sorted s h es)
 insert_sorted-in_order s h [] o = (tt, tt)
 insert_sorted-in_order s h (e ∷ es) o =
-    let cases : (t : Bool) → ltb e.1 h ≡ t → InOrder (cond t (e ∷ insert_sorted s h es) ((s, h) ∷ e ∷ es)) = elim [
-      | true ↦ λ is. (insert_sorted-each (λ f. e.1 ≤ f.1) s h es (omega (arith, ltb-true e.1 h is)) o.0, insert_sorted-in_order s h es o.1)
-      | false ↦ λ is. (let le : h ≤ e.1 = ltb-false e.1 h is in ((le, Each-weaker (λ (f : ℕ × ℕ). e.1 ≤ f.1) (λ (f : ℕ × ℕ). h ≤ f.1) (λ f l. omega arith) es o.0), o))
+    let cases : (t : Bool) → ltb e.1 h ≡ t → InOrder (cond t (e ∷ insert_sorted s h es) ((s, h) ∷ e ∷ es)) =
+    elim [
+      | true ↦ λ is. (
+        insert_sorted-each (λ f. e.1 ≤ f.1) s h es (omega (arith, ltb-true e.1 h is)) o.0,
+        insert_sorted-in_order s h es o.1,
+      )
+      | false ↦ λ is. (let le : h ≤ e.1 = ltb-false e.1 h is in (
+        (le, Each-weaker (λ (f : ℕ × ℕ). e.1 ≤ f.1) (λ (f : ℕ × ℕ). h ≤ f.1) (λ f l. omega arith) es o.0),
+        o,
+      ))
     ] in
     cases (ltb e.1 h) refl
 
-chain_from-in_order : (count b at : ℕ) (met : List (ℕ × ℕ)) (hs : List ℕ) → InOrder met → InOrder (chain_from count b at met hs)
+-- if hashes don't decrease along the entries met so far, they don't after more hashes are added
+chain_from-in_order : (count b at : ℕ) (met : List (ℕ × ℕ)) (hs : List ℕ) → InOrder met →
+    InOrder (chain_from count b at met hs)
 chain_from-in_order count b at met [] o = o
 chain_from-in_order count b at met (h ∷ hs) o =
-    chain_from-in_order count b (at + 1) _ hs (elim (eqb (h % count) b) as (λ t. InOrder (cond t (insert_sorted at h met) met)) [ true ↦ insert_sorted-in_order at h met o | false ↦ o ])
+    chain_from-in_order count b (at + 1) _ hs
+    (elim (eqb (h % count) b) as (λ t. InOrder (cond t (insert_sorted at h met) met)) [
+      | true ↦
+          insert_sorted-in_order at h met o
+      | false ↦ o
+    ])
 
-sorted_from_order : (es : List (ℕ × ℕ)) → InOrder es → AreSorted es
-sorted_from_order [] o = λ i j d l lj. absurd (omega arith)
-sorted_from_order (e ∷ es) o = AllPairs-cons (λ (e f : ℕ × ℕ). e.1 ≤ f.1) e es (All-from_recursion (λ (f : ℕ × ℕ). e.1 ≤ f.1) es o.0) (sorted_from_order es o.1)
+-- a list along which the hashes don't decrease is sorted: of each two entries the first has no greater hash
+sorted-from-order : (es : List (ℕ × ℕ)) → InOrder es → AreSorted es
+sorted-from-order [] o = λ i j d l lj. absurd (omega arith)
+sorted-from-order (e ∷ es) o =
+    AllPairs-cons (λ (e f : ℕ × ℕ). e.1 ≤ f.1) e es (All-from_recursion (λ (f : ℕ × ℕ). e.1 ≤ f.1) es o.0)
+    (sorted-from-order es o.1)
 
+-- of each two entries of a bucket's chain the first has no greater hash
 pub chain-sorted : (v : Placed) (b : ℕ) → AreSorted (chain v b)
 unfolding chain
-chain-sorted v b = sorted_from_order _ (chain_from-in_order v.count b 0 [] v.hashes tt)
+chain-sorted v b = sorted-from-order _ (chain_from-in_order v.count b 0 [] v.hashes tt)
 
+-- the hashes along a bucket's chain don't decrease
 pub chain-in_order : (v : Placed) (b : ℕ) → InOrder (chain v b)
 unfolding chain
 chain-in_order v b = chain_from-in_order v.count b 0 [] v.hashes tt
 
 -- behind an entry no hash is smaller
-pub InOrder-behind : (front : List (ℕ × ℕ)) (e : ℕ × ℕ) (behind : List (ℕ × ℕ)) → InOrder (front ++ e ∷ behind) → AllByRecursion (λ (f : ℕ × ℕ). e.1 ≤ f.1) behind
+pub InOrder-behind : (front : List (ℕ × ℕ)) (e : ℕ × ℕ) (behind : List (ℕ × ℕ)) →
+    InOrder (front ++ e ∷ behind) → AllByRecursion (λ (f : ℕ × ℕ). e.1 ≤ f.1) behind
 InOrder-behind [] e behind o = o.0
 InOrder-behind (x ∷ front) e behind o = InOrder-behind front e behind o.1
 
+-- each entry of a bucket's chain is a placed symbol of the bucket with its hash
 pub chain-entries : (v : Placed) (b : ℕ) → AllByRecursion (IsEntry v.count b v.hashes) (chain v b)
 unfolding chain
 chain-entries v b = chain-each v.count b v.hashes
 
+-- the chain of a hash's bucket has exactly the symbols of the bucket, each once, in the order of their hashes
 pub chain-bucket : (v : Placed) (h : ℕ) → IsBucket v h
-chain-bucket v h = record { members = chain-permutation v (h % v.count); sorted = chain-sorted v (h % v.count); hashes = chain-entries v (h % v.count) }
+chain-bucket v h =
+    record {
+      members = chain-permutation v (h % v.count);
+      sorted = chain-sorted v (h % v.count);
+      hashes =
+          chain-entries v (h % v.count);
+    }
 
 -- each place of a bucket is on its chain
-pub Contains-cons : (x : ℕ) (xs : List ℕ) (y : ℕ) → Contains xs y → Contains (x ∷ xs) y
-Contains-cons x xs y h = (suc h.0, omega (arith, h.1), h.2)
-
-pub places-complete : (count b at : ℕ) (hs : List ℕ) (i d : ℕ) → i < length hs → get_or hs i d % count ≡ b → Contains (places_from count b at hs) (at + i)
+pub places-complete : (count b at : ℕ) (hs : List ℕ) (i d : ℕ) → i < length hs → get_or hs i d % count ≡ b →
+    Contains (places_from count b at hs) (at + i)
 places-complete count b at [] i d l e = absurd (omega arith)
-places-complete count b at (h ∷ hs) zero d l e = rw (eqb-equal (h % count) b e) (0, omega arith, omega arith)
+places-complete count b at (h ∷ hs) zero d l e = rw (eq-eqb (h % count) b e) (0, omega arith, omega arith)
 places-complete count b at (h ∷ hs) (suc i) d l e =
     let rest : Contains (places_from count b (at + 1) hs) (at + suc i) =
-    (let z : at + suc i ≡ (at + 1) + i = omega arith in rw z (places-complete count b (at + 1) hs i d (omega arith) e)) in
-    elim (eqb (h % count) b) as (λ t. Contains (cond t (at ∷ places_from count b (at + 1) hs) (places_from count b (at + 1) hs)) (at + suc i)) [ true ↦ Contains-cons at _ _ rest | false ↦ rest ]
+    (let z : at + suc i ≡ (at + 1) + i = omega arith in
+    rw z (places-complete count b (at + 1) hs i d (omega arith) e)) in
+    elim (eqb (h % count) b) as
+    (λ t. Contains (cond t (at ∷ places_from count b (at + 1) hs) (places_from count b (at + 1) hs))
+    (at + suc i)) [ true ↦ Contains-append_right (at ∷ []) _ _ rest | false ↦ rest ]
 
-pub chain-complete : (count b : ℕ) (hs : List ℕ) (i : ℕ) → i < length hs → get_or hs i 0 % count ≡ b → Contains (symbols_of (chain_from count b 0 [] hs)) i
+-- a placed symbol whose hash falls in a bucket is on the chain of that bucket
+pub chain-complete : (count b : ℕ) (hs : List ℕ) (i : ℕ) → i < length hs → get_or hs i 0 % count ≡ b →
+    Contains (symbols_of (chain_from count b 0 [] hs)) i
 chain-complete count b hs i l e =
     let none = append-nil (places_from count b 0 hs) in
     let z : 0 + i ≡ i = omega arith in
-    Contains-permutation _ _ i (rw none at (chain_from-permutation count b 0 [] hs)) (rw z at (places-complete count b 0 hs i 0 l e))
+    Contains-permutation _ _ i (rw none at (chain_from-permutation count b 0 [] hs))
+    (rw z at (places-complete count b 0 hs i 0 l e))
 
-pub entry_split : (es : List (ℕ × ℕ)) (s : ℕ) → Contains (symbols_of es) s → (before : List (ℕ × ℕ)) × (e : ℕ × ℕ) × (behind : List (ℕ × ℕ)) × (es ≡ before ++ e ∷ behind) × (e.0 ≡ s)
-entry_split [] s h = absurd (omega (arith, h.1))
-entry_split (x ∷ xs) s h =
-    let cases : (k : ℕ) → k < length (symbols_of (x ∷ xs)) → get_or (symbols_of (x ∷ xs)) k s ≡ s → (before : List (ℕ × ℕ)) × (e : ℕ × ℕ) × (behind : List (ℕ × ℕ)) × (x ∷ xs ≡ before ++ e ∷ behind) × (e.0 ≡ s) = elim [
+-- a list of entries that has a symbol is split at an entry with it
+pub entry-split : (es : List (ℕ × ℕ)) (s : ℕ) → Contains (symbols_of es) s → (before : List (ℕ × ℕ))
+    × (e : ℕ × ℕ) × (behind : List (ℕ × ℕ)) × (es ≡ before ++ e ∷ behind) × (e.0 ≡ s)
+entry-split [] s h = absurd (omega (arith, h.1))
+entry-split (x ∷ xs) s h =
+    let cases : (k : ℕ) → k < length (symbols_of (x ∷ xs)) → get_or (symbols_of (x ∷ xs)) k s ≡ s →
+    (before : List (ℕ × ℕ)) × (e : ℕ × ℕ) × (behind : List (ℕ × ℕ)) × (x ∷ xs ≡ before ++ e ∷ behind)
+    × (e.0 ≡ s) = elim [
       | zero ↦ λ l q. ([], x, xs, refl, q)
-      | suc k ↦ λ l q. (let r = entry_split xs s (k, omega arith, q) in (x ∷ r.0, r.1, r.2, ap (λ ys. x ∷ ys) r.3, r.4))
+      | suc k ↦ λ l q. (let r = entry-split xs s (k, omega arith, q) in
+          (x ∷ r.0, r.1, r.2, ap (λ ys. x ∷ ys) r.3, r.4))
     ] in
     cases h.0 h.1 h.2
 
 -- what put put in stands behind the smaller hashes, and the rest is what was there
-pub unput : (s h : ℕ) (es front behind : List (ℕ × ℕ)) → insert_sorted s h es ≡ front ++ behind → AllByRecursion (λ (e : ℕ × ℕ). e.1 < h) front → BeginsAtOrAbove h behind →
+pub unput : (s h : ℕ) (es front behind : List (ℕ × ℕ)) → insert_sorted s h es ≡ front ++ behind →
+    AllByRecursion (λ (e : ℕ × ℕ). e.1 < h) front → BeginsAtOrAbove h behind →
     (rest : List (ℕ × ℕ)) × (behind ≡ (s, h) ∷ rest) × (es ≡ front ++ rest)
 unput s h [] [] behind e a l = ([], sym e, refl)
-unput s h [] (f ∷ fs) behind e a l = (let q : f ≡ (s, h) = cc in let r : f.1 ≡ h = ap (λ (x : ℕ × ℕ). x.1) q in absurd (omega (arith, r, a.0)))
+unput s h [] (f ∷ fs) behind e a l =
+    (let q : f ≡ (s, h) = cc in let r : f.1 ≡ h = ap (λ (x : ℕ × ℕ). x.1) q in absurd (omega (arith, r, a.0)))
 unput s h (x ∷ xs) [] behind e a l =
-    let cases : (t : Bool) → ltb x.1 h ≡ t → cond t (x ∷ insert_sorted s h xs) ((s, h) ∷ x ∷ xs) ≡ behind → (rest : List (ℕ × ℕ)) × (behind ≡ (s, h) ∷ rest) × (x ∷ xs ≡ rest) = elim [
-      | true ↦ λ q e'. (let above : h ≤ x.1 = rw (← e') at l in absurd (omega (arith, above, ltb-true x.1 h q)))
+    let cases : (t : Bool) → ltb x.1 h ≡ t → cond t (x ∷ insert_sorted s h xs) ((s, h) ∷ x ∷ xs) ≡ behind →
+    (rest : List (ℕ × ℕ)) × (behind ≡ (s, h) ∷ rest) × (x ∷ xs ≡ rest) = elim [
+      | true ↦
+          λ q e'. (let above : h ≤ x.1 = rw (← e') at l in absurd (omega (arith, above, ltb-true x.1 h q)))
       | false ↦ λ q e'. (x ∷ xs, sym e', refl)
     ] in
     cases (ltb x.1 h) refl e
 unput s h (x ∷ xs) (f ∷ fs) behind e a l =
-    let cases : (t : Bool) → cond t (x ∷ insert_sorted s h xs) ((s, h) ∷ x ∷ xs) ≡ f ∷ fs ++ behind → (rest : List (ℕ × ℕ)) × (behind ≡ (s, h) ∷ rest) × (x ∷ xs ≡ f ∷ fs ++ rest) = elim [
+    let cases : (t : Bool) → cond t (x ∷ insert_sorted s h xs) ((s, h) ∷ x ∷ xs) ≡ f ∷ fs ++ behind →
+    (rest : List (ℕ × ℕ)) × (behind ≡ (s, h) ∷ rest) × (x ∷ xs ≡ f ∷ fs ++ rest) = elim [
       | true ↦ λ e'.
           (let same : x ≡ f = cc in
           let tail : insert_sorted s h xs ≡ fs ++ behind = cc in
           let r = unput s h xs fs behind tail a.1 l in
           let q : xs ≡ fs ++ r.0 = r.2 in
           (r.0, r.1, rw (same, q) refl))
-      | false ↦ λ e'. (let q : f ≡ (s, h) = cc in let r : f.1 ≡ h = ap (λ (y : ℕ × ℕ). y.1) q in absurd (omega (arith, r, a.0)))
+      | false ↦ λ e'. (let q : f ≡ (s, h) = cc in let r : f.1 ≡ h = ap (λ (y : ℕ × ℕ). y.1) q in
+          absurd (omega (arith, r, a.0)))
     ] in
     cases (ltb x.1 h) e
 
 -- where no hash was placed each bucket is empty
-pub none_placed : (v : Placed) (b : ℕ) → v.hashes ≡ [] → chain v b ≡ []
+pub none-placed : (v : Placed) (b : ℕ) → v.hashes ≡ [] → chain v b ≡ []
 unfolding chain
-none_placed v b none = rw none refl
+none-placed v b none = rw none refl

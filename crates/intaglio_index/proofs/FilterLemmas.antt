@@ -10,56 +10,70 @@ use Rattle.intaglio_index.specs.Filter.{IsMarked, IsFiltered}
 use Rattle.intaglio_index.proofs.ChainLemmas.{Each-weaker, Each-left, Each-append, chain-complete}
 
 -- no hash was placed
-pub filtered-none : (filters : List ℕ) (count : ℕ) (hashes : List ℕ) → length filters ≡ count → hashes ≡ [] → IsFiltered filters count hashes
+pub filtered-none : (filters : List ℕ) (count : ℕ) (hashes : List ℕ) → length filters ≡ count → hashes ≡ [] →
+    IsFiltered filters count hashes
 filtered-none filters count hashes size none = record { size = size; marks = rw none tt }
 
 -- one hash more, whose bit is set
-pub filtered-push : (filters : List ℕ) (count : ℕ) (hashes : List ℕ) (hash mark : ℕ) → IsFiltered filters count hashes → hash % count < count → IsMarked mark hash →
-    ((other : ℕ) → IsMarked (get_or filters (hash % count) 0) other → IsMarked mark other) → IsFiltered (set filters (hash % count) mark) count (hashes ++ hash ∷ [])
+pub filtered-push : (filters : List ℕ) (count : ℕ) (hashes : List ℕ) (hash mark : ℕ) →
+    IsFiltered filters count hashes → hash % count < count → IsMarked mark hash →
+    ((other : ℕ) → IsMarked (get_or filters (hash % count) 0) other → IsMarked mark other) →
+    IsFiltered (set filters (hash % count) mark) count (hashes ++ hash ∷ [])
 filtered-push filters count hashes hash mark filtered within marked kept =
     let b : ℕ = hash % count in
     let l : b < length filters = omega (arith, within, filtered.size) in
     let here : get_or (set filters b mark) b 0 ≡ mark = get_or-set_same filters b mark 0 l in
-    let stays : (other : ℕ) → IsMarked (get_or filters (other % count) 0) other → IsMarked (get_or (set filters b mark) (other % count) 0) other = λ other m.
+    let stays : (other : ℕ) → IsMarked (get_or filters (other % count) 0) other →
+    IsMarked (get_or (set filters b mark) (other % count) 0) other = λ other m.
     elim (eqb_tells (other % count) b) [
       | inl h ↦ rw (h.1, here) (kept other (rw h.1 at m))
       | inr h ↦ rw (get_or-set_other filters b (other % count) mark 0 h.1) m
     ] in
     record {
       size = length-set filters b mark ∙ filtered.size;
-      marks = Each-append (λ other. IsMarked (get_or (set filters b mark) (other % count) 0) other) hashes (hash ∷ []) (Each-weaker _ _ stays hashes filtered.marks) (rw here marked, tt);
+      marks = Each-append (λ other. IsMarked (get_or (set filters b mark) (other % count) 0) other) hashes
+          (hash ∷ []) (Each-weaker _ _ stays hashes filtered.marks) (rw here marked, tt);
     }
 
 -- fewer hashes
-pub filtered-take : (filters : List ℕ) (count : ℕ) (hashes : List ℕ) (n : ℕ) → IsFiltered filters count hashes → IsFiltered filters count (take n hashes)
+pub filtered-take : (filters : List ℕ) (count : ℕ) (hashes : List ℕ) (n : ℕ) →
+    IsFiltered filters count hashes → IsFiltered filters count (take n hashes)
 filtered-take filters count hashes n filtered = record {
   size = filtered.size;
-  marks = Each-left (λ hash. IsMarked (get_or filters (hash % count) 0) hash) (take n hashes) (drop n hashes) (rw (take-append-drop n hashes) filtered.marks);
+  marks = Each-left (λ hash. IsMarked (get_or filters (hash % count) 0) hash) (take n hashes) (drop n hashes)
+      (rw (take-append-drop n hashes) filtered.marks);
 }
 
 -- a filter whose bucket is empty needs no bit
-pub filtered_vacated : (filters : List ℕ) (count : ℕ) (hashes : List ℕ) (k : ℕ) → IsFiltered filters count hashes → chain_from count k 0 [] hashes ≡ [] → IsFiltered (set filters k 0) count hashes
-filtered_vacated filters count hashes k filtered none =
+pub filtered-vacated : (filters : List ℕ) (count : ℕ) (hashes : List ℕ) (k : ℕ) →
+    IsFiltered filters count hashes → chain_from count k 0 [] hashes ≡ [] →
+    IsFiltered (set filters k 0) count hashes
+filtered-vacated filters count hashes k filtered none =
     let P : ℕ → Type 0 = λ hash. IsMarked (get_or (set filters k 0) (hash % count) 0) hash in
-    let marked = All-from_recursion (λ hash. IsMarked (get_or filters (hash % count) 0) hash) hashes filtered.marks in
+    let marked =
+    All-from_recursion (λ hash. IsMarked (get_or filters (hash % count) 0) hash) hashes filtered.marks in
     record {
       size = length-set filters k 0 ∙ filtered.size;
       marks = recursion_from_All P hashes (λ i d l.
           (let other : get_or hashes i d % count ≢ k = λ e.
-          (let found = chain-complete count k hashes i l (ap (λ n. n % count) (get_or_default hashes i 0 d l) ∙ e) in
+          (let found =
+          chain-complete count k hashes i l (ap (λ n. n % count) (get_or_default hashes i 0 d l) ∙ e) in
           let within : found.0 < length (symbols_of (chain_from count k 0 [] hashes)) = found.1 in
           absurd (omega (arith, rw none at within))) in
           rw (get_or-set_other filters k (get_or hashes i d % count) 0 0 other) (marked i d l)));
     }
 
 -- a filter with a bit is not 0
-pub marked_some : (filter hash : ℕ) → IsMarked filter hash → filter ≡ 0 → ⊥
-marked_some filter hash m none = (let zero_bit : bit_at 0 (hash / 2 ^ 61) ≡ 0 = bit_at-zero (hash / 2 ^ 61) in let one : bit_at 0 (hash / 2 ^ 61) ≡ 1 = rw none at m in omega arith)
+pub marked-some : (filter hash : ℕ) → IsMarked filter hash → filter ≡ 0 → ⊥
+marked-some filter hash m none = (let zero_bit : bit_at 0 (hash / 2 ^ 61) ≡ 0 = bit_at-zero (hash / 2 ^ 61) in
+    let one : bit_at 0 (hash / 2 ^ 61) ≡ 1 = rw none at m in omega arith)
 
-zero_at : (n b : ℕ) → ◌≡◌ {A = ℕ} (get_or (replicate n 0) b 0) 0
-zero_at zero b = refl
-zero_at (suc n) zero = refl
-zero_at (suc n) (suc b) = zero_at n b
+-- what is read of a list of zeros, with 0 behind its end, is 0
+zero-at : (n b : ℕ) → ◌≡◌ {A = ℕ} (get_or (replicate n 0) b 0) 0
+zero-at zero b = refl
+zero-at (suc n) zero = refl
+zero-at (suc n) (suc b) = zero-at n b
 
-pub zero_filters : (filters : List ℕ) (n : ℕ) → filters ≡ replicate n 0 → (b : ℕ) → get_or filters b 0 ≡ 0
-zero_filters filters n e b = rw e (zero_at n b)
+-- if all filters are 0, so is that of each bucket
+pub zero-filters : (filters : List ℕ) (n : ℕ) → filters ≡ replicate n 0 → (b : ℕ) → get_or filters b 0 ≡ 0
+zero-filters filters n e b = rw e (zero-at n b)

@@ -1,5 +1,5 @@
 -- What the words of a bucket's head tell, and how they change.
-use Rattle.std.proofs.Common.{◌≡◌, ◌≢◌, ◌↔◌, ◌⊎◌, ℕ, ◌/◌, ◌%◌, ◌<◌, ◌≤◌, List, [], ◌∷◌, ◌++◌, length, get_or, set, Option, Some, None, Bool, true, false, not, refl, sym, ap, ◌∙◌, arith, eqb, inl, inr, append_assoc, length-append}
+use Rattle.std.proofs.Common.{◌≡◌, ◌≢◌, ◌↔◌, ◌⊎◌, ℕ, ◌/◌, ◌%◌, ◌<◌, ◌≤◌, List, [], ◌∷◌, ◌++◌, length, get_or, set, Option, Some, None, Bool, true, false, not, refl, sym, ap, ◌∙◌, arith, eqb, inl, inr, length-append}
 use Rattle.std.specs.List.{AllByRecursion, IsDistinct}
 use Rattle.std.specs.Option.{is_some}
 use Rattle.std.proofs.lemmas.Bool.{eqb-false, cases_lt, true≢false, false≢true}
@@ -9,141 +9,190 @@ use Rattle.intaglio_index.specs.declared.index.head.Head.{Head}
 use Rattle.intaglio_index.specs.Links.{IsThread, next_of}
 use Rattle.intaglio_index.specs.Placed.{Placed, chain, IsEntry, chain_from, first_symbol_of, symbols_of, insert_sorted, BeginsAtOrAbove, IsPredecessor}
 use Rattle.intaglio_index.specs.Heads.{IsWord, IsHead, IsHeaded}
-use Rattle.intaglio_index.proofs.ChainLemmas.{put_some, insert_sorted-between, chain_grows, chain_stays, Each-right, Each-weaker, InOrder, chain-in_order, chain-entries}
+use Rattle.intaglio_index.proofs.ChainLemmas.{put-some, put-behind, insert_sorted-between, chain-grows, chain-stays, Each-right, Each-weaker, InOrder, chain-in_order, chain-entries}
 use Rattle.intaglio_index.proofs.WalkLemmas.{distinct}
 use Rattle.intaglio_index.proofs.Words.{block_below, below_block, word_same}
 
+-- a head whose words are both 0
 abbrev pub no_head : Head
 no_head = record { first = 0; second = 0 }
 
+-- two statements of which neither holds are equivalent
 pub neither : {A B : Type 0} → (A → ⊥) → (B → ⊥) → A ↔ B
 neither f g = (λ a. absurd (f a), λ b. absurd (g b))
 
+-- a list without a first symbol is empty
 pub nil_leader : (es : List (ℕ × ℕ)) → None ≡ first_symbol_of es → es ≡ []
 nil_leader [] e = refl
 nil_leader (x ∷ xs) e = cc
 
+-- a list with a first symbol isn't empty
 pub led_some : (es : List (ℕ × ℕ)) (s : ℕ) → Some s ≡ first_symbol_of es → es ≡ [] → ⊥
 led_some [] s e none = (let never = e in cc)
 led_some (x ∷ xs) s e none = cc
 
+-- a list that isn't empty is a first entry and a rest
 pub some_entries : (es : List (ℕ × ℕ)) → (es ≡ [] → ⊥) → (e : ℕ × ℕ) × (rest : List (ℕ × ℕ)) × (es ≡ e ∷ rest)
 some_entries [] n = absurd (n refl)
 some_entries (x ∷ xs) n = (x, xs, refl)
 
 -- what comes behind an entry changes no words of those in front of it
-head_kept : (size : ℕ) (head : Head) (x : ℕ × ℕ) (front : List (ℕ × ℕ)) (e : ℕ × ℕ) (xs ys : List (ℕ × ℕ)) → IsHead size head (x ∷ front ++ e ∷ xs) → IsHead size head (x ∷ front ++ e ∷ ys)
+head_kept : (size : ℕ) (head : Head) (x : ℕ × ℕ) (front : List (ℕ × ℕ)) (e : ℕ × ℕ) (xs ys : List (ℕ × ℕ)) →
+    IsHead size head (x ∷ front ++ e ∷ xs) → IsHead size head (x ∷ front ++ e ∷ ys)
 head_kept size head x [] e xs ys is = is
 head_kept size head x (y ∷ front) e xs ys is = is
 
 -- a symbol is put into a bucket
 module _ (size s h word : ℕ) (is_word : IsWord size (s, h) word) where
-  pub head_alone : (path : List (ℕ × ℕ)) → path ≡ [] → IsHead size (record { first = word; second = word }) (insert_sorted s h path)
+  pub head_alone : (path : List (ℕ × ℕ)) → path ≡ [] →
+      IsHead size (record { first = word; second = word }) (insert_sorted s h path)
   head_alone path none = rw none (is_word, is_word)
 
-  pub head_led : (head : Head) (path : List (ℕ × ℕ)) → IsHead size head path → (path ≡ [] → ⊥) → BeginsAtOrAbove h path → IsHead size (record { first = word; second = head.first }) (insert_sorted s h path)
+  pub head_led : (head : Head) (path : List (ℕ × ℕ)) → IsHead size head path → (path ≡ [] → ⊥) →
+      BeginsAtOrAbove h path →
+      IsHead size (record { first = word; second = head.first }) (insert_sorted s h path)
   head_led head [] is others begins = absurd (others refl)
-  head_led head (e ∷ es) is others begins = rw (insert_sorted-between s h [] (e ∷ es) tt begins) (is_word, is.0)
-
-  put_behind : (path : List (ℕ × ℕ)) (last : ℕ) (pred : IsPredecessor h path last) → insert_sorted s h path ≡ pred.front ++ (last, pred.hash) ∷ (s, h) ∷ pred.behind
-  put_behind path last pred =
-      let joined : path ≡ (pred.front ++ (last, pred.hash) ∷ []) ++ pred.behind = pred.split ∙ sym (append_assoc pred.front ((last, pred.hash) ∷ []) pred.behind) in
-      ap (insert_sorted s h) joined ∙ insert_sorted-between s h (pred.front ++ (last, pred.hash) ∷ []) pred.behind pred.smaller pred.others ∙ append_assoc pred.front ((last, pred.hash) ∷ []) ((s, h) ∷ pred.behind)
+  head_led head (e ∷ es) is others begins =
+      rw (insert_sorted-between s h [] (e ∷ es) tt begins) (is_word, is.0)
 
   -- behind the first one
-  second_at : (head : Head) (front : List (ℕ × ℕ)) (last hash : ℕ) (behind : List (ℕ × ℕ)) → IsDistinct eqb (symbols_of (front ++ (last, hash) ∷ behind)) → IsHead size head (front ++ (last, hash) ∷ behind) →
-      Some last ≡ first_symbol_of (front ++ (last, hash) ∷ behind) → IsHead size (record { first = head.first; second = word }) (front ++ (last, hash) ∷ (s, h) ∷ behind)
+  second_at : (head : Head) (front : List (ℕ × ℕ)) (last hash : ℕ) (behind : List (ℕ × ℕ)) →
+      IsDistinct eqb (symbols_of (front ++ (last, hash) ∷ behind)) →
+      IsHead size head (front ++ (last, hash) ∷ behind) →
+      Some last ≡ first_symbol_of (front ++ (last, hash) ∷ behind) →
+      IsHead size (record { first = head.first; second = word }) (front ++ (last, hash) ∷ (s, h) ∷ behind)
   unfolding IsDistinct
   second_at head [] last hash behind apart is leads = (is.0, is_word)
   second_at head (x ∷ front) last hash behind apart is leads =
       let same : last ≡ x.0 = cc in
       let parts = rw (map-append (λ (e : ℕ × ℕ). e.0) front ((last, hash) ∷ behind)) at apart.0 in
-      let differ : x.0 ≢ last = eqb-false x.0 last (Each-right (λ y. eqb x.0 y ≡ false) (symbols_of front) (last ∷ symbols_of behind) parts).0 in
+      let differ : x.0 ≢ last =
+      eqb-false x.0 last (Each-right (λ y. eqb x.0 y ≡ false) (symbols_of front) (last ∷ symbols_of behind)
+      parts).0 in
       absurd (differ (sym same))
 
-  pub head_second : (head : Head) (path : List (ℕ × ℕ)) (last : ℕ) → IsDistinct eqb (symbols_of path) → IsHead size head path → Some last ≡ first_symbol_of path → IsPredecessor h path last →
+  pub head_second : (head : Head) (path : List (ℕ × ℕ)) (last : ℕ) → IsDistinct eqb (symbols_of path) →
+      IsHead size head path → Some last ≡ first_symbol_of path → IsPredecessor h path last →
       IsHead size (record { first = head.first; second = word }) (insert_sorted s h path)
   head_second head path last apart is leads pred =
-      rw (put_behind path last pred) (second_at head pred.front last pred.hash pred.behind (rw pred.split at apart) (rw pred.split at is) (rw pred.split at leads))
+      rw (put-behind s h path last pred)
+      (second_at head pred.front last pred.hash pred.behind (rw pred.split at apart) (rw pred.split at is)
+      (rw pred.split at leads))
 
   -- further behind
-  later_at : (head : Head) (front : List (ℕ × ℕ)) (first last hash : ℕ) (behind : List (ℕ × ℕ)) → IsHead size head (front ++ (last, hash) ∷ behind) →
-      Some first ≡ first_symbol_of (front ++ (last, hash) ∷ behind) → first ≢ last → IsHead size head (front ++ (last, hash) ∷ (s, h) ∷ behind)
-  later_at head [] first last hash behind is leads other = (let same : first ≡ last = cc in absurd (other same))
-  later_at head (x ∷ front) first last hash behind is leads other = head_kept size head x front (last, hash) behind ((s, h) ∷ behind) is
+  later_at : (head : Head) (front : List (ℕ × ℕ)) (first last hash : ℕ) (behind : List (ℕ × ℕ)) →
+      IsHead size head (front ++ (last, hash) ∷ behind) →
+      Some first ≡ first_symbol_of (front ++ (last, hash) ∷ behind) → first ≢ last →
+      IsHead size head (front ++ (last, hash) ∷ (s, h) ∷ behind)
+  later_at head [] first last hash behind is leads other =
+      (let same : first ≡ last = cc in absurd (other same))
+  later_at head (x ∷ front) first last hash behind is leads other =
+      head_kept size head x front (last, hash) behind ((s, h) ∷ behind) is
 
-  pub head_stays : (head : Head) (path : List (ℕ × ℕ)) (first last : ℕ) → IsHead size head path → Some first ≡ first_symbol_of path → first ≢ last → IsPredecessor h path last → IsHead size head (insert_sorted s h path)
+  pub head_stays : (head : Head) (path : List (ℕ × ℕ)) (first last : ℕ) → IsHead size head path →
+      Some first ≡ first_symbol_of path → first ≢ last → IsPredecessor h path last →
+      IsHead size head (insert_sorted s h path)
   head_stays head path first last is leads other pred =
-      rw (put_behind path last pred) (later_at head pred.front first last pred.hash pred.behind (rw pred.split at is) (rw pred.split at leads) other)
+      rw (put-behind s h path last pred)
+      (later_at head pred.front first last pred.hash pred.behind (rw pred.split at is)
+      (rw pred.split at leads) other)
 
 -- in an empty bucket nothing stands in front
-pub never_behind : (h : ℕ) (path : List (ℕ × ℕ)) (last : ℕ) → None ≡ first_symbol_of path → IsPredecessor h path last → ⊥
+pub never_behind : (h : ℕ) (path : List (ℕ × ℕ)) (last : ℕ) → None ≡ first_symbol_of path →
+    IsPredecessor h path last → ⊥
 never_behind h path last none pred =
     (let empty : path ≡ [] = nil_leader path none in
     let parts : [] ≡ pred.front ++ (last, pred.hash) ∷ pred.behind = sym empty ∙ pred.split in
     omega (arith, ap length parts, length-append pred.front ((last, pred.hash) ∷ pred.behind)))
 
 -- one bucket changes
-module _ (size : ℕ) (heads : List Head) (filters hashes later : List ℕ) (k : ℕ) (within : k < length heads) (sizes : length filters ≡ length heads)
-    (others : (b : ℕ) → b ≢ k → chain_from (length heads) b 0 [] later ≡ chain_from (length heads) b 0 [] hashes) (headed : IsHeaded size heads filters hashes) where
-  pub headed_changed : (head : Head) (filter : ℕ) → (filter ≡ 0) ↔ (chain_from (length heads) k 0 [] later ≡ []) → IsHead size head (chain_from (length heads) k 0 [] later) →
+module _ (size : ℕ) (heads : List Head) (filters hashes later : List ℕ) (k : ℕ) (within : k < length heads)
+    (sizes : length filters ≡ length heads)
+    (others : (b : ℕ) → b ≢ k →
+    chain_from (length heads) b 0 [] later ≡ chain_from (length heads) b 0 [] hashes)
+    (headed : IsHeaded size heads filters hashes) where
+  pub headed_changed : (head : Head) (filter : ℕ) → (filter ≡ 0) ↔
+      (chain_from (length heads) k 0 [] later ≡ []) →
+      IsHead size head (chain_from (length heads) k 0 [] later) →
       IsHeaded size (set heads k head) (set filters k filter) later
   headed_changed head filter empty_bucket is =
       let count : length (set heads k head) ≡ length heads = length-set heads k head in
       let lf : k < length filters = omega arith in
-      let empty_bucket_at : (b : ℕ) → b < length heads → (get_or (set filters k filter) b 0 ≡ 0) ↔ (chain_from (length heads) b 0 [] later ≡ []) = λ b l.
+      let empty_bucket_at : (b : ℕ) → b < length heads → (get_or (set filters k filter) b 0 ≡ 0) ↔
+      (chain_from (length heads) b 0 [] later ≡ []) = λ b l.
       elim (eqb_tells b k) [
         | inl h ↦ rw (h.1, get_or-set_same filters k filter 0 lf) empty_bucket
         | inr h ↦ rw (get_or-set_other filters k b filter 0 h.1, others b h.1) (headed.empty_bucket b l)
       ] in
-      let words_at : (b : ℕ) → b < length heads → IsHead size (get_or (set heads k head) b no_head) (chain_from (length heads) b 0 [] later) = λ b l.
+      let words_at : (b : ℕ) → b < length heads →
+      IsHead size (get_or (set heads k head) b no_head) (chain_from (length heads) b 0 [] later) = λ b l.
       elim (eqb_tells b k) [
         | inl h ↦ rw (h.1, get_or-set_same heads k head no_head within) is
         | inr h ↦ rw (get_or-set_other heads k b head no_head h.1, others b h.1) (headed.words b l)
       ] in
-      record { empty_bucket = λ b l. rw count (empty_bucket_at b (omega (arith, l, count))); words = λ b l. rw count (words_at b (omega (arith, l, count))) }
+      record {
+        empty_bucket = λ b l. rw count (empty_bucket_at b (omega (arith, l, count)));
+        words =
+            λ b l. rw count (words_at b (omega (arith, l, count)));
+      }
 
-  pub headed_head : (head : Head) → (get_or filters k 0 ≡ 0) ↔ (chain_from (length heads) k 0 [] later ≡ []) → IsHead size head (chain_from (length heads) k 0 [] later) → IsHeaded size (set heads k head) filters later
-  headed_head head empty_bucket is = rw (set-get_or filters k 0) at (headed_changed head (get_or filters k 0) empty_bucket is)
+  pub headed_head : (head : Head) → (get_or filters k 0 ≡ 0) ↔ (chain_from (length heads) k 0 [] later ≡ []) →
+      IsHead size head (chain_from (length heads) k 0 [] later) →
+      IsHeaded size (set heads k head) filters later
+  headed_head head empty_bucket is =
+      rw (set-get_or filters k 0) at (headed_changed head (get_or filters k 0) empty_bucket is)
 
-  pub headed_filter : (filter : ℕ) → (filter ≡ 0) ↔ (chain_from (length heads) k 0 [] later ≡ []) → IsHead size (get_or heads k no_head) (chain_from (length heads) k 0 [] later) → IsHeaded size heads (set filters k filter) later
-  headed_filter filter empty_bucket is = rw (set-get_or heads k no_head) at (headed_changed (get_or heads k no_head) filter empty_bucket is)
+  pub headed_filter : (filter : ℕ) → (filter ≡ 0) ↔ (chain_from (length heads) k 0 [] later ≡ []) →
+      IsHead size (get_or heads k no_head) (chain_from (length heads) k 0 [] later) →
+      IsHeaded size heads (set filters k filter) later
+  headed_filter filter empty_bucket is =
+      rw (set-get_or heads k no_head) at (headed_changed (get_or heads k no_head) filter empty_bucket is)
 
 -- no symbol in any bucket
-pub headed_none : (size : ℕ) (heads : List Head) (filters hashes : List ℕ) → ((b : ℕ) → get_or filters b 0 ≡ 0) → hashes ≡ [] → IsHeaded size heads filters hashes
-headed_none size heads filters hashes zeros none = record { empty_bucket = λ b l. rw none (λ e. refl, λ e. zeros b); words = λ b l. rw none tt }
+pub headed_none : (size : ℕ) (heads : List Head) (filters hashes : List ℕ) →
+    ((b : ℕ) → get_or filters b 0 ≡ 0) → hashes ≡ [] → IsHeaded size heads filters hashes
+headed_none size heads filters hashes zeros none =
+    record { empty_bucket = λ b l. rw none (λ e. refl, λ e. zeros b); words = λ b l. rw none tt }
 
 -- a hash beside the first two
 module _ (size : ℕ) (some : 0 < size) (h : ℕ) (head : Head) where
   -- equal words: there is no second
-  alone : (e : ℕ × ℕ) (es : List (ℕ × ℕ)) → IsDistinct eqb (symbols_of (e ∷ es)) → IsHead size head (e ∷ es) → head.first ≡ head.second → es ≡ []
+  alone : (e : ℕ × ℕ) (es : List (ℕ × ℕ)) → IsDistinct eqb (symbols_of (e ∷ es)) → IsHead size head (e ∷ es) →
+      head.first ≡ head.second → es ≡ []
   unfolding IsDistinct
   alone e [] apart is same = refl
   alone e (f ∷ fs) apart is same =
       let symbols : e.0 ≡ f.0 = sym is.0.1 ∙ ap (λ w. w % size) same ∙ is.1.1 in
       absurd (eqb-false e.0 f.0 apart.0.0 symbols)
 
-  first_differs : (e : ℕ × ℕ) (es : List (ℕ × ℕ)) → IsHead size head (e ∷ es) → head.first / size ≢ h / size → e.1 ≢ h
+  first_differs : (e : ℕ × ℕ) (es : List (ℕ × ℕ)) → IsHead size head (e ∷ es) →
+      head.first / size ≢ h / size → e.1 ≢ h
   first_differs e es is other same = other (is.0.0 ∙ ap (λ n. n / size) same)
 
   -- where the words show that no symbol has the hash
-  pub none_by_words : (e : ℕ × ℕ) (es : List (ℕ × ℕ)) → IsDistinct eqb (symbols_of (e ∷ es)) → InOrder (e ∷ es) → IsHead size head (e ∷ es) →
-      head.first / size ≢ h / size → head.second / size ≢ h / size → (h < head.second) ⊎ (head.first ≡ head.second) → AllByRecursion (λ (x : ℕ × ℕ). x.1 ≢ h) (e ∷ es)
+  pub none_by_words : (e : ℕ × ℕ) (es : List (ℕ × ℕ)) → IsDistinct eqb (symbols_of (e ∷ es)) →
+      InOrder (e ∷ es) → IsHead size head (e ∷ es) →
+      head.first / size ≢ h / size → head.second / size ≢ h / size →
+      (h < head.second) ⊎ (head.first ≡ head.second) → AllByRecursion (λ (x : ℕ × ℕ). x.1 ≢ h) (e ∷ es)
   none_by_words e [] apart order is first second end = (first_differs e [] is first, tt)
   none_by_words e (f ∷ fs) apart order is first second end =
       elim end [
         | inl less ↦
-            (let blocks : h / size < head.second / size = below_block size some h head.second less (λ q. second (sym q)) in
+            (let blocks : h / size < head.second / size =
+            below_block size some h head.second less (λ q. second (sym q)) in
             let above : h < f.1 = block_below size some h f.1 (omega (arith, blocks, is.1.0)) in
-            let rest = Each-weaker (λ (x : ℕ × ℕ). f.1 ≤ x.1) (λ (x : ℕ × ℕ). x.1 ≢ h) (λ x l q. omega arith) fs order.1.0 in
+            let rest = Each-weaker (λ (x : ℕ × ℕ). f.1 ≤ x.1) (λ (x : ℕ × ℕ). x.1 ≢ h) (λ x l q. omega arith)
+            fs order.1.0 in
             (first_differs e (f ∷ fs) is first, ((λ q. omega arith), rest)))
         | inr same ↦ absurd (let none : f ∷ fs ≡ [] = alone e (f ∷ fs) apart is same in cc)
       ]
 
   -- where both of two have smaller hashes
-  pub both_below : (e : ℕ × ℕ) (es : List (ℕ × ℕ)) → InOrder (e ∷ es) → IsHead size head (e ∷ es) → head.second / size ≢ h / size → head.second ≤ h → head.first ≢ head.second →
+  pub both_below : (e : ℕ × ℕ) (es : List (ℕ × ℕ)) → InOrder (e ∷ es) → IsHead size head (e ∷ es) →
+      head.second / size ≢ h / size → head.second ≤ h → head.first ≢ head.second →
       (f : ℕ × ℕ) × (fs : List (ℕ × ℕ)) × (es ≡ f ∷ fs) × (e.1 < h) × (f.1 < h) × (head.second % size ≡ f.0)
-  both_below e [] order is second at_most other = absurd (other (word_same size some e head.first head.second is.0 is.1))
+  both_below e [] order is second at_most other =
+      absurd (other (word_same size some e head.first head.second is.0 is.1))
   both_below e (f ∷ fs) order is second at_most other =
       let differ : head.second ≢ h = λ q. second (ap (λ n. n / size) q) in
       let less : head.second < h = omega arith in
@@ -153,8 +202,10 @@ module _ (size : ℕ) (some : 0 < size) (h : ℕ) (head : Head) where
       (f, fs, refl, omega arith, below, is.1.1)
 
   -- where the second one agrees with the hash, and the first doesn't
-  pub second_agrees : (e : ℕ × ℕ) (es : List (ℕ × ℕ)) → InOrder (e ∷ es) → IsHead size head (e ∷ es) → head.first / size ≢ h / size → head.second / size ≡ h / size →
-      (f : ℕ × ℕ) × (fs : List (ℕ × ℕ)) × (es ≡ f ∷ fs) × (e.1 < h) × (f.1 / size ≡ h / size) × (head.second % size ≡ f.0)
+  pub second_agrees : (e : ℕ × ℕ) (es : List (ℕ × ℕ)) → InOrder (e ∷ es) → IsHead size head (e ∷ es) →
+      head.first / size ≢ h / size → head.second / size ≡ h / size →
+      (f : ℕ × ℕ) × (fs : List (ℕ × ℕ)) × (es ≡ f ∷ fs) × (e.1 < h) × (f.1 / size ≡ h / size)
+      × (head.second % size ≡ f.0)
   second_agrees e [] order is first second = absurd (first (is.0.0 ∙ sym is.1.0 ∙ second))
   second_agrees e (f ∷ fs) order is first second =
       let block : f.1 / size ≡ h / size = sym is.1.0 ∙ second in
@@ -172,9 +223,11 @@ module _ (size : ℕ) (some : 0 < size) (h : ℕ) (head : Head) where
 module _ (hashes links : List ℕ) (s : ℕ) where
   pub thread_within : (path : List (ℕ × ℕ)) → IsThread hashes links (Some s) path → s < length hashes
   thread_within [] t = (let never = t.path in cc)
-  thread_within (e ∷ es) t = (let same : s ≡ e.0 = (let q = t.path.0 in cc) in omega (arith, same, t.read.0.0))
+  thread_within (e ∷ es) t =
+      (let same : s ≡ e.0 = (let q = t.path.0 in cc) in omega (arith, same, t.read.0.0))
 
-  pub thread_next : (path : List (ℕ × ℕ)) (next : ℕ) → IsThread hashes links (Some s) path → next_of links s ≡ Some next → next < length hashes
+  pub thread_next : (path : List (ℕ × ℕ)) (next : ℕ) → IsThread hashes links (Some s) path →
+      next_of links s ≡ Some next → next < length hashes
   thread_next [] next t e = (let never = t.path in cc)
   thread_next (x ∷ []) next t e =
       let same : s ≡ x.0 = (let q = t.path.0 in cc) in
@@ -193,7 +246,8 @@ pub record IsOccupied (v : Placed) (k size : ℕ) (head : Head) : Type 0 where
   pub split : chain v k ≡ e ∷ es
   pub is : IsHead size head (e ∷ es)
 
-module _ (v : Placed) (heads : List Head) (filters : List ℕ) (size k : ℕ) (count : v.count ≡ length heads) (sizes : length filters ≡ length heads) (headed : IsHeaded size heads filters v.hashes)
+module _ (v : Placed) (heads : List Head) (filters : List ℕ) (size k : ℕ) (count : v.count ≡ length heads)
+    (sizes : length filters ≡ length heads) (headed : IsHeaded size heads filters v.hashes)
     (within : k < length heads) where
   pub empty_bucket_at : (get_or filters k 0 ≡ 0) ↔ (chain v k ≡ [])
   unfolding chain
@@ -208,15 +262,19 @@ module _ (v : Placed) (heads : List Head) (filters : List ℕ) (size k : ℕ) (c
       let lf : k < length filters = omega arith in
       empty_bucket_at.0 (sym (get_or_read filters k filter lf read 0) ∙ none)
 
-  pub is_occupied : (head : Head) (filter : ℕ) → head ≡ get_or heads k head → filter ≡ get_or filters k filter → (filter ≡ 0 → ⊥) → IsOccupied v k size head
+  pub is_occupied : (head : Head) (filter : ℕ) → head ≡ get_or heads k head →
+      filter ≡ get_or filters k filter → (filter ≡ 0 → ⊥) → IsOccupied v k size head
   is_occupied head filter read_head read some =
       let lf : k < length filters = omega arith in
-      let parts = some_entries (chain v k) (λ none. some (get_or_read filters k filter lf read 0 ∙ empty_bucket_at.1 none)) in
+      let parts =
+      some_entries (chain v k)
+      (λ none. some (get_or_read filters k filter lf read 0 ∙ empty_bucket_at.1 none)) in
       let same : head ≡ get_or heads k no_head = get_or_read heads k head within read_head no_head in
       record { e = parts.0; es = parts.1; split = parts.2; is = rw (← same, parts.2) at words_at }
 
   -- the same where the bucket is known to have a symbol
-  pub is_occupied_by : (head : Head) → head ≡ get_or heads k head → (chain v k ≡ [] → ⊥) → IsOccupied v k size head
+  pub is_occupied_by : (head : Head) → head ≡ get_or heads k head → (chain v k ≡ [] → ⊥) →
+      IsOccupied v k size head
   is_occupied_by head read_head some =
       let parts = some_entries (chain v k) some in
       let same : head ≡ get_or heads k no_head = get_or_read heads k head within read_head no_head in
@@ -238,7 +296,8 @@ module _ (v : Placed) (k size : ℕ) (head : Head) (o : IsOccupied v k size head
   pub first_within : head.first % size < length v.hashes
   first_within = omega (arith, o.is.0.1, entries.0.0)
 
-  second_in : (es : List (ℕ × ℕ)) → IsHead size head (o.e ∷ es) → AllByRecursion (IsEntry v.count k v.hashes) (o.e ∷ es) → head.second % size < length v.hashes
+  second_in : (es : List (ℕ × ℕ)) → IsHead size head (o.e ∷ es) →
+      AllByRecursion (IsEntry v.count k v.hashes) (o.e ∷ es) → head.second % size < length v.hashes
   second_in [] is each = omega (arith, is.1.1, each.0.0)
   second_in (f ∷ fs) is each = omega (arith, is.1.1, each.1.0.0)
 
@@ -246,19 +305,31 @@ module _ (v : Placed) (k size : ℕ) (head : Head) (o : IsOccupied v k size head
   second_within = second_in o.es o.is entries
 
 -- a head that was read
-pub head_read : (size : ℕ) (heads : List Head) (filters hashes : List ℕ) (k : ℕ) (head : Head) → IsHeaded size heads filters hashes → k < length heads → head ≡ get_or heads k head → IsHead size head (chain_from (length heads) k 0 [] hashes)
-head_read size heads filters hashes k head headed within read = rw (← get_or_read heads k head within read no_head) at (headed.words k within)
+pub head_read : (size : ℕ) (heads : List Head) (filters hashes : List ℕ) (k : ℕ) (head : Head) →
+    IsHeaded size heads filters hashes → k < length heads → head ≡ get_or heads k head →
+    IsHead size head (chain_from (length heads) k 0 [] hashes)
+head_read size heads filters hashes k head headed within read =
+    rw (← get_or_read heads k head within read no_head) at (headed.words k within)
 
 -- one hash more
-pub headed_pushed : (size : ℕ) (heads : List Head) (filters hashes : List ℕ) (hash : ℕ) (head : Head) (filter : ℕ) → hash % length heads < length heads → length filters ≡ length heads → IsHeaded size heads filters hashes → (filter ≡ 0 → ⊥) →
-    IsHead size head (insert_sorted (length hashes) hash (chain_from (length heads) (hash % length heads) 0 [] hashes)) → IsHeaded size (set heads (hash % length heads) head) (set filters (hash % length heads) filter) (hashes ++ hash ∷ [])
+pub headed_pushed : (size : ℕ) (heads : List Head) (filters hashes : List ℕ) (hash : ℕ) (head : Head)
+    (filter : ℕ) → hash % length heads < length heads → length filters ≡ length heads →
+    IsHeaded size heads filters hashes → (filter ≡ 0 → ⊥) →
+    IsHead size head
+    (insert_sorted (length hashes) hash (chain_from (length heads) (hash % length heads) 0 [] hashes)) →
+    IsHeaded size (set heads (hash % length heads) head) (set filters (hash % length heads) filter)
+    (hashes ++ hash ∷ [])
 headed_pushed size heads filters hashes hash head filter within sizes headed some is =
-    let grows = chain_grows (length heads) hashes hash in
-    headed_changed size heads filters hashes (hashes ++ hash ∷ []) (hash % length heads) within sizes (λ b other. chain_stays (length heads) b hashes hash other) headed head filter
-    (neither some (λ e. put_some (length hashes) hash (chain_from (length heads) (hash % length heads) 0 [] hashes) (sym grows ∙ e))) (rw grows is)
+    let grows = chain-grows (length heads) hashes hash in
+    headed_changed size heads filters hashes (hashes ++ hash ∷ []) (hash % length heads) within sizes
+    (λ b other. chain-stays (length heads) b hashes hash other) headed head filter
+    (neither some
+    (λ e. put-some (length hashes) hash (chain_from (length heads) (hash % length heads) 0 [] hashes)
+    (sym grows ∙ e))) (rw grows is)
 
 -- whether a bucket has no symbol
-pub alone_is : (path : List (ℕ × ℕ)) (first_symbol : Option ℕ) (alone : Bool) → first_symbol ≡ first_symbol_of path → is_some first_symbol ≡ not alone → (alone ≡ true) ↔ (path ≡ [])
+pub alone_is : (path : List (ℕ × ℕ)) (first_symbol : Option ℕ) (alone : Bool) →
+    first_symbol ≡ first_symbol_of path → is_some first_symbol ≡ not alone → (alone ≡ true) ↔ (path ≡ [])
 alone_is [] first_symbol true leads tells = (λ e. refl, λ e. refl)
 alone_is [] first_symbol false leads tells = absurd (true≢false (sym tells ∙ ap is_some leads))
 alone_is (x ∷ xs) first_symbol true leads tells = absurd (true≢false (sym (ap is_some leads) ∙ tells))

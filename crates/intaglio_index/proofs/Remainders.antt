@@ -7,14 +7,17 @@ use Rattle.std.proofs.lemmas.Nat.{and_mask, div-add-mod', mod-mul-add}
 use Rattle.std.proofs.Math.Nat.{mul-le-mul_left, mul-le-mul_right}
 
 -- by a power of two
-pub masked : (hash count mask : ℕ) → IsPowerOfTwo (mask + 1) → count ≡ mask + 1 → bit_and hash mask ≡ hash % count
+pub masked : (hash count mask : ℕ) → IsPowerOfTwo (mask + 1) → count ≡ mask + 1 →
+    bit_and hash mask ≡ hash % count
 masked hash count mask power same =
     let ones : mask ≡ 2 ^ power.0 - 1 = omega (arith, power.1) in
     let whole : count ≡ 2 ^ power.0 = same ∙ power.1 in
     rw (ones, whole) (and_mask hash power.0)
 
--- `size` hashes, the reciprocal with what is left over, a hash, and the quotient that the reciprocal gives with what is left over
-module _ (size count inverse over hash quotient left : ℕ) (reciprocal : inverse * count + over + 1 ≡ size) (below : over < count)
+-- `size` hashes, the reciprocal with what is left over, a hash, and the quotient that the
+-- reciprocal gives with what is left over
+module _ (size count inverse over hash quotient left : ℕ) (reciprocal : inverse * count + over + 1 ≡ size)
+    (below : over < count)
     (product : hash * inverse ≡ quotient * size + left) (lower : left < size) (small : hash < size) where
   whole : quotient * count * size + left * count + hash * over + hash ≡ hash * size
   whole =
@@ -45,7 +48,8 @@ module _ (size count inverse over hash quotient left : ℕ) (reciprocal : invers
         absurd (omega (arith, whole, scaled, first, second, third)))
   ]
 
-module _ (hash count inverse : ℕ) (some : 0 < count) (is : inverse ≡ (2 ^ 64 - 1) / count) (small : hash < 2 ^ 64) where
+module _ (hash count inverse : ℕ) (some : 0 < count) (is : inverse ≡ (2 ^ 64 - 1) / count)
+    (small : hash < 2 ^ 64) where
   reciprocal : inverse * count + (2 ^ 64 - 1) % count + 1 ≡ 2 ^ 64
   reciprocal = rw is (omega (arith, div-add-mod' (2 ^ 64 - 1) count))
 
@@ -54,12 +58,15 @@ module _ (hash count inverse : ℕ) (some : 0 < count) (is : inverse ≡ (2 ^ 64
 
   -- the quotient by the reciprocal is not above the true one
   pub by_reciprocal : hash * inverse / 2 ^ 64 * count ≤ hash
-  by_reciprocal = below_quotient (2 ^ 64) count inverse ((2 ^ 64 - 1) % count) hash (hash * inverse / 2 ^ 64) (hash * inverse % 2 ^ 64) reciprocal (omega arith) product (omega arith) small
+  by_reciprocal = below_quotient (2 ^ 64) count inverse ((2 ^ 64 - 1) % count) hash (hash * inverse / 2 ^ 64)
+      (hash * inverse % 2 ^ 64) reciprocal (omega arith) product (omega arith) small
 
   -- and at most one below
   pub by_reciprocal_near : hash < hash * inverse / 2 ^ 64 * count + 2 * count
-  by_reciprocal_near = one_short (2 ^ 64) count inverse ((2 ^ 64 - 1) % count) hash (hash * inverse / 2 ^ 64) (hash * inverse % 2 ^ 64) reciprocal (omega arith) product (omega arith) small
+  by_reciprocal_near = one_short (2 ^ 64) count inverse ((2 ^ 64 - 1) % count) hash (hash * inverse / 2 ^ 64)
+      (hash * inverse % 2 ^ 64) reciprocal (omega arith) product (omega arith) small
 
 -- a rest below the count is the remainder
-pub rest_is : (hash count quotient rest : ℕ) → hash ≡ quotient * count + rest → rest < count → rest ≡ hash % count
+pub rest_is : (hash count quotient rest : ℕ) → hash ≡ quotient * count + rest → rest < count →
+    rest ≡ hash % count
 rest_is hash count quotient rest e l = rw e (sym (mod-mul-add quotient count rest l))

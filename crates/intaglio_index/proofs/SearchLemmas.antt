@@ -1,7 +1,8 @@
 -- What a search along a bucket finds.
-use Rattle.std.proofs.Common.{◌≡◌, ◌≢◌, ◌⊎◌, ℕ, ◌+◌, ◌*◌, ◌/◌, ◌%◌, ◌<◌, ◌≤◌, List, [], ◌∷◌, ◌++◌, length, get_or, replicate, Option, Some, None, refl, sym, ap, ◌∙◌, arith, inl, inr, append_assoc, length-append}
+use Rattle.std.proofs.Common.{◌≡◌, ◌≢◌, ◌⊎◌, ℕ, ◌+◌, ◌*◌, ◌/◌, ◌%◌, ◌<◌, ◌≤◌, Bool, true, false, List, [], ◌∷◌, ◌++◌, length, get_or, replicate, Option, Some, None, refl, sym, ap, ◌∙◌, arith, inl, inr, append_assoc, length-append}
 use Rattle.std.specs.Option.{MatchOption, IfSome}
 use Rattle.std.specs.List.{AllByRecursion}
+use Rattle.std.proofs.lemmas.Bool.{eq-eqb, ne_eqb, true≢false}
 use Rattle.std.proofs.lemmas.Bool.Decides.{eqb_tells}
 use Rattle.std.proofs.lemmas.Grind.{replicate_next}
 use Rattle.std.proofs.lemmas.List.{get_or_default}
@@ -9,151 +10,190 @@ use Rattle.std.proofs.lemmas.List.Elements.{recursion_from_All}
 use Rattle.intaglio_content.specs.Work.{Event, step}
 use Rattle.intaglio_index.specs.declared.index.head.Head.{Head}
 use Rattle.intaglio_index.specs.Placed.{Placed, chain, chain_from, head_of, first_symbol_with, IsEntry, BeginsAtOrAbove, IsPredecessor}
-use Rattle.intaglio_index.specs.Found.{IsFound, IsPassed, IsBehind, IsReached, IsAt}
+use Rattle.intaglio_index.specs.Found.{IsFound, IsPassed, IsBehind, HasPassed, IsReached, IsAt}
 use Rattle.intaglio_index.specs.Heads.{IsHead}
-use Rattle.intaglio_index.proofs.ChainLemmas.{Each-weaker, Each-right, Each-append, eqb-equal, eqb-unequal, chain-complete, chain-each, chain-entries, entry_split, InOrder}
+use Rattle.intaglio_index.proofs.ChainLemmas.{Each-weaker, Each-right, Each-append, chain-complete, chain-each, chain-entries, entry-split, InOrder}
 use Rattle.intaglio_index.proofs.HeadLemmas.{IsOccupied, order, apart, entries, first_within, second_within, none_by_words, both_below, second_agrees}
 use Rattle.intaglio_index.proofs.Words.{same_number, high_below, high_above}
-use Rattle.intaglio_index.proofs.WalkLemmas.{rest_of, some_rest, nearer}
+use Rattle.intaglio_index.proofs.WalkLemmas.{some-rest, standing, moves}
 
 -- a hash that no entry of its bucket has was not placed
-pub absent_on : (v : Placed) (hash : ℕ) → AllByRecursion (λ (e : ℕ × ℕ). e.1 ≢ hash) (chain v (hash % v.count)) → AllByRecursion (λ placed. placed ≢ hash) v.hashes
+pub absent_on : (v : Placed) (hash : ℕ) →
+    AllByRecursion (λ (e : ℕ × ℕ). e.1 ≢ hash) (chain v (hash % v.count)) →
+    AllByRecursion (λ placed. placed ≢ hash) v.hashes
 unfolding chain
 absent_on v hash none =
     recursion_from_All (λ placed. placed ≢ hash) v.hashes (λ i d l e.
     (let at : get_or v.hashes i 0 ≡ hash = get_or_default v.hashes i 0 d l ∙ e in
     let found = chain-complete v.count (hash % v.count) v.hashes i l (rw at refl) in
-    let parts = entry_split (chain_from v.count (hash % v.count) 0 [] v.hashes) i found in
+    let parts = entry-split (chain_from v.count (hash % v.count) 0 [] v.hashes) i found in
     let each = rw parts.3 at (chain-each v.count (hash % v.count) v.hashes) in
     let entry = (Each-right (IsEntry v.count (hash % v.count) v.hashes) parts.0 (parts.1 ∷ parts.2) each).0 in
     let other = (Each-right (λ (x : ℕ × ℕ). x.1 ≢ hash) parts.0 (parts.1 ∷ parts.2) (rw parts.3 at none)).0 in
     other (sym (entry.1 0) ∙ ap (λ s. get_or v.hashes s 0) parts.4 ∙ at)))
 
+-- an entry with this symbol and this hash is the pair of them
 pub entry_is : (e : ℕ × ℕ) (s h : ℕ) → e.0 ≡ s → e.1 ≡ h → e ≡ (s, h)
 entry_is e s h p q = rw (← p, ← q) refl
 
-steps_push : (old now new : List Event) (front : List (ℕ × ℕ)) (e : ℕ × ℕ) → now ≡ old ++ replicate (length front + 1) step → new ≡ now ++ step ∷ [] → new ≡ old ++ replicate (length (front ++ e ∷ []) + 1) step
+-- the steps of a front, one for each entry and one more, with another one are those of a front longer by one
+steps_push : (old now new : List Event) (front : List (ℕ × ℕ)) (e : ℕ × ℕ) →
+    now ≡ old ++ replicate (length front + 1) step → new ≡ now ++ step ∷ [] →
+    new ≡ old ++ replicate (length (front ++ e ∷ []) + 1) step
 steps_push old now new front e events more =
     let size : length (front ++ e ∷ []) ≡ length front + 1 = length-append front (e ∷ []) in
     rw (more, events, size, replicate_next (length front + 1) step, append_assoc) refl
 
 -- the search is at the bucket's first symbol
-pub begins : (h : ℕ) (path : List (ℕ × ℕ)) (old now : List Event) (candidate : Option (ℕ × ℕ)) → now ≡ old ++ step ∷ [] → candidate ≡ head_of path → IsReached h path old now candidate
-begins h path old now candidate events next = record { front = []; rest = path; split = refl; next = next; smaller = tt; events = events }
-
--- behind the first two
-pub begins_third : (h : ℕ) (path : List (ℕ × ℕ)) (old now : List Event) (candidate : Option (ℕ × ℕ)) (second : ℕ) (behind : IsBehind h path second) → now ≡ old ++ replicate 3 step →
-    ((before rest : List (ℕ × ℕ)) → path ≡ before ++ (second, behind.hash) ∷ rest → candidate ≡ head_of rest) → IsReached h path old now candidate
-begins_third h path old now candidate second behind events after =
+pub begins : (h : ℕ) (path : List (ℕ × ℕ)) (old now : List Event) (candidate : Option (ℕ × ℕ)) →
+    now ≡ old ++ step ∷ [] → candidate ≡ head_of path → IsReached h path old now candidate
+begins h path old now candidate events next =
     record {
-      front = behind.first ∷ (second, behind.hash) ∷ [];
-      rest = behind.rest;
-      split = behind.split;
-      next = after (behind.first ∷ []) behind.rest behind.split;
-      smaller = (behind.first_smaller, (behind.smaller, tt));
+      walk = record { front = []; rest = path; split = refl; next = next; smaller = tt };
       events = events;
     }
 
+-- behind the first two
+module _ (h : ℕ) (path : List (ℕ × ℕ)) (candidate : Option (ℕ × ℕ)) (second : ℕ)
+    (behind : IsBehind h path second) (after : (before rest : List (ℕ × ℕ)) →
+    path ≡ before ++ (second, behind.hash) ∷ rest → candidate ≡ head_of rest) where
+  abbrev third : HasPassed h path candidate
+  third = record {
+    front = behind.first ∷ (second, behind.hash) ∷ [];
+    rest = behind.rest;
+    split = behind.split;
+    next = after (behind.first ∷ []) behind.rest behind.split;
+    smaller = (behind.first_smaller, (behind.smaller, tt));
+  }
+
+  pub begins_third : (old now : List Event) → now ≡ old ++ replicate 3 step →
+      IsReached h path old now candidate
+  begins_third old now events = record { walk = third; events = events }
+
+  pub at_second : IsAt h path (Some second) candidate
+  at_second = record { walk = third; last_is = (behind.first ∷ [], behind.hash, refl) }
+
 -- the second is a placed symbol
-pub second_placed : (v : Placed) (h second : ℕ) (behind : IsBehind h (chain v (h % v.count)) second) → second < length v.hashes
+pub second_placed : (v : Placed) (h second : ℕ) (behind : IsBehind h (chain v (h % v.count)) second) →
+    second < length v.hashes
 second_placed v h second behind = (rw behind.split at (chain-entries v (h % v.count))).1.0.0
 
 module _ (h : ℕ) (path : List (ℕ × ℕ)) (old now : List Event) where
-  standing : (e : ℕ × ℕ) (at : IsReached h path old now (Some e)) → (behind : List (ℕ × ℕ)) × (path ≡ at.front ++ e ∷ behind)
-  standing e at =
-      let rest = some_rest at.rest e at.next in
-      (rest.0, at.split ∙ ap (λ r. at.front ++ r) rest.1)
-
-  pub goes_on : (s k : ℕ) (new : List Event) (next : Option (ℕ × ℕ)) → IsReached h path old now (Some (s, k)) → k < h → new ≡ now ++ step ∷ [] →
-      ((before behind : List (ℕ × ℕ)) → path ≡ before ++ (s, k) ∷ behind → next ≡ head_of behind) → IsReached h path old new next
+  pub goes_on : (s k : ℕ) (new : List Event) (next : Option (ℕ × ℕ)) →
+      IsReached h path old now (Some (s, k)) → k < h → new ≡ now ++ step ∷ [] →
+      ((before behind : List (ℕ × ℕ)) → path ≡ before ++ (s, k) ∷ behind → next ≡ head_of behind) →
+      IsReached h path old new next
   goes_on s k new next at l more after =
-      let rest = standing (s, k) at in
-      record {
-        front = at.front ++ (s, k) ∷ [];
-        rest = rest.0;
-        split = rest.1 ∙ sym (append_assoc at.front ((s, k) ∷ []) rest.0);
-        next = after at.front rest.0 rest.1;
-        smaller = Each-append (λ (e : ℕ × ℕ). e.1 < h) at.front ((s, k) ∷ []) at.smaller (l, tt);
-        events = steps_push old now new at.front (s, k) at.events more;
-      }
+      let on = moves h path s k next at.walk l after in
+      record { walk = on.0; events = rw on.1 (steps_push old now new at.walk.front (s, k) at.events more) }
 
   pub finds : (s k : ℕ) → IsReached h path old now (Some (s, k)) → h ≡ k → IsFound h path old now s
   finds s k at same =
-      let rest = standing (s, k) at in
-      record { front = at.front; behind = rest.0; split = rest.1 ∙ ap (λ n. at.front ++ (s, n) ∷ rest.0) (sym same); smaller = at.smaller; events = at.events }
+      let rest = standing h path (s, k) at.walk in
+      record {
+        front = at.walk.front;
+        behind = rest.0;
+        split = rest.1
+            ∙ ap (λ n. at.walk.front ++ (s, n) ∷ rest.0) (sym same);
+        smaller = at.walk.smaller;
+        events =
+            at.events;
+      }
 
   -- nothing is left, or a greater hash
   pub passes : (candidate : Option (ℕ × ℕ)) → IsReached h path old now candidate → IsPassed path old now
-  passes candidate at = record { more = length at.front; few = omega (arith, ap length at.split, length-append at.front at.rest); events = at.events }
+  passes candidate at =
+      record {
+        more = length at.walk.front;
+        few = omega (arith, ap length at.walk.split, length-append at.walk.front at.walk.rest);
+        events =
+            at.events;
+      }
 
-  others : (candidate : Option (ℕ × ℕ)) (rest : List (ℕ × ℕ)) → candidate ≡ head_of rest → InOrder rest → MatchOption candidate (Unit {0}) (λ e. h < e.1) → AllByRecursion (λ (e : ℕ × ℕ). e.1 ≢ h) rest
+  others : (candidate : Option (ℕ × ℕ)) (rest : List (ℕ × ℕ)) → candidate ≡ head_of rest → InOrder rest →
+      MatchOption candidate (Unit {0}) (λ e. h < e.1) → AllByRecursion (λ (e : ℕ × ℕ). e.1 ≢ h) rest
   others candidate [] next order m = tt
   others candidate (x ∷ xs) next order m =
-      let above : h < x.1 = rw next at m in
-      ((λ q. omega arith), Each-weaker (λ (e : ℕ × ℕ). x.1 ≤ e.1) (λ (e : ℕ × ℕ). e.1 ≢ h) (λ e l q. omega arith) xs order.0)
+      let above : h < x.1 = rw next at m in (
+        (λ q. omega arith),
+        Each-weaker (λ (e : ℕ × ℕ). x.1 ≤ e.1) (λ (e : ℕ × ℕ). e.1 ≢ h) (λ e l q. omega arith) xs order.0,
+      )
 
   order_right : (front rest : List (ℕ × ℕ)) → InOrder (front ++ rest) → InOrder rest
   order_right [] rest o = o
   order_right (x ∷ front) rest o = order_right front rest o.1
 
-  pub ends : (candidate : Option (ℕ × ℕ)) → IsReached h path old now candidate → InOrder path → MatchOption candidate (Unit {0}) (λ e. h < e.1) → AllByRecursion (λ (e : ℕ × ℕ). e.1 ≢ h) path
+  pub ends : (candidate : Option (ℕ × ℕ)) → IsReached h path old now candidate → InOrder path →
+      MatchOption candidate (Unit {0}) (λ e. h < e.1) → AllByRecursion (λ (e : ℕ × ℕ). e.1 ≢ h) path
   ends candidate at order m =
-      let behind = others candidate at.rest at.next (order_right at.front at.rest (rw at.split at order)) m in
-      let front = Each-weaker (λ (e : ℕ × ℕ). e.1 < h) (λ (e : ℕ × ℕ). e.1 ≢ h) (λ e l q. omega arith) at.front at.smaller in
-      rw at.split (Each-append (λ (e : ℕ × ℕ). e.1 ≢ h) at.front at.rest front behind)
+      let behind =
+      others candidate at.walk.rest at.walk.next
+      (order_right at.walk.front at.walk.rest (rw at.walk.split at order)) m in
+      let front = Each-weaker (λ (e : ℕ × ℕ). e.1 < h) (λ (e : ℕ × ℕ). e.1 ≢ h) (λ e l q. omega arith)
+      at.walk.front at.walk.smaller in
+      rw at.walk.split (Each-append (λ (e : ℕ × ℕ). e.1 ≢ h) at.walk.front at.walk.rest front behind)
 
--- the candidate is a placed symbol, and each turn comes nearer to the bucket's end
-module _ (v : Placed) (h : ℕ) (old now : List Event) where
-  pub within : (s k : ℕ) → IsReached h (chain v (h % v.count)) old now (Some (s, k)) → s < length v.hashes
-  unfolding chain
-  within s k at =
-      let rest = standing h (chain v (h % v.count)) old now (s, k) at in
-      let each = rw rest.1 at (chain-each v.count (h % v.count) v.hashes) in
-      (Each-right (IsEntry v.count (h % v.count) v.hashes) at.front ((s, k) ∷ rest.0) each).0.0
-
-  pub falls : (s k : ℕ) (next : Option (ℕ × ℕ)) → IsReached h (chain v (h % v.count)) old now (Some (s, k)) →
-      ((before behind : List (ℕ × ℕ)) → chain v (h % v.count) ≡ before ++ (s, k) ∷ behind → next ≡ head_of behind) →
-      length (rest_of (chain v (h % v.count)) next) < length (rest_of (chain v (h % v.count)) (Some (s, k)))
-  falls s k next at after =
-      let rest = standing h (chain v (h % v.count)) old now (s, k) at in
-      nearer v (h % v.count) at.front s k rest.0 next rest.1 after
-
+-- if P implies Q and holds of a symbol that may be there, so does Q
 pub each_some : (P Q : ℕ → Type 0) (o : Option ℕ) → ((s : ℕ) → P s → Q s) → IfSome o P → IfSome o Q
 each_some P Q None f h = tt
 each_some P Q (Some s) f h = f s h
 
 -- what the head tells of a hash of its bucket
-module _ (v : Placed) (h size : ℕ) (head : Head) (some : 0 < size) (o : IsOccupied v (h % v.count) size head) (old new : List Event) where
+module _ (v : Placed) (h size : ℕ) (head : Head) (some : 0 < size) (o : IsOccupied v (h % v.count) size head)
+    (old new : List Event) where
   -- that no symbol has it
-  pub absent_by_head : head.first / size ≢ h / size → head.second / size ≢ h / size → (h < head.second) ⊎ (head.first ≡ head.second) → AllByRecursion (λ placed. placed ≢ h) v.hashes
+  absent_by_head : head.first / size ≢ h / size → head.second / size ≢ h / size →
+      (h < head.second) ⊎ (head.first ≡ head.second) → AllByRecursion (λ placed. placed ≢ h) v.hashes
   absent_by_head first second end =
-      absent_on v h (rw o.split (none_by_words size some h head o.e o.es (apart v (h % v.count) size head o) (order v (h % v.count) size head o) o.is first second end))
+      absent_on v h
+      (rw o.split (none_by_words size some h head o.e o.es (apart v (h % v.count) size head o)
+      (order v (h % v.count) size head o) o.is first second end))
 
   -- that the first two have smaller ones
-  pub both_smaller : head.second / size ≢ h / size → head.second ≤ h → head.first ≢ head.second → IsBehind h (chain v (h % v.count)) (head.second % size)
+  both_smaller : head.second / size ≢ h / size → head.second ≤ h → head.first ≢ head.second →
+      IsBehind h (chain v (h % v.count)) (head.second % size)
   both_smaller second at_most other =
-      let r = both_below size some h head o.e o.es (order v (h % v.count) size head o) o.is second at_most other in
+      let r = both_below size some h head o.e o.es (order v (h % v.count) size head o) o.is second
+      at_most other in
       let f_is : r.0 ≡ (head.second % size, r.0.1) = entry_is r.0 (head.second % size) r.0.1 (sym r.5) refl in
       let split : chain v (h % v.count) ≡ o.e ∷ r.0 ∷ r.1 = o.split ∙ ap (λ es. o.e ∷ es) r.2 in
-      record { first = o.e; hash = r.0.1; rest = r.1; split = split ∙ ap (λ f. o.e ∷ f ∷ r.1) f_is; first_smaller = r.3; smaller = r.4 }
+      record {
+        first = o.e;
+        hash = r.0.1;
+        rest = r.1;
+        split = split ∙ ap (λ f. o.e ∷ f ∷ r.1) f_is;
+        first_smaller = r.3;
+        smaller = r.4;
+      }
 
-  -- an entry of the bucket with the same high bits has the hash, if that was read or if the bucket tells the other bits
-  sure_of : (e : ℕ × ℕ) → IsEntry v.count (h % v.count) v.hashes e → e.1 / size ≡ h / size → (get_or v.hashes e.0 0 ≡ h) ⊎ (v.count ≡ size) → e.1 ≡ h
+  -- an entry of the bucket with the same high bits has the hash, if that was read or
+  -- if the bucket tells the other bits
+  sure_of : (e : ℕ × ℕ) → IsEntry v.count (h % v.count) v.hashes e → e.1 / size ≡ h / size →
+      (get_or v.hashes e.0 0 ≡ h) ⊎ (v.count ≡ size) → e.1 ≡ h
   sure_of e entry high sure = elim sure [
     | inl read ↦ sym (entry.1 0) ∙ read
     | inr exact ↦ same_number size some e.1 h (rw exact at entry.2) high
   ]
 
   -- that it is the first one's
-  pub first_found : head.first / size ≡ h / size → (get_or v.hashes (head.first % size) 0 ≡ h) ⊎ (v.count ≡ size) → new ≡ old ++ step ∷ [] → IsFound h (chain v (h % v.count)) old new (head.first % size)
+  first_found : head.first / size ≡ h / size → (get_or v.hashes (head.first % size) 0 ≡ h)
+      ⊎ (v.count ≡ size) → new ≡ old ++ step ∷ [] →
+      IsFound h (chain v (h % v.count)) old new (head.first % size)
   first_found high sure events =
       let entry = (entries v (h % v.count) size head o).0 in
       let is : o.e.1 ≡ h = sure_of o.e entry (sym o.is.0.0 ∙ high) (rw (← o.is.0.1) sure) in
       let e_is : o.e ≡ (head.first % size, h) = entry_is o.e (head.first % size) h (sym o.is.0.1) is in
-      record { front = []; behind = o.es; split = o.split ∙ ap (λ e. e ∷ o.es) e_is; smaller = tt; events = events }
+      record {
+        front = [];
+        behind = o.es;
+        split = o.split ∙ ap (λ e. e ∷ o.es) e_is;
+        smaller = tt;
+        events = events;
+      }
 
   -- or the second one's
-  pub second_found : head.first / size ≢ h / size → head.second / size ≡ h / size → (get_or v.hashes (head.second % size) 0 ≡ h) ⊎ (v.count ≡ size) → new ≡ old ++ replicate 2 step →
+  second_found : head.first / size ≢ h / size → head.second / size ≡ h / size →
+      (get_or v.hashes (head.second % size) 0 ≡ h) ⊎ (v.count ≡ size) → new ≡ old ++ replicate 2 step →
       IsFound h (chain v (h % v.count)) old new (head.second % size)
   second_found first high sure events =
       let r = second_agrees size some h head o.e o.es (order v (h % v.count) size head o) o.is first high in
@@ -161,68 +201,145 @@ module _ (v : Placed) (h size : ℕ) (head : Head) (some : 0 < size) (o : IsOccu
       let is : r.0.1 ≡ h = sure_of r.0 each.0 r.4 (rw (← r.5) sure) in
       let f_is : r.0 ≡ (head.second % size, h) = entry_is r.0 (head.second % size) h (sym r.5) is in
       let split : chain v (h % v.count) ≡ o.e ∷ r.0 ∷ r.1 = o.split ∙ ap (λ es. o.e ∷ es) r.2 in
-      record { front = o.e ∷ []; behind = r.1; split = split ∙ ap (λ f. o.e ∷ f ∷ r.1) f_is; smaller = (r.3, tt); events = events }
+      record {
+        front = o.e ∷ [];
+        behind = r.1;
+        split = split ∙ ap (λ f. o.e ∷ f ∷ r.1) f_is;
+        smaller =
+            (r.3, tt);
+        events = events;
+      }
 
 -- the symbol behind one, if it has the same hash
-pub next_with : (candidate : Option (ℕ × ℕ)) (behind : List (ℕ × ℕ)) (s k h : ℕ) → candidate ≡ head_of behind → candidate ≡ Some (s, k) → k ≡ h → Some s ≡ first_symbol_with h behind
+pub next_with : (candidate : Option (ℕ × ℕ)) (behind : List (ℕ × ℕ)) (s k h : ℕ) →
+    candidate ≡ head_of behind → candidate ≡ Some (s, k) → k ≡ h → Some s ≡ first_symbol_with h behind
 next_with candidate [] s k h e f same = (let never = sym e ∙ f in cc)
-next_with candidate (x ∷ xs) s k h e f same = (let is : x ≡ (s, k) = cc in rw (is, eqb-equal k h same) refl)
+next_with candidate (x ∷ xs) s k h e f same = (let is : x ≡ (s, k) = cc in rw (is, eq-eqb k h same) refl)
 
-pub next_without : (candidate : Option (ℕ × ℕ)) (behind : List (ℕ × ℕ)) (s k h : ℕ) → candidate ≡ head_of behind → candidate ≡ Some (s, k) → k ≢ h → None ≡ first_symbol_with h behind
+-- if the next entry has another hash, there is no next symbol with this one
+pub next_without : (candidate : Option (ℕ × ℕ)) (behind : List (ℕ × ℕ)) (s k h : ℕ) →
+    candidate ≡ head_of behind → candidate ≡ Some (s, k) → k ≢ h → None ≡ first_symbol_with h behind
 next_without candidate [] s k h e f other = refl
-next_without candidate (x ∷ xs) s k h e f other = (let is : x ≡ (s, k) = cc in rw (is, eqb-unequal k h other) refl)
+next_without candidate (x ∷ xs) s k h e f other = (let is : x ≡ (s, k) = cc in rw (is, ne_eqb k h other) refl)
 
-pub next_none : (candidate : Option (ℕ × ℕ)) (behind : List (ℕ × ℕ)) (h : ℕ) → candidate ≡ head_of behind → candidate ≡ None → None ≡ first_symbol_with h behind
+-- if there is no next entry, there is no next symbol with this hash
+pub next_none : (candidate : Option (ℕ × ℕ)) (behind : List (ℕ × ℕ)) (h : ℕ) → candidate ≡ head_of behind →
+    candidate ≡ None → None ≡ first_symbol_with h behind
 next_none candidate [] h e f = refl
 next_none candidate (x ∷ xs) h e f = cc
 
 -- an entry's hash is the one that its symbol was placed with
-pub hash_placed : (v : Placed) (b s h : ℕ) (before behind : List (ℕ × ℕ)) → chain v b ≡ before ++ (s, h) ∷ behind → get_or v.hashes s 0 ≡ h
+pub hash_placed : (v : Placed) (b s h : ℕ) (before behind : List (ℕ × ℕ)) →
+    chain v b ≡ before ++ (s, h) ∷ behind → get_or v.hashes s 0 ≡ h
 hash_placed v b s h before behind split =
     let each = rw split at (chain-entries v b) in
     (Each-right (IsEntry v.count b v.hashes) before ((s, h) ∷ behind) each).0.1 0
 
 -- steps one after the other
-pub two_steps : (old a b : List Event) → a ≡ old ++ step ∷ [] → b ≡ a ++ step ∷ [] → b ≡ old ++ replicate 2 step
+pub two_steps : (old a b : List Event) → a ≡ old ++ step ∷ [] → b ≡ a ++ step ∷ [] →
+    b ≡ old ++ replicate 2 step
 two_steps old a b e f = rw (f, e, append_assoc) refl
 
-pub three_steps : (old a b d : List Event) → a ≡ old ++ step ∷ [] → b ≡ a ++ step ∷ [] → d ≡ b ++ step ∷ [] → d ≡ old ++ replicate 3 step
+-- a step after a step after a step are three steps
+pub three_steps : (old a b d : List Event) → a ≡ old ++ step ∷ [] → b ≡ a ++ step ∷ [] → d ≡ b ++ step ∷ [] →
+    d ≡ old ++ replicate 3 step
 three_steps old a b d e f g = rw (g, f, e, append_assoc, append_assoc) refl
 
--- the word that is nearest a hash is one of the two
-pub nearest_within : (v : Placed) (k size h word : ℕ) (head : Head) → IsOccupied v k size head → (head.first / size ≡ h / size → word ≡ head.first) → (head.first / size ≢ h / size → word ≡ head.second) → word % size < length v.hashes
-nearest_within v k size h word head o first second =
-    elim (eqb_tells (head.first / size) (h / size)) [
-      | inl same ↦ rw (first same.1) (first_within v k size head o)
-      | inr other ↦ rw (second other.1) (second_within v k size head o)
-    ]
+-- the head of a hash's bucket, with the word of it that agrees with the hash, if one does
+pub record IsRead (v : Placed) (h size : ℕ) (head : Head) (word : ℕ) : Type 0 where
+  pub some : 0 < size
+  pub occupied : IsOccupied v (h % v.count) size head
+  pub first : head.first / size ≡ h / size → word ≡ head.first
+  pub second : head.first / size ≢ h / size → word ≡ head.second
+
+module _ (v : Placed) (h size : ℕ) (head : Head) (word : ℕ) (read : IsRead v h size head word) where
+  -- the word is that of a placed symbol
+  pub word_within : word % size < length v.hashes
+  word_within = elim (eqb_tells (head.first / size) (h / size)) [
+    | inl same ↦ rw (read.first same.1) (first_within v (h % v.count) size head read.occupied)
+    | inr other ↦ rw (read.second other.1) (second_within v (h % v.count) size head read.occupied)
+  ]
+
+  -- where it doesn't agree, neither word does
+  module _ (agrees : Bool) (unmet : agrees ≡ false) (tells : word / size ≡ h / size → agrees ≡ true) where
+    first_other : head.first / size ≢ h / size
+    first_other q = true≢false (sym (tells (ap (λ w. w / size) (read.first q) ∙ q)) ∙ unmet)
+
+    second_other : head.second / size ≢ h / size
+    second_other q = true≢false (sym (tells (ap (λ w. w / size) (read.second first_other) ∙ q)) ∙ unmet)
+
+    pub head_absent : (h < head.second) ⊎ ((head.second ≤ h) × (head.first ≡ head.second)) →
+        AllByRecursion (λ placed. placed ≢ h) v.hashes
+    head_absent (inl less) =
+        absent_by_head v h size head read.some read.occupied [] [] first_other second_other (inl less)
+    head_absent (inr same) =
+        absent_by_head v h size head read.some read.occupied [] [] first_other second_other (inr same.1)
+
+    pub head_behind : head.second ≤ h → head.first ≢ head.second →
+        IsBehind h (chain v (h % v.count)) (head.second % size)
+    head_behind = both_smaller v h size head read.some read.occupied [] [] second_other
+
+  -- where it does, and is sure to be the hash, its symbol is the first with the hash
+  module _ (high : word / size ≡ h / size) (sure : (get_or v.hashes (word % size) 0 ≡ h) ⊎ (v.count ≡ size))
+      (old new : List Event) where
+    pub word_first : word ≡ head.first → new ≡ old ++ step ∷ [] →
+        IsFound h (chain v (h % v.count)) old new (word % size)
+    word_first is events =
+        rw is (first_found v h size head read.some read.occupied old new (rw is at high)
+        (rw is at sure) events)
+
+    pub word_second : word ≢ head.first → new ≡ old ++ replicate 2 step →
+        IsFound h (chain v (h % v.count)) old new (word % size)
+    word_second other events =
+        let first : head.first / size ≢ h / size = λ q. other (read.first q) in
+        let is = read.second first in
+        rw is (second_found v h size head read.some read.occupied old new first (rw is at high)
+        (rw is at sure) events)
+
+  -- where the number of buckets is a power of two, its symbol has the hash
+  pub word_has : word / size ≡ h / size → v.count ≡ size → get_or v.hashes (word % size) 0 ≡ h
+  word_has high exact = elim (eqb_tells (head.first / size) (h / size)) [
+    | inl same ↦ let f = word_first high (inr exact) [] (step ∷ []) (read.first same.1) refl in
+        hash_placed v (h % v.count) (word % size) h f.front f.behind f.split
+    | inr other ↦ let f =
+        word_second high (inr exact) [] (replicate 2 step) (λ q. other.1 (ap (λ w. w / size) (sym q) ∙ high))
+        refl in hash_placed v (h % v.count) (word % size) h f.front f.behind f.split
+  ]
 
 -- a hash that was read
-pub hash_read : (hashes : List ℕ) (s i hash : ℕ) → s < length hashes → hash ≡ get_or hashes i hash → i ≡ s → get_or hashes s 0 ≡ hash
+pub hash_read : (hashes : List ℕ) (s i hash : ℕ) → s < length hashes → hash ≡ get_or hashes i hash → i ≡ s →
+    get_or hashes s 0 ≡ hash
 hash_read hashes s i hash within read same =
     let is : hash ≡ get_or hashes s hash = rw same at read in
     get_or_default hashes s 0 hash within ∙ sym is
 
 -- where the number of buckets is a power of two, the words of a bucket are in the order of its hashes
-module _ (v : Placed) (h size : ℕ) (head : Head) (some : 0 < size) (exact : v.count ≡ size) (o : IsOccupied v (h % v.count) size head) where
+module _ (v : Placed) (h size : ℕ) (head : Head) (some : 0 < size) (exact : v.count ≡ size)
+    (o : IsOccupied v (h % v.count) size head) where
   low : (e : ℕ × ℕ) → IsEntry v.count (h % v.count) v.hashes e → e.1 % size ≡ h % size
   low e entry = rw exact at entry.2
 
   pub begins_above : h / size * size ≤ head.first → BeginsAtOrAbove h (chain v (h % v.count))
-  begins_above l = rw o.split (high_below size some o.e.1 h head.first (low o.e (entries v (h % v.count) size head o).0) o.is.0.0 l)
+  begins_above l =
+      rw o.split (high_below size some o.e.1 h head.first (low o.e (entries v (h % v.count) size head o).0)
+      o.is.0.0 l)
 
   first_below : head.first < h / size * size → o.e.1 < h
   first_below l = high_above size some o.e.1 h head.first o.is.0.0 l
 
-  behind_first : (es : List (ℕ × ℕ)) → IsHead size head (o.e ∷ es) → AllByRecursion (IsEntry v.count (h % v.count) v.hashes) (o.e ∷ es) → o.e.1 < h → h / size * size ≤ head.second → BeginsAtOrAbove h es
+  behind_first : (es : List (ℕ × ℕ)) → IsHead size head (o.e ∷ es) →
+      AllByRecursion (IsEntry v.count (h % v.count) v.hashes) (o.e ∷ es) → o.e.1 < h →
+      h / size * size ≤ head.second → BeginsAtOrAbove h es
   behind_first [] is each below l = tt
   behind_first (f ∷ fs) is each below l = high_below size some f.1 h head.second (low f each.1.0) is.1.0 l
 
   -- the first one alone has a smaller hash
-  pub first_precedes : head.first < h / size * size → h / size * size ≤ head.second → IsPredecessor h (chain v (h % v.count)) (head.first % size)
+  pub first_precedes : head.first < h / size * size → h / size * size ≤ head.second →
+      IsPredecessor h (chain v (h % v.count)) (head.first % size)
   first_precedes first second =
       let below = first_below first in
-      let e_is : o.e ≡ (head.first % size, o.e.1) = entry_is o.e (head.first % size) o.e.1 (sym o.is.0.1) refl in
+      let e_is : o.e ≡ (head.first % size, o.e.1) =
+      entry_is o.e (head.first % size) o.e.1 (sym o.is.0.1) refl in
       record {
         front = [];
         hash = o.e.1;
@@ -233,72 +350,62 @@ module _ (v : Placed) (h size : ℕ) (head : Head) (some : 0 < size) (exact : v.
       }
 
   -- a walk stands behind the second one
-  stands : (candidate : Option (ℕ × ℕ)) (es : List (ℕ × ℕ)) → o.es ≡ es → IsHead size head (o.e ∷ es) → o.e.1 < h → head.second < h / size * size →
-      ((b hash : ℕ) (before behind : List (ℕ × ℕ)) → chain v b ≡ before ++ (head.second % size, hash) ∷ behind → candidate ≡ head_of behind) →
+  stands : (candidate : Option (ℕ × ℕ)) (es : List (ℕ × ℕ)) → o.es ≡ es → IsHead size head (o.e ∷ es) →
+      o.e.1 < h → head.second < h / size * size →
+      ((b hash : ℕ) (before behind : List (ℕ × ℕ)) →
+      chain v b ≡ before ++ (head.second % size, hash) ∷ behind → candidate ≡ head_of behind) →
       IsAt h (chain v (h % v.count)) (Some (head.second % size)) candidate
   stands candidate [] rest is below second after =
-      let e_is : o.e ≡ (head.second % size, o.e.1) = entry_is o.e (head.second % size) o.e.1 (sym is.1.1) refl in
+      let e_is : o.e ≡ (head.second % size, o.e.1) =
+      entry_is o.e (head.second % size) o.e.1 (sym is.1.1) refl in
       let whole : chain v (h % v.count) ≡ o.e ∷ [] = o.split ∙ ap (λ es. o.e ∷ es) rest in
       record {
-        front = o.e ∷ [];
-        rest = [];
-        split = whole;
-        next = after (h % v.count) o.e.1 [] [] (whole ∙ ap (λ e. e ∷ []) e_is);
-        smaller = (below, tt);
+        walk = record {
+          front = o.e ∷ [];
+          rest = [];
+          split = whole;
+          next =
+              after (h % v.count) o.e.1 [] [] (whole ∙ ap (λ e. e ∷ []) e_is);
+          smaller = (below, tt);
+        };
         last_is = ([], o.e.1, ap (λ e. e ∷ []) e_is);
       }
   stands candidate (f ∷ fs) rest is below second after =
       let f_is : f ≡ (head.second % size, f.1) = entry_is f (head.second % size) f.1 (sym is.1.1) refl in
       let whole : chain v (h % v.count) ≡ o.e ∷ f ∷ fs = o.split ∙ ap (λ es. o.e ∷ es) rest in
+      let behind : IsBehind h (chain v (h % v.count)) (head.second % size) =
       record {
-        front = o.e ∷ f ∷ [];
+        first = o.e;
+        hash = f.1;
         rest = fs;
-        split = whole;
-        next = after (h % v.count) f.1 (o.e ∷ []) fs (whole ∙ ap (λ x. o.e ∷ x ∷ fs) f_is);
-        smaller = (below, (high_above size some f.1 h head.second is.1.0 second, tt));
-        last_is = (o.e ∷ [], f.1, ap (λ x. o.e ∷ x ∷ []) f_is);
-      }
+        split = whole ∙ ap (λ x. o.e ∷ x ∷ fs) f_is;
+        first_smaller = below;
+        smaller = high_above size some f.1 h head.second is.1.0 second;
+      } in
+      at_second h (chain v (h % v.count)) candidate (head.second % size) behind (λ before rest split.
+      after (h % v.count) f.1 before rest split)
 
-  pub behind_second : (candidate : Option (ℕ × ℕ)) → head.first < h / size * size → head.second < h / size * size →
-      ((b hash : ℕ) (before behind : List (ℕ × ℕ)) → chain v b ≡ before ++ (head.second % size, hash) ∷ behind → candidate ≡ head_of behind) →
+  pub behind_second : (candidate : Option (ℕ × ℕ)) → head.first < h / size * size →
+      head.second < h / size * size →
+      ((b hash : ℕ) (before behind : List (ℕ × ℕ)) →
+      chain v b ≡ before ++ (head.second % size, hash) ∷ behind → candidate ≡ head_of behind) →
       IsAt h (chain v (h % v.count)) (Some (head.second % size)) candidate
-  behind_second candidate first second after = stands candidate o.es refl o.is (first_below first) second after
-
--- where the number of buckets is a power of two, a word that agrees with a hash is that of a symbol with this hash
-pub nearest_has : (v : Placed) (h size word : ℕ) (head : Head) → 0 < size → IsOccupied v (h % v.count) size head → (head.first / size ≡ h / size → word ≡ head.first) → (head.first / size ≢ h / size → word ≡ head.second) → word / size ≡ h / size → v.count ≡ size → get_or v.hashes (word % size) 0 ≡ h
-nearest_has v h size word head some o first second high exact =
-    elim (eqb_tells (head.first / size) (h / size)) [
-      | inl same ↦
-          (let f = first_found v h size head some o [] (step ∷ []) same.1 (inr exact) refl in
-          rw (first same.1) (hash_placed v (h % v.count) (head.first % size) h f.front f.behind f.split))
-      | inr other ↦
-          (let f = second_found v h size head some o [] (replicate 2 step) other.1 (rw (second other.1) at high) (inr exact) refl in
-          rw (second other.1) (hash_placed v (h % v.count) (head.second % size) h f.front f.behind f.split))
-    ]
-
--- a walk for the predecessor, behind the first two
-pub at_second : (h : ℕ) (path : List (ℕ × ℕ)) (candidate : Option (ℕ × ℕ)) (second : ℕ) (behind : IsBehind h path second) →
-    ((before rest : List (ℕ × ℕ)) → path ≡ before ++ (second, behind.hash) ∷ rest → candidate ≡ head_of rest) → IsAt h path (Some second) candidate
-at_second h path candidate second behind after =
-    record {
-      front = behind.first ∷ (second, behind.hash) ∷ [];
-      rest = behind.rest;
-      split = behind.split;
-      next = after (behind.first ∷ []) behind.rest behind.split;
-      smaller = (behind.first_smaller, (behind.smaller, tt));
-      last_is = (behind.first ∷ [], behind.hash, refl);
-    }
+  behind_second candidate first second after =
+      stands candidate o.es refl o.is (first_below first) second after
 
 -- the predecessor and the entry behind it are placed symbols
 module _ (v : Placed) (h last : ℕ) (pred : IsPredecessor h (chain v (h % v.count)) last) where
   from_last : AllByRecursion (IsEntry v.count (h % v.count) v.hashes) ((last, pred.hash) ∷ pred.behind)
-  from_last = Each-right (IsEntry v.count (h % v.count) v.hashes) pred.front ((last, pred.hash) ∷ pred.behind) (rw pred.split at (chain-entries v (h % v.count)))
+  from_last = Each-right (IsEntry v.count (h % v.count) v.hashes) pred.front ((last, pred.hash) ∷ pred.behind)
+      (rw pred.split at (chain-entries v (h % v.count)))
 
   pub last_placed : last < length v.hashes
   last_placed = from_last.0.0
 
-  pub next_placed : (e : ℕ × ℕ) → ((before behind : List (ℕ × ℕ)) → chain v (h % v.count) ≡ before ++ (last, pred.hash) ∷ behind → Some e ≡ head_of behind) → (e.0 < length v.hashes) × (get_or v.hashes e.0 0 ≡ e.1)
+  pub next_placed : (e : ℕ × ℕ) →
+      ((before behind : List (ℕ × ℕ)) → chain v (h % v.count) ≡ before ++ (last, pred.hash) ∷ behind →
+      Some e ≡ head_of behind) → (e.0 < length v.hashes) × (get_or v.hashes e.0 0 ≡ e.1)
   next_placed e after =
-      let rest = some_rest pred.behind e (after pred.front pred.behind pred.split) in
+      let rest = some-rest pred.behind e (after pred.front pred.behind pred.split) in
       let entry = (rw rest.1 at from_last.1).0 in
       (entry.0, entry.1 0)

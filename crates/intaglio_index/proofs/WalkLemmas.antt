@@ -2,10 +2,11 @@
 use Rattle.std.proofs.Common.{◌≡◌, ℕ, ◌<◌, ◌≤◌, List, [], ◌∷◌, ◌++◌, length, cond, false, refl, sym, ap, ◌∙◌, arith, eqb, Option, Some, None, append_assoc}
 use Rattle.std.specs.Option.{MatchOption}
 use Rattle.std.specs.List.{IsDistinct}
+use Rattle.std.proofs.lemmas.Bool.{eq-eqb}
 use Rattle.std.proofs.lemmas.List.{map-append}
-use Rattle.intaglio_index.specs.Found.{IsAt}
+use Rattle.intaglio_index.specs.Found.{HasPassed, IsAt}
 use Rattle.intaglio_index.specs.Placed.{Placed, chain, head_of, symbols_of, BeginsAtOrAbove, IsPredecessor, IsEntry}
-use Rattle.intaglio_index.proofs.ChainLemmas.{chain-distinct, chain-each, eqb-equal, Each-right, Each-append}
+use Rattle.intaglio_index.proofs.ChainLemmas.{chain-distinct, chain-entries, Each-right, Each-append}
 
 -- what is left of a path at a candidate
 abbrev pub rest_of : List (ℕ × ℕ) → Option (ℕ × ℕ) → List (ℕ × ℕ)
@@ -13,95 +14,121 @@ rest_of [] candidate = []
 rest_of (x ∷ xs) None = []
 rest_of (x ∷ xs) (Some e) = cond (eqb x.0 e.0) (x ∷ xs) (rest_of xs (Some e))
 
+-- without a candidate nothing of a path is left
 pub rest_of-none : (path : List (ℕ × ℕ)) → rest_of path None ≡ []
 rest_of-none [] = refl
 rest_of-none (x ∷ xs) = refl
 
-pub rest_of-split : (seen rest : List (ℕ × ℕ)) → IsDistinct eqb (symbols_of (seen ++ rest)) → rest_of (seen ++ rest) (head_of rest) ≡ rest
+-- if no symbol of a path occurs twice, what is left of it at the head of a rest is that rest
+pub rest_of-split : (seen rest : List (ℕ × ℕ)) → IsDistinct eqb (symbols_of (seen ++ rest)) →
+    rest_of (seen ++ rest) (head_of rest) ≡ rest
 unfolding IsDistinct
 rest_of-split seen [] d = rest_of-none (seen ++ [])
-rest_of-split [] (e ∷ behind) d = rw (eqb-equal e.0 e.0 refl) refl
+rest_of-split [] (e ∷ behind) d = rw (eq-eqb e.0 e.0 refl) refl
 rest_of-split (x ∷ seen) (e ∷ behind) d =
     let apart = rw (map-append (λ (e : ℕ × ℕ). e.0) seen (e ∷ behind)) at d.0 in
-    let no : eqb x.0 e.0 ≡ false = (Each-right (λ y. eqb x.0 y ≡ false) (symbols_of seen) (e.0 ∷ symbols_of behind) apart).0 in
+    let no : eqb x.0 e.0 ≡ false =
+    (Each-right (λ y. eqb x.0 y ≡ false) (symbols_of seen) (e.0 ∷ symbols_of behind) apart).0 in
     rw no (rest_of-split seen (e ∷ behind) d.1)
 
-pub rest_of-at : (path seen rest : List (ℕ × ℕ)) (candidate : Option (ℕ × ℕ)) → path ≡ seen ++ rest → IsDistinct eqb (symbols_of path) → candidate ≡ head_of rest → rest_of path candidate ≡ rest
+-- if no symbol of a path occurs twice and the candidate is the head of a rest, that rest is left at it
+pub rest_of-at : (path seen rest : List (ℕ × ℕ)) (candidate : Option (ℕ × ℕ)) → path ≡ seen ++ rest →
+    IsDistinct eqb (symbols_of path) → candidate ≡ head_of rest → rest_of path candidate ≡ rest
 rest_of-at path seen rest candidate split d next =
     rw (split, next) (rest_of-split seen rest (rw split at d))
 
-pub some_rest : (rest : List (ℕ × ℕ)) (e : ℕ × ℕ) → Some e ≡ head_of rest → (behind : List (ℕ × ℕ)) × (rest ≡ e ∷ behind)
-some_rest [] e q = cc
-some_rest (x ∷ xs) e q = (xs, cc)
+-- a list with this head is the head and what stands behind it
+pub some-rest : (rest : List (ℕ × ℕ)) (e : ℕ × ℕ) → Some e ≡ head_of rest → (behind : List (ℕ × ℕ))
+    × (rest ≡ e ∷ behind)
+some-rest [] e q = cc
+some-rest (x ∷ xs) e q = (xs, cc)
 
-pub starts : (h : ℕ) (path : List (ℕ × ℕ)) (candidate : Option (ℕ × ℕ)) → candidate ≡ head_of path → IsAt h path None candidate
-starts h path candidate e = record { front = []; rest = path; split = refl; next = e; smaller = tt; last_is = refl }
+-- the search for a hash's predecessor can begin at the head of a path, where it has passed no symbol
+pub starts : (h : ℕ) (path : List (ℕ × ℕ)) (candidate : Option (ℕ × ℕ)) → candidate ≡ head_of path →
+    IsAt h path None candidate
+starts h path candidate e =
+    record { walk = record { front = []; rest = path; split = refl; next = e; smaller = tt }; last_is = refl }
+
+-- a walk over the symbols with smaller hashes
+module _ (h : ℕ) (path : List (ℕ × ℕ)) where
+  pub standing : (e : ℕ × ℕ) (walk : HasPassed h path (Some e)) → (behind : List (ℕ × ℕ))
+      × (path ≡ walk.front ++ e ∷ behind)
+  standing e walk =
+      let rest = some-rest walk.rest e walk.next in
+      (rest.0, walk.split ∙ ap (λ r. walk.front ++ r) rest.1)
+
+  pub moves : (s k : ℕ) (next : Option (ℕ × ℕ)) (walk : HasPassed h path (Some (s, k))) → k < h →
+      ((before behind : List (ℕ × ℕ)) → path ≡ before ++ (s, k) ∷ behind → next ≡ head_of behind) →
+      (on : HasPassed h path next) × (on.front ≡ walk.front ++ (s, k) ∷ [])
+  moves s k next walk l after =
+      let rest = standing (s, k) walk in (
+        record {
+          front = walk.front ++ (s, k) ∷ [];
+          rest = rest.0;
+          split = rest.1 ∙ sym (append_assoc walk.front ((s, k) ∷ []) rest.0);
+          next = after walk.front rest.0 rest.1;
+          smaller = Each-append (λ (e : ℕ × ℕ). e.1 < h) walk.front ((s, k) ∷ []) walk.smaller (l, tt);
+        },
+        refl,
+      )
+
+  pub goes_on : (last : Option ℕ) (s k : ℕ) (next : Option (ℕ × ℕ)) → IsAt h path last (Some (s, k)) → k < h →
+      ((before behind : List (ℕ × ℕ)) → path ≡ before ++ (s, k) ∷ behind → next ≡ head_of behind) →
+      IsAt h path (Some s) next
+  goes_on last s k next at l after = let on = moves s k next at.walk l after in
+      record { walk = on.0; last_is = (at.walk.front, k, on.1) }
 
 module _ (v : Placed) (b : ℕ) where
-  standing : (h : ℕ) (last : Option ℕ) (e : ℕ × ℕ) → (at : IsAt h (chain v b) last (Some e)) → (behind : List (ℕ × ℕ)) × (chain v b ≡ at.front ++ e ∷ behind)
-  standing h last e at =
-      let rest = some_rest at.rest e at.next in
-      (rest.0, at.split ∙ ap (λ r. at.front ++ r) rest.1)
-
   pub distinct : IsDistinct eqb (symbols_of (chain v b))
   unfolding chain
   distinct = chain-distinct v.count b v.hashes
 
-  pub goes_on : (h : ℕ) (last : Option ℕ) (s k : ℕ) (next : Option (ℕ × ℕ)) → IsAt h (chain v b) last (Some (s, k)) → k < h →
-      ((before behind : List (ℕ × ℕ)) → chain v b ≡ before ++ (s, k) ∷ behind → next ≡ head_of behind) →
-      IsAt h (chain v b) (Some s) next
-  goes_on h last s k next at l after =
-      let rest = standing h last (s, k) at in
-      record {
-        front = at.front ++ (s, k) ∷ [];
-        rest = rest.0;
-        split = rest.1 ∙ sym (append_assoc at.front ((s, k) ∷ []) rest.0);
-        next = after at.front rest.0 rest.1;
-        smaller = Each-append (λ (e : ℕ × ℕ). e.1 < h) at.front ((s, k) ∷ []) at.smaller (l, tt);
-        last_is = (at.front, k, refl);
-      }
-
   -- behind an entry there is less of the path than from it on
-  pub nearer : (front : List (ℕ × ℕ)) (s k : ℕ) (behind : List (ℕ × ℕ)) (next : Option (ℕ × ℕ)) → chain v b ≡ front ++ (s, k) ∷ behind →
+  pub nearer : (front : List (ℕ × ℕ)) (s k : ℕ) (behind : List (ℕ × ℕ)) (next : Option (ℕ × ℕ)) →
+      chain v b ≡ front ++ (s, k) ∷ behind →
       ((before behind : List (ℕ × ℕ)) → chain v b ≡ before ++ (s, k) ∷ behind → next ≡ head_of behind) →
       length (rest_of (chain v b) next) < length (rest_of (chain v b) (Some (s, k)))
   nearer front s k behind next split after =
-      let now : rest_of (chain v b) (Some (s, k)) ≡ (s, k) ∷ behind = rest_of-at (chain v b) front ((s, k) ∷ behind) (Some (s, k)) split distinct refl in
-      let later : chain v b ≡ (front ++ (s, k) ∷ []) ++ behind = split ∙ sym (append_assoc front ((s, k) ∷ []) behind) in
-      let then : rest_of (chain v b) next ≡ behind = rest_of-at (chain v b) (front ++ (s, k) ∷ []) behind next later distinct (after front behind split) in
+      let now : rest_of (chain v b) (Some (s, k)) ≡ (s, k) ∷ behind =
+      rest_of-at (chain v b) front ((s, k) ∷ behind) (Some (s, k)) split distinct refl in
+      let later : chain v b ≡ (front ++ (s, k) ∷ []) ++ behind =
+      split ∙ sym (append_assoc front ((s, k) ∷ []) behind) in
+      let then : rest_of (chain v b) next ≡ behind =
+      rest_of-at (chain v b) (front ++ (s, k) ∷ []) behind next later distinct (after front behind split) in
       rw (now, then) (omega arith)
 
-  pub falls : (h : ℕ) (last : Option ℕ) (s k : ℕ) (next : Option (ℕ × ℕ)) → IsAt h (chain v b) last (Some (s, k)) →
+  pub falls : (h s k : ℕ) (next : Option (ℕ × ℕ)) → HasPassed h (chain v b) (Some (s, k)) →
       ((before behind : List (ℕ × ℕ)) → chain v b ≡ before ++ (s, k) ∷ behind → next ≡ head_of behind) →
       length (rest_of (chain v b) next) < length (rest_of (chain v b) (Some (s, k)))
-  falls h last s k next at after =
-      let rest = standing h last (s, k) at in
-      nearer at.front s k rest.0 next rest.1 after
+  falls h s k next walk after = let rest = standing h (chain v b) (s, k) walk in
+      nearer walk.front s k rest.0 next rest.1 after
 
   -- the walk stops: nothing is left, or a hash that is not smaller
-  begins : (h : ℕ) (rest : List (ℕ × ℕ)) (candidate : Option (ℕ × ℕ)) → candidate ≡ head_of rest → MatchOption candidate (Unit {0}) (λ e. h ≤ e.1) → BeginsAtOrAbove h rest
+  begins : (h : ℕ) (rest : List (ℕ × ℕ)) (candidate : Option (ℕ × ℕ)) → candidate ≡ head_of rest →
+      MatchOption candidate (Unit {0}) (λ e. h ≤ e.1) → BeginsAtOrAbove h rest
   begins h [] candidate e m = tt
   begins h (x ∷ xs) candidate e m = rw e at m
 
-  pub stops : (h : ℕ) (last : Option ℕ) (candidate : Option (ℕ × ℕ)) → IsAt h (chain v b) last candidate → MatchOption candidate (Unit {0}) (λ e. h ≤ e.1) →
+  pub stops : (h : ℕ) (last : Option ℕ) (candidate : Option (ℕ × ℕ)) → IsAt h (chain v b) last candidate →
+      MatchOption candidate (Unit {0}) (λ e. h ≤ e.1) →
       MatchOption last (BeginsAtOrAbove h (chain v b)) (λ p. IsPredecessor h (chain v b) p)
   stops h None candidate at m =
-      let whole : chain v b ≡ at.rest = at.split ∙ ap (λ f. f ++ at.rest) at.last_is in
-      rw whole (begins h at.rest candidate at.next m)
+      let whole : chain v b ≡ at.walk.rest = at.walk.split ∙ ap (λ f. f ++ at.walk.rest) at.last_is in
+      rw whole (begins h at.walk.rest candidate at.walk.next m)
   stops h (Some p) candidate at m =
-      let is : at.front ≡ at.last_is.0 ++ (p, at.last_is.1) ∷ [] = at.last_is.2 in
+      let is : at.walk.front ≡ at.last_is.0 ++ (p, at.last_is.1) ∷ [] = at.last_is.2 in
       record {
         front = at.last_is.0;
         hash = at.last_is.1;
-        behind = at.rest;
-        split = at.split ∙ ap (λ f. f ++ at.rest) is ∙ append_assoc at.last_is.0 ((p, at.last_is.1) ∷ []) at.rest;
-        smaller = rw is at at.smaller;
-        others = begins h at.rest candidate at.next m;
+        behind = at.walk.rest;
+        split = at.walk.split ∙ ap (λ f. f ++ at.walk.rest) is
+            ∙ append_assoc at.last_is.0 ((p, at.last_is.1) ∷ []) at.walk.rest;
+        smaller = rw is at at.walk.smaller;
+        others = begins h at.walk.rest candidate at.walk.next m;
       }
 
-  pub within : (h : ℕ) (last : Option ℕ) (s k : ℕ) → IsAt h (chain v b) last (Some (s, k)) → s < length v.hashes
-  unfolding chain
-  within h last s k at =
-      let rest = standing h last (s, k) at in
-      let each = rw rest.1 at (chain-each v.count b v.hashes) in
-      (Each-right (IsEntry v.count b v.hashes) at.front ((s, k) ∷ rest.0) each).0.0
+  pub within : (h s k : ℕ) → HasPassed h (chain v b) (Some (s, k)) → s < length v.hashes
+  within h s k walk =
+      let rest = standing h (chain v b) (s, k) walk in
+      (Each-right (IsEntry v.count b v.hashes) walk.front ((s, k) ∷ rest.0)
+      (rw rest.1 at (chain-entries v b))).0.0

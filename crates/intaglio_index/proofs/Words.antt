@@ -5,37 +5,33 @@ use Rattle.std.specs.Int.RustNames.{bit_xor}
 use Rattle.std.specs.Int.Bits.{xor_self}
 use Rattle.std.proofs.lemmas.Bool.{cases_lt}
 use Rattle.std.proofs.lemmas.Nat.{pow_pos, pow_below, xor_shr, xor_mod, div-add-mod', div-mul-add, mod-mul-add, div_below, mod_below, mul-add-lt, le-div, pow-add}
-use Rattle.std.proofs.lemmas.Nat.Bits.{bit_at_xor, bit_at-zero, bit_at-lt, same_from_bits}
+use Rattle.std.proofs.lemmas.Nat.Bits.{bit_at_xor, bit_at-lt, same_from_bits}
 use Rattle.std.proofs.Math.Nat.{mul-le-mul_right}
+use Rattle.intaglio_content.proofs.SameLemmas.{xor-none}
 use Rattle.intaglio_index.specs.Heads.{IsWord}
-
--- numbers with no bit that one of them has alone are equal
-xor_none : (a b : ℕ) → bit_xor a b ≡ 0 → a ≡ b
-xor_none a b e =
-    same_from_bits a b
-    (λ i.
-    (let sum : bit_at (bit_xor a b) i ≡ (bit_at a i + bit_at b i) % 2 = bit_at_xor a b i in
-    let none : bit_at (bit_xor a b) i ≡ 0 = ap (λ n. bit_at n i) e ∙ bit_at-zero i in
-    omega (arith, sum, none, bit_at-lt a i, bit_at-lt b i)))
 
 -- what is below the size is left of a number that has the same high bits
 agrees_at : (k a b : ℕ) → bit_xor a b < 2 ^ k ↔ (a / 2 ^ k ≡ b / 2 ^ k)
 agrees_at k a b =
     let some : 0 < 2 ^ k = pow_pos k in
     let high : bit_xor a b / 2 ^ k ≡ bit_xor (a / 2 ^ k) (b / 2 ^ k) = xor_shr a b k in
-    let whole : bit_xor a b / 2 ^ k * 2 ^ k + bit_xor a b % 2 ^ k ≡ bit_xor a b = div-add-mod' (bit_xor a b) (2 ^ k) in (
+    let whole : bit_xor a b / 2 ^ k * 2 ^ k + bit_xor a b % 2 ^ k ≡ bit_xor a b =
+    div-add-mod' (bit_xor a b) (2 ^ k) in (
       λ below.
           (let one : bit_xor a b < 1 * 2 ^ k = omega arith in
           let least : bit_xor a b / 2 ^ k < 1 = div_below (bit_xor a b) (2 ^ k) 1 some one in
           let none : bit_xor a b / 2 ^ k ≡ 0 = omega arith in
-          xor_none (a / 2 ^ k) (b / 2 ^ k) (sym high ∙ none)),
+          xor-none (a / 2 ^ k) (b / 2 ^ k) (sym high ∙ none)),
       λ same.
-          (let none : bit_xor a b / 2 ^ k ≡ 0 = high ∙ ap (λ n. bit_xor n (b / 2 ^ k)) same ∙ xor_self (b / 2 ^ k) in
+          (let none : bit_xor a b / 2 ^ k ≡ 0 = high ∙ ap (λ n. bit_xor n (b / 2 ^ k)) same
+          ∙ xor_self (b / 2 ^ k) in
           let no_blocks : bit_xor a b / 2 ^ k * 2 ^ k ≡ 0 * 2 ^ k = ap (λ n. n * 2 ^ k) none in
           omega (arith, whole, no_blocks, mod_below (bit_xor a b) (2 ^ k) some)),
     )
 
-pub agrees_is : (mask a b : ℕ) → IsPowerOfTwo (mask + 1) → bit_xor a b ≤ mask ↔ (a / (mask + 1) ≡ b / (mask + 1))
+-- the xor of two numbers is at most a mask of low bits exactly if their bits above the mask are the same
+pub agrees_is : (mask a b : ℕ) → IsPowerOfTwo (mask + 1) → bit_xor a b ≤ mask ↔
+    (a / (mask + 1) ≡ b / (mask + 1))
 agrees_is mask a b power =
     let at : bit_xor a b < 2 ^ power.0 ↔ (a / 2 ^ power.0 ≡ b / 2 ^ power.0) = agrees_at power.0 a b in
     let parted : bit_xor a b < mask + 1 ↔ (a / (mask + 1) ≡ b / (mask + 1)) = rw power.1 at in
@@ -46,10 +42,12 @@ xor_undone : (a b : ℕ) → bit_xor (bit_xor a b) b ≡ a
 xor_undone a b =
     same_from_bits (bit_xor (bit_xor a b) b) a
     (λ i.
-    (let outer : bit_at (bit_xor (bit_xor a b) b) i ≡ (bit_at (bit_xor a b) i + bit_at b i) % 2 = bit_at_xor (bit_xor a b) b i in
+    (let outer : bit_at (bit_xor (bit_xor a b) b) i ≡ (bit_at (bit_xor a b) i + bit_at b i) % 2 =
+    bit_at_xor (bit_xor a b) b i in
     let inner : bit_at (bit_xor a b) i ≡ (bit_at a i + bit_at b i) % 2 = bit_at_xor a b i in
     omega (arith, outer, inner, bit_at-lt a i, bit_at-lt b i)))
 
+-- a number below a size is its own remainder
 below_itself : (n size : ℕ) → 0 < size → n < size → n % size ≡ n
 below_itself n size some below =
     let whole : n / size * size + n % size ≡ n = div-add-mod' n size in
@@ -59,16 +57,20 @@ below_itself n size some below =
     let no_blocks : n / size * size ≡ 0 * size = ap (λ q. q * size) none in
     omega (arith, whole, no_blocks)
 
+-- where the bits from k on are the same, the xor with the low k bits of one number gives those of the other
 low_at : (k a b : ℕ) → a / 2 ^ k ≡ b / 2 ^ k → bit_xor (bit_xor a b) (b % 2 ^ k) ≡ a % 2 ^ k
 low_at k a b same =
     let below : bit_xor a b < 2 ^ k = (agrees_at k a b).1 same in
-    let parts : bit_xor a b ≡ bit_xor (a % 2 ^ k) (b % 2 ^ k) = sym (below_itself (bit_xor a b) (2 ^ k) (pow_pos k) below) ∙ xor_mod a b k in
+    let parts : bit_xor a b ≡ bit_xor (a % 2 ^ k) (b % 2 ^ k) =
+    sym (below_itself (bit_xor a b) (2 ^ k) (pow_pos k) below) ∙ xor_mod a b k in
     ap (λ n. bit_xor n (b % 2 ^ k)) parts ∙ xor_undone (a % 2 ^ k) (b % 2 ^ k)
 
 -- the low bits of a number by those of another with the same high bits
-pub low_beside : (mask a b low : ℕ) → IsPowerOfTwo (mask + 1) → a / (mask + 1) ≡ b / (mask + 1) → low ≡ b % (mask + 1) → bit_xor (bit_xor a b) low ≡ a % (mask + 1)
+pub low_beside : (mask a b low : ℕ) → IsPowerOfTwo (mask + 1) → a / (mask + 1) ≡ b / (mask + 1) →
+    low ≡ b % (mask + 1) → bit_xor (bit_xor a b) low ≡ a % (mask + 1)
 low_beside mask a b low power same is =
-    let at : bit_xor (bit_xor a b) (b % 2 ^ power.0) ≡ a % 2 ^ power.0 = low_at power.0 a b (rw power.1 at same) in
+    let at : bit_xor (bit_xor a b) (b % 2 ^ power.0) ≡ a % 2 ^ power.0 =
+    low_at power.0 a b (rw power.1 at same) in
     rw (is, power.1) at
 
 module _ (size : ℕ) (some : 0 < size) where
@@ -97,13 +99,16 @@ module _ (size : ℕ) (some : 0 < size) where
   -- a word is told by its entry
   pub word_same : (e : ℕ × ℕ) (a b : ℕ) → IsWord size e a → IsWord size e b → a ≡ b
   word_same e a b p q =
-      sym (div-add-mod' a size) ∙ ap (λ n. n * size + a % size) (p.0 ∙ sym q.0) ∙ ap (λ n. b / size * size + n) (p.1 ∙ sym q.1) ∙ div-add-mod' b size
+      sym (div-add-mod' a size) ∙ ap (λ n. n * size + a % size) (p.0 ∙ sym q.0)
+      ∙ ap (λ n. b / size * size + n) (p.1 ∙ sym q.1) ∙ div-add-mod' b size
 
   -- where the low bits are the same, the high bits tell the order
-  pub high_below : (a b word : ℕ) → a % size ≡ b % size → word / size ≡ a / size → b / size * size ≤ word → b ≤ a
+  pub high_below : (a b word : ℕ) → a % size ≡ b % size → word / size ≡ a / size →
+      b / size * size ≤ word → b ≤ a
   high_below a b word low same l =
       let blocks : b / size ≤ word / size = le-div (b / size) word size some l in
-      let scaled : b / size * size ≤ a / size * size = mul-le-mul_right size (let q : b / size ≤ a / size = omega arith in q) in
+      let scaled : b / size * size ≤ a / size * size =
+      mul-le-mul_right size (let q : b / size ≤ a / size = omega arith in q) in
       omega (arith, scaled, div-add-mod' a size, div-add-mod' b size)
 
   pub high_above : (a b word : ℕ) → word / size ≡ a / size → word < b / size * size → a < b
@@ -114,17 +119,20 @@ module _ (size : ℕ) (some : 0 < size) where
   -- and where the high bits are the same too, so are the numbers
   pub same_number : (a b : ℕ) → a % size ≡ b % size → a / size ≡ b / size → a ≡ b
   same_number a b low high =
-      sym (div-add-mod' a size) ∙ ap (λ n. n * size + a % size) high ∙ ap (λ n. b / size * size + n) low ∙ div-add-mod' b size
+      sym (div-add-mod' a size) ∙ ap (λ n. n * size + a % size) high ∙ ap (λ n. b / size * size + n) low
+      ∙ div-add-mod' b size
 
 -- a word of a hash of 64 bits has 64 bits
-pub word_fits : (h s size : ℕ) → IsPowerOfTwo size → size ≤ 2 ^ 64 → h < 2 ^ 64 → s < size → h / size * size + s < 2 ^ 64
+pub word_fits : (h s size : ℕ) → IsPowerOfTwo size → size ≤ 2 ^ 64 → h < 2 ^ 64 → s < size →
+    h / size * size + s < 2 ^ 64
 word_fits h s size power within fits below =
     let k : ℕ = power.0 in
     let low : k ≤ 64 = elim (cases_lt 64 k) [
       | inl above ↦ absurd (let more : 2 ^ 64 < 2 ^ k = pow_below 64 k above in omega (arith, power.1))
       | inr at_most ↦ at_most
     ] in
-    let parts : 2 ^ 64 ≡ 2 ^ (64 - k) * 2 ^ k = ap (λ n. 2 ^ n) (let sum : 64 ≡ (64 - k) + k = omega arith in sum) ∙ pow-add 2 (64 - k) k in
+    let parts : 2 ^ 64 ≡ 2 ^ (64 - k) * 2 ^ k =
+    ap (λ n. 2 ^ n) (let sum : 64 ≡ (64 - k) + k = omega arith in sum) ∙ pow-add 2 (64 - k) k in
     let whole : 2 ^ 64 ≡ 2 ^ (64 - k) * size = parts ∙ ap (λ n. 2 ^ (64 - k) * n) (sym power.1) in
     let some : 0 < size = omega arith in
     let block : h / size < 2 ^ (64 - k) = div_below h size (2 ^ (64 - k)) some (omega (arith, whole)) in

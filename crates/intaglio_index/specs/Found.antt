@@ -27,20 +27,22 @@ pub record IsBehind (h : ℕ) (path : List (ℕ × ℕ)) (second : ℕ) : Type 0
   pub first_smaller : first.1 < h
   pub smaller : hash < h
 
--- a search that has reached a candidate: the symbols before it have smaller hashes
-pub record IsReached (h : ℕ) (path : List (ℕ × ℕ)) (old now : List Event) (candidate : Option (ℕ × ℕ)) : Type 0 where
+-- a walk that has reached a candidate: the symbols before it have smaller hashes
+pub record HasPassed (h : ℕ) (path : List (ℕ × ℕ)) (candidate : Option (ℕ × ℕ)) : Type 0 where
   pub front : List (ℕ × ℕ)
   pub rest : List (ℕ × ℕ)
   pub split : path ≡ front ++ rest
   pub next : candidate ≡ head_of rest
   pub smaller : AllByRecursion (λ (e : ℕ × ℕ). e.1 < h) front
-  pub events : now ≡ old ++ replicate (length front + 1) step
+
+-- a search that has reached a candidate, in a step for each symbol up to it
+pub record IsReached (h : ℕ) (path : List (ℕ × ℕ)) (old now : List Event)
+    (candidate : Option (ℕ × ℕ)) : Type 0 where
+  pub walk : HasPassed h path candidate
+  pub events : now ≡ old ++ replicate (length walk.front + 1) step
 
 -- the position of the search for the predecessor
 pub record IsAt (h : ℕ) (path : List (ℕ × ℕ)) (last : Option ℕ) (candidate : Option (ℕ × ℕ)) : Type 0 where
-  pub front : List (ℕ × ℕ)
-  pub rest : List (ℕ × ℕ)
-  pub split : path ≡ front ++ rest
-  pub next : candidate ≡ head_of rest
-  pub smaller : AllByRecursion (λ (e : ℕ × ℕ). e.1 < h) front
-  pub last_is : MatchOption last (front ≡ []) (λ p. (init : List (ℕ × ℕ)) × (hash : ℕ) × (front ≡ init ++ (p, hash) ∷ []))
+  pub walk : HasPassed h path candidate
+  pub last_is : MatchOption last (walk.front ≡ []) (λ p. (init : List (ℕ × ℕ)) × (hash : ℕ)
+      × (walk.front ≡ init ++ (p, hash) ∷ []))

@@ -19,6 +19,9 @@ IsHead size head (e ∷ es) = IsWord size e head.first × IsWord size (second_of
 
 pub record IsHeaded (size : ℕ) (heads : List Head) (filters hashes : List ℕ) : Type 0 where
   -- a bucket is empty exactly if its filter is 0
-  pub empty_bucket : (b : ℕ) → b < length heads → (slice_index_or filters b 0 ≡ 0) ↔ (chain_from (length heads) b 0 [] hashes ≡ [])
+  pub empty_bucket : (b : ℕ) → b < length heads → (slice_index_or filters b 0 ≡ 0) ↔
+      (chain_from (length heads) b 0 [] hashes ≡ [])
   -- the head of each other bucket has the words of its first two entries
-  pub words : (b : ℕ) → b < length heads → IsHead size (slice_index_or heads b (record { first = 0; second = 0 })) (chain_from (length heads) b 0 [] hashes)
+  pub words : (b : ℕ) → b < length heads →
+      IsHead size (slice_index_or heads b (record { first = 0; second = 0 }))
+      (chain_from (length heads) b 0 [] hashes)

@@ -22,14 +22,18 @@ abbrev pub entry_of : List ℕ → Symbol → ℕ × ℕ
 entry_of hashes s = (s, slice_index_or hashes s 0)
 
 -- the links from `start` form this list of symbols with their hashes
-pub record IsThread (hashes : List ℕ) (links : List Symbol) (start : Option Symbol) (entries : List (ℕ × ℕ)) : Type 0 where
+pub record IsThread (hashes : List ℕ) (links : List Symbol) (start : Option Symbol)
+    (entries : List (ℕ × ℕ)) : Type 0 where
   pub path : IsPath (next_of links) start (symbols_of entries)
-  pub read : AllByRecursion (λ (e : ℕ × ℕ). (e.0 < length hashes) × (slice_index_or hashes e.0 0 ≡ e.1)) entries
+  pub read : AllByRecursion (λ (e : ℕ × ℕ). (e.0 < length hashes) × (slice_index_or hashes e.0 0 ≡ e.1))
+      entries
   pub paired : length links ≡ length hashes
 
 pub record IsLinked (count : ℕ) (hashes : List ℕ) (links : List Symbol) : Type 0 where
   -- the links of each bucket form its chain
-  pub paths : (b : ℕ) → IsPath (next_of links) (first_symbol_of (chain_from count b 0 [] hashes)) (symbols_of (chain_from count b 0 [] hashes))
+  pub paths : (b : ℕ) →
+      IsPath (next_of links) (first_symbol_of (chain_from count b 0 [] hashes))
+      (symbols_of (chain_from count b 0 [] hashes))
   -- each hash has a link
   pub paired : length links ≡ length hashes
   -- there are at least as many buckets as hashes

@@ -6,3 +6,7 @@ pub mod Cost
 pub mod Issue
 pub mod Batch
 pub mod Bytes
+pub mod Step
+pub mod Run
+pub mod Growths
+pub mod Alike

@@ -20,8 +20,12 @@ spelled-alike CStr other a b same = cc
 spelled-alike OsStr other a b same = cc
 spelled-alike Path other a b same = absurd (other refl)
 
-pub decodes-input : (kind : Kind) (input : List ℕ) → kind ≢ Path → Decodes (encoded kind input) (with_last_line_ended input)
+-- of each kind but paths, an encoded input is decoded to that input, its last line ended
+pub decodes-input : (kind : Kind) (input : List ℕ) → kind ≢ Path →
+    Decodes (encoded kind input) (with_last_line_ended input)
 decodes-input kind input other =
     subst (Decodes (encoded kind input))
-    (ap (flat_map spelling_line) (first_spellings-same (key_of kind) (spelled-alike kind other) (lines_of input)) ∙ flat_map-lines_of input)
+    (ap (flat_map spelling_line)
+    (first_spellings-same (key_of kind) (spelled-alike kind other) (lines_of input))
+    ∙ flat_map-lines_of input)
     (decodes-first (key_of kind) input)

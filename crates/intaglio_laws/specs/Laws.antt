@@ -35,22 +35,27 @@ pub record IsIssued (kind : Kind) (symbols : List ℕ) (spellings : List (List �
 -- bytes have no fault exactly if they hold symbols and spellings
 abbrev pub FaultsAreExact : Type 0
 FaultsAreExact = (bytes : List ℕ) → length bytes < 2 ^ 64
-    → (fault_of bytes ≡ None) ↔ ((symbols : List ℕ) × (spellings : List (List ℕ)) × Holds symbols spellings bytes)
+    → (fault_of bytes ≡ None) ↔
+    ((symbols : List ℕ) × (spellings : List (List ℕ)) × Holds symbols spellings bytes)
 
 -- bytes hold at most one list of symbols and one list of spellings
 abbrev pub IsReadInOneWay : Type 0
-IsReadInOneWay = (bytes symbols others : List ℕ) (spellings others_spelled : List (List ℕ)) → length bytes < 2 ^ 64
-    → Holds symbols spellings bytes → Holds others others_spelled bytes → (symbols ≡ others) × (spellings ≡ others_spelled)
+IsReadInOneWay = (bytes symbols others : List ℕ) (spellings others_spelled : List (List ℕ)) →
+    length bytes < 2 ^ 64
+    → Holds symbols spellings bytes → Holds others others_spelled bytes → (symbols ≡ others)
+    × (spellings ≡ others_spelled)
 
 -- so bytes are decoded to one output
 abbrev pub DecodingIsAFunction : Type 0
-DecodingIsAFunction = (bytes output other : List ℕ) → length bytes < 2 ^ 64 → Decodes bytes output → Decodes bytes other → output ≡ other
+DecodingIsAFunction = (bytes output other : List ℕ) → length bytes < 2 ^ 64 → Decodes bytes output →
+    Decodes bytes other → output ≡ other
 
 -- and an input is encoded to one output: two runs that appended to these bytes
 -- what is promised appended the same
 abbrev pub EncodingIsAFunction : Type 0
 EncodingIsAFunction = (kind : Kind) (input old new other_old other_new : List ℕ)
-    → Appends (Some old) (Some new) (encoded kind input) → Appends (Some other_old) (Some other_new) (encoded kind input)
+    → Appends (Some old) (Some new) (encoded kind input) →
+    Appends (Some other_old) (Some other_new) (encoded kind input)
     → drop (length old) new ≡ drop (length other_old) other_new
 
 -- an encoded input is decoded to each line in the spelling of the first line that is equal to it
@@ -60,7 +65,8 @@ DecodingGivesFirstSpellings = (kind : Kind) (input : List ℕ)
 
 -- for each kind but paths, that is the input itself, its last line ended
 abbrev pub DecodingGivesInput : Type 0
-DecodingGivesInput = (kind : Kind) (input : List ℕ) → kind ≢ Path → Decodes (encoded kind input) (with_last_line_ended input)
+DecodingGivesInput = (kind : Kind) (input : List ℕ) → kind ≢ Path →
+    Decodes (encoded kind input) (with_last_line_ended input)
 
 -- so for each kind but paths, inputs with the same encoding are the same, their last lines ended
 abbrev pub EncodingKeepsInput : Type 0
@@ -71,14 +77,17 @@ EncodingKeepsInput = (kind : Kind) (input other : List ℕ) → kind ≢ Path �
 -- line: for paths, their components
 abbrev pub DecodingKeepsKeys : Type 0
 DecodingKeepsKeys = (kind : Kind) (input : List ℕ)
-    → (output : List ℕ) × Decodes (encoded kind input) output × (map (key_of kind) (lines_of output) ≡ map (key_of kind) (lines_of input))
+    → (output : List ℕ) × Decodes (encoded kind input) output
+    × (map (key_of kind) (lines_of output) ≡ map (key_of kind) (lines_of input))
 
 -- an encoded input holds issued symbols
 abbrev pub EncodingIsInOrder : Type 0
 EncodingIsInOrder = (kind : Kind) (input : List ℕ)
-    → (symbols : List ℕ) × (spellings : List (List ℕ)) × Holds symbols spellings (encoded kind input) × IsIssued kind symbols spellings
+    → (symbols : List ℕ) × (spellings : List (List ℕ)) × Holds symbols spellings (encoded kind input)
+    × IsIssued kind symbols spellings
 
 -- and bytes that hold issued symbols are the encoding of what they are decoded to
 abbrev pub EncodingGivesBytes : Type 0
 EncodingGivesBytes = (kind : Kind) (symbols : List ℕ) (spellings : List (List ℕ)) (bytes : List ℕ)
-    → Holds symbols spellings bytes → IsIssued kind symbols spellings → encoded kind (decoded symbols spellings) ≡ bytes
+    → Holds symbols spellings bytes → IsIssued kind symbols spellings →
+    encoded kind (decoded symbols spellings) ≡ bytes

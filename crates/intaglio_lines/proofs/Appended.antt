@@ -6,30 +6,38 @@ use Rattle.std.specs.Io.KnownBytes.{Appends, Keeps, append_known}
 use Rattle.intaglio_lines.specs.Puts.{IsFront}
 
 -- two pieces are one
-pub Appends-append : (old mid new : Option (List ℕ)) (front more : List ℕ) → Appends old mid front → Appends mid new more → Appends old new (front ++ more)
+pub Appends-append : (old mid new : Option (List ℕ)) (front more : List ℕ) → Appends old mid front →
+    Appends mid new more → Appends old new (front ++ more)
 Appends-append None mid new front more one other = tt
 Appends-append (Some xs) None new front more one other = absurd one
 Appends-append (Some xs) (Some ys) None front more one other = absurd other
-Appends-append (Some xs) (Some ys) (Some zs) front more one other = rw (other, one) (append_assoc xs front more)
+Appends-append (Some xs) (Some ys) (Some zs) front more one other =
+    rw (other, one) (append_assoc xs front more)
 
 -- nothing more
-pub keeps-more : (old mid new : Option (List ℕ)) (bytes : List ℕ) → Appends old mid bytes → Keeps mid new → Appends old new bytes
+pub keeps-more : (old mid new : Option (List ℕ)) (bytes : List ℕ) → Appends old mid bytes → Keeps mid new →
+    Appends old new bytes
 keeps-more None mid new bytes one keeps = tt
 keeps-more (Some x) None new bytes one keeps = absurd one
 keeps-more (Some x) (Some y) None bytes one keeps = absurd keeps
 keeps-more (Some x) (Some y) (Some z) bytes one keeps = keeps ∙ one
 
+-- bytes that stay as they were have grown by none
 pub keeps-none : (old new : Option (List ℕ)) → Keeps old new → Appends old new []
 keeps-none None new keeps = tt
 keeps-none (Some x) None keeps = absurd keeps
 keeps-none (Some x) (Some y) keeps = keeps ∙ sym (append-nil x)
 
 -- the bytes so far, and some of the rest
-pub written-next : (old mid new : Option (List ℕ)) (bytes : List ℕ) (at n : ℕ) → Appends old mid (take at bytes)
-    → Appends mid new (take n (take (length bytes - at) (drop at bytes))) → Appends old new (take (at + n) bytes)
+pub written-next : (old mid new : Option (List ℕ)) (bytes : List ℕ) (at n : ℕ) →
+    Appends old mid (take at bytes)
+    → Appends mid new (take n (take (length bytes - at) (drop at bytes))) →
+    Appends old new (take (at + n) bytes)
 written-next old mid new bytes at n before more =
-    subst (Appends old new) (ap (λ t. take at bytes ++ take n t) (take_rest bytes at) ∙ sym (take-add at n bytes))
-    (Appends-append old mid new (take at bytes) (take n (take (length bytes - at) (drop at bytes))) before more)
+    subst (Appends old new) (ap (λ t. take at bytes ++ take n t) (take_rest bytes at)
+    ∙ sym (take-add at n bytes))
+    (Appends-append old mid new (take at bytes) (take n (take (length bytes - at) (drop at bytes)))
+    before more)
 
 -- nothing was written
 pub front-none : (old : Option (List ℕ)) (bytes : List ℕ) → IsFront old old bytes
@@ -41,28 +49,42 @@ pub held-none : (old : Option (List ℕ)) → Appends old (append_known old []) 
 held-none None = tt
 held-none (Some x) = refl
 
-pub held-nothing : (old new : Option (List ℕ)) (bytes : List ℕ) → Appends old new bytes → Appends (append_known old []) new bytes
+-- what known bytes grow by, they also grow by with an empty block behind them
+pub held-nothing : (old new : Option (List ℕ)) (bytes : List ℕ) → Appends old new bytes →
+    Appends (append_known old []) new bytes
 held-nothing None new bytes put = tt
 held-nothing (Some x) None bytes put = absurd put
 held-nothing (Some x) (Some y) bytes put = rw (append-nil x) put
 
 -- a front of bytes is one of more bytes
-pub front-more : (old new : Option (List ℕ)) (bytes more : List ℕ) → IsFront old new bytes → IsFront old new (bytes ++ more)
-front-more old new bytes more front =
-    (min front.0 (length bytes), rw (take-append-le (min front.0 (length bytes)) bytes more (omega arith), take_min front.0 bytes) front.1)
+pub front-more : (old new : Option (List ℕ)) (bytes more : List ℕ) → IsFront old new bytes →
+    IsFront old new (bytes ++ more)
+front-more old new bytes more front = (
+  min front.0 (length bytes),
+  rw (
+    take-append-le (min front.0 (length bytes)) bytes more (omega arith),
+    take_min front.0 bytes,
+  ) front.1,
+)
 
 -- bytes were put to a block or written, and then the front of the block and of others
-pub front-then : (old mid new : Option (List ℕ)) (block later bytes more : List ℕ) → Appends (append_known old block) (append_known mid later) bytes
-    → IsFront old mid (block ++ bytes) → IsFront mid new (later ++ more) → IsFront old new (block ++ (bytes ++ more))
+pub front-then : (old mid new : Option (List ℕ)) (block later bytes more : List ℕ) →
+    Appends (append_known old block) (append_known mid later) bytes
+    → IsFront old mid (block ++ bytes) → IsFront mid new (later ++ more) →
+    IsFront old new (block ++ (bytes ++ more))
 front-then None mid new block later bytes more put front next = (0, tt)
 front-then (Some x) None new block later bytes more put front next = absurd put
 front-then (Some x) (Some y) None block later bytes more put front next = absurd next.1
 front-then (Some x) (Some y) (Some z) block later bytes more put front next =
     let part = take front.0 (block ++ bytes) in
     let whole : part ++ later ≡ block ++ bytes =
-    append_cancel_left x (part ++ later) (block ++ bytes) (sym (append_assoc x part later) ∙ ap (λ t. t ++ later) (sym front.1) ∙ put ∙ append_assoc x block bytes) in
-    let all : part ++ (later ++ more) ≡ block ++ (bytes ++ more) = sym (append_assoc part later more) ∙ ap (λ t. t ++ more) whole ∙ append_assoc block bytes more in (
+    append_cancel_left x (part ++ later) (block ++ bytes) (sym (append_assoc x part later)
+    ∙ ap (λ t. t ++ later) (sym front.1) ∙ put ∙ append_assoc x block bytes) in
+    let all : part ++ (later ++ more) ≡ block ++ (bytes ++ more) =
+    sym (append_assoc part later more) ∙ ap (λ t. t ++ more) whole ∙ append_assoc block bytes more in (
       length part + next.0,
-      next.1 ∙ ap (λ t. t ++ take next.0 (later ++ more)) front.1 ∙ append_assoc x part (take next.0 (later ++ more))
-          ∙ ap (λ t. x ++ t) (sym (take-append-add part (later ++ more) next.0) ∙ ap (take (length part + next.0)) all),
+      next.1 ∙ ap (λ t. t ++ take next.0 (later ++ more)) front.1
+          ∙ append_assoc x part (take next.0 (later ++ more))
+          ∙ ap (λ t. x ++ t) (sym (take-append-add part (later ++ more) next.0)
+          ∙ ap (take (length part + next.0)) all),
     )

@@ -9,70 +9,84 @@ use borrow.Author.Tests.{ltb-true, ltb-false}
 use Rattle.intaglio_lines.specs.Lines.{lines_of, without_empty_last}
 
 -- only the last piece may go
-pub without_empty_last-cons : (x : List ℕ) (xs : List (List ℕ)) → 0 < length xs → without_empty_last (x ∷ xs) ≡ x ∷ without_empty_last xs
+pub without_empty_last-cons : (x : List ℕ) (xs : List (List ℕ)) → 0 < length xs →
+    without_empty_last (x ∷ xs) ≡ x ∷ without_empty_last xs
 without_empty_last-cons x [] h = absurd (omega arith)
 without_empty_last-cons x (y ∷ more) h = refl
 
 -- a lone piece stays where it has a byte
-pub without_empty_last_one : (x : List ℕ) → 0 < length x → without_empty_last (x ∷ []) ≡ x ∷ []
-without_empty_last_one [] h = absurd (omega arith)
-without_empty_last_one (b ∷ bs) h = search rules
+pub without_empty_last-one : (x : List ℕ) → 0 < length x → without_empty_last (x ∷ []) ≡ x ∷ []
+without_empty_last-one [] h = absurd (omega arith)
+without_empty_last-one (b ∷ bs) h = search rules
 
 -- which case an `Option` came from
-cond_some : (b : Bool) (m n : ℕ) → cond b (Some m) None ≡ Some n → (m ≡ n) × (b ≡ true)
-cond_some true m n is = (cc, refl)
-cond_some false m n is = cc
+cond-some : (b : Bool) (m n : ℕ) → cond b (Some m) None ≡ Some n → (m ≡ n) × (b ≡ true)
+cond-some true m n is = (cc, refl)
+cond-some false m n is = cc
 
-cond_none : (b : Bool) (m : ℕ) → cond b (Some m) None ≡ None → b ≡ false
-cond_none true m is = cc
-cond_none false m is = refl
+-- if an option that is given by a test is `None`, the test is false
+cond-none : (b : Bool) (m : ℕ) → cond b (Some m) None ≡ None → b ≡ false
+cond-none true m is = cc
+cond-none false m is = refl
 
 -- what `position` says, by the first place that passes
-pub position-Some : (p : ℕ → Bool) (bs : List ℕ) (end : ℕ) → position p bs ≡ Some end → (position_or_len p bs ≡ end) × (position_or_len p bs < length bs)
+pub position-Some : (p : ℕ → Bool) (bs : List ℕ) (end : ℕ) → position p bs ≡ Some end →
+    (position_or_len p bs ≡ end) × (position_or_len p bs < length bs)
 position-Some p bs end is =
-    let some = cond_some (ltb (position_or_len p bs) (length bs)) (position_or_len p bs) end is in
+    let some = cond-some (ltb (position_or_len p bs) (length bs)) (position_or_len p bs) end is in
     (some.0, ltb-true _ _ some.1)
 
+-- if `position` gives no place, `position_or_len` gives the number of bytes
 pub position-None : (p : ℕ → Bool) (bs : List ℕ) → position p bs ≡ None → position_or_len p bs ≡ length bs
 position-None p bs is =
-    let past = ltb-false _ _ (cond_none (ltb (position_or_len p bs) (length bs)) (position_or_len p bs) is) in
+    let past = ltb-false _ _ (cond-none (ltb (position_or_len p bs) (length bs)) (position_or_len p bs) is) in
     omega (arith, prefix_len-le-length (λ x. not (p x)) bs)
 
 -- where there is a byte 10, the first line ends at the first
-pub lines_first : (bs : List ℕ) → position_or_len (λ b. eqb b 10) bs < length bs
+pub lines-first : (bs : List ℕ) → position_or_len (λ b. eqb b 10) bs < length bs
     → lines_of bs ≡ before_first (λ b. eqb b 10) bs ∷ lines_of (after_first (λ b. eqb b 10) bs)
-lines_first bs h =
+lines-first bs h =
     let p : ℕ → Bool = λ b. eqb b 10 in
     let rest = after_first p bs in
     let more : 0 < length (slice_split p rest) = omega (arith, length-slice_split p rest) in
-    ap without_empty_last (slice_split_first p bs 0 h) ∙ without_empty_last-cons (before_first p bs) (slice_split p rest) more
+    ap without_empty_last (slice_split_first p bs 0 h)
+    ∙ without_empty_last-cons (before_first p bs) (slice_split p rest) more
 
 -- where there is none, all of the bytes are the last line
-pub lines_last : (bs : List ℕ) → position_or_len (λ b. eqb b 10) bs ≡ length bs → 0 < length bs → lines_of bs ≡ bs ∷ []
-lines_last bs h some =
+pub lines-last : (bs : List ℕ) → position_or_len (λ b. eqb b 10) bs ≡ length bs → 0 < length bs →
+    lines_of bs ≡ bs ∷ []
+lines-last bs h some =
     let p : ℕ → Bool = λ b. eqb b 10 in
     let none = All-from_get_or (λ b. p b ≡ false) bs 0 (λ i l. fails_before_first p bs i 0 (omega arith)) in
-    ap without_empty_last (slice_split_none p bs none) ∙ without_empty_last_one bs some
+    ap without_empty_last (slice_split_none p bs none) ∙ without_empty_last-one bs some
 
 -- the same of a list of bytes that is cut by the place of a byte 10
-pub lines_cut_at : (bs : List ℕ) (end : ℕ) → position (λ b. eqb b 10) bs ≡ Some end
+pub lines-cut-at : (bs : List ℕ) (end : ℕ) → position (λ b. eqb b 10) bs ≡ Some end
     → lines_of bs ≡ take end bs ∷ lines_of (take (length bs - (end + 1)) (drop (end + 1) bs))
-lines_cut_at bs end is =
+lines-cut-at bs end is =
     let p : ℕ → Bool = λ b. eqb b 10 in
     let at = position-Some p bs end is in
-    let whole : take (length bs - (end + 1)) (drop (end + 1) bs) ≡ drop (end + 1) bs = take_rest bs (end + 1) in
-    rw whole (rw (sym at.0) (lines_first bs at.1))
+    let whole : take (length bs - (end + 1)) (drop (end + 1) bs) ≡ drop (end + 1) bs =
+    take_rest bs (end + 1) in
+    rw whole (rw (sym at.0) (lines-first bs at.1))
 
-pub lines_cut_nowhere : (bs : List ℕ) → position (λ b. eqb b 10) bs ≡ None → 0 < length bs → lines_of bs ≡ bs ∷ []
-lines_cut_nowhere bs is some = lines_last bs (position-None (λ b. eqb b 10) bs is) some
+-- bytes without a byte 10, of which there is one at least, are one line
+pub lines-cut-nowhere : (bs : List ℕ) → position (λ b. eqb b 10) bs ≡ None → 0 < length bs →
+    lines_of bs ≡ bs ∷ []
+lines-cut-nowhere bs is some = lines-last bs (position-None (λ b. eqb b 10) bs is) some
 
 -- the first line, its byte 10 and the rest are all of the bytes
-pub whole_cut_at : (bs : List ℕ) (end : ℕ) → position (λ b. eqb b 10) bs ≡ Some end
+pub whole-cut-at : (bs : List ℕ) (end : ℕ) → position (λ b. eqb b 10) bs ≡ Some end
     → bs ≡ take end bs ++ 10 ∷ take (length bs - (end + 1)) (drop (end + 1) bs)
-whole_cut_at bs end is =
+whole-cut-at bs end is =
     let p : ℕ → Bool = λ b. eqb b 10 in
     let at = position-Some p bs end is in
     let ten : get_or bs (position_or_len p bs) 0 ≡ 10 = eqb-true _ _ (passes_at_first p bs 0 at.1) in
-    let whole : take (length bs - (end + 1)) (drop (end + 1) bs) ≡ drop (end + 1) bs = take_rest bs (end + 1) in
-    let parts : bs ≡ take (position_or_len p bs) bs ++ get_or bs (position_or_len p bs) 0 ∷ drop (position_or_len p bs + 1) bs = split_at_first p bs 0 at.1 in
-    rw whole (rw (sym at.0) (subst (λ t. bs ≡ take (position_or_len p bs) bs ++ t ∷ drop (position_or_len p bs + 1) bs) ten parts))
+    let whole : take (length bs - (end + 1)) (drop (end + 1) bs) ≡ drop (end + 1) bs =
+    take_rest bs (end + 1) in
+    let parts : bs ≡ take (position_or_len p bs) bs ++ get_or bs (position_or_len p bs) 0
+    ∷ drop (position_or_len p bs + 1) bs = split_at_first p bs 0 at.1 in
+    rw whole
+    (rw (sym at.0)
+    (subst (λ t. bs ≡ take (position_or_len p bs) bs ++ t ∷ drop (position_or_len p bs + 1) bs)
+    ten parts))

@@ -14,20 +14,25 @@ pub digits : IsNumeralModel (λ ds. all_ascii_digits ds ≡ true) (digits_value 
 digits = numerals_by_value (λ ds. all_ascii_digits ds ≡ true) tells_all_ascii_digits
 
 -- digits are a number where there is one, and where the first of several isn't 0
-pub is_number-from_digits : (ds : List ℕ) → all_ascii_digits ds ≡ true → 0 < length ds → (get_or ds 0 0 ≡ 48 → length ds ≡ 1) → is_number ds ≡ true
+pub is_number-from_digits : (ds : List ℕ) → all_ascii_digits ds ≡ true → 0 < length ds →
+    (get_or ds 0 0 ≡ 48 → length ds ≡ 1) → is_number ds ≡ true
 is_number-from_digits [] all some first = absurd (omega arith)
 is_number-from_digits (d ∷ []) all some first = all
 is_number-from_digits (d ∷ e ∷ more) all some first =
-    and_from (not (eqb d 48)) (all_ascii_digits (d ∷ e ∷ more)) (not_from_false (eqb d 48) (ne_eqb d 48 (λ zero. absurd (omega (arith, first zero))))) all
+    and_from (not (eqb d 48)) (all_ascii_digits (d ∷ e ∷ more))
+    (not_from_false (eqb d 48) (ne_eqb d 48 (λ zero. absurd (omega (arith, first zero))))) all
 
 pub record IsNumber (ds : List ℕ) : Type 0 where
   pub all : all_ascii_digits ds ≡ true
   pub some : 0 < length ds
   pub first : get_or ds 0 0 ≡ 48 → length ds ≡ 1
 
+-- if the test says that a byte isn't 48, it isn't
 not-zero : (d : ℕ) → not (eqb d 48) ≡ true → d ≡ 48 → ⊥
-not-zero d other zero = let no : eqb d 48 ≡ false = not-true (eqb d 48) other in let yes : eqb d 48 ≡ true = rw zero refl in cc
+not-zero d other zero = let no : eqb d 48 ≡ false = not-true (eqb d 48) other in let yes : eqb d 48 ≡ true =
+    rw zero refl in cc
 
+-- a line that is a number is digits, one at least, and begins with 0 only if that is its only digit
 pub digits-from_number : (ds : List ℕ) → is_number ds ≡ true → IsNumber ds
 digits-from_number [] is = cc
 digits-from_number (d ∷ []) is = record { all = is; some = omega arith; first = λ _. omega arith }
@@ -35,6 +40,7 @@ digits-from_number (d ∷ e ∷ more) is =
     let parts = and_parts (not (eqb d 48)) (all_ascii_digits (d ∷ e ∷ more)) is in
     record { all = parts.1; some = omega arith; first = λ zero. absurd (not-zero d parts.0 zero) }
 
+-- a number below 2 ^ 64 begins with 0 in decimal only if that is its only digit
 decimal-first : (n : ℕ) → n < 2 ^ 64 → get_or (decimal n) 0 0 ≡ 48 → length (decimal n) ≡ 1
 decimal-first n small zero =
     elim (cases_eq n 0) [
@@ -42,17 +48,25 @@ decimal-first n small zero =
       | inr some ↦ absurd (omega (arith, zero, first_decimal n (omega arith) small))
     ]
 
+-- a number below 2 ^ 64 in decimal is a line that is a number
 pub is_number-decimal : (n : ℕ) → n < 2 ^ 64 → is_number (decimal n) ≡ true
-is_number-decimal n small = is_number-from_digits (decimal n) (digits_decimal digits n small) (decimal_nonempty n small) (decimal-first n small)
+is_number-decimal n small =
+    is_number-from_digits (decimal n) (digits_decimal digits n small) (decimal_nonempty n small)
+    (decimal-first n small)
 
+-- a number below 2 ^ 64 in decimal says that number
 pub number-decimal : (n : ℕ) → n < 2 ^ 64 → digits_value 10 (decimal n) ≡ n
 number-decimal n small = digits_value-decimal digits n small
 
 -- and a line that is a number is that number in decimal
-pub decimal-number : (ds : List ℕ) → is_number ds ≡ true → digits_value 10 ds < 2 ^ 64 → decimal (digits_value 10 ds) ≡ ds
+pub decimal-number : (ds : List ℕ) → is_number ds ≡ true → digits_value 10 ds < 2 ^ 64 →
+    decimal (digits_value 10 ds) ≡ ds
 decimal-number ds is small =
-    let parts = digits-from_number ds is in decimal-digits_value digits ds parts.all parts.some parts.first small
+    let parts = digits-from_number ds is in
+    decimal-digits_value digits ds parts.all parts.some parts.first small
 
 -- digits hold no byte 10
 pub IsLine-digits : (ds : List ℕ) → all_ascii_digits ds ≡ true → IsLine ds
-IsLine-digits ds all = All-from_get_or (λ b. b ≢ 10) ds 0 (λ i lt ten. absurd (omega (arith, ten, digit_at ds i (digits.to ds all) lt)))
+IsLine-digits ds all =
+    All-from_get_or (λ b. b ≢ 10) ds 0 (λ i lt ten.
+    absurd (omega (arith, ten, digit_at ds i (digits.to ds all) lt)))

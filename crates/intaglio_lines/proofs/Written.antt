@@ -8,20 +8,30 @@ use Rattle.std.proofs.lemmas.Grind.{flat_map-append}
 use Rattle.intaglio_interner.proofs.Laws.{mapped-some}
 use Rattle.intaglio_lines.proofs.Appended.{Appends-append}
 
-take-next : {C : Type 0} (cs : List C) (n : ℕ) (c : C) → slice_get cs n ≡ Some c → take (suc n) cs ≡ take n cs ++ c ∷ []
+-- the first n + 1 items of a list are the first n and the one at position n
+take-next : {C : Type 0} (cs : List C) (n : ℕ) (c : C) → slice_get cs n ≡ Some c →
+    take (suc n) cs ≡ take n cs ++ c ∷ []
 take-next [] n c at = cc
 take-next (x ∷ xs) zero c at = let same : x ≡ c = cc in rw same refl
 take-next (x ∷ xs) (suc n) c at = ap (λ t. x ∷ t) (take-next xs n c at)
 
 module _ {C : Type 0} (f : List ℕ → List ℕ) (spelling : C → List ℕ) (cs : List C) (n : ℕ) where
-  flat_map-next : (c : C) → slice_get cs n ≡ Some c → flat_map f (map spelling (take (n + 1) cs)) ≡ flat_map f (map spelling (take n cs)) ++ f (spelling c)
+  flat_map-next : (c : C) → slice_get cs n ≡ Some c →
+      flat_map f (map spelling (take (n + 1) cs)) ≡ flat_map f (map spelling (take n cs)) ++ f (spelling c)
   flat_map-next c at =
-      rw (add-one n, take-next cs n c at, map-append spelling (take n cs) (c ∷ []), flat_map-append f (map spelling (take n cs)) (spelling c ∷ []))
+      rw (
+        add-one n,
+        take-next cs n c at,
+        map-append spelling (take n cs) (c ∷ []),
+        flat_map-append f (map spelling (take n cs)) (spelling c ∷ []),
+      )
       (ap (λ t. flat_map f (map spelling (take n cs)) ++ t) (append-nil (f (spelling c))))
 
   -- the lines so far, and that of one content more
-  pub appends-next : (old mid new : Option (List ℕ)) (line : List ℕ) → option_map spelling (slice_get cs n) ≡ Some line
-      → Appends old mid (flat_map f (map spelling (take n cs))) → Appends mid new (f line) → Appends old new (flat_map f (map spelling (take (n + 1) cs)))
+  pub appends-next : (old mid new : Option (List ℕ)) (line : List ℕ) →
+      option_map spelling (slice_get cs n) ≡ Some line
+      → Appends old mid (flat_map f (map spelling (take n cs))) → Appends mid new (f line) →
+      Appends old new (flat_map f (map spelling (take (n + 1) cs)))
   appends-next old mid new line at before next =
       let of = mapped-some spelling (slice_get cs n) line at in
       rw (flat_map-next of.0 of.1) (Appends-append old mid new _ _ before (rw (sym of.2) at next))

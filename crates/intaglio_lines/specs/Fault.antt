@@ -53,7 +53,8 @@ line_fault count place line =
 -- the first fault of lines, the first of which is at this position
 abbrev pub first_fault : Option ℕ → ℕ → List (List ℕ) → Option Fault
 first_fault count place [] = None
-first_fault count place (line ∷ more) = option_or (line_fault count place line) (first_fault count (place + 1) more)
+first_fault count place (line ∷ more) =
+    option_or (line_fault count place line) (first_fault count (place + 1) more)
 
 -- what is wrong with the end of bytes whose symbols are all right
 abbrev pub end_fault : List ℕ → Option Fault

@@ -19,7 +19,8 @@ held contents writer block = append_known (contents writer) block.items
 
 -- these bytes are put to the block, or written
 abbrev pub Puts : {W Z : Type 0} → (W → Option (List ℕ)) → W → Vec ℕ Z → W → Vec ℕ Z → List ℕ → Type 0
-Puts contents old old_block new new_block bytes = Appends (held contents old old_block) (held contents new new_block) bytes
+Puts contents old old_block new new_block bytes =
+    Appends (held contents old old_block) (held contents new new_block) bytes
 
 -- the call succeeds only if P holds, and nothing is written if it doesn't
 abbrev pub WritesOnlyIf : {T E W : Type 0} → Type 0 → Result T E → W → W → Type 0

@@ -19,8 +19,8 @@ use std::alloc::Global;
 use std::io;
 use std::io::Write;
 
-/// Interns the lines of an input into this empty table, and writes the symbol of each line, an empty line, and
-/// the spelling of each symbol.
+/// Interns the lines of an input into this empty table, and writes the symbol of each line, an empty line,
+/// and the spelling of each symbol.
 ///
 /// All lines are interned before anything is written, and nothing is allocated after the first write.
 ///
@@ -43,7 +43,8 @@ where
         (encoded_by T.Content.key_of input.now)) }
     ensures zero { IfErr result (ReportsFirstUnfit T.Content.fits input.now) }
     ensures fit { WritesOnlyIf (AllLinesFit T.Content.fits input.now) result writer.old writer.new }
-    ensures overflow { result ≡ Err Overflow → (T.state table).limit < distinct_count T.Content.key_of input.now }
+    ensures overflow { result ≡ Err Overflow →
+        (T.state table).limit < distinct_count T.Content.key_of input.now }
     ensures nothing_written { IfErr result (λ e. e ≢ WriteFailed → writer.new ≡ writer.old) }
     ensures err { IfErr result IsInterningOrWritingError }
 {

@@ -43,7 +43,8 @@ where
     ghost allows_nothing: { allows [] };
 }
 
-/// A kind whose strings can be lines of an input: what [`FromLine`] says of its contents, wherever they are stored.
+/// A kind whose strings can be lines of an input: what [`FromLine`] says of its
+/// contents, wherever they are stored.
 pub trait LineKind<'a>: Kind {
     /// The form of a line.
     type Line: Packable<Self> + Copy;

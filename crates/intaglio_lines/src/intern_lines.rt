@@ -1,6 +1,6 @@
 //! Interns the lines of an input.
-ghost use Rattle.std.specs.Prelude.{◌≡◌, ◌+◌, ◌<◌, ◌≤◌, [], length, None, IsSome, OnOk, IfOk, IfErr};
-ghost use Rattle.intaglio_interner.specs.Issue.{issue};
+ghost use Rattle.std.specs.Prelude.{◌≡◌, ◌+◌, ◌<◌, ◌≤◌, [], ◌++◌, length, map, None, IsSome, OnOk, IfOk, IfErr};
+ghost use Rattle.intaglio_interner.specs.Issue.{interned_all, issue, issue_from};
 ghost use Rattle.intaglio_lines.specs.Lines.{lines_of};
 ghost use Rattle.intaglio_lines.specs.LineForms.{AllLinesFit, StartsWithForms, StartsUnfit};
 ghost use Rattle.intaglio_lines.specs.LineForms.{HoldsLines, distinct_count, fit_count};
@@ -28,8 +28,8 @@ struct Group<'a, F> {
 ///
 /// # Errors
 ///
-/// What the kind says of the first line that doesn't fit ([`Unfit::at`]), `Overflow` if there are more distinct
-/// lines than the table can hold, `Memory` if an allocation failed.
+/// What the kind says of the first line that doesn't fit ([`Unfit::at`]), `Overflow` if there are more
+/// distinct lines than the table can hold, `Memory` if an allocation failed.
 pub fn intern_lines<'a, T: BaseInterner>(
     alloc: Global,
     table: &mut T,
@@ -49,6 +49,39 @@ where
     ensures err { IfErr result IsInterningError }
 {
     let mut symbols = Vec::new(alloc);
+    intern_more_lines(alloc, table, input, &mut symbols)?;
+    Ok(symbols)
+}
+
+/// Interns the lines of an input in order, and adds their symbols to these. A
+/// line that is stored is not copied.
+///
+/// # Errors
+///
+/// Those of [`intern_lines`]. Lines before the one that failed may be stored then.
+pub fn intern_more_lines<'a, T: BaseInterner>(
+    alloc: Global,
+    table: &mut T,
+    input: &'a [u8],
+    symbols: &mut Vec<Symbol>,
+) -> Result<(), ToolError>
+where
+    T::Content: FromLine<'a, T::Store>,
+    requires allowed { T.Content.allows input.now }
+    ensures symbols { let held = map T.Content.spelling (T.state table.old).contents in
+        OnOk result (symbols.new.items
+        ≡ symbols.old.items ++ issue_from T.Content.key_of held (lines_of input.now)) }
+    ensures held { let held = map T.Content.spelling (T.state table.old).contents in
+        OnOk result (map T.Content.spelling (T.state table.new).contents
+        ≡ interned_all T.Content.key_of held (lines_of input.now)) }
+    ensures limit { OnOk result ((T.state table.new).limit ≡ (T.state table.old).limit) }
+    ensures fit { OnOk result (AllLinesFit T.Content.fits input.now) }
+    ensures zero { IfErr result (ReportsFirstUnfit T.Content.fits input.now) }
+    ensures overflow { let held = map T.Content.spelling (T.state table.old).contents in
+        result ≡ Err Overflow →
+        (T.state table.old).limit < length (interned_all T.Content.key_of held (lines_of input.now)) }
+    ensures err { IfErr result IsInterningError }
+{
     let mut rest = input;
     let mut number = 0u64;
     while !rest.is_empty() {
@@ -61,7 +94,7 @@ where
         }
         rest = group.rest;
     }
-    Ok(symbols)
+    Ok(())
 }
 
 // The first lines of an input as forms.

@@ -8,8 +8,8 @@ use std::{io, str};
 /// The longest name that a program is called by: longer ones aren't shown.
 pub const MAX_NAME: usize = 4096;
 
-/// The name by which the program was called, without its folder, or the other name if that isn't known. The bytes
-/// are room for it.
+/// The name by which the program was called, without its folder, or the other name if that isn't
+/// known. The bytes are room for it.
 pub fn program_name<'b, R: Env>(rt: &R, other: &'static str, bytes: &'b mut [u8]) -> &'b str {
     let Ok(length) = rt.arg(0, bytes) else {
         return other;

@@ -6,36 +6,44 @@ use Rattle.intaglio_merge.specs.Shards.{joined, joined_map, shard, shards, AreSh
 
 -- renumbered codes have the strings that the codes had
 abbrev pub RenumberingKeepsStrings : Type 0
-RenumberingKeepsStrings = (old new : List (List ℕ)) (numbers codes : List ℕ) → IsMap old new numbers → length new ≤ missing
+RenumberingKeepsStrings = (old new : List (List ℕ)) (numbers codes : List ℕ) → IsMap old new numbers →
+    length new ≤ missing
     → decode new (renumber numbers codes) ≡ decode old codes
 
 -- a map that is renumbered is a map
 abbrev pub MapsCompose : Type 0
-MapsCompose = (old middle new : List (List ℕ)) (numbers later : List ℕ) → IsMap old middle numbers → IsMap middle new later → length new ≤ missing
+MapsCompose = (old middle new : List (List ℕ)) (numbers later : List ℕ) → IsMap old middle numbers →
+    IsMap middle new later → length new ≤ missing
     → IsMap old new (renumber later numbers)
 
 -- only one map leads to strings of which no two are equal
 abbrev pub MapsAreUnique : Type 0
-MapsAreUnique = (old new : List (List ℕ)) (numbers others : List ℕ) → Distinct string_key new → IsMap old new numbers → IsMap old new others
+MapsAreUnique = (old new : List (List ℕ)) (numbers others : List ℕ) → Distinct string_key new →
+    IsMap old new numbers → IsMap old new others
     → numbers ≡ others
 
 -- lists that are merged first, and then with others, have the union that they have at once
 abbrev pub MergingNests : Type 0
-MergingNests = (before nested after : List (List (List ℕ))) → union (before ++ union nested ∷ after) ≡ union (before ++ nested ++ after)
+MergingNests = (before nested after : List (List (List ℕ))) →
+    union (before ++ union nested ∷ after) ≡ union (before ++ nested ++ after)
 
 -- a shard of a union is the union of that shard of each list
 abbrev pub ShardsMerge : Type 0
-ShardsMerge = (count s : ℕ) (lists : List (List (List ℕ))) → shard count (union lists) s ≡ union (map (λ strings. shard count strings s) lists)
+ShardsMerge = (count s : ℕ) (lists : List (List (List ℕ))) →
+    shard count (union lists) s ≡ union (map (λ strings. shard count strings s) lists)
 
 -- the maps of shards, as one map, lead from all strings of the shards to all those of the others
 abbrev pub ShardMapsJoin : Type 0
 ShardMapsJoin = (olds news : List (List (List ℕ))) (maps : List (List ℕ)) → AreShardMaps olds news maps
     → IsMap (joined olds) (joined news) (joined_map 0 (map length news) maps)
 
--- codes under a list that are renumbered by the map to its shards, and then by the maps from these to other shards, have
--- the strings that they had
+-- codes under a list that are renumbered by the map to its shards, and then by the maps from these to other
+-- shards, have the strings that they had
 abbrev pub ShardedCodesKeepStrings : Type 0
-ShardedCodesKeepStrings = (count : ℕ) (strings : List (List ℕ)) (news : List (List (List ℕ))) (split codes : List ℕ) (maps : List (List ℕ))
+ShardedCodesKeepStrings =
+    (count : ℕ) (strings : List (List ℕ)) (news : List (List (List ℕ))) (split codes : List ℕ)
+    (maps : List (List ℕ))
     → IsMap strings (joined (shards count strings)) split → AreShardMaps (shards count strings) news maps
     → length (joined (shards count strings)) ≤ missing → length (joined news) ≤ missing
-    → decode (joined news) (renumber (joined_map 0 (map length news) maps) (renumber split codes)) ≡ decode strings codes
+    → decode (joined news) (renumber (joined_map 0 (map length news) maps) (renumber split codes))
+    ≡ decode strings codes

@@ -16,7 +16,8 @@ abbrev pub OfForms : {F : Type 0} → (F → List ℕ) → List (List ℕ) → (
 OfForms {F} spelling strings P = (forms : List F) × (map spelling forms ≡ strings) × P forms
 
 -- with this error and cost, either this holds of forms of these strings, or they couldn't be allocated
-abbrev pub FailsAsForms : {F : Type 0} → (F → List ℕ) → List (List ℕ) → InternError → List Event → (List F → Type 0) → Type 0
+abbrev pub FailsAsForms : {F : Type 0} → (F → List ℕ) → List (List ℕ) → InternError → List Event →
+    (List F → Type 0) → Type 0
 FailsAsForms spelling strings e cost P = ((cost ≡ []) × IfOverflow e ⊥) ⊎ OfForms spelling strings P
 
 -- strings are compared by their bytes

@@ -37,40 +37,62 @@ starts_from n (strings ∷ shards) = n ∷ starts_from (n + length strings) shar
 abbrev pub BelongTo : ℕ → ℕ → List (List ℕ) → Type 0
 BelongTo count s strings = (i : ℕ) (w : List ℕ) → slice_get strings i ≡ Some w → shard_of count w ≡ s
 
+-- each string of these before n belongs to shard s of so many
+abbrev pub BelongBefore : ℕ → ℕ → ℕ → List (List ℕ) → Type 0
+BelongBefore n count s strings = (i : ℕ) (w : List ℕ) → i < n → slice_get strings i ≡ Some w →
+    shard_of count w ≡ s
+
+-- each string of each shard before n belongs there
+abbrev pub AreShardsBefore : ℕ → List (List (List ℕ)) → Type 0
+AreShardsBefore n shards = (s : ℕ) (strings : List (List ℕ)) → s < n → slice_get shards s ≡ Some strings →
+    BelongTo (length shards) s strings
+
 -- each string of each shard belongs there
 abbrev pub AreShards : List (List (List ℕ)) → Type 0
-AreShards shards = (s : ℕ) (strings : List (List ℕ)) → slice_get shards s ≡ Some strings → BelongTo (length shards) s strings
+AreShards shards = (s : ℕ) (strings : List (List ℕ)) → slice_get shards s ≡ Some strings →
+    BelongTo (length shards) s strings
 
 -- no two strings of one shard are equal
 abbrev pub AreEachDistinct : List (List (List ℕ)) → Type 0
-AreEachDistinct shards = (s : ℕ) (strings : List (List ℕ)) → slice_get shards s ≡ Some strings → Distinct string_key strings
+AreEachDistinct shards = (s : ℕ) (strings : List (List ℕ)) → slice_get shards s ≡ Some strings →
+    Distinct string_key strings
 
 -- no two strings of all shards are equal
 abbrev pub AreAllDistinct : List (List (List ℕ)) → Type 0
 AreAllDistinct shards = Distinct string_key (joined shards)
 
--- the string at i of these belongs to another shard than s
+-- the string at i of these is the first that belongs to another shard than s
 abbrev pub IsMisplaced : ℕ → ℕ → List (List ℕ) → ℕ → Type 0
 IsMisplaced count s strings i = (w : List ℕ) × (slice_get strings i ≡ Some w) × (shard_of count w ≢ s)
+    × BelongBefore i count s strings
+
+-- the string at i of shard s is the first that belongs to another shard
+pub record IsFirstMisplaced (shards : List (List (List ℕ))) (s i : ℕ) : Type 0 where
+  pub strings : List (List ℕ)
+  pub there : slice_get shards s ≡ Some strings
+  pub misplaced : IsMisplaced (length shards) s strings i
+  pub before : AreShardsBefore s shards
 
 -- why lists aren't shards
 abbrev pub IsShardsFault : List (List (List ℕ)) → ShardsError → Type 0
 IsShardsFault shards Empty = shards ≡ []
-IsShardsFault shards (Misplaced s i) = (strings : List (List ℕ)) × (slice_get shards s ≡ Some strings) × IsMisplaced (length shards) s strings i
+IsShardsFault shards (Misplaced s i) = IsFirstMisplaced shards s i
 IsShardsFault shards TooMany = (missing < length shards) ⊎ (missing < length (joined shards))
 IsShardsFault shards Memory = ⊤
 
 -- each string of the shards before this one stands at its number among these
 abbrev pub AreNumbered : List (List ℕ) → List ℕ → List (List ℕ) → ℕ → List ℕ → Type 0
-AreNumbered strings shards placed number numbers = (i : ℕ) (w : List ℕ) → slice_get strings i ≡ Some w → get_or shards i 0 < number
+AreNumbered strings shards placed number numbers = (i : ℕ) (w : List ℕ) → slice_get strings i ≡ Some w →
+    get_or shards i 0 < number
     → slice_get placed (get_or numbers i 0) ≡ Some w
 
--- maps of shards as one map, where each shard has so many strings and those before the first one n: the numbers of a
--- shard are counted on from the end of the shards before it
+-- maps of shards as one map, where each shard has so many strings and those before the first one n: the
+-- numbers of a shard are counted on from the end of the shards before it
 abbrev pub joined_map : ℕ → List ℕ → List (List ℕ) → List ℕ
 joined_map n [] maps = []
 joined_map n (count ∷ counts) [] = []
-joined_map n (count ∷ counts) (numbers ∷ maps) = map (λ k. n + k) numbers ++ joined_map (n + count) counts maps
+joined_map n (count ∷ counts) (numbers ∷ maps) =
+    map (λ k. n + k) numbers ++ joined_map (n + count) counts maps
 
 -- how many strings the shards have together
 abbrev pub sum_of : List ℕ → ℕ

@@ -13,18 +13,18 @@ use intaglio_core::{BaseInterner, Content, InternError, Store, Symbol, Work, get
 use intaglio_frozen::StringList;
 use std::alloc::{AllocError, Global};
 
-/// Interns all strings of a list, such as a frozen table, all or none, and returns the symbol of each: the map by
-/// which codes of the list become codes of the table.
+/// Interns all strings of a list, such as a frozen table, all or none, and returns the symbol of each: the
+/// map by which codes of the list become codes of the table.
 ///
-/// Earlier symbols keep their strings, and what is new comes in the list's order. The strings are read where they
-/// are, and only new ones are copied. They are interned as one batch of forms ([`get_or_intern_all`]), of which a
-/// list is allocated first. A table of bytes takes in every string. Whether a table of texts can take in a list,
-/// [`are_texts`](crate::are_texts) says.
+/// Earlier symbols keep their strings, and what is new comes in the list's order. The strings are read where
+/// they are, and only new ones are copied. They are interned as one batch of forms ([`get_or_intern_all`]),
+/// of which a list is allocated first. A table of bytes takes in every string. Whether a table of texts can
+/// take in a list, [`are_texts`](crate::are_texts) says.
 ///
 /// # Errors
 ///
-/// `Overflow` if the table can't hold them all, `Memory` if an allocation fails before that is found. Then the
-/// contents of the table are unchanged, its capacity isn't lower, and there is no less room for bytes.
+/// `Overflow` if the table can't hold them all, `Memory` if an allocation fails before that is found. Then
+/// the contents of the table are unchanged, its capacity isn't lower, and there is no less room for bytes.
 ///
 /// ```
 /// # use intaglio::Work;
@@ -69,14 +69,17 @@ where
         let all = interned_all T.Content.key_of held (L.strings list.now) in
         IfErr result (λ e. IfOverflow e ((T.state table.old).limit < length all)) }
 
-    // As one batch of forms: out of memory only where the table wasn't full, or where a list couldn't be allocated.
+    // As one batch of forms: out of memory only where the table wasn't full, or
+    // where a list couldn't be allocated.
     ensures cost { IfOk result (λ symbols. Costs work.old work.new (λ cost.
         OfForms T.Content.Form.form_spelling (L.strings list.now) (λ forms.
-        InternsAll T.Content.key T.Content.Form.key T.Content.Form.adds T.Content.Form.copies (T.hash table.old)
+        InternsAll T.Content.key T.Content.Form.key T.Content.Form.adds T.Content.Form.copies
+        (T.hash table.old)
         (T.state table.old) forms symbols.items cost (T.state table.new)))) }
     ensures refused_cost { IfErr result (λ e. Costs work.old work.new (λ cost.
         FailsAsForms T.Content.Form.form_spelling (L.strings list.now) e cost (λ forms.
-        RefusedCost T.Content.key T.Content.Form.key T.Content.Form.adds T.Content.Form.copies (T.hash table.old)
+        RefusedCost T.Content.key T.Content.Form.key T.Content.Form.adds T.Content.Form.copies
+        (T.hash table.old)
         (T.state table.old) forms e cost))) }
     ensures grows { let needed = length (T.state table.old).contents + length (L.strings list.now) in
         GrowsFor needed (T.most table.old) (T.most table.new) }
@@ -103,7 +106,8 @@ where
     B::Content: Content,
     requires { AreAccepted C.accepts (L.strings list.now) }
     ensures strings { IfOk result (λ forms. map C.Form.form_spelling forms.items ≡ L.strings list.now) }
-    ensures needs { IfOk result (λ forms. sum_by C.Form.needs forms.items ≤ sum_by length (L.strings list.now)) }
+    ensures needs { IfOk result (λ forms. sum_by C.Form.needs forms.items
+        ≤ sum_by length (L.strings list.now)) }
 {
     let mut forms = Vec::with_capacity(alloc, list.len())?;
     for i in 0..list.len() {

@@ -3,9 +3,9 @@
 //! The functions do nothing: the contract of each is a law.
 ghost use Rattle.intaglio_merge.specs.Laws.{RenumberingKeepsStrings, MapsCompose, MapsAreUnique, MergingNests, ShardMapsJoin, ShardedCodesKeepStrings, ShardsMerge};
 
-/// Decoding renumbered codes under the merged dictionary gives what decoding the codes under the old one gave, also
-/// where a code is no symbol. The merged dictionary has fewer strings than the number of the missing code, 2^32 - 1,
-/// as each frozen table has.
+/// Decoding renumbered codes under the merged dictionary gives what decoding the codes under the old one
+/// gave, also where a code is no symbol. The merged dictionary has fewer strings than the number of the
+/// missing code, 2^32 - 1, as each frozen table has.
 ///
 /// ```
 /// # use intaglio_merge::laws::renumbering_law;
@@ -31,31 +31,33 @@ pub fn one_map_law()
     // The contract is the law.
 }
 
-/// Merging is the same whichever way it is nested: lists may be merged first, and then their union with others.
+/// Merging is the same whichever way it is nested: lists may be merged first,
+/// and then their union with others.
 pub fn nesting_law()
     ensures { MergingNests }
 {
     // The contract is the law.
 }
 
-/// The shards of a union are the unions of shards: so shards can be merged each by itself, and the numbering depends
-/// only on the lists in their order and on the number of shards.
+/// The shards of a union are the unions of shards: so shards can be merged each by itself, and the numbering
+/// depends only on the lists in their order and on the number of shards.
 pub fn sharding_law()
     ensures { ShardsMerge }
 {
     // The contract is the law.
 }
 
-/// The maps of the shards of one dictionary to those of another are together one map, where the numbers of a shard are
-/// counted on from the end of the shards before it.
+/// The maps of the shards of one dictionary to those of another are together one map, where the numbers of a
+/// shard are counted on from the end of the shards before it.
 pub fn joining_law()
     ensures { ShardMapsJoin }
 {
     // The contract is the law.
 }
 
-/// Codes of a part that are renumbered by the map to its shards ([`split_map`](crate::split_map)), and then by the maps
-/// from these to the merged shards, have the strings that they had, also where a code is no symbol.
+/// Codes of a part that are renumbered by the map to its shards
+/// ([`split_map`](crate::split_map)), and then by the maps from these to the merged shards, have
+/// the strings that they had, also where a code is no symbol.
 pub fn sharded_codes_law()
     ensures { ShardedCodesKeepStrings }
 {

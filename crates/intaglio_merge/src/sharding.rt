@@ -10,15 +10,16 @@ use intaglio_symbol::Symbol;
 use std::alloc::{AllocError, Global};
 use std::hash::{BuildHasher, Hasher};
 
-// The keys of the hash by which strings are shared out: "shards.0" and "shards.1". They are other keys than those
-// under which a frozen table is written by default.
+// The keys of the hash by which strings are shared out: "shards.0" and "shards.1". They are other keys than
+// those under which a frozen table is written by default.
 const KEY0: u64 = 0x7368_6172_6473_2e30;
 
 const KEY1: u64 = 0x7368_6172_6473_2e31;
 
 /// The shard that a string belongs to, of `count` ones: from 0 to `count - 1`.
 ///
-/// It depends on the string's bytes and on `count` alone, so it is the same in every program and on every machine.
+/// It depends on the string's bytes and on `count` alone, so it is the same in
+/// every program and on every machine.
 ///
 /// ```
 /// # use intaglio_merge::shard_of;
@@ -39,8 +40,8 @@ pub fn shard_of(string: &[u8], count: u32) -> u32
 
 /// The strings of each shard of a list, in the list's order. They stay where they are.
 ///
-/// Each list can be frozen, or merged with the same shard of other lists: shards of a union are the unions of shards
-/// ([`sharding_law`](crate::laws::sharding_law)).
+/// Each list can be frozen, or merged with the same shard of other lists: shards of a union are the unions of
+/// shards ([`sharding_law`](crate::laws::sharding_law)).
 ///
 /// # Errors
 ///
@@ -67,11 +68,7 @@ pub fn split<'s, L: StringList>(
         ≡ shards count (L.strings list.now)) }
 {
     let shards = shards_of(alloc, list, count)?;
-    let mut split = Vec::with_capacity(alloc, count as usize)?;
-    for number in 0..count {
-        split.push_reserved(strings_of(alloc, list, count, &shards, number)?);
-    }
-    Ok(split)
+    lists_of(alloc, list, count, &shards)
 }
 
 /// The map from a list to its shards, one behind the other: the new symbol of each string.
@@ -90,10 +87,78 @@ pub fn split_map<L: StringList>(
         (joined (shards count (L.strings list.now))) numbers.items) }
 {
     let shards = shards_of(alloc, list, count)?;
+    numbers_of(alloc, list, count, &shards)
+}
+
+/// What [`split`] and [`split_map`] return. Each string is hashed once for both.
+///
+/// # Errors
+///
+/// [`AllocError`] if an allocation fails.
+///
+/// ```
+/// # use intaglio::{StrContent, SymbolTable};
+/// # use intaglio_merge::split_with_map;
+/// # let alloc = rt.alloc();
+/// # let mut table = SymbolTable::new(alloc)?;
+/// # let _symbol = table.intern(StrContent::from("rose"))?;
+/// let (shards, map) = split_with_map(alloc, &table, 4)?;
+/// assert!(rt; shards.len() == 4);
+/// assert!(rt; map.len() == 1);
+/// ```
+pub fn split_with_map<'s, L: StringList>(
+    alloc: Global,
+    list: &'s L,
+    count: u32,
+) -> Result<(Vec<Vec<&'s [u8]>>, Vec<Symbol>), AllocError>
+    requires some { 0 < count }
+    requires few { length (L.strings list.now) ≤ missing }
+    ensures split { IfOk result (λ made. map (λ ws. map (λ w. w.now) ws.items) made.0.items
+        ≡ shards count (L.strings list.now)) }
+    ensures map { IfOk result (λ made. IsMap (L.strings list.now)
+        (joined (shards count (L.strings list.now))) made.1.items) }
+{
+    let shards = shards_of(alloc, list, count)?;
+    let lists = lists_of(alloc, list, count, &shards)?;
+    let numbers = numbers_of(alloc, list, count, &shards)?;
+    Ok((lists, numbers))
+}
+
+// The strings of each shard, by the shard of each string.
+fn lists_of<'s, L: StringList>(
+    alloc: Global,
+    list: &'s L,
+    count: u32,
+    shards: &[u32],
+) -> Result<Vec<Vec<&'s [u8]>>, AllocError>
+    requires { shards.now ≡ map (shard_of count) (L.strings list.now) }
+    ensures { IfOk result (λ split. map (λ ws. map (λ w. w.now) ws.items) split.items
+        ≡ first_shards count (L.strings list.now) count) }
+{
+    let mut split = Vec::with_capacity(alloc, count as usize)?;
+    for number in 0..count {
+        split.push_reserved(strings_of(alloc, list, count, shards, number)?);
+    }
+    Ok(split)
+}
+
+// The map from a list to its shards, by the shard of each string.
+fn numbers_of<L: StringList>(
+    alloc: Global,
+    list: &L,
+    count: u32,
+    shards: &[u32],
+) -> Result<Vec<Symbol>, AllocError>
+    requires shards { shards.now ≡ map (shard_of count) (L.strings list.now) }
+    requires below { (i : ℕ) → i < length shards.now → get_or shards.now i 0 < count }
+    requires few { length (L.strings list.now) ≤ missing }
+    ensures { IfOk result (λ numbers. IsMap (L.strings list.now)
+        (joined (first_shards count (L.strings list.now) count)) numbers.items) }
+{
     let mut numbers = Vec::from_elem(alloc, Symbol::new(0), shards.len())?;
     let mut next = 0;
     for number in 0..count {
-        next = number_shard(list, count, &shards, number, next, &mut numbers);
+        next = number_shard(list, count, shards, number, next, &mut numbers);
     }
     Ok(numbers)
 }
@@ -115,7 +180,8 @@ fn number_shard<L: StringList>(
         AreNumbered strings shards.now (joined (first_shards _count strings number)) number numbers.old }
     ensures next { result ≡ length (joined (first_shards _count (L.strings _list.now) (number + 1))) }
     ensures numbered { let strings = L.strings _list.now in
-        AreNumbered strings shards.now (joined (first_shards _count strings (number + 1))) (number + 1) numbers.new }
+        AreNumbered strings shards.now (joined (first_shards _count strings (number + 1))) (number + 1)
+        numbers.new }
     ensures len { length numbers.new ≡ length numbers.old }
 {
     let mut next = start;
@@ -132,7 +198,8 @@ fn number_shard<L: StringList>(
 fn shards_of<L: StringList>(alloc: Global, list: &L, count: u32) -> Result<Vec<u32>, AllocError>
     requires { 0 < count }
     ensures shards { IfOk result (λ shards. shards.items ≡ map (shard_of count) (L.strings list.now)) }
-    ensures below { IfOk result (λ shards. (i : ℕ) → i < length shards.items → get_or shards.items i 0 < count) }
+    ensures below { IfOk result (λ shards. (i : ℕ) → i < length shards.items →
+        get_or shards.items i 0 < count) }
 {
     let mut shards = Vec::with_capacity(alloc, list.len())?;
     for i in 0..list.len() {
@@ -150,7 +217,8 @@ fn strings_of<'s, L: StringList>(
     number: u32,
 ) -> Result<Vec<&'s [u8]>, AllocError>
     requires { shards.now ≡ map (shard_of count) (L.strings list.now) }
-    ensures { IfOk result (λ strings. map (λ w. w.now) strings.items ≡ shard count (L.strings list.now) number) }
+    ensures { IfOk result (λ strings. map (λ w. w.now) strings.items
+        ≡ shard count (L.strings list.now) number) }
 {
     let mut strings = Vec::new(alloc);
     for i in 0..shards.len() {

@@ -51,8 +51,8 @@ impl<'a> Shards<'a> {
     ///
     /// # Errors
     ///
-    /// `Empty` if there is no table, `Misplaced` for a string that belongs to another shard, `TooMany` if there are
-    /// 2^32 strings, or shards, or more, `Memory` if an allocation fails.
+    /// `Empty` if there is no table, `Misplaced` for the first string that belongs to another shard,
+    /// `TooMany` if there are 2^32 strings, or shards, or more, `Memory` if an allocation fails.
     ///
     /// ```ignore (the borrow checker doesn't cover this function yet)
     /// # use intaglio::{StrContent, Symbol, SymbolTable};
@@ -179,7 +179,7 @@ fn check_each(tables: &[Frozen<'_>], count: u32) -> Result<(), ShardsError>
     Ok(())
 }
 
-/// The first string of a table that belongs to another shard than this one, of `count` ones.
+/// The symbol of the first string of a table that belongs to another shard than this one, of `count` ones.
 ///
 /// ```
 /// # use intaglio::SymbolTable;

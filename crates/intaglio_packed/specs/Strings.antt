@@ -2,8 +2,8 @@
 use Rattle.std.specs.Prelude.{◌≡◌, ℕ, ◌+◌, ◌<◌, ◌≤◌, List, [], ◌∷◌, length, refl, slice_range, sum_by}
 use Rattle.std.specs.Coded.{Coded, code_by, coded×, coded_ℕ, coded_list}
 
--- the strings, for how many there is room in total, the room for further bytes, and how many bytes of memory are held
--- for the strings' bytes
+-- the strings, for how many there is room in total, the room for further bytes, and how many bytes of memory
+-- are held for the strings' bytes
 pub record Strings : Type 0 where
   pub list : List (List ℕ)
   pub most : ℕ

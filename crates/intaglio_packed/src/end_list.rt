@@ -10,8 +10,8 @@ use std::marker::Model;
 
 /// The ends of strings in one buffer: a list of short ends, of 4 bytes each, or of long ones, of 8 bytes.
 ///
-/// In front of the ends is a 0, as soon as there is room for any. So a string begins at the number before its end,
-/// the first one too.
+/// In front of the ends is a 0, as soon as there is room for any. So a string begins at the number
+/// before its end, the first one too.
 ///
 /// A contract sees the ends, for how many there is room in total, and the largest number that an end can be.
 #[derive(Drop)]
@@ -190,8 +190,8 @@ impl StringEnds {
         }
     }
 
-    /// Shrinks the room to `min_capacity` ends, or to those that there are if they are more. A failed allocation
-    /// isn't reported, and leaves more room.
+    /// Shrinks the room to `min_capacity` ends, or to those that there are if they are more. A failed
+    /// allocation isn't reported, and leaves more room.
     pub fn shrink_to(&mut self, min_capacity: usize)
         ensures list { self.new.list ≡ self.old.list }
         ensures largest { self.new.largest ≡ self.old.largest }
@@ -243,7 +243,8 @@ fn with_first<T: Copy>(alloc: Global, first: T, capacity: usize) -> Result<Vec<T
     Ok(list)
 }
 
-// Makes room for this many more items behind the first one. If the list has to grow, that room at least doubles.
+// Makes room for this many more items behind the first one. If the list has to
+// grow, that room at least doubles.
 #[inline(always)]
 fn reserve_behind<T: Copy>(list: &mut Vec<T>, first: T, additional: usize) -> Result<(), AllocError>
     requires { BeginsWith first (vec_capacity list.old) list.old.items }
@@ -298,8 +299,8 @@ fn truncate_behind<T: Copy>(list: &mut Vec<T>, n: usize)
     }
 }
 
-// Shrinks the room of a list to this many items behind the first one. The first one goes too where nothing is behind it
-// and no room is asked for.
+// Shrinks the room of a list to this many items behind the first one. The first one goes too where nothing is
+// behind it and no room is asked for.
 fn shrink_behind<T: Copy>(list: &mut Vec<T>, min_capacity: usize)
     ensures items { drop 1 list.new.items ≡ drop 1 list.old.items }
     ensures first { 0 < vec_capacity list.new → list.new.items ≡ list.old.items }

@@ -42,8 +42,8 @@ fn double<T>(list: &mut Vec<T>, additional: usize) -> Result<(), AllocError>
     list.reserve_exact(wanted - list.len())
 }
 
-// The room that is made for so many more items than there are: at least twice as much as before. Fails where `usize`
-// overflows.
+// The room that is made for so many more items than there are: at least twice as much as before.
+// Fails where `usize` overflows.
 pub(crate) fn doubled(len: usize, most: usize, additional: usize) -> Result<usize, AllocError>
     ensures { IfOk result (λ n. n ≡ max 4 (max (len + additional) (2 * most))) }
 {

@@ -1,7 +1,7 @@
 //! Many strings in one buffer of bytes.
 //!
-//! - [`StringBuffer`] is a list of strings: a string takes its bytes and four more ([`StringEnds`]; eight above
-//!   2^32 bytes), and no allocation of its own.
+//! - [`StringBuffer`] is a list of strings: a string takes its bytes and four more ([`StringEnds`]; eight
+//!   above 2^32 bytes), and no allocation of its own.
 #![tactic(auto)]
 
 mod end_list;

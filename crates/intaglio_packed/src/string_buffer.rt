@@ -240,8 +240,8 @@ impl StringBuffer {
         }
     }
 
-    /// Shrinks the room to `min_capacity` strings, or to those that there are if they are more, and the room for
-    /// bytes to those that there are.
+    /// Shrinks the room to `min_capacity` strings, or to those that there are if they are more, and the room
+    /// for bytes to those that there are.
     ///
     /// # Errors
     ///
@@ -270,8 +270,8 @@ impl StringBuffer {
         }
     }
 
-    /// Shrinks the room to this many strings, or to those that there are if they are more. A failed allocation
-    /// isn't reported, and leaves more room.
+    /// Shrinks the room to this many strings, or to those that there are if they are more. A failed
+    /// allocation isn't reported, and leaves more room.
     pub fn shrink_strings(&mut self, strings: usize)
         ensures list { self.new.list ≡ self.old.list }
         ensures spare_bytes { self.new.spare_bytes ≡ self.old.spare_bytes }

@@ -26,7 +26,8 @@ entry-more long rs n hash r is h =
     ) ∷ entries long rs n) (ap (λ x. hash_at x 0) (get_or_from_slice_get rs n r [] is) ∙ sym h)
 
 -- where the entries of strings and of their records say that these begin
-begins-same : (rs : List (List ℕ)) (n : ℕ) → AreLong rs → sum_by size_of (take n (map pair_of rs)) ≡ position rs n
+begins-same : (rs : List (List ℕ)) (n : ℕ) → AreLong rs →
+    sum_by size_of (take n (map pair_of rs)) ≡ position rs n
 begins-same rs zero long = refl
 begins-same [] (suc n) long = refl
 begins-same (r ∷ rs) (suc n) long =
@@ -51,12 +52,14 @@ entries-same is_long rs (suc n) long l =
     rw (hash, begins-same rs n long, entries-same is_long rs n long (omega (arith, l))) refl
 
 -- of the first n
-pub entries-first : (is_long : Bool) (xs : List (ℕ × List ℕ)) (rs : List (List ℕ)) (n : ℕ) → map pair_of rs ≡ xs
+pub entries-first : (is_long : Bool) (xs : List (ℕ × List ℕ)) (rs : List (List ℕ)) (n : ℕ) →
+    map pair_of rs ≡ xs
     → AreLong rs → n ≤ length rs → entries_of is_long xs n ≡ entries is_long rs n
 entries-first is_long xs rs n same long l = rw (← same) (entries-same is_long rs n long l)
 
 -- and of all
-pub entries-all : (is_long : Bool) (xs : List (ℕ × List ℕ)) (rs : List (List ℕ)) → map pair_of rs ≡ xs → AreLong rs
+pub entries-all : (is_long : Bool) (xs : List (ℕ × List ℕ)) (rs : List (List ℕ)) →
+    map pair_of rs ≡ xs → AreLong rs
     → entries_of is_long xs (length xs) ≡ entries is_long rs (length rs)
 entries-all is_long xs rs same long =
     rw (← same, length-map rs pair_of) (entries-same is_long rs (length rs) long (omega arith))
@@ -94,7 +97,8 @@ entries-append long xs x (suc n) l =
 
 -- with that of the string that is added
 pub entries-push : (long : Bool) (xs : List (ℕ × List ℕ)) (x : ℕ × List ℕ) (at : ℕ) → at ≡ sum_by size_of xs
-    → entries_of long (xs ++ x ∷ []) (length (xs ++ x ∷ [])) ≡ (x.0, slot_of long (length xs) at) ∷ entries_of long xs (length xs)
+    → entries_of long (xs ++ x ∷ []) (length (xs ++ x ∷ [])) ≡ (x.0, slot_of long (length xs) at)
+    ∷ entries_of long xs (length xs)
 entries-push long xs x at a =
     let n = length xs in
     let e : length (xs ++ x ∷ []) ≡ suc n = omega (arith, length-append xs (x ∷ [])) in

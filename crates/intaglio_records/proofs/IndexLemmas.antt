@@ -5,7 +5,8 @@ use Rattle.intaglio_records.specs.Index.{IsOver}
 use Rattle.intaglio_records.specs.Records.{Records, hashes_of, record_room_of, strings_of}
 
 -- an index stays over records that have less room
-pub over_less : (xs : List (ℕ × List ℕ)) (room less : ℕ) (index : RecordIndex) → IsOver xs room index → less ≤ room
+pub over_less : (xs : List (ℕ × List ℕ)) (room less : ℕ) (index : RecordIndex) → IsOver xs room index →
+    less ≤ room
     → IsOver xs less index
 over_less xs room less index is l = record {
   filled = is.filled;
@@ -30,11 +31,13 @@ pub over_same : (xs ys : List (ℕ × List ℕ)) (room same : ℕ) (index : Reco
     → IsOver ys same index
 over_same xs ys room same index e f is = rw (← e, ← f) is
 
+-- two pairs are equal if their numbers and their strings are
 same_pair : (a b : ℕ) (s t : List ℕ) → a ≡ b → s ≡ t → ◌≡◌ {A = ℕ × List ℕ} (a, s) (b, t)
 same_pair a b s t e f = rw (e, f) refl
 
 -- pairs are the same if their hashes and their strings are
-pub same_pairs : (xs ys : List (ℕ × List ℕ)) → map (λ (p : ℕ × List ℕ). p.0) xs ≡ map (λ (p : ℕ × List ℕ). p.0) ys
+pub same_pairs : (xs ys : List (ℕ × List ℕ)) →
+    map (λ (p : ℕ × List ℕ). p.0) xs ≡ map (λ (p : ℕ × List ℕ). p.0) ys
     → map (λ (p : ℕ × List ℕ). p.1) xs ≡ map (λ (p : ℕ × List ℕ). p.1) ys → xs ≡ ys
 same_pairs [] [] e f = refl
 same_pairs [] (y ∷ ys) e f = absurd (omega (arith, ap length e))
@@ -56,4 +59,5 @@ pub gives_up : (index : RecordIndex) (old new : Records) → strings_of new ≡ 
 gives_up index old new strings hashes most spare is =
     let list : new.list ≡ old.list = same_pairs new.list old.list hashes strings in
     let less : record_room_of new ≤ record_room_of old = rw list (omega (arith, most, spare)) in
-    over_less new.list (record_room_of old) (record_room_of new) index (over_same old.list new.list (record_room_of old) (record_room_of old) index (sym list) refl is) less
+    over_less new.list (record_room_of old) (record_room_of new) index
+    (over_same old.list new.list (record_room_of old) (record_room_of old) index (sym list) refl is) less

@@ -20,7 +20,8 @@ use Rattle.std.proofs.lemmas.List.{get_or-map, length-map}
 use Rattle.std.proofs.lemmas.List.Filters.{length-filter_more}
 use Rattle.std.proofs.lemmas.List.Sorted.{sum_by-IsPermutation}
 
--- what is known after a slot is given whose record begins here: whether that is the next to be given depends on its hash
+-- what is known after a slot is given whose record begins here: whether that is the
+-- next to be given depends on its hash
 pub record Stepped (xs : List (ℕ
     × List ℕ)) (hash : ℕ) (matches : Matches) (at : ℕ) (left : List ℕ) : Type 0 where
   pub rest : List ℕ
@@ -43,7 +44,8 @@ begin-is true rs i = refl
 begin-is false rs i = refl
 
 -- the slot that a search gives is that of a record
-pub slot-given : (xs : List (ℕ × List ℕ)) (hash : ℕ) (matches : Matches) (next : Candidates) (slot : ℕ) (left : List ℕ)
+pub slot-given : (xs : List (ℕ × List ℕ)) (hash : ℕ) (matches : Matches) (next : Candidates) (slot : ℕ)
+    (left : List ℕ)
     → IsLeft xs hash matches left
     → ((slots : List ℕ) → search.IsLeft matches.candidates slots → (rest : List ℕ) × (slots ≡ slot ∷ rest)
     × search.IsLeft next rest)
@@ -53,6 +55,7 @@ slot-given xs hash matches next slot left is gives =
     let here = IsSlot matches.is_long matches.records.now.list in
     All-head here slot given.0 (subst (λ ss. All here ss) given.1 is.each_slot)
 
+-- when a search gives a slot, what was left is its record's number, if that has the hash, and the rest
 pub stepped : (xs : List (ℕ
     × List ℕ)) (hash : ℕ) (matches : Matches) (next : Candidates) (slot at : ℕ) (left : List ℕ)
     → at ≡ begin_of matches.is_long matches.records.now.list slot → IsLeft xs hash matches left
@@ -85,8 +88,12 @@ stepped xs hash matches next slot at left begins is gives =
         hash_is = is.hash_is;
         left_is = refl;
       };
-      same = λ e. now ∙ cond-true (hash_at bytes at == hash) (number_at bytes at ∷ rest) rest (eq-eqb (hash_at bytes at) hash e);
-      other = λ n. now ∙ cond-false (hash_at bytes at == hash) (number_at bytes at ∷ rest) rest (ne_eqb (hash_at bytes at) hash n);
+      same = λ e. now
+          ∙ cond-true (hash_at bytes at == hash) (number_at bytes at ∷ rest) rest
+          (eq-eqb (hash_at bytes at) hash e);
+      other = λ n. now
+          ∙ cond-false (hash_at bytes at == hash) (number_at bytes at ∷ rest) rest
+          (ne_eqb (hash_at bytes at) hash n);
     }
 
 -- the pair of the record that is found
@@ -101,14 +108,17 @@ found xs rs i number hash string list l n h s =
 abbrev pub count_at : ℕ → List ℕ → ℕ → ℕ → ℕ
 count_at hash bytes i at = cond (hash_at bytes at == hash) (one_of i (number_at bytes at)) 0
 
+-- a number in front, which is taken if it has the hash, then adds to the count of i whether it is i
 count-one : (h hash number i : ℕ) (rest : List ℕ)
-    → sum_by (one_of i) (cond (h == hash) (number ∷ rest) rest) ≡ cond (h == hash) (one_of i number) 0 + sum_by (one_of i) rest
+    → sum_by (one_of i) (cond (h == hash) (number ∷ rest) rest) ≡ cond (h == hash) (one_of i number) 0
+    + sum_by (one_of i) rest
 count-one h hash number i rest =
     elim (eqb_tells h hash) [
       | inl e ↦ rw (e.0) (sum_by-cons (one_of i) number rest)
       | inr n ↦ rw (n.0) (omega arith)
     ]
 
+-- number i is among those with the hash as often as is counted over where their records begin
 pub count-numbers : (hash : ℕ) (bytes : List ℕ) (i : ℕ) (ats : List ℕ)
     → sum_by (one_of i) (numbers_with hash bytes ats) ≡ sum_by (count_at hash bytes i) ats
 count-numbers hash bytes i [] = refl
@@ -125,7 +135,8 @@ slots-all long rs base hash (suc n) l =
     let rest = slots-all long rs base hash n (omega (arith, l)) in
     let slot = slot_of long n (position rs n) in
     cond_both
-    ((hash_at (get_or rs n []) 0 % base == hash % base) && (tag_of (hash_at (get_or rs n []) 0) == tag_of hash))
+    ((hash_at (get_or rs n []) 0 % base == hash % base) && (tag_of (hash_at (get_or rs n []) 0)
+    == tag_of hash))
     (slot ∷ [])
     []
     (λ front. All (IsSlot long rs) (front ++ search.slots_of base hash (entries long rs n)))
@@ -163,7 +174,8 @@ count-entry base hash h at value es f is =
 
 -- what is counted of the first n numbers, and of one more
 count-more : (hn hi hash i n : ℕ) → (n ≡ i → hn ≡ hi)
-    → cond (hn == hash) (one_of i n) 0 + cond (nat_lt i n && (hi == hash)) 1 0 ≡ cond (nat_lt i (suc n) && (hi == hash)) 1 0
+    → cond (hn == hash) (one_of i n) 0 + cond (nat_lt i n && (hi == hash)) 1 0
+    ≡ cond (nat_lt i (suc n) && (hi == hash)) 1 0
 count-more hn hi hash i n same =
     elim (eqb_tells n i) [
       | inl e ↦ rw (
@@ -188,6 +200,7 @@ count-more hn hi hash i n same =
 abbrev pub count_of : Bool → List (List ℕ) → ℕ → List ℕ → ℕ → ℕ → ℕ
 count_of long rs hash bytes i slot = count_at hash bytes i (begin_of long rs slot)
 
+-- the sum of f over a list that is mapped by g is the sum of f after g over the list
 count-mapped : (f g : ℕ → ℕ) (slots : List ℕ) → sum_by f (map g slots) ≡ sum_by (λ s. f (g s)) slots
 count-mapped f g [] = refl
 count-mapped f g (s ∷ slots) =
@@ -197,7 +210,8 @@ count-mapped f g (s ∷ slots) =
 -- and number i is among those with the hash once if it has it
 pub count-slots : (long : Bool) (rs : List (List ℕ)) (bytes : List ℕ) (base hash i n : ℕ) → bytes ≡ concat rs
     → AreRecords rs → length rs ≤ 2 ^ 32 → n ≤ length rs
-    → sum_by (count_of long rs hash bytes i) (search.slots_of base hash (entries long rs n)) ≡ cond (nat_lt i n && (hash_at (get_or rs i []) 0 == hash)) 1 0
+    → sum_by (count_of long rs hash bytes i) (search.slots_of base hash (entries long rs n))
+    ≡ cond (nat_lt i n && (hash_at (get_or rs i []) 0 == hash)) 1 0
 count-slots long rs bytes base hash i zero all each few l = rw (le-ltb i 0 (omega arith)) refl
 count-slots long rs bytes base hash i (suc n) all each few l =
     let h = hash_at (get_or rs n []) 0 in
@@ -209,7 +223,8 @@ count-slots long rs bytes base hash i (suc n) all each few l =
     ∙ ap (λ x. cond (x == hash) (one_of i (number_at bytes at)) 0) t.hash
     ∙ ap (λ x. cond (h == hash) (one_of i x) 0) t.number in
     count-entry base hash h slot (one_of i n) (entries long rs n) (count_of long rs hash bytes i) value
-    ∙ ap (λ x. cond (h == hash) (one_of i n) 0 + x) (count-slots long rs bytes base hash i n all each few (omega (arith, l)))
+    ∙ ap (λ x. cond (h == hash) (one_of i n) 0 + x)
+    (count-slots long rs bytes base hash i n all each few (omega (arith, l)))
     ∙ count-more h (hash_at (get_or rs i []) 0) hash i n (λ e. ap (λ k. hash_at (get_or rs k []) 0) e)
 
 -- so a search finds each number with the hash once
@@ -221,7 +236,9 @@ all-found long rs base hash slots each few perm i =
     let n = length rs in
     let xs = map pair_of rs in
     let bytes = concat rs in
-    let moved = sum_by-IsPermutation (count_of long rs hash bytes i) (search.slots_of base hash (entries long rs n)) slots perm in
+    let moved =
+    sum_by-IsPermutation (count_of long rs hash bytes i) (search.slots_of base hash (entries long rs n))
+    slots perm in
     let counted = count-numbers hash bytes i (map (begin_of long rs) slots)
     ∙ count-mapped (count_at hash bytes i) (begin_of long rs) slots ∙ moved
     ∙ count-slots long rs bytes base hash i n refl each few (omega arith) in
@@ -275,18 +292,22 @@ all-within xs hash left all = within left (λ n. below n)
       | inr high ↦ absurd (omega (arith, some, all n, none n high))
     ]
 
-    within : (ns : List ℕ) → ((n : ℕ) → 0 < sum_by (one_of n) ns → n < length xs) → All (λ n. n < length xs) ns
+    within : (ns : List ℕ) → ((n : ℕ) → 0 < sum_by (one_of n) ns → n < length xs) →
+        All (λ n. n < length xs) ns
     within [] is = All-nil (λ n. n < length xs)
     within (n ∷ ns) is =
         let here : one_of n n ≡ 1 = cond-true (n == n) 1 0 (eq-eqb n n refl) in
-        All-cons (λ n. n < length xs) n ns (is n (omega (arith, here, sum_by-cons (one_of n) n ns))) (within ns (λ m some. is m (omega (arith, some, sum_by-cons (one_of m) n ns))))
+        All-cons (λ n. n < length xs) n ns (is n (omega (arith, here, sum_by-cons (one_of n) n ns)))
+        (within ns (λ m some. is m (omega (arith, some, sum_by-cons (one_of m) n ns))))
 
 -- the sum of f of all numbers below n
 abbrev pub sum_below : (ℕ → ℕ) → ℕ → ℕ
 sum_below f zero = 0
 sum_below f (suc n) = sum_below f n + f n
 
-below-plus : (f g h : ℕ → ℕ) (n : ℕ) → ((i : ℕ) → f i ≡ g i + h i) → sum_below f n ≡ sum_below g n + sum_below h n
+-- if each value of f is those of g and h together, the sum of f below n is those of g and h together
+below-plus : (f g h : ℕ → ℕ) (n : ℕ) → ((i : ℕ) → f i ≡ g i + h i) →
+    sum_below f n ≡ sum_below g n + sum_below h n
 below-plus f g h zero is = refl
 below-plus f g h (suc n) is = omega (arith, is n, below-plus f g h n is)
 
@@ -294,7 +315,8 @@ below-plus f g h (suc n) is = omega (arith, is n, below-plus f g h n is)
 below-one : (i n : ℕ) → sum_below (λ k. one_of k i) n ≡ cond (nat_lt i n) 1 0
 below-one i zero = rw (le-ltb i 0 (omega arith)) refl
 below-one i (suc n) = elim (eqb_tells i n) [
-  | inl e ↦ rw (below-one i n, e.0, le-ltb i n (omega (arith, e.1)), lt-ltb i (suc n) (omega (arith, e.1))) refl
+  | inl e ↦
+      rw (below-one i n, e.0, le-ltb i n (omega (arith, e.1)), lt-ltb i (suc n) (omega (arith, e.1))) refl
   | inr d ↦ elim (cases_lt i n) [
     | inl low ↦ rw (below-one i n, d.0, lt-ltb i n low, lt-ltb i (suc n) (omega (arith, low))) refl
     | inr high ↦ rw (below-one i n, d.0, le-ltb i n high, le-ltb i (suc n) (omega (arith, high, d.1))) refl
@@ -302,7 +324,8 @@ below-one i (suc n) = elim (eqb_tells i n) [
 ]
 
 -- each number of the list is counted once
-below-length : (n : ℕ) (ns : List ℕ) → All (λ i. i < n) ns → sum_below (λ k. sum_by (one_of k) ns) n ≡ length ns
+below-length : (n : ℕ) (ns : List ℕ) → All (λ i. i < n) ns →
+    sum_below (λ k. sum_by (one_of k) ns) n ≡ length ns
 below-length n [] all = nothing n
   where
     nothing : (n : ℕ) → sum_below (λ _. 0) n ≡ 0
@@ -311,13 +334,16 @@ below-length n [] all = nothing n
 below-length n (i ∷ ns) all =
     let first : i < n = All-head (λ i. i < n) i ns all in
     let rest = below-length n ns (All-tail (λ i. i < n) i ns all) in
-    let parts = below-plus (λ k. sum_by (one_of k) (i ∷ ns)) (λ k. one_of k i) (λ k. sum_by (one_of k) ns) n (λ k. sum_by-cons (one_of k) i ns) in
+    let parts = below-plus (λ k. sum_by (one_of k) (i ∷ ns)) (λ k. one_of k i) (λ k. sum_by (one_of k) ns) n
+    (λ k. sum_by-cons (one_of k) i ns) in
     let once : ◌≡◌ {A = ℕ} (cond (nat_lt i n) 1 0) 1 = rw (lt-ltb i n first) refl in
     omega (arith, parts, rest, once, below-one i n)
 
+-- functions that are equal below n have the same sum below n
 below-same : (f g : ℕ → ℕ) (n : ℕ) → ((i : ℕ) → i < n → f i ≡ g i) → sum_below f n ≡ sum_below g n
 below-same f g zero is = refl
-below-same f g (suc n) is = omega (arith, is n (omega arith), below-same f g n (λ i l. is i (omega (arith, l))))
+below-same f g (suc n) is =
+    omega (arith, is n (omega arith), below-same f g n (λ i l. is i (omega (arith, l))))
 
 -- the entries of the first n hashes that are equal to this one
 below-filter : (hash : ℕ) (hs : List ℕ) (n : ℕ) → n ≤ length hs

@@ -84,6 +84,7 @@ pub record There (rs : List (List ℕ)) (bytes : List ℕ) (at i : ℕ) : Type 0
   pub number : number_at bytes at ≡ i
   pub hash : hash_at bytes at ≡ hash_at (get_or rs i []) 0
 
+-- each of at most 2 ^ 32 records is within the bytes from its position on, with its length, number and hash
 pub there : (rs : List (List ℕ)) (bytes : List ℕ) (at i : ℕ) → bytes ≡ concat rs → AreRecords rs
     → length rs ≤ 2 ^ 32 → i < length rs → at ≡ position rs i → There rs bytes at i
 there rs bytes at i all each few l e =

@@ -15,6 +15,7 @@ use Rattle.intaglio_packed.specs.Strings.{Strings, byte_room_of}
 abbrev pub AreLong : List (List ℕ) → Type 0
 AreLong rs = (i : ℕ) → i < length rs → 13 ≤ length (get_or rs i [])
 
+-- each record has the bytes of a header
 pub are-long : (rs : List (List ℕ)) → AreRecords rs → AreLong rs
 are-long rs h i l = (h i l).long
 
@@ -91,7 +92,8 @@ records-push rs r h is i l = elim (cases_lt i (length rs)) [
   | inl low ↦ subst (λ x. IsRecord i x) (sym (get_or_append_left rs (r ∷ []) [] i low)) (h i low)
   | inr high ↦
       (let at : length rs ≡ i = omega (arith, l, high, length-append rs (r ∷ [])) in
-      subst (λ k. IsRecord k (get_or (rs ++ r ∷ []) k [])) at (subst (λ x. IsRecord (length rs) x) (sym (get_or-append_seam rs r [] [])) is))
+      subst (λ k. IsRecord k (get_or (rs ++ r ∷ []) k [])) at (subst (λ x. IsRecord (length rs) x)
+      (sym (get_or-append_seam rs r [] [])) is))
 ]
 
 -- the first n records

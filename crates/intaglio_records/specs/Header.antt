@@ -16,4 +16,5 @@ hash_at bytes i =
 -- its number
 abbrev pub number_at : List ℕ → ℕ → ℕ
 number_at bytes i =
-    from_le_bytes w32 (get_or bytes (i + 8) 0 ∷ get_or bytes (i + 9) 0 ∷ get_or bytes (i + 10) 0 ∷ get_or bytes (i + 11) 0 ∷ [])
+    from_le_bytes w32 (get_or bytes (i + 8) 0 ∷ get_or bytes (i + 9) 0 ∷ get_or bytes (i + 10) 0
+    ∷ get_or bytes (i + 11) 0 ∷ [])

@@ -12,8 +12,8 @@ made_for index = index.places
 abbrev pub is_long_of : RecordIndex → Bool
 is_long_of index = index.is_long
 
--- it is over these strings, each with its hash, and stays so while the records have this much room: it has an entry
--- for each string, and for no other. In a short index, four bytes reach each beginning within the room
+-- it is over these strings, each with its hash, and stays so while the records have this much room: it has an
+-- entry for each string, and for no other. In a short index, four bytes reach each beginning within the room
 pub record IsOver (xs : List (ℕ × List ℕ)) (room : ℕ) (index : RecordIndex) : Type 0 where
   pub filled : IsFilled index.lines (entries_of index.is_long xs (length xs))
   pub within : length xs ≤ made_for index

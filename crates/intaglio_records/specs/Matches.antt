@@ -24,7 +24,8 @@ begin_of is_long rs slot = cond is_long (position rs slot) slot
 abbrev pub numbers_with : ℕ → List ℕ → List ℕ → List ℕ
 numbers_with hash bytes [] = []
 numbers_with hash bytes (at ∷ ats) =
-    cond (hash_at bytes at == hash) (number_at bytes at ∷ numbers_with hash bytes ats) (numbers_with hash bytes ats)
+    cond (hash_at bytes at == hash) (number_at bytes at ∷ numbers_with hash bytes ats)
+    (numbers_with hash bytes ats)
 
 -- the numbers of the records that a search has still to give: those with the hash, where a slot says
 pub record IsLeft (xs : List (ℕ × List ℕ)) (hash : ℕ) (matches : Matches) (left : List ℕ) : Type 0 where
@@ -36,7 +37,8 @@ pub record IsLeft (xs : List (ℕ × List ℕ)) (hash : ℕ) (matches : Matches)
   pub list : map pair_of matches.records.now.list ≡ xs
   pub hash_is : matches.hash ≡ hash
   pub left_is : left
-      ≡ numbers_with hash (concat matches.records.now.list) (map (begin_of matches.is_long matches.records.now.list) slots)
+      ≡ numbers_with hash (concat matches.records.now.list)
+      (map (begin_of matches.is_long matches.records.now.list) slots)
 
 -- no more strings than this are left: it falls with each one that a search gives, so a loop over them ends
 abbrev pub most_left : Matches → ℕ

@@ -4,8 +4,8 @@ use Rattle.std.specs.Coded.{Coded, code_by, coded×, coded_ℕ, coded_list}
 use Rattle.intaglio_packed.specs.Strings.{Strings}
 use Rattle.intaglio_records.specs.Header.{hash_at, number_at}
 
--- the hashes and the strings, for how many there is room in total, the room for bytes of further strings, and how many
--- bytes of memory are held for records
+-- the hashes and the strings, for how many there is room in total, the room for bytes of further strings, and
+-- how many bytes of memory are held for records
 pub record Records : Type 0 where
   pub list : List (ℕ × List ℕ)
   pub most : ℕ
@@ -45,7 +45,8 @@ record_room_of v = 13 * v.most + string_room_of v
 abbrev pub pair_of : List ℕ → ℕ × List ℕ
 pair_of r = (hash_at r 0, drop 13 r)
 
--- a record has its number and its length in front of the string. A number of 2^32 or more doesn't fit, and is never read
+-- a record has its number and its length in front of the string. A number of 2^32 or more
+-- doesn't fit, and is never read
 pub record IsRecord (number : ℕ) (r : List ℕ) : Type 0 where
   pub long : 13 ≤ length r
   pub number_is : number_at r 0 ≡ number % 2 ^ 32

@@ -10,7 +10,8 @@ use intaglio_packed::StringBuffer;
 use intaglio_slots::Lines;
 use std::alloc::AllocError;
 
-// The slot of a record, of its number and where it begins. In a short index, the beginning is within four bytes.
+// The slot of a record, of its number and where it begins. In a short index, the
+// beginning is within four bytes.
 #[inline(always)]
 pub(crate) fn slot_for(is_long: bool, number: usize, at: usize) -> u32
     requires few { number < 2 ^ 32 }
@@ -43,7 +44,8 @@ pub(crate) fn lines_of(
     Ok(lines)
 }
 
-// Removes the entries of all records but the first `n`, the newest first. `is_long` is for the contract alone.
+// Removes the entries of all records but the first `n`, the newest first.
+// `is_long` is for the contract alone.
 pub(crate) fn remove_behind(lines: &mut Lines, records: &StringBuffer, is_long: bool, n: usize)
     requires filled { IsFilled lines.old (entries is_long records.now.list (length records.now.list)) }
     requires each { AreRecords records.now.list }

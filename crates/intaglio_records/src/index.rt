@@ -12,19 +12,19 @@ use intaglio_packed::StringBuffer;
 use intaglio_slots::Lines;
 use std::alloc::AllocError;
 
-/// An index over [`StringRecords`]: it finds strings by the hashes with which they were added. It reads the records
-/// that it is over, so each call takes them, and whoever changes them changes it too.
+/// An index over [`StringRecords`]: it finds strings by the hashes with which they were added. It reads the
+/// records that it is over, so each call takes them, and whoever changes them changes it too.
 ///
-/// It is made for a number of strings, its places, and takes about 9 bytes for each of them. Making it anew for
-/// more reads the hash of each record, and hashes nothing.
+/// It is made for a number of strings, its places, and takes about 9 bytes for each of them. Making it anew
+/// for more reads the hash of each record, and hashes nothing.
 ///
-/// A *short* index keeps where each record begins, and a search reads the record there. It can only be over short
-/// records ([`is_short`](StringRecords::is_short)). A *long* index keeps the number of each record, and a search also
-/// reads where that begins. Once the records aren't short any more, [`lengthen`](RecordIndex::lengthen) makes the
-/// index long, before it is used again.
+/// A *short* index keeps where each record begins, and a search reads the record there. It can only be over
+/// short records ([`is_short`](StringRecords::is_short)). A *long* index keeps the number of each record, and
+/// a search also reads where that begins. Once the records aren't short any more,
+/// [`lengthen`](RecordIndex::lengthen) makes the index long, before it is used again.
 ///
-/// A contract sees it through `IsOver`, which says over which list of hashes and strings it is, and for how much room
-/// of the records, and through `made_for`, its places.
+/// A contract sees it through `IsOver`, which says over which list of hashes and strings it is, and for how
+/// much room of the records, and through `made_for`, its places.
 #[derive(Drop)]
 pub struct RecordIndex {
     // An entry for each record: its hash and its slot.
@@ -36,8 +36,8 @@ pub struct RecordIndex {
 }
 
 impl RecordIndex {
-    /// An index over these records, made for this many. It reads the hash of each, and hashes nothing. With no
-    /// places it allocates nothing. It is short exactly if the records are
+    /// An index over these records, made for this many. It reads the hash of each, and hashes nothing. With
+    /// no places it allocates nothing. It is short exactly if the records are
     /// ([`is_short`](StringRecords::is_short)).
     ///
     /// # Errors
@@ -61,8 +61,8 @@ impl RecordIndex {
         })
     }
 
-    /// Makes the index long, and does nothing if it is long already. It reads the hash of each record, and hashes
-    /// nothing. The places stay. A long index is over the records whatever room these have.
+    /// Makes the index long, and does nothing if it is long already. It reads the hash of each record, and
+    /// hashes nothing. The places stay. A long index is over the records whatever room these have.
     ///
     /// # Errors
     ///
@@ -135,8 +135,8 @@ impl RecordIndex {
         None
     }
 
-    /// Reads what a search by this hash will read first: a line, and a byte of the first record that may have the
-    /// hash. So they are in the cache then. The byte itself means nothing.
+    /// Reads what a search by this hash will read first: a line, and a byte of the first record that may have
+    /// the hash. So they are in the cache then. The byte itself means nothing.
     #[inline(always)]
     pub fn touch(&self, records: &StringRecords, hash: u64) -> u8
         requires { IsOver records.now.list (record_room_of records.now) self.now }
@@ -148,8 +148,8 @@ impl RecordIndex {
         }
     }
 
-    /// Enters the string that is added to the records next, with this hash. There must be a place for it. Nothing is
-    /// allocated.
+    /// Enters the string that is added to the records next, with this hash. There must be a
+    /// place for it. Nothing is allocated.
     #[inline(always)]
     pub fn place(&mut self, records: &StringRecords, hash: u64)
         requires over { IsOver records.now.list (record_room_of records.now) self.old }

@@ -20,12 +20,12 @@ const LEAST: usize = 4;
 // The least room for bytes of strings after a growth.
 const LEAST_BYTES: usize = 8;
 
-/// A list of strings of bytes, each with a hash. All are in one buffer, so a string costs no allocation of its
-/// own. It takes its bytes and 17 more, or 21 once there is room for more than 2^32 - 1 bytes of records.
+/// A list of strings of bytes, each with a hash. All are in one buffer, so a string costs no allocation of
+/// its own. It takes its bytes and 17 more, or 21 once there is room for more than 2^32 - 1 bytes of records.
 ///
-/// A contract sees the list of pairs of a hash and a string, for how many strings there is room, and the room for
-/// bytes of further strings, without those in front of a string. [`RecordIndex`](crate::RecordIndex) finds a string
-/// by its hash.
+/// A contract sees the list of pairs of a hash and a string, for how many strings there is room, and
+/// the room for bytes of further strings, without those in front of a string.
+/// [`RecordIndex`](crate::RecordIndex) finds a string by its hash.
 #[derive(Drop)]
 pub struct StringRecords {
     records: StringBuffer,
@@ -55,7 +55,8 @@ impl Model for StringRecords {
     } };
 }
 
-// How many bytes so many records take, whose strings have so many bytes together. Fails where `usize` overflows.
+// How many bytes so many records take, whose strings have so many bytes together.
+// Fails where `usize` overflows.
 fn record_bytes(strings: usize, bytes: usize) -> Result<usize, AllocError>
     ensures sum { IfOk result (λ n. n ≡ 13 * strings + bytes) }
     ensures within { 13 * strings + bytes < 2 ^ 64 → IsOk result }
@@ -79,8 +80,8 @@ fn is_short_room(strings: usize, bytes: usize) -> bool
     }
 }
 
-// The room that is made for so many more than are used: at least twice as much as before, and at least so much. Fails
-// where `usize` overflows.
+// The room that is made for so many more than are used: at least twice as much as before, and at least so
+// much. Fails where `usize` overflows.
 fn doubled(used: usize, room: usize, more: usize, least: usize) -> Result<usize, AllocError>
     ensures room { IfOk result (λ n. n ≡ max least (max (used + more) (2 * room))) }
     ensures within { used + more < 2 ^ 64 → 2 * room < 2 ^ 64 → IsOk result }
@@ -193,8 +194,8 @@ impl StringRecords {
         self.records.byte_room() - HEADER * self.records.capacity()
     }
 
-    /// Whether the records are short: all that there is room for take at most 2^32 - 1 bytes. Then four bytes reach
-    /// the beginning of each.
+    /// Whether the records are short: all that there is room for take at most 2^32 - 1 bytes. Then four
+    /// bytes reach the beginning of each.
     #[inline]
     pub fn is_short(&self) -> bool
         ensures { IsTrue result ↔ record_room_of self.now ≤ 2 ^ 32 - 1 }
@@ -202,8 +203,8 @@ impl StringRecords {
         self.records.byte_room() <= SHORT
     }
 
-    /// Whether the records are short ([`is_short`](StringRecords::is_short)), and stay so with room for this many more
-    /// strings, made by [`reserve_strings`](StringRecords::reserve_strings).
+    /// Whether the records are short ([`is_short`](StringRecords::is_short)), and stay so with room for this
+    /// many more strings, made by [`reserve_strings`](StringRecords::reserve_strings).
     #[inline]
     pub fn stays_short(&self, strings: usize) -> bool
         ensures stays { IsTrue result →
@@ -265,7 +266,8 @@ impl StringRecords {
         read_hash(self.records.string(i), 0)
     }
 
-    /// Makes room for this many more strings, not for their bytes. If the room has to grow, it at least doubles.
+    /// Makes room for this many more strings, not for their bytes. If the room
+    /// has to grow, it at least doubles.
     ///
     /// # Errors
     ///
@@ -357,7 +359,8 @@ impl StringRecords {
     ///
     /// # Errors
     ///
-    /// [`AllocError`] if an allocation fails. Then more room for strings or more memory is left, as before at most.
+    /// [`AllocError`] if an allocation fails. Then more room for strings or more
+    /// memory is left, as before at most.
     pub fn shrink_to(&mut self, min_capacity: usize) -> Result<(), AllocError>
         ensures list { self.new.list ≡ self.old.list }
         ensures most { min min_capacity self.old.most ≤ self.new.most }

@@ -11,9 +11,13 @@ use Rattle.intaglio_slots.proofs.Tops.{first-other, first-here, first-full, over
 
 -- an entry in the middle
 inserted : (one front behind : List ℕ) → IsPermutation (one ++ (front ++ behind)) ((front ++ one) ++ behind)
-inserted one front behind = subst (λ xs. IsPermutation xs ((front ++ one) ++ behind)) (append_assoc one front behind) (IsPermutation-append_left behind (one ++ front) (front ++ one) (IsPermutation-append_comm one front))
+inserted one front behind =
+    subst (λ xs. IsPermutation xs ((front ++ one) ++ behind)) (append_assoc one front behind)
+    (IsPermutation-append_left behind (one ++ front) (front ++ one) (IsPermutation-append_comm one front))
 
-slots-other : (k c tag : ℕ) (e : Entry) (os : List Overflow) → k ≢ c → overflow_slots k tag (add c e os) ≡ overflow_slots k tag os
+-- an entry that is added to an overflow line of one class doesn't change the overflow slots of another
+slots-other : (k c tag : ℕ) (e : Entry) (os : List Overflow) → k ≢ c →
+    overflow_slots k tag (add c e os) ≡ overflow_slots k tag os
 slots-other k c tag e [] other = refl
 slots-other k c tag e (o ∷ os) other =
     elim (eqb_tells o.0 c) [
@@ -28,7 +32,9 @@ slots-other k c tag e (o ∷ os) other =
 abbrev one_of : ℕ → Entry → List ℕ
 one_of tag e = cond (tag_of e.0 == tag) (e.1 ∷ []) []
 
-slots-here : (base c tag : ℕ) (e : Entry) (os : List Overflow) → 0 < newest base c os → IsPermutation (one_of tag e ++ overflow_slots c tag os) (overflow_slots c tag (add c e os))
+-- an entry that is added to an overflow line of its class adds its slot to those there, if it has the tag
+slots-here : (base c tag : ℕ) (e : Entry) (os : List Overflow) → 0 < newest base c os →
+    IsPermutation (one_of tag e ++ overflow_slots c tag os) (overflow_slots c tag (add c e os))
 slots-here base c tag e [] some = absurd (omega (arith, some))
 slots-here base c tag e (o ∷ os) some =
     elim (eqb_tells o.0 c) [
@@ -36,7 +42,9 @@ slots-here base c tag e (o ∷ os) some =
       | inr h ↦ rw (h.0, h.0) (slots-here base c tag e os (rw h.0 at some))
     ]
 
-overflow_slots-other : (base k tag : ℕ) (e : Entry) (es : List Entry) → k ≢ e.0 % base → overflow_slots k tag (overflow base (e ∷ es)) ≡ overflow_slots k tag (overflow base es)
+-- one more entry doesn't change the overflow slots of another class
+overflow_slots-other : (base k tag : ℕ) (e : Entry) (es : List Entry) → k ≢ e.0 % base →
+    overflow_slots k tag (overflow base (e ∷ es)) ≡ overflow_slots k tag (overflow base es)
 overflow_slots-other base k tag e es other =
     let c = e.0 % base in let os = overflow base es in
     elim (cases_lt (length (first_line base c es)) 11) [
@@ -45,7 +53,8 @@ overflow_slots-other base k tag e es other =
         | inl lt ↦ ap (overflow_slots k tag) (overflow-add base e es full lt) ∙ slots-other k c tag e os other
         | inr none ↦
             ap (overflow_slots k tag) (overflow-new base e es full none)
-            ∙ cond-false (c == k) (slots_with tag (e ∷ []) ++ overflow_slots k tag os) (overflow_slots k tag os) (ne_eqb c k (λ same. other (sym same)))
+            ∙ cond-false (c == k) (slots_with tag (e ∷ []) ++ overflow_slots k tag os)
+            (overflow_slots k tag os) (ne_eqb c k (λ same. other (sym same)))
       ]
     ]
 
@@ -53,53 +62,73 @@ overflow_slots-other base k tag e es other =
 abbrev found : ℕ → ℕ → ℕ → List Entry → List ℕ
 found base c tag es = slots_with tag (first_line base c es) ++ overflow_slots c tag (overflow base es)
 
-found-other : (base k tag : ℕ) (e : Entry) (es : List Entry) → k ≢ e.0 % base → found base k tag (e ∷ es) ≡ found base k tag es
+-- one more entry doesn't change the slots of another class
+found-other : (base k tag : ℕ) (e : Entry) (es : List Entry) → k ≢ e.0 % base →
+    found base k tag (e ∷ es) ≡ found base k tag es
 found-other base k tag e es other =
-    ap (λ xs. slots_with tag xs ++ overflow_slots k tag (overflow base (e ∷ es))) (first-other base k e es other)
+    ap (λ xs. slots_with tag xs ++ overflow_slots k tag (overflow base (e ∷ es)))
+    (first-other base k e es other)
     ∙ ap (λ xs. slots_with tag (first_line base k es) ++ xs) (overflow_slots-other base k tag e es other)
 
 -- behind a first line that is full
-found_behind : (base tag : ℕ) (e : Entry) (es : List Entry) (behind : List ℕ) → 11 ≤ length (first_line base (e.0 % base) es) → overflow_slots (e.0 % base) tag (overflow base (e ∷ es)) ≡ behind →
-    IsPermutation (one_of tag e ++ overflow_slots (e.0 % base) tag (overflow base es)) behind → IsPermutation (one_of tag e ++ found base (e.0 % base) tag es) (found base (e.0 % base) tag (e ∷ es))
-found_behind base tag e es behind full is perm =
+found-behind : (base tag : ℕ) (e : Entry) (es : List Entry) (behind : List ℕ) →
+    11 ≤ length (first_line base (e.0 % base) es) →
+    overflow_slots (e.0 % base) tag (overflow base (e ∷ es)) ≡ behind →
+    IsPermutation (one_of tag e ++ overflow_slots (e.0 % base) tag (overflow base es)) behind →
+    IsPermutation (one_of tag e ++ found base (e.0 % base) tag es) (found base (e.0 % base) tag (e ∷ es))
+found-behind base tag e es behind full is perm =
     let c = e.0 % base in
     let front = slots_with tag (first_line base c es) in
     let rest = overflow_slots c tag (overflow base es) in
     let whole : found base c tag (e ∷ es) ≡ front ++ behind =
-    ap (λ xs. slots_with tag xs ++ overflow_slots c tag (overflow base (e ∷ es))) (first-full base e es full c) ∙ ap (λ xs. front ++ xs) is in
+    ap (λ xs. slots_with tag xs ++ overflow_slots c tag (overflow base (e ∷ es)))
+    (first-full base e es full c) ∙ ap (λ xs. front ++ xs) is in
     subst (λ xs. IsPermutation (one_of tag e ++ (front ++ rest)) xs) (sym whole)
     (IsPermutation-trans (one_of tag e ++ (front ++ rest)) (front ++ (one_of tag e ++ rest)) (front ++ behind)
-    (subst (λ xs. IsPermutation (one_of tag e ++ (front ++ rest)) xs) (append_assoc front (one_of tag e) rest) (inserted (one_of tag e) front rest))
+    (subst (λ xs. IsPermutation (one_of tag e ++ (front ++ rest)) xs) (append_assoc front (one_of tag e) rest)
+    (inserted (one_of tag e) front rest))
     (IsPermutation-append_right front (one_of tag e ++ rest) behind perm))
 
-found_new : (base tag : ℕ) (e : Entry) (es : List Entry) → 11 ≤ length (first_line base (e.0 % base) es) → 11 ≤ newest_length (e.0 % base) (overflow base es) →
+-- an entry that makes a new overflow line adds its slot to those of its class, if it has the tag
+found-new : (base tag : ℕ) (e : Entry) (es : List Entry) → 11 ≤ length (first_line base (e.0 % base) es) →
+    11 ≤ newest_length (e.0 % base) (overflow base es) →
     IsPermutation (one_of tag e ++ found base (e.0 % base) tag es) (found base (e.0 % base) tag (e ∷ es))
-found_new base tag e es full none =
+found-new base tag e es full none =
     let c = e.0 % base in let os = overflow base es in
-    found_behind base tag e es (one_of tag e ++ overflow_slots c tag os) full
-    (ap (overflow_slots c tag) (overflow-new base e es full none) ∙ cond-true (c == c) (one_of tag e ++ overflow_slots c tag os) (overflow_slots c tag os) (eq-eqb c c refl))
+    found-behind base tag e es (one_of tag e ++ overflow_slots c tag os) full
+    (ap (overflow_slots c tag) (overflow-new base e es full none)
+    ∙ cond-true (c == c) (one_of tag e ++ overflow_slots c tag os) (overflow_slots c tag os)
+    (eq-eqb c c refl))
     (IsPermutation-refl (one_of tag e ++ overflow_slots c tag os))
 
-found-here : (base tag : ℕ) (e : Entry) (es : List Entry) → 0 < base → IsPermutation (one_of tag e ++ found base (e.0 % base) tag es) (found base (e.0 % base) tag (e ∷ es))
+-- if there is a first line, one more entry adds its slot to those of its class, if it has the tag
+found-here : (base tag : ℕ) (e : Entry) (es : List Entry) → 0 < base →
+    IsPermutation (one_of tag e ++ found base (e.0 % base) tag es) (found base (e.0 % base) tag (e ∷ es))
 found-here base tag e es some =
     let c = e.0 % base in let os = overflow base es in
     elim (is-top base c es some) [
       | inl h ↦ elim (cases_lt (length (first_line base c es)) 11) [
         | inl lt ↦
-            (let whole : found base c tag (e ∷ es) ≡ (slots_with tag (first_line base c es) ++ one_of tag e) ++ overflow_slots c tag os =
-            ap (λ xs. slots_with tag xs ++ overflow_slots c tag (overflow base (e ∷ es))) (first-here base e es lt)
-            ∙ ap (λ xs. (slots_with tag (first_line base c es) ++ one_of tag e) ++ overflow_slots c tag xs) (overflow-same base e es lt) in
-            subst (λ xs. IsPermutation (one_of tag e ++ found base c tag es) xs) (sym whole) (inserted (one_of tag e) (slots_with tag (first_line base c es)) (overflow_slots c tag os)))
-        | inr full ↦ found_new base tag e es full (omega (arith, length-none base c os some h.0))
+            (let whole : found base c tag (e ∷ es) ≡ (slots_with tag (first_line base c es) ++ one_of tag e)
+            ++ overflow_slots c tag os =
+            ap (λ xs. slots_with tag xs ++ overflow_slots c tag (overflow base (e ∷ es)))
+            (first-here base e es lt)
+            ∙ ap (λ xs. (slots_with tag (first_line base c es) ++ one_of tag e) ++ overflow_slots c tag xs)
+            (overflow-same base e es lt) in
+            subst (λ xs. IsPermutation (one_of tag e ++ found base c tag es) xs) (sym whole)
+            (inserted (one_of tag e) (slots_with tag (first_line base c es)) (overflow_slots c tag os)))
+        | inr full ↦ found-new base tag e es full (omega (arith, length-none base c os some h.0))
       ]
       | inr h ↦ elim (cases_lt (newest_length c os) 11) [
         | inl lt ↦
-            found_behind base tag e es (overflow_slots c tag (add c e os)) (omega (arith, h.1)) (ap (overflow_slots c tag) (overflow-add base e es (omega (arith, h.1)) lt))
+            found-behind base tag e es (overflow_slots c tag (add c e os)) (omega (arith, h.1))
+            (ap (overflow_slots c tag) (overflow-add base e es (omega (arith, h.1)) lt))
             (slots-here base c tag e os h.0)
-        | inr none ↦ found_new base tag e es (omega (arith, h.1)) none
+        | inr none ↦ found-new base tag e es (omega (arith, h.1)) none
       ]
     ]
 
+-- if there is a first line, a search by a hash gives the slot of each entry of its class and tag once
 pub are-found : (base hash : ℕ) (es : List Entry) → 0 < base → AreFound base hash es
 are-found base hash [] some = IsPermutation-refl []
 are-found base hash (e ∷ es) some =
@@ -108,13 +137,17 @@ are-found base hash (e ∷ es) some =
     elim (cases_eq k (e.0 % base)) [
       | inr other ↦
           (let apart = ne_eqb (e.0 % base) k (λ same. other (sym same)) in
-          subst (λ xs. IsPermutation (slots_of base hash (e ∷ es)) xs) (sym (found-other base k tag e es other)) (rw apart old))
+          subst (λ xs. IsPermutation (slots_of base hash (e ∷ es)) xs)
+          (sym (found-other base k tag e es other)) (rw apart old))
       | inl same ↦
           (let one : slots_of base hash (e ∷ es) ≡ one_of tag e ++ slots_of base hash es =
-          ap (λ b. cond (b && (tag_of e.0 == tag)) (e.1 ∷ []) [] ++ slots_of base hash es) (eq-eqb (e.0 % base) k (sym same)) in
+          ap (λ b. cond (b && (tag_of e.0 == tag)) (e.1 ∷ []) [] ++ slots_of base hash es)
+          (eq-eqb (e.0 % base) k (sym same)) in
           let here : IsPermutation (one_of tag e ++ found base k tag es) (found base k tag (e ∷ es)) =
-          subst (λ n. IsPermutation (one_of tag e ++ found base n tag es) (found base n tag (e ∷ es))) (sym same) (found-here base tag e es some) in
+          subst (λ n. IsPermutation (one_of tag e ++ found base n tag es) (found base n tag (e ∷ es)))
+          (sym same) (found-here base tag e es some) in
           subst (λ xs. IsPermutation xs (found base k tag (e ∷ es))) (sym one)
-          (IsPermutation-trans (one_of tag e ++ slots_of base hash es) (one_of tag e ++ found base k tag es) (found base k tag (e ∷ es))
+          (IsPermutation-trans (one_of tag e ++ slots_of base hash es) (one_of tag e ++ found base k tag es)
+          (found base k tag (e ∷ es))
           (IsPermutation-append_right (one_of tag e) (slots_of base hash es) (found base k tag es) old) here))
     ]

@@ -12,8 +12,10 @@ rounded-within n p power least le =
       | inr high ↦ elim (cases_lt 29 power.0) [
         | inr same ↦ let at : power.0 ≡ 29 = omega arith in rw (power.1, at) (omega arith)
         | inl higher ↦ elim (cases_lt 30 power.0) [
-          | inl above ↦ let large : 2 ^ 30 < 2 ^ power.0 = pow-lt above in absurd (omega (arith, power.1, large, least, le))
-          | inr next ↦ let at : power.0 ≡ 30 = omega arith in let is : p ≡ 2 ^ 30 = rw (power.1, at) (omega arith) in absurd (omega (arith, is, least, le))
+          | inl above ↦ let large : 2 ^ 30 < 2 ^ power.0 = pow-lt above in
+              absurd (omega (arith, power.1, large, least, le))
+          | inr next ↦ let at : power.0 ≡ 30 = omega arith in let is : p ≡ 2 ^ 30 =
+              rw (power.1, at) (omega arith) in absurd (omega (arith, is, least, le))
         ]
       ]
     ]

@@ -52,7 +52,8 @@ AreBehind base lines (o ∷ os) =
     IsLine (get_or lines (base + length os) no_line) o.1 (newest base o.0 os) × AreBehind base lines os
 
 -- the first lines of the chains, and the overflow lines behind them. A first line leads to the newest one
-pub record AreChains (base : ℕ) (lines : List Line) (firsts : ℕ → List Entry) (os : List Overflow) : Type 0 where
+pub record AreChains (base : ℕ) (lines : List Line) (firsts : ℕ →
+    List Entry) (os : List Overflow) : Type 0 where
   pub size : length lines ≡ base + length os
   pub firsts_are : (c : ℕ) → c < base → IsLine (get_or lines c no_line) (firsts c) (newest base c os)
   pub behind : AreBehind base lines os

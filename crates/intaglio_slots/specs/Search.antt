@@ -79,7 +79,8 @@ LeavesAll old new = (left : List ℕ) → IsLeft old left → IsLeft new left
 abbrev pub GivesNext : Candidates → Option ℕ → Candidates → Type 0
 GivesNext old result new =
     (left : List ℕ) → IsLeft old left →
-    MatchOption result ((left ≡ []) × IsLeft new left) (λ slot. (rest : List ℕ) × (left ≡ slot ∷ rest) × IsLeft new rest)
+    MatchOption result ((left ≡ []) × IsLeft new left) (λ slot. (rest : List ℕ) × (left ≡ slot ∷ rest)
+    × IsLeft new rest)
 
 -- how many of the first n bits are set
 abbrev pub bits_below : ℕ → ℕ → ℕ

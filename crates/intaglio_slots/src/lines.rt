@@ -11,11 +11,11 @@ use std::alloc::{AllocError, Global};
 
 /// Entries of a hash and a slot, found by the hash.
 ///
-/// Two hashes are of one class if they are equal modulo the number of first lines. Each class has a first line,
-/// which has the oldest of its entries, at most eleven. The others are in overflow lines of the class: the first
-/// line leads to the newest of these, and each to the one before it. So placing an entry and removing the newest
-/// one read two lines at most, also if all hashes are equal. There are at most as many overflow lines as an
-/// eleventh of the entries, and the memory for them is allocated with the first lines.
+/// Two hashes are of one class if they are equal modulo the number of first lines. Each class has a first
+/// line, which has the oldest of its entries, at most eleven. The others are in overflow lines of the class:
+/// the first line leads to the newest of these, and each to the one before it. So placing an entry and
+/// removing the newest one read two lines at most, also if all hashes are equal. There are at most as many
+/// overflow lines as an eleventh of the entries, and the memory for them is allocated with the first lines.
 #[derive(Drop)]
 pub struct Lines {
     lines: Vec<Line>,

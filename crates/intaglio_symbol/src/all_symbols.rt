@@ -17,8 +17,8 @@ use std::marker::Model;
 /// The symbols of a table that are not yet yielded, in increasing order.
 ///
 /// A contract sees it as the list of their numbers. Two iterators are equal exactly if the same symbols are
-/// left, so all exhausted ones are equal; equal ones hash alike. After the last symbol, `next` and `next_back`
-/// return `None`. There is no `len`; `size_hint` is exact.
+/// left, so all exhausted ones are equal; equal ones hash alike. After the last symbol, `next` and
+/// `next_back` return `None`. There is no `len`; `size_hint` is exact.
 #[derive(Drop)]
 pub struct AllSymbols<'a> {
     // The number of the next symbol from the front. Like `back`, it can be one more than `u32::MAX`.

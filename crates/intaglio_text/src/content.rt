@@ -26,8 +26,8 @@ pub type StrKind = Utf8<AsText>;
 /// The kind of OS strings.
 pub type OsStrKind = Utf8<AsOsStr>;
 
-/// A text that a table stores: a `&'static str` or a `String`. Its spelling is its UTF-8 bytes, and its key is
-/// that one item.
+/// A text that a table stores: a `&'static str` or a `String`. Its spelling is its UTF-8
+/// bytes, and its key is that one item.
 pub type StrContent = ContentOf<StrKind>;
 
 /// An OS string that a table stores: a `&'static str` or a `String`.

@@ -166,8 +166,8 @@ impl<C: Stored> CheckedTable<C> {
         }
     }
 
-    // The reply of a run of this call alone. If the list of calls or that of replies can't be allocated, no call
-    // was made.
+    // The reply of a run of this call alone. If the list of calls or that of replies can't
+    // be allocated, no call was made.
     fn replied(&mut self, alloc: Global, ask: Ask<C>) -> Reply {
         let Ok(mut calls) = Vec::with_capacity(alloc, 1) else {
             return Reply::NoMemory;

@@ -63,8 +63,9 @@ impl FormCall {
     }
 }
 
-/// The name that is printed for a call without a form. Std's own shrink of a list doesn't report a failed allocation,
-/// and the list then keeps its capacity, so no call reports it if the last request of a shrink is refused.
+/// The name that is printed for a call without a form. Std's own shrink of a list doesn't report
+/// a failed allocation, and the list then keeps its capacity, so no call reports it if the last
+/// request of a shrink is refused.
 pub fn update_name(update: Update) -> &'static str {
     match update {
         Update::Reserve(_) | Update::TryReserve(_) => "reserve",

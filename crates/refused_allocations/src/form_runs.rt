@@ -186,7 +186,8 @@ where
     outcome.is_right() && is_list(course, table, forms)
 }
 
-// After a failure the table is still the list, its capacity isn't lower, and no other call of the run has failed.
+// After a failure the table is still the list, its capacity isn't lower, and no
+// other call of the run has failed.
 fn make_once<'q, L: Tried + LookedUpIn<'q>>(
     rt: &(impl Eprint + AllocGlobal),
     course: &mut Course<L::Owned>,

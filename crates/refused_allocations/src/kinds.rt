@@ -9,7 +9,7 @@ use intaglio::packed::bytes::BytesKind;
 use intaglio::packed::osstr::OsStrKind;
 use intaglio::packed::path::PathKind;
 use intaglio::path::PathContent;
-use intaglio::{ContentOf, StrContent, Symbol, Table};
+use intaglio::{ContentOf, KindForm, StrContent, Symbol, Table};
 use intaglio_cstr::CStrKind;
 use test_support::builders::Fold;
 use test_support::contents::{KindOfSpelling, OfSpelling};
@@ -35,38 +35,47 @@ impl<K: StoredKind> Stored for ContentOf<K> {
     }
 }
 
+// The prover takes seconds wherever a table of one kind is passed to a call of any
+// table: here it is one of any kind.
+fn looked_up<'a, K: KindForm<'a>>(
+    content: &'a ContentOf<K>,
+    table: &FixedTable<ContentOf<K>>,
+) -> Option<Symbol> {
+    table.check_interned(content.form())
+}
+
 impl StoredKind for StrKind {
     fn check_in(content: &StrContent, table: &FixedTable<StrContent>) -> Option<Symbol> {
-        table.check_interned(content.form())
+        looked_up(content, table)
     }
 }
 
 impl StoredKind for OsStrKind {
     fn check_in(content: &OsStrContent, table: &FixedTable<OsStrContent>) -> Option<Symbol> {
-        table.check_interned(content.form())
+        looked_up(content, table)
     }
 }
 
 impl StoredKind for PathKind {
     fn check_in(content: &PathContent, table: &FixedTable<PathContent>) -> Option<Symbol> {
-        table.check_interned(content.form())
+        looked_up(content, table)
     }
 }
 
 impl StoredKind for BytesKind {
     fn check_in(content: &BytesContent, table: &FixedTable<BytesContent>) -> Option<Symbol> {
-        table.check_interned(content.form())
+        looked_up(content, table)
     }
 }
 
 impl StoredKind for BStrKind {
     fn check_in(content: &BStrContent, table: &FixedTable<BStrContent>) -> Option<Symbol> {
-        table.check_interned(content.form())
+        looked_up(content, table)
     }
 }
 
 impl StoredKind for CStrKind {
     fn check_in(content: &CStrContent, table: &FixedTable<CStrContent>) -> Option<Symbol> {
-        table.check_interned(content.form())
+        looked_up(content, table)
     }
 }

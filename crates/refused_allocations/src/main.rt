@@ -1,5 +1,5 @@
-//! Makes fixed runs of calls on each table, of owned contents and in one buffer, and compares every result
-//! with that of a list made before.
+//! Makes fixed runs of calls on each table of owned contents and on each table in one buffer. It compares
+//! every result with that of a list which was made before.
 //!
 //! It prints each call to standard error before it makes it, and each failure for memory that a call reports,
 //! so that a harness that refuses requests for memory sees which call reported which. Without arguments it
@@ -28,21 +28,21 @@ use checked_table::CallStyle;
 use constructors::make_all;
 use fault::Fault;
 use form_runs::{watch_forms, watch_quiet};
-use intaglio::packed::Packed;
-use intaglio::{Content, ContentOf, LookedUpIn, SoughtIn};
+use intaglio::packed::{Packed, PackedForm};
+use intaglio::{ContentOf, KindForm};
 use intaglio_bytes::b_str::BStrKind;
 use intaglio_bytes::bytes::BytesKind;
 use intaglio_cstr::CStrKind;
 use intaglio_path::PathKind;
 use intaglio_text::StrKind;
 use intaglio_text::osstr::OsStrKind;
-use kinds::Stored;
+use kinds::{Stored, StoredKind};
 use rows::{intern_first, without_memory};
 use runs::{Calls, watch};
 use std::env;
 use std::process::ExitCode;
 use std::rt::Env;
-use stores::Tried;
+use test_support::contents::KindOfSpelling;
 use words::OfDigits;
 
 const TABLES: [&str; 6] = ["text", "osstr", "path", "bytes", "bstr", "cstr"];
@@ -113,12 +113,12 @@ fn one(rt: &(impl Eprint + AllocGlobal), table: &str, run: &str) -> Result<(), F
         return forms(rt, table);
     }
     match table {
-        "text" => on::<ContentOf<StrKind>>(rt, run),
-        "osstr" => on::<ContentOf<OsStrKind>>(rt, run),
-        "path" => on::<ContentOf<PathKind>>(rt, run),
-        "bytes" => on::<ContentOf<BytesKind>>(rt, run),
-        "bstr" => on::<ContentOf<BStrKind>>(rt, run),
-        "cstr" => on::<ContentOf<CStrKind>>(rt, run),
+        "text" => on_kind::<StrKind>(rt, run),
+        "osstr" => on_kind::<OsStrKind>(rt, run),
+        "path" => on_kind::<PathKind>(rt, run),
+        "bytes" => on_kind::<BytesKind>(rt, run),
+        "bstr" => on_kind::<BStrKind>(rt, run),
+        "cstr" => on_kind::<CStrKind>(rt, run),
         "rows" => row(rt, run),
         _ => one_packed(rt, table, run),
     }
@@ -127,12 +127,12 @@ fn one(rt: &(impl Eprint + AllocGlobal), table: &str, run: &str) -> Result<(), F
 // Calls by borrowed forms on one table.
 fn forms(rt: &(impl Eprint + AllocGlobal), table: &str) -> Result<(), Fault> {
     match table {
-        "text" => watch_forms::<Vec<ContentOf<StrKind>>>(rt),
-        "osstr" => watch_forms::<Vec<ContentOf<OsStrKind>>>(rt),
-        "path" => watch_forms::<Vec<ContentOf<PathKind>>>(rt),
-        "bytes" => watch_forms::<Vec<ContentOf<BytesKind>>>(rt),
-        "bstr" => watch_forms::<Vec<ContentOf<BStrKind>>>(rt),
-        "cstr" => watch_forms::<Vec<ContentOf<CStrKind>>>(rt),
+        "text" => forms_of_kind::<StrKind>(rt),
+        "osstr" => forms_of_kind::<OsStrKind>(rt),
+        "path" => forms_of_kind::<PathKind>(rt),
+        "bytes" => forms_of_kind::<BytesKind>(rt),
+        "bstr" => forms_of_kind::<BStrKind>(rt),
+        "cstr" => forms_of_kind::<CStrKind>(rt),
         _ => one_packed(rt, table, "forms"),
     }
 }
@@ -140,11 +140,11 @@ fn forms(rt: &(impl Eprint + AllocGlobal), table: &str) -> Result<(), Fault> {
 // One run on one table in one buffer.
 fn one_packed(rt: &(impl Eprint + AllocGlobal), table: &str, run: &str) -> Result<(), Fault> {
     match table {
-        "packed_text" => on_packed::<Packed<StrKind>>(rt, run),
-        "packed_osstr" => on_packed::<Packed<OsStrKind>>(rt, run),
-        "packed_path" => on_packed::<Packed<PathKind>>(rt, run),
-        "packed_bytes" => on_packed::<Packed<BytesKind>>(rt, run),
-        "packed_bstr" => on_packed::<Packed<BStrKind>>(rt, run),
+        "packed_text" => on_packed::<StrKind>(rt, run),
+        "packed_osstr" => on_packed::<OsStrKind>(rt, run),
+        "packed_path" => on_packed::<PathKind>(rt, run),
+        "packed_bytes" => on_packed::<BytesKind>(rt, run),
+        "packed_bstr" => on_packed::<BStrKind>(rt, run),
         _ => Err(Fault::Words),
     }
 }
@@ -152,27 +152,39 @@ fn one_packed(rt: &(impl Eprint + AllocGlobal), table: &str, run: &str) -> Resul
 // The rows whose texts are given.
 fn row(rt: &(impl Eprint + AllocGlobal), run: &str) -> Result<(), Fault> {
     match run {
-        "calls" => intern_first(rt),
+        "calls" => intern_first::<StrKind>(rt),
         "absorb" => absorb_each(rt),
         "no_memory" => without_memory(rt),
         _ => Err(Fault::Words),
     }
 }
 
-fn on_packed<'q, L: Tried + LookedUpIn<'q>>(
+// Calls by borrowed forms on a table of owned contents.
+fn forms_of_kind<'q, K: KindForm<'q> + KindOfSpelling>(
+    rt: &(impl Eprint + AllocGlobal),
+) -> Result<(), Fault>
+where
+    K::Form: OfDigits,
+{
+    watch_forms::<Vec<ContentOf<K>>>(rt)
+}
+
+fn on_packed<'q, K: PackedForm<'q> + KindOfSpelling>(
     rt: &(impl Eprint + AllocGlobal),
     run: &str,
 ) -> Result<(), Fault>
 where
-    L::By: OfDigits,
-    L::Content: Content + SoughtIn<L> + Drop,
-    L::Prepared: Drop,
+    K::Form: OfDigits,
 {
     match run {
-        "forms" => watch_forms::<L>(rt),
-        "no_memory" => watch_quiet::<L>(rt),
+        "forms" => watch_forms::<Packed<K>>(rt),
+        "no_memory" => watch_quiet::<Packed<K>>(rt),
         _ => Err(Fault::Words),
     }
+}
+
+fn on_kind<K: StoredKind>(rt: &(impl Eprint + AllocGlobal), run: &str) -> Result<(), Fault> {
+    on::<ContentOf<K>>(rt, run)
 }
 
 fn on<C: Stored>(rt: &(impl Eprint + AllocGlobal), run: &str) -> Result<(), Fault> {

@@ -1,41 +1,62 @@
 //! Runs of a few calls on tables of texts, with the texts and the results of docs/TESTS.md.
+//!
+//! The prover takes seconds wherever a table of one kind is passed to a call of any table, so
+//! most functions are over any kind.
 use crate::checked_table::tell;
 use crate::fault::Fault;
-use intaglio::{InternError, Mark, StrContent, Symbol, SymbolTable};
+use intaglio::packed::StrKind;
+use intaglio::{
+    ContentOf, InternError, KindForm, KindOwned, Mark, StrContent, Symbol, SymbolTable, Table,
+};
 use std::alloc::Global;
 use std::hash::BuildHasher;
-use test_support::builders::Counted;
+use test_support::builders::{Counted, Fold};
 
 const NEW: [&str; 10] = ["b", "c", "d", "e", "f", "g", "h", "i", "j", "k"];
 
 const EQUAL: [&str; 10] = ["e0", "e1", "e2", "e3", "e4", "e5", "e6", "e7", "e8", "e9"];
 
 /// Interns a text into a table of capacity 0, and again if that failed: the table is then empty.
-pub fn intern_first(rt: &(impl Eprint + AllocGlobal)) -> Result<(), Fault> {
+pub fn intern_first<K: KindOwned>(rt: &(impl Eprint + AllocGlobal)) -> Result<(), Fault>
+where
+    ContentOf<K>: From<&'static str>,
+{
     tell(rt, "table", 0);
-    match SymbolTable::with_capacity(rt.alloc(), 0) {
-        Ok(mut table) => intern_abc(rt, &mut table),
+    match Table::<ContentOf<K>, Fold>::with_capacity(rt.alloc(), 0) {
+        Ok(mut table) => intern_abc::<K>(rt, &mut table),
         Err(_) => Err(Fault::Answer(0)),
     }
 }
 
-fn intern_abc(rt: &impl Eprint, table: &mut SymbolTable) -> Result<(), Fault> {
+fn intern_abc<K: KindOwned>(
+    rt: &impl Eprint,
+    table: &mut Table<ContentOf<K>, Fold>,
+) -> Result<(), Fault>
+where
+    ContentOf<K>: From<&'static str>,
+{
     tell(rt, "intern", 1);
-    match table.intern(StrContent::from("abc")) {
+    match table.intern(ContentOf::<K>::from("abc")) {
         Err(InternError::Memory(_)) => {
             tell(rt, "refused", 1);
-            intern_again(rt, table)
+            intern_again::<K>(rt, table)
         }
         answer => sees(is_symbol(answer, 0), 1),
     }
 }
 
-fn intern_again(rt: &impl Eprint, table: &mut SymbolTable) -> Result<(), Fault> {
+fn intern_again<K: KindOwned>(
+    rt: &impl Eprint,
+    table: &mut Table<ContentOf<K>, Fold>,
+) -> Result<(), Fault>
+where
+    ContentOf<K>: From<&'static str>,
+{
     if table.len() != 0 {
         return Err(Fault::State(1));
     }
     tell(rt, "intern", 2);
-    sees(is_symbol(table.intern(StrContent::from("abc")), 0), 2)
+    sees(is_symbol(table.intern(ContentOf::<K>::from("abc")), 0), 2)
 }
 
 /// Makes three tables. From the line `none` on, it makes only calls that allocate nothing.
@@ -62,9 +83,9 @@ struct Tables {
 
 impl Tables {
     fn make(alloc: Global) -> Result<Tables, Fault> {
-        let roomy = made(SymbolTable::with_capacity(alloc, 1))?;
-        let usual = made(SymbolTable::new(alloc))?;
-        let equal = made(SymbolTable::with_hasher(alloc, Counted::new(Some(7))))?;
+        let roomy = roomy_table::<StrKind>(alloc)?;
+        let usual = usual_table::<StrKind>(alloc)?;
+        let equal = equal_table::<StrKind>(alloc)?;
         Ok(Tables {
             roomy,
             usual,
@@ -73,31 +94,54 @@ impl Tables {
     }
 
     fn fill(&mut self) -> bool {
-        makes_room(&mut self.roomy)
-            && is_symbol(self.usual.intern(StrContent::from("abc")), 0)
-            && interns(&mut self.equal, &EQUAL, 0)
+        makes_room::<StrKind>(&mut self.roomy)
+            && interns::<StrKind, _>(&mut self.usual, &["abc"], 0)
+            && interns::<StrKind, _>(&mut self.equal, &EQUAL, 0)
     }
 
     fn take_more(&mut self, owned: StrContent) -> bool {
-        interns(&mut self.roomy, &NEW, 1)
-            && is_symbol(self.usual.intern(owned), 0)
+        interns::<StrKind, _>(&mut self.roomy, &NEW, 1)
+            && finds_owned::<StrKind>(&mut self.usual, owned)
             && lends(&self.usual, "abc", 0)
-            && keeps_four(&mut self.equal)
+            && keeps_four::<StrKind>(&mut self.equal, &EQUAL)
     }
 }
 
+fn roomy_table<K: KindOwned>(alloc: Global) -> Result<Table<ContentOf<K>, Fold>, Fault> {
+    made(Table::with_capacity(alloc, 1))
+}
+
+fn usual_table<K: KindOwned>(alloc: Global) -> Result<Table<ContentOf<K>, Fold>, Fault> {
+    made(Table::new(alloc))
+}
+
+fn equal_table<K: KindOwned>(alloc: Global) -> Result<Table<ContentOf<K>, Counted>, Fault> {
+    made(Table::with_hasher(alloc, Counted::new(Some(7))))
+}
+
+// Whether a content that is interned again gets the first symbol.
+fn finds_owned<K: KindOwned>(table: &mut Table<ContentOf<K>, Fold>, owned: ContentOf<K>) -> bool {
+    is_symbol(table.intern(owned), 0)
+}
+
 // Interns a text, and reserves for ten more.
-fn makes_room(table: &mut SymbolTable) -> bool {
-    is_symbol(table.intern(StrContent::from("abc")), 0)
+fn makes_room<K: KindOwned>(table: &mut Table<ContentOf<K>, Fold>) -> bool
+where
+    ContentOf<K>: From<&'static str>,
+{
+    is_symbol(table.intern(ContentOf::<K>::from("abc")), 0)
         && table.reserve(10).is_ok()
         && table.capacity() >= 11
 }
 
 // Takes back all but the first four of the texts with equal hashes.
-fn keeps_four(table: &mut SymbolTable<Counted>) -> bool {
+fn keeps_four<'q, K: KindForm<'q>>(
+    table: &mut Table<ContentOf<K>, Counted>,
+    forms: &[K::Form],
+) -> bool {
     table.take_back(Mark::new(4)).is_ok()
         && table.capacity() == 4096
-        && finds_first(table, &EQUAL, 4)
+        && finds_first::<K>(table, forms, 4)
 }
 
 fn made<T, E: Drop>(table: Result<T, E>) -> Result<T, Fault> {
@@ -123,27 +167,38 @@ fn is_symbol(answer: Result<Symbol, InternError>, number: u32) -> bool {
 }
 
 // Interns borrowed texts, which should get the symbols from this number on.
-fn interns<S: BuildHasher>(table: &mut SymbolTable<S>, texts: &[&'static str], from: u32) -> bool {
+fn interns<K: KindOwned, S: BuildHasher>(
+    table: &mut Table<ContentOf<K>, S>,
+    texts: &[&'static str],
+    from: u32,
+) -> bool
+where
+    ContentOf<K>: From<&'static str>,
+{
     let mut is_right = true;
     for (number, text) in (from..u32::MAX).zip(texts.iter()) {
-        is_right = is_symbol(table.intern(StrContent::from(*text)), number) && is_right;
+        is_right = is_symbol(table.intern(ContentOf::<K>::from(*text)), number) && is_right;
     }
     is_right
 }
 
 // Whether a text is found with this symbol and its own spelling.
-fn lends<S: BuildHasher>(table: &SymbolTable<S>, text: &str, number: u32) -> bool {
+fn lends(table: &SymbolTable, text: &str, number: u32) -> bool {
     match table.get_interned(text) {
         Some((symbol, spelling)) => symbol.is(number) && spelling == text,
         None => false,
     }
 }
 
-// Whether exactly the first `count` texts are found, each at its position.
-fn finds_first<S: BuildHasher>(table: &SymbolTable<S>, texts: &[&str], count: u32) -> bool {
+// Whether exactly the first `count` forms are found, each at its position.
+fn finds_first<'q, K: KindForm<'q>>(
+    table: &Table<ContentOf<K>, Counted>,
+    forms: &[K::Form],
+    count: u32,
+) -> bool {
     let mut is_right = true;
-    for (number, text) in (0..u32::MAX).zip(texts.iter()) {
-        let found = table.check_interned(text);
+    for (number, form) in (0..u32::MAX).zip(forms.iter()) {
+        let found = table.check_interned(*form);
         let wanted = if number < count {
             Some(Symbol::new(number))
         } else {

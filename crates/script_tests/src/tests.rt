@@ -1,5 +1,5 @@
-//! Tests of what no contract says: values from outside, the tests of the ported crate, and each public call once on
-//! tables of each kind.
+//! Tests of what no contract says: values from outside, the tests of the ported crate, and each public
+//! call once on tables of each kind.
 
 mod assertions;
 mod batches;

@@ -1,5 +1,6 @@
-//! What tests of tables share: hash builders with known hashes, that count the hashers that they made or expect
-//! certain writes; contents made from their spellings; tables, the calls that change them, and their replies.
+//! What tests of tables share: hash builders with known hashes, which count their hashers or expect certain
+//! writes; contents that are made from their spellings; and tables, with the calls that change them and their
+//! replies.
 #![tactic(auto)]
 
 pub mod builders;

@@ -1,6 +1,6 @@
 //! Results of calls as the replies of a run.
 ghost use Rattle.std.specs.Prelude.{◌≡◌, Some, OnOk, IfOk};
-ghost use Rattle.intaglio_run.specs.declared.runs.Reply.TheVariants.{Symbol as SymbolReply, Done};
+ghost use Rattle.intaglio_interner.specs.declared.runs.Reply.TheVariants.{Symbol as SymbolReply, Done};
 
 use intaglio::{InternError, Reply, RoomError, StaleMark, Symbol};
 

@@ -1,4 +1,5 @@
-//! Tests of what no contract says: values from outside, the tests of the ported crate, and each public call once.
+//! Tests of what no contract says: values from outside, the tests of the ported
+//! crate, and each public call once.
 
 mod absorbing;
 mod assertions;
@@ -21,3 +22,4 @@ mod searches;
 mod sharding;
 mod slots;
 mod symbols_to_come;
+mod tables;

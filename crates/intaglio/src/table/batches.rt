@@ -17,16 +17,17 @@ use std::hash::BuildHasher;
 impl<C: Content + Sought<C> + Drop, S: BuildHasher> Table<C, S> {
     /// Interns a batch of contents, all or none, and returns their symbols in the same order.
     ///
-    /// The symbols are those of internings one by one. Each content is hashed once. While the table has at least 2^14
-    /// contents, then in groups of 64 all are hashed before the first is interned, so the cache misses of several
-    /// look-ups overlap: that pays if most contents are in the table, with some dozens of contents at a time. A smaller
-    /// table stays in the caches, and there a batch takes about as long as single calls.
+    /// The symbols are those of internings one by one. Each content is hashed once. While the
+    /// table has at least 2^14 contents, then in groups of 64 all are hashed before the first is
+    /// interned, so the cache misses of several look-ups overlap: that pays if most contents are
+    /// in the table, with some dozens of contents at a time. A smaller table stays in the caches,
+    /// and there a batch takes about as long as single calls.
     ///
     /// # Errors
     ///
-    /// `Overflow` if the table can't hold them all; `Memory` if the allocation of the list of symbols, or of a
-    /// growth of the table, fails. After an error the contents of the table are unchanged and
-    /// its capacity isn't lower, and the arguments are dropped.
+    /// `Overflow` if the table can't hold them all; `Memory` if the allocation of the list of symbols, or of
+    /// a growth of the table, fails. After an error the contents of the table are unchanged and its capacity
+    /// isn't lower, and the arguments are dropped.
     ///
     /// ```
     /// # use intaglio::{StrContent, Symbol, SymbolTable};
@@ -54,9 +55,10 @@ where
     /// Looks up a batch of forms, and returns what [`check_interned`](TableOver::check_interned) returns for
     /// each, in the same order.
     ///
-    /// Each form is hashed once. If the table has at least 2^14 contents, then in groups of 64 all are hashed before
-    /// the first is looked up, so the cache misses of several look-ups overlap: that pays with some dozens of forms at
-    /// a time. A smaller table stays in the caches, and there a batch takes about as long as single calls.
+    /// Each form is hashed once. If the table has at least 2^14 contents, then in groups of 64 all are
+    /// hashed before the first is looked up, so the cache misses of several look-ups overlap: that pays
+    /// with some dozens of forms at a time. A smaller table stays in the caches, and there a batch
+    /// takes about as long as single calls.
     ///
     /// # Errors
     ///
@@ -71,7 +73,8 @@ where
     /// ```
     pub fn check_all(&self, forms: &[L::By]) -> Result<Vec<Option<Symbol>>, AllocError>
         ensures { let held = self.now.state.contents in
-            IfOk result (λ found. found.items ≡ map (λ form. first L.Content.key held (L.By.key form)) forms.now) }
+            IfOk result (λ found. found.items ≡ map (λ form. first L.Content.key held (L.By.key form))
+            forms.now) }
     {
         check_all(self.core.allocator(), &self.core, forms, &mut Work::new())
     }

@@ -47,7 +47,8 @@ where
         ensures interned { FindsInterned L.Content.key self.old.state (L.By.key form) result self.new.state }
         ensures bytes { let interns = InternsBytes L.takes L.Content.key (L.By.needs form) (L.By.key form) in
             interns self.old.state self.old.spare_bytes result self.new.state self.new.spare_bytes }
-        ensures none_needed { 0 < self.old.state.spare → L.By.in_store → L.By.needs form ≤ self.old.spare_bytes →
+        ensures none_needed { 0 < self.old.state.spare → L.By.in_store →
+            L.By.needs form ≤ self.old.spare_bytes →
             IsNotMemory result }
         ensures grows { Doubles (length self.old.state.contents + 1) self.old.most self.new.most }
         ensures hasher { self.new.hasher ≡ self.old.hasher }
@@ -79,8 +80,10 @@ where
         ensures was_new { let old = first L.Content.key self.old.state.contents (L.By.key form) in
             IfOk result (λ added. IsTrue added.1 ↔ (old ≡ None)) }
         ensures bytes { let interns = InternsBytes L.takes L.Content.key (L.By.needs form) (L.By.key form) in
-            interns self.old.state self.old.spare_bytes (symbol_of result) self.new.state self.new.spare_bytes }
-        ensures none_needed { 0 < self.old.state.spare → L.By.in_store → L.By.needs form ≤ self.old.spare_bytes →
+            interns self.old.state self.old.spare_bytes (symbol_of result) self.new.state
+            self.new.spare_bytes }
+        ensures none_needed { 0 < self.old.state.spare → L.By.in_store →
+            L.By.needs form ≤ self.old.spare_bytes →
             IsNotMemory (symbol_of result) }
         ensures grows { Doubles (length self.old.state.contents + 1) self.old.most self.new.most }
         ensures hasher { self.new.hasher ≡ self.old.hasher }
@@ -97,8 +100,8 @@ where
     L::Content: Content,
     L::Prepared: Drop,
 {
-    /// As [`get_or_intern`](TableOver::get_or_intern), for a content or a form whose hash is known: nothing is
-    /// hashed. Records in `work` what it does, as the call of the same name of `BaseInterner` does.
+    /// As [`get_or_intern`](TableOver::get_or_intern), for a content or a form whose hash is known: nothing
+    /// is hashed. Records in `work` what it does, as the call of the same name of `BaseInterner` does.
     ///
     /// # Errors
     ///

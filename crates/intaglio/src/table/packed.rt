@@ -1,4 +1,4 @@
-//! What tables in one buffer have besides.
+//! The calls that only tables in one buffer have.
 ghost use Rattle.std.specs.Prelude.{◌≡◌, ◌≤◌, length, map, sum_by, IsOk, OnErr, OnOk};
 ghost use Rattle.intaglio_content.specs.Store.{DoublesByteRoom};
 ghost use Rattle.intaglio_interner.specs.State.{IsValid};
@@ -23,8 +23,8 @@ where
     }
 
     /// Makes room for this many more bytes of contents. If the buffer has to grow, its room at least doubles.
-    /// While there is spare capacity too, which [`reserve`](TableOver::reserve) makes, to intern a string whose
-    /// bytes fit never fails for memory.
+    /// While there is spare capacity too, which [`reserve`](TableOver::reserve) makes, to intern a string
+    /// whose bytes fit never fails for memory.
     ///
     /// # Errors
     ///
@@ -41,7 +41,8 @@ where
     pub fn reserve_bytes(&mut self, additional: usize) -> Result<(), AllocError>
         ensures state { self.new.state ≡ self.old.state }
         ensures most { self.new.most ≡ self.old.most }
-        ensures grows { let grows = DoublesByteRoom L.takes additional self.old.state.contents self.old.spare_bytes in
+        ensures grows { let grows = DoublesByteRoom L.takes additional self.old.state.contents
+            self.old.spare_bytes in
             grows self.new.state.contents self.new.spare_bytes }
         ensures bytes { OnOk result (additional ≤ self.new.spare_bytes) }
         ensures no_less { self.old.spare_bytes ≤ self.new.spare_bytes }

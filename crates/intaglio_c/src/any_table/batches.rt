@@ -15,7 +15,8 @@ impl AnyTable {
     // Interns strings in order, up to the first that fails.
     fn intern_each<L: StringList>(&mut self, list: &L, symbols: &mut [u32]) -> Result<(), Refusal>
         requires places { length symbols.old ≡ length (L.strings list.now) }
-        ensures step { TakesStep self.old self.new result (InternsOr IsBegun (L.strings list.now) symbols.new) }
+        ensures step { TakesStep self.old self.new result
+            (InternsOr IsBegun (L.strings list.now) symbols.new) }
     {
         let mut hashes = [0u64; GROUP];
         let mut used = GROUP;

@@ -91,8 +91,9 @@ impl AnyTable {
         self.rule().check(bytes)
     }
 
-    // The symbol of the string that is equal to these bytes, whose hash may be known, if there is one. The bytes aren't
-    // tested: a table has only strings that its kind takes, so it has none that is equal to others.
+    // The symbol of the string that is equal to these bytes, whose hash may be known, if
+    // there is one. The bytes aren't tested: a table has only strings that its kind takes,
+    // so it has none that is equal to others.
     #[inline(always)]
     pub(crate) fn find(&self, known: Option<u64>, bytes: &[u8]) -> Option<Symbol>
         requires known { IfSome known (IsHash (seen self.now).kind (seen self.now).hasher bytes.now) }

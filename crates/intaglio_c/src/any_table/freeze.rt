@@ -52,7 +52,8 @@ impl AnyTable {
     // The bytes of a frozen table of the strings.
     pub(crate) fn freeze(&self, alloc: Global, key0: u64, key1: u64) -> Result<Vec<u8>, FreezeError>
         ensures frozen { IfOk result (λ bytes. IsFrozenOf (seen self.now) (key0, key1) bytes.items) }
-        ensures err { IfErr result (IsRefusal (frozen_kind (rule_of (seen self.now).kind)) (contents_of self.now)) }
+        ensures err { IfErr result
+            (IsRefusal (frozen_kind (rule_of (seen self.now).kind)) (contents_of self.now)) }
     {
         freeze(alloc, self, frozen_kind(self.rule()), key0, key1)
     }

@@ -1,4 +1,5 @@
-//! Columns, which are their bytes. Each call reads their header again, and nothing outside them.
+//! Calls on columns, which C passes as their bytes. Each call reads the header of the column again, and reads
+//! nothing outside the bytes.
 ghost use Rattle.std.specs.Prelude.{◌≡◌, ◌-◌, drop, false, length, map, min, slice_get};
 ghost use Rattle.intaglio_column_file.specs.IsColumn.{HasRows, IsColumn};
 ghost use Rattle.intaglio_column_file.specs.Layout.{codes, width as width_of};
@@ -59,8 +60,8 @@ fn column_id(bytes: &[u8], id: &mut DictionaryId) -> Result<(), Refusal>
     Ok(())
 }
 
-/// Writes which dictionary a column belongs to. Fails with what is wrong with the header, or with how many bytes there
-/// are; then nothing is written.
+/// Writes which dictionary a column belongs to. Fails with what is wrong with the header, or with how many
+/// bytes there are; then nothing is written.
 #[unsafe(no_mangle)]
 pub extern "C" fn intaglio_column_id(bytes: &[u8], id: &mut DictionaryId) -> u32
     ensures read { IsCodeOf result (ReadsId bytes.now id.old id.new) }
@@ -76,8 +77,8 @@ fn frozen_id(bytes: &[u8], id: &mut DictionaryId) -> Result<(), Refusal>
     Ok(())
 }
 
-/// Writes what the dictionary in the bytes of a frozen table is, and reads its ends and its text. Fails with what is
-/// wrong with the header; then nothing is written.
+/// Writes what the dictionary in the bytes of a frozen table is, and reads its ends and its text. Fails with
+/// what is wrong with the header; then nothing is written.
 #[unsafe(no_mangle)]
 pub extern "C" fn intaglio_frozen_id(bytes: &[u8], id: &mut DictionaryId) -> u32
     ensures made { IsCodeOf result (MakesId bytes.now id.old id.new) }
@@ -100,11 +101,12 @@ fn shards_id(
     Ok(())
 }
 
-/// Writes what the dictionary is whose shards are these frozen tables: that of all their strings, those of one table
-/// behind those of the tables before it, and of texts if each table is. All ends and all texts are read.
-/// Fails with what is wrong with the header or the ends of a table, and then writes the number of the first table that
-/// has a fault. Fails with `TooMany` if there are 2^32 strings or more together, and with `NoMemory`. Unless a table
-/// has a fault, it writes how many tables there are. After an error no id is written.
+/// Writes what the dictionary is whose shards are these frozen tables: that of all their strings, those
+/// of one table behind those of the tables before it, and of texts if each table is. All ends and all
+/// texts are read. Fails with what is wrong with the header or the ends of a table, and then writes the
+/// number of the first table that has a fault. Fails with `TooMany` if there are 2^32 strings or more
+/// together, and with `NoMemory`. Unless a table has a fault, it writes how many tables there are.
+/// After an error no id is written.
 #[unsafe(no_mangle)]
 pub extern "C" fn intaglio_shards_id(
     alloc: Global,
@@ -137,8 +139,8 @@ pub extern "C" fn intaglio_column_code(bytes: &[u8], row: usize, found: &mut u32
     }
 }
 
-/// Writes the codes of the rows of a column from one on, as many as there are places and rows, and returns how many
-/// that is.
+/// Writes the codes of the rows of a column from one on, as many as there are places and
+/// rows, and returns how many that is.
 #[unsafe(no_mangle)]
 pub extern "C" fn intaglio_column_codes(bytes: &[u8], from: usize, places: &mut [u32]) -> usize
     ensures codes { HasRows bytes.now → places.new ≡ overlaid (drop from (codes bytes.now)) places.old }
@@ -152,8 +154,8 @@ pub extern "C" fn intaglio_column_codes(bytes: &[u8], from: usize, places: &mut 
     }
 }
 
-/// Writes the rows of a column that have this code, in ascending order, as far as there are places. Returns how many
-/// rows have it.
+/// Writes the rows of a column that have this code, in ascending order, as far as there are places.
+/// Returns how many rows have it.
 #[unsafe(no_mangle)]
 pub extern "C" fn intaglio_column_rows(bytes: &[u8], code: u32, places: &mut [u64]) -> usize
     ensures rows { HasRows bytes.now → places.new ≡ overlaid (rows_of code (codes bytes.now)) places.old }
@@ -179,9 +181,9 @@ fn counts(bytes: &[u8], places: &mut [u64], missing: &mut u64) -> Result<(), Ref
     Ok(())
 }
 
-/// Writes how often each string of the dictionary occurs in a column, and how many rows are missing. Fails with
-/// `BadEnds` if there isn't a place for each string, and with what is wrong with the header or with how many bytes there
-/// are; then nothing is written.
+/// Writes how often each string of the dictionary occurs in a column, and how many rows are missing. Fails
+/// with `BadEnds` if there isn't a place for each string, and with what is wrong with the header or with how
+/// many bytes there are; then nothing is written.
 #[unsafe(no_mangle)]
 pub extern "C" fn intaglio_column_counts(bytes: &[u8], places: &mut [u64], missing: &mut u64) -> u32
     ensures counted { IsCodeOf result
@@ -209,9 +211,10 @@ fn write(
     Ok(())
 }
 
-/// Writes how many bytes a column of these codes under this dictionary has, and copies them to the start of a buffer
-/// that has space for them. Fails with `NoSymbol` for a code that is neither that of a string nor 2^32 - 1, `TooMany`
-/// and `NoMemory`, and nothing is written; and with `NoSpace` if the buffer is too short, with the number written.
+/// Writes how many bytes a column of these codes under this dictionary has, and copies them to the
+/// start of a buffer that has space for them. Fails with `NoSymbol` for a code that is neither that of
+/// a string nor 2^32 - 1, `TooMany` and `NoMemory`, and nothing is written; and with `NoSpace` if the
+/// buffer is too short, with the number written.
 #[unsafe(no_mangle)]
 pub extern "C" fn intaglio_column_write(
     alloc: Global,

@@ -1,5 +1,5 @@
-//! Frozen tables, which are their bytes. Each call reads their header again, unless it is passed where their sections
-//! are, and nothing outside them.
+//! Calls on frozen tables, which C passes as their bytes. Each call reads the header of the table again,
+//! unless it is passed where the sections are, and reads nothing outside the bytes.
 ghost use Rattle.std.specs.Prelude.{◌≡◌, ◌↔◌, true, false, length, slice_get, IsTrue, Some};
 ghost use Rattle.std.specs.Option.{option_map};
 ghost use Rattle.intaglio_frozen.specs.IsFrozen.{HasHeader, HasSections, IsFrozen, text_kind};
@@ -40,9 +40,9 @@ fn freeze(
     Ok(())
 }
 
-/// Writes how many bytes a frozen table of the contents has, under these keys or one of the seven pairs after them, and
-/// copies them to the start of a buffer that has space for them. Fails with `NoTable`; `NoSpace` if the buffer is too
-/// short, with the number written; `TooMany`, `TooLong`, `NoPlaces` and `NoMemory`.
+/// Writes how many bytes a frozen table of the contents has, under these keys or one of the seven pairs after
+/// them, and copies them to the start of a buffer that has space for them. Fails with `NoTable`; `NoSpace` if
+/// the buffer is too short, with the number written; `TooMany`, `TooLong`, `NoPlaces` and `NoMemory`.
 #[unsafe(no_mangle)]
 pub extern "C" fn intaglio_freeze(
     alloc: Global,
@@ -59,9 +59,9 @@ pub extern "C" fn intaglio_freeze(
     code(freeze(alloc, handle, key0, key1, buffer, len))
 }
 
-/// Interns all strings of a frozen table, all or none, in its order, and writes the symbol of each.
-/// Fails with `NoTable`, what is wrong with the header or the ends, `BadEnds` if there isn't a place for the symbol of
-/// each string, and the errors of interning one; then the contents are unchanged.
+/// Interns all strings of a frozen table, all or none, in its order, and writes the symbol of each. Fails
+/// with `NoTable`, what is wrong with the header or the ends, `BadEnds` if there isn't a place for the symbol
+/// of each string, and the errors of interning one; then the contents are unchanged.
 #[unsafe(no_mangle)]
 pub extern "C" fn intaglio_absorb(handle: &mut Handle, bytes: &[u8], symbols: &mut [u32]) -> u32
     ensures step { ChangesWithCode handle.old handle.new result
@@ -111,8 +111,8 @@ fn find_all(bytes: &[u8], batch: &[u8], ends: &[usize], symbols: &mut [u64]) -> 
     Ok(())
 }
 
-/// Looks up a batch of strings in the bytes of a frozen table, and writes the symbol of each, or 2^64 - 1 if it isn't
-/// found. Fails with `BadEnds`, and with what is wrong with the header; then nothing is written.
+/// Looks up a batch of strings in the bytes of a frozen table, and writes the symbol of each, or 2^64 - 1 if
+/// it isn't found. Fails with `BadEnds`, and with what is wrong with the header; then nothing is written.
 #[unsafe(no_mangle)]
 pub extern "C" fn intaglio_frozen_find_all(
     bytes: &[u8],
@@ -127,7 +127,8 @@ pub extern "C" fn intaglio_frozen_find_all(
     code(find_all(bytes, batch, ends, symbols))
 }
 
-/// Writes where a symbol's string is in the bytes of a frozen table, if there is one, and returns whether there is.
+/// Writes where a symbol's string is in the bytes of a frozen table, if there
+/// is one, and returns whether there is.
 #[unsafe(no_mangle)]
 pub extern "C" fn intaglio_frozen_get(bytes: &[u8], symbol: u32, out: &mut Spelling) -> bool
     ensures found { IsTrue result
@@ -175,9 +176,9 @@ fn read_sections(bytes: &[u8], sections: &mut Sections) -> Result<(), Refusal>
     Ok(())
 }
 
-/// Writes what the header of a frozen table says, and where its sections are, for the two calls below. Nothing behind
-/// the header is read. Fails with what is wrong with the header, or with how many bytes there are; then nothing is
-/// written.
+/// Writes what the header of a frozen table says, and where its sections are, for the two calls below.
+/// Nothing behind the header is read. Fails with what is wrong with the header, or with how many bytes
+/// there are; then nothing is written.
 #[unsafe(no_mangle)]
 pub extern "C" fn intaglio_frozen_sections(bytes: &[u8], sections: &mut Sections) -> u32
     ensures read { IsCodeOf result (ReadsSections bytes.now sections.old sections.new) }
@@ -186,8 +187,8 @@ pub extern "C" fn intaglio_frozen_sections(bytes: &[u8], sections: &mut Sections
     code(read_sections(bytes, sections))
 }
 
-/// As [`intaglio_frozen_find`], in bytes whose sections were read before: the header isn't read. Nothing outside the
-/// bytes is read, also if these aren't their sections.
+/// As [`intaglio_frozen_find`], in bytes whose sections were read before: the header isn't read. Nothing
+/// outside the bytes is read, also if these aren't their sections.
 #[unsafe(no_mangle)]
 pub extern "C" fn intaglio_frozen_find_in(
     bytes: &[u8],
@@ -210,8 +211,8 @@ pub extern "C" fn intaglio_frozen_find_in(
     }
 }
 
-/// As [`intaglio_frozen_get`], in bytes whose sections were read before: the header isn't read. Nothing outside the
-/// bytes is read, also if these aren't their sections.
+/// As [`intaglio_frozen_get`], in bytes whose sections were read before: the header isn't read. Nothing
+/// outside the bytes is read, also if these aren't their sections.
 #[unsafe(no_mangle)]
 pub extern "C" fn intaglio_frozen_get_in(
     bytes: &[u8],

@@ -13,8 +13,8 @@ use crate::refusal::{Refusal, code, symbol_code};
 use crate::spelling::{Spelling, fill};
 use intaglio_core::Symbol;
 
-/// Interns these bytes, which are copied if they are new, and writes their symbol.
-/// Fails with `NoTable`, `Full`, `NoMemory`, and the errors for bytes that the kind doesn't take; then nothing changes.
+/// Interns these bytes, which are copied if they are new, and writes their symbol. Fails with `NoTable`,
+/// `Full`, `NoMemory`, and the errors for bytes that the kind doesn't take; then nothing changes.
 #[unsafe(no_mangle)]
 pub extern "C" fn intaglio_intern(handle: &mut Handle, bytes: &[u8], symbol: &mut u32) -> u32
     ensures step { ChangesWithSymbol handle.old handle.new result symbol.old symbol.new (Interns bytes.now) }
@@ -23,8 +23,8 @@ pub extern "C" fn intaglio_intern(handle: &mut Handle, bytes: &[u8], symbol: &mu
     symbol_code(table.intern(None, bytes), symbol)
 }
 
-/// Interns these bytes, which must never change, and writes their symbol. They aren't copied, unless the table is packed.
-/// Fails as [`intaglio_intern`].
+/// Interns these bytes, which must never change, and writes their symbol. They aren't copied, unless the
+/// table is packed. Fails as [`intaglio_intern`].
 #[unsafe(no_mangle)]
 pub extern "C" fn intaglio_intern_static(
     handle: &mut Handle,

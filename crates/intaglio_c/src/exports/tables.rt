@@ -49,8 +49,8 @@ pub extern "C" fn intaglio_with_capacity(
     code(handle.make(alloc, kind, Size::Capacity(capacity), keys))
 }
 
-/// Puts a new table of a kind into the handle, which can hold at most this many contents. The earlier one is freed.
-/// Fails as [`intaglio_new`], and with `TooLarge` for 0 and above 2^32.
+/// Puts a new table of a kind into the handle, which can hold at most this many contents. The earlier one is
+/// freed. Fails as [`intaglio_new`], and with `TooLarge` for 0 and above 2^32.
 #[unsafe(no_mangle)]
 pub extern "C" fn intaglio_with_limit(
     alloc: Global,

@@ -38,7 +38,8 @@ impl<K: Kind> IndexOf<Packed<K>> for RecordIndex {
         self.places()
     }
 
-    // Each string with this hash is compared as it is read: its record has the hash, the string and its number.
+    // Each string with this hash is compared as it is read: its record has the
+    // hash, the string and its number.
     #[inline(always)]
     fn search<Q: SoughtIn<Packed<K>>>(
         &self,
@@ -167,7 +168,8 @@ fn rebuild<K: Kind>(
     requires few { places ≤ 2 ^ 32 }
     ensures over { OnOk result (IsOver list.now.list (record_room_of list.now) index.new) }
     ensures places { OnOk result (made_for index.new ≡ places) }
-    ensures placed { OnOk result (work.new.events ≡ work.old.events ++ replicate (length list.now.list) placed) }
+    ensures placed { OnOk result
+        (work.new.events ≡ work.old.events ++ replicate (length list.now.list) placed) }
     ensures err { OnErr result (index.new ≡ index.old) }
     ensures quiet { OnErr result (work.new.events ≡ work.old.events) }
 {
@@ -197,8 +199,8 @@ fn reserve_in<K: Kind>(
     list.reserve(additional)
 }
 
-// Has the index reach all of the list's room, after that has grown from `spare` bytes. If there is no memory for that,
-// the list gives up what it has above them.
+// Has the index reach all of the list's room, after that has grown from `spare` bytes. If there is no memory
+// for that, the list gives up what it has above them.
 #[inline(always)]
 fn reach_bytes<K: Kind>(
     index: &mut RecordIndex,

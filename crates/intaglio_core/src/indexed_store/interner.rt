@@ -1,4 +1,4 @@
-//! What every symbol table does, of a store with an index.
+//! Implements what every symbol table does, for a store with an index.
 ghost use Rattle.intaglio_content.specs.Key.{hash_of};
 
 use super::{Core, IndexedStore};

@@ -82,7 +82,8 @@ impl<C: Keyed, S: BuildHasher> Core<C, S> {
             let interns = InternsBatch C.key C.key (λ held. held) (hash self.old.hasher) self.old.state in
             interns (map C.key contents.items) contents.items result (hash self.new.hasher) self.new.state }
         ensures refused_cost { IfErr result (λ e. Costs work.old work.new
-            (RefusedCost C.key C.key IsMoved false (hash_of S.BuildHasher S.Hasher.Hasher self.old.hasher) self.old.state
+            (RefusedCost C.key C.key IsMoved false (hash_of S.BuildHasher S.Hasher.Hasher self.old.hasher)
+            self.old.state
             contents.items e)) }
         ensures grows { let needed = length self.old.state.contents + length contents.items in
             GrowsFor needed self.old.most self.new.most }

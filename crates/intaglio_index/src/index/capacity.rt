@@ -68,8 +68,8 @@ impl Index {
         Ok(())
     }
 
-    /// Makes exactly `count` buckets, with capacity for as many symbols. All symbols are placed again by their
-    /// stored hashes: one placement each.
+    /// Makes exactly `count` buckets, with capacity for as many symbols. All symbols are placed again by
+    /// their stored hashes: one placement each.
     ///
     /// # Errors
     ///

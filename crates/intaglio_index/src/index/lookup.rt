@@ -68,8 +68,8 @@ impl Index {
         Some(symbol)
     }
 
-    // As `find`, where the number of buckets is no power of two: a word that agrees with the hash is confirmed
-    // by the stored hash. A call of its own, so that `find` is short where it is inlined.
+    // As `find`, where the number of buckets is no power of two: a word that agrees with the hash is
+    // confirmed by the stored hash. A call of its own, so that `find` is short where it is inlined.
     #[inline(never)]
     fn find_by_remainder(&self, hash: u64, work: &mut Work) -> Option<Symbol>
         ensures found { IfSome result
@@ -104,8 +104,8 @@ impl Index {
         Some(symbol)
     }
 
-    // The first symbol with the hash, where the first two symbols of its bucket have smaller ones. The search has
-    // made its step into the bucket.
+    // The first symbol with the hash, where the first two symbols of its bucket have smaller ones. The search
+    // has made its step into the bucket.
     #[inline(never)]
     fn find_behind(&self, second: Symbol, hash: u64, work: &mut Work) -> Option<Symbol>
         requires behind { IsBehind hash (bucket_of self.now hash) second }
@@ -155,8 +155,8 @@ impl Index {
         None
     }
 
-    /// A symbol with this hash, if one was placed. Records nothing: it reads what [`find`](Index::find) will read,
-    /// so that this is in the cache then.
+    /// A symbol with this hash, if one was placed. Records nothing: it reads what [`find`](Index::find) will
+    /// read, so that this is in the cache then.
     #[inline(always)]
     pub fn peek(&self, hash: u64) -> Option<Symbol>
         ensures placed { IfSome result (λ symbol. symbol < length self.now.hashes) }

@@ -13,6 +13,7 @@ returns c = λ kind input. (
   holds-encoded (key_of kind) input,
   record {
     order = issue-in_order (key_of kind) [] (lines_of input);
-    distinct = distinct-interned_all (key_of kind) [] (lines_of input) (λ i j d below within. absurd (omega arith));
+    distinct =
+        distinct-interned_all (key_of kind) [] (lines_of input) (λ i j d below within. absurd (omega arith));
   },
 )

@@ -7,5 +7,6 @@ use Rattle.intaglio_laws.proofs.encoding_keeps_the_input.Goals as goal
 
 pub returns : goal.returns
 returns c = λ kind input other names few same.
-    one-output (encoded kind input) (with_last_line_ended input) (with_last_line_ended other) few (decodes-input kind input names)
+    one-output (encoded kind input) (with_last_line_ended input) (with_last_line_ended other) few
+    (decodes-input kind input names)
     (subst (λ t. Decodes t (with_last_line_ended other)) (sym same) (decodes-input kind other names))

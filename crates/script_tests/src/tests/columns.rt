@@ -1,5 +1,5 @@
-//! Scripts whose calls one call of `run` makes: by owned contents on a core and on tables of each kind, and by
-//! borrowed texts.
+//! Scripts whose calls are all made by one call of `run`: with owned contents, on a core and on tables of
+//! each kind, and with borrowed texts.
 use super::contents::TestKind;
 use super::runs::{calls_by_contents, calls_by_texts, runs};
 use intaglio::packed::bstr::BStrKind;

@@ -71,8 +71,8 @@ pub fn try_on_c_strings<Q: Trial>(rt: &(impl Abort + AllocGlobal), trial: &Q) {
     try_owned::<CStrKind, Q>(rt, trial);
 }
 
-// On a table of owned contents. The prover finds the calls of a table by those of its kind here and in `try_packed`
-// alone: it takes seconds wherever a table is named.
+// On a table of owned contents. The prover finds the calls of a table by those of its kind here and in
+// `try_packed` alone: it takes seconds wherever a table is named.
 fn try_owned<K: TestKind, Q: Trial>(rt: &(impl Abort + AllocGlobal), trial: &Q) {
     trial.try_on::<Owned<K>, _>(rt, rt.alloc());
 }

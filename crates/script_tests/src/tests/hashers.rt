@@ -119,8 +119,8 @@ where
     same(rt, made.expect(rt, "memory").hasher().made(), Some(wanted));
 }
 
-// Makes the calls with a `Work` for the first of these values: two hashings, calls by these hashes, and then three that
-// hash each value once.
+// Makes the calls with a `Work` for the first of these values: two hashings, calls by these hashes, and then
+// three that hash each value once.
 fn makes_counted_calls<H, T: BaseInterner, Q: AddedTo<T::Store, H> + Copy>(
     rt: &impl Abort,
     alloc: Global,

@@ -1,4 +1,4 @@
-//! A plain list of texts, and what a table returns that holds them.
+//! A plain list of texts, and the results that a table with these texts must return.
 use super::printed::{inserted_text, reply_text, symbols_text};
 use super::script::{Line, size, symbol};
 use intaglio::{InternError, Reply, Symbol, SymbolOverflowError};

@@ -1,7 +1,8 @@
-//! A trait with the calls of a table and no contract, so that its callers are proved without that of each call.
+//! A trait that has the calls of a table, but no contracts. So its callers are proved without the contracts
+//! of these calls.
 //!
-//! The prover takes seconds wherever a table of one kind is passed to a call of any table: here that is done once, for
-//! tables of any kind.
+//! The prover takes seconds wherever a table of one kind is passed to a call of any table: here that is
+//! done once, for tables of any kind.
 use super::calls::Ask;
 use super::contents::{TestContent, TestKind};
 use super::printed::symbols_text;

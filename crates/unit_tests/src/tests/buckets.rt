@@ -1,4 +1,5 @@
-//! Which symbols a bucket of an index contains, and in which order, after places, rollbacks, shrinks and growth.
+//! Which symbols a bucket of an index contains, and in which order, after places,
+//! rollbacks, shrinks and growth.
 ghost use Rattle.std.specs.Prelude.{◌≡◌, ◌≤◌, length};
 
 use super::assertions::same;

@@ -1,9 +1,10 @@
-//! Strings that are chosen so that some keys leave one of them no place. The hashes are those of what
-//! `checks/frozen_tables.py` writes.
+//! Strings that are chosen so that under some keys one of them gets no place. The expected hashes are of the
+//! bytes that `checks/frozen_tables.py` writes.
 use super::assertions::same;
-use intaglio::packed::SymbolTable;
-use intaglio_frozen::{Header, Kind, freeze, freeze_with_default_keys};
-use intaglio_hash::KeyedState;
+use super::tables::packed_of;
+use intaglio::packed::{StrKind, SymbolTable};
+use intaglio_frozen::{FreezeError, Header, Kind, StringList, freeze, freeze_with_default_keys};
+use intaglio_hash::{FixedState, KeyedState};
 use std::alloc::Global;
 use std::hash::{BuildHasher, Hasher};
 use std::process::Abort;
@@ -22,11 +23,8 @@ const UNDER_EIGHT: &str = "
 ";
 
 fn of_words(rt: &impl Abort, alloc: Global, words: &str) -> SymbolTable {
-    let mut table = SymbolTable::new(alloc).expect(rt, "memory");
-    for word in words.split_whitespace() {
-        let _symbol = table.get_or_intern(word).expect(rt, "memory");
-    }
-    table
+    let words: Vec<&str> = words.split_whitespace().collect(alloc).expect(rt, "memory");
+    packed_of::<StrKind, _>(rt, alloc, FixedState, &words)
 }
 
 // SipHash-1-3 of the bytes under the keys 0 and 0.
@@ -43,17 +41,32 @@ fn has(rt: &impl Abort, bytes: &[u8], keys: (u64, u64), hash: u64) {
     same(rt, hash_of(bytes), hash);
 }
 
+// The list frozen under the keys 0 and 0.
+fn frozen<L: StringList>(rt: &impl Abort, alloc: Global, list: &L, kind: Kind) -> Vec<u8> {
+    freeze(alloc, list, kind, 0, 0).expect(rt, "not frozen")
+}
+
+// The list frozen without keys.
+fn frozen_by_default<L: StringList>(
+    rt: &impl Abort,
+    alloc: Global,
+    list: &L,
+    kind: Kind,
+) -> Vec<u8> {
+    freeze_with_default_keys(alloc, list, kind).expect(rt, "not frozen")
+}
+
 #[test]
 fn the_first_keys_that_serve_are_taken(rt: HostRuntime) {
     let table = of_words(&rt, rt.alloc(), UNDER_ONE);
-    let bytes = freeze(rt.alloc(), &table, Kind::Bytes, 0, 0).expect(&rt, "not frozen");
+    let bytes = frozen(&rt, rt.alloc(), &table, Kind::Bytes);
     has(&rt, &bytes, (1, 0), 13_321_550_753_116_863_131);
 }
 
 #[test]
 fn keys_are_drawn_from_strings_after_the_first_eight(rt: HostRuntime) {
     let table = of_words(&rt, rt.alloc(), UNDER_EIGHT);
-    let bytes = freeze_with_default_keys(rt.alloc(), &table, Kind::Bytes).expect(&rt, "not frozen");
+    let bytes = frozen_by_default(&rt, rt.alloc(), &table, Kind::Bytes);
     let keys = (10_087_741_285_488_634_726, 4_955_475_991_202_912_833);
     has(&rt, &bytes, keys, 2_372_016_649_126_576_846);
 }
@@ -61,7 +74,19 @@ fn keys_are_drawn_from_strings_after_the_first_eight(rt: HostRuntime) {
 #[test]
 fn without_keys_the_first_are_0_and_0(rt: HostRuntime) {
     let table = of_words(&rt, rt.alloc(), UNDER_ONE);
-    let given = freeze(rt.alloc(), &table, Kind::Text, 0, 0).expect(&rt, "not frozen");
-    let bytes = freeze_with_default_keys(rt.alloc(), &table, Kind::Text).expect(&rt, "not frozen");
+    let given = frozen(&rt, rt.alloc(), &table, Kind::Text);
+    let bytes = frozen_by_default(&rt, rt.alloc(), &table, Kind::Text);
     same(&rt, bytes.as_slice(), given.as_slice());
+}
+
+#[test]
+fn the_first_string_that_is_equal_to_an_earlier_one_is_named(rt: HostRuntime) {
+    let words: Vec<&[u8]> = "b a c a b a"
+        .split_whitespace()
+        .map(str::as_bytes)
+        .collect(rt.alloc())
+        .expect(&rt, "memory");
+    let error = FreezeError::Equal(1, 3);
+    same(&rt, freeze(rt.alloc(), &words, Kind::Bytes, 0, 0).err(), Some(error));
+    same(&rt, freeze_with_default_keys(rt.alloc(), &words, Kind::Text).err(), Some(error));
 }

@@ -1,53 +1,104 @@
-//! Each public call of `Core`, made once on a table with random keys. All names are those of `intaglio_core`.
+//! Each public call of `Core`, made once on a table with random keys. All names are from `intaglio_core`,
+//! except the kind of texts.
+//!
+//! Functions over any store make the calls, and functions over any kind call those, since the prover takes
+//! seconds wherever a table of one kind is passed to a function over any store.
 use super::assertions::same;
 use intaglio_core::{
-    BaseInterner, BytesContent, Call, Core, Interner, Mark, Reply, RoomError, StrContent, Symbol,
-    Work, run,
+    BaseInterner, BytesContent, Call, Content, ContentOf, Core, Indexed, IndexedStore, InternError,
+    Interner, KindForm, KindOwned, Lends, LookedUpIn, Mark, Reply, RoomError, SoughtIn, StrContent,
+    Symbol, Work, run,
 };
+use intaglio_text::StrKind;
 use std::alloc::Global;
-use std::hash::RandomState;
+use std::fmt::Debug;
+use std::hash::{BuildHasher, RandomState};
 use std::process::Abort;
 use test_support::builders::Fold;
 
-type Table = Core<StrContent, RandomState>;
-
-fn rounded(alloc: Global, capacity: usize) -> Result<usize, RoomError> {
-    let table: Core<StrContent, Fold> = Core::with_capacity(alloc, capacity)?;
+fn rounded<K: KindOwned>(alloc: Global, capacity: usize) -> Result<usize, RoomError> {
+    let table: Core<ContentOf<K>, Fold> = Core::with_capacity(alloc, capacity)?;
     Ok(table.capacity())
 }
 
-fn limited(alloc: Global, limit: usize, hasher: RandomState) -> Result<usize, RoomError> {
-    let table: Table = Core::with_limit(alloc, limit, hasher)?;
+fn limited<K: KindOwned, S: BuildHasher + Drop>(
+    alloc: Global,
+    limit: usize,
+    hasher: S,
+) -> Result<usize, RoomError> {
+    let table: Core<ContentOf<K>, S> = Core::with_limit(alloc, limit, hasher)?;
     Ok(table.limit())
 }
 
 #[test]
 fn each_constructor_makes_a_table(rt: HostRuntime) {
-    same(&rt, rounded(rt.alloc(), 10), Ok(16));
+    same(&rt, rounded::<StrKind>(rt.alloc(), 10), Ok(16));
     let hasher = RandomState::new(&rt).expect(&rt, "a seed");
-    same(&rt, limited(rt.alloc(), 2, hasher), Ok(2));
+    same(&rt, limited::<StrKind, _>(rt.alloc(), 2, hasher), Ok(2));
+}
+
+// The symbol of a content in an empty table.
+fn interned<K: KindOwned>(
+    rt: &impl Abort,
+    alloc: Global,
+    content: ContentOf<K>,
+) -> Result<Symbol, InternError> {
+    let mut table: Core<ContentOf<K>, Fold> = Core::with_capacity(alloc, 0).expect(rt, "memory");
+    table.intern_counted(content, &mut Work::new())
 }
 
 #[test]
 fn a_counted_interning_gives_the_symbol(rt: HostRuntime) {
-    let mut table: Core<StrContent, Fold> = Core::with_capacity(rt.alloc(), 0).expect(
-        &rt, "memory",
-    );
-    let symbol = table.intern_counted(StrContent::from("abc"), &mut Work::new());
+    let symbol = interned(&rt, rt.alloc(), StrContent::from("abc"));
     same(&rt, symbol, Ok(Symbol::new(0)));
 }
 
-fn fills(rt: &impl Abort, table: &mut Table, texts: &'static str) {
-    for text in texts.split(' ') {
-        table
-            .intern(StrContent::from(text), &mut Work::new())
-            .expect(rt, "a symbol");
+// A table of the texts of a line, which are separated by spaces.
+fn table_of<S: BuildHasher + Drop>(
+    rt: &impl Abort,
+    alloc: Global,
+    hasher: S,
+    line: &'static str,
+) -> Core<StrContent, S> {
+    let mut texts = Vec::new(alloc);
+    for text in line.split(' ') {
+        texts.push(StrContent::from(text)).expect(rt, "memory");
     }
+    filled(rt, alloc, hasher, texts)
 }
 
-// Reads a table of `abc`, `xyz`, `123` and `789`.
-fn reads(rt: &impl Abort, table: &Table) {
-    same(rt, (table.is_empty(), table.contents().len()), (false, 4));
+// A table of these contents.
+fn filled<K: KindOwned, S: BuildHasher + Drop>(
+    rt: &impl Abort,
+    alloc: Global,
+    hasher: S,
+    contents: Vec<ContentOf<K>>,
+) -> Core<ContentOf<K>, S> {
+    let mut table = Core::with_capacity_and_hasher(alloc, 0, hasher).expect(rt, "a table");
+    for content in contents {
+        table
+            .intern(content, &mut Work::new())
+            .expect(rt, "a symbol");
+    }
+    table
+}
+
+// Reads a table of `abc`, `xyz`, `123` and `789`, whose forms are given, and borrows from it.
+fn reads<'a, K: KindForm<'a>, S: BuildHasher>(
+    rt: &impl Abort,
+    table: &'a Core<ContentOf<K>, S>,
+    forms: &[K::Form],
+)
+where
+    K::Form: PartialEq + Debug,
+{
+    same(rt, table.contents().len(), 4);
+    counts(rt, table);
+    lends(rt, table, forms, forms);
+}
+
+fn counts<L: Indexed, S: BuildHasher>(rt: &impl Abort, table: &IndexedStore<L, S>) {
+    same(rt, table.is_empty(), false);
     same(
         rt,
         (
@@ -59,17 +110,34 @@ fn reads(rt: &impl Abort, table: &Table) {
     same(rt, table.all_symbols().nth(3), Some(Symbol::new(3)));
 }
 
-// Borrows from it.
-fn lends(rt: &impl Abort, table: &Table) {
-    same(rt, table.form(Symbol::new(2)), Some("123"));
-    same(rt, table.forms().nth(3), Some("789"));
-    let found = table.search_form(&"xyz", &mut Work::new());
-    assert_eq!(rt; found, Some((Symbol::new(1), "xyz")));
-    assert_eq!(rt; table.pairs().nth(0), Some((Symbol::new(0), "abc")));
+fn lends<'a, L: Lends<'a> + LookedUpIn<'a> + Indexed, S: BuildHasher>(
+    rt: &impl Abort,
+    table: &'a IndexedStore<L, S>,
+    sought: &[L::By],
+    wanted: &[L::Form],
+)
+where
+    L::Content: Content,
+    L::Form: PartialEq + Debug + Copy,
+{
+    same(rt, table.form(Symbol::new(2)), wanted.get(2).copied());
+    same(rt, table.forms().nth(3), wanted.get(3).copied());
+    let sought = sought.get(1).expect(rt, "a form");
+    let found = table.search_form(sought, &mut Work::new());
+    let second = wanted.get(1).copied().expect(rt, "a form");
+    assert_eq!(rt; found, Some((Symbol::new(1), second)));
+    let first = wanted.first().copied().expect(rt, "a form");
+    assert_eq!(rt; table.pairs().nth(0), Some((Symbol::new(0), first)));
 }
 
-// Changes its capacity.
-fn resizes(rt: &impl Abort, table: &mut Table) {
+// Changes the capacity of a table of four contents, and removes contents.
+fn changes<K: KindOwned, S: BuildHasher>(rt: &impl Abort, table: &mut Core<ContentOf<K>, S>) {
+    reserves(rt, table);
+    shrinks(rt, table);
+    cuts(rt, table);
+}
+
+fn reserves<L: Indexed, S: BuildHasher>(rt: &impl Abort, table: &mut IndexedStore<L, S>) {
     same(
         rt,
         (table.reserve(100), table.capacity() >= 104),
@@ -82,6 +150,9 @@ fn resizes(rt: &impl Abort, table: &mut Table) {
     );
     let reserved = table.reserve_counted(10_000, &mut Work::new());
     same(rt, (reserved, table.capacity() >= 10_004), (Ok(()), true));
+}
+
+fn shrinks<L: Indexed, S: BuildHasher>(rt: &impl Abort, table: &mut IndexedStore<L, S>) {
     same(
         rt,
         (table.shrink_to(5000), table.capacity()),
@@ -92,8 +163,11 @@ fn resizes(rt: &impl Abort, table: &mut Table) {
     same(rt, (table.shrink_to_fit(), table.capacity()), (Ok(()), 4));
 }
 
-// Removes contents.
-fn cuts(rt: &impl Abort, table: &mut Table) {
+fn cuts<L: Indexed, S: BuildHasher>(rt: &impl Abort, table: &mut IndexedStore<L, S>)
+where
+    L::Content: Content + SoughtIn<L> + Drop,
+    L::Prepared: Drop,
+{
     same(
         rt,
         (table.mark(), BaseInterner::mark(table)),
@@ -108,37 +182,44 @@ fn cuts(rt: &impl Abort, table: &mut Table) {
     same(rt, (table.len(), table.capacity()), (0, 4));
 }
 
-// The list of contents grew from 4 to twice as many.
+// Asserts that the list of five contents grew from 4 to twice as many, and gives its memory back.
+fn gives_back<K: KindOwned, S: BuildHasher>(rt: &impl Abort, table: &mut Core<ContentOf<K>, S>) {
+    same(rt, table.store().capacity(), 8);
+    same(rt, table.shrink_to_fit(), Ok(()));
+    same(rt, table.store().capacity(), 5);
+}
+
 #[test]
 fn a_shrink_gives_the_memory_of_the_list_back(rt: HostRuntime) {
     let hasher = RandomState::new(&rt).expect(&rt, "a seed");
-    let mut table = Core::with_capacity_and_hasher(rt.alloc(), 0, hasher).expect(&rt, "a table");
-    fills(&rt, &mut table, "a b c d e");
-    same(&rt, table.store().capacity(), 8);
-    same(&rt, table.shrink_to_fit(), Ok(()));
-    same(&rt, table.store().capacity(), 5);
+    let mut table = table_of(&rt, rt.alloc(), hasher, "a b c d e");
+    gives_back(&rt, &mut table);
 }
 
 #[test]
 fn each_call_is_made_at_random_hashes(rt: HostRuntime) {
     let hasher = RandomState::new(&rt).expect(&rt, "a seed");
-    let mut table = Core::with_capacity_and_hasher(rt.alloc(), 0, hasher).expect(&rt, "a table");
-    fills(&rt, &mut table, "abc xyz 123 789");
-    reads(&rt, &table);
-    lends(&rt, &table);
-    resizes(&rt, &mut table);
-    cuts(&rt, &mut table);
+    let mut table = table_of(&rt, rt.alloc(), hasher, "abc xyz 123 789");
+    reads(&rt, &table, &["abc", "xyz", "123", "789"]);
+    changes(&rt, &mut table);
+}
+
+// The replies of calls on an empty table.
+fn replies<K: KindOwned>(
+    rt: &impl Abort,
+    alloc: Global,
+    calls: Vec<Call<ContentOf<K>>>,
+) -> Vec<Reply> {
+    let mut table: Core<ContentOf<K>, Fold> = Core::with_capacity(alloc, 0).expect(rt, "memory");
+    run(alloc, &mut table, calls, &mut Work::new()).expect(rt, "replies")
 }
 
 #[test]
 fn a_run_on_a_core_of_bytes_replies_to_each_call(rt: HostRuntime) {
-    let mut table: Core<BytesContent, Fold> = Core::with_capacity(rt.alloc(), 0).expect(
-        &rt, "memory",
-    );
     let first = Call::Intern(BytesContent::from(b"\xffa".as_slice()));
     let again = Call::Check(BytesContent::from(b"\xffa".as_slice()));
     let calls = vec![in rt.alloc(); first, again, Call::Len].expect(&rt, "calls");
-    let replies = run(rt.alloc(), &mut table, calls, &mut Work::new()).expect(&rt, "replies");
+    let replies = replies(&rt, rt.alloc(), calls);
     let wanted = [
         Reply::Symbol(Some(Symbol::new(0))),
         Reply::Symbol(Some(Symbol::new(0))),

@@ -1,4 +1,5 @@
-//! A text that counts its comparisons, as a content and as a sought value.
+//! Contents that count how often they are compared as the sought value: a trait for them, and a text that
+//! does so.
 ghost use Rattle.std.specs.Prelude.{[], ◌∷◌};
 ghost use Rattle.intaglio_text.specs.StrContent.{str_content_bytes};
 
@@ -7,22 +8,34 @@ use std::alloc::{AllocError, Global};
 use std::cell::Cell;
 use std::hash::BuildHasher;
 
+/// A content that counts the comparisons made with it as the sought value. The prover takes seconds wherever
+/// a table of one content is passed to a function over any store, so tests are over any such content.
+pub trait CountsComparisons: Sought<Self> + Drop {
+    /// A content that is a copy of this text.
+    fn of_text(alloc: Global, text: &str) -> Result<Self, AllocError>;
+
+    /// How many comparisons were made.
+    fn compared(&self) -> usize;
+}
+
 /// A text that counts the comparisons made with it as the sought value.
 #[derive(Drop)]
 pub struct Counting {
     text: StrContent,
-    /// How many were made.
-    pub compared: Cell<usize>,
+    compared: Cell<usize>,
 }
 
-impl Counting {
-    /// Counts the comparisons of a copy of this text.
-    pub fn new(alloc: Global, text: &str) -> Result<Counting, AllocError> {
+impl CountsComparisons for Counting {
+    fn of_text(alloc: Global, text: &str) -> Result<Counting, AllocError> {
         let text = StrContent::from(text.to_string(alloc)?);
         Ok(Counting {
             text,
             compared: Cell::new(0),
         })
+    }
+
+    fn compared(&self) -> usize {
+        self.compared.get()
     }
 }
 

@@ -1,12 +1,15 @@
 //! Frozen tables: what their iterators yield, and what is found in trusted bytes, also in damaged ones.
 use super::assertions::{copy_of, holds, same};
-use intaglio::Symbol;
 use intaglio::packed::bytes::SymbolTable;
+use intaglio::packed::{Packed, PackedForm};
+use intaglio::{Symbol, TableOver};
 use intaglio_frozen::{Frozen, FrozenError, TrustedFrozen};
 use intaglio_hash::FixedState;
+use std::hash::BuildHasher;
 use std::process::Abort;
 
-// The table of `abc`, the empty string and `xy` under the keys 1 and 2, as `checks/frozen_tables.py` writes it.
+// The table of `abc`, the empty string and `xy` under the keys 1 and 2, as
+// `checks/frozen_tables.py` writes it.
 const TABLE: [u8; 110] = [
     73, 78, 84, 65, 71, 76, 73, 79, 1, 0, 0, 0, 0, 0, 0, 0, 1, 0, 0, 0, 0, 0, 0, 0, 2, 0, 0, 0, 0,
     0, 0, 0, 3, 0, 0, 0, 0, 0, 0, 0, 0, 0, 0, 0, 0, 0, 0, 0, 0, 0, 0, 0, 0, 0, 0, 0, 0, 0, 0, 0, 0,
@@ -71,17 +74,31 @@ fn a_batch_is_looked_up_in_a_frozen_table(rt: HostRuntime) {
 fn a_frozen_table_is_thawed(rt: HostRuntime) {
     let frozen = Frozen::open(&TABLE).expect(&rt, "no table");
     let mut thawed: SymbolTable = frozen.thaw(rt.alloc(), FixedState).expect(&rt, "memory");
-    same(&rt, thawed.len(), 3);
     gets_each(&rt, &thawed, &frozen);
-    same(&rt, thawed.get_or_intern(b"xy"), Ok(Symbol::new(2)));
-    same(&rt, thawed.get_or_intern(b"new"), Ok(Symbol::new(3)));
+    interns(&rt, &mut thawed, b"xy", 2);
+    interns(&rt, &mut thawed, b"new", 3);
 }
 
-// Asserts that a table has the strings of a frozen one under their symbols.
-fn gets_each(rt: &impl Abort, table: &SymbolTable, frozen: &Frozen<'_>) {
+// Asserts that a table has the three strings of a frozen one under their symbols.
+fn gets_each<'a, K: PackedForm<'a, Form = &'a [u8]>, S: BuildHasher>(
+    rt: &impl Abort,
+    table: &'a TableOver<Packed<K>, S>,
+    frozen: &Frozen<'_>,
+) {
+    same(rt, table.len(), 3);
     for (symbol, string) in frozen {
         same(rt, table.get(symbol), Some(string));
     }
+}
+
+// Asserts which symbol a form gets.
+fn interns<'q, K: PackedForm<'q>, S: BuildHasher>(
+    rt: &impl Abort,
+    table: &mut TableOver<Packed<K>, S>,
+    form: K::Form,
+    number: u32,
+) {
+    same(rt, table.get_or_intern(form), Ok(Symbol::new(number)));
 }
 
 // Asserts which strings the first symbols have.

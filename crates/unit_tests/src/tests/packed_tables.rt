@@ -1,60 +1,132 @@
 //! Room in one buffer, and the ends of strings. The other calls of packed tables are made by the scripts.
 use super::assertions::{holds, same};
-use intaglio::packed::SymbolTable;
-use intaglio::{BaseInterner, Symbol};
+use intaglio::packed::{Packed, PackedForm, StrKind};
+use intaglio::{BaseInterner, ByteStore, Content, Indexed, Lends, LookedUpIn, Symbol, TableOver};
 use intaglio_core::Store;
 use intaglio_packed::{StringBuffer, StringEnds};
+use std::alloc::Global;
+use std::fmt::Debug;
+use std::hash::BuildHasher;
 use std::process::Abort;
 use test_support::builders::Fold;
 
-fn makes_room(table: &mut SymbolTable<Fold>) -> bool {
+// An empty table, without room.
+fn empty<'q, K: PackedForm<'q>>(rt: &impl Abort, alloc: Global) -> TableOver<Packed<K>, Fold> {
+    TableOver::with_capacity_and_hasher(alloc, 0, Fold::new()).expect(rt, "a table")
+}
+
+fn makes_room<L: ByteStore + Indexed, S: BuildHasher>(table: &mut TableOver<L, S>) -> bool
+where
+    L::Content: Content,
+{
     table.reserve(3).is_ok() && table.reserve_bytes(1000).is_ok() && table.capacity() >= 3
 }
 
 // Whether it then has room for one string alone.
-fn gives_room_up(table: &mut SymbolTable<Fold>) -> bool {
+fn gives_room_up<L: Indexed, S: BuildHasher>(table: &mut TableOver<L, S>) -> bool {
     table.shrink_to_fit().is_ok() && table.capacity() == 1
+}
+
+// Asserts that an empty table makes room, takes in a string of three bytes, and gives the room up.
+fn takes_one<'q, L: ByteStore + LookedUpIn<'q> + Indexed, S: BuildHasher>(
+    rt: &impl Abort,
+    table: &mut TableOver<L, S>,
+    form: L::By,
+)
+where
+    L::Content: Content,
+    L::Prepared: Drop,
+{
+    same(rt, table.capacity(), 0);
+    holds(rt, makes_room(table));
+    same(rt, table.get_or_intern(form), Ok(Symbol::new(0)));
+    same(rt, table.byte_count(), 3);
+    holds(rt, gives_room_up(table));
+}
+
+// Asserts that a table has the form, under the first symbol.
+fn has<'a, L: Lends<'a> + LookedUpIn<'a> + Indexed, S: BuildHasher>(
+    rt: &impl Abort,
+    table: &'a TableOver<L, S>,
+    sought: L::By,
+    wanted: L::Form,
+)
+where
+    L::Content: Content,
+    L::Form: PartialEq + Debug,
+{
+    same(rt, table.get(Symbol::new(0)), Some(wanted));
+    same(rt, table.check_interned(sought), Some(Symbol::new(0)));
+}
+
+// A table with this form, which made room for more, and gave it up.
+fn with_room_for<'q, K: PackedForm<'q>>(
+    rt: &impl Abort,
+    alloc: Global,
+    form: K::Form,
+) -> TableOver<Packed<K>, Fold> {
+    let mut table = empty::<K>(rt, alloc);
+    takes_one(rt, &mut table, form);
+    table
+}
+
+fn has_form<'a, K: PackedForm<'a>>(
+    rt: &impl Abort,
+    table: &'a TableOver<Packed<K>, Fold>,
+    form: K::Form,
+)
+where
+    K::Form: PartialEq + Debug,
+{
+    has(rt, table, form, form);
 }
 
 #[test]
 fn a_packed_table_has_room_and_gives_it_up(rt: HostRuntime) {
-    let mut table = SymbolTable::with_capacity_and_hasher(rt.alloc(), 0, Fold::new()).expect(
-        &rt, "a table",
-    );
-    same(&rt, table.capacity(), 0);
-    holds(&rt, makes_room(&mut table));
-    same(&rt, table.get_or_intern("abc"), Ok(Symbol::new(0)));
-    same(&rt, table.byte_count(), 3);
-    holds(&rt, gives_room_up(&mut table));
-    same(&rt, table.get(Symbol::new(0)), Some("abc"));
-    same(&rt, table.check_interned("abc"), Some(Symbol::new(0)));
+    let table = with_room_for::<StrKind>(&rt, rt.alloc(), "abc");
+    has_form(&rt, &table, "abc");
 }
 
-fn adds(rt: &impl Abort, table: &mut SymbolTable<Fold>, texts: &str) {
-    for text in texts.split(' ') {
-        table.get_or_intern(text).expect(rt, "a symbol");
+fn adds<'q, L: LookedUpIn<'q> + Indexed, S: BuildHasher>(
+    rt: &impl Abort,
+    table: &mut TableOver<L, S>,
+    forms: &[L::By],
+)
+where
+    L::Content: Content,
+    L::Prepared: Drop,
+{
+    for form in forms {
+        table.get_or_intern(*form).expect(rt, "a symbol");
     }
 }
 
 // For how many strings, and for how many bytes of them, the store holds memory.
-fn held(table: &SymbolTable<Fold>) -> (usize, usize) {
+fn held<'q, K: PackedForm<'q>>(table: &TableOver<Packed<K>, Fold>) -> (usize, usize) {
     let store = BaseInterner::store(table);
     (store.capacity(), store.records().held_bytes())
 }
 
-// 5 strings of 15 bytes, each with 13 bytes in front: each room grew to twice what it was, and a shrink leaves none that
-// isn't used.
+// Asserts that 4 and 5 strings of 10 and 15 bytes, each with 13 bytes in front, make each room grow to twice
+// what it was, and a shrink leaves none that isn't used.
+fn doubles<'q, K: PackedForm<'q>>(
+    rt: &impl Abort,
+    alloc: Global,
+    four: &[K::Form],
+    fifth: &[K::Form],
+) {
+    let mut table = empty::<K>(rt, alloc);
+    adds(rt, &mut table, four);
+    same(rt, held(&table), (4, 4 * 13 + 16));
+    adds(rt, &mut table, fifth);
+    same(rt, held(&table), (8, 8 * 13 + 16));
+    same(rt, table.shrink_to_fit(), Ok(()));
+    same(rt, held(&table), (5, 5 * 13 + 15));
+}
+
 #[test]
 fn a_packed_table_doubles_its_memory_and_gives_it_back(rt: HostRuntime) {
-    let mut table = SymbolTable::with_capacity_and_hasher(rt.alloc(), 0, Fold::new()).expect(
-        &rt, "a table",
-    );
-    adds(&rt, &mut table, "a bc def ghij");
-    same(&rt, held(&table), (4, 4 * 13 + 16));
-    adds(&rt, &mut table, "klmno");
-    same(&rt, held(&table), (8, 8 * 13 + 16));
-    same(&rt, table.shrink_to_fit(), Ok(()));
-    same(&rt, held(&table), (5, 5 * 13 + 15));
+    doubles::<StrKind>(&rt, rt.alloc(), &["a", "bc", "def", "ghij"], &["klmno"]);
 }
 
 #[test]

@@ -354,7 +354,8 @@ fn stay_short(rt: &impl Abort, records: &StringRecords) {
     }
 }
 
-// With 13 bytes in front of each string, 330,382,098 strings and 10 bytes of them take at most 2^32 - 1 bytes.
+// With 13 bytes in front of each string, 330,382,098 strings and 10 bytes of
+// them take at most 2^32 - 1 bytes.
 #[test]
 fn records_stay_short_within_four_bytes(rt: HostRuntime) {
     let records = StringRecords::with_capacity(rt.alloc(), 3, 10).expect(&rt, "memory");
@@ -465,7 +466,8 @@ fn a_long_index_finds_what_a_short_one_does(rt: HostRuntime) {
     finds_three(&rt, &mut records, &mut index);
 }
 
-// Asserts that an index of 21 strings that is made anew, and then lengthened, finds none once all are cleared.
+// Asserts that an index of 21 strings that is made anew, and then lengthened,
+// finds none once all are cleared.
 fn finds_none_once_cleared(rt: &impl Abort, mut records: StringRecords) {
     let mut index = over(rt, &records);
     same(rt, index.places(), 21);

@@ -1,6 +1,6 @@
 //! How many contents a search compares, and how often it hashes, if many hashes are equal or share a bucket.
 use super::assertions::same;
-use super::counting::Counting;
+use super::counting::{Counting, CountsComparisons};
 use intaglio::{Core, Symbol, Work};
 use std::alloc::Global;
 use std::fmt::Write;
@@ -27,44 +27,40 @@ struct Row<'a> {
     hashers: Option<usize>,
 }
 
-fn enters(
+fn enters<C: CountsComparisons>(
     rt: &impl Abort,
     alloc: Global,
-    table: &mut Core<Counting, impl HasherCount>,
+    table: &mut Core<C, impl HasherCount>,
     text: &str,
     wanted: u32,
     most: usize,
 ) {
-    let content = Counting::new(alloc, text).expect(rt, "memory");
+    let content = C::of_text(alloc, text).expect(rt, "memory");
     let symbol = table
         .intern(content, &mut Work::new())
         .expect(rt, "a symbol");
     let stored = table.get(symbol).expect(rt, "a content");
-    same(
-        rt,
-        (symbol.id(), stored.compared.get() <= most),
-        (wanted, true),
-    );
+    same(rt, (symbol.id(), stored.compared() <= most), (wanted, true));
 }
 
-fn seeks(
+fn seeks<C: CountsComparisons>(
     rt: &impl Abort,
     alloc: Global,
-    table: &Core<Counting, impl HasherCount>,
+    table: &Core<C, impl HasherCount>,
     text: &str,
     wanted: Option<Symbol>,
     most: usize,
 ) {
-    let sought = Counting::new(alloc, text).expect(rt, "memory");
+    let sought = C::of_text(alloc, text).expect(rt, "memory");
     let symbol = table.search(&sought, &mut Work::new());
-    same(rt, (symbol, sought.compared.get() <= most), (wanted, true));
+    same(rt, (symbol, sought.compared() <= most), (wanted, true));
 }
 
 // Interns the texts, which get the numbers from 0 on.
-fn interns(
+fn interns<C: CountsComparisons>(
     rt: &impl Abort,
     alloc: Global,
-    table: &mut Core<Counting, impl HasherCount>,
+    table: &mut Core<C, impl HasherCount>,
     row: &Row,
 ) {
     for (text, number) in row.texts.split(' ').zip(0..row.count) {
@@ -73,7 +69,12 @@ fn interns(
 }
 
 // Finds the texts, from the last to the first.
-fn finds(rt: &impl Abort, alloc: Global, table: &Core<Counting, impl HasherCount>, row: &Row) {
+fn finds<C: CountsComparisons>(
+    rt: &impl Abort,
+    alloc: Global,
+    table: &Core<C, impl HasherCount>,
+    row: &Row,
+) {
     for (text, number) in row.texts.rsplit(' ').zip((0..row.count).rev()) {
         seeks(
             rt,
@@ -86,10 +87,10 @@ fn finds(rt: &impl Abort, alloc: Global, table: &Core<Counting, impl HasherCount
     }
 }
 
-fn misses(
+fn misses<C: CountsComparisons>(
     rt: &impl Abort,
     alloc: Global,
-    table: &Core<Counting, impl HasherCount>,
+    table: &Core<C, impl HasherCount>,
     texts: &str,
     most: usize,
 ) {
@@ -98,10 +99,14 @@ fn misses(
     }
 }
 
-fn tells_apart(rt: &impl Abort, alloc: Global, builder: impl HasherCount, row: &Row) {
-    let mut table = Core::with_capacity_and_hasher(alloc, row.capacity, builder).expect(
-        rt, "a table",
-    );
+fn tells_apart<C: CountsComparisons, S: HasherCount>(
+    rt: &impl Abort,
+    alloc: Global,
+    builder: S,
+    row: &Row,
+) {
+    let made = Core::<C, S>::with_capacity_and_hasher(alloc, row.capacity, builder);
+    let mut table = made.expect(rt, "a table");
     interns(rt, alloc, &mut table, row);
     misses(rt, alloc, &table, row.equal, row.count as usize);
     misses(rt, alloc, &table, row.other, 0);
@@ -155,7 +160,7 @@ static TESTS: [Row<'static>; 4] = [
 #[test]
 fn equal_hashes_alone_are_compared(rt: HostRuntime) {
     for row in TESTS {
-        tells_apart(&rt, rt.alloc(), Counted::new(row.hash), &row);
+        tells_apart::<Counting, _>(&rt, rt.alloc(), Counted::new(row.hash), &row);
     }
 }
 
@@ -171,7 +176,7 @@ fn a_text_feeds_its_bytes_and_an_end(rt: HostRuntime) {
         other: "",
         hashers: None,
     };
-    tells_apart(
+    tells_apart::<Counting, _>(
         &rt,
         rt.alloc(),
         ExpectedWrites::of(&[b"abc", b"\xff"]),
@@ -195,7 +200,7 @@ fn tells_two_thousand_apart(rt: &impl Abort, alloc: Global, hash: Option<u64>) {
         other: "",
         hashers: Some(2001),
     };
-    tells_apart(rt, alloc, Counted::new(hash), &row);
+    tells_apart::<Counting, _>(rt, alloc, Counted::new(hash), &row);
 }
 
 #[test]

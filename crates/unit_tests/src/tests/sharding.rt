@@ -1,8 +1,10 @@
-//! What `split` and `Shards` do with strings of a list: each is in its shard, and is found at its number in all.
+//! What `split` and `Shards` do with strings of a list: each is in its shard,
+//! and is found at its number in all.
 use super::assertions::{holds, same};
-use intaglio::packed::bytes::SymbolTable;
+use super::tables::packed_of;
+use intaglio::packed::bytes::{BytesKind, SymbolTable};
 use intaglio_core::Symbol;
-use intaglio_frozen::{Frozen, Kind, freeze};
+use intaglio_frozen::{Frozen, Kind, StringList, freeze};
 use intaglio_hash::FixedState;
 use intaglio_merge::{Shards, ShardsError, shard_of, split, split_map};
 use std::alloc::Global;
@@ -10,18 +12,28 @@ use std::process::Abort;
 
 const COUNT: u32 = 3;
 
-// A list of the numbers below 50, as text.
-fn numbers(rt: &impl Abort, alloc: Global) -> SymbolTable {
-    let mut list = SymbolTable::with_hasher(alloc, FixedState).expect(rt, "memory");
+// The numbers below 50, as text.
+fn texts(rt: &impl Abort, alloc: Global) -> Vec<String> {
+    let mut texts = Vec::new(alloc);
     for number in 0..50 {
         let text = format!(in alloc; "{number}").expect(rt, "memory");
-        let _ = list.get_or_intern(text.as_bytes()).expect(rt, "memory");
+        texts.push(text).expect(rt, "memory");
     }
-    list
+    texts
+}
+
+// A list of them.
+fn numbers(rt: &impl Abort, alloc: Global) -> SymbolTable {
+    let texts = texts(rt, alloc);
+    let mut forms = Vec::new(alloc);
+    for text in texts.iter() {
+        forms.push(text.as_bytes()).expect(rt, "memory");
+    }
+    packed_of::<BytesKind, _>(rt, alloc, FixedState, &forms)
 }
 
 // The frozen tables of the shards of a list.
-fn frozen_shards(rt: &impl Abort, alloc: Global, list: &SymbolTable) -> Vec<Vec<u8>> {
+fn frozen_shards<L: StringList>(rt: &impl Abort, alloc: Global, list: &L) -> Vec<Vec<u8>> {
     let mut blocks = Vec::new(alloc);
     for shard in split(alloc, list, COUNT).expect(rt, "memory") {
         let block = freeze(alloc, &shard, Kind::Bytes, 1, 2).expect(rt, "a frozen table");
@@ -53,12 +65,17 @@ fn strings_are_found_in_their_shards(rt: HostRuntime) {
     let shards = Shards::open(alloc, tables_from(&rt, alloc, &blocks, 0)).expect(&rt, "shards");
     same(&rt, shards.count(), 3);
     same(&rt, shards.len(), 50);
-    for (_, string) in list.iter() {
-        let symbol = shards.check_interned(string).expect(&rt, "a symbol");
-        same(&rt, shards.get(symbol), Some(string));
-    }
+    finds_each(&rt, &shards, &list);
     same(&rt, shards.check_interned(b"50"), None);
     same(&rt, shards.get(Symbol::new(50)), None);
+}
+
+// Asserts that each string of a list is found.
+fn finds_each<L: StringList>(rt: &impl Abort, shards: &Shards<'_>, list: &L) {
+    for i in 0..list.len() {
+        let symbol = shards.check_interned(list.string(i)).expect(rt, "a symbol");
+        same(rt, shards.get(symbol), Some(list.string(i)));
+    }
 }
 
 #[test]
@@ -67,15 +84,25 @@ fn the_map_of_a_split_leads_to_the_strings(rt: HostRuntime) {
     let list = numbers(&rt, alloc);
     let blocks = frozen_shards(&rt, alloc, &list);
     let shards = Shards::open(alloc, tables_from(&rt, alloc, &blocks, 0)).expect(&rt, "shards");
-    assert!(&rt; list.len() == 50);
-    let map = split_map(alloc, &list, COUNT).expect(&rt, "memory");
-    same(&rt, map.len(), 50);
-    for ((_, string), symbol) in list.iter().zip(map.iter()) {
-        same(&rt, shards.get(*symbol), Some(string));
+    leads_to_each(&rt, alloc, &shards, &list);
+}
+
+// Asserts that the map leads to each of the 50 strings of a list.
+fn leads_to_each<L: StringList>(rt: &impl Abort, alloc: Global, shards: &Shards<'_>, list: &L) {
+    assert!(rt; list.len() == 50);
+    let map = split_map(alloc, list, COUNT).expect(rt, "memory");
+    same(rt, map.len(), 50);
+    for i in 0..list.len() {
+        let symbol = map.get(i).copied().expect(rt, "a symbol");
+        same(rt, shards.get(symbol), Some(list.string(i)));
     }
-    // These were computed by another program.
+    begins_as_elsewhere(rt, &map);
+}
+
+// Asserts which symbols come first. These were computed by another program.
+fn begins_as_elsewhere(rt: &impl Abort, map: &[Symbol]) {
     for (place, number) in [28, 29, 0, 15, 30, 1, 2, 3, 31, 4].iter().enumerate() {
-        same(&rt, map.get(place).copied(), Some(Symbol::new(*number)));
+        same(rt, map.get(place).copied(), Some(Symbol::new(*number)));
     }
 }
 

@@ -79,7 +79,8 @@ fn place_under_one_hash(rt: &impl Abort, mut lines: Lines, count: u32)
     gives(rt, &lines, 0, (0, 0));
 }
 
-// 11 entries fill a first line, 22 that and an overflow line. The sum of the numbers below n is n * (n - 1) / 2.
+// 11 entries fill a first line, 22 that and an overflow line. The sum of the
+// numbers below n is n * (n - 1) / 2.
 #[test]
 fn entries_of_one_hash_are_found_and_removed(rt: HostRuntime) {
     for count in 0..41 {

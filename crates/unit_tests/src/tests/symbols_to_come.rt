@@ -1,4 +1,4 @@
-//! What the iterator over the symbols of a table has beside the steps that the scripts make.
+//! The iterator over the symbols of a table: tests of what the scripts don't test.
 use super::assertions::{copy_of, holds, same};
 use intaglio::{AllSymbols, Symbol};
 use test_support::builders::hash_of;

@@ -6,27 +6,39 @@ use Rattle.example_records.proofs.repeat.first_repeat.Goals as goal
 pub returns-then-len-held : goal.returns-then-len-held
 returns-then-len-held c =
     let texts : List (List ℕ) = map (λ (key : Bor (List ℕ)). key.now) c.args.keys.now in
-    let size : length texts ≡ length c.args.keys.now = length-map c.args.keys.now (λ (key : Bor (List ℕ)). key.now) in
+    let size : length texts ≡ length c.args.keys.now =
+    length-map c.args.keys.now (λ (key : Bor (List ℕ)). key.now) in
     let within : c.loop-key.key-index < length texts = rw size c.loop-key-test.true in
-    let here = get_or-map (λ (key : Bor (List ℕ)). key.now) c.args.keys.now c.loop-key.key-index (record { ref_ptr = (0, 0); now = [] }) [] c.loop-key-test.true in
-    let same : length c.get_or_intern.new.self.state.contents ≡ length c.loop-key.table.state.contents = sym c.len.ensures.count ∙ c.if-len-held.true ∙ c.len-held.ensures.count in
-    rw c.len-held.ensures.count (repeats c.loop-key.table.state c.get_or_intern.new.self.state texts c.loop-key.key-index c.in_ok-_symbol._symbol _ within here c.loop-key.invariant.held c.in_ok-_symbol.ensures.step c.loop-key.invariant.valid same)
+    let here = get_or-map (λ (key : Bor (List ℕ)). key.now) c.args.keys.now c.loop-key.key-index
+    (record { ref_ptr = (0, 0); now = [] }) [] c.loop-key-test.true in
+    let same : length c.get_or_intern.new.self.state.contents ≡ length c.loop-key.table.state.contents =
+    sym c.len.ensures.count ∙ c.if-len-held.true ∙ c.len-held.ensures.count in
+    rw c.len-held.ensures.count (repeats c.loop-key.table.state c.get_or_intern.new.self.state texts
+    c.loop-key.key-index c.in_ok-_symbol._symbol _ within here c.loop-key.invariant.held
+    c.in_ok-_symbol.ensures.step c.loop-key.invariant.valid same)
 
 pub loop-key-preserved : goal.loop-key-preserved
 loop-key-preserved c =
     let texts : List (List ℕ) = map (λ (key : Bor (List ℕ)). key.now) c.args.keys.now in
-    let size : length texts ≡ length c.args.keys.now = length-map c.args.keys.now (λ (key : Bor (List ℕ)). key.now) in
+    let size : length texts ≡ length c.args.keys.now =
+    length-map c.args.keys.now (λ (key : Bor (List ℕ)). key.now) in
     let within : c.loop-key.key-index < length texts = rw size c.loop-key-test.true in
-    let here = get_or-map (λ (key : Bor (List ℕ)). key.now) c.args.keys.now c.loop-key.key-index (record { ref_ptr = (0, 0); now = [] }) [] c.loop-key-test.true in
-    let other : length c.get_or_intern.new.self.state.contents ≢ length c.loop-key.table.state.contents = (λ e. c.if-len-held.false (c.len.ensures.count ∙ e ∙ sym c.len-held.ensures.count)) in
+    let here = get_or-map (λ (key : Bor (List ℕ)). key.now) c.args.keys.now c.loop-key.key-index
+    (record { ref_ptr = (0, 0); now = [] }) [] c.loop-key-test.true in
+    let other : length c.get_or_intern.new.self.state.contents ≢ length c.loop-key.table.state.contents =
+    (λ e. c.if-len-held.false (c.len.ensures.count ∙ e ∙ sym c.len-held.ensures.count)) in
     record {
-      held = held-too c.loop-key.table.state c.get_or_intern.new.self.state texts c.loop-key.key-index c.in_ok-_symbol._symbol _ within here c.loop-key.invariant.held c.in_ok-_symbol.ensures.step other;
+      held = held-too c.loop-key.table.state c.get_or_intern.new.self.state texts c.loop-key.key-index
+          c.in_ok-_symbol._symbol _ within here c.loop-key.invariant.held c.in_ok-_symbol.ensures.step other;
       valid = c.in_ok-_symbol.ensures.valid;
     }
 
 pub returns : goal.returns
 returns c =
     let texts : List (List ℕ) = map (λ (key : Bor (List ℕ)). key.now) c.args.keys.now in
-    let size : length texts ≡ length c.args.keys.now = length-map c.args.keys.now (λ (key : Bor (List ℕ)). key.now) in
-    let done : c.loop-key.key-index ≡ length c.args.keys.now = omega (arith, c.loop-key.auto.key-index-end, c.loop-key-test.false) in
-    texts-distinct c.loop-key.table.state texts c.loop-key.invariant.valid (c.loop-key.invariant.held ∙ take_all c.loop-key.key-index texts (omega arith))
+    let size : length texts ≡ length c.args.keys.now =
+    length-map c.args.keys.now (λ (key : Bor (List ℕ)). key.now) in
+    let done : c.loop-key.key-index ≡ length c.args.keys.now =
+    omega (arith, c.loop-key.auto.key-index-end, c.loop-key-test.false) in
+    texts-distinct c.loop-key.table.state texts c.loop-key.invariant.valid (c.loop-key.invariant.held
+    ∙ take_all c.loop-key.key-index texts (omega arith))

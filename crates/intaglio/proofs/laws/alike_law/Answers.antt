@@ -1,4 +1,4 @@
-use Rattle.intaglio_run.proofs.Alike.{runs-alike}
+use Rattle.intaglio_interner.proofs.Alike.{runs-alike}
 use Rattle.intaglio.proofs.laws.alike_law.Goals as goal
 
 pub returns : goal.returns

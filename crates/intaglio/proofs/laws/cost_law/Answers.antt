@@ -1,8 +1,8 @@
-use Rattle.intaglio.proofs.Costly.{searches_are_cheap, internings_are_cheap}
+use Rattle.intaglio.proofs.Costly.{searches-are-cheap, internings_are_cheap}
 use Rattle.intaglio.proofs.laws.cost_law.Goals as goal
 
 pub returns-clause-search : goal.returns-clause-search
-returns-clause-search g c = searches_are_cheap
+returns-clause-search g c = searches-are-cheap
 
 pub returns-clause-intern : goal.returns-clause-intern
 returns-clause-intern g c = λ hash k old new. internings_are_cheap g.C.Keyed.key hash old k new

@@ -6,7 +6,10 @@ abbrev pub invariant-loop-i : goal.invariant-loop-i
 invariant-loop-i g l = record {
   places : length l.symbols ≡ length (g.L.StringList.strings l.list);
   room : length l.hashes ≡ 64;
-  ahead : AreFirst (g.T.LookUps.is_hash l.table) (drop l.i (g.L.StringList.strings l.list)) (drop l.used l.hashes);
-  written : Continues (g.T.LookUps.may_be l.table) (g.L.StringList.strings l.list) (drop l.i (g.L.StringList.strings l.list)) (take l.i l.symbols);
-  exact : g.T.LookUps.is_exact l.table → take l.i l.symbols ≡ map (g.T.LookUps.number l.table) (take l.i (g.L.StringList.strings l.list));
+  ahead : AreFirst (g.T.LookUps.is_hash l.table) (drop l.i (g.L.StringList.strings l.list))
+      (drop l.used l.hashes);
+  written : Continues (g.T.LookUps.may_be l.table) (g.L.StringList.strings l.list)
+      (drop l.i (g.L.StringList.strings l.list)) (take l.i l.symbols);
+  exact : g.T.LookUps.is_exact l.table →
+      take l.i l.symbols ≡ map (g.T.LookUps.number l.table) (take l.i (g.L.StringList.strings l.list));
 }

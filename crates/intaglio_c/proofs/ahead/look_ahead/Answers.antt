@@ -5,4 +5,6 @@ use Rattle.intaglio_c.proofs.ahead.look_ahead.Goals as goal
 
 pub returns-then-count-lt-AHEAD_FROM-clause-left : goal.returns-then-count-lt-AHEAD_FROM-clause-left
 returns-then-count-lt-AHEAD_FROM-clause-left g c =
-    alone (g.T.LookUps.is_hash c.args.table.now) (g.L.StringList.strings c.args.list.now) c.args.hashes.now c.args.place (length c.args.hashes.now - 1) c.hash.result c.string.result.now c.string.ensures (omega (arith, c.requires.some)) c.hash.ensures
+    alone (g.T.LookUps.is_hash c.args.table.now) (g.L.StringList.strings c.args.list.now) c.args.hashes.now
+    c.args.place (length c.args.hashes.now - 1) c.hash.result c.string.result.now c.string.ensures
+    (omega (arith, c.requires.some)) c.hash.ensures

@@ -15,5 +15,6 @@ returns-in_err-count-clause-err c =
     let passed = err_from_is_err_and c.from_residual.result c.from_residual.ensures.1 in
     let front = length-flat_map-take strings blocks c.loop-i.i block (omega (arith, c.loop-i-test.true)) in
     let read = ap (λ b. length (strings b)) c.index-blocks-i.is in
-    let over : 2 ^ 32 ≤ length (strings_of blocks) = omega (arith, refused.1, c.len.ensures, c.loop-i.invariant.count, front, read) in
+    let over : 2 ^ 32 ≤ length (strings_of blocks) =
+    omega (arith, refused.1, c.len.ensures, c.loop-i.invariant.count, front, read) in
     rw (passed.1, passed.2, refused.0) (refl, over)

@@ -11,5 +11,7 @@ returns c =
     let fb : AreBytes bs = λ k. (c.type_inv.first k).fits in
     let fc : AreBytes cs = λ k. (c.type_inv.second k).fits in
     let h = c.requires in
-    same_id (kind bs) (kind cs) (count bs) (count cs) (ends_section bs) (ends_section cs) (text_section bs) (text_section cs) c.args.id h.kind
-    (count_same bs cs fb fc h.first h.second h.strings) (ends_same bs cs fb fc h.first h.second h.strings) (text_same bs cs fb fc h.first h.second h.strings) h.id
+    same_id (kind bs) (kind cs) (count bs) (count cs) (ends_section bs) (ends_section cs) (text_section bs)
+    (text_section cs) c.args.id h.kind
+    (count_same bs cs fb fc h.first h.second h.strings) (ends_same bs cs fb fc h.first h.second h.strings)
+    (text_same bs cs fb fc h.first h.second h.strings) h.id

@@ -16,7 +16,8 @@ loop-row-preserved g c =
     let code = c.code-code.result in
     record {
       added =
-          c.in_ok-put_code.ensures ∙ ap (λ t. t ++ write code) c.loop-row.invariant.added ∙ flat_map_more write old (take row cs) code
+          c.in_ok-put_code.ensures ∙ ap (λ t. t ++ write code) c.loop-row.invariant.added
+          ∙ flat_map_more write old (take row cs) code
           ∙ ap (λ t. old ++ flat_map write t) (sym (next cs row code c.code-code.ensures));
       known = grind (arith, common_steps);
     }
@@ -24,4 +25,6 @@ loop-row-preserved g c =
 pub returns-clause-known : goal.returns-clause-known
 returns-clause-known g c =
     let cs = g.L.CodeList.codes c.args.codes.now in
-    λ row code is. c.loop-row.invariant.known row code (omega (arith, slice_get_within cs row code is, c.len-row-end.ensures, c.loop-row-test.false)) is
+    λ row code is.
+    c.loop-row.invariant.known row code
+    (omega (arith, slice_get_within cs row code is, c.len-row-end.ensures, c.loop-row-test.false)) is

@@ -12,10 +12,15 @@ returns-in_err-check_symbol-clause-fault c =
     let after = c.first_line.result.1.now in
     let number = c.loop-rest.number + 1 in
     let written = sym c.is_empty-in-loop-rest.ensures ∙ c.if-is_empty.false in
-    let more = first_fault-more c.loop-rest.rest.now line after c.first_line.ensures.lines written c.args.count number in
+    let more = first_fault-more c.loop-rest.rest.now line after c.first_line.ensures.lines written
+    c.args.count number in
     let passed = err_from_is_err_and c.from_residual.result c.from_residual.ensures.1 in
-    rw (passed.1, passed.2) (subst (Reports c.in_err-check_symbol.field-0.0) (sym more ∙ c.loop-rest.invariant.right)
-    (Reports-or c.in_err-check_symbol.field-0.0 (line_fault c.args.count number line) (first_fault c.args.count (number + 1) (symbol_lines after)) c.in_err-check_symbol.ensures.fault))
+    rw (
+      passed.1,
+      passed.2,
+    ) (subst (Reports c.in_err-check_symbol.field-0.0) (sym more ∙ c.loop-rest.invariant.right)
+    (Reports-or c.in_err-check_symbol.field-0.0 (line_fault c.args.count number line)
+    (first_fault c.args.count (number + 1) (symbol_lines after)) c.in_err-check_symbol.ensures.fault))
 
 pub loop-rest-preserved : goal.loop-rest-preserved
 loop-rest-preserved c =
@@ -23,8 +28,10 @@ loop-rest-preserved c =
     let after = c.first_line.result.1.now in
     let number = c.loop-rest.number + 1 in
     let written = sym c.is_empty-in-loop-rest.ensures ∙ c.if-is_empty.false in
-    let more = first_fault-more c.loop-rest.rest.now line after c.first_line.ensures.lines written c.args.count number in
+    let more = first_fault-more c.loop-rest.rest.now line after c.first_line.ensures.lines written
+    c.args.count number in
     record {
-      right = sym (ap (λ t. option_or t (first_fault c.args.count (number + 1) (symbol_lines after))) c.in_ok-check_symbol.ensures.right) ∙ sym more ∙ c.loop-rest.invariant.right;
+      right = sym (ap (λ t. option_or t (first_fault c.args.count (number + 1) (symbol_lines after)))
+          c.in_ok-check_symbol.ensures.right) ∙ sym more ∙ c.loop-rest.invariant.right;
       room = search rules;
     }

@@ -5,7 +5,8 @@ use Rattle.intaglio_decode.proofs.parts.check_symbols.Given as goal
 
 abbrev pub invariant-loop-rest : goal.invariant-loop-rest
 invariant-loop-rest l = record {
-  right : first_fault l.count (l.number + 1) (symbol_lines l.rest) ≡ first_fault l.count 1 (symbol_lines l.bytes);
+  right : first_fault l.count (l.number + 1) (symbol_lines l.rest)
+      ≡ first_fault l.count 1 (symbol_lines l.bytes);
   room : l.number + length l.rest ≤ length l.bytes;
 }
 

@@ -12,9 +12,16 @@ returns-clause-holds c =
     let bytes = c.args.bytes.now in
     let items = c.in_ok-spellings.spellings.items in
     let spellings : List (List ℕ) = map (λ s. s.now) items in
-    let any : list_any is_blank (lines_of bytes) ≡ true = sym c.behind_blank.ensures.any ∙ ap is_some c.in-Some.is in
+    let any : list_any is_blank (lines_of bytes) ≡ true =
+    sym c.behind_blank.ensures.any ∙ ap is_some c.in-Some.is in
     let same : spellings ≡ spellings_of bytes = c.in_ok-spellings.ensures ∙ c.in-Some.ensures.behind in
-    let count : length spellings ≡ c.len.result = omega (arith, length-map items (λ (s : Bor (List ℕ)). s.now), c.len.ensures, c.in_ok-spellings.spellings.ok.0) in
+    let count : length spellings ≡ c.len.result =
+    omega (
+      arith,
+      length-map items (λ (s : Bor (List ℕ)). s.now),
+      c.len.ensures,
+      c.in_ok-spellings.spellings.ok.0,
+    ) in
     holds-parts bytes spellings (omega arith) any same
     (ap (λ t. first_fault (Some t) 1 (symbol_lines bytes)) count ∙ c.in_ok-check_symbols-2.ensures.right)
     (sym c.ends_line-2.ensures ∙ c.if-not-ends_line.false)
@@ -24,6 +31,12 @@ returns-clause-sound c =
     let bytes = c.args.bytes.now in
     let items = c.in_ok-spellings.spellings.items in
     let spellings : List (List ℕ) = map (λ s. s.now) items in
-    let count : length spellings ≡ c.len.result = omega (arith, length-map items (λ (s : Bor (List ℕ)). s.now), c.len.ensures, c.in_ok-spellings.spellings.ok.0) in
+    let count : length spellings ≡ c.len.result =
+    omega (
+      arith,
+      length-map items (λ (s : Bor (List ℕ)). s.now),
+      c.len.ensures,
+      c.in_ok-spellings.spellings.ok.0,
+    ) in
     known-lines (length spellings) 1 (symbol_lines bytes)
     (ap (λ t. first_fault (Some t) 1 (symbol_lines bytes)) count ∙ c.in_ok-check_symbols-2.ensures.right)

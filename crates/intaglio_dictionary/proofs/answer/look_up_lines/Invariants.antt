@@ -5,7 +5,8 @@ use Rattle.intaglio_dictionary.specs.Answers.{AreFound}
 use Rattle.intaglio_dictionary.proofs.answer.look_up_lines.Given as goal
 
 abbrev pub invariant-loop-rest : goal.invariant-loop-rest
-invariant-loop-rest g l = (done : List (List ℕ)) × AreFound (g.D.Dictionary.strings l.table) (g.D.Dictionary.is_whole l.table) done l.found.items
+invariant-loop-rest g l = (done : List (List ℕ))
+    × AreFound (g.D.Dictionary.strings l.table) (g.D.Dictionary.is_whole l.table) done l.found.items
     × (done ++ lines_of l.rest ≡ lines_of l.input)
 
 abbrev pub decreases-loop-rest : goal.decreases-loop-rest

@@ -6,5 +6,6 @@ use Rattle.intaglio_dictionary.specs.Counting.{count_line}
 use Rattle.intaglio_dictionary.proofs.counting.put_counts.Given as goal
 
 abbrev pub invariant-loop-count : goal.invariant-loop-count
-invariant-loop-count g l = Appends (append_known (g.W.Write.contents l.initial.writer) l.initial.block.items) (append_known (g.W.Write.contents l.writer) l.block.items)
+invariant-loop-count g l = Appends (append_known (g.W.Write.contents l.initial.writer) l.initial.block.items)
+    (append_known (g.W.Write.contents l.writer) l.block.items)
     (flat_map (λ it. count_line it.0 it.1.now) (take l.count-index l.lines))

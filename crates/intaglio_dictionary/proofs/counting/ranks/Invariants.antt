@@ -5,4 +5,5 @@ use Rattle.intaglio_dictionary.specs.Counting.{rank_of}
 use Rattle.intaglio_dictionary.proofs.counting.ranks.Given as goal
 
 abbrev pub invariant-loop-symbol : goal.invariant-loop-symbol
-invariant-loop-symbol l = l.all.items ≡ map (rank_of l.counts) (rows_from (λ n. not (n == 0)) 0 (take l.symbol l.counts))
+invariant-loop-symbol l =
+    l.all.items ≡ map (rank_of l.counts) (rows_from (λ n. not (n == 0)) 0 (take l.symbol l.counts))

@@ -22,5 +22,7 @@ returns-in_err-lines-clause-err g c =
     let fault = rw c.deref-3.ensures.value at c.in_err-lines.ensures.err in
     let passed = err_from_is_err_and c.from_residual.result c.from_residual.ensures.1 in
     rw (passed.1, passed.2)
-    (fault_of_counts (g.D.Dictionary.strings c.args.table.now) (g.D.Dictionary.is_whole c.args.table.now) (strings column) (codes column) c.in-Ok.counts.of.items
-    c.in-Ok.counts.missing c.in-Ok-ranks_in_order.ordered.items c.args.by_symbol c.in_err-lines.field-0.0 c.in-Ok.ensures order fault)
+    (fault_of_counts (g.D.Dictionary.strings c.args.table.now) (g.D.Dictionary.is_whole c.args.table.now)
+    (strings column) (codes column) c.in-Ok.counts.of.items
+    c.in-Ok.counts.missing c.in-Ok-ranks_in_order.ordered.items c.args.by_symbol c.in_err-lines.field-0.0
+    c.in-Ok.ensures order fault)

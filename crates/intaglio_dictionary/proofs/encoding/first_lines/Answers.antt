@@ -17,11 +17,22 @@ loop-skip-preserved c =
     let behind : drop next rest ≡ drop (size + next) bytes = ap (drop next) cut ∙ drop-drop next size bytes in
     let ps = map (λ line. line.now) c.loop-skip.lines.items in
     let items : map (λ line. line.now) c.push_reserved.new.self.items ≡ ps ++ take end rest ∷ [] =
-    ap (map (λ line. line.now)) c.push_reserved.ensures.items ∙ map-append (λ line. line.now) c.loop-skip.lines.items (_ ∷ []) in
-    let starts = starts-more lines_of bytes rest (drop next rest) ps (take end rest) (subst (StartsWith lines_of bytes ps) (sym cut) c.loop-skip.invariant.whole) c.in-Some.ensures.whole in
+    ap (map (λ line. line.now)) c.push_reserved.ensures.items
+    ∙ map-append (λ line. line.now) c.loop-skip.lines.items (_ ∷ []) in
+    let starts =
+    starts-more lines_of bytes rest (drop next rest) ps (take end rest)
+    (subst (StartsWith lines_of bytes ps) (sym cut) c.loop-skip.invariant.whole)
+    c.in-Some.ensures.whole in
     record {
-      whole = subst (λ t. StartsWith lines_of bytes t (drop (size + next) bytes)) (sym items) (subst (StartsWith lines_of bytes (ps ++ take end rest ∷ [])) behind starts);
-      within = omega (arith, c.in-Some.ensures.within, ap length cut, length-drop size bytes, c.loop-skip.invariant.within);
+      whole = subst (λ t. StartsWith lines_of bytes t (drop (size + next) bytes)) (sym items)
+          (subst (StartsWith lines_of bytes (ps ++ take end rest ∷ [])) behind starts);
+      within = omega (
+        arith,
+        c.in-Some.ensures.within,
+        ap length cut,
+        length-drop size bytes,
+        c.loop-skip.invariant.within,
+      );
       some = omega (arith, c.in-Some.ensures.some, c.push_reserved.ensures.len, c.loop-skip.invariant.some);
       none = λ empty. absurd (omega (arith, ap length empty, ap length items, c.push_reserved.ensures.len));
       few = omega (arith, c.push_reserved.ensures.len);
@@ -31,7 +42,10 @@ loop-skip-preserved c =
     }
 
 pub first_whole_line-requires-clause-within : goal.first_whole_line-requires-clause-within
-first_whole_line-requires-clause-within c = omega (arith, ap length (take_rest c.args.bytes.now c.loop-skip.size), c.loop-skip.invariant.short)
+first_whole_line-requires-clause-within c =
+    omega (arith, ap length (take_rest c.args.bytes.now c.loop-skip.size), c.loop-skip.invariant.short)
 
 pub first_whole_line-requires-clause-seen : goal.first_whole_line-requires-clause-seen
-first_whole_line-requires-clause-seen c = subst (λ t. HasNoEnd (take c.loop-skip.skip t)) (sym (take_rest c.args.bytes.now c.loop-skip.size)) c.loop-skip.invariant.skip
+first_whole_line-requires-clause-seen c =
+    subst (λ t. HasNoEnd (take c.loop-skip.skip t)) (sym (take_rest c.args.bytes.now c.loop-skip.size))
+    c.loop-skip.invariant.skip

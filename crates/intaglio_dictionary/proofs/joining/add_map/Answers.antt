@@ -11,6 +11,8 @@ loop-code-preserved c =
     record {
       added = added-next ns code number at c.args.start _ _ _ c.loop-code.invariant.added
           (c.push_reserved.ensures.items ∙ ap (λ n. c.loop-code.joined.items ++ n ∷ []) c.new.ensures);
-      within = below-next ns code number at c.args.count c.loop-code.invariant.within (omega (arith, c.if-number-count.false));
+      within =
+          below-next ns code number at c.args.count c.loop-code.invariant.within
+          (omega (arith, c.if-number-count.false));
       room = search rules;
     }

@@ -13,12 +13,23 @@ loop-i-preserved c =
     let ns = c.index-maps-i.result in
     let count = get_or counts i 0 in
     let below : i < length maps = c.loop-i-test.true in
-    let at-count : slice_get counts i ≡ Some count = slice_get-get_or counts i 0 (omega (arith, below, c.requires)) in
-    let at-map : slice_get maps i ≡ Some ns = slice_get_read maps (length maps) i ns refl below c.index-maps-i.is in
+    let at-count : slice_get counts i ≡ Some count =
+    slice_get-get_or counts i 0 (omega (arith, below, c.requires)) in
+    let at-map : slice_get maps i ≡ Some ns =
+    slice_get_read maps (length maps) i ns refl below c.index-maps-i.is in
     record {
-      joined = joined-next counts maps i count ns at-count at-map c.requires c.loop-i.start c.loop-i.invariant.start _ _ c.loop-i.invariant.joined c.in_ok-start.ensures.added;
-      within = within-next counts maps i count ns at-count at-map c.requires c.loop-i.invariant.within c.in_ok-start.ensures.within;
-      start = omega (arith, c.in_ok-start.ensures.next, c.loop-i.invariant.start, sum-next counts maps i count ns at-count at-map c.requires);
+      joined =
+          joined-next counts maps i count ns at-count at-map c.requires c.loop-i.start
+          c.loop-i.invariant.start
+          _ _ c.loop-i.invariant.joined c.in_ok-start.ensures.added;
+      within = within-next counts maps i count ns at-count at-map c.requires c.loop-i.invariant.within
+          c.in_ok-start.ensures.within;
+      start = omega (
+        arith,
+        c.in_ok-start.ensures.next,
+        c.loop-i.invariant.start,
+        sum-next counts maps i count ns at-count at-map c.requires,
+      );
       few = c.in_ok-start.ensures.few;
     }
 
@@ -30,8 +41,12 @@ returns-in_err-start-clause-err c =
     let ns = c.index-maps-i.result in
     let count = get_or counts i 0 in
     let below : i < length maps = c.loop-i-test.true in
-    let at-count : slice_get counts i ≡ Some count = slice_get-get_or counts i 0 (omega (arith, below, c.requires)) in
-    let at-map : slice_get maps i ≡ Some ns = slice_get_read maps (length maps) i ns refl below c.index-maps-i.is in
+    let at-count : slice_get counts i ≡ Some count =
+    slice_get-get_or counts i 0 (omega (arith, below, c.requires)) in
+    let at-map : slice_get maps i ≡ Some ns =
+    slice_get_read maps (length maps) i ns refl below c.index-maps-i.is in
     let passed = err_from_is_err_and c.from_residual.result c.from_residual.ensures.1 in
-    let fault = fault-of counts maps i count ns at-count at-map c.requires c.loop-i.start _ c.loop-i.invariant.start c.loop-i.invariant.within c.in_err-start.ensures.err in
+    let fault =
+    fault-of counts maps i count ns at-count at-map c.requires c.loop-i.start _ c.loop-i.invariant.start
+    c.loop-i.invariant.within c.in_err-start.ensures.err in
     rw (passed.1, passed.2) fault

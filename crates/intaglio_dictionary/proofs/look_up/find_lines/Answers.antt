@@ -12,5 +12,7 @@ returns-clause-written g c =
     let each = rw c.deref.ensures.value at c.in_ok-found.ensures in
     let wrote = rw c.deref-2.ensures.value at c.in_ok-write_output.ensures.written in
     of-input (g.R.Read.remaining c.args.reader.now) input
-    (λ bytes. whole → Writes g.W.Write.contents c.args.writer.now c.write_output.new.writer (answers strings bytes)) c.in_ok-input.ensures.bytes
+    (λ bytes. whole →
+    Writes g.W.Write.contents c.args.writer.now c.write_output.new.writer (answers strings bytes))
+    c.in_ok-input.ensures.bytes
     (λ is. rw (found-answers strings whole (lines_of input) c.in_ok-found.found.items each is) at wrote)

@@ -14,7 +14,8 @@ returns-in_ok-write_output-in-None-clause-known g c =
     let none : unknown c.args.symbols.now (g.D.Dictionary.strings c.args.table.now) ≡ None = search rules in
     all-below _ _ none
 
-pub returns-in_err-write_output-in-None-clause-unknown : goal.returns-in_err-write_output-in-None-clause-unknown
+pub returns-in_err-write_output-in-None-clause-unknown :
+    goal.returns-in_err-write_output-in-None-clause-unknown
 returns-in_err-write_output-in-None-clause-unknown g c =
     let none : unknown c.args.symbols.now (g.D.Dictionary.strings c.args.table.now) ≡ None = search rules in
     let residual = c.from_residual-in_err-write_output-in-None in

@@ -9,6 +9,8 @@ abbrev pub invariant-loop-number : goal.invariant-loop-number
 invariant-loop-number l = record {
   right : l.fn.text ≡ flat_map map_line l.maps.items ++ l.rest;
   len : length l.maps.items ≡ l.number;
-  written : (all : List IndexedMap) (tail : List ℕ) → length all ≡ l.fn.count → All HasMapNumbers all → l.fn.text ≡ flat_map map_line all ++ tail
-      → (more : List IndexedMap) × (all ≡ l.maps.items ++ more) × (l.rest ≡ flat_map map_line more ++ tail) × All HasMapNumbers more;
+  written : (all : List IndexedMap) (tail : List ℕ) → length all ≡ l.fn.count → All HasMapNumbers all →
+      l.fn.text ≡ flat_map map_line all ++ tail
+      → (more : List IndexedMap) × (all ≡ l.maps.items ++ more) × (l.rest ≡ flat_map map_line more ++ tail)
+      × All HasMapNumbers more;
 }

@@ -6,4 +6,5 @@ use Rattle.intaglio_dictionary.specs.Columns.{code_bytes}
 use Rattle.intaglio_dictionary.proofs.map_index.hash_codes.Given as goal
 
 abbrev pub invariant-loop-code : goal.invariant-loop-code
-invariant-loop-code l = l.hasher ≡ write (with_keys 0 l.fn.key1) (flat_map code_bytes (take l.code-index l.codes))
+invariant-loop-code l =
+    l.hasher ≡ write (with_keys 0 l.fn.key1) (flat_map code_bytes (take l.code-index l.codes))

@@ -1,7 +1,6 @@
 use Rattle.std.proofs.Common.{ℕ, ◌==◌}
-use Rattle.std.specs.Io.KnownBytes.{append_known}
 use Rattle.intaglio_column_file.specs.Layout.{codes}
-use Rattle.intaglio_dictionary.proofs.Ranged.{all_put, none_put, row_put}
+use Rattle.intaglio_dictionary.proofs.Ranged.{none_put, row_put}
 use Rattle.intaglio_dictionary.proofs.matching.put_rows_of.Goals as goal
 
 pub loop-row-init : goal.loop-row-init
@@ -9,4 +8,5 @@ loop-row-init g c = none_put (λ (x : ℕ). x == c.args.code) (codes c.args.colu
 
 pub loop-row-preserved : goal.loop-row-preserved
 loop-row-preserved g c =
-    row_put (λ (x : ℕ). x == c.args.code) (codes c.args.column.now) _ c.loop-row.from c.in-Some.row _ _ c.loop-row.invariant c.in-Some.ensures c.in_ok-put_number.ensures
+    row_put (λ (x : ℕ). x == c.args.code) (codes c.args.column.now) _ c.loop-row.from c.in-Some.row _ _
+    c.loop-row.invariant c.in-Some.ensures c.in_ok-put_number.ensures

@@ -6,7 +6,9 @@ use Rattle.intaglio_dictionary.proofs.Ranged.{HavePut}
 use Rattle.intaglio_dictionary.proofs.matching.put_rows_of.Given as goal
 
 abbrev pub invariant-loop-row : goal.invariant-loop-row
-invariant-loop-row g l = HavePut (λ c. c == l.code) (codes l.column) l.from (append_known (g.W.Write.contents l.initial.writer) l.initial.block.items)
+invariant-loop-row g l =
+    HavePut (λ c. c == l.code) (codes l.column) l.from
+    (append_known (g.W.Write.contents l.initial.writer) l.initial.block.items)
     (append_known (g.W.Write.contents l.writer) l.block.items)
 
 abbrev pub decreases-loop-row : goal.decreases-loop-row

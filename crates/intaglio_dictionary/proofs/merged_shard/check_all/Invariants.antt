@@ -5,5 +5,6 @@ use Rattle.intaglio_dictionary.specs.declared.merged_shard.MergedShard.{MergedSh
 use Rattle.intaglio_dictionary.proofs.merged_shard.check_all.Given as goal
 
 abbrev pub invariant-loop-i : goal.invariant-loop-i
-invariant-loop-i l = (first shard : MergedShard) (k : ℕ) → k < l.i → slice_get l.shards 0 ≡ Some first → slice_get l.shards k ≡ Some shard
+invariant-loop-i l = (first shard : MergedShard) (k : ℕ) → k < l.i → slice_get l.shards 0 ≡ Some first →
+    slice_get l.shards k ≡ Some shard
     → FitsAt (length l.shards) first k shard

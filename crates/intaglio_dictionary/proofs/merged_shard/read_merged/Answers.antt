@@ -7,5 +7,7 @@ pub returns-then-not-is_empty-clause-written : goal.returns-then-not-is_empty-cl
 returns-then-not-is_empty-clause-written c = λ shard numbers e.
     let front = c.in_ok-number.ensures.written _ _ _ numbers.number numbers.count e in
     let rest = c.in_ok-parts0.ensures.written _ _ _ _ numbers.parts0 numbers.parts1 numbers.size front.2 in
-    let line = c.in_ok-id.ensures.written shard.id [] numbers.identified (rest.3 ∙ sym (append-nil (shard_line shard.id))) in
+    let line =
+    c.in_ok-id.ensures.written shard.id [] numbers.identified (rest.3
+    ∙ sym (append-nil (shard_line shard.id))) in
     grind (arith, common_steps, c.is_empty.ensures, c.if-not-is_empty.true, ap length line.1)

@@ -8,5 +8,6 @@ returns-in_err-merged-clause-err g c =
 
 pub returns-in_err-bytes-clause-err : goal.returns-in_err-bytes-clause-err
 returns-in_err-bytes-clause-err g c =
-    let passed = err_from_is_err_and c.from_residual-in_err-bytes.result c.from_residual-in_err-bytes.ensures.1 in
+    let passed =
+    err_from_is_err_and c.from_residual-in_err-bytes.result c.from_residual-in_err-bytes.ensures.1 in
     rw (passed.1, passed.2, ← c.in_ok-merged.ensures.union) c.in_err-bytes.ensures.err

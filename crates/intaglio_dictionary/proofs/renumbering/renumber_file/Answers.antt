@@ -9,5 +9,6 @@ pub returns-in-Ok-clause-lines : goal.returns-in-Ok-clause-lines
 returns-in-Ok-clause-lines c = λ old new text is few.
     let column = c.args.column.now in
     ap (flat_map (code_line new text)) c.in-Ok.ensures.codes
-    ∙ kept old new text c.args.map.now (strings column) is few (omega (arith, c.if-len-id.false, c.len.ensures, c.id.ensures.count))
+    ∙ kept old new text c.args.map.now (strings column) is few
+    (omega (arith, c.if-len-id.false, c.len.ensures, c.id.ensures.count))
     (omega (arith, c.len-rows.ensures.few)) (codes column) c.requires.codes

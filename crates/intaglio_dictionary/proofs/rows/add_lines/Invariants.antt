@@ -11,6 +11,7 @@ abbrev pub invariant-loop-row : goal.invariant-loop-row
 invariant-loop-row g l = record {
   lines : flat_map (λ string. spelling_line string.now) l.lines.items
       ≡ flat_map (λ string. spelling_line string.now) l.initial.lines.items
-      ++ flat_map (code_line (g.D.Dictionary.strings l.table) (option_map (λ t. t.now) l.missing)) (take (l.row - l.fn.range.first) (drop l.fn.range.first (codes l.column)));
+      ++ flat_map (code_line (g.D.Dictionary.strings l.table) (option_map (λ t. t.now) l.missing))
+      (take (l.row - l.fn.range.first) (drop l.fn.range.first (codes l.column)));
   within : l.row - l.fn.range.first ≤ l.fn.range.last + 1 - l.fn.range.first;
 }

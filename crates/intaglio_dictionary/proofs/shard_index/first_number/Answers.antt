@@ -4,7 +4,8 @@ use Rattle.intaglio_dictionary.specs.ShardIndex.{digits}
 use Rattle.intaglio_dictionary.proofs.Indexed.{front-digits, room-digits}
 use Rattle.intaglio_dictionary.proofs.shard_index.first_number.Goals as goal
 
-pub returns-in_default-split_at_checked-clause-written : goal.returns-in_default-split_at_checked-clause-written
+pub returns-in_default-split_at_checked-clause-written :
+    goal.returns-in_default-split_at_checked-clause-written
 returns-in_default-split_at_checked-clause-written c = λ n tail small e.
     let rest = append_cancel_left (32 ∷ []) _ _ (sym c.in-Some.ensures ∙ e) in
     omega (arith, room-digits n _ tail rest, c.in_default-split_at_checked.ensures.cases)

@@ -10,5 +10,6 @@ invariant-loop-number l = record {
   right : l.fn.text ≡ first_line l.count ++ (flat_map shard_line l.ids.items ++ l.rest);
   len : length l.ids.items ≡ l.number;
   written : (all : List DictionaryId) → AreIds all → l.fn.text ≡ index_text all
-      → (more : List DictionaryId) × (length all ≡ l.count) × (all ≡ l.ids.items ++ more) × (l.rest ≡ flat_map shard_line more) × All HasNumbers more;
+      → (more : List DictionaryId) × (length all ≡ l.count) × (all ≡ l.ids.items ++ more)
+      × (l.rest ≡ flat_map shard_line more) × All HasNumbers more;
 }

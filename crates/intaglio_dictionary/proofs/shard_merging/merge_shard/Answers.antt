@@ -8,4 +8,5 @@ returns-in_err-check_own-clause-err g c =
     rw (passed.1, passed.2) (c.in_err-check_own.ensures.err c.args.kind)
 
 pub returns-clause-own : goal.returns-clause-own
-returns-clause-own g c = own-union c.args.place.count c.args.place.number c.args.parts.now c.in_ok-check_own.ensures.own
+returns-clause-own g c =
+    own-union c.args.place.count c.args.place.number c.args.parts.now c.in_ok-check_own.ensures.own

@@ -8,4 +8,5 @@ returns-in_err-size-clause-misfit g c =
     rw (passed.1, passed.2, ← c.deref.ensures.value) c.in_err-size.ensures.misfit
 
 pub returns-in_err-size-clause-part : goal.returns-in_err-size-clause-part
-returns-in_err-size-clause-part g c = on-err c.from_residual.result (rw (← c.deref.ensures.value) c.in_err-size.ensures.part)
+returns-in_err-size-clause-part g c =
+    on-err c.from_residual.result (rw (← c.deref.ensures.value) c.in_err-size.ensures.part)

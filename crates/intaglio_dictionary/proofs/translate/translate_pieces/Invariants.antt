@@ -7,9 +7,11 @@ abbrev pub invariant-loop-size : goal.invariant-loop-size
 invariant-loop-size g l = record {
   within : l.at ≤ length l.bytes;
   goes : (input old left : Option (List ℕ))
-      → HasTranslated g.T.Translator.pieces (g.T.Translator.fits l.translator) (g.T.Translator.translated l.translator) input old
+      → HasTranslated g.T.Translator.pieces (g.T.Translator.fits l.translator)
+      (g.T.Translator.translated l.translator) input old
       (g.W.Write.contents l.initial.writer) l.initial.block.items l.bytes left l.fn.number
-      → HasTranslated g.T.Translator.pieces (g.T.Translator.fits l.translator) (g.T.Translator.translated l.translator) input old
+      → HasTranslated g.T.Translator.pieces (g.T.Translator.fits l.translator)
+      (g.T.Translator.translated l.translator) input old
       (g.W.Write.contents l.writer) l.block.items (drop l.at l.bytes) left l.count;
 }
 

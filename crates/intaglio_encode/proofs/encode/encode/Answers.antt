@@ -2,7 +2,9 @@ use Rattle.intaglio_encode.proofs.Known.{of_input}
 use Rattle.intaglio_encode.proofs.encode.encode.Goals as goal
 
 pub returns-clause-zero : goal.returns-clause-zero
-returns-clause-zero g c = of_input _ _ _ _ c.in_ok-input.ensures.bytes c.deref.ensures.value c.encode_input.ensures.zero
+returns-clause-zero g c =
+    of_input _ _ _ _ c.in_ok-input.ensures.bytes c.deref.ensures.value c.encode_input.ensures.zero
 
 pub returns-clause-accepts : goal.returns-clause-accepts
-returns-clause-accepts g c = of_input _ _ _ _ c.in_ok-input.ensures.bytes c.deref.ensures.value c.encode_input.ensures.accepts
+returns-clause-accepts g c =
+    of_input _ _ _ _ c.in_ok-input.ensures.bytes c.deref.ensures.value c.encode_input.ensures.accepts

@@ -20,8 +20,10 @@ loop-place-preserved c =
     let all = c.args.strings.now in
     let n = c.loop-place.place in
     record {
-      found = found-more all n (λ s. find c.args.block.now s.now) _ _ _ _ c.loop-place-test.true c.loop-place.invariant.found c.push_reserved.ensures.items c.find_hashed.ensures;
-      known = subst (λ t. AreHashed (λ s. hash c.args.block.now s.now) c.next_hash-hash.new.ahead t c.next_hash-hash.new.hashes) (behind-place all n) c.next_hash-hash.ensures.known;
+      found = found-more all n (λ s. find c.args.block.now s.now) _ _ _ _ c.loop-place-test.true
+          c.loop-place.invariant.found c.push_reserved.ensures.items c.find_hashed.ensures;
+      known = subst (λ t. AreHashed (λ s. hash c.args.block.now s.now) c.next_hash-hash.new.ahead t
+          c.next_hash-hash.new.hashes) (behind-place all n) c.next_hash-hash.ensures.known;
       group = c.next_hash-hash.ensures.group;
       within = c.next_hash-hash.ensures.within;
       count = search rules;
@@ -32,8 +34,10 @@ pub next_hash-hash-requires-clause-known : goal.next_hash-hash-requires-clause-k
 next_hash-hash-requires-clause-known c =
     let all = c.args.strings.now in
     let n = c.loop-place.place in
-    subst (λ t. AreHashed (λ s. hash c.args.block.now s.now) c.loop-place.ahead t c.loop-place.hashes) (sym (from-place all n)) c.loop-place.invariant.known
+    subst (λ t. AreHashed (λ s. hash c.args.block.now s.now) c.loop-place.ahead t c.loop-place.hashes)
+    (sym (from-place all n)) c.loop-place.invariant.known
 
 pub find_hashed-requires : goal.find_hashed-requires
 find_hashed-requires c =
-    hash-there c.args.strings.now c.loop-place.place (λ s. hash c.args.block.now s.now) _ _ c.loop-place-test.true c.next_hash-hash.ensures.hash
+    hash-there c.args.strings.now c.loop-place.place (λ s. hash c.args.block.now s.now) _ _
+    c.loop-place-test.true c.next_hash-hash.ensures.hash

@@ -16,9 +16,14 @@ loop-member-preserved c =
     let nothing : Hashed = record { hash = 0; symbol = 0 } in
     let m = get_or ms n nothing in
     partly-more c.args.hashes.now c.args.groups c.args.group ms n c.loop-member.least m.symbol m.hash
-    (get_or-map (λ (m : Hashed). m.symbol) ms n nothing 0 c.loop-member-test.true) (get_or-map (λ (m : Hashed). m.hash) ms n nothing 0 c.loop-member-test.true)
-    c.if-symbol-least.false c.if-symbol-hashes.false (All-get_or (IsPaired c.args.hashes.now) ms n nothing c.loop-member-test.true c.requires.paired c.if-symbol-hashes.false) (sym c.scaled.ensures.value ∙ c.if-scaled-group.false) c.loop-member.invariant
+    (get_or-map (λ (m : Hashed). m.symbol) ms n nothing 0 c.loop-member-test.true)
+    (get_or-map (λ (m : Hashed). m.hash) ms n nothing 0 c.loop-member-test.true)
+    c.if-symbol-least.false c.if-symbol-hashes.false
+    (All-get_or (IsPaired c.args.hashes.now) ms n nothing c.loop-member-test.true c.requires.paired
+    c.if-symbol-hashes.false) (sym c.scaled.ensures.value ∙ c.if-scaled-group.false)
+    c.loop-member.invariant
 
 pub returns : goal.returns
 returns c _ =
-    partly-all c.args.hashes.now c.args.groups c.args.group c.args.members.now c.loop-member.member-index c.loop-member.least c.loop-member-test.false c.loop-member.invariant
+    partly-all c.args.hashes.now c.args.groups c.args.group c.args.members.now c.loop-member.member-index
+    c.loop-member.least c.loop-member-test.false c.loop-member.invariant

@@ -8,12 +8,27 @@ pub loop-start-preserved : goal.loop-start-preserved
 loop-start-preserved c =
     let count = c.min-count.result in
     let rest = drop count c.loop-start.hashes in
-    let long : length (take count (c.hash_strings.new.hashes ++ rest)) ≡ count = batch-length c.hash_strings.new.hashes rest c.loop-start.hashes count c.hash_strings.ensures.len (omega (arith, c.min-count.ensures, c.min-count.array_long)) in
+    let long : length (take count (c.hash_strings.new.hashes ++ rest)) ≡ count =
+    batch-length c.hash_strings.new.hashes rest c.loop-start.hashes count c.hash_strings.ensures.len
+    (omega (arith, c.min-count.ensures, c.min-count.array_long)) in
     record {
-      found = found-further c.args.block.now c.loop-start.start count c.loop-start.invariant.found (rw long at c.in_default.ensures);
+      found = found-further c.args.block.now c.loop-start.start count c.loop-start.invariant.found
+          (rw long at c.in_default.ensures);
       within = omega (arith, c.min-count.ensures, c.len-in-loop-start.ensures.count);
     }
 
+pub returns-in-Some : goal.returns-in-Some
+returns-in-Some c =
+    let first = c.in-Some.ensures.1 in
+    let found =
+    found-further c.args.block.now c.loop-start.start first.0 c.loop-start.invariant.found first.2 in
+    (c.in-Some.ensures.0, rw (← first.1) at found, first.3)
+
 pub returns : goal.returns
 returns c = λ i w is.
-    c.loop-start.invariant.found i (omega (arith, slice_get_within (strings c.args.block.now) i w is, c.loop-start-test.false, c.len.ensures.count)) w is
+    c.loop-start.invariant.found i (omega (
+      arith,
+      slice_get_within (strings c.args.block.now) i w is,
+      c.loop-start-test.false,
+      c.len.ensures.count,
+    )) w is

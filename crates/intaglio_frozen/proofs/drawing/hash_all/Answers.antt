@@ -10,6 +10,8 @@ loop-i-preserved g c =
     let ws = g.L.StringList.strings c.args.list.now in
     let i = c.loop-i.i in
     let w = c.string-string.result.now in
-    let more = fold_more after_string c.build_hasher-hasher.result ws i w (slice_get_within ws i w c.string-string.ensures) in
+    let more =
+    fold_more after_string c.build_hasher-hasher.result ws i w
+    (slice_get_within ws i w c.string-string.ensures) in
     let at : get_or ws i w ≡ w = get_or_from_slice_get ws i w w c.string-string.ensures in
     rw (more, at, ← c.loop-i.invariant) (c.write.ensures ∙ ap (λ h. write h w) c.write_u64.ensures)

@@ -1,4 +1,4 @@
-use Rattle.std.proofs.Common.{◌≡◌, ◌∙◌, ◌∷◌, ◌++◌, [], length, sym, ap, arith}
+use Rattle.std.proofs.Common.{◌≡◌, ◌∙◌, ◌∷◌, ◌++◌, [], length, take, sym, ap, arith}
 use Rattle.std.proofs.lemmas.List.{length-take-le, take_all}
 use Rattle.std.proofs.lemmas.Option.{slice_get_within}
 use Rattle.intaglio_frozen.proofs.Distinct.{added, again, none-equal, take-next}
@@ -10,10 +10,13 @@ loop-i-preserved g c =
     let i = c.loop-i.i in
     let w = c.string.result.now in
     let below = slice_get_within ws i w c.string.ensures in
-    let size : length c.loop-i.table.state.contents ≡ i = ap length c.loop-i.invariant.contents ∙ length-take-le i ws (omega (arith, below)) in
-    let new = added c.loop-i.table.state c.get_or_intern.new.self.state w c.in_ok-symbol.symbol c.in_ok-symbol.ensures.step (omega (arith, size, c.id.ensures, c.if-id-i.false)) in
+    let size : length c.loop-i.table.state.contents ≡ i =
+    ap length c.loop-i.invariant.contents ∙ length-take-le i ws (omega (arith, below)) in
+    let new = added c.loop-i.table.state c.get_or_intern.new.self.state w c.in_ok-symbol.symbol
+    c.in_ok-symbol.ensures.step (omega (arith, size, c.id.ensures, c.if-id-i.false)) in
     record {
-      contents = new ∙ ap (λ t. t ++ w ∷ []) c.loop-i.invariant.contents ∙ sym (take-next ws i w c.string.ensures);
+      contents = new ∙ ap (λ t. t ++ w ∷ []) c.loop-i.invariant.contents
+          ∙ sym (take-next ws i w c.string.ensures);
       distinct = c.in_ok-symbol.ensures.valid.distinct;
     }
 
@@ -21,11 +24,17 @@ pub returns-then-id-i : goal.returns-then-id-i
 returns-then-id-i g c =
     let ws = g.L.StringList.strings c.args.list.now in
     let below = rw c.id.ensures at c.if-id-i.true in
-    rw c.id-then-id-i.ensures (again ws c.loop-i.table.state c.get_or_intern.new.self.state c.loop-i.i c.in_ok-symbol.symbol c.string.result.now
-    c.loop-i.invariant.contents c.string.ensures below c.in_ok-symbol.ensures.interned.kept c.in_ok-symbol.ensures.interned.stored)
+    rw c.id-then-id-i.ensures (
+      again ws c.loop-i.table.state c.get_or_intern.new.self.state c.loop-i.i
+          c.in_ok-symbol.symbol c.string.result.now
+          c.loop-i.invariant.contents c.string.ensures below c.in_ok-symbol.ensures.interned.kept
+          c.in_ok-symbol.ensures.interned.stored,
+      none-equal (take c.loop-i.i ws) (rw c.loop-i.invariant.contents at c.loop-i.invariant.distinct),
+    )
 
 pub returns : goal.returns
 returns g c =
     let ws = g.L.StringList.strings c.args.list.now in
-    let all = c.loop-i.invariant.contents ∙ take_all c.loop-i.i ws (omega (arith, c.loop-i-test.false, c.len-i-end.ensures)) in
+    let all = c.loop-i.invariant.contents
+    ∙ take_all c.loop-i.i ws (omega (arith, c.loop-i-test.false, c.len-i-end.ensures)) in
     none-equal ws (rw all at c.loop-i.invariant.distinct)

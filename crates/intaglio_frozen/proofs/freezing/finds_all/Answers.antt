@@ -8,7 +8,8 @@ use Rattle.intaglio_frozen.proofs.freezing.finds_all.Goals as goal
 pub first_misplaced-requires-clause-within : goal.first_misplaced-requires-clause-within
 first_misplaced-requires-clause-within c =
     let bs = c.args.block.now in
-    let same : length c.args.hashes.now ≡ length (strings bs) = ap length c.requires ∙ length-map (strings bs) (hash_under (key0 bs) (key1 bs)) in
+    let same : length c.args.hashes.now ≡ length (strings bs) =
+    ap length c.requires ∙ length-map (strings bs) (hash_under (key0 bs) (key1 bs)) in
     omega (arith, same)
 
 pub first_misplaced-requires-clause-hashes : goal.first_misplaced-requires-clause-hashes
@@ -17,5 +18,6 @@ first_misplaced-requires-clause-hashes c = hashes-of c.args.block.now c.args.has
 pub returns-in-None : goal.returns-in-None
 returns-in-None c = λ _.
     let bs = c.args.block.now in
-    let same : length c.args.hashes.now ≡ length (strings bs) = ap length c.requires ∙ length-map (strings bs) (hash_under (key0 bs) (key1 bs)) in
+    let same : length c.args.hashes.now ≡ length (strings bs) =
+    ap length c.requires ∙ length-map (strings bs) (hash_under (key0 bs) (key1 bs)) in
     found-all bs (length c.args.hashes.now) same c.in-None.ensures

@@ -1,6 +1,9 @@
 use Rattle.std.proofs.Common.{ℕ, ◌<◌}
-use Rattle.intaglio_frozen.specs.Freezing.{LacksPlaces}
+use Rattle.intaglio_frozen.specs.Freezing.{HasNoEqual, LacksPlaces}
 use Rattle.intaglio_frozen.proofs.freezing.freeze_near.Given as goal
 
 abbrev pub invariant-loop-attempt : goal.invariant-loop-attempt
-invariant-loop-attempt g l = (n : ℕ) → n < l.attempt → LacksPlaces (g.L.StringList.strings l.list) l.key0 l.key1 n
+invariant-loop-attempt g l = record {
+  lack : (n : ℕ) → n < l.attempt → LacksPlaces (g.L.StringList.strings l.list) l.key0 l.key1 n;
+  distinct : 0 < l.attempt → HasNoEqual (g.L.StringList.strings l.list);
+}

@@ -3,4 +3,5 @@ use Rattle.intaglio_frozen.specs.Layout.{strings}
 use Rattle.intaglio_frozen.proofs.freezing.has_strings.Given as goal
 
 abbrev pub invariant-loop-i : goal.invariant-loop-i
-invariant-loop-i g l = (k : ℕ) → k < l.i → slice_get (strings l.block) k ≡ slice_get (g.L.StringList.strings l.list) k
+invariant-loop-i g l =
+    (k : ℕ) → k < l.i → slice_get (strings l.block) k ≡ slice_get (g.L.StringList.strings l.list) k

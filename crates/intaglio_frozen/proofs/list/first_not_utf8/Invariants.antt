@@ -1,6 +1,6 @@
-use Rattle.std.proofs.Common.{◌≡◌, ℕ, List, ◌<◌, Some, slice_get}
-use Rattle.std.specs.Str.{IsUtf8}
+-- The strings so far are UTF-8.
+use Rattle.intaglio_frozen.specs.IsFrozen.{AreTextsBefore}
 use Rattle.intaglio_frozen.proofs.list.first_not_utf8.Given as goal
 
 abbrev pub invariant-loop-i : goal.invariant-loop-i
-invariant-loop-i g l = (k : ℕ) (w : List ℕ) → k < l.i → slice_get (g.L.StringList.strings l.list) k ≡ Some w → IsUtf8 w
+invariant-loop-i g l = AreTextsBefore l.i (g.L.StringList.strings l.list)

@@ -9,7 +9,13 @@ unfolding read_short
 returns-then-len-ge4 c =
     let bs = c.args.bytes.now in
     let half = number-half bs (λ k. (c.type_inv.bytes k).fits) in
-    rw (c.read_half.ensures, c.read_half-then-len-ge4.ensures, half 0, half (length bs - 4), le-leb 4 (length bs) c.if-len-ge4.true)
+    rw (
+      c.read_half.ensures,
+      c.read_half-then-len-ge4.ensures,
+      half 0,
+      half (length bs - 4),
+      le-leb 4 (length bs) c.if-len-ge4.true,
+    )
 
 pub returns-then-len-gt0 : goal.returns-then-len-gt0
 unfolding read_short

@@ -6,7 +6,8 @@ use Rattle.intaglio_hash.proofs.fixed_hasher.written.Goals.{then-len-le-MEDIUM, 
 
 pub returns-then-len-le-SHORT : goal.returns-then-len-le-SHORT
 unfolding write
-returns-then-len-le-SHORT c = rw (c.folded.ensures, c.short.ensures, le-leb (length c.args.bytes.now) 8 c.if-len-le-SHORT.true)
+returns-then-len-le-SHORT c =
+    rw (c.folded.ensures, c.short.ensures, le-leb (length c.args.bytes.now) 8 c.if-len-le-SHORT.true)
 
 pub returns : goal.returns
 unfolding write

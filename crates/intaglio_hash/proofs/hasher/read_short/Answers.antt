@@ -5,7 +5,8 @@ use Rattle.intaglio_hash.proofs.hasher.read_short.Goals as goal
 pub returns-then-len-ge4 : goal.returns-then-len-ge4
 returns-then-len-ge4 c =
     let bs = c.args.bytes.now in
-    number-halves bs (λ k. (c.type_inv.bytes k).fits) (length bs) _ _ c.if-len-ge4.true c.requires c.read_half-then-len-ge4.ensures c.read_half.ensures
+    number-halves bs (λ k. (c.type_inv.bytes k).fits) (length bs) _ _ c.if-len-ge4.true c.requires
+    c.read_half-then-len-ge4.ensures c.read_half.ensures
 
 pub returns-then-len-gt0 : goal.returns-then-len-gt0
 returns-then-len-gt0 c =

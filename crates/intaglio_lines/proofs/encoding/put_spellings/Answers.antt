@@ -7,4 +7,5 @@ use Rattle.intaglio_lines.proofs.encoding.put_spellings.Goals as goal
 pub loop-place-preserved : goal.loop-place-preserved
 loop-place-preserved g c =
     let there = sym c.spelling_at.ensures ∙ ap option_copied c.unwrap.ensures in
-    appends-next spelling_line g.L.Content.Content.spelling _ _ _ _ _ _ there c.loop-place.invariant c.in_ok-put_line.ensures.put
+    appends-next spelling_line g.L.Content.Content.spelling _ _ _ _ _ _ there c.loop-place.invariant
+    c.in_ok-put_line.ensures.put

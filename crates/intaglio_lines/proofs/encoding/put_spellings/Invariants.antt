@@ -6,5 +6,6 @@ use Rattle.intaglio_lines.specs.Output.{spelling_line}
 use Rattle.intaglio_lines.proofs.encoding.put_spellings.Given as goal
 
 abbrev pub invariant-loop-place : goal.invariant-loop-place
-invariant-loop-place g l = Appends (append_known (g.W.Write.contents l.initial.writer) l.initial.block.items) (append_known (g.W.Write.contents l.writer) l.block.items)
+invariant-loop-place g l = Appends (append_known (g.W.Write.contents l.initial.writer) l.initial.block.items)
+    (append_known (g.W.Write.contents l.writer) l.block.items)
     (flat_map spelling_line (map g.L.Content.Content.spelling (take l.place (g.L.Store.contents l.contents))))

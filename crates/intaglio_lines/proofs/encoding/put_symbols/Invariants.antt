@@ -6,4 +6,6 @@ use Rattle.intaglio_lines.specs.Output.{number_line}
 use Rattle.intaglio_lines.proofs.encoding.put_symbols.Given as goal
 
 abbrev pub invariant-loop-symbol : goal.invariant-loop-symbol
-invariant-loop-symbol g l = Appends (append_known (g.W.Write.contents l.initial.writer) l.initial.block.items) (append_known (g.W.Write.contents l.writer) l.block.items) (flat_map number_line (take l.symbol-index l.symbols))
+invariant-loop-symbol g l = Appends (append_known (g.W.Write.contents l.initial.writer) l.initial.block.items)
+    (append_known (g.W.Write.contents l.writer) l.block.items)
+    (flat_map number_line (take l.symbol-index l.symbols))

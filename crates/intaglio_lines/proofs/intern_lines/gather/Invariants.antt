@@ -8,7 +8,8 @@ abbrev pub invariant-loop-line : goal.invariant-loop-line
 invariant-loop-line g l = record {
   allowed : g.C.FromLine.allows l.rest;
   lines : lines_of l.input ≡ map g.C.Line.CopiedTo.form_spelling l.forms.items ++ lines_of l.rest;
-  fit : position_or_len (λ x. not (g.C.FromLine.fits x)) (lines_of l.input) ≡ length l.forms.items + position_or_len (λ x. not (g.C.FromLine.fits x)) (lines_of l.rest);
+  fit : position_or_len (λ x. not (g.C.FromLine.fits x)) (lines_of l.input) ≡ length l.forms.items
+      + position_or_len (λ x. not (g.C.FromLine.fits x)) (lines_of l.rest);
   bytes : length l.forms.items + length l.rest ≤ length l.input;
   room : 64 ≤ vec_capacity l.forms;
 }

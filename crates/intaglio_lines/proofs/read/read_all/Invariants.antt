@@ -3,4 +3,5 @@ use Rattle.std.specs.Io.KnownBytes.{Consumes}
 use Rattle.intaglio_lines.proofs.read.read_all.Given as goal
 
 abbrev pub invariant-loop : goal.invariant-loop
-invariant-loop g l = Consumes (g.R.Read.remaining l.initial.reader) (g.R.Read.remaining l.reader) l.bytes.items
+invariant-loop g l =
+    Consumes (g.R.Read.remaining l.initial.reader) (g.R.Read.remaining l.reader) l.bytes.items

@@ -12,10 +12,14 @@ returns-then-piece-capacity-clause-front g c =
     let old = contents c.args.writer.now in
     let mid = contents c.make_room.new.writer in
     let later : c.make_room.new.block.items ≡ [] = search rules in
-    let put = keeps-none (append_known old block) (append_known mid c.make_room.new.block.items) c.in_ok-make_room.ensures.same in
-    front-then old mid (contents c.write_bytes.new.writer) block c.make_room.new.block.items [] piece put (front-more old mid block [] c.in_ok-make_room.ensures.front)
-    (subst (λ t. IsFront mid (contents c.write_bytes.new.writer) (t ++ piece)) (sym later) c.write_bytes.ensures.front)
+    let put = keeps-none (append_known old block) (append_known mid c.make_room.new.block.items)
+    c.in_ok-make_room.ensures.same in
+    front-then old mid (contents c.write_bytes.new.writer) block c.make_room.new.block.items [] piece put
+    (front-more old mid block [] c.in_ok-make_room.ensures.front)
+    (subst (λ t. IsFront mid (contents c.write_bytes.new.writer) (t ++ piece)) (sym later)
+    c.write_bytes.ensures.front)
 
 pub returns-clause-front : goal.returns-clause-front
 returns-clause-front g c =
-    front-more (g.W.Write.contents c.args.writer.now) (g.W.Write.contents c.make_room.new.writer) c.args.block.now.items c.args.piece.now c.in_ok-make_room.ensures.front
+    front-more (g.W.Write.contents c.args.writer.now) (g.W.Write.contents c.make_room.new.writer)
+    c.args.block.now.items c.args.piece.now c.in_ok-make_room.ensures.front

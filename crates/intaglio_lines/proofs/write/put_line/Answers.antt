@@ -8,11 +8,14 @@ returns-in_err-put-clause-front g c =
     let contents = g.W.Write.contents in
     let block = c.args.block.now.items in
     let line = c.args.line.now in
-    subst (IsFront (contents c.args.writer.now) (contents c.put.new.writer)) (append_assoc block line (10 ∷ []))
-    (front-more (contents c.args.writer.now) (contents c.put.new.writer) (block ++ line) (10 ∷ []) c.put.ensures.front)
+    subst (IsFront (contents c.args.writer.now) (contents c.put.new.writer))
+    (append_assoc block line (10 ∷ []))
+    (front-more (contents c.args.writer.now) (contents c.put.new.writer) (block ++ line) (10 ∷ [])
+    c.put.ensures.front)
 
 pub returns-clause-front : goal.returns-clause-front
 returns-clause-front g c =
     let contents = g.W.Write.contents in
-    front-then (contents c.args.writer.now) (contents c.put.new.writer) (contents c.put-2.new.writer) c.args.block.now.items c.put.new.block.items c.args.line.now (10 ∷ [])
+    front-then (contents c.args.writer.now) (contents c.put.new.writer) (contents c.put-2.new.writer)
+    c.args.block.now.items c.put.new.block.items c.args.line.now (10 ∷ [])
     c.in_ok-put.ensures.put c.put.ensures.front c.put-2.ensures.front

@@ -2,7 +2,7 @@ use Rattle.std.proofs.Common.{◌≡◌, ◌∙◌, ◌++◌, [], ◌∷◌, ap,
 use Rattle.std.specs.List.{sum_by}
 use Rattle.std.proofs.lemmas.List.{map-append}
 use Rattle.std.proofs.lemmas.List.Sums.{sum_by_push}
-use Rattle.intaglio_merge.proofs.Absorbed.{next-string}
+use Rattle.intaglio_frozen.proofs.Distinct.{take-next}
 use Rattle.intaglio_merge.proofs.absorbing.forms_of.Goals as goal
 
 pub loop-i-preserved : goal.loop-i-preserved
@@ -13,9 +13,10 @@ loop-i-preserved g c =
     let form = c.from_string.result in
     let string = c.string.result.now in
     let items : c.push_reserved.new.self.items ≡ c.loop-i.forms.items ++ form ∷ [] = search rules in
-    let next = next-string strings c.loop-i.i string c.string.ensures in
+    let next = take-next strings c.loop-i.i string c.string.ensures in
     record {
-      forms = rw items (map-append spell c.loop-i.forms.items (form ∷ []) ∙ ap (λ t. t ++ spell form ∷ []) c.loop-i.invariant.forms
+      forms = rw items (map-append spell c.loop-i.forms.items (form ∷ [])
+          ∙ ap (λ t. t ++ spell form ∷ []) c.loop-i.invariant.forms
           ∙ ap (λ t. take c.loop-i.i strings ++ t ∷ []) c.from_string.ensures.spelling ∙ sym next);
       needs = omega (
         arith,

@@ -7,9 +7,11 @@ use Rattle.intaglio_merge.proofs.merging.merge_tables.Given as goal
 abbrev pub invariant-loop-i : goal.invariant-loop-i
 invariant-loop-i g l = record {
   union : l.table.state.contents ≡ union (map g.L.StringList.strings (take l.i l.lists));
-  maps : AreMaps (map g.L.StringList.strings (take l.i l.lists)) l.table.state.contents (map (λ m. m.items) l.maps.items);
+  maps : AreMaps (map g.L.StringList.strings (take l.i l.lists)) l.table.state.contents
+      (map (λ m. m.items) l.maps.items);
   limit : l.table.state.limit ≡ 2 ^ 32;
-  hash : hash_of g.S.BuildHasher g.S.Hasher.Hasher l.table.hasher ≡ hash_of g.S.BuildHasher g.S.Hasher.Hasher l.fn.builder;
+  hash : hash_of g.S.BuildHasher g.S.Hasher.Hasher l.table.hasher ≡ hash_of g.S.BuildHasher g.S.Hasher.Hasher
+      l.fn.builder;
   count : vec_len l.maps ≡ l.i;
   room : length l.lists ≤ vec_capacity l.maps;
 }

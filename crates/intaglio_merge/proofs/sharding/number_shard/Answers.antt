@@ -13,8 +13,15 @@ overflow_add-next g c =
     let place = c.loop-place.place in
     let number = c.args.number in
     let w = get_or strings place [] in
-    let at = slice_get-get_or strings place [] (omega (arith, c.loop-place-test.true, ap length c.requires.shards, length-map strings (shard_of c.args._count))) in
-    let next = far-in c.args._count strings shards c.requires.shards number place w at (sym c.if-number-shards.true) in
+    let at =
+    slice_get-get_or strings place [] (omega (
+      arith,
+      c.loop-place-test.true,
+      ap length c.requires.shards,
+      length-map strings (shard_of c.args._count),
+    )) in
+    let next =
+    far-in c.args._count strings shards c.requires.shards number place w at (sym c.if-number-shards.true) in
     omega (
       arith,
       c.loop-place.invariant.next,
@@ -28,8 +35,13 @@ pub loop-place-init : goal.loop-place-init
 loop-place-init g c =
     let strings = g.L.StringList.strings c.args._list.now in
     record {
-      next = omega (arith, c.requires.start, ap length (append-nil (joined (first_shards c.args._count strings c.args.number))));
-      places = first-places c.args._count strings c.args.shards.now c.requires.shards c.args.number c.args.numbers.now c.requires.numbered;
+      next = omega (
+        arith,
+        c.requires.start,
+        ap length (append-nil (joined (first_shards c.args._count strings c.args.number))),
+      );
+      places = first-places c.args._count strings c.args.shards.now c.requires.shards c.args.number
+          c.args.numbers.now c.requires.numbered;
       len = refl;
     }
 
@@ -42,24 +54,37 @@ loop-place-preserved g c =
     let number = c.args.number in
     let w = get_or strings place [] in
     let within : place < length shards = c.loop-place-test.true in
-    let at = slice_get-get_or strings place [] (omega (arith, within, ap length c.requires.shards, length-map strings (shard_of count))) in
+    let at =
+    slice_get-get_or strings place []
+    (omega (arith, within, ap length c.requires.shards, length-map strings (shard_of count))) in
     elim c.if-number-shards.branch [
       | then-number-shards t ↦
           let is : get_or shards place 0 ≡ number = sym t.if-number-shards.true in
           let longer = far-in count strings shards c.requires.shards number place w at is in
-          let placed = places-in count strings shards c.requires.shards number place w at c.loop-place.numbers t.new.result is (t.new.ensures ∙ c.loop-place.invariant.next)
+          let placed = places-in count strings shards c.requires.shards number place w at c.loop-place.numbers
+          t.new.result is (t.new.ensures ∙ c.loop-place.invariant.next)
           (omega (arith, within, c.loop-place.invariant.len, c.requires.len)) c.loop-place.invariant.places in
           record {
-            next = omega (arith, t.next-is, c.loop-place.invariant.next, ap length longer, length-append (so_far count strings number place) (w ∷ []));
+            next = omega (
+              arith,
+              t.next-is,
+              c.loop-place.invariant.next,
+              ap length longer,
+              length-append (so_far count strings number place) (w ∷ []),
+            );
             places = subst (HavePlaces count strings shards number (place + 1)) (sym t.numbers-is) placed;
-            len = ap length t.numbers-is ∙ length-set c.loop-place.numbers place t.new.result ∙ c.loop-place.invariant.len;
+            len = ap length t.numbers-is ∙ length-set c.loop-place.numbers place t.new.result
+                ∙ c.loop-place.invariant.len;
           }
       | else-number-shards t ↦
           let isnt : get_or shards place 0 ≡ number → ⊥ = λ e. t.if-number-shards.false (sym e) in
           let same = far-out count strings shards c.requires.shards number place w at isnt in
           record {
             next = t.next-is ∙ c.loop-place.invariant.next ∙ sym (ap length same);
-            places = subst (HavePlaces count strings shards number (place + 1)) (sym t.numbers-is) (places-out count strings shards c.requires.shards number place w at c.loop-place.numbers isnt c.loop-place.invariant.places);
+            places =
+                subst (HavePlaces count strings shards number (place + 1)) (sym t.numbers-is)
+                (places-out count strings shards c.requires.shards number place w at c.loop-place.numbers isnt
+                c.loop-place.invariant.places);
             len = ap length t.numbers-is ∙ c.loop-place.invariant.len;
           }
     ]
@@ -70,9 +95,18 @@ returns g c =
     let count = c.args._count in
     let shards = c.args.shards.now in
     let number = c.args.number in
-    let all : c.loop-place.place ≡ length strings = omega (arith, c.loop-place-test.false, c.loop-place.auto.place-end, ap length c.requires.shards, length-map strings (shard_of count)) in
+    let all : c.loop-place.place ≡ length strings =
+    omega (
+      arith,
+      c.loop-place-test.false,
+      c.loop-place.auto.place-end,
+      ap length c.requires.shards,
+      length-map strings (shard_of count),
+    ) in
     record {
-      next = c.loop-place.invariant.next ∙ far-length count strings shards c.requires.shards number c.loop-place.place all;
-      numbered = last-places count strings shards c.requires.shards number c.loop-place.numbers c.loop-place.place all c.loop-place.invariant.places;
+      next = c.loop-place.invariant.next
+          ∙ far-length count strings shards c.requires.shards number c.loop-place.place all;
+      numbered = last-places count strings shards c.requires.shards number c.loop-place.numbers
+          c.loop-place.place all c.loop-place.invariant.places;
       len = c.loop-place.invariant.len;
     }

@@ -4,4 +4,5 @@ use Rattle.intaglio_merge.specs.Shards.{shard}
 use Rattle.intaglio_merge.proofs.sharding.strings_of.Given as goal
 
 abbrev pub invariant-loop-i : goal.invariant-loop-i
-invariant-loop-i g l = map (λ w. w.now) l.strings.items ≡ shard l.count (take l.i (g.L.StringList.strings l.list)) l.number
+invariant-loop-i g l =
+    map (λ w. w.now) l.strings.items ≡ shard l.count (take l.i (g.L.StringList.strings l.list)) l.number

@@ -7,6 +7,8 @@ use Rattle.intaglio_merge.proofs.shards.check_each.Given as goal
 
 abbrev pub invariant-loop-shard : goal.invariant-loop-shard
 invariant-loop-shard l = record {
-  placed : (t : ℕ) (ws : List (List ℕ)) → t < l.shard → slice_get l.tables t ≡ Some ws → BelongTo l.count t ws;
-  distinct : (t : ℕ) (ws : List (List ℕ)) → t < l.shard → slice_get l.tables t ≡ Some ws → Distinct string_key ws;
+  placed : (t : ℕ) (ws : List (List ℕ)) → t < l.shard → slice_get l.tables t ≡ Some ws →
+      BelongTo l.count t ws;
+  distinct : (t : ℕ) (ws : List (List ℕ)) → t < l.shard → slice_get l.tables t ≡ Some ws →
+      Distinct string_key ws;
 }

@@ -10,7 +10,12 @@ slot_for-requires-clause-few c = omega (arith, c.loop-i-test.true, c.requires.en
 
 pub slot_for-requires-clause-small : goal.slot_for-requires-clause-small
 slot_for-requires-clause-small c short =
-    omega (arith, c.requires.small short, c.start.ensures, sum_by-take-le length c.args.records.now.list c.loop-i.i)
+    omega (
+      arith,
+      c.requires.small short,
+      c.start.ensures,
+      sum_by-take-le length c.args.records.now.list c.loop-i.i,
+    )
 
 pub place-requires : goal.place-requires
 place-requires c =
@@ -24,7 +29,12 @@ place-requires c =
       free = (
         es,
         c.loop-i.invariant.filled,
-        omega (arith, length-entries c.args.is_long c.args.records.now.list c.loop-i.i, c.loop-i.invariant.places, few),
+        omega (
+          arith,
+          length-entries c.args.is_long c.args.records.now.list c.loop-i.i,
+          c.loop-i.invariant.places,
+          few,
+        ),
       );
     }
 
@@ -45,6 +55,7 @@ loop-i-preserved c =
     )) c.loop-i.invariant.filled in
     let slot = c.slot_for.ensures ∙ ap (slot_of long i) c.start.ensures in
     record {
-      filled = subst (λ es. IsFilled c.place.new.self es) (ap (λ s. (hash, s) ∷ entries long rs i) slot ∙ sym more) placed;
+      filled = subst (λ es. IsFilled c.place.new.self es) (ap (λ s. (hash, s) ∷ entries long rs i) slot
+          ∙ sym more) placed;
       places = omega (arith, c.place.ensures.room, c.loop-i.invariant.places);
     }

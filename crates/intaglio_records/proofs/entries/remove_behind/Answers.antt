@@ -9,7 +9,8 @@ remove_newest-requires c =
     let long = c.args.is_long in
     let rs = c.args.records.now.list in
     let n = c.loop-count.count - 1 in
-    let more = entry-more long rs n c.read_hash.result c.string.result.now c.string.ensures c.read_hash.ensures in
+    let more =
+    entry-more long rs n c.read_hash.result c.string.result.now c.string.ensures c.read_hash.ensures in
     let at : c.loop-count.count ≡ n + 1 = omega (arith, c.loop-count-test.true) in (
       slot_of long n (position rs n),
       entries long rs n,
@@ -22,7 +23,8 @@ loop-count-preserved c =
     let long = c.args.is_long in
     let rs = c.args.records.now.list in
     let n = c.loop-count.count - 1 in
-    let more = entry-more long rs n c.read_hash.result c.string.result.now c.string.ensures c.read_hash.ensures in
+    let more =
+    entry-more long rs n c.read_hash.result c.string.result.now c.string.ensures c.read_hash.ensures in
     let at : c.loop-count.count ≡ n + 1 = omega (arith, c.loop-count-test.true) in
     let old = subst (λ es. IsFilled c.loop-count.lines es) (ap (entries long rs) at
     ∙ more) c.loop-count.invariant.filled in

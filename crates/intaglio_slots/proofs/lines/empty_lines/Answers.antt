@@ -15,7 +15,8 @@ loop-i-preserved c =
       lines = record {
         size = ap length items ∙ omega (arith, length-append old (x ∷ []), was.size);
         each = λ i lt. elim (cases_lt i c.loop-i._i) [
-          | inl low ↦ rw (items, get_or_append_left old (x ∷ []) no_line i (omega (arith, low, was.size))) (was.each i low)
+          | inl low ↦ rw (items, get_or_append_left old (x ∷ []) no_line i (omega (arith, low, was.size)))
+              (was.each i low)
           | inr high ↦
               (let at : i ≡ length old = omega (arith, lt, high, was.size) in
               rw (items, at, get_or-append_seam old x [] no_line) c.empty.ensures)
@@ -25,4 +26,11 @@ loop-i-preserved c =
     }
 
 pub push_reserved-requires : goal.push_reserved-requires
-push_reserved-requires c = omega (arith, c.loop-i.lines.ok.0, c.loop-i.invariant.lines.size, c.loop-i.invariant.room, c.loop-i-test.true, c.requires)
+push_reserved-requires c = omega (
+  arith,
+  c.loop-i.lines.ok.0,
+  c.loop-i.invariant.lines.size,
+  c.loop-i.invariant.room,
+  c.loop-i-test.true,
+  c.requires,
+)

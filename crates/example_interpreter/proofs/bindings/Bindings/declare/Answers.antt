@@ -4,6 +4,10 @@ use Rattle.example_interpreter.proofs.bindings.Bindings.declare.Goals as goal
 
 pub returns-clause-declared : goal.returns-clause-declared
 returns-clause-declared c =
-    let added : c.push_reserved.new.self.items ≡ c.self.inside.declared.items ++ c.in_ok-symbol.symbol ∷ [] = search rules in
-    declared_name c.self.inside.names.state c.get_or_intern.new.self.state c.self.inside.declared.items c.push_reserved.new.self.items c.in_ok-symbol.symbol c.args.name.now c.get_or_intern.ensures.interned.kept
-    c.self.invariant added c.get_or_intern.ensures.valid c.in_ok-symbol.ensures.interned.found ∙ ap (λ (names : List (List ℕ)). names ++ c.args.name.now ∷ []) c.self.view_is
+    let added : c.push_reserved.new.self.items ≡ c.self.inside.declared.items ++ c.in_ok-symbol.symbol ∷ [] =
+    search rules in
+    declared_name c.self.inside.names.state c.get_or_intern.new.self.state c.self.inside.declared.items
+    c.push_reserved.new.self.items c.in_ok-symbol.symbol c.args.name.now
+    c.get_or_intern.ensures.interned.kept
+    c.self.invariant added c.get_or_intern.ensures.valid c.in_ok-symbol.ensures.interned.found
+    ∙ ap (λ (names : List (List ℕ)). names ++ c.args.name.now ∷ []) c.self.view_is

@@ -5,4 +5,6 @@ use Rattle.example_interpreter.proofs.bindings.Bindings.leave.Goals as goal
 
 pub returns : goal.returns
 returns c =
-    rw c.truncate.ensures.items (sym (take-map (name_of c.self.inside.names.state) c.args.depth c.self.inside.declared.items) ∙ ap (take c.args.depth) c.self.view_is)
+    rw c.truncate.ensures.items
+    (sym (take-map (name_of c.self.inside.names.state) c.args.depth c.self.inside.declared.items)
+    ∙ ap (take c.args.depth) c.self.view_is)

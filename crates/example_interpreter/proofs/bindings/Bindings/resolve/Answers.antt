@@ -4,10 +4,12 @@ use Rattle.example_interpreter.proofs.bindings.Bindings.resolve.Goals as goal
 
 pub returns-in-None : goal.returns-in-None
 returns-in-None c =
-    rw (← c.self.view_is) (undeclared c.self.inside.names.state c.self.inside.declared.items c.args.name.now c.valid_law.ensures c.self.invariant (sym c.in-None.ensures.found))
+    rw (← c.self.view_is) (undeclared c.self.inside.names.state c.self.inside.declared.items c.args.name.now
+    c.valid_law.ensures c.self.invariant (sym c.in-None.ensures.found))
 
 pub returns-in-Some : goal.returns-in-Some
 returns-in-Some c =
     rw (← c.self.view_is)
-    (last_name c.self.inside.names.state c.self.inside.declared.items c.args.name.now c.valid_law.ensures c.self.invariant c.in-Some.symbol c.last_of.result (sym c.in-Some.ensures.found)
+    (last_name c.self.inside.names.state c.self.inside.declared.items c.args.name.now c.valid_law.ensures
+    c.self.invariant c.in-Some.symbol c.last_of.result (sym c.in-Some.ensures.found)
     (rw c.deref.ensures.value at c.last_of.ensures))

@@ -5,5 +5,6 @@ use Rattle.intaglio_c.proofs.any_table.AnyTable.copy_each.Given as goal
 abbrev pub invariant-loop-i : goal.invariant-loop-i
 invariant-loop-i l = record {
   places : length l.ends ≡ length l.symbols;
-  copied : IsCopied (seen l.self).state.contents l.initial.buffer (take l.i l.symbols) l.buffer l.start (take l.i l.ends);
+  copied : IsCopied (seen l.self).state.contents l.initial.buffer (take l.i l.symbols) l.buffer l.start
+      (take l.i l.ends);
 }

@@ -8,7 +8,14 @@ returns-then-buffer-len c =
     record {
       written = (
         c.in_ok-bytes.bytes.items,
-        record { bytes = made.bytes; column = made.column; dictionary = made.id; codes = made.codes; len = search rules; buffer = search rules },
+        record {
+          bytes = made.bytes;
+          column = made.column;
+          dictionary = made.id;
+          codes = made.codes;
+          len = search rules;
+          buffer = search rules;
+        },
         search rules,
       );
     }
@@ -19,7 +26,14 @@ returns c =
     record {
       written = (
         c.in_ok-bytes.bytes.items,
-        record { bytes = made.bytes; column = made.column; dictionary = made.id; codes = made.codes; len = search rules; buffer = search rules },
+        record {
+          bytes = made.bytes;
+          column = made.column;
+          dictionary = made.id;
+          codes = made.codes;
+          len = search rules;
+          buffer = search rules;
+        },
         search rules,
       );
     }

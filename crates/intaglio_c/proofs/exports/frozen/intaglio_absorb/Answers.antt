@@ -8,5 +8,7 @@ returns-then-not-handle c = record { step = (Err NoTable, search rules, search r
 
 pub invariant_of-handle-clause-faultless : goal.invariant_of-handle-clause-faultless
 invariant_of-handle-clause-faultless c =
-    let before : IsFaultless (seen c.table_mut-table.result.now) = ap fault_in (sym c.table_mut-table.ensures.value) ∙ c.args.handle.now.faultless in
-    with_frozen (seen c.table_mut-table.result.now) (seen c.absorb.new.self) c.absorb.ensures.step.kind before c.args.bytes.now c.args.symbols.now c.absorb.new.symbols c.absorb.result c.absorb.ensures.step.step
+    let before : IsFaultless (seen c.table_mut-table.result.now) =
+    ap fault_in (sym c.table_mut-table.ensures.value) ∙ c.args.handle.now.faultless in
+    with_frozen (seen c.table_mut-table.result.now) (seen c.absorb.new.self) c.absorb.ensures.step.kind before
+    c.args.bytes.now c.args.symbols.now c.absorb.new.symbols c.absorb.result c.absorb.ensures.step.step

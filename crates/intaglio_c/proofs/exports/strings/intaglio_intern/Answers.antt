@@ -8,5 +8,7 @@ returns-then-not-handle c = record { step = (Err NoTable, search rules, search r
 
 pub invariant_of-handle-clause-faultless : goal.invariant_of-handle-clause-faultless
 invariant_of-handle-clause-faultless c =
-    let before : IsFaultless (seen c.table_mut-table.result.now) = ap fault_in (sym c.table_mut-table.ensures.value) ∙ c.args.handle.now.faultless in
-    with_interned (seen c.table_mut-table.result.now) (seen c.intern.new.self) c.intern.ensures.step.kind before true _ c.intern.result c.intern.ensures.step.step
+    let before : IsFaultless (seen c.table_mut-table.result.now) =
+    ap fault_in (sym c.table_mut-table.ensures.value) ∙ c.args.handle.now.faultless in
+    with_interned (seen c.table_mut-table.result.now) (seen c.intern.new.self) c.intern.ensures.step.kind
+    before true _ c.intern.result c.intern.ensures.step.step

@@ -8,5 +8,8 @@ returns-then-not-handle c = record { step = (Err NoTable, search rules, search r
 
 pub invariant_of-handle-clause-faultless : goal.invariant_of-handle-clause-faultless
 invariant_of-handle-clause-faultless c =
-    let before : IsFaultless (seen c.table_mut-table.result.now) = ap fault_in (sym c.table_mut-table.ensures.value) ∙ c.args.handle.now.faultless in
-    with_interned (seen c.table_mut-table.result.now) (seen c.intern_static.new.self) c.intern_static.ensures.step.kind before (copies_static (seen c.table_mut-table.result.now).kind) c.args.bytes.now c.intern_static.result c.intern_static.ensures.step.step
+    let before : IsFaultless (seen c.table_mut-table.result.now) =
+    ap fault_in (sym c.table_mut-table.ensures.value) ∙ c.args.handle.now.faultless in
+    with_interned (seen c.table_mut-table.result.now) (seen c.intern_static.new.self)
+    c.intern_static.ensures.step.kind before (copies_static (seen c.table_mut-table.result.now).kind)
+    c.args.bytes.now c.intern_static.result c.intern_static.ensures.step.step

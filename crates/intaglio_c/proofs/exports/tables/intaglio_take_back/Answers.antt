@@ -8,5 +8,7 @@ returns-then-not-handle c = record { step = (Err NoTable, search rules, search r
 
 pub invariant_of-handle-clause-faultless : goal.invariant_of-handle-clause-faultless
 invariant_of-handle-clause-faultless c =
-    let before : IsFaultless (seen c.table_mut-table.result.now) = ap fault_in (sym c.table_mut-table.ensures.value) ∙ c.args.handle.now.faultless in
-    with_first_ones (seen c.table_mut-table.result.now) (seen c.take_back.new.self) c.take_back.ensures.step.kind before c.new.result c.take_back.result c.take_back.ensures.step.step
+    let before : IsFaultless (seen c.table_mut-table.result.now) =
+    ap fault_in (sym c.table_mut-table.ensures.value) ∙ c.args.handle.now.faultless in
+    with_first_ones (seen c.table_mut-table.result.now) (seen c.take_back.new.self)
+    c.take_back.ensures.step.kind before c.new.result c.take_back.result c.take_back.ensures.step.step

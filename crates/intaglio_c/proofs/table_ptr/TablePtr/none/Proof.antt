@@ -14,16 +14,21 @@ none_spec 𝓤 𝓛 𝓜 𝓡 wired =
     proved 𝓛 f.ended stayed c 𝓜 𝓡 (Goes-dropped 𝓛 0 (plain (λ _. allocator)) yes (λ κs x w. refl), tt)
     f.Key.name code.function (code.unfolded 𝓤 𝓛.H 𝓜 𝓡 wired)
     (λ κs. ((λ a. lowers.lowered a ∷ []), tt)) (λ κs. (lowers.val_is, tt)) (λ κs qs bounds args g are.
-    let a = args.0 in let h = lowers.lowered a in let nothing_held : table_ptr.Denot = record { ptr = null_ptr; alloc = a; table = None } in
+    let a = args.0 in let h = lowers.lowered a in let nothing_held : table_ptr.Denot =
+    record { ptr = null_ptr; alloc = a; table = None } in
     let y : W.Ghost = ((κs, qs, bounds, args, (h ∷ [], tt)), tt) in
     qed 𝓛 ((‵ ftrue ⊛ (‵ (allocator.own_val a (h ∷ [])) ⊛ ‵ ftrue)) ∷ ‵ ftrue ∷ []) ∵
     split ! $ move ! (1 ∷ []) $ split ! $ keep ! (0 ∷ []) $
     -- [the allocator]
     enter ! _ _ _ _ _ $ alloc_all ! (λ l. pass_all ! refl ((tt, ((tt, tt), tt)), tt) $
     sets ! (of_opd ! (lit ! tt)) refl (tt, record { fits = lit< tt }) $
-    sets ! (agg ! (and_then ! (get ! refl) (and_then ! (get ! refl) (no_more !)))) refl (tt, (record { fits = lit< tt }, (((tt, tt), tt), tt))) $
+    sets ! (agg ! (and_then ! (get ! refl) (and_then ! (get ! refl) (no_more !)))) refl (
+      tt,
+      (record { fits = lit< tt }, (((tt, tt), tt), tt)),
+    ) $
     returns ! (look_at ! 0 refl) $ free_all ! refl $
     pair_in ! allocator null_ptr a h $ nothing ! $ move ! (1 ∷ 0 ∷ []) $ fjoin ! $
     -- [the result]
-    suffices ! _ (ends_at 𝓛 f.ended stayed c y (word null_ptr h) nothing_held (tt, tt) (tt, tt)) $ says ! refl $
+    suffices ! _ (ends_at 𝓛 f.ended stayed c y (word null_ptr h) nothing_held (tt, tt) (tt, tt)) $
+    says ! refl $
     nothing ! $ nothing ! $ join ! $ nothing ! $ done !))

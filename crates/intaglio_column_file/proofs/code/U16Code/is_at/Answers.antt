@@ -9,4 +9,5 @@ pub returns : goal.returns
 returns c =
     let code = c.read_u16.result in
     same_widened Two code c.args.self (omega arith) (omega arith)
-    ∙ ap (λ (t : ℕ). t == widened Two c.args.self) (two_at c.args.bytes.now Two c.args.at (widened Two code) code refl c.read_u16.ensures refl)
+    ∙ ap (λ (t : ℕ). t == widened Two c.args.self)
+    (two_at c.args.bytes.now Two c.args.at (widened Two code) code refl c.read_u16.ensures refl)

@@ -10,10 +10,12 @@ pub returns-then-code-self : goal.returns-then-code-self
 returns-then-code-self c =
     let code = c.read_u16-code.result in
     unknown_above Two c.args.self code (omega arith) (omega (arith, c.if-code-self.true))
-    ∙ ap (is_unknown c.args.self) (two_at c.args.bytes.now Two c.args.at (widened Two code) code refl c.read_u16-code.ensures refl)
+    ∙ ap (is_unknown c.args.self)
+    (two_at c.args.bytes.now Two c.args.at (widened Two code) code refl c.read_u16-code.ensures refl)
 
 pub returns-else-code-self : goal.returns-else-code-self
 returns-else-code-self c =
     let code = c.read_u16-code.result in
     unknown_below Two c.args.self code (omega arith) (omega (arith, c.if-code-self.false))
-    ∙ ap (is_unknown c.args.self) (two_at c.args.bytes.now Two c.args.at (widened Two code) code refl c.read_u16-code.ensures refl)
+    ∙ ap (is_unknown c.args.self)
+    (two_at c.args.bytes.now Two c.args.at (widened Two code) code refl c.read_u16-code.ensures refl)

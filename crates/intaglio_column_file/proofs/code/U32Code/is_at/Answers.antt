@@ -9,4 +9,5 @@ pub returns : goal.returns
 returns c =
     let code = c.read_u32.result in
     same_widened Four code c.args.self (omega arith) (omega arith)
-    ∙ ap (λ (t : ℕ). t == widened Four c.args.self) (four_at c.args.bytes.now Four c.args.at (widened Four code) code refl c.read_u32.ensures refl)
+    ∙ ap (λ (t : ℕ). t == widened Four c.args.self)
+    (four_at c.args.bytes.now Four c.args.at (widened Four code) code refl c.read_u32.ensures refl)

@@ -9,4 +9,5 @@ pub returns : goal.returns
 returns c =
     let code = c.read_u8.result in
     same_widened One code c.args.self (omega arith) (omega arith)
-    ∙ ap (λ (t : ℕ). t == widened One c.args.self) (one_at c.args.bytes.now One c.args.at (widened One code) code refl c.read_u8.ensures refl)
+    ∙ ap (λ (t : ℕ). t == widened One c.args.self)
+    (one_at c.args.bytes.now One c.args.at (widened One code) code refl c.read_u8.ensures refl)

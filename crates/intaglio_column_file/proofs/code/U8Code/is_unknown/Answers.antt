@@ -10,10 +10,12 @@ pub returns-then-code-self : goal.returns-then-code-self
 returns-then-code-self c =
     let code = c.read_u8-code.result in
     unknown_above One c.args.self code (omega arith) (omega (arith, c.if-code-self.true))
-    ∙ ap (is_unknown c.args.self) (one_at c.args.bytes.now One c.args.at (widened One code) code refl c.read_u8-code.ensures refl)
+    ∙ ap (is_unknown c.args.self)
+    (one_at c.args.bytes.now One c.args.at (widened One code) code refl c.read_u8-code.ensures refl)
 
 pub returns-else-code-self : goal.returns-else-code-self
 returns-else-code-self c =
     let code = c.read_u8-code.result in
     unknown_below One c.args.self code (omega arith) (omega (arith, c.if-code-self.false))
-    ∙ ap (is_unknown c.args.self) (one_at c.args.bytes.now One c.args.at (widened One code) code refl c.read_u8-code.ensures refl)
+    ∙ ap (is_unknown c.args.self)
+    (one_at c.args.bytes.now One c.args.at (widened One code) code refl c.read_u8-code.ensures refl)

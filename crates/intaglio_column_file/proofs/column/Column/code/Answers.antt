@@ -7,4 +7,10 @@ use Rattle.intaglio_column_file.proofs.column.Column.code.Goals as goal
 pub returns-then-row-self : goal.returns-then-row-self
 returns-then-row-self c =
     let bs = c.self.inside.bytes.now in
-    rw (← c.self.view_is) (sym (slice_get_past (codes bs) c.args.row (omega (arith, c.if-row-self.true, c.self.invariant.rows, all_length bs))))
+    rw (← c.self.view_is)
+    (sym (slice_get_past (codes bs) c.args.row (omega (
+      arith,
+      c.if-row-self.true,
+      c.self.invariant.rows,
+      all_length bs,
+    ))))

@@ -7,7 +7,8 @@ pub loop-i-preserved : goal.loop-i-preserved
 loop-i-preserved g c =
     let cs = codes c.args.self.now in
     let at = read_behind cs c.args.from c.loop-i.i c.read-code.result c.read-code.ensures in
-    overlaid_next (drop c.args.from cs) c.args.places.now c.loop-i.places c.loop-i.i c.read-code.result c.loop-i.invariant
+    overlaid_next (drop c.args.from cs) c.args.places.now c.loop-i.places c.loop-i.i c.read-code.result
+    c.loop-i.invariant
     (omega (arith, c.loop-i-test.true, c.min-count.ensures)) at
 
 pub returns-clause-codes : goal.returns-clause-codes
@@ -16,5 +17,21 @@ returns-clause-codes g c =
     let left = length-drop c.args.from cs in
     c.loop-i.invariant
     ∙ overlaid_all (drop c.args.from cs) c.args.places.now c.loop-i.i
-    (omega (arith, left, c.loop-i.auto.i-end, c.min-count.ensures, c.saturating_sub.ensures, c.len.ensures.length))
-    (λ m. omega (arith, m, left, c.loop-i.auto.i-end, c.loop-i-test.false, c.min-count.ensures, c.saturating_sub.ensures, c.len.ensures.length))
+    (omega (
+      arith,
+      left,
+      c.loop-i.auto.i-end,
+      c.min-count.ensures,
+      c.saturating_sub.ensures,
+      c.len.ensures.length,
+    ))
+    (λ m. omega (
+      arith,
+      m,
+      left,
+      c.loop-i.auto.i-end,
+      c.loop-i-test.false,
+      c.min-count.ensures,
+      c.saturating_sub.ensures,
+      c.len.ensures.length,
+    ))

@@ -7,5 +7,7 @@ use Rattle.intaglio_column_file.proofs.column.Column.count_among.Goals as goal
 pub loop-row-preserved : goal.loop-row-preserved
 loop-row-preserved g c =
     let cs = codes c.args.self.now in
-    counted_more (g.T.CodeTest.passes c.args.test.now) cs c.args.from c.loop-row.row c.loop-row.count _ c.loop-row.invariant
-    (omega (arith, all_length c.args.self.now, c.loop-row-test.true, c.requires.within)) c.passes.result c.passes.ensures (λ e. rw e refl) (λ e. rw e refl)
+    counted_more (g.T.CodeTest.passes c.args.test.now) cs c.args.from c.loop-row.row c.loop-row.count _
+    c.loop-row.invariant
+    (omega (arith, all_length c.args.self.now, c.loop-row-test.true, c.requires.within)) c.passes.result
+    c.passes.ensures (λ e. rw e refl) (λ e. rw e refl)

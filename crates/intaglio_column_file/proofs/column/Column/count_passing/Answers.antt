@@ -7,5 +7,6 @@ pub returns : goal.returns
 returns g c =
     let cs = codes c.args.self.now in
     let p = g.T.CodeTest.passes c.args.test.now in
-    let none = ap length (past_end p cs c.loop-row.row (omega (arith, c.loop-row-test.false, c.len.ensures.length))) in
+    let none =
+    ap length (past_end p cs c.loop-row.row (omega (arith, c.loop-row-test.false, c.len.ensures.length))) in
     omega (arith, c.loop-row.invariant.count, none, rows_count p cs)

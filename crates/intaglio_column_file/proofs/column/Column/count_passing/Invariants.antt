@@ -6,7 +6,8 @@ use Rattle.intaglio_column_file.proofs.column.Column.count_passing.Given as goal
 
 abbrev pub invariant-loop-row : goal.invariant-loop-row
 invariant-loop-row g l = record {
-  count : length (rows_past (g.T.CodeTest.passes l.test) 0 (codes l.self)) ≡ l.count + length (rows_past (g.T.CodeTest.passes l.test) l.row (codes l.self));
+  count : length (rows_past (g.T.CodeTest.passes l.test) 0 (codes l.self))
+      ≡ l.count + length (rows_past (g.T.CodeTest.passes l.test) l.row (codes l.self));
   few : l.count ≤ l.row;
   within : l.row ≤ length (codes l.self);
 }

@@ -9,7 +9,8 @@ returns-then-passes g c =
     let cs = codes c.args.self.now in
     let p = g.T.CodeTest.passes c.args.test.now in
     let row = c.loop-row.row in
-    let within : row < length cs = omega (arith, all_length c.args.self.now, c.loop-row-test.true, c.requires.within) in
+    let within : row < length cs =
+    omega (arith, all_length c.args.self.now, c.loop-row-test.true, c.requires.within) in
     let here = sym c.passes.ensures ∙ c.if-passes.true in
     record {
       first = c.loop-row.invariant.same ∙ past_yes p cs row within here;

@@ -6,6 +6,7 @@ use Rattle.intaglio_column_file.proofs.column.Column.first_among.Given as goal
 
 abbrev pub invariant-loop-row : goal.invariant-loop-row
 invariant-loop-row g l = record {
-  same : rows_past (g.T.CodeTest.passes l.test) l.from (codes l.self) ≡ rows_past (g.T.CodeTest.passes l.test) l.row (codes l.self);
+  same : rows_past (g.T.CodeTest.passes l.test) l.from (codes l.self) ≡ rows_past (g.T.CodeTest.passes l.test)
+      l.row (codes l.self);
   order : l.from ≤ l.row;
 }

@@ -7,4 +7,5 @@ pub returns : goal.returns
 returns g c =
     let bs = c.args.self.now in
     let count : c.self.inside.id.count ≡ strings bs = rw (← c.self.view_is) c.self.invariant.id.count in
-    first_of_unknown (strings bs) _ (codes bs) c.next_row.result (c.of-strings.ensures ∙ count) c.next_row.ensures
+    first_of_unknown (strings bs) _ (codes bs) c.next_row.result (c.of-strings.ensures
+    ∙ count) c.next_row.ensures

@@ -3,7 +3,8 @@ use Rattle.intaglio_column_file.proofs.Codes.{all_length}
 use Rattle.intaglio_column_file.proofs.column.Column.len.Goals as goal
 
 pub returns-clause-length : goal.returns-clause-length
-returns-clause-length c = rw (← c.self.view_is) (c.self.invariant.rows ∙ sym (all_length c.self.inside.bytes.now))
+returns-clause-length c =
+    rw (← c.self.view_is) (c.self.invariant.rows ∙ sym (all_length c.self.inside.bytes.now))
 
 pub returns-clause-few : goal.returns-clause-few
 returns-clause-few c = rw (← c.self.view_is) c.self.invariant.whole.header.width.few

@@ -8,4 +8,5 @@ returns g c =
     let width = rw (← c.self.view_is) at c.requires.width in
     rw (← c.self.view_is)
     (c.passes_at.ensures
-    ∙ ap (g.T.CodeTest.passes c.args.test.now) (read_or c.self.inside.bytes.now g.C.Code.width c.args.row c.bytes.result width within c.bytes.ensures))
+    ∙ ap (g.T.CodeTest.passes c.args.test.now)
+    (read_or c.self.inside.bytes.now g.C.Code.width c.args.row c.bytes.result width within c.bytes.ensures))

@@ -5,4 +5,5 @@ pub returns : goal.returns
 returns g c =
     let within = rw (← c.self.view_is) at c.requires.row in
     let width = rw (← c.self.view_is) at c.requires.width in
-    rw (← c.self.view_is) (read_get c.self.inside.bytes.now g.C.Code.width c.args.row c.bytes.result _ width within c.bytes.ensures c.read.ensures)
+    rw (← c.self.view_is) (read_get c.self.inside.bytes.now g.C.Code.width c.args.row c.bytes.result _ width
+    within c.bytes.ensures c.read.ensures)

@@ -8,5 +8,6 @@ loop-row-init c = none_placed (λ x. x == c.args.code) (codes c.args.self.now) c
 
 pub loop-row-preserved : goal.loop-row-preserved
 loop-row-preserved c =
-    next_placed (λ x. x == c.args.code) (codes c.args.self.now) c.args.places.now c.loop-row.from c.loop-row.places c.loop-row.count c.loop-row.invariant
+    next_placed (λ x. x == c.args.code) (codes c.args.self.now) c.args.places.now c.loop-row.from
+    c.loop-row.places c.loop-row.count c.loop-row.invariant
     c.put.new.places c.in-Some.row c.in-Some.ensures c.put.ensures.there c.put.ensures.none

@@ -9,4 +9,5 @@ loop-row-preserved c =
     let p = λ (x : ℕ). x == c.args.code in
     let cs = codes c.args.self.now in
     ap (λ t. t ++ rows_past p (c.in-Some.row + 1) cs) c.in_ok-push.ensures.items
-    ∙ more_rows_of p cs c.loop-row.rows.items (rows_of c.args.code cs) c.loop-row.from c.in-Some.row c.loop-row.invariant c.in-Some.ensures
+    ∙ more_rows_of p cs c.loop-row.rows.items (rows_of c.args.code cs) c.loop-row.from c.in-Some.row
+    c.loop-row.invariant c.in-Some.ensures

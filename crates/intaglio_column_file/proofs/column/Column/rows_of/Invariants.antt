@@ -5,7 +5,8 @@ use Rattle.intaglio_column_file.specs.Rows.{rows_of, rows_past}
 use Rattle.intaglio_column_file.proofs.column.Column.rows_of.Given as goal
 
 abbrev pub invariant-loop-row : goal.invariant-loop-row
-invariant-loop-row l = l.rows.items ++ rows_past (λ c. c == l.code) l.from (codes l.self) ≡ rows_of l.code (codes l.self)
+invariant-loop-row l =
+    l.rows.items ++ rows_past (λ c. c == l.code) l.from (codes l.self) ≡ rows_of l.code (codes l.self)
 
 abbrev pub decreases-loop-row : goal.decreases-loop-row
 decreases-loop-row l = length (codes l.self) - l.from

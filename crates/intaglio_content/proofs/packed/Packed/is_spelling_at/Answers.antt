@@ -6,4 +6,5 @@ use Rattle.intaglio_content.proofs.packed.Packed.is_spelling_at.Goals as goal
 pub returns : goal.returns
 returns g c =
     let l : c.args.i < length (strings_of c.self.inside.records) = rw (← c.self.view_is) at c.requires in
-    rw (← c.self.view_is, slice_get-get_or (strings_of c.self.inside.records) c.args.i [] l) (c.self.invariant c.args.i [] l)
+    rw (← c.self.view_is, slice_get-get_or (strings_of c.self.inside.records) c.args.i [] l)
+    (c.self.invariant c.args.i [] l)

@@ -18,7 +18,10 @@ returns g c =
     let read = rw is at c.requires.read in
     record {
       content = c.args.read.now;
-      stands = sym (get_or_from_slice_get strings c.args.i c.args.read.now c.args.read.now (is ∙ ap Some (sym read)));
-      same_keys = rw (g.met.Q.Packable.key_of_spelled c.args.self.now, ← c.spelled_bytes.ensures.spelling) c.same_spellings.ensures;
+      stands =
+          sym (get_or_from_slice_get strings c.args.i c.args.read.now c.args.read.now (is
+          ∙ ap Some (sym read)));
+      same_keys = rw (g.met.Q.Packable.key_of_spelled c.args.self.now, ← c.spelled_bytes.ensures.spelling)
+          c.same_spellings.ensures;
       event = c.compared.ensures;
     }

@@ -1,4 +1,4 @@
-use Rattle.std.proofs.Common.{◌≡◌, Bool, true, false, Ok, Err, Result, refl, sym, ◌∙◌, arith}
+use Rattle.std.proofs.Common.{◌≡◌, false, Ok, Err, Result, sym, ◌∙◌}
 use Rattle.std.specs.Result.{is_err, OnOk}
 use Rattle.std.proofs.lemmas.Bool.{true≢false}
 use Rattle.intaglio_records.specs.Records.{record_room_of}
@@ -10,5 +10,6 @@ when_ok (Err x) e p = absurd (true≢false e)
 
 pub returns-else-is_err-clause-over : goal.returns-else-is_err-clause-over
 returns-else-is_err-clause-over g c =
-    let over = when_ok c.lengthen-reached.result (sym c.is_err.ensures.value ∙ c.if-is_err.false) c.lengthen-reached.ensures.over in
+    let over = when_ok c.lengthen-reached.result (sym c.is_err.ensures.value ∙ c.if-is_err.false)
+    c.lengthen-reached.ensures.over in
     rw c.records-2.ensures at (over (record_room_of c.args.list.now))

@@ -11,8 +11,11 @@ invariant-loop-rest g l =
     let spellings = map (λ spelling. spelling.now) l.self.spellings.items in
     record {
       known : AreKnown (length spellings) (symbol_lines l.rest);
-      put : (done : List ℕ) × Appends (append_known (g.W.Write.contents l.initial.writer) l.initial.block.items) (append_known (g.W.Write.contents l.writer) l.block.items) done
-          × (done ++ decoded (map (digits_value 10) (symbol_lines l.rest)) spellings ≡ decoded (map (digits_value 10) (symbol_lines l.self.bytes.now)) spellings);
+      put : (done : List ℕ)
+          × Appends (append_known (g.W.Write.contents l.initial.writer) l.initial.block.items)
+          (append_known (g.W.Write.contents l.writer) l.block.items) done
+          × (done ++ decoded (map (digits_value 10) (symbol_lines l.rest)) spellings
+          ≡ decoded (map (digits_value 10) (symbol_lines l.self.bytes.now)) spellings);
     }
 
 abbrev pub decreases-loop-rest : goal.decreases-loop-rest

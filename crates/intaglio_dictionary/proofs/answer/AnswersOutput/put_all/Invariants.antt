@@ -6,5 +6,6 @@ use Rattle.intaglio_dictionary.specs.Answers.{answer_line}
 use Rattle.intaglio_dictionary.proofs.answer.AnswersOutput.put_all.Given as goal
 
 abbrev pub invariant-loop-found : goal.invariant-loop-found
-invariant-loop-found g l = Appends (append_known (g.W.Write.contents l.initial.writer) l.initial.block.items) (append_known (g.W.Write.contents l.writer) l.block.items)
+invariant-loop-found g l = Appends (append_known (g.W.Write.contents l.initial.writer) l.initial.block.items)
+    (append_known (g.W.Write.contents l.writer) l.block.items)
     (flat_map answer_line (take l.found-index l.self.found.now))

@@ -8,5 +8,6 @@ overflow_mul-at c = omega (arith, c.self.invariant, c.requires, c.self.told.0, a
 pub returns : goal.returns
 returns c =
     let bytes = c.self.inside.bytes.now in
-    let within : 4 * c.args.i + 4 ≤ length bytes = omega (arith, c.self.invariant, c.requires, ap length c.self.view_is) in
+    let within : 4 * c.args.i + 4 ≤ length bytes =
+    omega (arith, c.self.invariant, c.requires, ap length c.self.view_is) in
     rw (← c.self.view_is, c.from_le_bytes.ensures) (code-at bytes c.args.i within)

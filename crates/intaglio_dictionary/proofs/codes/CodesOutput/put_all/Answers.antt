@@ -9,4 +9,5 @@ loop-code-preserved g c =
     let codes = c.args.self.now.codes.now in
     let code = c.code-item.result in
     let at = slice_get_read codes _ c.loop-code.code-index code refl (search rules) c.code-item.is in
-    appends-next codes c.loop-code.code-index code at code_bytes _ _ _ _ (ap code_bytes c.id.ensures) c.loop-code.invariant c.in_ok-put_code.ensures.put
+    appends-next codes c.loop-code.code-index code at code_bytes _ _ _ _ (ap code_bytes c.id.ensures)
+    c.loop-code.invariant c.in_ok-put_code.ensures.put

@@ -11,5 +11,6 @@ returns c =
     let code = c.unwrap-code.result in
     let new = λ (n : ℕ). get_or numbers n missing in
     let at : slice_get cs c.args.i ≡ Some code = sym c.code.ensures ∙ c.unwrap-code.ensures in
-    let number : c.unwrap_or.result ≡ new code = c.unwrap_or.ensures ∙ ap (λ t. unwrap_or t missing) c.get.ensures ∙ unwrap_or-slice_get numbers code missing in
+    let number : c.unwrap_or.result ≡ new code = c.unwrap_or.ensures
+    ∙ ap (λ t. unwrap_or t missing) c.get.ensures ∙ unwrap_or-slice_get numbers code missing in
     slice_get-map new cs c.args.i ∙ ap (option_map new) at ∙ ap Some (sym number)

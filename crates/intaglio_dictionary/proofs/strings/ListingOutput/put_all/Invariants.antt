@@ -6,5 +6,6 @@ use Rattle.intaglio_lines.specs.Output.{spelling_line}
 use Rattle.intaglio_dictionary.proofs.strings.ListingOutput.put_all.Given as goal
 
 abbrev pub invariant-loop-number : goal.invariant-loop-number
-invariant-loop-number g l = Appends (append_known (g.W.Write.contents l.initial.writer) l.initial.block.items) (append_known (g.W.Write.contents l.writer) l.block.items)
+invariant-loop-number g l = Appends (append_known (g.W.Write.contents l.initial.writer) l.initial.block.items)
+    (append_known (g.W.Write.contents l.writer) l.block.items)
     (flat_map spelling_line (take l.number (g.D.WholeDictionary.strings l.self.table.now)))

@@ -10,4 +10,4 @@ returns-clause-not_found c =
     rw (← c.self.view_is) (λ differs.
     let w = get_or ws c.args.i [] in
     let is = slice_get-get_or ws c.args.i [] there in
-    (c.self.invariant, w, is, c.is_at.ensures.not_found differs w is))
+    (c.self.invariant, (w, is, c.is_at.ensures.not_found differs w is)))

@@ -12,8 +12,10 @@ returns-clause-strings g c =
     let table = c.args.self.now in
     let forms : map (λ s. s.now) c.deref.result.now ≡ table = search rules in
     let empty : c.unwrap-thawed.result.state.contents ≡ [] = search rules in
-    let stored : map (λ w. w) c.get_or_intern_all.new.self.state.contents ≡ interned_all packed_key [] table = rw (← forms) (rw empty at c.in_ok-_symbols.ensures.batch.held) in
-    sym (map-id c.get_or_intern_all.new.self.state.contents) ∙ stored ∙ all_interned packed_key [] table c.distinct_strings.ensures.distinct
+    let stored : map (λ w. w) c.get_or_intern_all.new.self.state.contents ≡ interned_all packed_key [] table =
+    rw (← forms) (rw empty at c.in_ok-_symbols.ensures.batch.held) in
+    sym (map-id c.get_or_intern_all.new.self.state.contents) ∙ stored
+    ∙ all_interned packed_key [] table c.distinct_strings.ensures.distinct
 
 pub returns-in_err-_symbols-clause-only_memory : goal.returns-in_err-_symbols-clause-only_memory
 returns-in_err-_symbols-clause-only_memory g c =
@@ -22,7 +24,11 @@ returns-in_err-_symbols-clause-only_memory g c =
     let empty : c.unwrap-thawed.result.state.contents ≡ [] = search rules in
     let limit : c.unwrap-thawed.result.state.limit ≡ 2 ^ 32 = search rules in
     let e = c.in_err-_symbols.field-0.0 in
-    let full : IfOverflow e (2 ^ 32 < length (interned_all packed_key [] table)) = rw (← forms) (rw (limit, empty) at c.in_err-_symbols.ensures.batch.overflow) in
-    let fits : IfOverflow e ⊥ = no_overflow packed_key table (2 ^ 32) e c.distinct_strings.ensures.distinct c.distinct_strings.ensures.few full in
-    let passed = err_from_is_err_and c.from_residual-in_err-_symbols.result c.from_residual-in_err-_symbols.ensures.1 in
+    let full : IfOverflow e (2 ^ 32 < length (interned_all packed_key [] table)) =
+    rw (← forms) (rw (limit, empty) at c.in_err-_symbols.ensures.batch.overflow) in
+    let fits : IfOverflow e ⊥ =
+    no_overflow packed_key table (2 ^ 32) e c.distinct_strings.ensures.distinct
+    c.distinct_strings.ensures.few full in
+    let passed =
+    err_from_is_err_and c.from_residual-in_err-_symbols.result c.from_residual-in_err-_symbols.ensures.1 in
     rw (passed.1, passed.2) fits

@@ -16,7 +16,8 @@ returns-then-symbol-self-clause-found c = rw (← c.self.view_is) (λ w is.
     let h = c.args.hashed in
     let p = c.place-place.result in
     find-by bs w h p is (rw (← c.self.view_is) at c.place-place.ensures.value)
-    ∙ at-past bs w p (h % 256) c.self.inside.tags_at c.read_u32-symbol.result c.self.invariant.tags_at c.if-self-place.false c.read_u32-symbol.ensures (rw c.self.invariant.count at c.if-symbol-self.true))
+    ∙ at-past bs w p (h % 256) c.self.inside.tags_at c.read_u32-symbol.result c.self.invariant.tags_at
+    c.if-self-place.false c.read_u32-symbol.ensures (rw c.self.invariant.count at c.if-symbol-self.true))
 
 pub returns-clause-found : goal.returns-clause-found
 returns-clause-found c = rw (← c.self.view_is) (λ w is.
@@ -24,4 +25,5 @@ returns-clause-found c = rw (← c.self.view_is) (λ w is.
     let h = c.args.hashed in
     let p = c.place-place.result in
     find-by bs w h p is (rw (← c.self.view_is) at c.place-place.ensures.value)
-    ∙ at-same bs w p (h % 256) c.self.inside.tags_at c.read_u32-symbol.result c.self.invariant.tags_at c.if-self-place.false c.read_u32-symbol.ensures)
+    ∙ at-same bs w p (h % 256) c.self.inside.tags_at c.read_u32-symbol.result c.self.invariant.tags_at
+    c.if-self-place.false c.read_u32-symbol.ensures)

@@ -10,7 +10,9 @@ returns-then-self-place-clause-not_found c =
     let hash = rw (← c.self.view_is) at c.requires in
     let at = rw (← c.self.view_is) at c.place-place.ensures.value in
     rw (← c.self.view_is) (λ _ w is found.
-    let none : find bs w ≡ None = find-by bs w c.args.hashed c.place-place.result (hash w is) at ∙ at-other bs w c.place-place.result (c.args.hashed % 256) c.self.inside.tags_at c.self.invariant.tags_at c.if-self-place.true in
+    let none : find bs w ≡ None =
+    find-by bs w c.args.hashed c.place-place.result (hash w is) at ∙ at-other bs w c.place-place.result
+    (c.args.hashed % 256) c.self.inside.tags_at c.self.invariant.tags_at c.if-self-place.true in
     let no : ◌≡◌ {A = Option ℕ} None (Some c.args.i) = sym none ∙ found in
     cc)
 
@@ -20,7 +22,10 @@ returns-clause-found c =
     let hash = rw (← c.self.view_is) at c.requires in
     let at = rw (← c.self.view_is) at c.place-place.ensures.value in
     rw (← c.self.view_is) (λ same w is.
-    let by = find-by bs w c.args.hashed c.place-place.result (hash w is) at ∙ at-same bs w c.place-place.result (c.args.hashed % 256) c.self.inside.tags_at c.read_u32.result c.self.invariant.tags_at c.if-self-place.false c.read_u32.ensures in
+    let by =
+    find-by bs w c.args.hashed c.place-place.result (hash w is) at ∙ at-same bs w c.place-place.result
+    (c.args.hashed % 256) c.self.inside.tags_at c.read_u32.result c.self.invariant.tags_at
+    c.if-self-place.false c.read_u32.ensures in
     found-same bs w c.read_u32.result c.args.i is by (eqb-true c.read_u32.result c.args.i same))
 
 pub returns-clause-not_found : goal.returns-clause-not_found
@@ -29,5 +34,8 @@ returns-clause-not_found c =
     let hash = rw (← c.self.view_is) at c.requires in
     let at = rw (← c.self.view_is) at c.place-place.ensures.value in
     rw (← c.self.view_is) (λ differs w is.
-    let by = find-by bs w c.args.hashed c.place-place.result (hash w is) at ∙ at-same bs w c.place-place.result (c.args.hashed % 256) c.self.inside.tags_at c.read_u32.result c.self.invariant.tags_at c.if-self-place.false c.read_u32.ensures in
+    let by =
+    find-by bs w c.args.hashed c.place-place.result (hash w is) at ∙ at-same bs w c.place-place.result
+    (c.args.hashed % 256) c.self.inside.tags_at c.read_u32.result c.self.invariant.tags_at
+    c.if-self-place.false c.read_u32.ensures in
     found-other bs w c.read_u32.result c.args.i by (eqb-false c.read_u32.result c.args.i differs))

@@ -1,6 +1,7 @@
 use Rattle.std.proofs.Common.{◌+◌, ◌-◌, ◌*◌, ◌<◌, length, length-drop, sym, ap, ◌∙◌, arith}
-use Rattle.intaglio_frozen.specs.Layout.{u32_at, count, ends_at}
-use Rattle.intaglio_frozen.proofs.Places.{end_is, start_is_end, strings_length, u32_in}
+use Rattle.intaglio_hash.specs.Numbers.{u32_at}
+use Rattle.intaglio_frozen.specs.Layout.{count, ends_at}
+use Rattle.intaglio_frozen.proofs.Places.{end-is, start-is-end, strings_length, u32-in}
 use Rattle.intaglio_frozen.proofs.layout.Layout.start_of.Goals as goal
 
 pub read_u32-before-requires : goal.read_u32-before-requires
@@ -8,7 +9,13 @@ read_u32-before-requires c =
     let bs = c.self.inside.bytes.now in
     let within = rw (← c.self.view_is) at c.requires in
     let below : c.args.i < count bs = omega (arith, within, strings_length bs) in
-    omega (arith, below, ap length c.self.invariant.ends, length-drop (ends_at bs - 4) bs, c.self.invariant.sections.within)
+    omega (
+      arith,
+      below,
+      ap length c.self.invariant.ends,
+      length-drop (ends_at bs - 4) bs,
+      c.self.invariant.sections.within,
+    )
 
 pub returns-else-i-eq0 : goal.returns-else-i-eq0
 returns-else-i-eq0 c =
@@ -17,5 +24,7 @@ returns-else-i-eq0 c =
     let some : 0 < i = omega (arith, c.if-i-eq0.false) in
     let within = rw (← c.self.view_is) at c.requires in
     let below : i - 1 < count bs = omega (arith, within, strings_length bs) in
-    let read = ap (λ l. u32_at l (4 * i)) c.self.invariant.ends ∙ u32_in bs (ends_at bs - 4) (4 * i) (ends_at bs + 4 * (i - 1)) (omega (arith, some)) in
-    rw (← c.self.view_is) (c.read_u32-before.ensures ∙ read ∙ sym (end_is bs (i - 1) below) ∙ sym (start_is_end bs i some))
+    let read = ap (λ l. u32_at l (4 * i)) c.self.invariant.ends
+    ∙ u32-in bs (ends_at bs - 4) (4 * i) (ends_at bs + 4 * (i - 1)) (omega (arith, some)) in
+    rw (← c.self.view_is) (c.read_u32-before.ensures ∙ read ∙ sym (end-is bs (i - 1) below)
+    ∙ sym (start-is-end bs i some))

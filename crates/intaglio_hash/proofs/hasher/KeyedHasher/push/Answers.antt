@@ -8,8 +8,10 @@ pub returns-then-held-count-lt8-clause-value : goal.returns-then-held-count-lt8-
 returns-then-held-count-lt8-clause-value c =
     let x = c.args.number in
     let n = c.args.count in
-    ap (λ s. with_tail s (bit_or s.tail ((x * 2 ^ (8 * (s.length % 8))) % 2 ^ 64)) (wrapping_add s.length n)) c.self.view_is
-    ∙ sym (after_push-within c.args.self.now x n (ap (λ s. s.length % 8 + n) c.self.view_is) c.if-held-count-lt8.true)
+    ap (λ s. with_tail s (bit_or s.tail ((x * 2 ^ (8 * (s.length % 8))) % 2 ^ 64)) (wrapping_add s.length n))
+    c.self.view_is
+    ∙ sym (after_push-within c.args.self.now x n (ap (λ s. s.length % 8 + n) c.self.view_is)
+    c.if-held-count-lt8.true)
 
 pub returns-else-held-count-lt8-clause-value : goal.returns-else-held-count-lt8-clause-value
 unfolding write_word round
@@ -17,6 +19,9 @@ returns-else-held-count-lt8-clause-value c =
     let x = c.args.number in
     let n = c.args.count in
     let k = c.self.inside.length % 8 in
-    ap (λ s. with_tail s (x / 2 ^ 8 / 2 ^ (56 - 8 * k)) s.length) (c.self-else-held-count-lt8.view_is ∙ c.write_word.ensures)
-    ∙ ap (λ s. with_tail (write_word s (bit_or s.tail ((x * 2 ^ (8 * (s.length % 8))) % 2 ^ 64))) (x / 2 ^ 8 / 2 ^ (56 - 8 * (s.length % 8))) (wrapping_add s.length n)) c.self.view_is
-    ∙ sym (after_push-over c.args.self.now x n (ap (λ s. s.length % 8 + n) c.self.view_is) c.if-held-count-lt8.false)
+    ap (λ s. with_tail s (x / 2 ^ 8 / 2 ^ (56 - 8 * k)) s.length) (c.self-else-held-count-lt8.view_is
+    ∙ c.write_word.ensures)
+    ∙ ap (λ s. with_tail (write_word s (bit_or s.tail ((x * 2 ^ (8 * (s.length % 8))) % 2 ^ 64)))
+    (x / 2 ^ 8 / 2 ^ (56 - 8 * (s.length % 8))) (wrapping_add s.length n)) c.self.view_is
+    ∙ sym (after_push-over c.args.self.now x n (ap (λ s. s.length % 8 + n) c.self.view_is)
+    c.if-held-count-lt8.false)

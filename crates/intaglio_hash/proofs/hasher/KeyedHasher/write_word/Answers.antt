@@ -7,4 +7,5 @@ pub returns : goal.returns
 unfolding write_word
 returns c =
     let m = c.args.word in
-    ap (after_round m) (c.self-2.view_is ∙ c.round.ensures) ∙ ap (λ s. after_round m (round (before_round m s))) c.self.view_is
+    ap (after_round m) (c.self-2.view_is ∙ c.round.ensures)
+    ∙ ap (λ s. after_round m (round (before_round m s))) c.self.view_is

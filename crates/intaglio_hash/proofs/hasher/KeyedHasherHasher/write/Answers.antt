@@ -12,7 +12,8 @@ returns-then-bytes-lt8 c =
     let bs = c.args.bytes.now in
     let s = c.args.self.now in
     c.push.ensures.value ∙ ap (λ x. after_push s x (length bs)) c.read_short.ensures
-    ∙ after_push-fold bs 0 (length bs) (λ k. (c.type_inv.bytes k).fits) s s refl c.push.ensures.fits (omega arith) (omega arith)
+    ∙ after_push-fold bs 0 (length bs) (λ k. (c.type_inv.bytes k).fits) s s refl c.push.ensures.fits
+    (omega arith) (omega arith)
     ∙ ap (fold write_byte s) (take_all (0 + length bs) bs (omega arith))
 
 pub loop-at-preserved : goal.loop-at-preserved
@@ -22,7 +23,8 @@ loop-at-preserved c =
     let s = c.loop-at.state in (
       omega arith,
       c.push-in-loop-at.ensures.value ∙ ap (λ x. after_push s x 8) c.read_word.ensures
-          ∙ after_push-fold bs at 8 (λ k. (c.type_inv.bytes k).fits) c.args.self.now s c.loop-at.invariant.1 c.push-in-loop-at.ensures.fits (omega arith) (omega arith),
+          ∙ after_push-fold bs at 8 (λ k. (c.type_inv.bytes k).fits) c.args.self.now s c.loop-at.invariant.1
+          c.push-in-loop-at.ensures.fits (omega arith) (omega arith),
     )
 
 pub returns : goal.returns
@@ -32,5 +34,6 @@ returns c =
     let at = c.loop-at.at in
     let s = c.loop-at.state in
     c.push-2.ensures.value ∙ ap (λ x. after_push s x (length bs - at)) c.read_last.ensures
-    ∙ after_push-fold bs at (length bs - at) (λ k. (c.type_inv.bytes k).fits) c.args.self.now s c.loop-at.invariant.1 c.push-2.ensures.fits (omega arith) (omega arith)
+    ∙ after_push-fold bs at (length bs - at) (λ k. (c.type_inv.bytes k).fits) c.args.self.now s
+    c.loop-at.invariant.1 c.push-2.ensures.fits (omega arith) (omega arith)
     ∙ ap (fold write_byte c.args.self.now) (take_all (at + (length bs - at)) bs (omega arith))

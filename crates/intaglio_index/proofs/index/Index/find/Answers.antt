@@ -1,9 +1,8 @@
-use Rattle.std.proofs.Common.{◌≡◌, ◌≢◌, ◌⊎◌, false, ◌<◌, ◌+◌, ◌/◌, ◌%◌, length, sym, ap, ◌∙◌, arith, inl, inr}
-use Rattle.std.proofs.lemmas.Bool.{true≢false}
+use Rattle.std.proofs.Common.{◌≡◌, ◌<◌, ◌+◌, ◌%◌, length, sym, ap, ◌∙◌, arith, inr}
 use Rattle.intaglio_index.specs.Placed.{Placed}
-use Rattle.intaglio_index.proofs.FilterLemmas.{marked_some}
-use Rattle.intaglio_index.proofs.HeadLemmas.{IsOccupied, is_occupied, second_within}
-use Rattle.intaglio_index.proofs.SearchLemmas.{absent_by_head, both_smaller, first_found, second_found, nearest_within, two_steps}
+use Rattle.intaglio_index.proofs.FilterLemmas.{marked-some}
+use Rattle.intaglio_index.proofs.HeadLemmas.{is_occupied, second_within}
+use Rattle.intaglio_index.proofs.SearchLemmas.{IsRead, head_absent, head_behind, word_first, word_second, word_within, two_steps}
 use Rattle.intaglio_index.proofs.index.Index.find.Goals as goal
 use Rattle.intaglio_index.proofs.index.Index.find.Goals.{After-agrees}
 
@@ -14,37 +13,34 @@ placed_is : (c : After-agrees) → length c.args.self.now.hashes ≡ length c.se
 placed_is c = ap (λ (v : Placed). length v.hashes) (sym c.self.view_is)
 
 exact : (c : After-agrees) → c.args.self.now.count ≡ c.self.inside.modulus.mask + 1
-exact c = count_is c ∙ sym c.self.invariant.counted ∙ c.is_power_of_two.ensures.0 c.if-not-is_power_of_two.false
+exact c =
+    count_is c ∙ sym c.self.invariant.counted ∙ c.is_power_of_two.ensures.0 c.if-not-is_power_of_two.false
 
-occupied : (c : After-agrees) → IsOccupied c.args.self.now (c.args.hash % c.args.self.now.count) (c.self.inside.modulus.mask + 1) c.index-head.result.now
-occupied c =
-    let at : c.masked-bucket.result ≡ c.args.hash % c.args.self.now.count = c.masked-bucket.ensures ∙ ap (λ n. c.args.hash % n) (c.self.invariant.counted ∙ sym (count_is c)) in
+read : (c : After-agrees) →
+    IsRead c.args.self.now c.args.hash (c.self.inside.modulus.mask + 1) c.index-head.result.now
+    c.matching_word-word.result
+read c =
+    let at : c.masked-bucket.result ≡ c.args.hash % c.args.self.now.count =
+    c.masked-bucket.ensures ∙ ap (λ n. c.args.hash % n) (c.self.invariant.counted ∙ sym (count_is c)) in
     let some : 0 < length c.self.inside.heads.items = omega (arith, exact c, count_is c) in
-    let within : c.args.hash % c.args.self.now.count < length c.self.inside.heads.items = omega (arith, some, count_is c) in
-    is_occupied c.args.self.now c.self.inside.heads.items c.self.inside.filters.items (c.self.inside.modulus.mask + 1) (c.args.hash % c.args.self.now.count) (count_is c) c.self.invariant.filtered.size (rw (← c.self.view_is) c.self.invariant.headed) within
-    c.index-head.result.now c.index.result.now (rw at at c.index-head.ensures) (rw at at c.index.ensures) (marked_some _ c.args.hash (c.is_marked.ensures.0 c.if-not-is_marked.false))
-
--- the word that is nearest the hash is that of a placed symbol
-near : (c : After-agrees) → c.matching_word-word.result % (c.self.inside.modulus.mask + 1) < length c.args.self.now.hashes
-near c = nearest_within _ _ _ c.args.hash c.matching_word-word.result _ (occupied c) c.matching_word-word.ensures.first c.matching_word-word.ensures.second
-
--- neither word agrees
-module _ (c : After-agrees) (unmet : c.agrees.result ≡ false) where
-  differs : c.matching_word-word.result / (c.self.inside.modulus.mask + 1) ≢ c.args.hash / (c.self.inside.modulus.mask + 1)
-  differs q = true≢false (sym (c.agrees.ensures.1 q) ∙ unmet)
-
-  first_differs : c.index-head.result.now.first / (c.self.inside.modulus.mask + 1) ≢ c.args.hash / (c.self.inside.modulus.mask + 1)
-  first_differs q = differs (ap (λ w. w / (c.self.inside.modulus.mask + 1)) (c.matching_word-word.ensures.first q) ∙ q)
-
-  second_differs : c.index-head.result.now.second / (c.self.inside.modulus.mask + 1) ≢ c.args.hash / (c.self.inside.modulus.mask + 1)
-  second_differs q = differs (ap (λ w. w / (c.self.inside.modulus.mask + 1)) (c.matching_word-word.ensures.second first_differs) ∙ q)
+    let within : c.args.hash % c.args.self.now.count < length c.self.inside.heads.items =
+    omega (arith, some, count_is c) in
+    record {
+      some = omega arith;
+      occupied = is_occupied c.args.self.now c.self.inside.heads.items c.self.inside.filters.items
+          (c.self.inside.modulus.mask + 1) (c.args.hash % c.args.self.now.count) (count_is c)
+          c.self.invariant.filtered.size (rw (← c.self.view_is) c.self.invariant.headed) within
+          c.index-head.result.now c.index.result.now (rw at at c.index-head.ensures)
+          (rw at at c.index.ensures)
+          (marked-some _ c.args.hash (c.is_marked.ensures.0 c.if-not-is_marked.false));
+      first = c.matching_word-word.ensures.first;
+      second = c.matching_word-word.ensures.second;
+    }
 
 pub returns-then-hash-head-clause-none : goal.returns-then-hash-head-clause-none
 returns-then-hash-head-clause-none c =
-    let all = (goal.at.returns-then-hash-head-clause-none c).After-agrees in
-    let some : 0 < c.self.inside.modulus.mask + 1 = omega arith in
-    let end : (c.args.hash < c.index-head.result.now.second) ⊎ (c.index-head.result.now.first ≡ c.index-head.result.now.second) = elim c.then-hash-head.either [ inl l ↦ inl l | inr p ↦ inr p.1 ] in
-    λ e. absent_by_head _ _ _ _ some (occupied all) c.args.work.now.events c.args.work.now.events (first_differs all c.if-not-agrees.true) (second_differs all c.if-not-agrees.true) end
+    λ e. head_absent _ _ _ _ _ (read (goal.at.returns-then-hash-head-clause-none c).After-agrees)
+    c.agrees.result c.if-not-agrees.true c.agrees.ensures.1 c.then-hash-head.either
 
 pub returns-then-hash-head-clause-passed : goal.returns-then-hash-head-clause-passed
 returns-then-hash-head-clause-passed c = λ e. record { more = 0; few = omega arith; events = c.step.ensures }
@@ -52,34 +48,31 @@ returns-then-hash-head-clause-passed c = λ e. record { more = 0; few = omega ar
 pub symbol-requires-clause-number : goal.symbol-requires-clause-number
 symbol-requires-clause-number c =
     let all = (goal.at.symbol-requires-clause-number c).After-agrees in
-    omega (arith, second_within _ _ _ _ (occupied all), placed_is all, c.self.invariant.linked.numbered)
+    omega (arith, second_within _ _ _ _ (read all).occupied, placed_is all, c.self.invariant.linked.numbered)
 
 pub find_behind-requires : goal.find_behind-requires
-find_behind-requires c =
-    let all = (goal.at.find_behind-requires c).After-agrees in
-    let some : 0 < c.self.inside.modulus.mask + 1 = omega arith in
-    record {
-      behind = rw c.symbol.ensures (both_smaller _ _ _ _ some (occupied all) c.args.work.now.events c.args.work.now.events (second_differs all c.if-not-agrees.true) c.if-hash-head.false c.if-head.false);
-      begun = (c.args.work.now.events, c.step.ensures);
-    }
+find_behind-requires c = record {
+  behind =
+      rw c.symbol.ensures (head_behind _ _ _ _ _ (read (goal.at.find_behind-requires c).After-agrees)
+      c.agrees.result c.if-not-agrees.true c.agrees.ensures.1 c.if-hash-head.false c.if-head.false);
+  begun = (c.args.work.now.events, c.step.ensures);
+}
 
 pub symbol_beside-symbol-requires-clause-number : goal.symbol_beside-symbol-requires-clause-number
 symbol_beside-symbol-requires-clause-number c =
     let all = (goal.at.symbol_beside-symbol-requires-clause-number c).After-agrees in
-    omega (arith, near all, placed_is all, c.self.invariant.linked.numbered)
+    omega (arith, word_within _ _ _ _ _ (read all), placed_is all, c.self.invariant.linked.numbered)
 
 pub returns-then-word-head-clause-found : goal.returns-then-word-head-clause-found
 returns-then-word-head-clause-found c =
     let all = (goal.at.returns-then-word-head-clause-found c).After-agrees in
-    let high = c.agrees.ensures.0 c.if-not-agrees.false in
-    let some : 0 < c.self.inside.modulus.mask + 1 = omega arith in
-    rw (c.symbol_beside-symbol.ensures, c.if-word-head.true) (first_found _ _ _ _ some (occupied all) _ _ (rw c.if-word-head.true at high) (inr (exact all)) c.step.ensures)
+    rw c.symbol_beside-symbol.ensures
+    (word_first _ _ _ _ _ (read all) (c.agrees.ensures.0 c.if-not-agrees.false) (inr (exact all)) _ _
+    c.if-word-head.true c.step.ensures)
 
 pub returns-clause-found : goal.returns-clause-found
 returns-clause-found c =
     let all = (goal.at.returns-clause-found c).After-agrees in
-    let high = c.agrees.ensures.0 c.if-not-agrees.false in
-    let some : 0 < c.self.inside.modulus.mask + 1 = omega arith in
-    let first : c.index-head.result.now.first / (c.self.inside.modulus.mask + 1) ≢ c.args.hash / (c.self.inside.modulus.mask + 1) = λ q. c.if-word-head.false (c.matching_word-word.ensures.first q) in
-    let second = c.matching_word-word.ensures.second first in
-    rw (c.symbol_beside-symbol.ensures, second) (second_found _ _ _ _ some (occupied all) _ _ first (rw second at high) (inr (exact all)) (two_steps _ _ _ c.step.ensures c.step-2.ensures))
+    rw c.symbol_beside-symbol.ensures
+    (word_second _ _ _ _ _ (read all) (c.agrees.ensures.0 c.if-not-agrees.false) (inr (exact all)) _ _
+    c.if-word-head.false (two_steps _ _ _ c.step.ensures c.step-2.ensures))

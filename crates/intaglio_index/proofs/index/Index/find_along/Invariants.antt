@@ -8,7 +8,8 @@ use Rattle.intaglio_index.proofs.index.Index.find_along.Given as goal
 abbrev pub invariant-loop-candidate : goal.invariant-loop-candidate
 invariant-loop-candidate l = record {
   reached : (start : List Event) × IsReached l.hash (bucket_of l.self l.hash) start l.work.events l.candidate;
-  since : (start : List Event) → IsReached l.hash (bucket_of l.self l.hash) start l.fn.work.events l.fn.candidate →
+  since : (start : List Event) →
+      IsReached l.hash (bucket_of l.self l.hash) start l.fn.work.events l.fn.candidate →
       IsReached l.hash (bucket_of l.self l.hash) start l.work.events l.candidate;
 }
 

@@ -9,20 +9,34 @@ use Rattle.intaglio_index.proofs.index.Index.find_behind.Goals.{After-next_entry
 pub next_entry-requires : goal.next_entry-requires
 next_entry-requires c = second_placed _ _ _ c.requires.behind
 
-reached : (c : After-next_entry) (start : List Event) → c.args.work.now.events ≡ start ++ step ∷ [] → IsReached c.args.hash (chain c.args.self.now (c.args.hash % c.args.self.now.count)) start c.step-2.new.self.events c.next_entry.result
+reached : (c : After-next_entry) (start : List Event) → c.args.work.now.events ≡ start ++ step ∷ [] →
+    IsReached c.args.hash (chain c.args.self.now (c.args.hash % c.args.self.now.count)) start
+    c.step-2.new.self.events c.next_entry.result
 reached c start begun =
-    begins_third _ _ _ _ c.next_entry.result _ c.requires.behind (three_steps _ _ _ _ begun c.step.ensures c.step-2.ensures)
-    (λ before rest split. c.next_entry.ensures.next (c.args.hash % c.args.self.now.count) c.requires.behind.hash before rest split)
+    begins_third _ _ c.next_entry.result _ c.requires.behind (λ before rest split.
+    c.next_entry.ensures.next (c.args.hash % c.args.self.now.count) c.requires.behind.hash before
+    rest split)
+    _ _ (three_steps _ _ _ _ begun c.step.ensures c.step-2.ensures)
 
 pub find_along-requires : goal.find_along-requires
-find_along-requires c = (c.requires.begun.0, reached (goal.at.find_along-requires c).After-next_entry c.requires.begun.0 c.requires.begun.1)
+find_along-requires c = (
+  c.requires.begun.0,
+  reached (goal.at.find_along-requires c).After-next_entry c.requires.begun.0 c.requires.begun.1,
+)
 
 pub returns-clause-found : goal.returns-clause-found
 returns-clause-found c =
     let path : List (ℕ × ℕ) = chain c.args.self.now (c.args.hash % c.args.self.now.count) in
-    each_some (λ s. (start : List Event) → IsReached c.args.hash path start c.step-2.new.self.events c.next_entry.result → IsFound c.args.hash path start c.find_along.new.work.events s)
-    (λ s. (start : List Event) → c.args.work.now.events ≡ start ++ step ∷ [] → IsFound c.args.hash path start c.find_along.new.work.events s) c.find_along.result
-    (λ s f start begun. f start (reached (goal.at.returns-clause-found c).After-next_entry start begun)) c.find_along.ensures.found
+    each_some (λ s. (start : List Event) →
+    IsReached c.args.hash path start c.step-2.new.self.events c.next_entry.result →
+    IsFound c.args.hash path start c.find_along.new.work.events s)
+    (λ s. (start : List Event) → c.args.work.now.events ≡ start ++ step ∷ [] →
+    IsFound c.args.hash path start c.find_along.new.work.events s) c.find_along.result
+    (λ s f start begun. f start (reached (goal.at.returns-clause-found c).After-next_entry start begun))
+    c.find_along.ensures.found
 
 pub returns-clause-passed : goal.returns-clause-passed
-returns-clause-passed c = λ e start begun. c.find_along.ensures.passed e start (reached (goal.at.returns-clause-passed c).After-next_entry start begun)
+returns-clause-passed c =
+    λ e start begun.
+    c.find_along.ensures.passed e start
+    (reached (goal.at.returns-clause-passed c).After-next_entry start begun)

@@ -4,17 +4,26 @@ use Rattle.intaglio_index.proofs.SearchLemmas.{next_with, next_without, next_non
 use Rattle.intaglio_index.proofs.index.Index.find_next.Goals as goal
 use Rattle.intaglio_index.proofs.index.Index.find_next.Goals.{After-next_entry}
 
-own_hash : (c : After-next_entry) (b hash : ℕ) (before behind : List (ℕ × ℕ)) → chain c.args.self.now b ≡ before ++ (c.args.symbol, hash) ∷ behind → c.index-hash.result.now ≡ hash
+own_hash : (c : After-next_entry) (b hash : ℕ) (before behind : List (ℕ × ℕ)) →
+    chain c.args.self.now b ≡ before ++ (c.args.symbol, hash) ∷ behind → c.index-hash.result.now ≡ hash
 own_hash c b hash before behind split =
-    sym (hash_read c.args.self.now.hashes c.args.symbol _ _ c.requires (rw (← c.self.view_is) c.index-hash.ensures) c.id.ensures) ∙ hash_placed _ b c.args.symbol hash before behind split
+    sym (hash_read c.args.self.now.hashes c.args.symbol _ _ c.requires
+    (rw (← c.self.view_is) c.index-hash.ensures) c.id.ensures)
+    ∙ hash_placed _ b c.args.symbol hash before behind split
 
 pub returns-in-None-clause-next : goal.returns-in-None-clause-next
-returns-in-None-clause-next c = λ b hash before behind split. next_none _ behind hash (c.next_entry.ensures.next b hash before behind split) c.in-None.is
+returns-in-None-clause-next c = λ b hash before behind split.
+    next_none _ behind hash (c.next_entry.ensures.next b hash before behind split) c.in-None.is
 
 pub returns-then-found-hash-clause-next : goal.returns-then-found-hash-clause-next
 returns-then-found-hash-clause-next c = λ b hash before behind split.
-    next_with _ behind _ _ hash (c.next_entry.ensures.next b hash before behind split) c.in-Some.is (c.if-found-hash.true ∙ own_hash (goal.at.returns-then-found-hash-clause-next c).After-next_entry b hash before behind split)
+    next_with _ behind _ _ hash (c.next_entry.ensures.next b hash before behind split) c.in-Some.is
+    (c.if-found-hash.true ∙ own_hash (goal.at.returns-then-found-hash-clause-next c).After-next_entry b hash
+    before behind split)
 
 pub returns-else-found-hash-clause-next : goal.returns-else-found-hash-clause-next
 returns-else-found-hash-clause-next c = λ b hash before behind split.
-    next_without _ behind _ _ hash (c.next_entry.ensures.next b hash before behind split) c.in-Some.is (λ q. c.if-found-hash.false (q ∙ sym (own_hash (goal.at.returns-else-found-hash-clause-next c).After-next_entry b hash before behind split)))
+    next_without _ behind _ _ hash (c.next_entry.ensures.next b hash before behind split) c.in-Some.is
+    (λ q. c.if-found-hash.false (q
+    ∙ sym (own_hash (goal.at.returns-else-found-hash-clause-next c).After-next_entry b hash before
+    behind split)))

@@ -2,6 +2,7 @@ use Rattle.std.proofs.Common.{◌≡◌, ℕ, ◌<◌, ◌+◌, ◌%◌, [], ◌
 use Rattle.intaglio_index.specs.Placed.{Placed, chain}
 use Rattle.intaglio_index.proofs.HeadLemmas.{IsOccupied, is_vacant, is_occupied, first_within, second_within}
 use Rattle.intaglio_index.proofs.SearchLemmas.{begins_above, first_precedes, behind_second}
+use Rattle.intaglio_index.proofs.WalkLemmas.{starts}
 use Rattle.intaglio_index.proofs.index.Index.predecessor.Goals as goal
 use Rattle.intaglio_index.proofs.index.Index.predecessor.Goals.{After-index}
 
@@ -12,20 +13,29 @@ placed_is : (c : After-index) → length c.args.self.now.hashes ≡ length c.sel
 placed_is c = ap (λ (v : Placed). length v.hashes) (sym c.self.view_is)
 
 exact : (c : After-index) → c.args.self.now.count ≡ c.self.inside.modulus.mask + 1
-exact c = count_is c ∙ sym c.self.invariant.counted ∙ c.is_power_of_two.ensures.0 c.if-not-is_power_of_two.false
+exact c =
+    count_is c ∙ sym c.self.invariant.counted ∙ c.is_power_of_two.ensures.0 c.if-not-is_power_of_two.false
 
 within : (c : After-index) → c.args.hash % c.args.self.now.count < length c.self.inside.heads.items
 within c = omega (arith, c.requires.bucket, c.requires.within, count_is c)
 
-empty_bucket : (c : After-index) → c.index.result.now ≡ 0 → chain c.args.self.now (c.args.hash % c.args.self.now.count) ≡ []
+empty_bucket : (c : After-index) → c.index.result.now ≡ 0 →
+    chain c.args.self.now (c.args.hash % c.args.self.now.count) ≡ []
 empty_bucket c none =
-    is_vacant c.args.self.now c.self.inside.heads.items c.self.inside.filters.items (c.self.inside.modulus.mask + 1) (c.args.hash % c.args.self.now.count) (count_is c) c.self.invariant.filtered.size (rw (← c.self.view_is) c.self.invariant.headed) (within c)
+    is_vacant c.args.self.now c.self.inside.heads.items c.self.inside.filters.items
+    (c.self.inside.modulus.mask + 1) (c.args.hash % c.args.self.now.count) (count_is c)
+    c.self.invariant.filtered.size (rw (← c.self.view_is) c.self.invariant.headed) (within c)
     c.index.result.now (rw c.requires.bucket at c.index.ensures) none
 
-occupied : (c : After-index) → (c.index.result.now ≡ 0 → ⊥) → IsOccupied c.args.self.now (c.args.hash % c.args.self.now.count) (c.self.inside.modulus.mask + 1) c.index-head.result.now
+occupied : (c : After-index) → (c.index.result.now ≡ 0 → ⊥) →
+    IsOccupied c.args.self.now (c.args.hash % c.args.self.now.count) (c.self.inside.modulus.mask + 1)
+    c.index-head.result.now
 occupied c some =
-    is_occupied c.args.self.now c.self.inside.heads.items c.self.inside.filters.items (c.self.inside.modulus.mask + 1) (c.args.hash % c.args.self.now.count) (count_is c) c.self.invariant.filtered.size (rw (← c.self.view_is) c.self.invariant.headed) (within c)
-    c.index-head.result.now c.index.result.now (rw c.requires.bucket at c.index-head.ensures) (rw c.requires.bucket at c.index.ensures) some
+    is_occupied c.args.self.now c.self.inside.heads.items c.self.inside.filters.items
+    (c.self.inside.modulus.mask + 1) (c.args.hash % c.args.self.now.count) (count_is c)
+    c.self.invariant.filtered.size (rw (← c.self.view_is) c.self.invariant.headed) (within c)
+    c.index-head.result.now c.index.result.now (rw c.requires.bucket at c.index-head.ensures)
+    (rw c.requires.bucket at c.index.ensures) some
 
 some_size : (n : ℕ) → 0 < n + 1
 some_size n = omega arith
@@ -35,29 +45,49 @@ returns-then-index-eq0 c =
     let all = (goal.at.returns-then-index-eq0 c).After-index in
     elim c.then-index-eq0.either [
       | inl none ↦ rw (empty_bucket all none) tt
-      | inr p ↦ begins_above _ _ _ _ (some_size _) (exact all) (occupied all p.0) (rw c.high-high.ensures at p.1)
+      | inr p ↦
+          begins_above _ _ _ _ (some_size _) (exact all) (occupied all p.0) (rw c.high-high.ensures at p.1)
     ]
 
 pub symbol-requires-clause-number : goal.symbol-requires-clause-number
 symbol-requires-clause-number c =
     let all = (goal.at.symbol-requires-clause-number c).After-index in
-    omega (arith, first_within _ _ _ _ (occupied all c.if-index-eq0.false), placed_is all, c.self.invariant.linked.numbered)
+    omega (
+      arith,
+      first_within _ _ _ _ (occupied all c.if-index-eq0.false),
+      placed_is all,
+      c.self.invariant.linked.numbered,
+    )
 
 pub returns-then-high-head-2 : goal.returns-then-high-head-2
 returns-then-high-head-2 c =
     let all = (goal.at.returns-then-high-head-2 c).After-index in
-    rw c.symbol.ensures (first_precedes _ _ _ _ (some_size _) (exact all) (occupied all c.if-index-eq0.false) (rw c.high-high.ensures at c.if-high-head.false) (rw c.high-high.ensures at c.if-high-head-2.true))
+    rw c.symbol.ensures (first_precedes _ _ _ _ (some_size _) (exact all) (occupied all c.if-index-eq0.false)
+    (rw c.high-high.ensures at c.if-high-head.false) (rw c.high-high.ensures at c.if-high-head-2.true))
 
 pub symbol-second-requires-clause-number : goal.symbol-second-requires-clause-number
 symbol-second-requires-clause-number c =
     let all = (goal.at.symbol-second-requires-clause-number c).After-index in
-    omega (arith, second_within _ _ _ _ (occupied all c.if-index-eq0.false), placed_is all, c.self.invariant.linked.numbered)
+    omega (
+      arith,
+      second_within _ _ _ _ (occupied all c.if-index-eq0.false),
+      placed_is all,
+      c.self.invariant.linked.numbered,
+    )
 
 pub next_entry-requires : goal.next_entry-requires
-next_entry-requires c = rw c.symbol-second.ensures (second_within _ _ _ _ (occupied (goal.at.next_entry-requires c).After-index c.if-index-eq0.false))
+next_entry-requires c =
+    rw c.symbol-second.ensures
+    (second_within _ _ _ _ (occupied (goal.at.next_entry-requires c).After-index c.if-index-eq0.false))
 
 pub last_below-requires-2 : goal.last_below-requires-2
 last_below-requires-2 c =
     let all = (goal.at.last_below-requires-2 c).After-index in
-    rw c.symbol-second.ensures (behind_second _ _ _ _ (some_size _) (exact all) (occupied all c.if-index-eq0.false) c.next_entry.result (rw c.high-high.ensures at c.if-high-head.false) (rw c.high-high.ensures at c.if-high-head-2.false)
-    (λ b hash before behind split. c.next_entry.ensures.next b hash before behind (split ∙ ap (λ s. before ++ (s, hash) ∷ behind) (sym c.symbol-second.ensures))))
+    rw c.symbol-second.ensures
+    (behind_second _ _ _ _ (some_size _) (exact all) (occupied all c.if-index-eq0.false) c.next_entry.result
+    (rw c.high-high.ensures at c.if-high-head.false) (rw c.high-high.ensures at c.if-high-head-2.false)
+    (λ b hash before behind split. c.next_entry.ensures.next b hash before behind (split
+    ∙ ap (λ s. before ++ (s, hash) ∷ behind) (sym c.symbol-second.ensures))))
+
+pub last_below-requires : goal.last_below-requires
+last_below-requires c = starts _ _ _ (rw c.requires.bucket at c.first_entry.ensures)

@@ -12,7 +12,8 @@ returns g c =
     let ahead = c.if-ahead-eq0.ahead in
     let group = c.if-ahead-eq0.auto.hashes ∙ c.requires.group in
     let known : AreHashed f ahead values c.if-ahead-eq0.hashes = elim c.if-ahead-eq0.branch [
-      | then-ahead-eq0 w ↦ rw (w.hashes-is, w.ahead-is) (rw c.requires.group at w.look_ahead_in.ensures.hashes)
+      | then-ahead-eq0 w ↦
+          rw (w.hashes-is, w.ahead-is) (rw c.requires.group at w.look_ahead_in.ensures.hashes)
       | else-ahead-eq0 w ↦ rw (w.hashes-is, w.ahead-is) c.requires.known
     ] in
     let some : 0 < ahead = elim c.if-ahead-eq0.branch [
@@ -32,7 +33,10 @@ returns g c =
         | else-ahead-eq0 w ↦ rw (w.ahead-is, ne_eqb c.args.ahead.now 0 w.if-ahead-eq0.false) refl
       ];
       cost = elim c.if-ahead-eq0.branch [
-        | then-ahead-eq0 w ↦ rw (w.work-is, w.if-ahead-eq0.true) (rw c.requires.group at w.look_ahead_in.ensures.cost)
-        | else-ahead-eq0 w ↦ rw (w.work-is, ne_eqb c.args.ahead.now 0 w.if-ahead-eq0.false) (sym (append-nil c.args.work.now.events))
+        | then-ahead-eq0 w ↦
+            rw (w.work-is, w.if-ahead-eq0.true) (rw c.requires.group at w.look_ahead_in.ensures.cost)
+        | else-ahead-eq0 w ↦
+            rw (w.work-is, ne_eqb c.args.ahead.now 0 w.if-ahead-eq0.false)
+            (sym (append-nil c.args.work.now.events))
       ];
     }

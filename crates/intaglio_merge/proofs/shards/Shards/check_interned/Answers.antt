@@ -17,21 +17,29 @@ index-requires-in-Some c =
 
 pub overflow_add-index : goal.overflow_add-index
 overflow_add-index c =
-    let below = found-below c.self.inside.tables.items c.self.inside.starts.items c.self.invariant.starts c.self.invariant.placed c.args.string.now c.len.result c.shard_of-shard.result
-    c.index.result.now (omega (arith, c.len.ensures, c.self.inside.tables.ok.0)) c.shard_of-shard.ensures.value c.shard_of-shard.ensures.below c.index.ensures
-    c.index-in-Some.result.now c.id.result c.index-in-Some.ensures (ap Some c.id.ensures ∙ sym c.in-Some.is ∙ c.check_interned.ensures.value) in
+    let below = found-below c.self.inside.tables.items c.self.inside.starts.items c.self.invariant.starts
+    c.self.invariant.placed c.args.string.now c.len.result c.shard_of-shard.result
+    c.index.result.now (omega (arith, c.len.ensures, c.self.inside.tables.ok.0))
+    c.shard_of-shard.ensures.value c.shard_of-shard.ensures.below c.index.ensures
+    c.index-in-Some.result.now c.id.result c.index-in-Some.ensures (ap Some c.id.ensures ∙ sym c.in-Some.is
+    ∙ c.check_interned.ensures.value) in
     omega (arith, below, c.self.invariant.numbered)
 
 pub returns-in-Some : goal.returns-in-Some
 returns-in-Some c =
-    let found = found-some c.self.inside.tables.items c.self.inside.starts.items c.self.invariant.starts c.self.invariant.placed c.args.string.now c.len.result c.shard_of-shard.result
-    c.index.result.now (omega (arith, c.len.ensures, c.self.inside.tables.ok.0)) c.shard_of-shard.ensures.value c.shard_of-shard.ensures.below c.index.ensures
-    c.index-in-Some.result.now c.id.result c.index-in-Some.ensures (ap Some c.id.ensures ∙ sym c.in-Some.is ∙ c.check_interned.ensures.value) in
+    let found = found-some c.self.inside.tables.items c.self.inside.starts.items c.self.invariant.starts
+    c.self.invariant.placed c.args.string.now c.len.result c.shard_of-shard.result
+    c.index.result.now (omega (arith, c.len.ensures, c.self.inside.tables.ok.0))
+    c.shard_of-shard.ensures.value c.shard_of-shard.ensures.below c.index.ensures
+    c.index-in-Some.result.now c.id.result c.index-in-Some.ensures (ap Some c.id.ensures ∙ sym c.in-Some.is
+    ∙ c.check_interned.ensures.value) in
     rw (← c.self.view_is) (ap Some c.new.ensures ∙ found)
 
 pub returns-in-None : goal.returns-in-None
 returns-in-None c =
-    let none = found-none c.self.inside.tables.items c.self.inside.starts.items c.self.invariant.starts c.self.invariant.placed c.args.string.now c.len.result c.shard_of-shard.result
-    c.index.result.now (omega (arith, c.len.ensures, c.self.inside.tables.ok.0)) c.shard_of-shard.ensures.value c.shard_of-shard.ensures.below c.index.ensures
+    let none = found-none c.self.inside.tables.items c.self.inside.starts.items c.self.invariant.starts
+    c.self.invariant.placed c.args.string.now c.len.result c.shard_of-shard.result
+    c.index.result.now (omega (arith, c.len.ensures, c.self.inside.tables.ok.0))
+    c.shard_of-shard.ensures.value c.shard_of-shard.ensures.below c.index.ensures
     (sym c.in-None.is ∙ c.check_interned.ensures.value) in
     rw (← c.self.view_is) none

@@ -4,4 +4,5 @@ use Rattle.intaglio_merge.specs.Shards.{joined}
 use Rattle.intaglio_merge.proofs.shards.Shards.get.Given as goal
 
 abbrev pub invariant-loop-shard : goal.invariant-loop-shard
-invariant-loop-shard l = slice_get (joined l.self) l.fn.symbol ≡ slice_get (joined (drop l.shard l.self)) l.number
+invariant-loop-shard l =
+    slice_get (joined l.self) l.fn.symbol ≡ slice_get (joined (drop l.shard l.self)) l.number

@@ -5,4 +5,6 @@ use Rattle.intaglio_merge.proofs.shards.Shards.open.Goals as goal
 
 pub returns-clause-distinct : goal.returns-clause-distinct
 returns-clause-distinct c =
-    subst AreAllDistinct c.deref.ensures.value (distinct-shards c.deref.result.now c.in_ok-check_each.ensures.placed c.in_ok-check_each.ensures.distinct)
+    subst AreAllDistinct c.deref.ensures.value
+    (distinct-shards c.deref.result.now c.in_ok-check_each.ensures.placed
+    c.in_ok-check_each.ensures.distinct)

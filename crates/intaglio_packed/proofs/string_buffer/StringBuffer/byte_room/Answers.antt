@@ -5,4 +5,5 @@ use Rattle.intaglio_packed.proofs.string_buffer.StringBuffer.byte_room.Goals as 
 pub returns : goal.returns
 returns c =
     rw (← c.self.view_is)
-    (sym (byte_room-is c.self.inside.room c.self.inside.bytes.items c.self.inside.ends.list c.self.invariant.ends c.self.invariant.within))
+    (sym (byte_room-is c.self.inside.room c.self.inside.bytes.items c.self.inside.ends.list
+    c.self.invariant.ends c.self.invariant.within))

@@ -26,7 +26,19 @@ invariant_of-self c =
       items,
       length-append c.self.inside.bytes.items added,
     )
-    (record { ends = ends-push 0 (length c.self.inside.bytes.items) (length added) c.self.inside.ends.list c.self.invariant.ends; within = omega (arith, room, c.self.invariant.within); held = omega (arith, c.extend_from_slice.ensures.capacity, c.extend_from_slice-2.ensures.capacity, c.self.invariant.held); reached = c.self.invariant.reached })
+    (record {
+      ends = ends-push 0 (length c.self.inside.bytes.items) (length added) c.self.inside.ends.list
+          c.self.invariant.ends;
+      within = omega (arith, room, c.self.invariant.within);
+      held =
+          omega (
+            arith,
+            c.extend_from_slice.ensures.capacity,
+            c.extend_from_slice-2.ensures.capacity,
+            c.self.invariant.held,
+          );
+      reached = c.self.invariant.reached;
+    })
 
 pub returns-clause-list : goal.returns-clause-list
 returns-clause-list c =
@@ -76,12 +88,16 @@ returns-clause-byte_room c =
     omega (arith, c.len-end.ensures, len, len2, long, c.self.inside.bytes.ok.0) in
     let room : length added ≤ c.self.inside.room - length c.self.inside.bytes.items =
     omega (arith, long, rw (← c.self.view_is) at c.requires.bytes) in
-    let longer : length (c.self.inside.bytes.items ++ added) ≡ length c.self.inside.bytes.items + length added = length-append c.self.inside.bytes.items added in
+    let longer : length (c.self.inside.bytes.items ++ added) ≡ length c.self.inside.bytes.items
+    + length added = length-append c.self.inside.bytes.items added in
     let ends : AreEnds 0 (length c.extend_from_slice-2.new.self.items) c.push_reserved.new.self.list =
     rw (c.push_reserved.ensures.list, end, items, longer)
-    (ends-push 0 (length c.self.inside.bytes.items) (length added) c.self.inside.ends.list c.self.invariant.ends) in
+    (ends-push 0 (length c.self.inside.bytes.items) (length added) c.self.inside.ends.list
+    c.self.invariant.ends) in
     let after : length c.extend_from_slice-2.new.self.items ≤ c.self.inside.room =
     rw (items, longer) (omega (arith, room, c.self.invariant.within)) in
     rw (← c.self.view_is)
-    (byte_room-is c.self.inside.room c.extend_from_slice-2.new.self.items c.push_reserved.new.self.list ends after
-    ∙ sym (byte_room-is c.self.inside.room c.self.inside.bytes.items c.self.inside.ends.list c.self.invariant.ends c.self.invariant.within))
+    (byte_room-is c.self.inside.room c.extend_from_slice-2.new.self.items
+    c.push_reserved.new.self.list ends after
+    ∙ sym (byte_room-is c.self.inside.room c.self.inside.bytes.items c.self.inside.ends.list
+    c.self.invariant.ends c.self.invariant.within))

@@ -10,10 +10,17 @@ returns-clause-held c =
     let bytes = c.shrink_to.new.self.items in
     let kept = c.shrink_to.ensures.items in
     let room = c.len.result + c.min.result in
-    let are : AreEnds 0 (length bytes) ends = subst (λ bs. AreEnds 0 (length bs) ends) (sym kept) c.self.invariant.ends in
-    let within : length bytes ≤ room = omega (arith, ap length kept, c.len.ensures, c.self.inside.bytes.ok.0) in
+    let are : AreEnds 0 (length bytes) ends =
+    subst (λ bs. AreEnds 0 (length bs) ends) (sym kept) c.self.invariant.ends in
+    let within : length bytes ≤ room =
+    omega (arith, ap length kept, c.len.ensures, c.self.inside.bytes.ok.0) in
     elim c.if-capacity-self.branch [
       | then-capacity-self w ↦
-          rw (w.result-is) (omega (arith, w.if-capacity-self.true, c.capacity.ensures, byte_room-is room bytes ends are within))
+          rw (w.result-is) (omega (
+            arith,
+            w.if-capacity-self.true,
+            c.capacity.ensures,
+            byte_room-is room bytes ends are within,
+          ))
       | else-capacity-self w ↦ rw (w.result-is) tt
     ]

@@ -8,8 +8,12 @@ use Rattle.intaglio_records.proofs.index.RecordIndex.find.Goals as goal
 
 pub loop-found-init : goal.loop-found-init
 loop-found-init c =
-    let all = c.matches-matches.ensures in
-    (all.0, all.1, λ i there. first-there c.args.records.now.list c.args.hash i c.args.string.now all.0 all.2 there)
+    let all = c.matches-matches.ensures in (
+      all.0,
+      all.1,
+      λ i there. first-there c.args.records.now.list c.args.hash i c.args.string.now all.0
+          all.2 there,
+    )
 
 pub returns-then-eq-clause-found : goal.returns-then-eq-clause-found
 returns-then-eq-clause-found c =
@@ -25,8 +29,13 @@ loop-found-preserved c =
     let at = c.loop-found.invariant in
     let given = c.in-Some.ensures.gives xs c.args.hash at.0 at.1 in
     let other = c.in-Some.found.1.now in
-    let apart = not_from_Decides (bytes_eq other c.args.string.now) (bytes_eq-Decides other c.args.string.now) (sym c.eq.ensures ∙ c.if-eq.false) in
-    (given.0, given.2, λ i there. rest-there xs c.args.hash i c.in-Some.found.0 c.args.string.now other at.0 given.0 given.1 given.3 there apart (at.2 i there))
+    let apart = not_from_Decides (bytes_eq other c.args.string.now) (bytes_eq-Decides other c.args.string.now)
+    (sym c.eq.ensures ∙ c.if-eq.false) in (
+      given.0,
+      given.2,
+      λ i there. rest-there xs c.args.hash i c.in-Some.found.0 c.args.string.now other at.0
+          given.0 given.1 given.3 there apart (at.2 i there),
+    )
 
 pub returns-clause-none : goal.returns-clause-none
 returns-clause-none c _ i there =

@@ -26,7 +26,8 @@ returns c =
     let slots = candidates base hash es in
     let perm = c.find-candidates.ensures.found es filled in
     let size : length xs ≡ length rs = ap length (sym c.buffer.ensures.list) ∙ length-map rs pair_of in
-    let few : length rs ≤ 2 ^ 32 = omega (arith, size, c.requires.within, c.requires.places, c.requires.filled.small) in
+    let few : length rs ≤ 2 ^ 32 =
+    omega (arith, size, c.requires.within, c.requires.places, c.requires.filled.small) in
     rw (← c.buffer.ensures.list) (
       numbers_with hash (concat rs) (map (begin_of long rs) slots),
       record {
@@ -34,7 +35,9 @@ returns c =
         slots_left = c.find-candidates.ensures.left es filled;
         each = each;
         few = few;
-        each_slot = All-permutation (IsSlot long rs) (slots_of base hash es) slots perm (slots-all long rs base hash (length rs) (omega arith));
+        each_slot =
+            All-permutation (IsSlot long rs) (slots_of base hash es) slots perm
+            (slots-all long rs base hash (length rs) (omega arith));
         list = refl;
         hash_is = refl;
         left_is = refl;

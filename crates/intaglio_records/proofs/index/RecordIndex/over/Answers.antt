@@ -18,7 +18,9 @@ pub returns-clause-over : goal.returns-clause-over
 returns-clause-over c =
     let xs = c.args.records.now.list in
     let rs = c.buffer.result.now.list in
-    let all = entries-all (not c.is_short-is_long.result) xs rs c.buffer.ensures.list (are-long rs c.buffer.ensures.each) in
+    let all =
+    entries-all (not c.is_short-is_long.result) xs rs c.buffer.ensures.list
+    (are-long rs c.buffer.ensures.each) in
     record {
       filled = subst (λ es. IsFilled c.in_ok-lines.lines es) (sym all) c.in_ok-lines.ensures.filled;
       within = c.requires.enough;

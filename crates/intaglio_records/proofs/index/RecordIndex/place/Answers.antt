@@ -28,12 +28,16 @@ returns-clause-over c string =
     let es = entries_of long xs (length xs) in
     let at : c.byte_count.result ≡ sum_by size_of xs = c.byte_count.ensures
     ∙ sym (sizes-all xs rs c.buffer-buffer.ensures.list (are-long rs c.buffer-buffer.ensures.each)) in
-    let free : length es < places_of c.args.self.now.lines = omega (arith, length-entries_of long xs (length xs), c.requires.over.places, c.requires.free) in
+    let free : length es < places_of c.args.self.now.lines =
+    omega (arith, length-entries_of long xs (length xs), c.requires.over.places, c.requires.free) in
     let size : length xs ≡ length rs = ap length (sym c.buffer-buffer.ensures.list) ∙ length-map rs pair_of in
     let slot : c.slot_for-slot.result ≡ slot_of long (length xs) c.byte_count.result = c.slot_for-slot.ensures
     ∙ ap (λ n. slot_of long n c.byte_count.result) (c.len.ensures ∙ sym size) in
     record {
-      filled = subst (λ es. IsFilled c.place.new.self es) (sym (entries-push long xs x c.byte_count.result at ∙ ap (λ s. (c.args.hash, s) ∷ es) (sym slot))) (c.place.ensures.placed es free c.requires.over.filled);
+      filled =
+          subst (λ es. IsFilled c.place.new.self es)
+          (sym (entries-push long xs x c.byte_count.result at ∙ ap (λ s. (c.args.hash, s) ∷ es) (sym slot)))
+          (c.place.ensures.placed es free c.requires.over.filled);
       within = omega (arith, length-append xs (x ∷ []), c.requires.free);
       places = omega (arith, c.place.ensures.room, c.requires.over.places);
       short = c.requires.over.short;

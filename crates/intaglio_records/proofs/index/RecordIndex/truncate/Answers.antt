@@ -25,7 +25,9 @@ returns-clause-over c =
     let rs = c.buffer.result.now.list in
     let n = c.args.n in
     let size : length xs ≡ length rs = ap length (sym c.buffer.ensures.list) ∙ length-map rs pair_of in
-    let first = entries-first long xs rs (min n (length rs)) c.buffer.ensures.list (are-long rs c.buffer.ensures.each) (omega arith) in
+    let first =
+    entries-first long xs rs (min n (length rs)) c.buffer.ensures.list (are-long rs c.buffer.ensures.each)
+    (omega arith) in
     let all : entries_of long (take n xs) (length (take n xs)) ≡ entries long rs (min n (length rs)) =
     entries-cut long n xs ∙ ap (λ k. entries_of long xs (min n k)) size ∙ first in
     record {

@@ -15,35 +15,43 @@ pub read_hash-requires : goal.read_hash-requires
 read_hash-requires c =
     let m = c.loop-slot.self in
     let is = c.loop-slot.invariant.search in
-    let at = stepped is.0 is.1 m c.next.new.self c.in-Some.slot c.begin-at.result is.2 c.begin-at.ensures is.3 c.in-Some.ensures.gives in
+    let at = stepped is.0 is.1 m c.next.new.self c.in-Some.slot c.begin-at.result is.2 c.begin-at.ensures is.3
+    c.in-Some.ensures.gives in
     let rs = m.records.now.list in
-    let t = there rs c.bytes-bytes.result.now c.begin-at.result at.begins.0 c.bytes-bytes.ensures is.3.each is.3.few at.begins.1 at.begins.2 in
+    let t = there rs c.bytes-bytes.result.now c.begin-at.result at.begins.0 c.bytes-bytes.ensures is.3.each
+    is.3.few at.begins.1 at.begins.2 in
     omega (arith, t.within, t.long)
 
 pub read_number-requires : goal.read_number-requires
 read_number-requires c =
     let m = c.loop-slot.self in
     let is = c.loop-slot.invariant.search in
-    let at = stepped is.0 is.1 m c.next.new.self c.in-Some.slot c.begin-at.result is.2 c.begin-at.ensures is.3 c.in-Some.ensures.gives in
+    let at = stepped is.0 is.1 m c.next.new.self c.in-Some.slot c.begin-at.result is.2 c.begin-at.ensures is.3
+    c.in-Some.ensures.gives in
     let rs = m.records.now.list in
-    let t = there rs c.bytes-bytes.result.now c.begin-at.result at.begins.0 c.bytes-bytes.ensures is.3.each is.3.few at.begins.1 at.begins.2 in
+    let t = there rs c.bytes-bytes.result.now c.begin-at.result at.begins.0 c.bytes-bytes.ensures is.3.each
+    is.3.few at.begins.1 at.begins.2 in
     omega (arith, t.within, t.long)
 
 pub string_at-requires-clause-begins : goal.string_at-requires-clause-begins
 string_at-requires-clause-begins c =
     let is = c.loop-slot.invariant.search in
-    (stepped is.0 is.1 c.loop-slot.self c.next.new.self c.in-Some.slot c.begin-at.result is.2 c.begin-at.ensures is.3 c.in-Some.ensures.gives).begins
+    (stepped is.0 is.1 c.loop-slot.self c.next.new.self c.in-Some.slot c.begin-at.result is.2
+    c.begin-at.ensures is.3 c.in-Some.ensures.gives).begins
 
 pub returns-then-read_hash-self-clause-gives : goal.returns-then-read_hash-self-clause-gives
 returns-then-read_hash-self-clause-gives c xs hash left was =
     let m = c.loop-slot.self in
     let is = c.loop-slot.invariant.left xs hash left was in
-    let at = stepped xs hash m c.next.new.self c.in-Some.slot c.begin-at.result left c.begin-at.ensures is c.in-Some.ensures.gives in
+    let at = stepped xs hash m c.next.new.self c.in-Some.slot c.begin-at.result left c.begin-at.ensures is
+    c.in-Some.ensures.gives in
     let rs = m.records.now.list in
     let bytes = c.bytes-bytes.ensures in
-    let t = there rs c.bytes-bytes.result.now c.begin-at.result at.begins.0 bytes is.each is.few at.begins.1 at.begins.2 in
+    let t = there rs c.bytes-bytes.result.now c.begin-at.result at.begins.0 bytes is.each is.few at.begins.1
+    at.begins.2 in
     let read : c.read_hash.result ≡ hash = c.if-read_hash-self.true ∙ is.hash_is in
-    let same : hash_at (concat rs) c.begin-at.result ≡ hash = ap (λ bs. hash_at bs c.begin-at.result) (sym bytes)
+    let same : hash_at (concat rs) c.begin-at.result ≡ hash =
+    ap (λ bs. hash_at bs c.begin-at.result) (sym bytes)
     ∙ sym c.read_hash.ensures ∙ read in
     let number : number_at (concat rs) c.begin-at.result ≡ c.read_number.result =
     ap (λ bs. number_at bs c.begin-at.result) (sym bytes) ∙ sym c.read_number.ensures in
@@ -52,22 +60,27 @@ returns-then-read_hash-self-clause-gives c xs hash left was =
       at.rest,
       at.same same ∙ ap (λ n. n ∷ at.rest) number,
       at.is,
-      found xs rs at.begins.0 c.read_number.result hash c.string_at.result.now is.list at.begins.1 (c.read_number.ensures ∙ t.number) hash_is string,
+      found xs rs at.begins.0 c.read_number.result hash c.string_at.result.now is.list at.begins.1
+          (c.read_number.ensures ∙ t.number) hash_is string,
     )
 
 pub loop-slot-preserved : goal.loop-slot-preserved
 loop-slot-preserved c =
     let m = c.loop-slot.self in
-    let apart = λ (hash : ℕ) (e : m.hash ≡ hash) (same : hash_at (concat m.records.now.list) c.begin-at.result ≡ hash).
+    let apart =
+    λ (hash : ℕ) (e : m.hash ≡ hash) (same : hash_at (concat m.records.now.list) c.begin-at.result ≡ hash).
     c.if-read_hash-self.false (c.read_hash.ensures
     ∙ ap (λ bs. hash_at bs c.begin-at.result) c.bytes-bytes.ensures ∙ same ∙ sym e) in
     let is = c.loop-slot.invariant.search in
-    let at = stepped is.0 is.1 m c.next.new.self c.in-Some.slot c.begin-at.result is.2 c.begin-at.ensures is.3 c.in-Some.ensures.gives in
+    let at = stepped is.0 is.1 m c.next.new.self c.in-Some.slot c.begin-at.result is.2 c.begin-at.ensures is.3
+    c.in-Some.ensures.gives in
     record {
       search = (is.0, is.1, at.rest, at.is);
       left = λ xs hash left was.
           (let now = c.loop-slot.invariant.left xs hash left was in
-          let next = stepped xs hash m c.next.new.self c.in-Some.slot c.begin-at.result left c.begin-at.ensures now c.in-Some.ensures.gives in
+          let next =
+          stepped xs hash m c.next.new.self c.in-Some.slot c.begin-at.result left c.begin-at.ensures now
+          c.in-Some.ensures.gives in
           subst (λ l. IsLeft xs hash (record m {
             candidates =
                 c.next.new.self;

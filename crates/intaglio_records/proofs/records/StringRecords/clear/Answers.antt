@@ -37,7 +37,8 @@ returns-clause-spare_bytes c =
 pub returns-clause-byte_room : goal.returns-clause-byte_room
 returns-clause-byte_room c =
     let old = c.self.inside.records in
-    let was = room-is old (are-long old.list c.self.invariant.each) c.self.invariant.order c.self.invariant.headers in
+    let was =
+    room-is old (are-long old.list c.self.invariant.each) c.self.invariant.order c.self.invariant.headers in
     rw (← c.self.view_is, c.clear.ensures.list) (omega (
       arith,
       was,

@@ -54,28 +54,32 @@ returns-clause-grows c =
     let count = strings-bytes b.list long in
     let list = ap length c.reserve_exact.ensures.list in
     let bytes = ap (λ rs. sum_by length (strings_in rs)) c.reserve_exact.ensures.list in
-    let above : c.byte_count.result + c.args.bytes ≤ c.in_ok-room.room = omega (arith, c.in_ok-room.ensures.room) in
+    let above : c.byte_count.result + c.args.bytes ≤ c.in_ok-room.room =
+    omega (arith, c.in_ok-room.ensures.room) in
     rw (← c.self.view_is) (record {
       enough = λ e. absurd (omega (arith, e, missing));
-      grown = λ more. elim (ok-or-err c.reserve_exact.result c.reserve_exact.ensures.spare_bytes c.reserve_exact.ensures.err) [
-        | inl grown ↦
-            (let is : sum_by length (strings_in new.list) + (new.spare_bytes - set_aside new) ≡ c.in_ok-room.room =
-            omega (
-              arith,
-              grown,
-              missing,
-              above,
-              used,
-              count,
-              list,
-              bytes,
-              c.reserve_exact.ensures.most,
-              c.in_ok-needed.ensures.sum,
-              c.capacity.ensures.room,
-              c.byte_count-used.ensures,
-              c.self.invariant.order,
-            ) in
-            omega (arith, is, used, string_room, c.in_ok-room.ensures.room))
-        | inr same ↦ absurd (more (omega (arith, same, list, bytes, c.reserve_exact.ensures.most)))
-      ];
+      grown = λ more.
+          elim (ok-or-err c.reserve_exact.result c.reserve_exact.ensures.spare_bytes
+          c.reserve_exact.ensures.err) [
+            | inl grown ↦
+                (let is : sum_by length (strings_in new.list) + (new.spare_bytes - set_aside new)
+                ≡ c.in_ok-room.room =
+                omega (
+                  arith,
+                  grown,
+                  missing,
+                  above,
+                  used,
+                  count,
+                  list,
+                  bytes,
+                  c.reserve_exact.ensures.most,
+                  c.in_ok-needed.ensures.sum,
+                  c.capacity.ensures.room,
+                  c.byte_count-used.ensures,
+                  c.self.invariant.order,
+                ) in
+                omega (arith, is, used, string_room, c.in_ok-room.ensures.room))
+            | inr same ↦ absurd (more (omega (arith, same, list, bytes, c.reserve_exact.ensures.most)))
+          ];
     })

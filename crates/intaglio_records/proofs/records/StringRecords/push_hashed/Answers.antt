@@ -19,7 +19,8 @@ invariant_of-self c =
     let room = rw (← c.self.view_is) at c.requires.bytes in
     let most = rw (← c.self.view_is, length-map old.list pair_of) at c.requires.string in
     record {
-      each = subst AreRecords (sym list) (records-push old.list r c.self.invariant.each (subst (λ k. IsRecord k r) c.len.ensures made));
+      each = subst AreRecords (sym list)
+          (records-push old.list r c.self.invariant.each (subst (λ k. IsRecord k r) c.len.ensures made));
       order = omega (arith, more, most, c.push_parts.ensures.most);
       headers = omega (
         arith,
@@ -38,6 +39,7 @@ returns-clause-room c =
     let old = c.self.inside.records in
     let new = c.push_parts.new.self in
     let is = invariant_of-self c in
-    let was = room-is old (are-long old.list c.self.invariant.each) c.self.invariant.order c.self.invariant.headers in
+    let was =
+    room-is old (are-long old.list c.self.invariant.each) c.self.invariant.order c.self.invariant.headers in
     let now = room-is new (are-long new.list is.each) is.order is.headers in
     rw (← c.self.view_is) (omega (arith, was, now, c.push_parts.ensures.byte_room))

@@ -50,6 +50,7 @@ returns-clause-byte_room c =
     let old = c.self.inside.records in
     let new = c.truncate.new.self in
     let is = invariant_of-self c in
-    let was = room-is old (are-long old.list c.self.invariant.each) c.self.invariant.order c.self.invariant.headers in
+    let was =
+    room-is old (are-long old.list c.self.invariant.each) c.self.invariant.order c.self.invariant.headers in
     let now = room-is new (are-long new.list is.each) is.order is.headers in
     rw (← c.self.view_is) (omega (arith, was, now, c.truncate.ensures.most, c.truncate.ensures.byte_room))

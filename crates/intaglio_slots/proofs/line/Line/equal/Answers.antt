@@ -9,7 +9,9 @@ returns-clause-bits c i h =
     let p = λ (x : ℕ). eqb x c.args.tag in
     let fits = c.well_formed in
     let long : length c.args.self.now.tags ≡ 16 = omega arith in
-    ap (λ n. bit_at n i) (bitmask_splat w8 eqb c.args.self.now.tags 16 c.args.tag long (omega arith)) ∙ bit_mask_l (map p c.args.self.now.tags) i ∙ ap (λ b. cond b 1 0) (get_or-map p c.args.self.now.tags i 0 false (omega (arith, h, long)))
+    ap (λ n. bit_at n i) (bitmask_splat w8 eqb c.args.self.now.tags 16 c.args.tag long (omega arith))
+    ∙ bit_mask_l (map p c.args.self.now.tags) i
+    ∙ ap (λ b. cond b 1 0) (get_or-map p c.args.self.now.tags i 0 false (omega (arith, h, long)))
 
 pub returns-clause-above : goal.returns-clause-above
 returns-clause-above c i le =
@@ -17,4 +19,7 @@ returns-clause-above c i le =
     let fits = c.well_formed in
     let long : length c.args.self.now.tags ≡ 16 = omega arith in
     let ms = map p c.args.self.now.tags in
-    ap (λ n. bit_at n i) (bitmask_splat w8 eqb c.args.self.now.tags 16 c.args.tag long (omega arith)) ∙ bit_mask_l ms i ∙ ap (λ b. cond b 1 0) (get_or_past ms i false (omega (arith, le, long, length-map c.args.self.now.tags p)))
+    ap (λ n. bit_at n i) (bitmask_splat w8 eqb c.args.self.now.tags 16 c.args.tag long (omega arith))
+    ∙ bit_mask_l ms i
+    ∙ ap (λ b. cond b 1 0)
+    (get_or_past ms i false (omega (arith, le, long, length-map c.args.self.now.tags p)))

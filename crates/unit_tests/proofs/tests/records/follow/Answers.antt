@@ -5,4 +5,5 @@ use Rattle.unit_tests.proofs.tests.records.follow.Goals as goal
 pub returns-then-is_short : goal.returns-then-is_short
 returns-then-is_short g c =
     let records = c.args.records.now in
-    over_short records.list c.requires.0 (record_room_of records) c.args.index.now c.requires.1 (c.is_short.ensures.0 c.if-is_short.true)
+    over_short records.list c.requires.0 (record_room_of records) c.args.index.now c.requires.1
+    (c.is_short.ensures.0 c.if-is_short.true)

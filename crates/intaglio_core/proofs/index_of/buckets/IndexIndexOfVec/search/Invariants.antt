@@ -6,8 +6,10 @@ use Rattle.intaglio_core.proofs.index_of.buckets.IndexIndexOfVec.search.Given as
 
 abbrev pub invariant-loop-candidate : goal.invariant-loop-candidate
 invariant-loop-candidate g l = record {
-  walking : (h : Key → ℕ) → AreHashed g.C.Keyed.key h l.list.items l.self.hashes (g.Q.Keyed.key l.sought) l.hash →
-      IsWalking g.C.Keyed.key h l.self l.list.items (g.Q.Keyed.key l.sought) l.fn.work.events l.work.events l.candidate;
+  walking : (h : Key → ℕ) →
+      AreHashed g.C.Keyed.key h l.list.items l.self.hashes (g.Q.Keyed.key l.sought) l.hash →
+      IsWalking g.C.Keyed.key h l.self l.list.items (g.Q.Keyed.key l.sought) l.fn.work.events l.work.events
+      l.candidate;
 }
 
 abbrev pub decreases-loop-candidate : goal.decreases-loop-candidate

@@ -11,6 +11,10 @@ returns-clause-over g c =
     let pushed = g.met.Q.AddedTo.adds_one _ _ _ c.push.ensures.added in
     let pair : ℕ × List ℕ = (c.args.hash, pushed.content) in
     let list : new.list ≡ old.list ++ pair ∷ [] =
-    same_pairs new.list (old.list ++ pair ∷ []) (c.push.ensures.hashes ∙ sym (map-append (λ (p : ℕ × List ℕ). p.0) old.list (pair ∷ []))) (pushed.added ∙ sym (map-append (λ (p : ℕ × List ℕ). p.1) old.list (pair ∷ []))) in
-    let room : record_room_of new ≡ record_room_of old = omega (arith, c.push.ensures.most, c.push.ensures.byte_room) in
-    over_same (old.list ++ pair ∷ []) new.list (record_room_of old) (record_room_of new) c.place.new.self (sym list) (sym room) (rw c.records.ensures at (c.place.ensures.over pushed.content))
+    same_pairs new.list (old.list ++ pair ∷ []) (c.push.ensures.hashes
+    ∙ sym (map-append (λ (p : ℕ × List ℕ). p.0) old.list (pair ∷ []))) (pushed.added
+    ∙ sym (map-append (λ (p : ℕ × List ℕ). p.1) old.list (pair ∷ []))) in
+    let room : record_room_of new ≡ record_room_of old =
+    omega (arith, c.push.ensures.most, c.push.ensures.byte_room) in
+    over_same (old.list ++ pair ∷ []) new.list (record_room_of old) (record_room_of new) c.place.new.self
+    (sym list) (sym room) (rw c.records.ensures at (c.place.ensures.over pushed.content))

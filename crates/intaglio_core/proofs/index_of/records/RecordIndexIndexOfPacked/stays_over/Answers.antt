@@ -6,7 +6,8 @@ pub returns-clause-over : goal.returns-clause-over
 returns-clause-over g c =
     let old = c.requires in
     let less = old.2 in
-    gives_up c.args.self.now old.0 c.args._list.now less.same_contents less.same_hashes less.no_more less.no_more_bytes old.1
+    gives_up c.args.self.now old.0 c.args._list.now less.same_contents less.same_hashes less.no_more
+    less.no_more_bytes old.1
 
 pub returns-clause-state : goal.returns-clause-state
 returns-clause-state g c = λ old over less. rw less.same_hashes refl

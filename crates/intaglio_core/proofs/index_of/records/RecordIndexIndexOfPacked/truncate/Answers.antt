@@ -10,6 +10,10 @@ returns-clause-over g c =
     let new = c.truncate-2.new.self in
     let n = c.args.n in
     let list : new.list ≡ take n old.list =
-    same_pairs new.list (take n old.list) (c.truncate-2.ensures.hashes ∙ take-map (λ (p : ℕ × List ℕ). p.0) n old.list) (c.truncate-2.ensures.contents ∙ take-map (λ (p : ℕ × List ℕ). p.1) n old.list) in
-    let room : record_room_of new ≡ record_room_of old = omega (arith, c.truncate-2.ensures.most, c.truncate-2.ensures.byte_room) in
-    over_same (take n old.list) new.list (record_room_of old) (record_room_of new) c.truncate.new.self (sym list) (sym room) (rw c.records.ensures at c.truncate.ensures.over)
+    same_pairs new.list (take n old.list) (c.truncate-2.ensures.hashes
+    ∙ take-map (λ (p : ℕ × List ℕ). p.0) n old.list) (c.truncate-2.ensures.contents
+    ∙ take-map (λ (p : ℕ × List ℕ). p.1) n old.list) in
+    let room : record_room_of new ≡ record_room_of old =
+    omega (arith, c.truncate-2.ensures.most, c.truncate-2.ensures.byte_room) in
+    over_same (take n old.list) new.list (record_room_of old) (record_room_of new) c.truncate.new.self
+    (sym list) (sym room) (rw c.records.ensures at c.truncate.ensures.over)

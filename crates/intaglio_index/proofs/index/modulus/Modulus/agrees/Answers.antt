@@ -6,5 +6,7 @@ use Rattle.intaglio_index.proofs.index.modulus.Modulus.agrees.Goals as goal
 
 pub returns : goal.returns
 returns c =
-    let at : bit_xor c.args.word c.args.hash ≤ c.args.self.mask ↔ (c.args.word / (c.args.self.mask + 1) ≡ c.args.hash / (c.args.self.mask + 1)) = agrees_is c.args.self.mask c.args.word c.args.hash c.requires.power in
+    let at : bit_xor c.args.word c.args.hash ≤ c.args.self.mask ↔
+    (c.args.word / (c.args.self.mask + 1) ≡ c.args.hash / (c.args.self.mask + 1)) =
+    agrees_is c.args.self.mask c.args.word c.args.hash c.requires.power in
     (λ t. at.0 (leb-true _ _ t), λ e. le-leb _ _ (at.1 e))

@@ -4,7 +4,10 @@ use Rattle.intaglio_index.proofs.index.modulus.Modulus.symbol_beside.Goals as go
 
 pub overflow_cast-word : goal.overflow_cast-word
 overflow_cast-word c =
-    rw (low_beside c.args.self.mask c.args.word c.args.hash c.args.bucket c.requires.made.power c.requires.agree c.requires.bucket) record { fits = c.requires.number }
+    rw (low_beside c.args.self.mask c.args.word c.args.hash c.args.bucket c.requires.made.power
+    c.requires.agree c.requires.bucket) record { fits = c.requires.number }
 
 pub returns : goal.returns
-returns c = c.new.ensures ∙ low_beside c.args.self.mask c.args.word c.args.hash c.args.bucket c.requires.made.power c.requires.agree c.requires.bucket
+returns c = c.new.ensures
+    ∙ low_beside c.args.self.mask c.args.word c.args.hash c.args.bucket c.requires.made.power c.requires.agree
+    c.requires.bucket

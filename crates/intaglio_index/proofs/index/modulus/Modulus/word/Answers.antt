@@ -4,8 +4,17 @@ use Rattle.intaglio_index.proofs.index.modulus.Modulus.word.Goals as goal
 
 pub overflow_add-result : goal.overflow_add-result
 overflow_add-result c =
-    rw (c.high.ensures, c.from.ensures, c.id.ensures) record { fits = word_fits c.args.hash c.args.symbol (c.args.self.mask + 1) c.requires.made.power (omega (arith, c.requires.made.fits)) c.ranges.hash.fits c.requires.below }
+    rw (c.high.ensures, c.from.ensures, c.id.ensures) record {
+      fits =
+          word_fits c.args.hash c.args.symbol (c.args.self.mask + 1) c.requires.made.power
+          (omega (arith, c.requires.made.fits)) c.ranges.hash.fits c.requires.below;
+    }
 
 pub returns-clause-word : goal.returns-clause-word
 returns-clause-word c =
-    rw (c.high.ensures, c.from.ensures, c.id.ensures) (word_is (c.args.self.mask + 1) (omega arith) c.args.hash c.args.symbol c.requires.below)
+    rw (
+      c.high.ensures,
+      c.from.ensures,
+      c.id.ensures,
+    ) (word_is (c.args.self.mask + 1) (omega arith) c.args.hash c.args.symbol
+    c.requires.below)

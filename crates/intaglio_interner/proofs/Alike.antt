@@ -1,0 +1,181 @@
+-- What a run replies and leaves follows from its calls, the contents before it and the
+-- limit, if it isn't refused memory.
+use Rattle.std.proofs.Common.{◌≡◌, ◌≢◌, ◌∙◌, sym, ap, refl, arith, ℕ, suc, ◌+◌, false, cond, ltb, List, [], ◌∷◌, ◌++◌, length, map, take, Option, Some, None, option_map, is_some, MatchOption, Result, Ok}
+use Rattle.std.specs.Prelude.{slice_get, nat_lt, nat_eq}
+use Rattle.std.proofs.lemmas.Bool.{lt-ltb, le-ltb}
+use Rattle.intaglio_content.specs.Key.{Key}
+use Rattle.intaglio_content.specs.Store.{IsMoved}
+use Rattle.intaglio_content.specs.Work.{Event}
+use Rattle.intaglio_interner.specs.State.{State, first}
+use Rattle.intaglio_interner.specs.Change.{IsAppended}
+use Rattle.intaglio_interner.specs.Step.{Step, found}
+use Rattle.intaglio_interner.specs.Run.{Runs}
+use Rattle.intaglio_interner.specs.Alike.{Seen, symbol, pair, bool, spelling, count, done, overflow, capacity_overflow, stale, seen, HasMemory, AreAlike}
+use Rattle.intaglio_interner.specs.declared.runs.Call.{Call}
+use Rattle.intaglio_interner.specs.declared.runs.Call.TheVariants.{Intern, Check, GetInterned, IsInterned, Contains, Get, Len, IsEmpty, Clear, Reserve, ShrinkTo, ShrinkToFit, TakeBack}
+use Rattle.intaglio_interner.specs.declared.runs.Reply.{Reply}
+use Rattle.intaglio_interner.specs.declared.runs.Reply.TheVariants as reply
+use Rattle.intaglio_symbol.specs.declared.error.InternError.{InternError}
+
+-- what an interning says and leaves, by the place where its key is first
+abbrev interning_says : Option ℕ → ℕ → ℕ → Seen
+interning_says (Some i) held limit = symbol (Some i)
+interning_says None held limit = cond (ltb held limit) (symbol (Some held)) overflow
+
+-- the contents that an interning leaves, with one more if its key is new and the limit isn't reached
+abbrev interning_leaves : {C : Type 0} → Option ℕ → List C → ℕ → C → List C
+interning_leaves (Some i) held limit c = held
+interning_leaves None held limit c = cond (ltb (length held) limit) (held ++ c ∷ []) held
+
+module _ {C : Type 0} (key : C → Key) (spells : C → List ℕ) where
+  -- what a call says where these contents are held under this limit
+  abbrev says : List C → ℕ → Call C → Seen
+  says held limit (Intern c) = interning_says (first key held (key c)) (length held) limit
+  says held limit (Check c) = symbol (first key held (key c))
+  says held limit (GetInterned c) =
+      pair (option_map {U = ℕ × List ℕ} (λ p. (p.0, spells p.1)) (found key held (key c)))
+  says held limit (IsInterned c) = bool (is_some (first key held (key c)))
+  says held limit (Contains s) = bool (nat_lt s (length held))
+  says held limit (Get s) = spelling (option_map spells (slice_get held s))
+  says held limit Len = count (length held)
+  says held limit IsEmpty = bool (nat_eq (length held) 0)
+  says held limit Clear = done
+  says held limit (Reserve n) = cond (ltb limit (length held + n)) capacity_overflow done
+  says held limit (ShrinkTo n) = done
+  says held limit ShrinkToFit = done
+  says held limit (TakeBack n) = cond (ltb (length held) n) stale done
+
+  -- and which contents it leaves
+  abbrev leaves : List C → ℕ → Call C → List C
+  leaves held limit (Intern c) = interning_leaves (first key held (key c)) held limit c
+  leaves held limit Clear = []
+  leaves held limit (TakeBack n) = cond (ltb (length held) n) held (take n held)
+  leaves held limit _ = held
+
+  -- a step whose reply says no less and no more than that
+  record IsPlain (old : State C) (call : Call C) (r : Reply) (new : State C) : Type 0 where
+    reply : seen r ≡ says old.contents old.limit call
+    contents : new.contents ≡ leaves old.contents old.limit call
+    limit : new.limit ≡ old.limit
+
+  same-contents : (old new : State C) → new ≡ old → new.contents ≡ old.contents
+  same-contents old new e = ap (λ (s : State C). s.contents) e
+
+  same-limit : (old new : State C) → new ≡ old → new.limit ≡ old.limit
+  same-limit old new e = ap (λ (s : State C). s.limit) e
+
+  taken-plain : (o : Option ℕ) (old new : State C) (c : C) (i : ℕ) →
+      MatchOption o (IsAppended old c i new) (λ j. (◌≡◌ {A = Result ℕ InternError} (Ok i) (Ok j))
+      × (new ≡ old))
+      → (symbol (Some i) ≡ interning_says o (length old.contents) old.limit)
+      × (new.contents ≡ interning_leaves o old.contents old.limit c) × (new.limit ≡ old.limit)
+  taken-plain None old new c i h =
+      let below = lt-ltb (length old.contents) old.limit h.below_limit in
+      (rw (below, h.position) refl, rw (below, h.contents) refl, h.limit)
+  taken-plain (Some j) old new c i h =
+      (let e : i ≡ j = (let q = h.0 in cc) in rw e refl, same-contents old new h.1, same-limit old new h.1)
+
+  overflow-plain : (o : Option ℕ) (old new : State C) (c : C) (B : ℕ → Type 0) → ((j : ℕ) → B j → ⊥) →
+      MatchOption o ((length old.contents ≡ old.limit) × (new ≡ old)) (λ j. B j × (new ≡ old))
+      → (overflow ≡ interning_says o (length old.contents) old.limit)
+      × (new.contents ≡ interning_leaves o old.contents old.limit c) × (new.limit ≡ old.limit)
+  overflow-plain None old new c B never h =
+      let full = le-ltb (length old.contents) old.limit (omega (arith, h.0)) in
+      (rw full refl, rw full (same-contents old new h.1), same-limit old new h.1)
+  overflow-plain (Some j) old new c B never h = absurd (never j h.0)
+
+  plain : (old : State C) (call : Call C) (r : Reply) (new : State C) →
+      seen r ≡ says old.contents old.limit call → new ≡ old →
+      leaves old.contents old.limit call ≡ old.contents → IsPlain old call r new
+  plain old call r new e same kept =
+      record { reply = e; contents = same-contents old new same ∙ sym kept; limit = same-limit old new same }
+
+  step-plain : (old new : State C) (call : Call C) (r : Reply) →
+      Step key key spells IsMoved false old call r new → r ≢ reply.NoMemory → IsPlain old call r new
+  step-plain old new (Intern c) (reply.Symbol (Some i)) step n =
+      let h = taken-plain (first key old.contents (key c)) old new c i step in
+      record { reply = h.0; contents = h.1; limit = h.2 }
+  step-plain old new (Intern c) reply.Overflow step n =
+      let h = overflow-plain (first key old.contents (key c)) old new c _ (λ j e. cc)
+      (step (record { private = tt })) in
+      record { reply = h.0; contents = h.1; limit = h.2 }
+  step-plain old new (Intern c) reply.NoMemory step n = absurd (n refl)
+  step-plain old new (Check c) (reply.Symbol r) step _ =
+      plain old (Check c) (reply.Symbol r) new (ap symbol step.0) step.1 refl
+  step-plain old new (GetInterned c) (reply.Pair r) step n =
+      plain old (GetInterned c) (reply.Pair r) new (ap pair step.0) step.1 refl
+  step-plain old new (GetInterned c) reply.NoMemory step n = absurd (n refl)
+  step-plain old new (GetInterned c) _ step n = absurd step.0
+  step-plain old new (IsInterned c) (reply.Bool r) step _ =
+      plain old (IsInterned c) (reply.Bool r) new (ap bool step.0) step.1 refl
+  step-plain old new (Contains s) (reply.Bool r) step _ =
+      plain old (Contains s) (reply.Bool r) new (ap bool step.0) step.1 refl
+  step-plain old new (Get s) (reply.Spelling r) step n =
+      plain old (Get s) (reply.Spelling r) new (ap spelling step.0) step.1 refl
+  step-plain old new (Get s) reply.NoMemory step n = absurd (n refl)
+  step-plain old new (Get s) _ step n = absurd step.0
+  step-plain old new Len (reply.Count r) step _ =
+      plain old Len (reply.Count r) new (ap count step.0) step.1 refl
+  step-plain old new IsEmpty (reply.Bool r) step _ =
+      plain old IsEmpty (reply.Bool r) new (ap bool step.0) step.1 refl
+  step-plain old new Clear reply.Done step _ =
+      record { reply = refl; contents = step.contents; limit = step.limit }
+  step-plain old new (Reserve n) reply.Done step m =
+      record {
+        reply = rw (le-ltb old.limit (length old.contents + n) step.within_limit) refl;
+        contents =
+            step.contents;
+        limit = step.limit;
+      }
+  step-plain old new (Reserve n) reply.CapacityOverflow step m =
+      plain old (Reserve n) reply.CapacityOverflow new
+      (rw (lt-ltb old.limit (length old.contents + n) step.0) refl) step.1 refl
+  step-plain old new (Reserve n) reply.NoMemory step m = absurd (m refl)
+  step-plain old new (ShrinkTo n) reply.Done step m =
+      record { reply = refl; contents = step.contents; limit = step.limit }
+  step-plain old new (ShrinkTo n) reply.NoMemory step m = absurd (m refl)
+  step-plain old new ShrinkToFit reply.Done step m =
+      record { reply = refl; contents = step.contents; limit = step.limit }
+  step-plain old new ShrinkToFit reply.NoMemory step m = absurd (m refl)
+  step-plain old new (TakeBack n) reply.Done step _ =
+      let some = le-ltb (length old.contents) n step.within in
+      record { reply = rw some refl; contents = rw some step.contents; limit = step.limit }
+  step-plain old new (TakeBack n) reply.Stale step _ =
+      let h = step (record { private = tt }) in
+      let none = lt-ltb (length old.contents) n h.0 in
+      record {
+        reply = rw none refl;
+        contents = rw none (same-contents old new h.1);
+        limit =
+            same-limit old new h.1;
+      }
+  step-plain old new _ _ step _ = absurd step
+
+  -- what calls in order say, and the contents that they leave
+  abbrev says_each : List C → ℕ → List (Call C) → List Seen
+  says_each held limit [] = []
+  says_each held limit (call ∷ calls) = says held limit call ∷ says_each (leaves held limit call) limit calls
+
+  abbrev leaves_all : List C → ℕ → List (Call C) → List C
+  leaves_all held limit [] = held
+  leaves_all held limit (call ∷ calls) = leaves_all (leaves held limit call) limit calls
+
+  runs-plain : (hash : Key → ℕ) (old new : State C) (calls : List (Call C)) (replies : List Reply)
+      (cost : List Event) → Runs key spells hash old calls replies cost new → HasMemory replies
+      → (map seen replies ≡ says_each old.contents old.limit calls)
+      × (new.contents ≡ leaves_all old.contents old.limit calls)
+  runs-plain hash old new [] [] cost run memory = (refl, same-contents old new run.1)
+  runs-plain hash old new (call ∷ calls) (r ∷ replies) cost run memory =
+      let one = step-plain old run.0 call r run.4.0 (memory 0 r (omega arith)) in
+      let rest =
+      runs-plain hash run.0 new calls replies run.2 run.5 (λ k d lt. memory (suc k) d (omega arith)) in
+      (rw (one.reply, rest.0, one.contents, one.limit) refl, rw (rest.1, one.contents, one.limit) refl)
+  runs-plain hash old new _ _ cost run memory = absurd run
+
+  -- two runs of the same calls say the same and leave the same contents
+  pub runs-alike : AreAlike key spells
+  runs-alike hash hash' old old' new new' calls replies replies' cost cost' contents limit run run'
+      memory memory' =
+      let left = runs-plain hash old new calls replies cost run memory in
+      let right = runs-plain hash' old' new' calls replies' cost' run' memory' in
+      (left.0 ∙ rw (contents, limit) refl ∙ sym right.0, left.1 ∙ rw (contents, limit) refl ∙ sym right.1)

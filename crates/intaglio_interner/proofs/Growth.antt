@@ -1,0 +1,253 @@
+-- What a run hashes, and what interns alone place.
+use Rattle.std.proofs.Common.{◌≡◌, ◌≢◌, ℕ, suc, ◌+◌, ◌*◌, ◌<◌, ◌≤◌, min, max, Bool, true, false, List, [], ◌∷◌, ◌++◌, length, map, All, Option, Some, None, Ok, Err, Result, alloc_error, MatchOption, inl, inr, refl, ap, arith}
+use Rattle.std.proofs.lemmas.Bool.{cases_eq}
+use Rattle.std.proofs.lemmas.List.Elements.{All-cons}
+use Rattle.intaglio_content.specs.Key.{Key}
+use Rattle.intaglio_content.specs.Store.{IsAddedOne}
+use Rattle.intaglio_content.specs.Work.{Event, placed}
+use Rattle.intaglio_interner.specs.State.{State, first}
+use Rattle.intaglio_interner.specs.Change.{IsAdded, IsRefused}
+use Rattle.intaglio_interner.specs.Cost.{InOrder, hashed_keys, placed_count, SearchCost, IsAddingCost}
+use Rattle.intaglio_interner.specs.Step.{Step, StepCost}
+use Rattle.intaglio_interner.specs.Run.{RunsValues, IsCall, KeepsContents, HonoursRoom, searched_keys}
+use Rattle.intaglio_interner.proofs.InOrder.{hashed_keys-append, InOrder-hash}
+use Rattle.intaglio_interner.proofs.Room.{IsKept, same-kept, fails-kept, added-length}
+use Rattle.intaglio_interner.proofs.LookUps.{look_up-same, look_up-places}
+use Rattle.intaglio_interner.proofs.Bytes.{intern-spare}
+use Rattle.intaglio_symbol.specs.declared.error.InternError.TheVariants as error
+use Rattle.intaglio_symbol.specs.declared.error.InternError.{InternError}
+use Rattle.intaglio_interner.specs.declared.runs.Call.{Call}
+use Rattle.intaglio_interner.specs.declared.runs.Call.TheVariants.{Intern, Check, GetInterned, IsInterned, Reserve, ShrinkTo, ShrinkToFit}
+use Rattle.intaglio_interner.specs.declared.runs.Reply.{Reply}
+use Rattle.intaglio_interner.specs.declared.runs.Reply.TheVariants as reply
+
+-- the number of placements in events and others behind them is the sum of the numbers in both
+pub placed_count-append : (a b : List Event) → placed_count (a ++ b) ≡ placed_count a + placed_count b
+placed_count-append [] b = omega arith
+placed_count-append (placed ∷ a) b = let e : placed_count (a ++ b) ≡ placed_count a + placed_count b =
+    placed_count-append a b in omega arith
+placed_count-append (_ ∷ a) b = placed_count-append a b
+
+-- g symbols have been placed again at most, where buckets can still grow at most as many as there are buckets
+pub record Holds {C : Type 0} (s : State C) (g : ℕ) : Type 0 where
+  pub below : s.buckets < s.limit → g ≤ s.buckets
+  pub twice : g ≤ 2 * length s.contents
+
+-- a step that makes p placements, by what has been placed again before and after it
+pub record Goes {C : Type 0} (old next : State C) (p g : ℕ) : Type 0 where
+  pub later : ℕ
+  pub holds : Holds next later
+  pub spent : g + p + length old.contents ≤ later + length next.contents
+
+-- where each step makes few placements, all make few
+module _ {C X : Type 0} (OneStep : State C → X → Reply → List Event → State C → Type 0) (P : X → Type 0)
+    (goes : (old next : State C) (x : X) (r : Reply) (now : List Event) (g : ℕ) → P x →
+    OneStep old x r now next → Holds old g → Goes old next (placed_count now) g) where
+  places : (old new : State C) (xs : List X) (replies : List Reply) (cost : List Event) (g : ℕ) → All P xs →
+      Holds old g → InOrder OneStep old xs replies cost new
+      → g + placed_count cost + length old.contents ≤ 3 * length new.contents
+  places old new [] [] cost g all h run = rw (run.0, run.1) (omega (arith, h.twice))
+  places old new (x ∷ xs) (r ∷ replies) cost g all h run =
+      let one = goes old run.0 x r run.1 g (all 0 x (omega arith)) run.4 h in
+      let rest = places run.0 new xs replies run.2 one.later (λ k d lt. all (suc k) d (omega arith))
+      one.holds run.5 in
+      rw (run.3, placed_count-append run.1 run.2) (omega (arith, one.spent, rest))
+  places old new _ _ cost g all h run = absurd run
+
+  -- placements and contents before are at most three times the contents after
+  pub InOrder-place : (old new : State C) (xs : List X) (replies : List Reply) (cost : List Event) →
+      All P xs → InOrder OneStep old xs replies cost new
+      → placed_count cost + length old.contents ≤ 3 * length new.contents
+  InOrder-place old new xs replies cost keep run =
+      let all =
+      places old new xs replies cost 0 keep (record { below = λ lt. omega arith; twice = omega arith })
+      run in omega (arith, all)
+
+module _ {C : Type 0} (key : C → Key) (hash : Key → ℕ) where
+  kept : (old next : State C) (p g : ℕ) → IsKept old next → p ≡ 0 → Holds old g → Goes old next p g
+  kept old next p g is none h =
+      let size : length next.contents ≡ length old.contents = ap length is.contents in
+      record {
+        later = g;
+        holds = record {
+          below = λ lt. omega (
+            arith,
+            h.below (omega (arith, lt, is.buckets, is.limit)),
+            is.buckets,
+          );
+          twice = omega (arith, h.twice, size);
+        };
+        spent = omega (arith, none, size);
+      }
+
+  grown : (old next : State C) (adds : List C → List C → Type 0) (i p g : ℕ) →
+      length next.contents ≡ length old.contents + 1 → IsAdded adds old i next → next.buckets ≢ old.buckets →
+      p ≡ length old.contents + 1 → Holds old g → Goes old next p g
+  grown old next adds i p g size taken more placements h =
+      let full : length old.contents ≡ old.buckets = (taken.growth more).0 in
+      let double : next.buckets ≡ min old.limit (max 4 (2 * old.buckets)) = (taken.growth more).1 in
+      let few : g ≤ old.buckets = h.below (omega (arith, taken.below_limit)) in
+      let same : next.limit ≡ old.limit = taken.limit in
+      record {
+        later = g + length old.contents;
+        holds =
+            record { below = λ lt. omega arith; twice = omega arith };
+        spent = omega arith;
+      }
+
+  pub adding-places : (old next : State C) (k : Key) (now : List Event)
+      (cost : IsAddingCost key hash old k next now) → placed_count now ≡ placed_count cost.growth + 1
+  adding-places old next k now cost =
+      rw (
+        cost.parts,
+        placed_count-append (cost.search ++ cost.growth) (placed ∷ []),
+        placed_count-append cost.search cost.growth,
+      ) (omega (arith, cost.searches.0.placements))
+
+  added : (old next : State C) (adds : List C → List C → Type 0) (i g : ℕ) (k : Key) (now : List Event) →
+      length next.contents ≡ length old.contents + 1 → IsAdded adds old i next →
+      IsAddingCost key hash old k next now → Holds old g → Goes old next (placed_count now) g
+  added old next adds i g k now size taken cost h =
+      let parts = adding-places old next k now cost in
+      elim (cases_eq next.buckets old.buckets) [
+        | inl same ↦
+            let nothing : placed_count cost.growth ≡ 0 = rw (cost.grows.only_growth same) refl in
+            let limit : next.limit ≡ old.limit = taken.limit in
+            record {
+              later = g;
+              holds = record {
+                below = λ lt. let less : old.buckets < old.limit = omega arith in
+                    let at_most = h.below less in omega arith;
+                twice = let t = h.twice in omega arith;
+              };
+              spent = omega arith;
+            }
+        | inr differ ↦
+            let again : placed_count cost.growth ≡ length old.contents = cost.grows.placements differ in
+            grown old next adds i (placed_count now) g size taken differ (omega arith) h
+      ]
+
+  pub added-hashes : (o : Option ℕ) (old next : State C) (k : Key) (now : List Event)
+      → MatchOption o (IsAddingCost key hash old k next now) (λ _. SearchCost key hash old k now) →
+      hashed_keys now ≡ k ∷ []
+  added-hashes None old next k now cost =
+      rw (
+        cost.parts,
+        hashed_keys-append (cost.search ++ cost.growth) (placed ∷ []),
+        hashed_keys-append cost.search cost.growth,
+        cost.searches.0.hashings,
+        cost.grows.hashings,
+      ) refl
+  added-hashes (Some j) old next k now cost = cost.0.hashings
+
+module _ {C Q : Type 0} (key : C → Key) (value_key : Q → Key) (spelling : C → List ℕ) (adds : Q → List C →
+    List C → Type 0) (copies : Bool) (one : (q : Q) (a b : List C) → adds q a b →
+    IsAddedOne key (value_key q) a b) (hash : Key → ℕ) where
+  answered : (o : Option ℕ) (old next : State C) (q : Q) (i g : ℕ) (now : List Event)
+      → MatchOption o (IsAdded (adds q) old i next) (λ j. (◌≡◌ {A = Result ℕ InternError} (Ok i) (Ok j))
+      × (next ≡ old))
+      → MatchOption o (IsAddingCost key hash old (value_key q) next now)
+      (λ _. SearchCost key hash old (value_key q) now) → Holds old g → Goes old next (placed_count now) g
+  answered None old next q i g now taken cost h =
+      added key hash old next (adds q) i g (value_key q) now
+      (added-length key (adds q) copies (value_key q) (one q) old next i taken) taken cost h
+  answered (Some j) old next q i g now found cost h =
+      kept key hash old next (placed_count now) g (same-kept old next found.1) cost.0.placements h
+
+  -- an interning or a look-up
+  call-goes : (old next : State C) (call : Call Q) (r : Reply) (now : List Event) (g : ℕ) →
+      KeepsContents call → Step key value_key spelling adds copies old call r next →
+      StepCost key value_key hash old call r next now → Holds old g → Goes old next (placed_count now) g
+  call-goes old next (Intern q) (reply.Symbol (Some i)) now g keep made cost h =
+      answered (first key old.contents (value_key q)) old next q i g now made cost h
+  call-goes old next (Intern q) reply.Overflow now g keep made cost h =
+      kept key hash old next (placed_count now) g
+      (fails-kept key (adds q) copies (value_key q) (first key old.contents (value_key q)) old next
+      (error.Overflow (record { private = tt })) (made (record { private = tt }))) cost.0.placements h
+  call-goes old next (Intern q) reply.NoMemory now g keep made cost h =
+      kept key hash old next (placed_count now) g
+      (fails-kept key (adds q) copies (value_key q) (first key old.contents (value_key q)) old next
+      (error.Memory alloc_error) made) cost.0.placements h
+  call-goes old next (Intern q) _ now g keep made cost h = absurd made
+  call-goes old next call r now g keep made cost h =
+      kept key hash old next (placed_count now) g
+      (same-kept old next (look_up-same key value_key spelling adds copies old next call r keep made))
+      (look_up-places key value_key spelling adds copies hash old next call r now keep cost) h
+
+  -- placements and contents before are at most three times the contents after
+  pub Runs-place : (old new : State C) (calls : List (Call Q)) (replies : List Reply) (cost : List Event) →
+      All KeepsContents calls → RunsValues key value_key spelling adds copies hash old calls replies cost new
+      → placed_count cost + length old.contents ≤ 3 * length new.contents
+  Runs-place =
+      InOrder-place (IsCall key value_key spelling adds copies hash) KeepsContents
+      (λ old next call r now g keep made h. call-goes old next call r now g keep made.0 made.1 h)
+
+  intern-hashes : (old next : State C) (q : Q) (r : Reply) (now : List Event) →
+      StepCost key value_key hash old (Intern q) r next now → hashed_keys now ≡ value_key q ∷ []
+  intern-hashes old next q (reply.Symbol (Some i)) now cost =
+      added-hashes key hash (first key old.contents (value_key q)) old next (value_key q) now cost
+  intern-hashes old next q _ now cost = cost.0.hashings
+
+  -- a call hashes the key that it looks for
+  step-hashes : (old next : State C) (call : Call Q) (r : Reply) (now : List Event) (calls : List (Call Q)) →
+      StepCost key value_key hash old call r next now →
+      hashed_keys now ++ searched_keys value_key calls ≡ searched_keys value_key (call ∷ calls)
+  step-hashes old next (Intern q) r now calls cost = rw (intern-hashes old next q r now cost) refl
+  step-hashes old next (Check q) r now calls cost = rw cost.0.hashings refl
+  step-hashes old next (GetInterned q) r now calls cost = rw cost.0.hashings refl
+  step-hashes old next (IsInterned q) r now calls cost = rw cost.0.hashings refl
+  step-hashes old next (Reserve n) r now calls cost = rw cost.hashings refl
+  step-hashes old next (ShrinkTo n) r now calls cost = rw cost.hashings refl
+  step-hashes old next ShrinkToFit r now calls cost = rw cost.hashings refl
+  step-hashes old next _ r now calls cost = rw cost refl
+
+  -- a run hashes the keys that its calls look for, in their order, and nothing else
+  pub Runs-hash : (old new : State C) (calls : List (Call Q)) (replies : List Reply) (cost : List Event) →
+      RunsValues key value_key spelling adds copies hash old calls replies cost new
+      → hashed_keys cost ≡ searched_keys value_key calls
+  Runs-hash = InOrder-hash (IsCall key value_key spelling adds copies hash) (searched_keys value_key) refl
+      (λ old next call r now calls made. step-hashes old next call r now calls made.1)
+
+-- values that aren't copied, in room that is there
+module _ {C Q : Type 0} (key : C → Key) (value_key : Q → Key) (spelling : C → List ℕ) (adds : Q → List C →
+    List C → Type 0) (hash : Key → ℕ) where
+  had-room : (o : Option ℕ) (old next : State C) →
+      MatchOption o (IsRefused old next)
+      (λ j. (◌≡◌ {A = Result ℕ InternError} (Err (error.Memory alloc_error)) (Ok j)) × (next ≡ old)) →
+      0 < old.spare → ⊥
+  had-room None old next h lt = let none : old.spare ≡ 0 = h.no_room in omega arith
+  had-room (Some j) old next h lt = let no = h.0 in cc
+
+  -- one interning in room that is there: it isn't refused, and takes at most one place
+  taken-in-room : (old next : State C) (q : Q) (r : Reply) (n : ℕ) →
+      Step key value_key spelling adds false old (Intern q) r next → suc n ≤ old.spare → (r ≢ reply.NoMemory)
+      × (n ≤ next.spare)
+  taken-in-room old next q r n made lt = (
+    quiet r made,
+    omega (arith, lt, intern-spare key value_key spelling adds false old next q r made (omega arith)),
+  )
+    where
+      quiet : (r : Reply) → Step key value_key spelling adds false old (Intern q) r next → r ≢ reply.NoMemory
+      quiet reply.NoMemory step =
+          absurd (had-room (first key old.contents (value_key q)) old next step (omega arith))
+      quiet (reply.Symbol i) step = λ e. cc
+      quiet reply.Overflow step = λ e. cc
+      quiet _ step = absurd step
+
+  in-room : (old new : State C) (qs : List Q) (replies : List Reply) (cost : List Event) →
+      RunsValues key value_key spelling adds false hash old (map Intern qs) replies cost new →
+      length qs ≤ old.spare → All (λ r. r ≢ reply.NoMemory) replies
+  in-room old new [] [] cost run le = λ k d lt. absurd (omega arith)
+  in-room old new (q ∷ qs) (r ∷ replies) cost run le =
+      let made = taken-in-room old run.0 q r (length qs) run.4.0 le in
+      All-cons (λ (x : Reply). x ≢ reply.NoMemory) r replies made.0
+      (in-room run.0 new qs replies run.2 run.5 made.1)
+  in-room old new _ _ cost run le = absurd run
+
+  -- as many as there is room for are interned without running out of memory, unless they are copied
+  pub Runs-room : (copies : Bool) (old new : State C) (calls : List (Call Q)) (replies : List Reply)
+      (cost : List Event) → RunsValues key value_key spelling adds copies hash old calls replies cost new →
+      HonoursRoom copies old calls replies
+  Runs-room false old new calls replies cost run =
+      λ qs interns few. in-room old new qs replies cost (rw interns at run) few
+  Runs-room true old new calls replies cost run = tt

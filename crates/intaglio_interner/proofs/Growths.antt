@@ -1,0 +1,156 @@
+-- How often the memory of a table's contents grows.
+use Rattle.std.proofs.Common.{◌≡◌, ◌≢◌, ℕ, suc, ◌+◌, ◌*◌, ◌^◌, ◌≤◌, ◌∙◌, max, Bool, List, [], ◌∷◌, ◌++◌, length, All, inl, inr, refl, ap, arith}
+use Rattle.std.proofs.lemmas.Bool.{cases_eq, cases_lt, eq-eqb, ne_eqb}
+use Rattle.std.proofs.Math.Nat.{mul-le-mul_left, mul_assoc, pow-suc}
+use Rattle.intaglio_content.specs.Key.{Key}
+use Rattle.intaglio_content.specs.Store.{IsAddedOne}
+use Rattle.intaglio_interner.specs.State.{State}
+use Rattle.intaglio_interner.specs.Step.{Step}
+use Rattle.intaglio_interner.specs.Run.{KeepsContents, KeepsRoom}
+use Rattle.intaglio_interner.proofs.Room.{added-length}
+use Rattle.intaglio_interner.proofs.LookUps.{look_up-same, intern-either}
+use Rattle.intaglio_interner.specs.Growths.{Room, changes, bytes_of, CallGrows, RunsGrowing}
+use Rattle.intaglio_interner.specs.declared.runs.Call.{Call}
+use Rattle.intaglio_interner.specs.declared.runs.Call.TheVariants.{Intern, Reserve, ShrinkTo, ShrinkToFit}
+use Rattle.intaglio_interner.specs.declared.runs.Reply.{Reply}
+
+-- a number that at least doubles where it changes, and then doubles so often
+doubled : (g i x y z : ℕ) → g ≡ changes x y + i → (y ≢ x → 2 * max 1 x ≤ max 1 y) →
+    2 ^ i * max 1 y ≤ max 1 z → 2 ^ g * max 1 x ≤ max 1 z
+doubled g i x y z count twice rest =
+    elim (cases_eq y x) [
+      | inl same ↦ let none : changes x y ≡ 0 = rw (eq-eqb y x same) refl in let is : g ≡ i =
+          omega (arith, count, none) in rw (is, ← same) rest
+      | inr differ ↦
+          let one : changes x y ≡ 1 = rw (ne_eqb y x differ) refl in
+          let once : g ≡ suc i = omega (arith, count, one) in
+          let more : 2 ^ i * (2 * max 1 x) ≤ 2 ^ i * max 1 y = mul-le-mul_left (2 ^ i) (twice differ) in
+          let power : 2 ^ suc i * max 1 x ≡ 2 ^ i * (2 * max 1 x) =
+          ap (λ n. n * max 1 x) (pow-suc 2 i) ∙ mul_assoc (2 ^ i) 2 (max 1 x) in
+          rw once (omega (arith, more, power, rest))
+    ]
+
+module _ {C Q : Type 0} (takes : C → ℕ) (needs : Q → ℕ) where
+  -- room for contents that changes at least doubles
+  list-doubles : (old next : Room C) (call : Call Q) → KeepsRoom call → CallGrows takes needs old call next →
+      next.most ≢ old.most → 2 * max 1 old.most ≤ max 1 next.most
+  list-doubles old next (Intern q) keep grows differ = let grown = grows.0.grown differ in
+      omega (arith, grown)
+  list-doubles old next (Reserve n) keep grows differ = let grown = grows.0.grown differ in
+      omega (arith, grown)
+  list-doubles old next (ShrinkTo n) keep grows differ = absurd keep
+  list-doubles old next ShrinkToFit keep grows differ = absurd keep
+  list-doubles old next _ keep grows differ = absurd (differ grows.0)
+
+  -- a growth for an interning makes room for at most twice as many contents as there are, or for 4
+  list-within : (old next : Room C) (call : Call Q) → KeepsContents call →
+      CallGrows takes needs old call next → next.most ≢ old.most →
+      next.most ≤ max 4 (2 * length old.state.contents)
+  list-within old next (Intern q) keep grows differ =
+      elim (cases_lt old.most (length old.state.contents + 1)) [
+        | inl full ↦ let grown = grows.0.grown differ in omega (arith, grown, full)
+        | inr enough ↦ absurd (differ (grows.0.enough enough))
+      ]
+  list-within old next (Reserve n) keep grows differ = absurd keep
+  list-within old next (ShrinkTo n) keep grows differ = absurd keep
+  list-within old next ShrinkToFit keep grows differ = absurd keep
+  list-within old next _ keep grows differ = absurd (differ grows.0)
+
+  -- room for bytes that changes at least doubles
+  bytes-double : (old next : Room C) (call : Call Q) → KeepsRoom call → CallGrows takes needs old call next →
+      bytes_of takes next ≢ bytes_of takes old
+      → 2 * max 1 (bytes_of takes old) ≤ max 1 (bytes_of takes next)
+  bytes-double old next (Intern q) keep grows differ = let grown = grows.1.grown differ in
+      omega (arith, grown)
+  bytes-double old next (ShrinkTo n) keep grows differ = absurd keep
+  bytes-double old next ShrinkToFit keep grows differ = absurd keep
+  bytes-double old next _ keep grows differ = absurd (differ grows.1)
+
+  module _ (IsStep : State C → Call Q → Reply → State C → Type 0) where
+    -- the room for contents, and that for bytes, doubled as often as it changed
+    pub all-growths : (old : Room C) (calls : List (Call Q)) (replies : List Reply) (g h : ℕ) (new : Room C) →
+        All KeepsRoom calls → RunsGrowing takes needs IsStep old calls replies g h new
+        → (2 ^ g * max 1 old.most ≤ max 1 new.most)
+        × (2 ^ h * max 1 (bytes_of takes old) ≤ max 1 (bytes_of takes new))
+    all-growths old [] [] g h new keep run =
+        (rw (run.0, run.2) (omega arith), rw (run.1, run.2) (omega arith))
+    all-growths old (call ∷ calls) (r ∷ replies) g h new keep run =
+        let rest =
+        all-growths run.0 calls replies run.1 run.2 new (λ k d lt. keep (suc k) d (omega arith)) run.7 in
+        let here = keep 0 call (omega arith) in (
+          doubled g run.1 old.most run.0.most new.most run.3 (list-doubles old run.0 call here run.6) rest.0,
+          doubled h run.2 (bytes_of takes old) (bytes_of takes run.0) (bytes_of takes new) run.4
+              (bytes-double old run.0 call here run.6) rest.1,
+        )
+    all-growths old _ _ g h new keep run = absurd run
+
+    -- one call more
+    pub growing-push : (old : Room C) (calls : List (Call Q)) (replies : List Reply) (g h : ℕ) (mid : Room C)
+        (call : Call Q) (r : Reply) (new : Room C)
+        → RunsGrowing takes needs IsStep old calls replies g h mid → IsStep mid.state call r new.state →
+        CallGrows takes needs mid call new
+        → RunsGrowing takes needs IsStep old (calls ++ call ∷ []) (replies ++ r ∷ [])
+        (g + changes mid.most new.most) (h + changes (bytes_of takes mid) (bytes_of takes new)) new
+    growing-push old [] [] g h mid call r new run step grows = (
+      new,
+      0,
+      0,
+      rw (run.0, run.2) (omega arith),
+      rw (run.1, run.2) (omega arith),
+      rw (← run.2) step,
+      rw (← run.2) grows,
+      (refl, refl, refl),
+    )
+    growing-push old (x ∷ calls) (y ∷ replies) g h mid call r new run step grows = (
+      run.0,
+      run.1 + changes mid.most new.most,
+      run.2 + changes (bytes_of takes mid) (bytes_of takes new),
+      rw run.3 (omega arith),
+      rw run.4 (omega arith),
+      run.5,
+      run.6,
+      growing-push run.0 calls replies run.1 run.2 mid call r new run.7 step grows,
+    )
+    growing-push old _ _ g h mid call r new run step grows = absurd run
+
+    module _ (sizes : (old next : State C) (call : Call Q) (r : Reply) → KeepsContents call →
+        IsStep old call r next → length old.contents ≤ length next.contents) where
+      few : (old : Room C) (calls : List (Call Q)) (replies : List Reply) (g h : ℕ) (new : Room C) →
+          All KeepsContents calls → RunsGrowing takes needs IsStep old calls replies g h new
+          → (length old.state.contents ≤ length new.state.contents)
+          × (new.most ≤ max old.most (max 4 (2 * length new.state.contents)))
+      few old [] [] g h new keep run = rw run.2 (omega arith, omega arith)
+      few old (call ∷ calls) (r ∷ replies) g h new keep run =
+          let rest = few run.0 calls replies run.1 run.2 new (λ k d lt. keep (suc k) d (omega arith)) run.7 in
+          let size = sizes old.state run.0.state call r (keep 0 call (omega arith)) run.5 in
+          elim (cases_eq run.0.most old.most) [
+            | inl same ↦ (omega (arith, size, rest.0), omega (arith, same, rest.1))
+            | inr differ ↦ let more = list-within old run.0 call (keep 0 call (omega arith)) run.6 differ in
+                (omega (arith, size, rest.0), omega (arith, more, size, rest.0, rest.1))
+          ]
+      few old _ _ g h new keep run = absurd run
+
+      -- there is room for few more contents than there are
+      pub few-growths : (old : Room C) (calls : List (Call Q)) (replies : List Reply) (g h : ℕ)
+          (new : Room C) → All KeepsContents calls → RunsGrowing takes needs IsStep old calls replies g h new
+          → new.most ≤ max old.most (max 4 (2 * length new.state.contents))
+      few-growths old calls replies g h new keep run = (few old calls replies g h new keep run).1
+
+-- internings and look-ups drop no content
+module _ {C Q : Type 0} (key : C → Key) (value_key : Q → Key) (spelling : C → List ℕ) (adds : Q → List C →
+    List C → Type 0) (copies : Bool) (one : (q : Q) (a b : List C) → adds q a b →
+    IsAddedOne key (value_key q) a b) where
+  pub call-size : (old next : State C) (call : Call Q) (r : Reply) → KeepsContents call →
+      Step key value_key spelling adds copies old call r next → length old.contents ≤ length next.contents
+  call-size old next (Intern q) r keep made =
+      elim (intern-either key value_key spelling adds copies old next q r made) [
+        | inl kept ↦ omega (arith, ap length kept.contents)
+        | inr added ↦
+            omega (arith, added-length key (adds q) copies (value_key q) (one q) old next added.0 added.1)
+      ]
+  call-size old next call r keep made =
+      omega (
+        arith,
+        ap (λ (s : State C). length s.contents)
+            (look_up-same key value_key spelling adds copies old next call r keep made),
+      )

@@ -1,0 +1,72 @@
+-- Look-ups leave a table as it is, and internings keep its contents or add one.
+use Rattle.std.proofs.Common.{◌≡◌, ◌⊎◌, ℕ, Bool, List, Some, Ok, Err, Result, alloc_error, refl}
+use Rattle.intaglio_content.specs.Key.{Key}
+use Rattle.intaglio_content.specs.Work.{Event}
+use Rattle.intaglio_interner.specs.State.{State}
+use Rattle.intaglio_interner.specs.Change.{IsAdded, InternsValue}
+use Rattle.intaglio_interner.specs.Cost.{placed_count}
+use Rattle.intaglio_interner.proofs.Room.{IsKept, interns-either}
+use Rattle.intaglio_interner.specs.Step.{Step, StepCost}
+use Rattle.intaglio_symbol.specs.declared.error.InternError.{InternError}
+use Rattle.intaglio_symbol.specs.declared.error.InternError.TheVariants as intern_error
+use Rattle.intaglio_interner.specs.declared.runs.Call.{Call}
+use Rattle.intaglio_interner.specs.declared.runs.Call.TheVariants.{Intern, Check, GetInterned, IsInterned, Contains, Get, Len, IsEmpty}
+use Rattle.intaglio_interner.specs.declared.runs.Reply.{Reply}
+use Rattle.intaglio_interner.specs.declared.runs.Reply.TheVariants as reply
+
+-- a call that looks up a key or a symbol, or asks how many contents there are
+abbrev pub LooksUp : {Q : Type 0} → Call Q → Type 0
+LooksUp (Check _) = Unit {0}
+LooksUp (GetInterned _) = Unit {0}
+LooksUp (IsInterned _) = Unit {0}
+LooksUp (Contains _) = Unit {0}
+LooksUp (Get _) = Unit {0}
+LooksUp Len = Unit {0}
+LooksUp IsEmpty = Unit {0}
+LooksUp _ = ⊥
+
+module _ {C Q : Type 0} (key : C → Key) (value_key : Q → Key) (spelling : C → List ℕ) (adds : Q → List C →
+    List C → Type 0) (copies : Bool) where
+  pub look_up-same : (old new : State C) (call : Call Q) (r : Reply) → LooksUp call →
+      Step key value_key spelling adds copies old call r new → new ≡ old
+  look_up-same old new (Check q) (reply.Symbol x) looks step = step.1
+  look_up-same old new (Check q) _ looks step = absurd step
+  look_up-same old new (GetInterned q) r looks step = step.1
+  look_up-same old new (IsInterned q) (reply.Bool x) looks step = step.1
+  look_up-same old new (IsInterned q) _ looks step = absurd step
+  look_up-same old new (Contains s) (reply.Bool x) looks step = step.1
+  look_up-same old new (Contains s) _ looks step = absurd step
+  look_up-same old new (Get s) r looks step = step.1
+  look_up-same old new Len (reply.Count x) looks step = step.1
+  look_up-same old new Len _ looks step = absurd step
+  look_up-same old new IsEmpty (reply.Bool x) looks step = step.1
+  look_up-same old new IsEmpty _ looks step = absurd step
+  look_up-same old new _ r looks step = absurd looks
+
+  -- and places nothing
+  pub look_up-places : (hash : Key → ℕ) (old new : State C) (call : Call Q) (r : Reply) (now : List Event) →
+      LooksUp call → StepCost key value_key hash old call r new now → placed_count now ≡ 0
+  look_up-places hash old new (Check q) r now looks cost = cost.0.placements
+  look_up-places hash old new (GetInterned q) r now looks cost = cost.0.placements
+  look_up-places hash old new (IsInterned q) r now looks cost = cost.0.placements
+  look_up-places hash old new (Contains s) r now looks cost = rw cost refl
+  look_up-places hash old new (Get s) r now looks cost = rw cost refl
+  look_up-places hash old new Len r now looks cost = rw cost refl
+  look_up-places hash old new IsEmpty r now looks cost = rw cost refl
+  look_up-places hash old new _ r now looks cost = absurd looks
+
+  -- an interning by its result
+  pub interns-as : (old new : State C) (q : Q) (r : Reply) →
+      Step key value_key spelling adds copies old (Intern q) r new → (result : Result ℕ InternError)
+      × InternsValue key (adds q) copies old (value_key q) result new
+  interns-as old new q (reply.Symbol (Some i)) step = (Ok i, step)
+  interns-as old new q reply.Overflow step =
+      (Err (intern_error.Overflow (record { private = tt })), step (record { private = tt }))
+  interns-as old new q reply.NoMemory step = (Err (intern_error.Memory alloc_error), step)
+  interns-as old new q _ step = absurd step
+
+  pub intern-either : (old new : State C) (q : Q) (r : Reply) →
+      Step key value_key spelling adds copies old (Intern q) r new →
+      IsKept old new ⊎ ((i : ℕ) × IsAdded (adds q) old i new)
+  intern-either old new q r step = let made = interns-as old new q r step in
+      interns-either key (adds q) copies (value_key q) old new made.0 made.1

@@ -1,0 +1,123 @@
+use Rattle.std.proofs.Common.{◌≡◌, ◌+◌, ◌∙◌, [], arith, append_assoc, append-nil, refl, sym, rules}
+use Rattle.std.specs.Vec.Iter.{into_iter_items}
+use Rattle.std.proofs.lemmas.Grind.{common_steps}
+use Rattle.intaglio_interner.proofs.Growth.{Runs-hash, Runs-place, Runs-room}
+use Rattle.intaglio_interner.proofs.Issued.{Runs-issue}
+use Rattle.intaglio_interner.proofs.RoomKept.{Runs-roomier}
+use Rattle.intaglio_interner.specs.Run.{KeepsRoom}
+use Rattle.intaglio_interner.proofs.Bytes.{All-next, StillRoom-start, StillRoom-push}
+use Rattle.intaglio_interner.proofs.InOrder.{Adds-push}
+use Rattle.intaglio_interner.specs.Step.{Step}
+use Rattle.intaglio_interner.specs.Growths.{room, changes, bytes_of}
+use Rattle.intaglio_interner.proofs.Growths.{growing-push, all-growths, call-size, few-growths}
+use Rattle.intaglio_interner.proofs.runs.run.Goals as goal
+
+pub loop-call-init : goal.loop-call-init
+loop-call-init g c =
+    let all : into_iter_items c.into_iter-call-iterator.result ≡ c.args.calls.items = search rules in
+    record {
+      can = tt;
+      finite = tt;
+      ran = ([], sym (append-nil _), rw c.in_ok-replies.ensures.items (refl, refl));
+      growths = (0, 0, rw c.in_ok-replies.ensures.items (refl, refl, refl));
+      same_hash = refl;
+      whole = all;
+      room = search rules;
+      bytes = λ keep. omega arith;
+      still = rw (all, c.in_ok-replies.ensures.items)
+          (StillRoom-start g.T.Content.Keyed.key g.Q.Keyed.key g.T.Content.Content.spelling g.Q.AddedTo.adds
+          g.Q.AddedTo.copies g.Q.AddedTo.needs g.Q.AddedTo.in_store (g.T.BaseInterner.state c.args.table.now)
+          (g.T.BaseInterner.spare_bytes c.args.table.now) c.args.calls.items);
+    }
+
+pub loop-call-preserved : goal.loop-call-preserved
+loop-call-preserved g c = record {
+  can = tt;
+  finite = tt;
+  ran = rw c.push_reserved.ensures.items
+      (Adds-push _ _ _ _ _ _ _ _ _ _ _ c.loop-call.invariant.ran (let spent =
+      rw c.loop-call.invariant.same_hash at c.step.ensures.cost in
+      (spent.0, spent.1, (c.step.ensures.step, spent.2, c.step.ensures.valid))));
+  growths =
+      let so_far = c.loop-call.invariant.growths in
+      let mid = room (g.T.BaseInterner.state c.loop-call.table) (g.T.BaseInterner.most c.loop-call.table)
+      (g.T.BaseInterner.spare_bytes c.loop-call.table) in
+      let next = room (g.T.BaseInterner.state c.step.new.table) (g.T.BaseInterner.most c.step.new.table)
+      (g.T.BaseInterner.spare_bytes c.step.new.table) in (
+        so_far.0 + changes mid.most next.most,
+        so_far.1 + changes (bytes_of g.T.Store.Store.takes mid) (bytes_of g.T.Store.Store.takes next),
+        rw c.push_reserved.ensures.items
+            (growing-push g.T.Store.Store.takes g.Q.AddedTo.needs
+            (Step g.T.Content.Keyed.key g.Q.Keyed.key g.T.Content.Content.spelling g.Q.AddedTo.adds
+            g.Q.AddedTo.copies) _ _ _ so_far.0 so_far.1 mid _ c.step.result next so_far.2
+            c.step.ensures.step c.step.ensures.grows),
+      );
+  same_hash = c.step.ensures.same_hash ∙ c.loop-call.invariant.same_hash;
+  whole = rw (append_assoc, ← c.in-Some.ensures.steps.0) c.loop-call.invariant.whole;
+  room = omega (arith, c.in-Some.ensures.steps);
+  bytes = λ keep. omega (
+    arith,
+    c.loop-call.invariant.bytes keep,
+    c.step.ensures.bytes
+        (All-next KeepsRoom _ _ _ _ _ c.loop-call.invariant.whole c.in-Some.ensures.steps.0 keep),
+  );
+  still = rw c.push_reserved.ensures.items
+      (StillRoom-push g.T.Content.Keyed.key g.Q.Keyed.key g.T.Content.Content.spelling g.Q.AddedTo.adds
+      g.Q.AddedTo.copies g.Q.AddedTo.needs g.Q.AddedTo.in_store (g.T.BaseInterner.state c.args.table.now)
+      (g.T.BaseInterner.state c.loop-call.table) (g.T.BaseInterner.state c.step.new.table) _ _ _ _ _ _ _ _ _
+      c.step.result c.loop-call.invariant.whole c.in-Some.ensures.steps.0 c.loop-call.invariant.still
+      c.step.ensures.room c.step.ensures.step);
+}
+
+pub returns : goal.returns
+returns g c =
+    let key = g.T.Content.Keyed.key in
+    let value_key = g.Q.Keyed.key in
+    let spelling = g.T.Content.Content.spelling in
+    let adds = g.Q.AddedTo.adds in
+    let copies = g.Q.AddedTo.copies in
+    let one = g.met.Q.AddedTo.adds_one in
+    let hash = g.T.BaseInterner.hash c.args.table.now in
+    let steps = Step key value_key spelling adds copies in
+    let ran = c.loop-call.invariant.ran in
+    let so_far = c.loop-call.invariant.growths in
+    let all : c.loop-call.yielded ≡ c.args.calls.items =
+    grind (arith, common_steps, c.in-None.ensures.steps, c.loop-call.invariant.whole) in
+    let run = rw all at so_far.2 in
+    record {
+      ok = rw all at ran;
+      issues = λ cs empty interns none. Runs-issue key value_key spelling adds copies one hash _ _ cs _ ran.0
+          empty (rw (all ∙ interns) at ran.2) none;
+      hashes = (
+        ran.0,
+        ran.1,
+        rw (← all) (Runs-hash key value_key spelling adds copies one hash _ _ c.loop-call.yielded _
+            ran.0 ran.2),
+      );
+      growth = (
+        ran.0,
+        ran.1,
+        λ keep. Runs-place key value_key spelling adds copies one hash _ _ c.loop-call.yielded
+            _ ran.0 (rw all keep) ran.2,
+      );
+      capacity = λ keep. Runs-roomier key value_key spelling adds copies one hash _ _ c.loop-call.yielded _
+          ran.0 (rw all keep) ran.2;
+      room = rw (← all) (Runs-room key value_key spelling adds hash copies _ _ c.loop-call.yielded _
+          ran.0 ran.2);
+      same_hash = c.loop-call.invariant.same_hash;
+      bytes = c.loop-call.invariant.bytes;
+      byte_room = λ qs interns few there enough. (c.loop-call.invariant.still qs interns few there enough).0;
+      growths = record {
+        g = so_far.0;
+        h = so_far.1;
+        growths = run;
+        list = λ keep. (all-growths g.T.Store.Store.takes g.Q.AddedTo.needs steps _ _ _ _ _ _ keep run).0;
+        few = λ keep. few-growths g.T.Store.Store.takes g.Q.AddedTo.needs steps (λ old next call r kept made.
+            call-size key value_key spelling adds copies one old next call r kept made) _ _ _ _ _ _ keep run;
+        bytes = λ keep. (all-growths g.T.Store.Store.takes g.Q.AddedTo.needs steps _ _ _ _ _ _ keep run).1;
+      };
+      err = tt;
+      same_bytes = tt;
+      no_cost = tt;
+      none_needed = search rules;
+    }

@@ -1,8 +1,0 @@
-pub mod LookUps
-pub mod InOrder
-pub mod Issue
-pub mod Growth
-pub mod Room
-pub mod Bytes
-pub mod Growths
-pub mod Alike
