@@ -227,6 +227,7 @@ fn unjoined<R: Tell>(rt: &R, part: &Part<'_>, fault: MapError) -> u8 {
                 format_args!("{maps}/{shard}/{number}.map: not a map to shard {shard} of {into}"),
             )
         }
+        MapError::NoCode(_) => report::failed(rt, part.folder, fault),
         MapError::TooMany => report::failed(rt, part.into, fault),
         MapError::Memory => report::out_of_memory(rt),
     }

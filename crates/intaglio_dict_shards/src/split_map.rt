@@ -120,7 +120,9 @@ fn not_its_map<R: Tell>(
     fault: MapIndexError,
 ) -> u8 {
     match fault {
-        MapIndexError::NoMap(_) => report::failed(rt, name, "no map"),
+        MapIndexError::NoMap(_) => {
+            report::failed(rt, name, format_args!("it names no map: split {folder} again"))
+        }
         MapIndexError::OtherFrom => {
             let source = from.map_or("", |it| it.name);
             report::failed(

@@ -8,7 +8,7 @@ use Rattle.intaglio_merge.specs.Shards.{joined_map, sum_of, AreWithin}
 use Rattle.intaglio_merge.proofs.Joined.{map-push, within-push}
 use Rattle.intaglio_dictionary.specs.Joining.{IsMapFault, IsShardMapFault}
 use Rattle.intaglio_dictionary.specs.declared.error.MapError.{MapError}
-use Rattle.intaglio_dictionary.specs.declared.error.MapError.TheVariants.{NoString, TooMany, Memory}
+use Rattle.intaglio_dictionary.specs.declared.error.MapError.TheVariants.{NoString, NoCode, TooMany, Memory}
 use Rattle.intaglio_dictionary.proofs.Listed.{next}
 
 module _ (ns : List ℕ) (i n : ℕ) (at : slice_get ns i ≡ Some n) where
@@ -77,6 +77,7 @@ module _ (counts : List ℕ) (maps : List (List ℕ)) (i count : ℕ) (ns : List
       let own-count : get_or counts i 0 ≡ count = get_or_from_slice_get counts i count 0 at-count in
       let own-map : get_or maps i [] ≡ ns = get_or_from_slice_get maps i ns [] at-map in
       rw (fault.0, own-count, own-map) (before, fault.1)
+  fault-of start (NoCode p) is before never = absurd never
   fault-of start TooMany is before (inl over) =
       inl (omega (arith, over, is, sum-next, sum-front counts (i + 1)))
   fault-of start TooMany is before (inr long) = inr (i, rw (get_or_from_slice_get maps i ns [] at-map) long)

@@ -107,6 +107,9 @@ pub enum MapError {
     /// The map of this shard has a number that no string of the shard has.
     #[error("the map of shard {0} has a number that is no symbol")]
     NoString(usize),
+    /// The map of a split has at this place, counted from 0, a number that no string of the shards has.
+    #[error("the map has at place {0} a number that is no symbol of the shards")]
+    NoCode(usize),
     /// The shards have 2^32 strings or more.
     #[error("too many strings")]
     TooMany,

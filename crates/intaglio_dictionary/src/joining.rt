@@ -45,7 +45,8 @@ pub fn join_maps(
 ///
 /// # Errors
 ///
-/// Those of [`join_maps`]; `TooMany` also if the part has 2^32 codes or more.
+/// Those of [`join_maps`]; `NoCode` for the first number of the part's map that no string of its shards has;
+/// `TooMany` also if the part has 2^32 codes or more.
 pub fn map_into_shards(
     alloc: Global,
     split: &CodeMap<'_>,
@@ -55,27 +56,33 @@ pub fn map_into_shards(
     requires { length maps.now ≡ length counts.now }
     ensures codes { IfOk result (λ new. new.items ≡ renumber (joined_map 0 counts.now maps.now) split.now) }
     ensures within { OnOk result (AreWithin counts.now maps.now) }
+    ensures there { OnOk result (All (λ k. k < length (joined_map 0 counts.now maps.now)) split.now) }
     ensures err { IfErr result (IsPartMapFault counts.now maps.now split.now) }
 {
     let joined = join_maps(alloc, maps, counts)?;
-    let codes = codes_in(alloc, split)?;
+    let codes = codes_in(alloc, split, joined.len())?;
     match renumbered(alloc, &joined, &codes) {
         Ok(new) => Ok(new),
         Err(_) => Err(MapError::Memory),
     }
 }
 
-// The codes of a map.
-fn codes_in(alloc: Global, map: &CodeMap<'_>) -> Result<Vec<Symbol>, MapError>
+// The codes of a map, all of them below a number.
+fn codes_in(alloc: Global, map: &CodeMap<'_>, count: usize) -> Result<Vec<Symbol>, MapError>
     ensures codes { IfOk result (λ codes. codes.items ≡ map.now) }
-    ensures err { IfErr result (IsSplitFault map.now) }
+    ensures there { OnOk result (All (λ k. k < count) map.now) }
+    ensures err { IfErr result (IsSplitFault count map.now) }
 {
     if map.len() > MOST {
         return Err(MapError::TooMany);
     }
     let mut codes = Vec::with_capacity(alloc, map.len())?;
     for place in 0..map.len() {
-        codes.push_reserved(Symbol::new(map.get(place as u32).unwrap()));
+        let code = map.get(place as u32).unwrap();
+        if code as usize >= count {
+            return Err(MapError::NoCode(place));
+        }
+        codes.push_reserved(Symbol::new(code));
     }
     Ok(codes)
 }
