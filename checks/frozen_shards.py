@@ -452,6 +452,12 @@ def other_maps(tool, folder, into):
     yield "after that", run([tool, *into]) == DONE
 
 
+def with_checksum(index, data):
+    """A map of a split, and its index with the map's checksum."""
+    head, words, *rest = index.split(b"\n")
+    return {"map": data, "map.index": b"\n".join([head, b" ".join([*words.split(b" ")[:4], checksum_of(data).encode()]), *rest])}
+
+
 def other_split_maps(tool, folder, into):
     """Yields what `renumber` says of a map of a split that was changed and whose numbers are those of strings, of that of another
     split, and of an index of it that is damaged or isn't there."""
@@ -462,12 +468,15 @@ def other_split_maps(tool, folder, into):
         ("with another first number", [(codes[0] + 1) % len(codes), *codes[1:]]), ("of zeros", [0] * len(codes)),
         ("with two numbers exchanged", [codes[1], codes[0], *codes[2:]]),
     ):
-        data = packed(numbers)
-        put(of_part, {"map": data})
+        put(of_part, {"map": packed(numbers)})
         yield f"a map of a split {what}", refused(tool, into, b"", f"{file}: {NOT_ITS_MAP}", folder)
-        line = b" ".join([*words.split(b" ")[:4], checksum_of(data).encode()])
-        put(of_part, {"map.index": was["map.index"].replace(words, line)})
+        put(of_part, with_checksum(was["map.index"], packed(numbers)))
         yield f"a map of a split {what}, with its checksum", run([tool, *into]) == DONE
+        put(of_part, was)
+    for place in 0, len(codes) - 1:
+        put(of_part, with_checksum(was["map.index"], packed([*codes[:place], len(codes), *codes[place + 1 :]])))
+        told = f"{of_part}: the map has at place {place} a number that is no symbol of the shards"
+        yield f"a map of a split with no string at {place}", refused(tool, into, b"", told, folder)
         put(of_part, was)
     others = {it: read(f"{folder}/1/{it}") for it in was}
     put(of_part, {"map": others["map"]})
@@ -476,12 +485,13 @@ def other_split_maps(tool, folder, into):
     told = f"{index}: the map leads to other shards than those of {of_part}"
     yield "the map of another split, with its index", refused(tool, into, b"", told, folder)
     put(of_part, was)
+    of_none = was["map.index"].replace(head, head[:-1] + b"0").replace(words + b"\n", b"")
     for what, data, told in (
         ("empty", b"", "line 1 is not that of an index of maps"),
         ("cut", was["map.index"][:-1], "line 3 is not that of an index of maps"),
         ("longer", was["map.index"] + b"\n", "line 4 is not that of an index of maps"),
         ("without a checksum", was["map.index"].replace(words, words.rsplit(b" ", 2)[0]), f"line 2 {NO_CHECKSUM}"),
-        ("of no map", was["map.index"].replace(head, head[:-1] + b"0").replace(words + b"\n", b""), "no map"),
+        ("of no map", of_none, f"it names no map: split {of_part} again"),
     ):
         put(of_part, {"map.index": data})
         yield f"an index of a split that is {what}", refused(tool, into, b"", f"{index}: {told}", folder)

@@ -270,7 +270,7 @@ INTAGLIO_MUST_USE intaglio_code intaglio_check_all(const intaglio_table *table, 
 
 /* Copies the bytes of many symbols to the buffer, one after the other, and stores the end of each, in the form in which a batch
  * is passed. `ends_count` must equal `count`. Errors: NO_TABLE, BAD_ENDS; nothing is then written. NO_SYMBOL, NO_SPACE; the
- * contents of `buffer` and `ends` are then unspecified. */
+ * strings before the one that isn't there or doesn't fit are then copied, with their ends, and nothing behind them is written. */
 INTAGLIO_MUST_USE intaglio_code intaglio_copy_all(const intaglio_table *table, const uint32_t *symbols, size_t count, uint8_t *buffer, size_t size, size_t *ends, size_t ends_count);
 
 /* A frozen table is a symbol table as one block of bytes, such as a mapped file: docs/FROZEN.md has the format. It has no handle, and

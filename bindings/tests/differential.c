@@ -473,25 +473,30 @@ static void copy_all(struct table *t) {
         symbols[i] = t->len != 0 && !one_of(60) ? (uint32_t)below(t->len) : random_symbol(t);
         if (symbols[i] < t->len) total += t->entries[symbols[i]].string.len;
     }
-    size_t size = one_of(8) ? below(total + 1) : total + below(3), at = 0;
+    size_t size = one_of(8) ? below(total + 1) : total + below(3), at = 0, written = 0;
     struct bytes buffer = {(uint8_t *)block(size), size};
     size_t *ends = (size_t *)block(ends_count * sizeof *ends);
+    for (size_t i = 0; i < size; i++) buffer.at[i] = 0xa5;
+    for (size_t i = 0; i < ends_count; i++) ends[i] = SIZE_MAX;
     if (!t->live) wanted = INTAGLIO_NO_TABLE;
     else if (ends_count != count) wanted = INTAGLIO_BAD_ENDS;
-    for (size_t i = 0; wanted == INTAGLIO_DONE && i < count; i++) {
-        if (symbols[i] >= t->len) wanted = INTAGLIO_NO_SYMBOL;
-        else if ((at += t->entries[symbols[i]].string.len) > size) wanted = INTAGLIO_NO_SPACE;
+    while (wanted == INTAGLIO_DONE && written < count) {
+        if (symbols[written] >= t->len) wanted = INTAGLIO_NO_SYMBOL;
+        else if (t->entries[symbols[written]].string.len > size - at) wanted = INTAGLIO_NO_SPACE;
+        else at += t->entries[symbols[written++]].string.len;
     }
     call = "copy_all";
     IN_LIBRARY(code = intaglio_copy_all(&t->handle, count == 0 ? NULL : symbols, count, size == 0 ? NULL : buffer.at, size, ends_count == 0 ? NULL : ends, ends_count));
     WANT(failed == 0);
     same_code(t, code, wanted);
     at = 0;
-    for (size_t i = 0; code == INTAGLIO_DONE && i < count; i++) {
+    for (size_t i = 0; i < written; i++) {
         const struct bytes *string = &t->entries[symbols[i]].string;
         WANT(ends[i] == at + string->len && (string->len == 0 || memcmp(buffer.at + at, string->at, string->len) == 0));
         at = ends[i];
     }
+    for (size_t i = written; i < ends_count; i++) WANT(ends[i] == SIZE_MAX);
+    for (size_t i = at; i < size; i++) WANT(buffer.at[i] == 0xa5);
     free(ends);
     free(buffer.at);
     free(symbols);

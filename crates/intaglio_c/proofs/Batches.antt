@@ -1,6 +1,7 @@
 -- Batches, one string at a time.
-use Rattle.intaglio_c.proofs.Names.{◌≡◌, ℕ, zero, suc, ◌+◌, ◌-◌, ◌<◌, ◌≤◌, Bool, true, false, cond, inl, inr, List, [], ◌∷◌, ◌++◌, length, map, take, drop, refl, sym, ap, subst, ◌∙◌, le_refl, arith, length-append, append_assoc, append-nil, Option, Some, None, Result, Ok, Err, is_some, unwrap_or, slice_get, option_map, option_and_then, concat, get_or, set, take-append-le, take_all, take_more, take_more_set, take_at, take-append-drop, drop_more, drop_at, map_push, drop-drop, length-drop, slice_get_within, IfOk-at_ok, IfErr-at_err, IsAppended, issued, interned, interned_all, issue_from, State, first, AreCopied, AreStored, ends_from, AreInterned, IsBegun, IsRolledBack, InternsOr, fault, first_fault, key, Seen, look_up, position, unless, IsChangedBy, Interns, InternsBy, Kind, Refusal}
+use Rattle.intaglio_c.proofs.Names.{◌≡◌, ℕ, zero, suc, ◌+◌, ◌-◌, ◌<◌, ◌≤◌, Bool, true, false, cond, inl, inr, List, [], ◌∷◌, ◌++◌, length, map, take, drop, refl, sym, ap, subst, ◌∙◌, le_refl, arith, length-append, append_assoc, append-nil, Option, Some, None, Result, Ok, Err, is_some, unwrap_or, slice_get, option_map, option_and_then, concat, get_or, set, take-append-le, take_all, take_more, take_more_set, take_at, take-append-drop, drop_more, drop_at, map_push, drop-drop, length-drop, slice_get_within, IfOk-at_ok, IfErr-at_err, IsAppended, issued, interned, interned_all, issue_from, State, first, AreCopied, AreFirstCopied, AreStored, ends_from, AreInterned, IsBegun, IsRolledBack, InternsOr, fault, first_fault, key, Seen, look_up, position, unless, IsChangedBy, Interns, InternsBy, Kind, Refusal}
 use Rattle.std.proofs.Math.Seq.{take-length}
+use Rattle.std.proofs.lemmas.List.{drop-set-lt}
 use Rattle.std.proofs.lemmas.List.Folds.{concat-append}
 use borrow.Rule.Slice.PartMut.{put_mid}
 use Rattle.intaglio_interner.proofs.Laws.{interned_all-found}
@@ -224,25 +225,30 @@ module _ (contents : List (List ℕ)) (old : List ℕ) where
   concat_more done string =
       concat-append done (string ∷ []) ∙ ap (λ (x : List ℕ). concat done ++ x) (append-nil string)
 
-  pub too_short : (symbols new ends : List ℕ) (start i : ℕ) (string : List ℕ) → i < length symbols →
-      IsCopied (take i symbols) new start ends → slice_get contents (get_or symbols i 0) ≡ Some string
-      → length new - start < length string
-      → (n : ℕ) × (strings : List (List ℕ)) × AreStored contents (take n symbols) strings
-      × (length old < length (concat strings))
-  too_short symbols new ends start i string inside at there less = (
-    i + 1,
-    at.done ++ string ∷ [],
-    stored_more symbols new ends start i string inside at there,
-    omega (
-      arith,
-      less,
-      size _ _ _ _ at,
-      at.place,
-      at.within,
-      ap length (concat_more at.done string),
-      length-append (concat at.done) string,
-    ),
-  )
+  are_copied : (symbols new ends : List ℕ) (start : ℕ) → (at : IsCopied symbols new start ends) →
+      AreCopied at.done old new ends
+  are_copied symbols new ends start at = record {
+    within = omega (arith, at.place, at.within);
+    buffer = at.buffer ∙ ap (λ (n : ℕ). concat at.done ++ drop n old) at.place;
+    ends = at.written;
+  }
+
+  -- a copy that ends before the symbol i
+  pub first_copied : (symbols new ends places : List ℕ) (start i : ℕ) →
+      IsCopied (take i symbols) new start (take i ends) → drop i ends ≡ drop i places
+      → AreFirstCopied contents symbols old places new ends i
+  first_copied symbols new ends places start i at rest = record {
+    strings = at.done;
+    stored = at.stored;
+    copied = are_copied _ _ _ _ at;
+    rest = rest;
+  }
+
+  -- a string that is longer than the rest of the buffer
+  pub too_short : (symbols new ends : List ℕ) (start : ℕ) (string : List ℕ) →
+      (at : IsCopied symbols new start ends) → length new - start < length string
+      → length old < length (concat at.done) + length string
+  too_short symbols new ends start string at less = omega (arith, less, size _ _ _ _ at, at.place, at.within)
 
   pub copied_more : (symbols new ends written : List ℕ) (start i : ℕ) (string : List ℕ) → i < length symbols →
       i < length ends → IsCopied (take i symbols) new start (take i ends) →
@@ -278,11 +284,11 @@ module _ (contents : List (List ℕ)) (old : List ℕ) where
   all_copied symbols new ends start i end places at = (
     at.done,
     ap (map (slice_get contents)) (sym (take_all i symbols end)) ∙ at.stored,
-    record {
-      within = omega (arith, at.place, at.within);
-      buffer = at.buffer
-          ∙ ap (λ (n : ℕ). concat at.done ++ drop n old) at.place;
-      ends =
-          sym (take_all i ends (omega (arith, end, places))) ∙ at.written;
-    },
+    subst (AreCopied at.done old new) (take_all i ends (omega (arith, end, places))) (are_copied _ _ _ _ at),
   )
+
+-- what isn't written yet stays behind one end more
+pub rest_next : (ends places : List ℕ) (i end : ℕ) → drop i ends ≡ drop i places →
+    drop (i + 1) (set ends i end) ≡ drop (i + 1) places
+rest_next ends places i end rest = drop-set-lt (i + 1) ends i end (omega arith) ∙ sym (drop-drop 1 i ends)
+    ∙ ap (drop 1) rest ∙ drop-drop 1 i places

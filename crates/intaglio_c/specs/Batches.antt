@@ -124,16 +124,29 @@ pub record AreCopied (strings : List (List ℕ)) (old new written : List ℕ) : 
   pub buffer : new ≡ concat strings ++ drop (length (concat strings)) old
   pub ends : written ≡ ends_from 0 strings
 
--- the strings of symbols are copied; or one has no string; or the strings of the
--- first ones are longer than the buffer
-abbrev pub CopiesEach : List (List ℕ) → List ℕ → List ℕ → Result (Unit {0}) Refusal → List ℕ → List ℕ → Type 0
-CopiesEach contents symbols buffer (Ok _) buffer' ends =
+-- the strings of the first n symbols are copied, and nothing behind them is written
+pub record AreFirstCopied (contents : List (List ℕ)) (symbols buffer places buffer' ends : List ℕ)
+    (n : ℕ) : Type 0 where
+  pub strings : List (List ℕ)
+  pub stored : AreStored contents (take n symbols) strings
+  pub copied : AreCopied strings buffer buffer' (take n ends)
+  pub rest : drop n ends ≡ drop n places
+
+-- the strings of symbols are copied; or only those before one that has no string,
+-- or before one whose string is too long for the rest of the buffer
+abbrev pub CopiesEach : List (List ℕ) → List ℕ → List ℕ → List ℕ → Result (Unit {0}) Refusal →
+    List ℕ → List ℕ → Type 0
+CopiesEach contents symbols buffer places (Ok _) buffer' ends =
     (strings : List (List ℕ)) × AreStored contents symbols strings × AreCopied strings buffer buffer' ends
-CopiesEach contents symbols buffer (Err NoSymbol) buffer' ends =
-    (i : ℕ) × (i < length symbols) × (slice_get contents (get_or symbols i 0) ≡ None)
-CopiesEach contents symbols buffer (Err NoSpace) buffer' ends = (n : ℕ) × (strings : List (List ℕ))
-    × AreStored contents (take n symbols) strings × (length buffer < length (concat strings))
-CopiesEach contents symbols buffer (Err _) buffer' ends = ⊥
+CopiesEach contents symbols buffer places (Err NoSymbol) buffer' ends =
+    (n : ℕ) × (n < length symbols) × (slice_get contents (get_or symbols n 0) ≡ None)
+    × AreFirstCopied contents symbols buffer places buffer' ends n
+CopiesEach contents symbols buffer places (Err NoSpace) buffer' ends =
+    (n : ℕ) × (string : List ℕ) × (n < length symbols)
+    × (slice_get contents (get_or symbols n 0) ≡ Some string)
+    × (first : AreFirstCopied contents symbols buffer places buffer' ends n)
+    × (length buffer < length (concat first.strings) + length string)
+CopiesEach contents symbols buffer places (Err _) buffer' ends = ⊥
 
 -- the same, with a place for the end of each
 abbrev pub CopiesAll : List ℕ → List ℕ → List ℕ → List ℕ → List ℕ → Handle →
@@ -141,5 +154,5 @@ abbrev pub CopiesAll : List ℕ → List ℕ → List ℕ → List ℕ → List 
 CopiesAll symbols buffer places buffer' ends handle result =
     MatchOption (table_of handle) ((result ≡ Err NoTable) × (buffer' ≡ buffer) × (ends ≡ places))
     (λ t. Either (length places == length symbols)
-    (CopiesEach t.state.contents symbols buffer result buffer' ends) ((result ≡ Err BadEnds)
+    (CopiesEach t.state.contents symbols buffer places result buffer' ends) ((result ≡ Err BadEnds)
     × (buffer' ≡ buffer) × (ends ≡ places)))

@@ -6,6 +6,7 @@ ghost use Rattle.intaglio_dictionary.specs.Columns.{code_bytes, code_of, code_pi
 ghost use Rattle.intaglio_dictionary.specs.Translation.{StartsWith, last_piece};
 
 use intaglio_column_file::CodeList;
+pub use intaglio_column_file::MISSING;
 use intaglio_lines::write::{Output, put};
 use intaglio_symbol::Symbol;
 use std::io;
@@ -14,9 +15,6 @@ use std::marker::Model;
 
 /// How many bytes a code has.
 pub const CODE: usize = 4;
-
-/// The code of a line that a dictionary doesn't have. No frozen table has that many strings.
-pub const MISSING: u32 = u32::MAX;
 
 /// A map from the codes of one dictionary to those of another, in the bytes of a file: the new code of each
 /// old one, in order. A contract sees the new codes.

@@ -80,7 +80,8 @@ impl AnyTable {
         ends: &mut [usize],
     ) -> Result<(), Refusal>
         requires places { length ends.old ≡ length symbols.now }
-        ensures copied { CopiesEach (contents_of self.now) symbols.now buffer.old result buffer.new ends.new }
+        ensures copied { CopiesEach
+            (contents_of self.now) symbols.now buffer.old ends.old result buffer.new ends.new }
     {
         let mut start = 0;
         for (i, &symbol) in symbols.iter().enumerate() {

@@ -167,7 +167,9 @@ fn copy_all(
 }
 
 /// Copies the bytes of many symbols to the start of a buffer, and writes the end of each.
-/// Fails with `NoTable` and `BadEnds`, and then nothing is written; with `NoSymbol` and `NoSpace`.
+/// Fails with `NoTable` and `BadEnds`, and then nothing is written. Fails with `NoSymbol` and `NoSpace`, and
+/// then the strings before the one that isn't there or doesn't fit are copied, and nothing behind them is
+/// written.
 #[unsafe(no_mangle)]
 pub extern "C" fn intaglio_copy_all(
     handle: &mut Handle,

@@ -1,6 +1,6 @@
 -- Each turn copies one string more.
 use Rattle.intaglio_c.proofs.Names.{rules, sym, ap, ◌∙◌, arith, slice_get, seen}
-use Rattle.intaglio_c.proofs.Batches.{all_copied, copied_more, too_short}
+use Rattle.intaglio_c.proofs.Batches.{all_copied, copied_more, first_copied, rest_next, too_short}
 use Rattle.intaglio_c.proofs.any_table.AnyTable.copy_each.Goals as goal
 
 pub returns-in_default : goal.returns-in_default
@@ -11,16 +11,22 @@ returns-in_default c =
         c.loop-i-test.true,
         ap (slice_get (seen c.args.self.now).state.contents) (sym c.new.ensures)
             ∙ sym c.in_default.ensures.bytes,
+        first_copied _ _ c.args.symbols.now _ _ c.args.ends.old _ _ c.loop-i.invariant.copied
+            c.loop-i.invariant.rest,
       );
     }
 
 pub returns-then-buffer-start : goal.returns-then-buffer-start
 returns-then-buffer-start c = record {
-  copied =
-      too_short _ _ c.args.symbols.now _ _ c.loop-i.start c.loop-i.i c.in-Some.bytes.now c.loop-i-test.true
-      c.loop-i.invariant.copied
-      (ap (slice_get (seen c.args.self.now).state.contents) (sym c.new.ensures) ∙ sym c.in-Some.ensures.bytes)
-      c.if-buffer-start.true;
+  copied = (
+    c.loop-i.i,
+    c.in-Some.bytes.now,
+    c.loop-i-test.true,
+    ap (slice_get (seen c.args.self.now).state.contents) (sym c.new.ensures) ∙ sym c.in-Some.ensures.bytes,
+    first_copied _ _ c.args.symbols.now _ _ c.args.ends.old _ _ c.loop-i.invariant.copied
+        c.loop-i.invariant.rest,
+    too_short _ _ _ _ _ _ _ c.loop-i.invariant.copied c.if-buffer-start.true,
+  );
 }
 
 pub loop-i-preserved : goal.loop-i-preserved
@@ -31,6 +37,7 @@ loop-i-preserved c = record {
       c.loop-i.invariant.copied
       (ap (slice_get (seen c.args.self.now).state.contents) (sym c.new.ensures) ∙ sym c.in-Some.ensures.bytes)
       (omega (arith, c.if-buffer-start.false, c.loop-i.auto.buffer)) c.copy_from_slice.ensures.after;
+  rest = rest_next c.loop-i.ends c.args.ends.old c.loop-i.i _ c.loop-i.invariant.rest;
 }
 
 pub returns : goal.returns

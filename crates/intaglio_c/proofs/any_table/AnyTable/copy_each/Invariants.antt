@@ -1,4 +1,4 @@
-use Rattle.intaglio_c.proofs.Names.{◌≡◌, length, take, seen}
+use Rattle.intaglio_c.proofs.Names.{◌≡◌, drop, length, take, seen}
 use Rattle.intaglio_c.proofs.Batches.{IsCopied}
 use Rattle.intaglio_c.proofs.any_table.AnyTable.copy_each.Given as goal
 
@@ -7,4 +7,5 @@ invariant-loop-i l = record {
   places : length l.ends ≡ length l.symbols;
   copied : IsCopied (seen l.self).state.contents l.initial.buffer (take l.i l.symbols) l.buffer l.start
       (take l.i l.ends);
+  rest : drop l.i l.ends ≡ drop l.i l.initial.ends;
 }
