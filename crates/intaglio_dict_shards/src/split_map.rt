@@ -121,7 +121,11 @@ fn not_its_map<R: Tell>(
 ) -> u8 {
     match fault {
         MapIndexError::NoMap(_) => {
-            report::failed(rt, name, format_args!("it names no map: split {folder} again"))
+            report::failed(
+                rt,
+                name,
+                format_args!("it names no map: split {folder} again"),
+            )
         }
         MapIndexError::OtherFrom => {
             let source = from.map_or("", |it| it.name);

@@ -87,6 +87,14 @@ fn the_first_string_that_is_equal_to_an_earlier_one_is_named(rt: HostRuntime) {
         .collect(rt.alloc())
         .expect(&rt, "memory");
     let error = FreezeError::Equal(1, 3);
-    same(&rt, freeze(rt.alloc(), &words, Kind::Bytes, 0, 0).err(), Some(error));
-    same(&rt, freeze_with_default_keys(rt.alloc(), &words, Kind::Text).err(), Some(error));
+    same(
+        &rt,
+        freeze(rt.alloc(), &words, Kind::Bytes, 0, 0).err(),
+        Some(error),
+    );
+    same(
+        &rt,
+        freeze_with_default_keys(rt.alloc(), &words, Kind::Text).err(),
+        Some(error),
+    );
 }
