@@ -27,6 +27,8 @@ VERSIONS = ("rattle-kit-13b logic dac8208d650f15bf", "rattle-kit-13f logic dac82
 BESIDE = "INTAGLIO_BESIDE"
 # How the names of the folders begin in which edits are tried.
 SCRATCH = "mutants-"
+# What `fmt --check` says of a file.
+NOT_LAID_OUT = re.compile(r"^(.*) is not in the layout$", re.M)
 
 # What `rt ci` says of a crate that it has proved, now or in an earlier run, and at its end where all went well.
 PROVED_CRATE = re.compile(r"^rt: (\w+) (?:proved$|is kept: )", re.M)
@@ -106,6 +108,22 @@ def over_kept(verdict):
 def crates(top=TOP):
     """The crates of a repository, each after those that it stands on."""
     return load().rtlib.crates_below(str(top))
+
+
+def wrong_layouts():
+    """Of each file that isn't in the layout of `rt fmt`, that it isn't. (`rt ci` says so only after it has proved the crate.)"""
+    rt = load().rtlib
+
+    def files_of(crate):
+        with tempfile.TemporaryFile("w+", errors="replace") as wrote:
+            rt.fmt(crate.folder, "--check", wrote, diff=subprocess.DEVNULL)
+            wrote.seek(0)
+            return NOT_LAID_OUT.findall(wrote.read())
+
+    every = crates()
+    with ThreadPoolExecutor(processors()) as pool:
+        for crate, files in zip(every, pool.map(files_of, every)):
+            yield from (f"{os.path.relpath(it, TOP)}: not in the layout: run rt fmt in crates/{crate.name}" for it in files)
 
 
 def is_built(library):

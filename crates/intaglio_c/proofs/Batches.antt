@@ -225,7 +225,8 @@ module _ (contents : List (List ℕ)) (old : List ℕ) where
   concat_more done string =
       concat-append done (string ∷ []) ∙ ap (λ (x : List ℕ). concat done ++ x) (append-nil string)
 
-  are_copied : (symbols new ends : List ℕ) (start : ℕ) → (at : IsCopied symbols new start ends) →
+  -- what is copied so far
+  pub are_copied : (symbols new ends : List ℕ) (start : ℕ) → (at : IsCopied symbols new start ends) →
       AreCopied at.done old new ends
   are_copied symbols new ends start at = record {
     within = omega (arith, at.place, at.within);
@@ -234,7 +235,7 @@ module _ (contents : List (List ℕ)) (old : List ℕ) where
   }
 
   -- a copy that ends before the symbol i
-  pub first_copied : (symbols new ends places : List ℕ) (start i : ℕ) →
+  abbrev pub first_copied : (symbols new ends places : List ℕ) (start i : ℕ) →
       IsCopied (take i symbols) new start (take i ends) → drop i ends ≡ drop i places
       → AreFirstCopied contents symbols old places new ends i
   first_copied symbols new ends places start i at rest = record {
@@ -248,7 +249,8 @@ module _ (contents : List (List ℕ)) (old : List ℕ) where
   pub too_short : (symbols new ends : List ℕ) (start : ℕ) (string : List ℕ) →
       (at : IsCopied symbols new start ends) → length new - start < length string
       → length old < length (concat at.done) + length string
-  too_short symbols new ends start string at less = omega (arith, less, size _ _ _ _ at, at.place, at.within)
+  too_short symbols new ends start string at less =
+      omega (arith, less, size _ _ _ _ at, at.place, at.within)
 
   pub copied_more : (symbols new ends written : List ℕ) (start i : ℕ) (string : List ℕ) → i < length symbols →
       i < length ends → IsCopied (take i symbols) new start (take i ends) →

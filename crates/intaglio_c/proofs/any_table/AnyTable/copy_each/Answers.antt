@@ -11,7 +11,7 @@ returns-in_default c =
         c.loop-i-test.true,
         ap (slice_get (seen c.args.self.now).state.contents) (sym c.new.ensures)
             ∙ sym c.in_default.ensures.bytes,
-        first_copied _ _ c.args.symbols.now _ _ c.args.ends.old _ _ c.loop-i.invariant.copied
+        first_copied _ _ c.args.symbols.now _ _ c.args.ends.now _ _ c.loop-i.invariant.copied
             c.loop-i.invariant.rest,
       );
     }
@@ -23,7 +23,7 @@ returns-then-buffer-start c = record {
     c.in-Some.bytes.now,
     c.loop-i-test.true,
     ap (slice_get (seen c.args.self.now).state.contents) (sym c.new.ensures) ∙ sym c.in-Some.ensures.bytes,
-    first_copied _ _ c.args.symbols.now _ _ c.args.ends.old _ _ c.loop-i.invariant.copied
+    first_copied _ _ c.args.symbols.now _ _ c.args.ends.now _ _ c.loop-i.invariant.copied
         c.loop-i.invariant.rest,
     too_short _ _ _ _ _ _ _ c.loop-i.invariant.copied c.if-buffer-start.true,
   );
@@ -37,7 +37,7 @@ loop-i-preserved c = record {
       c.loop-i.invariant.copied
       (ap (slice_get (seen c.args.self.now).state.contents) (sym c.new.ensures) ∙ sym c.in-Some.ensures.bytes)
       (omega (arith, c.if-buffer-start.false, c.loop-i.auto.buffer)) c.copy_from_slice.ensures.after;
-  rest = rest_next c.loop-i.ends c.args.ends.old c.loop-i.i _ c.loop-i.invariant.rest;
+  rest = rest_next c.loop-i.ends c.args.ends.now c.loop-i.i _ c.loop-i.invariant.rest;
 }
 
 pub returns : goal.returns
