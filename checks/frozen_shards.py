@@ -116,11 +116,16 @@ def maps_of(numbers, tables, table):
     return files | {"index": map_index_of(maps, [id_of(it) for it in tables], id_of(table))}
 
 
+def with_checksum_of(data, index, part):
+    """The index of maps with the checksum of another map in the place of that of the map with this number."""
+    lines = index.split(b"\n")
+    lines[part + 1] = b" ".join([*lines[part + 1].split(b" ")[:4], checksum_of(data).encode()])
+    return b"\n".join(lines)
+
+
 def put_map(folder, part, data):
     """Puts a map in the place of another one, and its checksum in the index."""
-    lines = read(f"{folder}/index").split(b"\n")
-    lines[part + 1] = b" ".join([*lines[part + 1].split(b" ")[:4], checksum_of(data).encode()])
-    put(folder, {f"{part}.map": data, "index": b"\n".join(lines)})
+    put(folder, {f"{part}.map": data, "index": with_checksum_of(data, read(f"{folder}/index"), part)})
 
 
 def strings_in(folder):
@@ -452,12 +457,6 @@ def other_maps(tool, folder, into):
     yield "after that", run([tool, *into]) == DONE
 
 
-def with_checksum(index, data):
-    """A map of a split, and its index with the map's checksum."""
-    head, words, *rest = index.split(b"\n")
-    return {"map": data, "map.index": b"\n".join([head, b" ".join([*words.split(b" ")[:4], checksum_of(data).encode()]), *rest])}
-
-
 def other_split_maps(tool, folder, into):
     """Yields what `renumber` says of a map of a split that was changed and whose numbers are those of strings, of that of another
     split, and of an index of it that is damaged or isn't there."""
@@ -468,15 +467,17 @@ def other_split_maps(tool, folder, into):
         ("with another first number", [(codes[0] + 1) % len(codes), *codes[1:]]), ("of zeros", [0] * len(codes)),
         ("with two numbers exchanged", [codes[1], codes[0], *codes[2:]]),
     ):
-        put(of_part, {"map": packed(numbers)})
+        data = packed(numbers)
+        put(of_part, {"map": data})
         yield f"a map of a split {what}", refused(tool, into, b"", f"{file}: {NOT_ITS_MAP}", folder)
-        put(of_part, with_checksum(was["map.index"], packed(numbers)))
+        put(of_part, {"map.index": with_checksum_of(data, was["map.index"], 0)})
         yield f"a map of a split {what}, with its checksum", run([tool, *into]) == DONE
         put(of_part, was)
     for place in 0, len(codes) - 1:
-        put(of_part, with_checksum(was["map.index"], packed([*codes[:place], len(codes), *codes[place + 1 :]])))
-        told = f"{of_part}: the map has at place {place} a number that is no symbol of the shards"
-        yield f"a map of a split with no string at {place}", refused(tool, into, b"", told, folder)
+        data = packed([*codes[:place], len(codes), *codes[place + 1 :]])
+        put(of_part, {"map": data, "map.index": with_checksum_of(data, was["map.index"], 0)})
+        told = f"{file}: symbol {place} leads to no string of the shards: split {of_part} again"
+        yield f"a map of a split with no string for symbol {place}", refused(tool, into, b"", told, folder)
         put(of_part, was)
     others = {it: read(f"{folder}/1/{it}") for it in was}
     put(of_part, {"map": others["map"]})

@@ -111,7 +111,8 @@ def crates(top=TOP):
 
 
 def wrong_layouts():
-    """Of each file that isn't in the layout of `rt fmt`, that it isn't. (`rt ci` says so only after it has proved the crate.)"""
+    """Of each file that isn't in the layout of `rt fmt`, that it isn't. (`rt ci` says so only when it comes to the crate, after
+    those below it.)"""
     rt = load().rtlib
 
     def files_of(crate):

@@ -7,7 +7,7 @@ use borrow.Rule.Slice.PartMut.{put_mid}
 use Rattle.intaglio_interner.proofs.Laws.{interned_all-found}
 use Rattle.intaglio_interner.proofs.Held.{interned_all-append, interned_all-longer, issue_from-append}
 use Rattle.intaglio_c.proofs.Faults.{one-more}
-use Rattle.intaglio_c.proofs.Pieces.{drop_there, take_there}
+use Rattle.intaglio_frozen.proofs.HashedAhead.{drop_there, take_there}
 use Rattle.intaglio_c.specs.declared.refusal.Refusal.TheVariants as refusal
 
 -- the capacity after one interning

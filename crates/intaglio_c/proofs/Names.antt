@@ -12,7 +12,8 @@ pub use Rattle.intaglio_hash.specs.declared.state.KeyedState.{KeyedState}
 pub use Rattle.intaglio_path.specs.Components.{components}
 pub use Rattle.intaglio_path.specs.PathContent.{path_content_bytes}
 pub use Rattle.intaglio_symbol.specs.declared.error.StaleMark.{StaleMark}
-pub use Rattle.intaglio_c.specs.Batches.{AreFirst, Either, are_ends, is_batch, pieces, AreCopied, AreFirstCopied, AreStored, ends_from, AreInterned, IsBegun, IsRolledBack, InternsOr}
+pub use Rattle.intaglio_frozen.specs.Ahead.{AreFirst}
+pub use Rattle.intaglio_c.specs.Batches.{Either, are_ends, is_batch, pieces, AreCopied, AreFirstCopied, AreStored, ends_from, AreInterned, IsBegun, IsRolledBack, InternsOr}
 pub use Rattle.intaglio_c.specs.Kinds.{IsHash, broken, copies_static, fault, first_fault, has_key, key, earlier, utf8_fault, zero_fault, zero_fault_at}
 pub use Rattle.intaglio_c.specs.Seen.{IsFaultless, fault_in, seen, Seen, look_up, position, unless, IsChangedBy, packed_bytes, new_table, as_bytes, seen_of}
 pub use Rattle.intaglio_c.specs.Steps.{Interns, InternsBy, InternsNew}

@@ -1,15 +1,6 @@
 -- The strings of a list, and of a batch, by their position.
 use Rattle.intaglio_c.proofs.Names.{◌≡◌, ℕ, zero, suc, ◌+◌, ◌-◌, ◌<◌, ◌≤◌, Bool, true, false, List, [], ◌∷◌, ◌++◌, length, take, drop, refl, sym, ap, ◌∙◌, arith, if◌then◌else◌, nat_lt, Some, slice_get, ◌==◌, get_or, eqb-true, ltb-false, drop_more, take_more, get_or_from_slice_get, slice_get_within, are_ends, is_batch, pieces}
 
-module _ {X : Type 0} (xs : List X) (i : ℕ) (x : X) (there : slice_get xs i ≡ Some x) where
-  pub drop_there : drop i xs ≡ x ∷ drop (i + 1) xs
-  drop_there = drop_more xs i x (slice_get_within xs i x there)
-      ∙ ap (λ y. y ∷ drop (i + 1) xs) (get_or_from_slice_get xs i x x there)
-
-  pub take_there : take (i + 1) xs ≡ take i xs ++ x ∷ []
-  take_there = take_more xs i x (slice_get_within xs i x there)
-      ∙ ap (λ y. take i xs ++ y ∷ []) (get_or_from_slice_get xs i x x there)
-
 -- the strings of a batch
 pub pieces_length : (bytes : List ℕ) (start : ℕ) (ends : List ℕ) →
     length (pieces bytes start ends) ≡ length ends

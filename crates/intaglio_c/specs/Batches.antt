@@ -1,6 +1,7 @@
 -- Batches, as C passes them, many strings in one list of bytes with the end of
 -- each; and what becomes of them.
 use Rattle.std.specs.Prelude.{◌≡◌, ℕ, ◌+◌, ◌-◌, ◌^◌, ◌<◌, ◌≤◌, ◌==◌, Bool, true, false, if◌then◌else◌, nat_lt, List, [], ◌∷◌, ◌++◌, length, map, take, drop, slice_get, get_or, Option, Some, None, MatchOption, Result, Ok, Err}
+use Rattle.intaglio_frozen.specs.Ahead.{AreFirst}
 use Rattle.intaglio_c.specs.Words.{State, Refusal, NoTable, BadEnds, NoSymbol, NoSpace}
 use Rattle.std.specs.List.{concat}
 use Rattle.intaglio_interner.specs.Issue.{issue_from, interned_all}
@@ -31,13 +32,7 @@ are_ends size start (end ∷ ends) = if nat_lt end start then false else if nat_
 abbrev pub is_batch : List ℕ → List ℕ → ℕ → Bool
 is_batch bytes ends places = if places == length ends then are_ends (length bytes) 0 ends else false
 
--- P holds of each string and the number at its place, as far as both lists go
-abbrev pub AreFirst : (List ℕ → ℕ → Type 0) → List (List ℕ) → List ℕ → Type 0
-AreFirst P strings [] = Unit {0}
-AreFirst P [] (n ∷ ns) = Unit {0}
-AreFirst P (string ∷ strings) (n ∷ ns) = P string n × AreFirst P strings ns
-
--- the same, and there is a number for each string
+-- P holds of each string and the number at its place, and there is a number for each string
 abbrev pub AreAll : (List ℕ → ℕ → Type 0) → List (List ℕ) → List ℕ → Type 0
 AreAll P strings ns = (length ns ≡ length strings) × AreFirst P strings ns
 

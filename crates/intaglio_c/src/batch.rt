@@ -3,6 +3,7 @@ ghost use Rattle.std.specs.Prelude.{◌≡◌, ◌-◌, ◌≤◌, ◌∷◌, tr
 ghost use Rattle.intaglio_c.specs.Batches.{are_ends, is_batch, pieces};
 
 use intaglio_frozen::StringList;
+use intaglio_packed::part;
 
 // Whether the ends don't decrease, and stay within this many bytes.
 fn are_ends(size: usize, ends: &[usize]) -> bool
@@ -48,16 +49,6 @@ fn start_of(ends: &[usize], i: usize) -> usize
         return 0;
     }
     ends[i - 1]
-}
-
-// The bytes between two positions.
-#[inline(always)]
-fn part(bytes: &[u8], start: usize, end: usize) -> &[u8]
-    requires order { start ≤ end }
-    requires within { end ≤ length bytes.now }
-    ensures { result.now ≡ take (end - start) (drop start bytes.now) }
-{
-    &bytes[start..end]
 }
 
 #[tactic(auto, using(crate::proofs::Pieces::pieces_length))]

@@ -26,7 +26,7 @@ pub trait Indexed: Store {
 /// An index over a list of contents, which finds them by their hashes.
 ///
 /// Each call takes the list too, and what changes one of them changes both. So an index may depend on more of
-/// its list than the contents, or be a part of it.
+/// its list than the contents, such as on where they are in a buffer.
 ///
 /// A contract sees an index as the hashes by which the contents were added, its room, and its places. The
 /// room is how many contents it can hold. The places are for how many it was made: a search takes at most a

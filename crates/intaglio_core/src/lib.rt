@@ -23,7 +23,7 @@ pub use intaglio_content::{
 pub use intaglio_index::Index;
 pub use intaglio_interner::{
     AHEAD_FROM, BaseInterner, Call, GROUP, Interner, Reply, check_all, get_or_intern_all,
-    intern_all, look_ahead, run, touch_all,
+    intern_all, look_ahead, run,
 };
 pub use intaglio_symbol::{
     AllSymbols, DEFAULT_SYMBOL_TABLE_CAPACITY, InternError, Mark, RoomError, StaleMark, Symbol,

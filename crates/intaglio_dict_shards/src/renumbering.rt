@@ -227,7 +227,15 @@ fn unjoined<R: Tell>(rt: &R, part: &Part<'_>, fault: MapError) -> u8 {
                 format_args!("{maps}/{shard}/{number}.map: not a map to shard {shard} of {into}"),
             )
         }
-        MapError::NoCode(_) => report::failed(rt, part.folder, fault),
+        MapError::NoCode(symbol) => {
+            let folder = part.folder;
+            report::of_input(
+                rt,
+                format_args!(
+                    "{folder}/map: symbol {symbol} leads to no string of the shards: split {folder} again"
+                ),
+            )
+        }
         MapError::TooMany => report::failed(rt, part.into, fault),
         MapError::Memory => report::out_of_memory(rt),
     }

@@ -3,6 +3,7 @@ pub mod Ends
 pub mod Places
 pub mod Opened
 pub mod Found
+pub mod HashedAhead
 pub mod Batched
 pub mod Texts
 pub mod Checked

@@ -2,6 +2,7 @@
 pub mod Strings
 pub mod Layout
 pub mod LookUp
+pub mod Ahead
 pub mod Checked
 pub mod IsFrozen
 pub mod Fault

@@ -6,6 +6,7 @@ ghost use Rattle.intaglio_frozen.specs.IsFrozen.{number_of, HasUnused, IsBlock, 
 ghost use Rattle.intaglio_frozen.specs.Checked.{IsHashAt, IsFoundAt, IsNotFoundAt, HasPilots};
 ghost use Rattle.intaglio_frozen.specs.Fault.{IsFault};
 
+use crate::ahead::HashesAhead;
 use crate::error::FrozenError;
 use crate::iter::FrozenStrings;
 use crate::kind::Kind;
@@ -167,11 +168,23 @@ impl<'a> Block<'a> {
             None
         }
     }
+}
 
-    // Reads what a look-up by this hash will read.
+impl<'a> HashesAhead for Block<'a> {
+    ghost is_hash = { λ block string n. n ≡ hash block string };
+
     #[inline(always)]
-    pub(crate) fn touch(&self, hashed: u64) -> u8 {
-        self.layout.touch(hashed)
+    fn hash(&self, string: &[u8]) -> u64 {
+        self.hash_sought(string)
+    }
+
+    fn count(&self) -> usize {
+        Block::len(self)
+    }
+
+    #[inline(always)]
+    fn touch(&self, hash: u64) -> u8 {
+        self.layout.touch(hash)
     }
 }
 

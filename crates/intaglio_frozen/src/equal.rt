@@ -4,12 +4,10 @@ ghost use Rattle.intaglio_frozen.specs.Freezing.{HasNoEqual, IsFirstEqual};
 
 use crate::list::StringList;
 use intaglio::packed::bytes::SymbolTable;
+use intaglio_core::SYMBOLS;
 use intaglio_hash::KeyedState;
 use intaglio_symbol::InternError;
 use std::alloc::Global;
-
-// How many symbols there are.
-const SYMBOLS: usize = 1 << 32;
 
 // The first string that is equal to an earlier one, as the positions of both, by a table of all strings.
 pub(crate) fn equal_strings<L: StringList>(

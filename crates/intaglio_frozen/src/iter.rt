@@ -6,8 +6,8 @@ ghost use Rattle.intaglio_symbol.specs.AllSymbols.{numbers_from};
 ghost use Rattle.intaglio_frozen.specs.Strings.{strings_from, AreEnds};
 ghost use Rattle.intaglio_frozen.specs.Layout.{numbers_at};
 
-use crate::layout::part;
 use intaglio_hash::numbers::read_u32;
+use intaglio_packed::part;
 use intaglio_symbol::{AllSymbols, Symbol};
 use std::alloc::AllocError;
 use std::iter::FusedIterator;

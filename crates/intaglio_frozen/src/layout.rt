@@ -15,6 +15,7 @@ use crate::numbers::{NO_SYMBOL, hash_by, mixed, scaled};
 use crate::sections::Sections;
 use intaglio_hash::KeyedState;
 use intaglio_hash::numbers::{read_u16, read_u32};
+use intaglio_packed::part;
 use std::marker::Model;
 use std::str;
 
@@ -284,14 +285,4 @@ fn are_ends(bytes: &[u8], at: usize, count: usize, all: usize) -> bool
         before = end;
     }
     before == all
-}
-
-// A part of the bytes.
-#[inline(always)]
-pub(crate) fn part(bytes: &[u8], start: usize, end: usize) -> &[u8]
-    requires order { start ≤ end }
-    requires within { end ≤ length bytes.now }
-    ensures { result.now ≡ slice_range bytes.now start end }
-{
-    &bytes[start..end]
 }

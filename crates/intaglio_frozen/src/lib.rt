@@ -1,6 +1,7 @@
 //! Frozen tables: a symbol table as one block of bytes, such as a mapped file.
 #![tactic(auto)]
 
+pub mod ahead;
 mod batch;
 mod bitmap;
 mod block;

@@ -55,6 +55,20 @@ impl StringList for Vec<&[u8]> {
     }
 }
 
+impl StringList for &[&[u8]] {
+    ghost strings = { λ list. map (λ w. w.now) list.now };
+
+    #[inline(always)]
+    fn len(&self) -> usize {
+        <[_]>::len(self)
+    }
+
+    #[inline(always)]
+    fn string(&self, i: usize) -> &[u8] {
+        self[i]
+    }
+}
+
 impl<C: Spelled, S: BuildHasher> StringList for Table<C, S> {
     ghost strings = { λ table. map C.spelling table.state.contents };
 

@@ -6,6 +6,7 @@ ghost use Rattle.intaglio_frozen.specs.LookUp.{hash};
 ghost use Rattle.intaglio_frozen.specs.IsFrozen.{HasSections, IsFrozen};
 ghost use Rattle.intaglio_frozen.specs.Fault.{IsFault};
 
+use crate::ahead::HashesAhead;
 use crate::error::FrozenError;
 use crate::layout::Layout;
 use intaglio_content::same_bytes;
@@ -123,5 +124,23 @@ impl<'a> TrustedFrozen<'a> {
         } else {
             None
         }
+    }
+}
+
+impl HashesAhead for TrustedFrozen<'_> {
+    ghost is_hash = { λ bytes string n. n ≡ hash bytes string };
+
+    #[inline(always)]
+    fn hash(&self, string: &[u8]) -> u64 {
+        TrustedFrozen::hash(self, string)
+    }
+
+    fn count(&self) -> usize {
+        self.len()
+    }
+
+    #[inline(always)]
+    fn touch(&self, hash: u64) -> u8 {
+        self.touch_hashed(hash)
     }
 }

@@ -228,12 +228,13 @@ pub next_none : (candidate : Option (ℕ × ℕ)) (behind : List (ℕ × ℕ)) (
 next_none candidate [] h e f = refl
 next_none candidate (x ∷ xs) h e f = cc
 
--- an entry's hash is the one that its symbol was placed with
-pub hash_placed : (v : Placed) (b s h : ℕ) (before behind : List (ℕ × ℕ)) →
-    chain v b ≡ before ++ (s, h) ∷ behind → get_or v.hashes s 0 ≡ h
-hash_placed v b s h before behind split =
+-- an entry's symbol was placed, with the entry's hash
+pub entry_placed : (v : Placed) (b s h : ℕ) (before behind : List (ℕ × ℕ)) →
+    chain v b ≡ before ++ (s, h) ∷ behind → (s < length v.hashes) × (get_or v.hashes s 0 ≡ h)
+entry_placed v b s h before behind split =
     let each = rw split at (chain-entries v b) in
-    (Each-right (IsEntry v.count b v.hashes) before ((s, h) ∷ behind) each).0.1 0
+    let entry = (Each-right (IsEntry v.count b v.hashes) before ((s, h) ∷ behind) each).0 in
+    (entry.0, entry.1 0)
 
 -- steps one after the other
 pub two_steps : (old a b : List Event) → a ≡ old ++ step ∷ [] → b ≡ a ++ step ∷ [] →
@@ -295,16 +296,6 @@ module _ (v : Placed) (h size : ℕ) (head : Head) (word : ℕ) (read : IsRead v
         let is = read.second first in
         rw is (second_found v h size head read.some read.occupied old new first (rw is at high)
         (rw is at sure) events)
-
-  -- where the number of buckets is a power of two, its symbol has the hash
-  pub word_has : word / size ≡ h / size → v.count ≡ size → get_or v.hashes (word % size) 0 ≡ h
-  word_has high exact = elim (eqb_tells (head.first / size) (h / size)) [
-    | inl same ↦ let f = word_first high (inr exact) [] (step ∷ []) (read.first same.1) refl in
-        hash_placed v (h % v.count) (word % size) h f.front f.behind f.split
-    | inr other ↦ let f =
-        word_second high (inr exact) [] (replicate 2 step) (λ q. other.1 (ap (λ w. w / size) (sym q) ∙ high))
-        refl in hash_placed v (h % v.count) (word % size) h f.front f.behind f.split
-  ]
 
 -- a hash that was read
 pub hash_read : (hashes : List ℕ) (s i hash : ℕ) → s < length hashes → hash ≡ get_or hashes i hash → i ≡ s →
@@ -392,20 +383,3 @@ module _ (v : Placed) (h size : ℕ) (head : Head) (some : 0 < size) (exact : v.
       IsAt h (chain v (h % v.count)) (Some (head.second % size)) candidate
   behind_second candidate first second after =
       stands candidate o.es refl o.is (first_below first) second after
-
--- the predecessor and the entry behind it are placed symbols
-module _ (v : Placed) (h last : ℕ) (pred : IsPredecessor h (chain v (h % v.count)) last) where
-  from_last : AllByRecursion (IsEntry v.count (h % v.count) v.hashes) ((last, pred.hash) ∷ pred.behind)
-  from_last = Each-right (IsEntry v.count (h % v.count) v.hashes) pred.front ((last, pred.hash) ∷ pred.behind)
-      (rw pred.split at (chain-entries v (h % v.count)))
-
-  pub last_placed : last < length v.hashes
-  last_placed = from_last.0.0
-
-  pub next_placed : (e : ℕ × ℕ) →
-      ((before behind : List (ℕ × ℕ)) → chain v (h % v.count) ≡ before ++ (last, pred.hash) ∷ behind →
-      Some e ≡ head_of behind) → (e.0 < length v.hashes) × (get_or v.hashes e.0 0 ≡ e.1)
-  next_placed e after =
-      let rest = some-rest pred.behind e (after pred.front pred.behind pred.split) in
-      let entry = (rw rest.1 at from_last.1).0 in
-      (entry.0, entry.1 0)

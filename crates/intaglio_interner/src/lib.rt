@@ -8,8 +8,6 @@ mod batch;
 mod interner;
 mod runs;
 
-pub use batch::{
-    AHEAD_FROM, GROUP, check_all, get_or_intern_all, intern_all, look_ahead, touch_all,
-};
+pub use batch::{AHEAD_FROM, GROUP, check_all, get_or_intern_all, intern_all, look_ahead};
 pub use interner::{BaseInterner, Interner};
 pub use runs::{Call, Reply, run};

@@ -6,8 +6,10 @@
 
 mod end_list;
 mod growth;
+mod range;
 mod string_buffer;
 
 pub use end_list::StringEnds;
 pub use growth::reserve_doubling;
+pub use range::part;
 pub use string_buffer::StringBuffer;

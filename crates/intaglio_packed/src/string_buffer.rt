@@ -6,6 +6,7 @@ ghost use Rattle.intaglio_packed.specs.Growth.{Doubles};
 ghost use Rattle.intaglio_packed.specs.Strings.{byte_count_of, byte_room_of, HasRoom};
 
 use crate::end_list::StringEnds;
+use crate::range::part;
 use std::alloc::{AllocError, Global};
 use std::marker::Model;
 
@@ -315,14 +316,4 @@ impl StringBuffer {
         self.bytes.clear();
         self.ends.truncate(0);
     }
-}
-
-// A part of the bytes.
-#[inline(always)]
-fn part(bytes: &[u8], start: usize, end: usize) -> &[u8]
-    requires order { start ≤ end }
-    requires within { end ≤ length bytes.now }
-    ensures { result.now ≡ slice_range bytes.now start end }
-{
-    &bytes[start..end]
 }

@@ -5,7 +5,7 @@ ghost use Rattle.intaglio_records.specs.Entries.{position};
 ghost use Rattle.intaglio_records.specs.Matches.{IsPosition, IsSlot, IsSearch, GivesMatch, begin_of, most_left};
 
 use crate::header::{HEADER, LONG, read_hash, read_number};
-use intaglio_packed::StringBuffer;
+use intaglio_packed::{StringBuffer, part};
 use intaglio_slots::Candidates;
 
 /// A search for the strings that have a hash. It gives each of them once, and no other.
@@ -77,15 +77,6 @@ fn string_at(records: &StringBuffer, at: usize) -> &[u8]
     let start = at + HEADER;
     let end = start + length;
     part(bytes, start, end)
-}
-
-#[inline(always)]
-fn part(bytes: &[u8], start: usize, end: usize) -> &[u8]
-    requires order { start ≤ end }
-    requires within { end ≤ length bytes.now }
-    ensures { result.now ≡ slice_range bytes.now start end }
-{
-    &bytes[start..end]
 }
 
 // A string whose record doesn't say how long it is. Apart, so that the code of the others is short.

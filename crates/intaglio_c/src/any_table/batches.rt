@@ -5,10 +5,10 @@ ghost use Rattle.intaglio_c.specs.Frozen.{Absorbs};
 ghost use Rattle.intaglio_c.specs.Seen.{TakesStep, contents_of, seen};
 
 use super::AnyTable;
-use crate::ahead::look_ahead;
 use crate::batch::{Batch, is_batch};
 use crate::refusal::Refusal;
 use intaglio_core::{GROUP, Mark, Symbol};
+use intaglio_frozen::ahead::look_ahead;
 use intaglio_frozen::{Block, StringList};
 
 impl AnyTable {

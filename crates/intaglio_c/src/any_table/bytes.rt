@@ -13,7 +13,8 @@ use crate::ahead::LookUps;
 use crate::kind::{is_text, text_of};
 use crate::refusal::{Refusal, symbol_answer};
 use intaglio_bytes::bytes::BytesContent;
-use intaglio_core::{BaseInterner, Sought, Symbol, Work, touch_all};
+use intaglio_core::{BaseInterner, Sought, Symbol, Work};
+use intaglio_frozen::ahead::HashesAhead;
 use intaglio_hash::KeyedState;
 use intaglio_path::{Path, PathContent};
 
@@ -156,26 +157,19 @@ fn or_absent(known: Option<Symbol>) -> u64
     }
 }
 
-impl LookUps for AnyTable {
+impl HashesAhead for AnyTable {
     ghost is_hash = { λ table. IsHash (seen table).kind (seen table).hasher };
-
-    ghost may_be = { λ table bytes n. ⊤ };
-
-    // A table that has a string which its kind doesn't take may find it.
-    ghost is_exact = { λ table. IsFaultless (seen table) };
-
-    ghost number = { λ table bytes. or_absent (found (look_up (seen table) bytes)) };
 
     // Any number if the bytes have no key.
     #[inline(always)]
-    fn hash(&self, bytes: &[u8]) -> u64 {
+    fn hash(&self, string: &[u8]) -> u64 {
         match self {
-            AnyTable::Owned(_, table) => hash_bytes(table.hasher(), bytes),
-            AnyTable::Path(table) => match text_of(bytes) {
+            AnyTable::Owned(_, table) => hash_bytes(table.hasher(), string),
+            AnyTable::Path(table) => match text_of(string) {
                 Ok(text) => hash_path(table.hasher(), text),
                 Err(_) => 0,
             },
-            AnyTable::Packed(_, table) => hash_bytes(table.hasher(), bytes),
+            AnyTable::Packed(_, table) => hash_bytes(table.hasher(), string),
         }
     }
 
@@ -183,13 +177,23 @@ impl LookUps for AnyTable {
         self.len()
     }
 
-    fn touch(&self, hashes: &[u64]) {
+    #[inline(always)]
+    fn touch(&self, hash: u64) -> u8 {
         match self {
-            AnyTable::Owned(_, table) => touch_all(table, hashes),
-            AnyTable::Path(table) => touch_all(table, hashes),
-            AnyTable::Packed(_, table) => touch_all(table, hashes),
+            AnyTable::Owned(_, table) => table.touch_hashed(hash),
+            AnyTable::Path(table) => table.touch_hashed(hash),
+            AnyTable::Packed(_, table) => table.touch_hashed(hash),
         }
     }
+}
+
+impl LookUps for AnyTable {
+    ghost may_be = { λ table bytes n. ⊤ };
+
+    // A table that has a string which its kind doesn't take may find it.
+    ghost is_exact = { λ table. IsFaultless (seen table) };
+
+    ghost number = { λ table bytes. or_absent (found (look_up (seen table) bytes)) };
 
     #[inline(always)]
     fn find_number(&self, hash: u64, bytes: &[u8]) -> u64 {

@@ -155,52 +155,14 @@ impl Index {
         None
     }
 
-    /// A symbol with this hash, if one was placed. Records nothing: it reads what [`find`](Index::find) will
-    /// read, so that this is in the cache then.
+    /// The first symbol with this hash, if one was placed. Records nothing. It reads what
+    /// [`find`](Index::find) will read, so that this is in the cache then.
     #[inline(always)]
     pub fn peek(&self, hash: u64) -> Option<Symbol>
         ensures placed { IfSome result (λ symbol. symbol < length self.now.hashes) }
         ensures hash { IfSome result (λ symbol. slice_index_or self.now.hashes symbol 0 ≡ hash) }
     {
-        if self.heads.is_empty() {
-            return None;
-        }
-        let bucket = self.modulus.bucket(hash);
-        if !is_marked(self.filters[bucket], hash) {
-            return None;
-        }
-        let head = self.heads[bucket];
-        let word = head.matching_word(self.modulus, hash);
-        if !self.modulus.agrees(word, hash) {
-            if hash < head.second || head.first == head.second {
-                return None;
-            }
-            return self.peek_behind(self.modulus.symbol(head.second), hash);
-        }
-        let symbol = self.modulus.symbol(word);
-        if self.modulus.is_power_of_two() {
-            return Some(symbol);
-        }
-        if self.hashes[symbol.id() as usize] != hash {
-            return None;
-        }
-        Some(symbol)
-    }
-
-    // As `peek`, where the first two symbols of the bucket have smaller hashes.
-    #[inline(never)]
-    fn peek_behind(&self, second: Symbol, hash: u64) -> Option<Symbol>
-        requires { IsBehind hash (bucket_of self.now hash) second }
-        ensures placed { IfSome result (λ symbol. symbol < length self.now.hashes) }
-        ensures hash { IfSome result (λ symbol. slice_index_or self.now.hashes symbol 0 ≡ hash) }
-    {
-        match self.last_below(Some(second), self.next_entry(second), hash) {
-            None => None,
-            Some(last) => match self.next_entry(last) {
-                None => None,
-                Some(found) => { if found.1 == hash { Some(found.0) } else { None } }
-            },
-        }
+        self.find(hash, &mut Work::new())
     }
 
     /// The next symbol after a placed one in its bucket, if it has the same hash. One step.

@@ -1,11 +1,11 @@
 -- Each turn looks up one string more.
 use Rattle.intaglio_c.proofs.Names.{rules, ◌<◌, ◌∙◌, length, inr, arith}
-use Rattle.intaglio_c.proofs.Hashes.{all_first, all_mapped, first, mapped, more}
+use Rattle.intaglio_frozen.proofs.HashedAhead.{all_first, all_mapped, first, mapped, more}
 use Rattle.intaglio_c.proofs.ahead.find_each.Goals as goal
 
 pub find_number-requires : goal.find_number-requires
 find_number-requires g c =
-    (first (g.T.LookUps.is_hash c.args.table.now) (g.L.StringList.strings c.args.list.now)
+    (first (g.T.HashesAhead.is_hash c.args.table.now) (g.L.StringList.strings c.args.list.now)
     c.look_ahead-used.new.hashes c.loop-i.i c.look_ahead-used.result c.string.result.now c.string.ensures
     c.look_ahead-used.ensures.some
     c.look_ahead-used.ensures.left).0
@@ -17,7 +17,7 @@ loop-i-preserved g c =
     omega (arith, c.loop-i-test.true, c.loop-i.invariant.places) in record {
       places = search rules;
       room = c.look_ahead-used.ensures.places ∙ c.loop-i.invariant.room;
-      ahead = (first (g.T.LookUps.is_hash c.args.table.now) strings c.look_ahead-used.new.hashes c.loop-i.i
+      ahead = (first (g.T.HashesAhead.is_hash c.args.table.now) strings c.look_ahead-used.new.hashes c.loop-i.i
           c.look_ahead-used.result c.string.result.now c.string.ensures c.look_ahead-used.ensures.some
           c.look_ahead-used.ensures.left).1;
       written = more (g.T.LookUps.may_be c.args.table.now) strings c.loop-i.symbols c.loop-i.i

@@ -1,12 +1,12 @@
 use Rattle.intaglio_c.proofs.Names.{◌≡◌, length, map, take, drop, AreFirst}
-use Rattle.intaglio_c.proofs.Hashes.{Continues}
+use Rattle.intaglio_frozen.proofs.HashedAhead.{Continues}
 use Rattle.intaglio_c.proofs.ahead.find_each.Given as goal
 
 abbrev pub invariant-loop-i : goal.invariant-loop-i
 invariant-loop-i g l = record {
   places : length l.symbols ≡ length (g.L.StringList.strings l.list);
   room : length l.hashes ≡ 64;
-  ahead : AreFirst (g.T.LookUps.is_hash l.table) (drop l.i (g.L.StringList.strings l.list))
+  ahead : AreFirst (g.T.HashesAhead.is_hash l.table) (drop l.i (g.L.StringList.strings l.list))
       (drop l.used l.hashes);
   written : Continues (g.T.LookUps.may_be l.table) (g.L.StringList.strings l.list)
       (drop l.i (g.L.StringList.strings l.list)) (take l.i l.symbols);

@@ -1,7 +1,8 @@
 -- Each turn interns one string more.
 use Rattle.intaglio_c.proofs.Names.{Ok, rules, sym, ap, ◌∙◌, arith, IsHash, seen}
 use Rattle.intaglio_c.proofs.Batches.{finished, stopped, turned}
-use Rattle.intaglio_c.proofs.Hashes.{first, moved}
+use Rattle.intaglio_c.proofs.Hashes.{moved}
+use Rattle.intaglio_frozen.proofs.HashedAhead.{first}
 use Rattle.intaglio_c.proofs.any_table.AnyTable.intern_each.Goals as goal
 
 pub intern-requires : goal.intern-requires

@@ -1,6 +1,6 @@
 use Rattle.std.proofs.Common.{◌≡◌, ℕ, List, ◌∷◌, ◌++◌, sym, ◌∙◌}
 use Rattle.intaglio_index.specs.Placed.{chain}
-use Rattle.intaglio_index.proofs.SearchLemmas.{next_with, next_without, next_none, hash_placed, hash_read}
+use Rattle.intaglio_index.proofs.SearchLemmas.{next_with, next_without, next_none, entry_placed, hash_read}
 use Rattle.intaglio_index.proofs.index.Index.find_next.Goals as goal
 use Rattle.intaglio_index.proofs.index.Index.find_next.Goals.{After-next_entry}
 
@@ -9,7 +9,7 @@ own_hash : (c : After-next_entry) (b hash : ℕ) (before behind : List (ℕ × �
 own_hash c b hash before behind split =
     sym (hash_read c.args.self.now.hashes c.args.symbol _ _ c.requires
     (rw (← c.self.view_is) c.index-hash.ensures) c.id.ensures)
-    ∙ hash_placed _ b c.args.symbol hash before behind split
+    ∙ (entry_placed _ b c.args.symbol hash before behind split).1
 
 pub returns-in-None-clause-next : goal.returns-in-None-clause-next
 returns-in-None-clause-next c = λ b hash before behind split.

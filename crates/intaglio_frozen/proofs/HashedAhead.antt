@@ -1,0 +1,106 @@
+-- Numbers of strings, one beside each: what holds of those so far, and of one more.
+use Rattle.std.proofs.Common.{◌≡◌, ℕ, ◌+◌, ◌<◌, ◌≤◌, ◌⊎◌, inl, inr, List, [], ◌∷◌, ◌++◌, length, map, take, drop, refl, sym, ap, subst, ◌∙◌, append_assoc, length-drop, arith, Some}
+use Rattle.std.specs.Prelude.{slice_get}
+use Rattle.std.proofs.Math.ListN.{get_or, set}
+use Rattle.std.proofs.lemmas.Bool.{cases_lt}
+use Rattle.std.proofs.lemmas.List.{take_all, take_more, take_more_set, take-append-drop, drop_more, drop_all, get_or-drop, map_push, get_or-set_same, length-set}
+use Rattle.std.proofs.lemmas.Option.{get_or_from_slice_get, slice_get-get_or, slice_get_within}
+use Rattle.intaglio_frozen.specs.Ahead.{AreFirst}
+
+-- the element at a position, and those before and behind it
+module _ {X : Type 0} (xs : List X) (i : ℕ) (x : X) (there : slice_get xs i ≡ Some x) where
+  pub drop_there : drop i xs ≡ x ∷ drop (i + 1) xs
+  drop_there = drop_more xs i x (slice_get_within xs i x there)
+      ∙ ap (λ y. y ∷ drop (i + 1) xs) (get_or_from_slice_get xs i x x there)
+
+  pub take_there : take (i + 1) xs ≡ take i xs ++ x ∷ []
+  take_there = take_more xs i x (slice_get_within xs i x there)
+      ∙ ap (λ y. take i xs ++ y ∷ []) (get_or_from_slice_get xs i x x there)
+
+-- a loop that ends at the shorter of both
+pub stops : (n m i : ℕ) → (i < n → m ≤ i) → (n ≤ i) ⊎ (m ≤ i)
+stops n m i short = elim (cases_lt i n) [ inl less ↦ inr (short less) | inr all ↦ inl all ]
+
+-- a string among those from a position on
+pub behind : (strings : List (List ℕ)) (place i : ℕ) (string : List ℕ) →
+    slice_get strings (place + i) ≡ Some string → slice_get (drop place strings) i ≡ Some string
+behind strings place i string there =
+    let within : i < length (drop place strings) =
+    omega (arith, slice_get_within strings (place + i) string there, length-drop place strings) in
+    slice_get-get_or (drop place strings) i string within
+    ∙ ap Some (get_or-drop place strings i string
+    ∙ get_or_from_slice_get strings (place + i) string string there)
+
+module _ (P : List ℕ → ℕ → Type 0) where
+  no_strings : (ns : List ℕ) → AreFirst P [] ns
+  no_strings [] = tt
+  no_strings (n ∷ ns) = tt
+
+  -- the number of a string, and those of the strings behind it
+  pub first : (strings : List (List ℕ)) (ns : List ℕ) (i used : ℕ) (string : List ℕ) →
+      slice_get strings i ≡ Some string → used < length ns → AreFirst P (drop i strings) (drop used ns)
+      → P string (get_or ns used 0) × AreFirst P (drop (i + 1) strings) (drop (used + 1) ns)
+  first strings ns i used string there left are =
+      subst (λ (rest : List ℕ). AreFirst P (string ∷ drop (i + 1) strings) rest) (drop_more ns used 0 left)
+      (subst (λ (ws : List (List ℕ)). AreFirst P ws (drop used ns)) (drop_there strings i string there) are)
+
+  -- the number of one string, at the last place of a list
+  pub alone : (strings : List (List ℕ)) (ns : List ℕ) (i last n : ℕ) (string : List ℕ) →
+      slice_get strings i ≡ Some string → length ns ≡ last + 1 → P string n →
+      AreFirst P (drop i strings) (drop last (set ns last n))
+  alone strings ns i last n string there places is =
+      let within : last < length (set ns last n) = omega (arith, places, length-set ns last n) in
+      let none : drop (last + 1) (set ns last n) ≡ [] =
+      drop_all (last + 1) (set ns last n) (omega (arith, places, length-set ns last n)) in
+      let one : drop last (set ns last n) ≡ n ∷ [] =
+      rw (
+        drop_more (set ns last n) last 0 within,
+        get_or-set_same ns last n 0 (omega (arith, places)),
+        none,
+      ) refl in
+      subst (λ (rest : List ℕ). AreFirst P (drop i strings) rest) (sym one)
+      (subst (λ (ws : List (List ℕ)). AreFirst P ws (n ∷ [])) (sym (drop_there strings i string there)) (
+        is,
+        tt,
+      ))
+
+  -- with the numbers of the strings that are left, those so far are those of all strings
+  abbrev pub Continues : List (List ℕ) → List (List ℕ) → List ℕ → Type 0
+  Continues all left before = (ns : List ℕ) → AreFirst P left ns → AreFirst P all (before ++ ns)
+
+  pub more : (all : List (List ℕ)) (ns : List ℕ) (i n : ℕ) (string : List ℕ) → slice_get all i ≡ Some string →
+      i < length ns → P string n
+      → Continues all (drop i all) (take i ns) → Continues all (drop (i + 1) all) (take (i + 1) (set ns i n))
+  more all ns i n string there inside is continues behind are =
+      subst (λ (zs : List ℕ). AreFirst P all zs)
+      (sym (ap (λ (zs : List ℕ). zs ++ behind) (take_more_set ns i n inside)
+      ∙ append_assoc (take i ns) (n ∷ []) behind))
+      (continues (n ∷ behind)
+      (subst (λ (ws : List (List ℕ)). AreFirst P ws (n ∷ behind)) (sym (drop_there all i string there))
+      (is, are)))
+
+  at_end : (all : List (List ℕ)) (ns : List ℕ) (i : ℕ) → (length all ≤ i) ⊎ (length ns ≤ i) →
+      AreFirst P (drop i all) (drop i ns)
+  at_end all ns i (inl end) =
+      subst (λ (ws : List (List ℕ)). AreFirst P ws (drop i ns)) (sym (drop_all i all end))
+      (no_strings (drop i ns))
+  at_end all ns i (inr end) =
+      subst (λ (rest : List ℕ). AreFirst P (drop i all) rest) (sym (drop_all i ns end)) tt
+
+  pub all_first : (all : List (List ℕ)) (ns : List ℕ) (i : ℕ) → (length all ≤ i) ⊎ (length ns ≤ i) →
+      Continues all (drop i all) (take i ns) → AreFirst P all ns
+  all_first all ns i ends continues =
+      subst (λ (zs : List ℕ). AreFirst P all zs) (take-append-drop i ns)
+      (continues (drop i ns) (at_end all ns i ends))
+
+-- the same of numbers that are fixed
+module _ (f : List ℕ → ℕ) (all : List (List ℕ)) (ns : List ℕ) (i : ℕ) where
+  pub mapped : (n : ℕ) (string : List ℕ) → slice_get all i ≡ Some string → i < length ns → n ≡ f string →
+      take i ns ≡ map f (take i all) → take (i + 1) (set ns i n) ≡ map f (take (i + 1) all)
+  mapped n string there inside is before =
+      take_more_set ns i n inside ∙ (λ j. before j ++ is j ∷ []) ∙ sym (map_push f (take i all) string)
+      ∙ ap (map f) (sym (take_there all i string there))
+
+  pub all_mapped : length all ≤ i → length ns ≡ length all → take i ns ≡ map f (take i all) → ns ≡ map f all
+  all_mapped end places are = sym (take_all i ns (omega (arith, end, places))) ∙ are
+      ∙ ap (map f) (take_all i all end)
