@@ -1,5 +1,6 @@
-"""A reader and a writer of folders of shards, written from docs/FROZEN.md alone; and what `intaglio_dict` makes of them: parts
-that are split, merged by shard, joined and renumbered, folders that are damaged, and processes that are killed.
+"""A reader and a writer of folders of shards, written from docs/FROZEN.md and docs/COLUMN-FILES.md alone; and what
+`intaglio_dict` makes of them: parts that are split, merged by shard, joined and renumbered, folders that are damaged, and
+processes that are killed.
 """
 import functools
 import itertools
