@@ -25,7 +25,8 @@ pub trait HashesAhead {
 
 /// Makes sure that the hash of the string at `place` is among `hashes`, and returns its position there.
 /// `used` is how many of the hashes, from the front, belong to strings before it. If all do, the next strings
-/// are hashed: as many as there are places in `hashes`, or one if the table is small.
+/// are hashed: as many as there are places in `hashes`, or one if the table is small. (No clause says how
+/// many.)
 #[inline(always)]
 pub fn look_ahead<T: HashesAhead, L: StringList>(
     table: &T,

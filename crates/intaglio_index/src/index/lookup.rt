@@ -155,8 +155,8 @@ impl Index {
         None
     }
 
-    /// The first symbol with this hash, if one was placed. Records nothing. It reads what
-    /// [`find`](Index::find) will read, so that this is in the cache then.
+    /// A symbol with this hash, or `None`. Records nothing. It reads what [`find`](Index::find) will read, so
+    /// that this is in the cache then.
     #[inline(always)]
     pub fn peek(&self, hash: u64) -> Option<Symbol>
         ensures placed { IfSome result (λ symbol. symbol < length self.now.hashes) }
