@@ -2,8 +2,8 @@
 use crate::kind::Rule;
 use intaglio::{Table, TableOver};
 use intaglio_bytes::bytes::{BytesContent, BytesKind};
-use intaglio_content::Packed;
 use intaglio_hash::KeyedState;
+use intaglio_packed::Packed;
 use intaglio_path::PathContent;
 
 mod batches;

@@ -5,12 +5,12 @@ ghost use Rattle.intaglio_content.specs.Store.{IsMoved, IsPushed};
 
 use crate::content::{Keyed, Sought, Spelled};
 use crate::content_of::ContentOf;
+use crate::growth::reserve_doubling;
 use crate::kind::{KindForm, KindOwned, Packable, Spells};
 use crate::store::{
     AddedTo, Copied, CopiedTo, Lends, LookedUpIn, Moved, SoughtIn, SpelledStore, Store,
 };
 use crate::work::Work;
-use intaglio_packed::reserve_doubling;
 use std::alloc::{AllocError, Global};
 use std::hash::BuildHasher;
 

@@ -1,12 +1,9 @@
 -- What contracts see of an index over a list, and what its calls do.
-use Rattle.std.specs.Prelude.{◌≡◌, ℕ, ◌+◌, ◌*◌, ◌<◌, ◌≤◌, min, max, replicate, List, [], ◌∷◌, ◌++◌, length, map, sum_by}
+use Rattle.std.specs.Prelude.{◌≡◌, ℕ, ◌*◌, ◌<◌, ◌≤◌, min, max, replicate, List, [], ◌∷◌, ◌++◌, length, map}
 use Rattle.intaglio_content.specs.Key.{Key}
 use Rattle.intaglio_content.specs.declared.work.Work.{Work}
 use Rattle.intaglio_content.specs.Work.{Event, hashed, placed}
 use Rattle.intaglio_index.specs.Placed.{Placed}
-use Rattle.intaglio_records.specs.Records.{Records, hashes_of, strings_of}
-use Rattle.intaglio_records.specs.Index.{made_for}
-use Rattle.intaglio_records.specs.declared.index.RecordIndex.{RecordIndex}
 use Rattle.intaglio_interner.specs.State.{first}
 use Rattle.intaglio_interner.specs.Cost.{bucket_keys, IsSearchCost, IsRecorded}
 
@@ -88,11 +85,3 @@ state_of index = record { hashes = index.hashes; room = index.room; places = ind
 -- an `Index` has a hash for each of n contents
 abbrev pub IsOver : ℕ → Placed → Type 0
 IsOver n index = length index.hashes ≡ n
-
--- how many bytes of records there would be room for if so many bytes of strings were spare
-abbrev pub room_with : ℕ → Records → ℕ
-room_with spare list = 13 * list.most + (sum_by length (strings_of list) + spare)
-
--- what contracts see of an index over records
-abbrev pub state_over : Records → RecordIndex → IndexState
-state_over list index = record { hashes = hashes_of list; room = made_for index; places = made_for index }

@@ -11,7 +11,6 @@ ghost use Rattle.intaglio_core.specs.IndexOf.{KeepsEntries, FindsRoom, FindsNoRo
 ghost use Rattle.intaglio_core.specs.IndexOf.{HasLessRoom, IsOverSome, KeepsState};
 
 mod buckets;
-mod records;
 
 use intaglio_content::{AddedTo, ByteStore, Content, SoughtIn, Store, Work};
 use intaglio_symbol::Symbol;

@@ -1,14 +1,15 @@
 //! Lists of strings that can be frozen.
 ghost use Rattle.std.specs.Prelude.{◌≡◌, ◌<◌, ◌≤◌, ◌^◌, ℕ, List, length, map, slice_get, MatchOption, None, Some, IfSome};
-ghost use Rattle.intaglio_records.specs.Records.{strings_of};
+ghost use Rattle.intaglio_packed.specs.Records.{strings_of};
 ghost use Rattle.intaglio_frozen.specs.IsFrozen.{AreTexts};
 ghost use Rattle.intaglio_frozen.specs.Fault.{IsNoText};
 ghost use Rattle.intaglio_frozen.specs.declared.kind.Kind.TheVariants.{Text};
 
 use crate::kind::Kind;
 use intaglio::{Table, TableOver};
-use intaglio_content::{Packed, Spelled};
+use intaglio_content::Spelled;
 use intaglio_core::BaseInterner;
+use intaglio_packed::Packed;
 use intaglio_symbol::Symbol;
 use std::hash::BuildHasher;
 use std::str;

@@ -10,8 +10,8 @@ use bstr::BStr;
 use intaglio_bytes::b_str::BStrKind;
 use intaglio_bytes::bytes::BytesKind;
 use intaglio_content::{
-    Content, ContentOf, CopiedTo, Keyed, Kind, KindOwned, Packable, Packed, PackedForm, Spelling,
-    Spells, Store,
+    Content, ContentOf, CopiedTo, Keyed, Kind, KindOwned, Packable, PackedForm, Spelling,
+    SpellingStore, Spells, Store,
 };
 use intaglio_cstr::{CStrKind, first_zero};
 use intaglio_path::{Path, PathKind};
@@ -80,7 +80,7 @@ impl<'a, K: LineKind<'a> + KindOwned> FromLine<'a, Vec<ContentOf<K>>> for Conten
     }
 }
 
-impl<'a, K: LineKind<'a>> FromLine<'a, Packed<K>> for Spelling<K> {
+impl<'a, K: LineKind<'a>, L: SpellingStore<SpellingKind = K>> FromLine<'a, L> for Spelling<K> {
     type Line = K::Line;
 
     ghost allows = { λ bytes. K.allows bytes };

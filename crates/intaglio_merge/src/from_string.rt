@@ -2,8 +2,9 @@
 ghost use Rattle.std.specs.Prelude.{◌≡◌, ◌↔◌, ◌≤◌, List, ℕ, length, IsTrue};
 ghost use Rattle.intaglio_frozen.specs.IsFrozen.{AreTexts};
 
-use intaglio_content::{Content, ContentOf, CopiedTo, Packed, PackedForm, Spelling, Store};
+use intaglio_content::{Content, ContentOf, CopiedTo, PackedForm, Spelling, Store};
 use intaglio_frozen::StringList;
+use intaglio_packed::Packed;
 use std::str;
 
 /// A content that is interned by a form of a string, into a store of type `L`.

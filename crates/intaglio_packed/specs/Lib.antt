@@ -1,4 +1,12 @@
--- What the contracts of this crate cite.
+-- What the contracts of this crate cite: of strings in one buffer, of lines, of records and of packed lists.
 pub mod Strings
 pub mod EndList
-pub mod Growth
+pub mod Line
+pub mod Chains
+pub mod Search
+pub mod Header
+pub mod Records
+pub mod Entries
+pub mod Matches
+pub mod Index
+pub mod PackedIndex

@@ -2,11 +2,14 @@
 ghost use Rattle.std.specs.Prelude.{◌≡◌, ◌⊎◌, ◌+◌, ◌-◌, ◌*◌, ◌<◌, ◌≤◌, [], ◌∷◌, ◌++◌, length, max, min, take, drop, get_or, true, false};
 ghost use Rattle.std.specs.Prelude.{IfOk, IsOk, OnOk, OnErr, vec_capacity};
 ghost use Rattle.intaglio_packed.specs.EndList.{largest_end, BeginsWith};
-ghost use Rattle.intaglio_packed.specs.Growth.{Doubles};
+ghost use Rattle.intaglio_content.specs.Growth.{Doubles};
 
-use crate::growth::doubled;
+use intaglio_content::doubled;
 use std::alloc::{AllocError, Global};
 use std::marker::Model;
+
+// The least room for ends after a growth.
+const LEAST: usize = 4;
 
 /// The ends of strings in one buffer: a list of short ends, of 4 bytes each, or of long ones, of 8 bytes.
 ///
@@ -278,7 +281,7 @@ fn double_behind<T: Copy>(list: &mut Vec<T>, first: T, additional: usize) -> Res
 {
     let len = list.len().saturating_sub(1);
     let most = list.capacity().saturating_sub(1);
-    let Some(room) = doubled(len, most, additional)?.checked_add(1) else {
+    let Some(room) = doubled(len, most, additional, LEAST)?.checked_add(1) else {
         return Err(AllocError);
     };
     list.reserve_exact(room - list.len())?;

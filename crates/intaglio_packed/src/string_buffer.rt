@@ -2,7 +2,7 @@
 ghost use Rattle.std.specs.Prelude.{◌≡◌, ◌+◌, ◌<◌, ◌≤◌, [], ◌∷◌, ◌++◌, length, max, min, sum_by, take, slice_get, slice_range, get_or, Some};
 ghost use Rattle.std.specs.Prelude.{IfOk, IsOk, OnOk, OnErr, option_copied};
 ghost use Rattle.std.specs.List.{concat};
-ghost use Rattle.intaglio_packed.specs.Growth.{Doubles};
+ghost use Rattle.intaglio_content.specs.Growth.{Doubles};
 ghost use Rattle.intaglio_packed.specs.Strings.{byte_count_of, byte_room_of, HasRoom};
 
 use crate::end_list::StringEnds;

@@ -1,10 +1,10 @@
 //! Records of strings and their index: what a search by a hash finds, after strings were added and dropped.
 ghost use Rattle.std.specs.Prelude.{ℕ, ◌^◌, ◌<◌, List, length};
-ghost use Rattle.intaglio_records.specs.Index.{IsOver, made_for};
-ghost use Rattle.intaglio_records.specs.Records.{record_room_of};
+ghost use Rattle.intaglio_packed.specs.Index.{IsOver, made_for};
+ghost use Rattle.intaglio_packed.specs.Records.{record_room_of};
 
 use super::assertions::{holds, same};
-use intaglio_records::{RecordIndex, StringRecords};
+use intaglio_packed::{RecordIndex, StringRecords};
 use std::alloc::Global;
 use std::process::Abort;
 

@@ -8,8 +8,9 @@ ghost use Rattle.intaglio_interner.specs.Lookup.{FindsInterned};
 ghost use Rattle.intaglio_content.specs.Store.{Doubles};
 
 use crate::table::TableOver;
-use intaglio_content::{ContentOf, KindOwned, Packed, Spells};
+use intaglio_content::{ContentOf, KindOwned, Spells};
 use intaglio_core::{InternError, Symbol, Work};
+use intaglio_packed::Packed;
 use std::hash::BuildHasher;
 
 impl<K: KindOwned, S: BuildHasher> TableOver<Packed<K>, S> {

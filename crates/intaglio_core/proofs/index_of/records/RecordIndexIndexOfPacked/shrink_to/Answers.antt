@@ -1,6 +1,0 @@
-use Rattle.std.proofs.Common.{arith}
-use Rattle.intaglio_core.proofs.index_of.records.RecordIndexIndexOfPacked.shrink_to.Goals as goal
-
-pub rebuild-requires-clause-few : goal.rebuild-requires-clause-few
-rebuild-requires-clause-few g c =
-    omega (arith, c.requires.less, c.requires.over.places, c.requires.over.filled.small)

@@ -1,0 +1,14 @@
+use Rattle.std.proofs.Common.{◌≡◌, [], sym, arith}
+use Rattle.intaglio_packed.specs.Records.{record_room_of}
+use Rattle.intaglio_packed.proofs.IndexLemmas.{same_pairs, over_same}
+use Rattle.intaglio_packed.proofs.packed_index.RecordIndexIndexOfPacked.clear.Goals as goal
+
+pub returns-clause-over : goal.returns-clause-over
+returns-clause-over g c =
+    let old = c.args.list.now in
+    let new = c.clear-2.new.self in
+    let empty : new.list ≡ [] = same_pairs new.list [] c.clear-2.ensures.hashes c.clear-2.ensures.contents in
+    let room : record_room_of new ≡ record_room_of old =
+    rw c.clear-2.ensures.contents (omega (arith, c.clear-2.ensures.most, c.clear-2.ensures.byte_room)) in
+    over_same [] new.list (record_room_of old) (record_room_of new) c.clear.new.self (sym empty) (sym room)
+    (c.clear.ensures.over old.list (record_room_of old) c.requires)

@@ -1,0 +1,16 @@
+use Rattle.std.proofs.Common.{ℕ, List, map}
+use Rattle.intaglio_packed.specs.Records.{strings_of}
+use Rattle.intaglio_packed.specs.Matches.{AreAll, IsLeft, most_left}
+use Rattle.intaglio_core.proofs.Numbered.{IsSearching}
+use Rattle.intaglio_packed.proofs.packed_index.RecordIndexIndexOfPacked.search.Given as goal
+
+-- the numbers of the strings with the hash, and those that are left
+abbrev pub invariant-loop-found : goal.invariant-loop-found
+invariant-loop-found g l =
+    (numbers : List ℕ) × (left : List ℕ) × AreAll l.list.list l.hash numbers
+    × IsLeft l.list.list l.hash l.matches left
+    × IsSearching (map g.K.Kind.key_of (strings_of l.list)) (g.Q.Keyed.key l.sought) 0 numbers left
+    l.fn.work.events l.work.events
+
+abbrev pub decreases-loop-found : goal.decreases-loop-found
+decreases-loop-found g l = most_left l.matches

@@ -1,0 +1,19 @@
+use Rattle.std.proofs.Common.{◌≡◌, ℕ, List, take, sym, ◌∙◌, arith}
+use Rattle.std.proofs.lemmas.List.{take-map}
+use Rattle.intaglio_packed.specs.Records.{record_room_of}
+use Rattle.intaglio_packed.proofs.IndexLemmas.{same_pairs, over_same}
+use Rattle.intaglio_packed.proofs.packed_index.RecordIndexIndexOfPacked.truncate.Goals as goal
+
+pub returns-clause-over : goal.returns-clause-over
+returns-clause-over g c =
+    let old = c.args.list.now in
+    let new = c.truncate-2.new.self in
+    let n = c.args.n in
+    let list : new.list ≡ take n old.list =
+    same_pairs new.list (take n old.list) (c.truncate-2.ensures.hashes
+    ∙ take-map (λ (p : ℕ × List ℕ). p.0) n old.list) (c.truncate-2.ensures.contents
+    ∙ take-map (λ (p : ℕ × List ℕ). p.1) n old.list) in
+    let room : record_room_of new ≡ record_room_of old =
+    omega (arith, c.truncate-2.ensures.most, c.truncate-2.ensures.byte_room) in
+    over_same (take n old.list) new.list (record_room_of old) (record_room_of new) c.truncate.new.self
+    (sym list) (sym room) (rw c.records.ensures at c.truncate.ensures.over)

@@ -1,0 +1,32 @@
+use Rattle.std.proofs.Common.{◌≡◌, ◌≤◌, ◌-◌, ◌^◌, ℕ, List, sym, refl, arith}
+use Rattle.std.proofs.lemmas.List.{length-map}
+use Rattle.intaglio_packed.specs.Records.{record_room_of}
+use Rattle.intaglio_packed.proofs.IndexLemmas.{same_pairs, over_same, over_short}
+use Rattle.intaglio_packed.proofs.packed_index.reserve_in.Goals as goal
+use Rattle.intaglio_packed.proofs.packed_index.reserve_in.Goals.{then-not-stays_short+in_ok-lengthen, else-not-stays_short}
+
+pub returns-clause-list : goal.returns-clause-list
+returns-clause-list g c = same_pairs _ _ c.reserve.ensures.hashes c.reserve.ensures.contents
+
+pub returns-clause-over : goal.returns-clause-over
+returns-clause-over g c =
+    let old = c.args.list.now in
+    let new = c.reserve.new.self in
+    let room = record_room_of new in
+    let list : new.list ≡ old.list = same_pairs _ _ c.reserve.ensures.hashes c.reserve.ensures.contents in
+    elim c.if-not-stays_short.branch [
+      | then-not-stays_short+in_ok-lengthen w ↦
+          rw w.index-is (over_same old.list new.list room room w.lengthen.new.self (sym list) refl
+          (rw w.records-then-not-stays_short.ensures at (w.in_ok-lengthen.ensures.over room)))
+      | else-not-stays_short w ↦
+          let stays = rw (w.if-not-stays_short.false, c.records.ensures) at c.stays_short.ensures.stays in
+          let small : room ≤ 2 ^ 32 - 1 =
+          rw list (omega (
+            arith,
+            stays refl new.most
+                (rw (length-map old.list (λ (p : ℕ × List ℕ). p.1)) at c.reserve.ensures.grows),
+            c.reserve.ensures.spare_bytes,
+          )) in
+          rw w.index-is (over_same old.list new.list room room c.args.index.now (sym list) refl
+          (over_short old.list (record_room_of old) room c.args.index.now c.requires.over small))
+    ]

@@ -1,9 +1,0 @@
--- Lemmas on lines, and on chains of them.
-pub mod LineLemmas
-pub mod ChainLemmas
-pub mod Tops
-pub mod Placing
-pub mod Searching
-pub mod Rounded
-pub mod Removing
-pub mod Finding
