@@ -1,6 +1,6 @@
 //! A list of strings in one buffer of bytes, with a list of their ends.
 ghost use Rattle.std.specs.Prelude.{◌≡◌, ◌+◌, ◌<◌, ◌≤◌, [], ◌∷◌, ◌++◌, length, max, min, sum_by, take, slice_get, slice_range, get_or, Some};
-ghost use Rattle.std.specs.Prelude.{IfOk, IsOk, OnOk, OnErr, option_copied};
+ghost use Rattle.std.specs.Prelude.{IfOk, IsOk, OnOk, OnErr};
 ghost use Rattle.std.specs.List.{concat};
 ghost use Rattle.intaglio_content.specs.Growth.{Doubles};
 ghost use Rattle.intaglio_packed.specs.Strings.{byte_count_of, byte_room_of, HasRoom};
@@ -124,17 +124,6 @@ impl StringBuffer {
         self.bytes.capacity()
     }
 
-    /// A string.
-    pub fn get(&self, i: usize) -> Option<&[u8]>
-        ensures { option_copied result ≡ slice_get self.now.list i }
-    {
-        if i < self.ends.len() {
-            Some(self.string(i))
-        } else {
-            None
-        }
-    }
-
     /// A string that is there.
     #[inline(always)]
     pub fn string(&self, i: usize) -> &[u8]
@@ -238,36 +227,6 @@ impl StringBuffer {
             let end = self.ends.start(n);
             self.bytes.truncate(end);
             self.ends.truncate(n);
-        }
-    }
-
-    /// Shrinks the room to `min_capacity` strings, or to those that there are if they are more, and the room
-    /// for bytes to those that there are.
-    ///
-    /// # Errors
-    ///
-    /// [`AllocError`] if an allocation fails. Then there is more room left, as before at most.
-    pub fn shrink_to(&mut self, min_capacity: usize) -> Result<(), AllocError>
-        ensures list { self.new.list ≡ self.old.list }
-        ensures most { min min_capacity self.old.most ≤ self.new.most }
-        ensures no_more { self.new.most ≤ self.old.most }
-        ensures no_more_bytes { self.new.spare_bytes ≤ self.old.spare_bytes }
-        ensures no_more_held { self.new.held_bytes ≤ self.old.held_bytes }
-        ensures shrunk { OnOk result (self.new.most ≤ max (length self.old.list) min_capacity) }
-        ensures shrunk_bytes { OnOk result (self.new.spare_bytes ≡ 0) }
-        ensures shrunk_held { OnOk result (self.new.held_bytes ≡ byte_count_of self.old) }
-        ensures frees { length self.old.list ≡ 0 → min_capacity ≡ 0 → self.new.most ≡ 0 }
-        ensures frees_bytes { length self.old.list ≡ 0 → self.new.spare_bytes ≡ 0 }
-    {
-        self.bytes.shrink_to_fit();
-        self.room = self.room.min(self.bytes.capacity());
-        self.ends.shrink_to(min_capacity);
-        // Std's shrinks don't report a failed allocation.
-        let exact = self.bytes.capacity() == self.bytes.len();
-        if exact && self.ends.capacity() <= self.ends.len().max(min_capacity) {
-            Ok(())
-        } else {
-            Err(AllocError)
         }
     }
 

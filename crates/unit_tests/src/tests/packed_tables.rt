@@ -133,10 +133,11 @@ fn a_packed_table_doubles_its_memory_and_gives_it_back(rt: HostRuntime) {
 fn a_packed_list_gives_up_its_room(rt: HostRuntime) {
     let mut list = StringBuffer::with_capacity(rt.alloc(), 5, 100).expect(&rt, "memory");
     list.push_parts(b"a", b"bc");
-    same(&rt, list.shrink_to(2), Ok(()));
+    list.shrink_strings(2);
+    same(&rt, list.shrink_bytes(0), Ok(()));
     same(&rt, list.capacity(), 2);
     same(&rt, list.held_bytes(), 3);
-    same(&rt, list.get(0), Some(b"abc".as_slice()));
+    same(&rt, list.string(0), b"abc".as_slice());
 }
 
 #[test]
