@@ -1,11 +1,15 @@
 -- What a run promises of the input that it reads.
-use Rattle.std.specs.Prelude.{◌≡◌, ℕ, ◌^◌, ◌<◌, List, Option, String, map, string_bytes, IfSome}
+use Rattle.std.specs.Prelude.{◌≡◌, ◌≢◌, ℕ, ◌^◌, ◌<◌, List, Bool, Option, Result, Err, String, map, string_bytes, IfErr, IfSome, OnOk}
 use Rattle.std.specs.Io.KnownBytes.{IsAtEnd}
 use Rattle.intaglio_lines.specs.LineForms.{AllLinesFit, distinct_count}
-use Rattle.intaglio_lines.specs.Encoded.{encoded}
+use Rattle.intaglio_content.specs.Key.{Key}
+use Rattle.intaglio_lines.specs.Encoded.{encoded, encoded_by}
 use Rattle.intaglio_lines.specs.Kind.{Allows, is_fit, key_of, kind_of_words}
-use Rattle.intaglio_lines.specs.Puts.{Writes}
+use Rattle.intaglio_lines.specs.Puts.{Writes, WritesOnlyIf}
+use Rattle.intaglio_lines.specs.ToolError.{IsInterningOrWritingError, ReportsFirstUnfit}
 use Rattle.intaglio_lines.specs.declared.kind.Kind.{Kind}
+use Rattle.intaglio_lines.specs.declared.tool_error.ToolError.{ToolError}
+use Rattle.intaglio_lines.specs.declared.tool_error.ToolError.TheVariants.{Overflow, Write}
 
 -- if the input is known, its encoding is written
 abbrev pub Encodes : {W : Type 0} → Kind → Option (List ℕ) → (W → Option (List ℕ)) → W → W → Type 0
@@ -38,3 +42,13 @@ RefusesBy words known status old new =
 -- there are more distinct lines than symbols
 abbrev pub IsTooMany : Kind → List ℕ → Type 0
 IsTooMany kind input = 2 ^ 32 < distinct_count (key_of kind) input
+
+-- what a call does that encodes an input whose lines become contents with this key, if such lines fit
+pub record IsEncoding {T W : Type 0} (contents : W → Option (List ℕ)) (key : List ℕ → Key)
+    (fits : List ℕ → Bool) (input : List ℕ) (result : Result T ToolError) (old new : W) : Type 0 where
+  pub written : OnOk result (Writes contents old new (encoded_by key input))
+  pub zero : IfErr result (ReportsFirstUnfit fits input)
+  pub fit : WritesOnlyIf (AllLinesFit fits input) result old new
+  pub overflow : result ≡ Err Overflow → 2 ^ 32 < distinct_count key input
+  pub nothing_written : IfErr result (λ e. e ≢ Write → new ≡ old)
+  pub err : IfErr result IsInterningOrWritingError

@@ -1,27 +1,26 @@
 //! From the bytes read to the bytes written.
 ghost use Rattle.std.specs.Prelude.{◌≡◌, ◌≢◌, ◌<◌, ◌^◌, OnOk, IfErr, IfSome, IsErrAnd};
 ghost use Rattle.std.specs.Io.KnownBytes.{IsAtEnd};
-ghost use Rattle.intaglio_lines.specs.Encoded.{encoded, encoded_by};
-ghost use Rattle.intaglio_lines.specs.Kind.{is_fit};
+ghost use Rattle.intaglio_lines.specs.Encoded.{encoded};
+ghost use Rattle.intaglio_lines.specs.Kind.{Allows, is_fit, key_of};
 ghost use Rattle.intaglio_lines.specs.Puts.{Writes, WritesOnlyIf};
-ghost use Rattle.intaglio_encode.specs.Encodes.{Accepts, Encodes, Forbids, IsTooMany, ReadsForbidden};
-ghost use Rattle.intaglio_lines.specs.LineForms.{AllLinesFit, distinct_count};
-ghost use Rattle.intaglio_lines.specs.ToolError.{IsEncodingError, IsInputError, IsInterningOrWritingError};
+ghost use Rattle.intaglio_encode.specs.Encodes.{Accepts, Encodes, Forbids, IsEncoding, IsTooMany, ReadsForbidden};
+ghost use Rattle.intaglio_lines.specs.ToolError.{IsEncodingError, IsInputError};
 ghost use Rattle.intaglio_lines.specs.ToolError.{ReportsFirstUnfit};
 ghost use Rattle.intaglio_lines.specs.declared.tool_error.ToolError.TheVariants.{NotUtf8, Overflow, Write as WriteFailed};
 
-use intaglio_bytes::b_str::BStrContent;
-use intaglio_bytes::bytes::BytesContent;
-use intaglio_core::{Core, Sought, Spelled};
-use intaglio_cstr::CStrContent;
+use intaglio_bytes::b_str::BStrKind;
+use intaglio_bytes::bytes::BytesKind;
+use intaglio_core::{ContentOf, Core, KindOwned};
+use intaglio_cstr::CStrKind;
 use intaglio_lines::encoding::encode_lines;
-use intaglio_lines::from_line::FromLine;
+use intaglio_lines::from_line::LineKind;
 use intaglio_lines::kind::Kind;
 use intaglio_lines::read::read_all;
 use intaglio_lines::tool_error::ToolError;
-use intaglio_path::PathContent;
-use intaglio_text::StrContent;
-use intaglio_text::osstr::OsStrContent;
+use intaglio_path::PathKind;
+use intaglio_text::StrKind;
+use intaglio_text::osstr::OsStrKind;
 use std::alloc::Global;
 use std::hash::BuildHasher;
 use std::io::{Read, Write};
@@ -91,31 +90,40 @@ pub fn encode_input<S: BuildHasher + Drop, W: Write>(
     if !kind.allows(input) {
         return Err(ToolError::NotUtf8);
     }
+    encode_allowed(alloc, kind, builder, input, writer)
+}
+
+// The same for an input that the kind allows.
+fn encode_allowed<S: BuildHasher + Drop, W: Write>(
+    alloc: Global,
+    kind: Kind,
+    builder: S,
+    input: &[u8],
+    writer: &mut W,
+) -> Result<(), ToolError>
+    requires { Allows kind input.now }
+    ensures { IsEncoding W.contents (key_of kind) (is_fit kind) input.now result writer.old writer.new }
+{
     match kind {
-        Kind::Text => encode_by::<StrContent, S, W>(alloc, builder, input, writer),
-        Kind::Bytes => encode_by::<BytesContent, S, W>(alloc, builder, input, writer),
-        Kind::BStr => encode_by::<BStrContent, S, W>(alloc, builder, input, writer),
-        Kind::CStr => encode_by::<CStrContent, S, W>(alloc, builder, input, writer),
-        Kind::OsStr => encode_by::<OsStrContent, S, W>(alloc, builder, input, writer),
-        Kind::Path => encode_by::<PathContent, S, W>(alloc, builder, input, writer),
+        Kind::Text => encode_by::<StrKind, S, W>(alloc, builder, input, writer),
+        Kind::Bytes => encode_by::<BytesKind, S, W>(alloc, builder, input, writer),
+        Kind::BStr => encode_by::<BStrKind, S, W>(alloc, builder, input, writer),
+        Kind::CStr => encode_by::<CStrKind, S, W>(alloc, builder, input, writer),
+        Kind::OsStr => encode_by::<OsStrKind, S, W>(alloc, builder, input, writer),
+        Kind::Path => encode_by::<PathKind, S, W>(alloc, builder, input, writer),
     }
 }
 
-// As `encode_input`, for an input whose lines become contents of this type.
-fn encode_by<
-    'a,
-    C: FromLine<'a, Vec<C>> + Spelled + Sought<C> + Drop,
-    S: BuildHasher + Drop,
-    W: Write,
->(alloc: Global, builder: S, input: &'a [u8], writer: &mut W) -> Result<(), ToolError>
-    requires allowed { C.allows input.now }
-    ensures written { OnOk result (Writes W.contents writer.old writer.new (encoded_by C.key_of input.now)) }
-    ensures zero { IfErr result (ReportsFirstUnfit C.fits input.now) }
-    ensures fit { WritesOnlyIf (AllLinesFit C.fits input.now) result writer.old writer.new }
-    ensures overflow { result ≡ Err Overflow → 2 ^ 32 < distinct_count C.key_of input.now }
-    ensures nothing_written { IfErr result (λ e. e ≢ WriteFailed → writer.new ≡ writer.old) }
-    ensures err { IfErr result IsInterningOrWritingError }
+// As `encode_input`, for an input whose lines become contents of this kind.
+fn encode_by<'a, K: KindOwned + LineKind<'a>, S: BuildHasher + Drop, W: Write>(
+    alloc: Global,
+    builder: S,
+    input: &'a [u8],
+    writer: &mut W,
+) -> Result<(), ToolError>
+    requires { K.allows input.now }
+    ensures { IsEncoding W.contents K.key_of K.fits input.now result writer.old writer.new }
 {
-    let table = Core::<C, S>::with_hasher(alloc, builder)?;
+    let table = Core::<ContentOf<K>, S>::with_hasher(alloc, builder)?;
     encode_lines(alloc, table, input, writer)
 }

@@ -1,0 +1,12 @@
+use Rattle.std.proofs.Common.{rules}
+use Rattle.intaglio_encode.proofs.encode.encode_by.Goals as goal
+
+pub returns : goal.returns
+returns g c = record {
+  written = c.encode_lines.ensures.written;
+  zero = c.encode_lines.ensures.zero;
+  fit = c.encode_lines.ensures.fit;
+  overflow = search rules;
+  nothing_written = c.encode_lines.ensures.nothing_written;
+  err = c.encode_lines.ensures.err;
+}
