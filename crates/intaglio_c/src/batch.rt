@@ -3,7 +3,7 @@ ghost use Rattle.std.specs.Prelude.{◌≡◌, ◌-◌, ◌≤◌, ◌∷◌, tr
 ghost use Rattle.intaglio_c.specs.Batches.{are_ends, is_batch, pieces};
 
 use intaglio_frozen::StringList;
-use intaglio_packed::part;
+use intaglio_records::part;
 
 // Whether the ends don't decrease, and stay within this many bytes.
 fn are_ends(size: usize, ends: &[usize]) -> bool

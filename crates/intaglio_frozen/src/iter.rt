@@ -7,7 +7,7 @@ ghost use Rattle.intaglio_frozen.specs.Strings.{strings_from, AreEnds};
 ghost use Rattle.intaglio_frozen.specs.Layout.{numbers_at};
 
 use intaglio_hash::numbers::read_u32;
-use intaglio_packed::part;
+use intaglio_records::part;
 use intaglio_symbol::{AllSymbols, Symbol};
 use std::alloc::AllocError;
 use std::iter::FusedIterator;

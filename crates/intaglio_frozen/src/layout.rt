@@ -15,7 +15,7 @@ use crate::numbers::{NO_SYMBOL, hash_by, mixed, scaled};
 use crate::sections::Sections;
 use intaglio_hash::KeyedState;
 use intaglio_hash::numbers::{read_u16, read_u32};
-use intaglio_packed::part;
+use intaglio_records::part;
 use std::marker::Model;
 use std::str;
 

@@ -1,6 +1,6 @@
 //! Lists of strings that can be frozen.
 ghost use Rattle.std.specs.Prelude.{◌≡◌, ◌<◌, ◌≤◌, ◌^◌, ℕ, List, length, map, slice_get, MatchOption, None, Some, IfSome};
-ghost use Rattle.intaglio_packed.specs.Records.{strings_of};
+ghost use Rattle.intaglio_records.specs.Records.{strings_of};
 ghost use Rattle.intaglio_frozen.specs.IsFrozen.{AreTexts};
 ghost use Rattle.intaglio_frozen.specs.Fault.{IsNoText};
 ghost use Rattle.intaglio_frozen.specs.declared.kind.Kind.TheVariants.{Text};

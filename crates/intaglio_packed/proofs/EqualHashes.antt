@@ -10,7 +10,7 @@ use Rattle.std.proofs.lemmas.List.Elements.{Contains-append_right}
 use Rattle.std.proofs.lemmas.Grind.{get_or_default_zero}
 use Rattle.intaglio_content.specs.Key.{Key}
 use Rattle.intaglio_core.proofs.Numbered.{AreEqualHashes}
-use Rattle.intaglio_packed.specs.Matches.{one_of, AreAll}
+use Rattle.intaglio_records.specs.Matches.{one_of, AreAll}
 
 -- how often a number is in a list, where it is
 positive : (i : ℕ) (xs : List ℕ) (at : ℕ) → at < length xs → get_or xs at 0 ≡ i → 0 < sum_by (one_of i) xs

@@ -1,9 +1,9 @@
 -- What contracts see of an index over a packed list.
 use Rattle.std.specs.Prelude.{ℕ, ◌+◌, ◌*◌, length, sum_by}
 use Rattle.intaglio_core.specs.IndexOf.{IndexState}
-use Rattle.intaglio_packed.specs.Records.{Records, hashes_of, strings_of}
-use Rattle.intaglio_packed.specs.Index.{made_for}
-use Rattle.intaglio_packed.specs.declared.index.RecordIndex.{RecordIndex}
+use Rattle.intaglio_records.specs.Records.{Records, hashes_of, strings_of}
+use Rattle.intaglio_records.specs.Index.{made_for}
+use Rattle.intaglio_records.specs.declared.index.RecordIndex.{RecordIndex}
 
 -- how many bytes of records there would be room for if so many bytes of strings were spare
 abbrev pub room_with : ℕ → Records → ℕ

@@ -1,9 +1,9 @@
 //! Many spellings of one kind in one buffer.
 ghost use Rattle.std.specs.Prelude.{◌≡◌, ◌<◌, length, min, slice_get, Some};
-ghost use Rattle.intaglio_packed.specs.Records.{strings_of};
+ghost use Rattle.intaglio_records.specs.Records.{strings_of};
 
-use crate::records::StringRecords;
 use intaglio_content::Kind;
+use intaglio_records::StringRecords;
 use std::marker::{Model, PhantomData};
 
 /// A list of spellings of contents of the kind `K`, each with the hash that it was added with. All are in one
@@ -19,7 +19,7 @@ pub struct Packed<K: Kind> {
 
 impl<K: Kind> Model for Packed<K> {
     ghost use Rattle.std.specs.Prelude.{All};
-    ghost use Rattle.intaglio_packed.specs.Records.{Records, records_code, strings_of};
+    ghost use Rattle.intaglio_records.specs.Records.{Records, records_code, strings_of};
 
     ghost Value = { Records };
 

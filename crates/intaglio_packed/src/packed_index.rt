@@ -3,14 +3,14 @@ ghost use Rattle.std.specs.Prelude.{◌≡◌, ◌+◌, ◌^◌, ◌++◌, ◌�
 ghost use Rattle.std.specs.Prelude.{IsOk, OnErr, OnOk};
 ghost use Rattle.intaglio_content.specs.Store.{Doubles};
 ghost use Rattle.intaglio_content.specs.Work.{placed};
-ghost use Rattle.intaglio_packed.specs.Index.{IsOver, made_for};
+ghost use Rattle.intaglio_records.specs.Index.{IsOver, made_for};
 ghost use Rattle.intaglio_packed.specs.PackedIndex.{room_with, state_over};
-ghost use Rattle.intaglio_packed.specs.Records.{record_room_of};
+ghost use Rattle.intaglio_records.specs.Records.{record_room_of};
 
-use crate::index::RecordIndex;
 use crate::packed::Packed;
 use intaglio_content::{AddedTo, ByteStore, Content, Kind, SoughtIn, Spelling, Store, Work};
 use intaglio_core::{IndexOf, Indexed};
+use intaglio_records::RecordIndex;
 use intaglio_symbol::Symbol;
 use std::alloc::{AllocError, Global};
 

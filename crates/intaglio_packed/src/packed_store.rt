@@ -1,12 +1,12 @@
 //! Packed spellings as the store of a table.
 ghost use Rattle.std.specs.Prelude.{◌≡◌, [], ◌∷◌, ◌++◌, length, ⊤};
-ghost use Rattle.intaglio_packed.specs.Records.{hashes_of, strings_of};
+ghost use Rattle.intaglio_records.specs.Records.{hashes_of, strings_of};
 
 use crate::packed::Packed;
-use crate::records::StringRecords;
 use intaglio_content::{
     ByteStore, Kind, Lends, LookedUpIn, PackedForm, SpelledStore, Spelling, SpellingStore, Store,
 };
+use intaglio_records::StringRecords;
 use std::alloc::{AllocError, Global};
 use std::marker::PhantomData;
 

@@ -3,7 +3,7 @@ use super::assertions::{holds, same};
 use intaglio::packed::{Packed, PackedForm, StrKind};
 use intaglio::{BaseInterner, ByteStore, Content, Indexed, Lends, LookedUpIn, Symbol, TableOver};
 use intaglio_core::Store;
-use intaglio_packed::{StringBuffer, StringEnds};
+use intaglio_records::{StringBuffer, StringEnds};
 use std::alloc::Global;
 use std::fmt::Debug;
 use std::hash::BuildHasher;

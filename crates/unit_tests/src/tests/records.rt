@@ -1,10 +1,10 @@
 //! Records of strings and their index: what a search by a hash finds, after strings were added and dropped.
 ghost use Rattle.std.specs.Prelude.{ℕ, ◌^◌, ◌<◌, List, length};
-ghost use Rattle.intaglio_packed.specs.Index.{IsOver, made_for};
-ghost use Rattle.intaglio_packed.specs.Records.{record_room_of};
+ghost use Rattle.intaglio_records.specs.Index.{IsOver, made_for};
+ghost use Rattle.intaglio_records.specs.Records.{record_room_of};
 
 use super::assertions::{holds, same};
-use intaglio_packed::{RecordIndex, StringRecords};
+use intaglio_records::{RecordIndex, StringRecords};
 use std::alloc::Global;
 use std::process::Abort;
 
@@ -103,12 +103,25 @@ fn keep(records: &mut StringRecords, index: &mut RecordIndex, count: usize)
 // A string, its hash, and its number, if it is there.
 type Wanted = (u64, &'static [u8], Option<u32>);
 
+// The number of a string, if it was added with this hash.
+fn number_of(records: &StringRecords, index: &RecordIndex, hash: u64, string: &[u8]) -> Option<u32>
+    requires { IsOver records.now.list (record_room_of records.now) index.now }
+{
+    let mut matches = index.matches(records, hash);
+    while let Some(found) = matches.next() {
+        if found.1 == string {
+            return Some(found.0);
+        }
+    }
+    None
+}
+
 // Asserts which number each string has under its hash.
 fn finds(rt: &impl Abort, records: &StringRecords, index: &RecordIndex, wanted: &[Wanted])
     requires { IsOver records.now.list (record_room_of records.now) index.now }
 {
     for (hash, string, number) in wanted {
-        same(rt, index.find(records, *hash, string), *number);
+        same(rt, number_of(records, index, *hash, string), *number);
     }
 }
 
@@ -157,7 +170,6 @@ fn are_three(rt: &impl Abort, records: &StringRecords) {
     same(rt, records.get(1), Some(b"two".as_slice()));
     same(rt, records.get(3), None);
     assert!(rt; records.len() == 3);
-    same(rt, records.hash(2), 7 + (1 << 60));
 }
 
 #[test]
@@ -212,7 +224,7 @@ fn finds_number(
 )
     requires { IsOver records.now.list (record_room_of records.now) index.now }
 {
-    same(rt, index.find(records, 5, &number.to_le_bytes()), place);
+    same(rt, number_of(records, index, 5, &number.to_le_bytes()), place);
 }
 
 // Asserts that the numbers below 20 are found, and no greater one.

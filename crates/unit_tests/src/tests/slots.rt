@@ -1,10 +1,10 @@
 //! Which slots a search gives, after places, removals and a clear.
 ghost use Rattle.std.specs.Prelude.{◌≡◌, ◌<◌, ◌≤◌, [], List, length};
-ghost use Rattle.intaglio_packed.specs.Line.{Entry};
-ghost use Rattle.intaglio_packed.specs.Chains.{AreLines, HaveRoom, IsFilled, places_of};
+ghost use Rattle.intaglio_records.specs.Line.{Entry};
+ghost use Rattle.intaglio_records.specs.Chains.{AreLines, HaveRoom, IsFilled, places_of};
 
 use super::assertions::same;
-use intaglio_packed::Lines;
+use intaglio_records::Lines;
 use std::process::Abort;
 
 // Places the numbers below `count`, each under the hash that is so many times the number.

@@ -1,4 +1,4 @@
-use Rattle.intaglio_packed.proofs.IndexLemmas.{over-spare}
+use Rattle.intaglio_packed.proofs.PackedLemmas.{over-spare}
 use Rattle.intaglio_packed.proofs.packed_index.RecordIndexIndexOfPacked.prepare.Goals as goal
 
 pub returns-in_err-prepare-clause-over : goal.returns-in_err-prepare-clause-over

@@ -1,7 +1,7 @@
 use Rattle.std.proofs.Common.{◌≡◌, ℕ, List, [], ◌∷◌, ◌++◌, sym, ◌∙◌, arith}
 use Rattle.std.proofs.lemmas.List.{map-append}
-use Rattle.intaglio_packed.specs.Records.{record_room_of}
-use Rattle.intaglio_packed.proofs.IndexLemmas.{same_pairs, over_same}
+use Rattle.intaglio_records.specs.Records.{record_room_of}
+use Rattle.intaglio_records.proofs.IndexLemmas.{same_pairs, over_same}
 use Rattle.intaglio_packed.proofs.packed_index.RecordIndexIndexOfPacked.push.Goals as goal
 
 pub returns-clause-over : goal.returns-clause-over

@@ -1,4 +1,4 @@
-use Rattle.intaglio_packed.proofs.IndexLemmas.{over-spare}
+use Rattle.intaglio_packed.proofs.PackedLemmas.{over-spare}
 use Rattle.intaglio_packed.proofs.packed_index.RecordIndexIndexOfPacked.reserve_bytes.Goals as goal
 
 pub returns-in_err-reserve_bytes-clause-over : goal.returns-in_err-reserve_bytes-clause-over

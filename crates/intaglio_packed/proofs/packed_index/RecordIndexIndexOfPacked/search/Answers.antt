@@ -7,8 +7,8 @@ use Rattle.intaglio_content.specs.Store.{IsCompared}
 use Rattle.intaglio_content.specs.Work.{Event}
 use Rattle.intaglio_interner.specs.Cost.{Adds}
 use Rattle.intaglio_interner.specs.State.{first}
-use Rattle.intaglio_packed.specs.Matches.{IsLeft}
-use Rattle.intaglio_packed.specs.Records.{hashes_of, strings_of}
+use Rattle.intaglio_records.specs.Matches.{IsLeft}
+use Rattle.intaglio_records.specs.Records.{hashes_of, strings_of}
 use Rattle.intaglio_core.specs.IndexOf.{AreHashed, LookupCost}
 use Rattle.intaglio_core.proofs.Numbered.{IsSearching, begins, compared-as, ends, finds, goes_on, none_passed}
 use Rattle.intaglio_packed.proofs.EqualHashes.{equal-hashes}

@@ -1,6 +1,6 @@
 use Rattle.std.proofs.Common.{ℕ, List, map}
-use Rattle.intaglio_packed.specs.Records.{strings_of}
-use Rattle.intaglio_packed.specs.Matches.{AreAll, IsLeft, most_left}
+use Rattle.intaglio_records.specs.Records.{strings_of}
+use Rattle.intaglio_records.specs.Matches.{AreAll, IsLeft, most_left}
 use Rattle.intaglio_core.proofs.Numbered.{IsSearching}
 use Rattle.intaglio_packed.proofs.packed_index.RecordIndexIndexOfPacked.search.Given as goal
 

@@ -1,5 +1,5 @@
 use Rattle.std.proofs.Common.{refl}
-use Rattle.intaglio_packed.proofs.IndexLemmas.{gives_up}
+use Rattle.intaglio_packed.proofs.PackedLemmas.{gives_up}
 use Rattle.intaglio_packed.proofs.packed_index.RecordIndexIndexOfPacked.stays_over.Goals as goal
 
 pub returns-clause-over : goal.returns-clause-over

@@ -1,5 +1,5 @@
-use Rattle.intaglio_packed.specs.Index.{IsOver}
-use Rattle.intaglio_packed.specs.Records.{record_room_of}
+use Rattle.intaglio_records.specs.Index.{IsOver}
+use Rattle.intaglio_records.specs.Records.{record_room_of}
 use Rattle.unit_tests.proofs.tests.records.add_long.Given as goal
 
 abbrev pub invariant-loop-length : goal.invariant-loop-length

@@ -1,5 +1,5 @@
-use Rattle.intaglio_packed.specs.Records.{record_room_of}
-use Rattle.intaglio_packed.proofs.IndexLemmas.{over_short}
+use Rattle.intaglio_records.specs.Records.{record_room_of}
+use Rattle.intaglio_records.proofs.IndexLemmas.{over_short}
 use Rattle.unit_tests.proofs.tests.records.follow.Goals as goal
 
 pub returns-then-is_short : goal.returns-then-is_short

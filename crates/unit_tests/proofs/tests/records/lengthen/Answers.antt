@@ -1,4 +1,4 @@
-use Rattle.intaglio_packed.specs.Records.{record_room_of}
+use Rattle.intaglio_records.specs.Records.{record_room_of}
 use Rattle.unit_tests.proofs.tests.records.lengthen.Goals as goal
 
 pub returns : goal.returns

@@ -1,4 +1,4 @@
-use Rattle.intaglio_packed.specs.Search.{IsSearch}
+use Rattle.intaglio_records.specs.Search.{IsSearch}
 use Rattle.unit_tests.proofs.tests.slots.found.Given as goal
 
 abbrev pub invariant-loop-i : goal.invariant-loop-i

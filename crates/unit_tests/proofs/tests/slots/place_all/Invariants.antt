@@ -1,6 +1,6 @@
 use Rattle.std.proofs.Common.{◌≡◌, List, length}
-use Rattle.intaglio_packed.specs.Line.{Entry}
-use Rattle.intaglio_packed.specs.Chains.{IsFilled, places_of}
+use Rattle.intaglio_records.specs.Line.{Entry}
+use Rattle.intaglio_records.specs.Chains.{IsFilled, places_of}
 use Rattle.unit_tests.proofs.tests.slots.place_all.Given as goal
 
 abbrev pub invariant-loop-number : goal.invariant-loop-number

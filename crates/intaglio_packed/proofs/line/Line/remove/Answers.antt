@@ -1,5 +1,0 @@
-use Rattle.intaglio_packed.proofs.LineLemmas.{line-remove}
-use Rattle.intaglio_packed.proofs.line.Line.remove.Goals as goal
-
-pub returns : goal.returns
-returns c e es next is at = line-remove c.args.self.now e es next c.args.count c.requires is at

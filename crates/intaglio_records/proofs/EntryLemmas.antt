@@ -1,0 +1,128 @@
+-- Entries of records.
+use Rattle.std.proofs.Common.{◌≡◌, ℕ, ◌+◌, ◌<◌, ◌≤◌, suc, zero, Bool, List, [], ◌∷◌, ◌++◌, length, take, map, get_or, slice_get, Some, min, sum_by, refl, sym, ap, ◌∙◌, arith, take_all}
+use Rattle.std.proofs.lemmas.List.{get_or-map, get_or-take, get_or_append_left, length-append, length-drop, length-map, length-take, take-append-le, take-take}
+use Rattle.std.proofs.lemmas.List.Sums.{sum_by-cons}
+use Rattle.std.proofs.lemmas.Option.{get_or_from_slice_get}
+use Rattle.std.proofs.Math.Seq.{get_or-append_seam}
+use Rattle.intaglio_records.specs.Header.{hash_at}
+use Rattle.intaglio_records.specs.Records.{pair_of}
+use Rattle.intaglio_records.specs.Entries.{entries, entries_of, position, size_of, slot_of}
+use Rattle.intaglio_records.proofs.RecordLemmas.{AreLong}
+
+-- there are n entries of n records
+pub length-entries : (long : Bool) (rs : List (List ℕ)) (n : ℕ) → length (entries long rs n) ≡ n
+length-entries long rs zero = refl
+length-entries long rs (suc n) = ap suc (length-entries long rs n)
+
+-- the entry of record n, whose hash this is, in front of those before it
+pub entry-more : (long : Bool) (rs : List (List ℕ)) (n hash : ℕ) (r : List ℕ) → slice_get rs n ≡ Some r
+    → hash ≡ hash_at r 0
+    → entries long rs (n + 1) ≡ (hash, slot_of long n (position rs n)) ∷ entries long rs n
+entry-more long rs n hash r is h =
+    let e : n + 1 ≡ suc n = omega arith in
+    ap (entries long rs) e ∙ ap (λ x. (
+      x,
+      slot_of long n (position rs n),
+    ) ∷ entries long rs n) (ap (λ x. hash_at x 0) (get_or_from_slice_get rs n r [] is) ∙ sym h)
+
+-- where the entries of strings and of their records say that these begin
+begins-same : (rs : List (List ℕ)) (n : ℕ) → AreLong rs →
+    sum_by size_of (take n (map pair_of rs)) ≡ position rs n
+begins-same rs zero long = refl
+begins-same [] (suc n) long = refl
+begins-same (r ∷ rs) (suc n) long =
+    let rest = begins-same rs n (λ i l. long (suc i) (omega (arith, l))) in
+    omega (
+      arith,
+      long 0 (omega arith),
+      length-drop 13 r,
+      sum_by-cons length r (take n rs),
+      sum_by-cons size_of (pair_of r) (take n (map pair_of rs)),
+      rest,
+    )
+
+-- the entries of strings are those of their records
+pub entries-same : (is_long : Bool) (rs : List (List ℕ)) (n : ℕ) → AreLong rs → n ≤ length rs
+    → entries_of is_long (map pair_of rs) n ≡ entries is_long rs n
+entries-same is_long rs zero long l = refl
+entries-same is_long rs (suc n) long l =
+    let within : n < length rs = omega (arith, l) in
+    let hash : (get_or (map pair_of rs) n (0, [])).0 ≡ hash_at (get_or rs n []) 0 =
+    ap (λ (p : ℕ × List ℕ). p.0) (get_or-map pair_of rs n [] (0, []) within) in
+    rw (hash, begins-same rs n long, entries-same is_long rs n long (omega (arith, l))) refl
+
+-- of the first n
+pub entries-first : (is_long : Bool) (xs : List (ℕ × List ℕ)) (rs : List (List ℕ)) (n : ℕ) →
+    map pair_of rs ≡ xs
+    → AreLong rs → n ≤ length rs → entries_of is_long xs n ≡ entries is_long rs n
+entries-first is_long xs rs n same long l = rw (← same) (entries-same is_long rs n long l)
+
+-- and of all
+pub entries-all : (is_long : Bool) (xs : List (ℕ × List ℕ)) (rs : List (List ℕ)) →
+    map pair_of rs ≡ xs → AreLong rs
+    → entries_of is_long xs (length xs) ≡ entries is_long rs (length rs)
+entries-all is_long xs rs same long =
+    rw (← same, length-map rs pair_of) (entries-same is_long rs (length rs) long (omega arith))
+
+-- the bytes of all records
+sizes-same : (rs : List (List ℕ)) → AreLong rs → sum_by size_of (map pair_of rs) ≡ sum_by length rs
+sizes-same [] long = refl
+sizes-same (r ∷ rs) long =
+    omega (
+      arith,
+      long 0 (omega arith),
+      length-drop 13 r,
+      sum_by-cons length r rs,
+      sum_by-cons size_of (pair_of r) (map pair_of rs),
+      sizes-same rs (λ i l. long (suc i) (omega (arith, l))),
+    )
+
+-- said of the strings
+pub sizes-all : (xs : List (ℕ × List ℕ)) (rs : List (List ℕ)) → map pair_of rs ≡ xs → AreLong rs
+    → sum_by size_of xs ≡ sum_by length rs
+sizes-all xs rs same long = rw (← same) (sizes-same rs long)
+
+-- the entries of the first n strings stay when a string is added behind them
+pub entries-append : (long : Bool) (xs : List (ℕ × List ℕ)) (x : ℕ × List ℕ) (n : ℕ) → n ≤ length xs
+    → entries_of long (xs ++ x ∷ []) n ≡ entries_of long xs n
+entries-append long xs x zero l = refl
+entries-append long xs x (suc n) l =
+    let within : n < length xs = omega arith in
+    let before : n ≤ length xs = omega arith in
+    rw (
+      get_or_append_left xs (x ∷ []) (0, []) n within,
+      take-append-le n xs (x ∷ []) before,
+      entries-append long xs x n before,
+    ) refl
+
+-- with that of the string that is added
+pub entries-push : (long : Bool) (xs : List (ℕ × List ℕ)) (x : ℕ × List ℕ) (at : ℕ) → at ≡ sum_by size_of xs
+    → entries_of long (xs ++ x ∷ []) (length (xs ++ x ∷ [])) ≡ (x.0, slot_of long (length xs) at)
+    ∷ entries_of long xs (length xs)
+entries-push long xs x at a =
+    let n = length xs in
+    let e : length (xs ++ x ∷ []) ≡ suc n = omega (arith, length-append xs (x ∷ [])) in
+    let here : get_or (xs ++ x ∷ []) n (0, []) ≡ x = get_or-append_seam xs x [] (0, []) in
+    let all : take n (xs ++ x ∷ []) ≡ xs = take-append-le n xs (x ∷ []) (omega arith)
+    ∙ take_all n xs (omega arith) in
+    ap (entries_of long (xs ++ x ∷ [])) e ∙ rw (here, all, a, entries-append long xs x n (omega arith)) refl
+
+-- and when strings behind them are dropped
+pub entries-take : (long : Bool) (m : ℕ) (xs : List (ℕ × List ℕ)) (n : ℕ) → n ≤ m
+    → entries_of long (take m xs) n ≡ entries_of long xs n
+entries-take long m xs zero l = refl
+entries-take long m xs (suc n) l =
+    let within : n < m = omega arith in
+    let before : n ≤ m = omega arith in
+    rw (get_or-take m xs n (0, []) within, take-take n m xs before, entries-take long m xs n before) refl
+
+-- so the entries of the first m strings are the first m entries
+pub entries-cut : (long : Bool) (m : ℕ) (xs : List (ℕ × List ℕ))
+    → entries_of long (take m xs) (length (take m xs)) ≡ entries_of long xs (min m (length xs))
+entries-cut long m xs = ap (entries_of long (take m xs)) (length-take m xs)
+    ∙ entries-take long m xs (min m (length xs)) (omega arith)
+
+-- there is an entry for each
+pub length-entries_of : (long : Bool) (xs : List (ℕ × List ℕ)) (n : ℕ) → length (entries_of long xs n) ≡ n
+length-entries_of long xs zero = refl
+length-entries_of long xs (suc n) = ap suc (length-entries_of long xs n)

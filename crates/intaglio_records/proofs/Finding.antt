@@ -1,0 +1,153 @@
+-- A search finds each entry of its class and tag once.
+use Rattle.std.proofs.Common.{◌≡◌, ◌≢◌, ℕ, ◌%◌, ◌<◌, ◌≤◌, ◌==◌, ◌&&◌, List, [], ◌∷◌, ◌++◌, length, cond, refl, sym, subst, ap, ◌∙◌, arith, inl, inr, append_assoc}
+use Rattle.std.specs.List.Sorted.{IsPermutation}
+use Rattle.std.proofs.lemmas.Bool.{cases_eq, cases_lt, cond-true, cond-false, eq-eqb, ne_eqb}
+use Rattle.std.proofs.lemmas.Bool.Decides.{eqb_tells}
+use Rattle.std.proofs.lemmas.List.Sorted.{IsPermutation-refl, IsPermutation-trans, IsPermutation-append_left, IsPermutation-append_right, IsPermutation-append_comm}
+use Rattle.intaglio_records.specs.Line.{Entry, tag_of}
+use Rattle.intaglio_records.specs.Chains.{Overflow, first_line, newest_length, add, overflow, newest}
+use Rattle.intaglio_records.specs.Search.{slots_with, overflow_slots, slots_of, AreFound}
+use Rattle.intaglio_records.proofs.Tops.{first-other, first-here, first-full, overflow-same, overflow-add, overflow-new, is-top, length-none}
+
+-- an entry in the middle
+inserted : (one front behind : List ℕ) → IsPermutation (one ++ (front ++ behind)) ((front ++ one) ++ behind)
+inserted one front behind =
+    subst (λ xs. IsPermutation xs ((front ++ one) ++ behind)) (append_assoc one front behind)
+    (IsPermutation-append_left behind (one ++ front) (front ++ one) (IsPermutation-append_comm one front))
+
+-- an entry that is added to an overflow line of one class doesn't change the overflow slots of another
+slots-other : (k c tag : ℕ) (e : Entry) (os : List Overflow) → k ≢ c →
+    overflow_slots k tag (add c e os) ≡ overflow_slots k tag os
+slots-other k c tag e [] other = refl
+slots-other k c tag e (o ∷ os) other =
+    elim (eqb_tells o.0 c) [
+      | inl h ↦ (let apart = ne_eqb o.0 k (λ same. other (sym same ∙ h.1)) in rw (h.0, apart) refl)
+      | inr h ↦ elim (eqb_tells o.0 k) [
+        | inl at ↦ rw (h.0, at.0) (ap (λ rest. slots_with tag o.1 ++ rest) (slots-other k c tag e os other))
+        | inr at ↦ rw (h.0, at.0) (slots-other k c tag e os other)
+      ]
+    ]
+
+-- the slot of an entry, if it has the tag
+abbrev one_of : ℕ → Entry → List ℕ
+one_of tag e = cond (tag_of e.0 == tag) (e.1 ∷ []) []
+
+-- an entry that is added to an overflow line of its class adds its slot to those there, if it has the tag
+slots-here : (base c tag : ℕ) (e : Entry) (os : List Overflow) → 0 < newest base c os →
+    IsPermutation (one_of tag e ++ overflow_slots c tag os) (overflow_slots c tag (add c e os))
+slots-here base c tag e [] some = absurd (omega (arith, some))
+slots-here base c tag e (o ∷ os) some =
+    elim (eqb_tells o.0 c) [
+      | inl h ↦ rw (h.0, h.0) (inserted (one_of tag e) (slots_with tag o.1) (overflow_slots c tag os))
+      | inr h ↦ rw (h.0, h.0) (slots-here base c tag e os (rw h.0 at some))
+    ]
+
+-- one more entry doesn't change the overflow slots of another class
+overflow_slots-other : (base k tag : ℕ) (e : Entry) (es : List Entry) → k ≢ e.0 % base →
+    overflow_slots k tag (overflow base (e ∷ es)) ≡ overflow_slots k tag (overflow base es)
+overflow_slots-other base k tag e es other =
+    let c = e.0 % base in let os = overflow base es in
+    elim (cases_lt (length (first_line base c es)) 11) [
+      | inl lt ↦ ap (overflow_slots k tag) (overflow-same base e es lt)
+      | inr full ↦ elim (cases_lt (newest_length c os) 11) [
+        | inl lt ↦ ap (overflow_slots k tag) (overflow-add base e es full lt) ∙ slots-other k c tag e os other
+        | inr none ↦
+            ap (overflow_slots k tag) (overflow-new base e es full none)
+            ∙ cond-false (c == k) (slots_with tag (e ∷ []) ++ overflow_slots k tag os)
+            (overflow_slots k tag os) (ne_eqb c k (λ same. other (sym same)))
+      ]
+    ]
+
+-- the slots of one class and tag
+abbrev found : ℕ → ℕ → ℕ → List Entry → List ℕ
+found base c tag es = slots_with tag (first_line base c es) ++ overflow_slots c tag (overflow base es)
+
+-- one more entry doesn't change the slots of another class
+found-other : (base k tag : ℕ) (e : Entry) (es : List Entry) → k ≢ e.0 % base →
+    found base k tag (e ∷ es) ≡ found base k tag es
+found-other base k tag e es other =
+    ap (λ xs. slots_with tag xs ++ overflow_slots k tag (overflow base (e ∷ es)))
+    (first-other base k e es other)
+    ∙ ap (λ xs. slots_with tag (first_line base k es) ++ xs) (overflow_slots-other base k tag e es other)
+
+-- behind a first line that is full
+found-behind : (base tag : ℕ) (e : Entry) (es : List Entry) (behind : List ℕ) →
+    11 ≤ length (first_line base (e.0 % base) es) →
+    overflow_slots (e.0 % base) tag (overflow base (e ∷ es)) ≡ behind →
+    IsPermutation (one_of tag e ++ overflow_slots (e.0 % base) tag (overflow base es)) behind →
+    IsPermutation (one_of tag e ++ found base (e.0 % base) tag es) (found base (e.0 % base) tag (e ∷ es))
+found-behind base tag e es behind full is perm =
+    let c = e.0 % base in
+    let front = slots_with tag (first_line base c es) in
+    let rest = overflow_slots c tag (overflow base es) in
+    let whole : found base c tag (e ∷ es) ≡ front ++ behind =
+    ap (λ xs. slots_with tag xs ++ overflow_slots c tag (overflow base (e ∷ es)))
+    (first-full base e es full c) ∙ ap (λ xs. front ++ xs) is in
+    subst (λ xs. IsPermutation (one_of tag e ++ (front ++ rest)) xs) (sym whole)
+    (IsPermutation-trans (one_of tag e ++ (front ++ rest)) (front ++ (one_of tag e ++ rest)) (front ++ behind)
+    (subst (λ xs. IsPermutation (one_of tag e ++ (front ++ rest)) xs) (append_assoc front (one_of tag e) rest)
+    (inserted (one_of tag e) front rest))
+    (IsPermutation-append_right front (one_of tag e ++ rest) behind perm))
+
+-- an entry that makes a new overflow line adds its slot to those of its class, if it has the tag
+found-new : (base tag : ℕ) (e : Entry) (es : List Entry) → 11 ≤ length (first_line base (e.0 % base) es) →
+    11 ≤ newest_length (e.0 % base) (overflow base es) →
+    IsPermutation (one_of tag e ++ found base (e.0 % base) tag es) (found base (e.0 % base) tag (e ∷ es))
+found-new base tag e es full none =
+    let c = e.0 % base in let os = overflow base es in
+    found-behind base tag e es (one_of tag e ++ overflow_slots c tag os) full
+    (ap (overflow_slots c tag) (overflow-new base e es full none)
+    ∙ cond-true (c == c) (one_of tag e ++ overflow_slots c tag os) (overflow_slots c tag os)
+    (eq-eqb c c refl))
+    (IsPermutation-refl (one_of tag e ++ overflow_slots c tag os))
+
+-- if there is a first line, one more entry adds its slot to those of its class, if it has the tag
+found-here : (base tag : ℕ) (e : Entry) (es : List Entry) → 0 < base →
+    IsPermutation (one_of tag e ++ found base (e.0 % base) tag es) (found base (e.0 % base) tag (e ∷ es))
+found-here base tag e es some =
+    let c = e.0 % base in let os = overflow base es in
+    elim (is-top base c es some) [
+      | inl h ↦ elim (cases_lt (length (first_line base c es)) 11) [
+        | inl lt ↦
+            (let whole : found base c tag (e ∷ es) ≡ (slots_with tag (first_line base c es) ++ one_of tag e)
+            ++ overflow_slots c tag os =
+            ap (λ xs. slots_with tag xs ++ overflow_slots c tag (overflow base (e ∷ es)))
+            (first-here base e es lt)
+            ∙ ap (λ xs. (slots_with tag (first_line base c es) ++ one_of tag e) ++ overflow_slots c tag xs)
+            (overflow-same base e es lt) in
+            subst (λ xs. IsPermutation (one_of tag e ++ found base c tag es) xs) (sym whole)
+            (inserted (one_of tag e) (slots_with tag (first_line base c es)) (overflow_slots c tag os)))
+        | inr full ↦ found-new base tag e es full (omega (arith, length-none base c os some h.0))
+      ]
+      | inr h ↦ elim (cases_lt (newest_length c os) 11) [
+        | inl lt ↦
+            found-behind base tag e es (overflow_slots c tag (add c e os)) (omega (arith, h.1))
+            (ap (overflow_slots c tag) (overflow-add base e es (omega (arith, h.1)) lt))
+            (slots-here base c tag e os h.0)
+        | inr none ↦ found-new base tag e es (omega (arith, h.1)) none
+      ]
+    ]
+
+-- if there is a first line, a search by a hash gives the slot of each entry of its class and tag once
+pub are-found : (base hash : ℕ) (es : List Entry) → 0 < base → AreFound base hash es
+are-found base hash [] some = IsPermutation-refl []
+are-found base hash (e ∷ es) some =
+    let k = hash % base in let tag = tag_of hash in
+    let old = are-found base hash es some in
+    elim (cases_eq k (e.0 % base)) [
+      | inr other ↦
+          (let apart = ne_eqb (e.0 % base) k (λ same. other (sym same)) in
+          subst (λ xs. IsPermutation (slots_of base hash (e ∷ es)) xs)
+          (sym (found-other base k tag e es other)) (rw apart old))
+      | inl same ↦
+          (let one : slots_of base hash (e ∷ es) ≡ one_of tag e ++ slots_of base hash es =
+          ap (λ b. cond (b && (tag_of e.0 == tag)) (e.1 ∷ []) [] ++ slots_of base hash es)
+          (eq-eqb (e.0 % base) k (sym same)) in
+          let here : IsPermutation (one_of tag e ++ found base k tag es) (found base k tag (e ∷ es)) =
+          subst (λ n. IsPermutation (one_of tag e ++ found base n tag es) (found base n tag (e ∷ es)))
+          (sym same) (found-here base tag e es some) in
+          subst (λ xs. IsPermutation xs (found base k tag (e ∷ es))) (sym one)
+          (IsPermutation-trans (one_of tag e ++ slots_of base hash es) (one_of tag e ++ found base k tag es)
+          (found base k tag (e ∷ es))
+          (IsPermutation-append_right (one_of tag e) (slots_of base hash es) (found base k tag es) old) here))
+    ]

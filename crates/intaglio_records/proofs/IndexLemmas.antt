@@ -1,0 +1,49 @@
+-- Indexes over records.
+use Rattle.std.proofs.Common.{◌≡◌, ℕ, ◌^◌, ◌≤◌, List, [], ◌∷◌, length, map, drop, get_or, refl, sym, ap, arith}
+use Rattle.intaglio_records.specs.declared.index.RecordIndex.{RecordIndex}
+use Rattle.intaglio_records.specs.Index.{IsOver}
+
+-- an index stays over records that have less room
+pub over_less : (xs : List (ℕ × List ℕ)) (room less : ℕ) (index : RecordIndex) → IsOver xs room index →
+    less ≤ room
+    → IsOver xs less index
+over_less xs room less index is l = record {
+  filled = is.filled;
+  within = is.within;
+  places = is.places;
+  short = λ e. omega (arith, is.short e, l);
+}
+
+-- and over records with other room, if four bytes reach all of it
+pub over_short : (xs : List (ℕ × List ℕ)) (room other : ℕ) (index : RecordIndex) → IsOver xs room index
+    → other ≤ 2 ^ 32 - 1 → IsOver xs other index
+over_short xs room other index is l = record {
+  filled = is.filled;
+  within = is.within;
+  places = is.places;
+  short = λ _. l;
+}
+
+-- the same, where the strings and the room are said in other words
+pub over_same : (xs ys : List (ℕ × List ℕ)) (room same : ℕ) (index : RecordIndex) → xs ≡ ys → room ≡ same
+    → IsOver xs room index
+    → IsOver ys same index
+over_same xs ys room same index e f is = rw (← e, ← f) is
+
+-- two pairs are equal if their numbers and their strings are
+same_pair : (a b : ℕ) (s t : List ℕ) → a ≡ b → s ≡ t → ◌≡◌ {A = ℕ × List ℕ} (a, s) (b, t)
+same_pair a b s t e f = rw (e, f) refl
+
+-- pairs are the same if their hashes and their strings are
+pub same_pairs : (xs ys : List (ℕ × List ℕ)) →
+    map (λ (p : ℕ × List ℕ). p.0) xs ≡ map (λ (p : ℕ × List ℕ). p.0) ys
+    → map (λ (p : ℕ × List ℕ). p.1) xs ≡ map (λ (p : ℕ × List ℕ). p.1) ys → xs ≡ ys
+same_pairs [] [] e f = refl
+same_pairs [] (y ∷ ys) e f = absurd (omega (arith, ap length e))
+same_pairs (x ∷ xs) [] e f = absurd (omega (arith, ap length e))
+same_pairs (x ∷ xs) (y ∷ ys) e f =
+    let hash : x.0 ≡ y.0 = ap (λ hs. get_or hs 0 0) e in
+    let string : x.1 ≡ y.1 = ap (λ ss. get_or ss 0 []) f in
+    let first : x ≡ y = same_pair x.0 y.0 x.1 y.1 hash string in
+    let rest : xs ≡ ys = same_pairs xs ys (ap (drop 1) e) (ap (drop 1) f) in
+    rw (first, rest) refl

@@ -1,0 +1,103 @@
+-- What a line has, and how it changes.
+use Rattle.std.proofs.Common.{◌≡◌, ◌≢◌, ℕ, ◌/◌, ◌^◌, ◌<◌, ◌≤◌, ◌==◌, List, [], ◌∷◌, length, get_or, set, sym, ◌∙◌, arith, inl, inr}
+use Rattle.std.proofs.lemmas.Bool.{cases_eq, cases_order, cond_both, eqb-false}
+use Rattle.std.proofs.lemmas.List.{get_or-set_same, get_or-set_other, length-set}
+use Rattle.intaglio_records.specs.declared.line.Line.{Line}
+use Rattle.intaglio_records.specs.Line.{Entry, tag_of, AreIn, IsLine}
+
+-- a tag isn't 0
+pub tag-some : (hash : ℕ) → 0 < tag_of hash
+tag-some hash =
+    let top = hash / 2 ^ 56 in
+    cond_both (top == 0) 1 top (λ n. 0 < n) (λ none. omega arith)
+    (λ some. (let other = eqb-false top 0 some in elim (cases_order top 0) [
+      | inl none ↦ absurd (other none)
+      | inr (inl below) ↦ omega arith
+      | inr (inr above) ↦ above
+    ]))
+
+-- an entry has a tag
+pub entry-tag : (tags slots : List ℕ) (es : List Entry) (i : ℕ) → AreIn tags slots es → i < length es →
+    0 < get_or tags i 0
+entry-tag tags slots [] i are lt = omega arith
+entry-tag tags slots (e ∷ es) i are lt =
+    elim (cases_eq i (length es)) [
+      | inl same ↦ rw (same, are.0) (tag-some e.0)
+      | inr other ↦ entry-tag tags slots es i are.2 (omega arith)
+    ]
+
+-- what is written behind the entries changes none of them
+pub kept-by-tag : (tags slots : List ℕ) (es : List Entry) (i x : ℕ) → length es ≤ i → AreIn tags slots es →
+    AreIn (set tags i x) slots es
+kept-by-tag tags slots [] i x le are = tt
+kept-by-tag tags slots (e ∷ es) i x le are =
+    let other : length es ≢ i = λ same. omega arith in (
+      get_or-set_other tags i (length es) x 0 other ∙ are.0,
+      are.1,
+      kept-by-tag tags slots es i x (omega arith) are.2,
+    )
+
+-- a slot that is written behind the entries of a line changes none of them
+pub kept-by-slot : (tags slots : List ℕ) (es : List Entry) (i x : ℕ) → length es ≤ i → AreIn tags slots es →
+    AreIn tags (set slots i x) es
+kept-by-slot tags slots [] i x le are = tt
+kept-by-slot tags slots (e ∷ es) i x le are =
+    let other : length es ≢ i = λ same. omega arith in (
+      are.0,
+      get_or-set_other slots i (length es) x 0 other ∙ are.1,
+      kept-by-slot tags slots es i x (omega arith) are.2,
+    )
+
+-- the tag and the slot of an entry, written behind fewer than eleven others of a line, add it to the line
+pub line-put : (line : Line) (es : List Entry) (next count tag slot hash : ℕ) → count < 11 →
+    IsLine line es next → count ≡ length es → tag ≡ tag_of hash →
+    IsLine (record { tags = set line.tags count tag; slots = set line.slots count slot })
+    ((hash, slot) ∷ es) next
+line-put line es next count tag slot hash few is at is_tag =
+    let le : length es ≤ count = omega (arith, at) in
+    let other : 11 ≢ count = λ same. omega arith in
+    record {
+      entries = (
+        rw (sym at) (get_or-set_same line.tags count tag 0 (omega (arith, few, is.tags)) ∙ is_tag),
+        rw (sym at) (get_or-set_same line.slots count slot 0 (omega (arith, few, is.slots))),
+        kept-by-slot (set line.tags count tag) line.slots es count slot le
+            (kept-by-tag line.tags line.slots es count tag le is.entries),
+      );
+      few = omega (arith, few, at);
+      others = λ i le. (let past : i ≢ count = λ same. omega (arith, at, le, same) in
+          get_or-set_other line.tags count i tag 0 past ∙ is.others i (omega (arith, le)));
+      next_is = get_or-set_other line.slots count 11 slot 0 other ∙ is.next_is;
+      tags = length-set line.tags count tag ∙ is.tags;
+      slots = length-set line.slots count slot ∙ is.slots;
+    }
+
+-- a line whose newest entry's tag is set to 0 has the entries before it
+pub line-remove : (line : Line) (e : Entry) (es : List Entry) (next count : ℕ) → count < 11 →
+    IsLine line (e ∷ es) next → count ≡ length es →
+    IsLine (record { tags = set line.tags count 0; slots = line.slots }) es next
+line-remove line e es next count few is at =
+    record {
+      entries = kept-by-tag line.tags line.slots es count 0 (omega (arith, at)) is.entries.2;
+      few = omega (arith, few, at);
+      others = λ i le. elim (cases_eq i count) [
+        | inl same ↦ rw same (get_or-set_same line.tags count 0 0 (omega (arith, few, is.tags)))
+        | inr other ↦ get_or-set_other line.tags count i 0 0 other
+            ∙ is.others i (omega (arith, le, at, other))
+      ];
+      next_is = is.next_is;
+      tags = length-set line.tags count 0 ∙ is.tags;
+      slots = is.slots;
+    }
+
+-- a line whose slot 11 is written keeps its entries and leads to the line with that number
+pub line-next : (line : Line) (es : List Entry) (old next : ℕ) → IsLine line es old →
+    IsLine (record { tags = line.tags; slots = set line.slots 11 next }) es next
+line-next line es old next is =
+    record {
+      entries = kept-by-slot line.tags line.slots es 11 next is.few is.entries;
+      few = is.few;
+      others = is.others;
+      next_is = get_or-set_same line.slots 11 next 0 (omega (arith, is.slots));
+      tags = is.tags;
+      slots = length-set line.slots 11 next ∙ is.slots;
+    }

@@ -1,0 +1,344 @@
+-- Searches among records.
+use Rattle.std.proofs.Common.{◌≡◌, ◌≢◌, ℕ, zero, suc, ◌+◌, ◌%◌, ◌^◌, ◌<◌, ◌≤◌, ◌==◌, ◌&&◌, nat_lt, Bool, true, false, inl, inr, arith, sum_by, List, [], ◌∷◌, ◌++◌, length, drop, get_or, slice_get, Some, option_map, map, take, take_all, cond, refl, sym, ap, ◌∙◌, subst}
+use Rattle.std.specs.List.{concat, filter, All}
+use Rattle.std.proofs.lemmas.Bool.{cases_lt, cond_both, cond-true, cond-false, eq-eqb, ne_eqb, lt-ltb, le-ltb}
+use Rattle.std.proofs.lemmas.Bool.Decides.{eqb_tells}
+use Rattle.std.proofs.lemmas.List.Sums.{sum_by-cons}
+use Rattle.std.proofs.lemmas.Option.{get_or_from_slice_get, slice_get-map, slice_get-get_or, slice_get_within}
+use Rattle.std.proofs.lemmas.List.Elements.{All-cons, All-head, All-nil, All-tail}
+use Rattle.intaglio_records.specs.declared.search.Candidates.{Candidates}
+use Rattle.intaglio_records.specs.Search as search
+use Rattle.intaglio_records.specs.declared.matches.Matches.{Matches}
+use Rattle.intaglio_records.specs.Header.{hash_at, number_at}
+use Rattle.intaglio_records.specs.Line.{Entry, tag_of}
+use Rattle.intaglio_records.specs.Records.{pair_of, AreRecords}
+use Rattle.intaglio_records.specs.Entries.{entries, position, slot_of}
+use Rattle.intaglio_records.proofs.Reading.{there}
+use Rattle.intaglio_records.specs.Matches.{IsPosition, IsSlot, begin_of, numbers_with, one_of, AreAll, IsLeft}
+use Rattle.std.specs.List.Sorted.{IsPermutation}
+use Rattle.std.proofs.lemmas.List.{get_or-map, length-map}
+use Rattle.std.proofs.lemmas.List.Filters.{length-filter_more}
+use Rattle.std.proofs.lemmas.List.Sorted.{sum_by-IsPermutation}
+
+-- what is known after a slot is given whose record begins here: whether that is the
+-- next to be given depends on its hash
+pub record Stepped (xs : List (ℕ
+    × List ℕ)) (hash : ℕ) (matches : Matches) (at : ℕ) (left : List ℕ) : Type 0 where
+  pub rest : List ℕ
+  pub begins : IsPosition matches.records.now.list at
+  pub is : IsLeft xs hash matches rest
+  pub same : hash_at (concat matches.records.now.list) at ≡ hash
+      → left ≡ number_at (concat matches.records.now.list) at ∷ rest
+  pub other : hash_at (concat matches.records.now.list) at ≢ hash → left ≡ rest
+
+-- the record of a slot begins where it says
+pub slot-begins : (long : Bool) (rs : List (List ℕ)) (slot : ℕ) → IsSlot long rs slot
+    → IsPosition rs (begin_of long rs slot)
+slot-begins true rs slot is = (is.0, is.1, ap (position rs) is.2)
+slot-begins false rs slot is = is
+
+-- that of the slot of record i begins where that record does
+begin-is : (long : Bool) (rs : List (List ℕ)) (i : ℕ)
+    → begin_of long rs (slot_of long i (position rs i)) ≡ position rs i
+begin-is true rs i = refl
+begin-is false rs i = refl
+
+-- the slot that a search gives is that of a record
+pub slot-given : (xs : List (ℕ × List ℕ)) (hash : ℕ) (matches : Matches) (next : Candidates) (slot : ℕ)
+    (left : List ℕ)
+    → IsLeft xs hash matches left
+    → ((slots : List ℕ) → search.IsLeft matches.candidates slots → (rest : List ℕ) × (slots ≡ slot ∷ rest)
+    × search.IsLeft next rest)
+    → IsSlot matches.is_long matches.records.now.list slot
+slot-given xs hash matches next slot left is gives =
+    let given = gives is.slots is.slots_left in
+    let here = IsSlot matches.is_long matches.records.now.list in
+    All-head here slot given.0 (subst (λ ss. All here ss) given.1 is.each_slot)
+
+-- when a search gives a slot, what was left is its record's number, if that has the hash, and the rest
+pub stepped : (xs : List (ℕ
+    × List ℕ)) (hash : ℕ) (matches : Matches) (next : Candidates) (slot at : ℕ) (left : List ℕ)
+    → at ≡ begin_of matches.is_long matches.records.now.list slot → IsLeft xs hash matches left
+    → ((slots : List ℕ) → search.IsLeft matches.candidates slots → (rest : List ℕ) × (slots ≡ slot ∷ rest)
+    × search.IsLeft next rest)
+    → Stepped xs hash (record matches { candidates = next }) at left
+stepped xs hash matches next slot at left begins is gives =
+    let given = gives is.slots is.slots_left in
+    let slots = given.0 in
+    let rs = matches.records.now.list in
+    let bytes = concat rs in
+    let here = IsSlot matches.is_long rs in
+    let begin = begin_of matches.is_long rs in
+    let all : All here (slot ∷ slots) = subst (λ ss. All here ss) given.1 is.each_slot in
+    let first : here slot = All-head here slot slots all in
+    let now : left ≡ numbers_with hash bytes (at ∷ map begin slots) = is.left_is
+    ∙ ap (λ ss. numbers_with hash bytes (map begin ss)) given.1
+    ∙ ap (λ a. numbers_with hash bytes (a ∷ map begin slots)) (sym begins) in
+    let rest = numbers_with hash bytes (map begin slots) in
+    record {
+      rest = rest;
+      begins = subst (IsPosition rs) (sym begins) (slot-begins matches.is_long rs slot first);
+      is = record {
+        slots = slots;
+        slots_left = given.2;
+        each = is.each;
+        few = is.few;
+        each_slot = All-tail here slot slots all;
+        list = is.list;
+        hash_is = is.hash_is;
+        left_is = refl;
+      };
+      same = λ e. now
+          ∙ cond-true (hash_at bytes at == hash) (number_at bytes at ∷ rest) rest
+          (eq-eqb (hash_at bytes at) hash e);
+      other = λ n. now
+          ∙ cond-false (hash_at bytes at == hash) (number_at bytes at ∷ rest) rest
+          (ne_eqb (hash_at bytes at) hash n);
+    }
+
+-- the pair of the record that is found
+pub found : (xs : List (ℕ × List ℕ)) (rs : List (List ℕ)) (i number hash : ℕ) (string : List ℕ)
+    → map pair_of rs ≡ xs → i < length rs → number ≡ i
+    → hash ≡ hash_at (get_or rs i []) 0 → string ≡ drop 13 (get_or rs i [])
+    → slice_get xs number ≡ Some (hash, string)
+found xs rs i number hash string list l n h s =
+    rw (← list, n, h, s) (slice_get-map pair_of rs i ∙ ap (option_map pair_of) (slice_get-get_or rs i [] l))
+
+-- how often number i is among those with the hash, said of where their records begin
+abbrev pub count_at : ℕ → List ℕ → ℕ → ℕ → ℕ
+count_at hash bytes i at = cond (hash_at bytes at == hash) (one_of i (number_at bytes at)) 0
+
+-- a number in front, which is taken if it has the hash, then adds to the count of i whether it is i
+count-one : (h hash number i : ℕ) (rest : List ℕ)
+    → sum_by (one_of i) (cond (h == hash) (number ∷ rest) rest) ≡ cond (h == hash) (one_of i number) 0
+    + sum_by (one_of i) rest
+count-one h hash number i rest =
+    elim (eqb_tells h hash) [
+      | inl e ↦ rw (e.0) (sum_by-cons (one_of i) number rest)
+      | inr n ↦ rw (n.0) (omega arith)
+    ]
+
+-- number i is among those with the hash as often as is counted over where their records begin
+pub count-numbers : (hash : ℕ) (bytes : List ℕ) (i : ℕ) (ats : List ℕ)
+    → sum_by (one_of i) (numbers_with hash bytes ats) ≡ sum_by (count_at hash bytes i) ats
+count-numbers hash bytes i [] = refl
+count-numbers hash bytes i (at ∷ ats) =
+    count-one (hash_at bytes at) hash (number_at bytes at) i (numbers_with hash bytes ats)
+    ∙ ap (λ n. count_at hash bytes i at + n) (count-numbers hash bytes i ats)
+    ∙ sym (sum_by-cons (count_at hash bytes i) at ats)
+
+-- the slots of the first n records are slots of records
+pub slots-all : (long : Bool) (rs : List (List ℕ)) (base hash n : ℕ) → n ≤ length rs
+    → All (IsSlot long rs) (search.slots_of base hash (entries long rs n))
+slots-all long rs base hash zero l = All-nil (IsSlot long rs)
+slots-all long rs base hash (suc n) l =
+    let rest = slots-all long rs base hash n (omega (arith, l)) in
+    let slot = slot_of long n (position rs n) in
+    cond_both
+    ((hash_at (get_or rs n []) 0 % base == hash % base) && (tag_of (hash_at (get_or rs n []) 0)
+    == tag_of hash))
+    (slot ∷ [])
+    []
+    (λ front. All (IsSlot long rs) (front ++ search.slots_of base hash (entries long rs n)))
+    (λ _. All-cons (IsSlot long rs) slot (search.slots_of base hash (entries long rs n)) (
+      n,
+      omega (arith, l),
+      refl,
+    ) rest)
+    (λ _. rest)
+
+-- what the entry of number n adds to a sum over the slots
+count-entry : (base hash h at value : ℕ) (es : List Entry) (f : ℕ → ℕ) → f at ≡ cond (h == hash) value 0
+    → sum_by f (search.slots_of base hash ((
+      h,
+      at,
+    ) ∷ es)) ≡ cond (h == hash) value 0 + sum_by f (search.slots_of base hash es)
+count-entry base hash h at value es f is =
+    let rest = search.slots_of base hash es in
+    elim (eqb_tells h hash) [
+      | inl e ↦
+          (let class : (h % base == hash % base) ≡ true =
+          eq-eqb (h % base) (hash % base) (ap (λ x. x % base) e.1) in
+          let tag : (tag_of h == tag_of hash) ≡ true = eq-eqb (tag_of h) (tag_of hash) (ap tag_of e.1) in
+          rw (class, tag) (sum_by-cons f at rest ∙ ap (λ x. x + sum_by f rest) is))
+      | inr n ↦
+          (let none : f at ≡ 0 = is ∙ cond-false (h == hash) value 0 n.0 in
+          cond_both
+          ((h % base == hash % base) && (tag_of h == tag_of hash))
+          (at ∷ [])
+          []
+          (λ front. sum_by f (front ++ rest) ≡ cond (h == hash) value 0 + sum_by f rest)
+          (λ _. sum_by-cons f at rest ∙ ap (λ x. x + sum_by f rest) is)
+          (λ _. rw (n.0) (omega arith)))
+    ]
+
+-- what is counted of the first n numbers, and of one more
+count-more : (hn hi hash i n : ℕ) → (n ≡ i → hn ≡ hi)
+    → cond (hn == hash) (one_of i n) 0 + cond (nat_lt i n && (hi == hash)) 1 0
+    ≡ cond (nat_lt i (suc n) && (hi == hash)) 1 0
+count-more hn hi hash i n same =
+    elim (eqb_tells n i) [
+      | inl e ↦ rw (
+        e.0,
+        le-ltb i n (omega (arith, e.1)),
+        lt-ltb i (suc n) (omega (arith, e.1)),
+        same e.1,
+      ) (omega arith)
+      | inr d ↦
+          (let none : cond (hn == hash) (one_of i n) 0 ≡ 0 = rw (d.0) (cond-same (hn == hash)) in
+          elim (cases_lt i n) [
+            | inl low ↦ rw (none, lt-ltb i n low, lt-ltb i (suc n) (omega (arith, low))) (omega arith)
+            | inr high ↦ rw (none, le-ltb i n high, le-ltb i (suc n) (omega (arith, high, d.1))) (omega arith)
+          ])
+    ]
+  where
+    cond-same : (b : Bool) → ◌≡◌ {A = ℕ} (cond b 0 0) 0
+    cond-same true = refl
+    cond-same false = refl
+
+-- the same, said of a slot
+abbrev pub count_of : Bool → List (List ℕ) → ℕ → List ℕ → ℕ → ℕ → ℕ
+count_of long rs hash bytes i slot = count_at hash bytes i (begin_of long rs slot)
+
+-- the sum of f over a list that is mapped by g is the sum of f after g over the list
+count-mapped : (f g : ℕ → ℕ) (slots : List ℕ) → sum_by f (map g slots) ≡ sum_by (λ s. f (g s)) slots
+count-mapped f g [] = refl
+count-mapped f g (s ∷ slots) =
+    sum_by-cons f (g s) (map g slots) ∙ ap (λ n. f (g s) + n) (count-mapped f g slots)
+    ∙ sym (sum_by-cons (λ s. f (g s)) s slots)
+
+-- and number i is among those with the hash once if it has it
+pub count-slots : (long : Bool) (rs : List (List ℕ)) (bytes : List ℕ) (base hash i n : ℕ) → bytes ≡ concat rs
+    → AreRecords rs → length rs ≤ 2 ^ 32 → n ≤ length rs
+    → sum_by (count_of long rs hash bytes i) (search.slots_of base hash (entries long rs n))
+    ≡ cond (nat_lt i n && (hash_at (get_or rs i []) 0 == hash)) 1 0
+count-slots long rs bytes base hash i zero all each few l = rw (le-ltb i 0 (omega arith)) refl
+count-slots long rs bytes base hash i (suc n) all each few l =
+    let h = hash_at (get_or rs n []) 0 in
+    let at = position rs n in
+    let slot = slot_of long n at in
+    let t = there rs bytes at n all each few (omega (arith, l)) refl in
+    let value : count_of long rs hash bytes i slot ≡ cond (h == hash) (one_of i n) 0 =
+    ap (count_at hash bytes i) (begin-is long rs n)
+    ∙ ap (λ x. cond (x == hash) (one_of i (number_at bytes at)) 0) t.hash
+    ∙ ap (λ x. cond (h == hash) (one_of i x) 0) t.number in
+    count-entry base hash h slot (one_of i n) (entries long rs n) (count_of long rs hash bytes i) value
+    ∙ ap (λ x. cond (h == hash) (one_of i n) 0 + x)
+    (count-slots long rs bytes base hash i n all each few (omega (arith, l)))
+    ∙ count-more h (hash_at (get_or rs i []) 0) hash i n (λ e. ap (λ k. hash_at (get_or rs k []) 0) e)
+
+-- so a search finds each number with the hash once
+pub all-found : (long : Bool) (rs : List (List ℕ)) (base hash : ℕ) (slots : List ℕ) → AreRecords rs
+    → length rs ≤ 2 ^ 32
+    → IsPermutation (search.slots_of base hash (entries long rs (length rs))) slots
+    → AreAll (map pair_of rs) hash (numbers_with hash (concat rs) (map (begin_of long rs) slots))
+all-found long rs base hash slots each few perm i =
+    let n = length rs in
+    let xs = map pair_of rs in
+    let bytes = concat rs in
+    let moved =
+    sum_by-IsPermutation (count_of long rs hash bytes i) (search.slots_of base hash (entries long rs n))
+    slots perm in
+    let counted = count-numbers hash bytes i (map (begin_of long rs) slots)
+    ∙ count-mapped (count_at hash bytes i) (begin_of long rs) slots ∙ moved
+    ∙ count-slots long rs bytes base hash i n refl each few (omega arith) in
+    counted ∙ elim (cases_lt i n) [
+      | inl low ↦
+          (let same : (get_or xs i (0, [])).0 ≡ hash_at (get_or rs i []) 0 =
+          ap (λ (p : ℕ × List ℕ). p.0) (get_or-map pair_of rs i [] (0, []) low) in
+          rw (length-map rs pair_of, same) refl)
+      | inr high ↦ rw (length-map rs pair_of, le-ltb i n high) refl
+    ]
+
+-- a number that is given is below the number of strings
+pub all-within : (xs : List (ℕ × List ℕ)) (hash : ℕ) (left : List ℕ) → AreAll xs hash left
+    → All (λ n. n < length xs) left
+all-within xs hash left all = within left (λ n. below n)
+  where
+    none : (n : ℕ) → length xs ≤ n
+        → ◌≡◌ {A = ℕ} (cond (nat_lt n (length xs) && ((get_or xs n (0, [])).0 == hash)) 1 0) 0
+    none n high = rw (le-ltb n (length xs) high) refl
+
+    below : (n : ℕ) → 0 < sum_by (one_of n) left → n < length xs
+    below n some = elim (cases_lt n (length xs)) [
+      | inl low ↦ low
+      | inr high ↦ absurd (omega (arith, some, all n, none n high))
+    ]
+
+    within : (ns : List ℕ) → ((n : ℕ) → 0 < sum_by (one_of n) ns → n < length xs) →
+        All (λ n. n < length xs) ns
+    within [] is = All-nil (λ n. n < length xs)
+    within (n ∷ ns) is =
+        let here : one_of n n ≡ 1 = cond-true (n == n) 1 0 (eq-eqb n n refl) in
+        All-cons (λ n. n < length xs) n ns (is n (omega (arith, here, sum_by-cons (one_of n) n ns)))
+        (within ns (λ m some. is m (omega (arith, some, sum_by-cons (one_of m) n ns))))
+
+-- the sum of f of all numbers below n
+abbrev pub sum_below : (ℕ → ℕ) → ℕ → ℕ
+sum_below f zero = 0
+sum_below f (suc n) = sum_below f n + f n
+
+-- if each value of f is those of g and h together, the sum of f below n is those of g and h together
+below-plus : (f g h : ℕ → ℕ) (n : ℕ) → ((i : ℕ) → f i ≡ g i + h i) →
+    sum_below f n ≡ sum_below g n + sum_below h n
+below-plus f g h zero is = refl
+below-plus f g h (suc n) is = omega (arith, is n, below-plus f g h n is)
+
+-- of 1 for number i alone
+below-one : (i n : ℕ) → sum_below (λ k. one_of k i) n ≡ cond (nat_lt i n) 1 0
+below-one i zero = rw (le-ltb i 0 (omega arith)) refl
+below-one i (suc n) = elim (eqb_tells i n) [
+  | inl e ↦
+      rw (below-one i n, e.0, le-ltb i n (omega (arith, e.1)), lt-ltb i (suc n) (omega (arith, e.1))) refl
+  | inr d ↦ elim (cases_lt i n) [
+    | inl low ↦ rw (below-one i n, d.0, lt-ltb i n low, lt-ltb i (suc n) (omega (arith, low))) refl
+    | inr high ↦ rw (below-one i n, d.0, le-ltb i n high, le-ltb i (suc n) (omega (arith, high, d.1))) refl
+  ]
+]
+
+-- each number of the list is counted once
+below-length : (n : ℕ) (ns : List ℕ) → All (λ i. i < n) ns →
+    sum_below (λ k. sum_by (one_of k) ns) n ≡ length ns
+below-length n [] all = nothing n
+  where
+    nothing : (n : ℕ) → sum_below (λ _. 0) n ≡ 0
+    nothing zero = refl
+    nothing (suc n) = omega (arith, nothing n)
+below-length n (i ∷ ns) all =
+    let first : i < n = All-head (λ i. i < n) i ns all in
+    let rest = below-length n ns (All-tail (λ i. i < n) i ns all) in
+    let parts = below-plus (λ k. sum_by (one_of k) (i ∷ ns)) (λ k. one_of k i) (λ k. sum_by (one_of k) ns) n
+    (λ k. sum_by-cons (one_of k) i ns) in
+    let once : ◌≡◌ {A = ℕ} (cond (nat_lt i n) 1 0) 1 = rw (lt-ltb i n first) refl in
+    omega (arith, parts, rest, once, below-one i n)
+
+-- functions that are equal below n have the same sum below n
+below-same : (f g : ℕ → ℕ) (n : ℕ) → ((i : ℕ) → i < n → f i ≡ g i) → sum_below f n ≡ sum_below g n
+below-same f g zero is = refl
+below-same f g (suc n) is =
+    omega (arith, is n (omega arith), below-same f g n (λ i l. is i (omega (arith, l))))
+
+-- the entries of the first n hashes that are equal to this one
+below-filter : (hash : ℕ) (hs : List ℕ) (n : ℕ) → n ≤ length hs
+    → sum_below (λ k. cond (get_or hs k 0 == hash) 1 0) n ≡ length (filter (λ h. h == hash) (take n hs))
+below-filter hash hs zero l = refl
+below-filter hash hs (suc n) l =
+    let within : n < length hs = omega (arith, l) in
+    let e : suc n ≡ n + 1 = omega arith in
+    ap (λ x. x + cond (get_or hs n 0 == hash) 1 0) (below-filter hash hs n (omega (arith, l)))
+    ∙ sym (length-filter_more (λ h. h == hash) hs n 0 within)
+    ∙ ap (λ k. length (filter (λ h. h == hash) (take k hs))) (sym e)
+
+-- a search gives as many strings as have the hash
+pub all-count : (xs : List (ℕ × List ℕ)) (hash : ℕ) (left : List ℕ) → AreAll xs hash left
+    → length left ≡ length (filter (λ h. h == hash) (map (λ (p : ℕ × List ℕ). p.0) xs))
+all-count xs hash left all =
+    let n = length xs in
+    let hs = map (λ (p : ℕ × List ℕ). p.0) xs in
+    let size : length hs ≡ n = length-map xs (λ (p : ℕ × List ℕ). p.0) in
+    let value : (k : ℕ) → k < n → sum_by (one_of k) left ≡ cond (get_or hs k 0 == hash) 1 0 =
+    λ k l. all k ∙ rw (lt-ltb k n l, get_or-map (λ (p : ℕ × List ℕ). p.0) xs k (0, []) 0 l) refl in
+    sym (below-length n left (all-within xs hash left all))
+    ∙ below-same (λ k. sum_by (one_of k) left) (λ k. cond (get_or hs k 0 == hash) 1 0) n value
+    ∙ below-filter hash hs n (omega (arith, size))
+    ∙ ap (λ (hs : List ℕ). length (filter (λ h. h == hash) hs)) (take_all n hs (omega (arith, size)))

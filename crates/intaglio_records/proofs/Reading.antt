@@ -1,0 +1,100 @@
+-- What is read of records among the bytes of all.
+use Rattle.std.proofs.Common.{◌≡◌, ℕ, ◌+◌, ◌-◌, ◌%◌, ◌^◌, ◌<◌, ◌≤◌, suc, zero, List, [], ◌∷◌, ◌++◌, length, min, take, drop, get_or, slice_range, sum_by, refl, sym, ap, ◌∙◌, arith, take_all}
+use Rattle.std.specs.List.{concat}
+use Rattle.std.proofs.lemmas.List.{drop-append-le, drop-drop, drop_all, get_or_append_left, get_or-drop, length-append, length-drop, take-append-le}
+use Rattle.std.proofs.lemmas.List.Sums.{sum_by-cons, sum_by_more_le}
+use Rattle.intaglio_records.specs.Header.{hash_at, number_at}
+use Rattle.intaglio_records.specs.Records.{AreRecords}
+use Rattle.intaglio_records.specs.Entries.{position}
+
+-- the bytes of all records
+pub length-concat : (rs : List (List ℕ)) → length (concat rs) ≡ sum_by length rs
+length-concat [] = refl
+length-concat (r ∷ rs) = omega (arith, length-append r (concat rs), sum_by-cons length r rs, length-concat rs)
+
+-- a record is where it begins, and the others are behind it
+pub part-at : (rs : List (List ℕ)) (i : ℕ) → i < length rs
+    → drop (position rs i) (concat rs) ≡ get_or rs i [] ++ concat (drop (suc i) rs)
+part-at [] i l = absurd (omega (arith, l))
+part-at (r ∷ rs) zero l = refl
+part-at (r ∷ rs) (suc i) l =
+    let at : position (r ∷ rs) (suc i) ≡ length r + position rs i = sum_by-cons length r (take i rs) in
+    let front : drop (length r) (r ++ concat rs) ≡ concat rs =
+    drop-append-le (length r) r (concat rs) (omega arith)
+    ∙ ap (λ (xs : List ℕ). xs ++ concat rs) (drop_all (length r) r (omega arith)) in
+    ap (λ n. drop n (r ++ concat rs)) at ∙ sym (drop-drop (position rs i) (length r) (r ++ concat rs))
+    ∙ ap (drop (position rs i)) front ∙ part-at rs i (omega (arith, l))
+
+-- all of it
+pub record-within : (rs : List (List ℕ)) (i : ℕ) → i < length rs
+    → position rs i + length (get_or rs i []) ≤ length (concat rs)
+record-within rs i l = omega (arith, length-concat rs, sum_by_more_le length rs i [] l)
+
+-- a byte of it
+pub byte-at : (rs : List (List ℕ)) (i k : ℕ) → i < length rs → k < length (get_or rs i [])
+    → get_or (concat rs) (position rs i + k) 0 ≡ get_or (get_or rs i []) k 0
+byte-at rs i k l within =
+    sym (get_or-drop (position rs i) (concat rs) k 0) ∙ ap (λ bs. get_or bs k 0) (part-at rs i l)
+    ∙ get_or_append_left (get_or rs i []) (concat (drop (suc i) rs)) 0 k within
+
+-- its hash
+pub hash-there : (rs : List (List ℕ)) (i : ℕ) → i < length rs → 13 ≤ length (get_or rs i [])
+    → hash_at (concat rs) (position rs i) ≡ hash_at (get_or rs i []) 0
+hash-there rs i l long =
+    let b = λ (k : ℕ) (low : k < 13). byte-at rs i k l (omega (arith, low, long)) in
+    let first : get_or (concat rs) (position rs i) 0 ≡ get_or (get_or rs i []) 0 0 =
+    ap (λ n. get_or (concat rs) n 0) (omega arith) ∙ b 0 (omega arith) in
+    rw (
+      first,
+      b 1 (omega arith),
+      b 2 (omega arith),
+      b 3 (omega arith),
+      b 4 (omega arith),
+      b 5 (omega arith),
+      b 6 (omega arith),
+      b 7 (omega arith),
+    ) refl
+
+-- its number
+pub number-there : (rs : List (List ℕ)) (i : ℕ) → i < length rs → 13 ≤ length (get_or rs i [])
+    → number_at (concat rs) (position rs i) ≡ number_at (get_or rs i []) 0
+number-there rs i l long =
+    let b = λ (k : ℕ) (low : k < 13). byte-at rs i k l (omega (arith, low, long)) in
+    rw (b 8 (omega arith), b 9 (omega arith), b 10 (omega arith), b 11 (omega arith)) refl
+
+-- and its string
+pub string-there : (rs : List (List ℕ)) (i start n : ℕ) → i < length rs → start ≡ position rs i + 13
+    → n + 13 ≡ length (get_or rs i [])
+    → slice_range (concat rs) start (start + n) ≡ drop 13 (get_or rs i [])
+string-there rs i start n l s e =
+    let r = get_or rs i [] in
+    let rest = concat (drop (suc i) rs) in
+    let size : start + n - start ≡ n = omega arith in
+    let front : drop start (concat rs) ≡ drop 13 r ++ rest =
+    ap (λ k. drop k (concat rs)) s ∙ sym (drop-drop 13 (position rs i) (concat rs))
+    ∙ ap (drop 13) (part-at rs i l) ∙ drop-append-le 13 r rest (omega (arith, e)) in
+    rw (size, front) (take-append-le n (drop 13 r) rest (omega (arith, e, length-drop 13 r))
+    ∙ take_all n (drop 13 r) (omega (arith, e, length-drop 13 r)))
+
+-- what is known of record i, which begins at this byte
+pub record There (rs : List (List ℕ)) (bytes : List ℕ) (at i : ℕ) : Type 0 where
+  pub long : 13 ≤ length (get_or rs i [])
+  pub within : at + length (get_or rs i []) ≤ length bytes
+  pub size : get_or bytes (at + 12) 0 ≡ min (length (get_or rs i []) - 13) 255
+  pub number : number_at bytes at ≡ i
+  pub hash : hash_at bytes at ≡ hash_at (get_or rs i []) 0
+
+-- each of at most 2 ^ 32 records is within the bytes from its position on, with its length, number and hash
+pub there : (rs : List (List ℕ)) (bytes : List ℕ) (at i : ℕ) → bytes ≡ concat rs → AreRecords rs
+    → length rs ≤ 2 ^ 32 → i < length rs → at ≡ position rs i → There rs bytes at i
+there rs bytes at i all each few l e =
+    let r = each i l in
+    let small : i % 2 ^ 32 ≡ i = omega (arith, few, l) in
+    rw (all, e)
+    (record {
+      long = r.long;
+      within = record-within rs i l;
+      size = byte-at rs i 12 l (omega (arith, r.long)) ∙ r.length_is;
+      number = number-there rs i l r.long ∙ r.number_is ∙ small;
+      hash = hash-there rs i l r.long;
+    })

@@ -1,0 +1,115 @@
+-- Lists of records.
+use Rattle.std.proofs.Common.{◌≡◌, ℕ, ◌+◌, ◌-◌, ◌*◌, ◌%◌, ◌^◌, ◌<◌, ◌≤◌, suc, zero, List, [], ◌∷◌, ◌++◌, length, take, drop, map, get_or, slice_get, Some, option_map, min, sum_by, refl, sym, ap, ◌∙◌, subst, arith, inl, inr}
+use Rattle.std.specs.Prelude.{OnOk, OnErr, Result, Ok, Err, ◌⊎◌}
+use Rattle.std.proofs.lemmas.Bool.{cases_lt}
+use Rattle.std.proofs.lemmas.List.{get_or-take, get_or_append_left, length-append, length-drop, length-take}
+use Rattle.std.proofs.lemmas.Option.{slice_get-map}
+use Rattle.std.proofs.lemmas.List.Sums.{sum_by-cons}
+use Rattle.std.proofs.lemmas.Nat.{from_le_bytes-to_le_bytes_4, from_le_bytes-to_le_bytes_8}
+use Rattle.std.proofs.Math.Seq.{get_or-append_seam}
+use Rattle.intaglio_records.specs.Header.{header_of, hash_at}
+use Rattle.intaglio_records.specs.Records.{IsRecord, AreRecords, pair_of, set_aside}
+use Rattle.intaglio_records.specs.Strings.{Strings, byte_room_of}
+
+-- each string of the list has the bytes of a header
+abbrev pub AreLong : List (List ℕ) → Type 0
+AreLong rs = (i : ℕ) → i < length rs → 13 ≤ length (get_or rs i [])
+
+-- each record has the bytes of a header
+pub are-long : (rs : List (List ℕ)) → AreRecords rs → AreLong rs
+are-long rs h i l = (h i l).long
+
+-- the headers of all records are within their bytes
+pub headers-within : (rs : List (List ℕ)) → AreLong rs → 13 * length rs ≤ sum_by length rs
+headers-within [] h = omega arith
+headers-within (r ∷ rs) h = omega (
+  arith,
+  h 0 (omega arith),
+  sum_by-cons length r rs,
+  headers-within rs (λ i l. h (suc i) (omega (arith, l))),
+)
+
+-- so are those of the records behind the first n
+pub headers-behind : (n : ℕ) (rs : List (List ℕ)) → AreLong rs
+    → 13 * (length rs - n) + sum_by length (take n rs) ≤ sum_by length rs
+headers-behind zero rs h = omega (arith, headers-within rs h)
+headers-behind (suc n) [] h = omega arith
+headers-behind (suc n) (r ∷ rs) h =
+    omega (
+      arith,
+      sum_by-cons length r (take n rs),
+      sum_by-cons length r rs,
+      headers-behind n rs (λ i l. h (suc i) (omega (arith, l))),
+    )
+
+-- the strings of records
+abbrev pub strings_in : List (List ℕ) → List (List ℕ)
+strings_in rs = map (λ (p : ℕ × List ℕ). p.1) (map pair_of rs)
+
+-- the bytes of all records are those of the headers and of the strings
+pub strings-bytes : (rs : List (List ℕ)) → AreLong rs
+    → 13 * length rs + sum_by length (strings_in rs) ≡ sum_by length rs
+strings-bytes [] h = refl
+strings-bytes (r ∷ rs) h =
+    let rest = strings-bytes rs (λ i l. h (suc i) (omega (arith, l))) in
+    omega (
+      arith,
+      h 0 (omega arith),
+      length-drop 13 r,
+      sum_by-cons length r rs,
+      sum_by-cons length (drop 13 r) (strings_in rs),
+      rest,
+    )
+
+-- so are those of all strings that there is room for
+pub headers-fit : (b : Strings) → AreLong b.list → length b.list ≤ b.most → set_aside b ≤ b.spare_bytes
+    → 13 * b.most ≤ byte_room_of b
+headers-fit b long order headers = omega (arith, headers-within b.list long, order, headers)
+
+-- how many bytes of strings there is room for, said of the buffer
+pub room-is : (b : Strings) → AreLong b.list → length b.list ≤ b.most → set_aside b ≤ b.spare_bytes
+    → 13 * b.most + (sum_by length (strings_in b.list) + (b.spare_bytes - set_aside b)) ≡ byte_room_of b
+room-is b long order headers = omega (arith, strings-bytes b.list long, order, headers)
+
+-- the hash that a header was made with
+pub made-hash : (hash number n : ℕ) (string : List ℕ) → hash < 2 ^ 64
+    → hash_at (header_of hash number n ++ string) 0 ≡ hash
+made-hash hash number n string small = from_le_bytes-to_le_bytes_8 hash small
+
+-- a header in front of its string makes a record
+pub record-made : (hash number : ℕ) (string : List ℕ)
+    → IsRecord number (header_of hash (number % 2 ^ 32) (length string) ++ string)
+record-made hash number string = record {
+  long = omega arith;
+  number_is = from_le_bytes-to_le_bytes_4 (number % 2 ^ 32) (omega arith);
+  length_is = ap (λ n. min n 255) (omega arith);
+}
+
+-- one more record behind the others
+pub records-push : (rs : List (List ℕ)) (r : List ℕ) → AreRecords rs → IsRecord (length rs) r
+    → AreRecords (rs ++ r ∷ [])
+records-push rs r h is i l = elim (cases_lt i (length rs)) [
+  | inl low ↦ subst (λ x. IsRecord i x) (sym (get_or_append_left rs (r ∷ []) [] i low)) (h i low)
+  | inr high ↦
+      (let at : length rs ≡ i = omega (arith, l, high, length-append rs (r ∷ [])) in
+      subst (λ k. IsRecord k (get_or (rs ++ r ∷ []) k [])) at (subst (λ x. IsRecord (length rs) x)
+      (sym (get_or-append_seam rs r [] [])) is))
+]
+
+-- the first n records
+pub records-take : (n : ℕ) (rs : List (List ℕ)) → AreRecords rs → AreRecords (take n rs)
+records-take n rs h i l =
+    let few = length-take n rs in
+    let low : i < n = omega (arith, l, few) in
+    subst (λ x. IsRecord i x) (sym (get_or-take n rs i [] low)) (h i (omega (arith, l, few)))
+
+-- the string of a record that is there
+pub get-string : (rs : List (List ℕ)) (i : ℕ) (r : List ℕ) → slice_get rs i ≡ Some r
+    → slice_get (strings_in rs) i ≡ Some (drop 13 r)
+get-string rs i r is = slice_get-map (λ (p : ℕ × List ℕ). p.1) (map pair_of rs) i
+    ∙ ap (option_map (λ (p : ℕ × List ℕ). p.1)) (slice_get-map pair_of rs i ∙ ap (option_map pair_of) is)
+
+-- a fact of each case holds in one of them
+pub ok-or-err : {T E A B : Type 0} → (r : Result T E) → OnOk r A → OnErr r B → A ⊎ B
+ok-or-err (Ok _) a b = inl a
+ok-or-err (Err _) a b = inr b

@@ -1,0 +1,163 @@
+-- What a search gives, and what it has still to give.
+use Rattle.std.proofs.Common.{◌≡◌, ◌≢◌, ℕ, zero, suc, ◌+◌, ◌<◌, ◌≤◌, ◌==◌, List, [], ◌∷◌, ◌++◌, length, get_or, cond, refl, sym, subst, ap, ◌∙◌, arith, inl, inr}
+use Rattle.std.specs.Int.{bit_at}
+use Rattle.std.proofs.lemmas.Bool.{cases_eq, cases_lt, cond-true, cond-false, ne_eqb}
+use Rattle.std.proofs.lemmas.Nat.Bits.{bit_at-lt}
+use Rattle.std.proofs.lemmas.Bool.Decides.{eqb_tells}
+use Rattle.intaglio_records.specs.declared.line.Line.{Line}
+use Rattle.intaglio_records.specs.Line.{Entry, tag_of, AreIn, IsLine}
+use Rattle.intaglio_records.specs.Chains.{Overflow, newest, no_line, AreBehind}
+use Rattle.intaglio_records.specs.declared.search.Candidates.{Candidates}
+use Rattle.intaglio_records.specs.Search.{slots_with, overflow_slots, picked, bits_below, IsLeft}
+
+-- no bit is set
+pub picked-none : (bits : ℕ) (slots : List ℕ) (n : ℕ) → ((i : ℕ) → i < n → bit_at bits i ≡ 0) →
+    picked bits slots n ≡ []
+picked-none bits slots zero none = refl
+picked-none bits slots (suc n) none =
+    rw (picked-none bits slots n (λ i lt. none i (omega (arith, lt))), none n (omega arith)) refl
+
+-- the lowest bit is set
+pub picked-first : (bits fewer : ℕ) (slots : List ℕ) (p n : ℕ) → p < n → bit_at bits p ≡ 1 →
+    ((i : ℕ) → i < p → bit_at bits i ≡ 0) → bit_at fewer p ≡ 0 →
+    ((i : ℕ) → i < n → i ≢ p → bit_at fewer i ≡ bit_at bits i) →
+    picked bits slots n ≡ get_or slots p 0 ∷ picked fewer slots n
+picked-first bits fewer slots p zero lt here below gone others = absurd (omega (arith, lt))
+picked-first bits fewer slots p (suc n) lt here below gone others =
+    elim (cases_eq n p) [
+      | inl same ↦
+          (let low : (i : ℕ) → i < n → bit_at bits i ≡ 0 = λ i l. below i (omega (arith, l, same)) in
+          let low' : (i : ℕ) → i < n → bit_at fewer i ≡ 0 =
+          λ i l. others i (omega (arith, l)) (λ e. omega (arith, l, e, same)) ∙ low i l in
+          let here' : bit_at bits n ≡ 1 = subst (λ k. bit_at bits k ≡ 1) (sym same) here in
+          let gone' : bit_at fewer n ≡ 0 = subst (λ k. bit_at fewer k ≡ 0) (sym same) gone in
+          rw (
+            picked-none bits slots n low,
+            picked-none fewer slots n low',
+            here',
+            gone',
+          ) (ap (λ k. get_or slots k 0 ∷ []) same))
+      | inr other ↦
+          (let rest =
+          picked-first bits fewer slots p n (omega (arith, lt, other)) here below gone
+          (λ i l. others i (omega (arith, l))) in
+          rw (rest, others n (omega arith) other) refl)
+    ]
+
+-- a bit that says whether two tags are equal picks a slot exactly if they are
+pick-same : (g t bit : ℕ) (front : List ℕ) (slot : ℕ) → bit ≡ cond (g == t) 1 0 →
+    front ++ cond (bit == 1) (slot ∷ []) [] ≡ front ++ cond (g == t) (slot ∷ []) []
+pick-same g t bit front slot is =
+    elim (eqb_tells g t) [
+      | inl h ↦ (let one : bit ≡ 1 = is ∙ cond-true (g == t) 1 0 h.0 in rw (one, h.0) refl)
+      | inr h ↦ (let none : bit ≡ 0 = is ∙ cond-false (g == t) 1 0 h.0 in rw (none, h.0) refl)
+    ]
+
+-- the bits of a tag pick the slots of the entries with it
+pub picked-fresh : (bits tag : ℕ) (tags slots : List ℕ) (es : List Entry) → AreIn tags slots es →
+    ((i : ℕ) → i < length es → bit_at bits i ≡ cond (get_or tags i 0 == tag) 1 0) →
+    picked bits slots (length es) ≡ slots_with tag es
+picked-fresh bits tag tags slots [] are is = refl
+picked-fresh bits tag tags slots (e ∷ es) are is =
+    let rest = picked-fresh bits tag tags slots es are.2 (λ i lt. is i (omega (arith, lt))) in
+    let bit : bit_at bits (length es) ≡ cond (tag_of e.0 == tag) 1 0 =
+    is (length es) (omega arith) ∙ ap (λ g. cond (g == tag) 1 0) are.0 in
+    ap (λ front. front ++ cond (bit_at bits (length es) == 1) (get_or slots (length es) 0 ∷ []) []) rest
+    ∙ ap (λ slot. slots_with tag es ++ cond (bit_at bits (length es) == 1) (slot ∷ []) []) are.1
+    ∙ pick-same (tag_of e.0) tag (bit_at bits (length es)) (slots_with tag es) e.1 bit
+
+-- only entries have a tag
+pub bits-within : (line : Line) (es : List Entry) (next bits tag : ℕ) → IsLine line es next → 0 < tag →
+    ((i : ℕ) → i < 16 → bit_at bits i ≡ cond (get_or line.tags i 0 == tag) 1 0) →
+    ((i : ℕ) → 16 ≤ i → bit_at bits i ≡ 0) → (i : ℕ) → bit_at bits i ≡ 1 → i < length es
+bits-within line es next bits tag is some low high i set =
+    elim (cases_lt i (length es)) [
+      | inl lt ↦ lt
+      | inr le ↦ absurd (elim (cases_lt i 16) [
+        | inl lt ↦
+            (let none : bit_at bits i ≡ 0 = low i lt ∙ ap (λ g. cond (g == tag) 1 0) (is.others i le)
+            ∙ cond-false (0 == tag) 1 0 (ne_eqb 0 tag (λ e. omega (arith, some, e))) in
+            omega (arith, none, set))
+        | inr above ↦ omega (arith, high i above, set)
+      ])
+    ]
+
+-- the next line of a chain
+pub next-line : (base c tag : ℕ) (lines : List Line) (os : List Overflow) → AreBehind base lines os →
+    0 < newest base c os →
+    (es : List Entry) × (older : List Overflow)
+    × IsLine (get_or lines (newest base c os) no_line) es (newest base c older) × AreBehind base lines older
+    × (overflow_slots c tag os ≡ slots_with tag es ++ overflow_slots c tag older) × (length older < length os)
+    × (newest base c os ≡ base + length older)
+next-line base c tag lines [] are some = absurd (omega (arith, some))
+next-line base c tag lines (o ∷ os) are some =
+    elim (eqb_tells o.0 c) [
+      | inl h ↦
+          rw h.0 (
+            o.1,
+            os,
+            subst (λ k. IsLine (get_or lines (base + length os) no_line) o.1 (newest base k os))
+                h.1 are.0,
+            are.1,
+            refl,
+            omega arith,
+            refl,
+          )
+      | inr h ↦
+          (let rest = next-line base c tag lines os are.1 (rw h.0 at some) in
+          rw h.0 (rest.0, rest.1, rest.2, rest.3, rest.4, omega (arith, rest.5), rest.6))
+    ]
+
+-- there is none
+pub overflow-none : (base c tag : ℕ) (os : List Overflow) → 0 < base → newest base c os ≡ 0 →
+    overflow_slots c tag os ≡ []
+overflow-none base c tag [] some none = refl
+overflow-none base c tag (o ∷ os) some none =
+    elim (eqb_tells o.0 c) [
+      | inl h ↦ absurd (omega (arith, some, rw h.0 at none))
+      | inr h ↦ rw h.0 (overflow-none base c tag os some (rw h.0 at none))
+    ]
+
+-- the next line of a search, if its number isn't 0, is one of the lines
+pub next-inside : (search : Candidates) (left : List ℕ) (is : IsLeft search left) → search.next ≢ 0 →
+    search.next < length search.lines.now
+next-inside search left is more =
+    let some : 0 < newest is.base is.class is.behind = omega (arith, is.next, more) in
+    let there = next-line is.base is.class search.tag search.lines.now is.behind is.lines some in
+    omega (arith, is.next, there.6, there.5, is.size (omega (arith, there.5)))
+
+-- at most n of n bits are set
+pub bits-few : (bits n : ℕ) → bits_below bits n ≤ n
+bits-few bits zero = omega arith
+bits-few bits (suc n) = omega (arith, bits-few bits n, bit_at-lt bits n)
+
+-- numbers with the same first n bits have as many of these set
+bits-same : (bits fewer n : ℕ) → ((i : ℕ) → i < n → bit_at fewer i ≡ bit_at bits i) →
+    bits_below fewer n ≡ bits_below bits n
+bits-same bits fewer zero same = refl
+bits-same bits fewer (suc n) same =
+    omega (arith, bits-same bits fewer n (λ i l. same i (omega (arith, l))), same n (omega arith))
+
+-- fewer are set once one of them is cleared
+pub bits-fewer : (bits fewer p n : ℕ) → p < n → bit_at bits p ≡ 1 → bit_at fewer p ≡ 0
+    → ((i : ℕ) → i < n → i ≢ p → bit_at fewer i ≡ bit_at bits i) → bits_below fewer n < bits_below bits n
+bits-fewer bits fewer p zero lt here gone others = absurd (omega (arith, lt))
+bits-fewer bits fewer p (suc n) lt here gone others = elim (cases_eq n p) [
+  | inl last ↦
+      (let here' : bit_at bits n ≡ 1 = subst (λ k. bit_at bits k ≡ 1) (sym last) here in
+      let gone' : bit_at fewer n ≡ 0 = subst (λ k. bit_at fewer k ≡ 0) (sym last) gone in
+      omega (
+        arith,
+        here',
+        gone',
+        bits-same bits fewer n
+            (λ i l. others i (omega (arith, l)) (λ at. absurd (omega (arith, l, at, last)))),
+      ))
+  | inr other ↦
+      (let low : p < n = omega (arith, lt, other) in
+      omega (
+        arith,
+        others n (omega arith) other,
+        bits-fewer bits fewer p n low here gone (λ i l. others i (omega (arith, l))),
+      ))
+]

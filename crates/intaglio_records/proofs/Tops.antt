@@ -1,0 +1,325 @@
+-- How many overflow lines there are: every eleventh entry of a class makes one.
+use Rattle.std.proofs.Common.{◌≡◌, ◌≢◌, ◌⊎◌, ℕ, zero, suc, ◌+◌, ◌*◌, ◌%◌, ◌<◌, ◌≤◌, ◌==◌, List, [], ◌∷◌, length, cond, refl, sym, subst, ap, ◌∙◌, arith, inl, inr, mod-lt}
+use Rattle.std.proofs.lemmas.Bool.{cases_eq, cases_lt, lt-ltb, le-ltb, cond-true, cond-false, eq-eqb, ne_eqb}
+use Rattle.std.proofs.lemmas.Bool.Decides.{eqb_tells}
+use Rattle.intaglio_records.specs.Line.{Entry}
+use Rattle.intaglio_records.specs.Chains.{Overflow, first_line, newest_length, add, overflow, newest}
+use Rattle.intaglio_records.proofs.ChainLemmas.{add-length, newest-add}
+
+-- what an entry does to the first lines and the overflow lines
+pub first-other : (base k : ℕ) (e : Entry) (es : List Entry) → k ≢ e.0 % base →
+    first_line base k (e ∷ es) ≡ first_line base k es
+first-other base k e es other = rw (ne_eqb (e.0 % base) k (λ same. other (sym same))) refl
+
+-- an entry is added to the first line of its class, if that isn't full
+pub first-here : (base : ℕ) (e : Entry) (es : List Entry) → length (first_line base (e.0 % base) es) < 11 →
+    first_line base (e.0 % base) (e ∷ es) ≡ e ∷ first_line base (e.0 % base) es
+first-here base e es lt =
+    rw (eq-eqb (e.0 % base) (e.0 % base) refl, lt-ltb (length (first_line base (e.0 % base) es)) 11 lt) refl
+
+-- if the first line of its class is full, an entry changes no first line
+pub first-full : (base : ℕ) (e : Entry) (es : List Entry) → 11 ≤ length (first_line base (e.0 % base) es) →
+    (k : ℕ) → first_line base k (e ∷ es) ≡ first_line base k es
+first-full base e es full k =
+    elim (cases_eq k (e.0 % base)) [
+      | inl same ↦
+          subst (λ n. first_line base n (e ∷ es) ≡ first_line base n es) (sym same)
+          (rw (
+            eq-eqb (e.0 % base) (e.0 % base) refl,
+            le-ltb (length (first_line base (e.0 % base) es)) 11 full,
+          ) refl)
+      | inr other ↦ first-other base k e es other
+    ]
+
+-- if the first line of its class isn't full, an entry changes no overflow line
+pub overflow-same : (base : ℕ) (e : Entry) (es : List Entry) → length (first_line base (e.0 % base) es) < 11 →
+    overflow base (e ∷ es) ≡ overflow base es
+overflow-same base e es lt = rw (lt-ltb (length (first_line base (e.0 % base) es)) 11 lt) refl
+
+-- an entry that doesn't fit the first line of its class is added to the newest overflow line if it fits that
+pub overflow-add : (base : ℕ) (e : Entry) (es : List Entry) → 11 ≤ length (first_line base (e.0 % base) es) →
+    newest_length (e.0 % base) (overflow base es) < 11 →
+    overflow base (e ∷ es) ≡ add (e.0 % base) e (overflow base es)
+overflow-add base e es full lt = rw (
+  le-ltb (length (first_line base (e.0 % base) es)) 11 full,
+  lt-ltb (newest_length (e.0 % base) (overflow base es)) 11 lt,
+) refl
+
+-- an entry that fits neither the first nor the newest overflow line of its class makes a new overflow line
+pub overflow-new : (base : ℕ) (e : Entry) (es : List Entry) → 11 ≤ length (first_line base (e.0 % base) es) →
+    11 ≤ newest_length (e.0 % base) (overflow base es) →
+    overflow base (e ∷ es) ≡ (e.0 % base, e ∷ []) ∷ overflow base es
+overflow-new base e es full none = rw (
+  le-ltb (length (first_line base (e.0 % base) es)) 11 full,
+  le-ltb (newest_length (e.0 % base) (overflow base es)) 11 none,
+) refl
+
+-- the newest overflow line of a class
+length-other : (k c : ℕ) (e : Entry) (os : List Overflow) → k ≢ c →
+    newest_length k (add c e os) ≡ newest_length k os
+length-other k c e [] other = refl
+length-other k c e (o ∷ os) other =
+    elim (eqb_tells o.0 c) [
+      | inl h ↦ (let apart = ne_eqb o.0 k (λ same. other (sym same ∙ h.1)) in rw (h.0, apart) refl)
+      | inr h ↦ rw (h.0, length-other k c e os other) refl
+    ]
+
+-- an entry that is added to the newest overflow line of its class makes that longer by one
+pub length-here : (base c : ℕ) (e : Entry) (os : List Overflow) → 0 < newest base c os →
+    newest_length c (add c e os) ≡ suc (newest_length c os)
+length-here base c e [] some = absurd (omega (arith, some))
+length-here base c e (o ∷ os) some =
+    elim (eqb_tells o.0 c) [
+      | inl h ↦ rw (h.0, h.0) refl
+      | inr h ↦ rw (h.0, h.0) (length-here base c e os (rw h.0 at some))
+    ]
+
+-- if there is a first line, and the newest overflow line of a class has number 0, it counts as full
+pub length-none : (base c : ℕ) (os : List Overflow) → 0 < base → newest base c os ≡ 0 →
+    newest_length c os ≡ 11
+length-none base c [] some none = refl
+length-none base c (o ∷ os) some none =
+    elim (eqb_tells o.0 c) [
+      | inl h ↦ absurd (omega (arith, some, rw h.0 at none))
+      | inr h ↦ rw h.0 (length-none base c os some (rw h.0 at none))
+    ]
+
+-- one more entry doesn't change which overflow line of another class is the newest
+newest-other : (base k : ℕ) (e : Entry) (es : List Entry) → k ≢ e.0 % base →
+    newest base k (overflow base (e ∷ es)) ≡ newest base k (overflow base es)
+newest-other base k e es other =
+    let c = e.0 % base in let os = overflow base es in
+    elim (cases_lt (length (first_line base c es)) 11) [
+      | inl lt ↦ ap (newest base k) (overflow-same base e es lt)
+      | inr full ↦ elim (cases_lt (newest_length c os) 11) [
+        | inl lt ↦ ap (newest base k) (overflow-add base e es full lt) ∙ newest-add base k c e os
+        | inr none ↦ ap (newest base k) (overflow-new base e es full none)
+            ∙ cond-false (c == k) (base + length os) (newest base k os)
+            (ne_eqb c k (λ same. other (sym same)))
+      ]
+    ]
+
+-- one more entry doesn't change how many entries the newest overflow line of another class has
+newest_length-other : (base k : ℕ) (e : Entry) (es : List Entry) → k ≢ e.0 % base →
+    newest_length k (overflow base (e ∷ es)) ≡ newest_length k (overflow base es)
+newest_length-other base k e es other =
+    let c = e.0 % base in let os = overflow base es in
+    elim (cases_lt (length (first_line base c es)) 11) [
+      | inl lt ↦ ap (newest_length k) (overflow-same base e es lt)
+      | inr full ↦ elim (cases_lt (newest_length c os) 11) [
+        | inl lt ↦ ap (newest_length k) (overflow-add base e es full lt) ∙ length-other k c e os other
+        | inr none ↦ ap (newest_length k) (overflow-new base e es full none)
+            ∙ cond-false (c == k) 1 (newest_length k os) (ne_eqb c k (λ same. other (sym same)))
+      ]
+    ]
+
+-- how many entries the line has that takes the next entry of a class, or that is full
+abbrev pub top : ℕ → ℕ → List Entry → ℕ
+top base c [] = 0
+top base c (e ∷ es) =
+    cond (e.0 % base == c) (cond (top base c es == 11) 1 (suc (top base c es))) (top base c es)
+
+-- it is the first line, if there is no overflow line of the class, or the newest of these
+abbrev pub IsTop : ℕ → ℕ → List Entry → Type 0
+IsTop base c es =
+    ((newest base c (overflow base es) ≡ 0) × (length (first_line base c es) ≡ top base c es))
+    ⊎ ((0 < newest base c (overflow base es)) × (length (first_line base c es) ≡ 11)
+    × (newest_length c (overflow base es) ≡ top base c es))
+
+-- one more entry doesn't change how many entries the top line of another class has
+top-other : (base k : ℕ) (e : Entry) (es : List Entry) → k ≢ e.0 % base → top base k (e ∷ es) ≡ top base k es
+top-other base k e es other = rw (ne_eqb (e.0 % base) k (λ same. other (sym same))) refl
+
+-- if the top line of a class has eleven entries, the top line after one more entry has one
+pub top-full : (base : ℕ) (e : Entry) (es : List Entry) → top base (e.0 % base) es ≡ 11 →
+    top base (e.0 % base) (e ∷ es) ≡ 1
+top-full base e es full =
+    rw (eq-eqb (e.0 % base) (e.0 % base) refl, eq-eqb (top base (e.0 % base) es) 11 full) refl
+
+-- if the top line of a class doesn't have eleven entries, the top line after one more entry has one more
+pub top-more : (base : ℕ) (e : Entry) (es : List Entry) → top base (e.0 % base) es ≢ 11 →
+    top base (e.0 % base) (e ∷ es) ≡ suc (top base (e.0 % base) es)
+top-more base e es room =
+    rw (eq-eqb (e.0 % base) (e.0 % base) refl, ne_eqb (top base (e.0 % base) es) 11 room) refl
+
+-- a top line has at most eleven entries
+pub top-few : (base c : ℕ) (es : List Entry) → top base c es ≤ 11
+top-few base c [] = omega arith
+top-few base c (e ∷ es) =
+    let few = top-few base c es in
+    elim (eqb_tells (e.0 % base) c) [
+      | inl h ↦ rw h.0 (elim (eqb_tells (top base c es) 11) [
+        | inl full ↦ rw full.0 (omega arith)
+        | inr room ↦ rw room.0 (omega (arith, few, room.1))
+      ])
+      | inr h ↦ rw h.0 few
+    ]
+
+-- a new overflow line
+new-top : (base : ℕ) (e : Entry) (es : List Entry) → 0 < base →
+    11 ≤ length (first_line base (e.0 % base) es) → 11 ≤ newest_length (e.0 % base) (overflow base es) →
+    top base (e.0 % base) es ≡ 11 →
+    length (first_line base (e.0 % base) es) ≡ 11 → IsTop base (e.0 % base) (e ∷ es)
+new-top base e es some full none at whole =
+    let c = e.0 % base in let os = overflow base es in
+    let added = overflow-new base e es full none in
+    let number : newest base c (overflow base (e ∷ es)) ≡ base + length os = ap (newest base c) added
+    ∙ cond-true (c == c) (base + length os) (newest base c os) (eq-eqb c c refl) in
+    inr (
+      omega (arith, some, number),
+      ap length (first-full base e es full c) ∙ whole,
+      ap (newest_length c) added ∙ cond-true (c == c) 1 (newest_length c os) (eq-eqb c c refl)
+          ∙ sym (top-full base e es at),
+    )
+
+-- an entry of the class itself
+top-here : (base : ℕ) (e : Entry) (es : List Entry) → 0 < base → IsTop base (e.0 % base) es →
+    IsTop base (e.0 % base) (e ∷ es)
+top-here base e es some old =
+    let c = e.0 % base in let os = overflow base es in
+    let few = top-few base c es in
+    elim old [
+      | inl h ↦ elim (cases_lt (length (first_line base c es)) 11) [
+        | inl lt ↦ inl (
+          ap (newest base c) (overflow-same base e es lt) ∙ h.0,
+          ap length (first-here base e es lt) ∙ ap suc h.1
+              ∙ sym (top-more base e es (λ full. omega (arith, full, h.1, lt))),
+        )
+        | inr full ↦
+            (let whole : length (first_line base c es) ≡ 11 = omega (arith, full, few, h.1) in
+            new-top base e es some full (omega (arith, length-none base c os some h.0))
+            (omega (arith, h.1, whole)) whole)
+      ]
+      | inr h ↦ elim (cases_lt (newest_length c os) 11) [
+        | inl lt ↦
+            (let added = overflow-add base e es (omega (arith, h.1)) lt in
+            inr (
+              rw added (rw (newest-add base c c e os) h.0),
+              ap length (first-full base e es (omega (arith, h.1)) c) ∙ h.1,
+              ap (newest_length c) added ∙ length-here base c e os h.0 ∙ ap suc h.2
+                  ∙ sym (top-more base e es (λ full. omega (arith, full, h.2, lt))),
+            ))
+        | inr full ↦ new-top base e es some (omega (arith, h.1)) full (omega (arith, full, few, h.2)) h.1
+      ]
+    ]
+
+-- if there is a first line, the top line of a class is its newest overflow line, or its first if it has none
+pub is-top : (base c : ℕ) (es : List Entry) → 0 < base → IsTop base c es
+is-top base c [] some = inl (refl, refl)
+is-top base c (e ∷ es) some =
+    let old = is-top base c es some in
+    elim (cases_eq c (e.0 % base)) [
+      | inl same ↦
+          subst (λ n. IsTop base n (e ∷ es)) (sym same)
+          (top-here base e es some (subst (λ n. IsTop base n es) same old))
+      | inr other ↦ elim old [
+        | inl h ↦ inl (
+          newest-other base c e es other ∙ h.0,
+          ap length (first-other base c e es other) ∙ h.1
+              ∙ sym (top-other base c e es other),
+        )
+        | inr h ↦ inr (
+          rw (newest-other base c e es other) h.0,
+          ap length (first-other base c e es other) ∙ h.1,
+          newest_length-other base c e es other ∙ h.2 ∙ sym (top-other base c e es other),
+        )
+      ]
+    ]
+
+-- the sum of f below n
+abbrev total : (ℕ → ℕ) → ℕ → ℕ
+total f zero = 0
+total f (suc n) = f n + total f n
+
+-- functions that are equal below n have the same sum below n
+total-same : (f g : ℕ → ℕ) (n : ℕ) → ((k : ℕ) → k < n → f k ≡ g k) → total f n ≡ total g n
+total-same f g zero same = refl
+total-same f g (suc n) same =
+    omega (arith, same n (omega arith), total-same f g n (λ k lt. same k (omega (arith, lt))))
+
+-- if f and g are equal but at c, which is below n, their sums below n differ as their values at c
+total-change : (f g : ℕ → ℕ) (c n : ℕ) → ((k : ℕ) → k ≢ c → f k ≡ g k) → c < n →
+    total f n + g c ≡ total g n + f c
+total-change f g c zero same lt = omega (arith, lt)
+total-change f g c (suc n) same lt =
+    elim (cases_eq n c) [
+      | inl at ↦
+          (let rest = total-same f g n (λ k below. same k (λ e. omega (arith, below, at, e))) in
+          let p : f n ≡ f c = ap f at in let q : g n ≡ g c = ap g at in omega (arith, rest, p, q))
+      | inr other ↦ omega (arith, same n other, total-change f g c n same (omega (arith, lt, other)))
+    ]
+
+-- a value at a number below n is at most the sum below n
+total-ge : (f : ℕ → ℕ) (c n : ℕ) → c < n → f c ≤ total f n
+total-ge f c zero lt = omega (arith, lt)
+total-ge f c (suc n) lt =
+    elim (cases_eq n c) [
+      | inl at ↦ (let p : f n ≡ f c = ap f at in omega (arith, p))
+      | inr other ↦ omega (arith, total-ge f c n (omega (arith, lt, other)))
+    ]
+
+-- a sum of zeros is 0
+total-none : (n : ℕ) → total (λ c. 0) n + 0 ≡ 0
+total-none zero = refl
+total-none (suc n) = omega (arith, total-none n)
+
+-- an entry more
+grown : (base : ℕ) (e : Entry) (es : List Entry) → 0 < base →
+    top base (e.0 % base) (e ∷ es) + 11 * length (overflow base (e ∷ es))
+    ≡ suc (top base (e.0 % base) es + 11 * length (overflow base es))
+grown base e es some =
+    let c = e.0 % base in let os = overflow base es in
+    elim (is-top base c es some) [
+      | inl h ↦ elim (cases_lt (length (first_line base c es)) 11) [
+        | inl lt ↦
+            omega (
+              arith,
+              ap length (overflow-same base e es lt),
+              top-more base e es (λ full. omega (arith, full, h.1, lt)),
+            )
+        | inr full ↦
+            omega (
+              arith,
+              ap length (overflow-new base e es full (omega (arith, length-none base c os some h.0))),
+              top-full base e es (omega (arith, full, h.1, top-few base c es)),
+              h.1,
+              full,
+              top-few base c es,
+            )
+      ]
+      | inr h ↦ elim (cases_lt (newest_length c os) 11) [
+        | inl lt ↦ omega (
+          arith,
+          ap length (overflow-add base e es (omega (arith, h.1)) lt),
+          add-length c e os,
+          top-more base e es (λ full. omega (arith, full, h.2, lt)),
+        )
+        | inr full ↦ omega (
+          arith,
+          ap length (overflow-new base e es (omega (arith, h.1)) full),
+          top-full base e es (omega (arith, full, h.2, top-few base c es)),
+          h.2,
+          full,
+          top-few base c es,
+        )
+      ]
+    ]
+
+-- the lines that aren't full, and eleven for each overflow line
+pub counted : (base : ℕ) (es : List Entry) → 0 < base →
+    length es ≡ total (λ c. top base c es) base + 11 * length (overflow base es)
+counted base [] some = sym (total-none base)
+counted base (e ∷ es) some =
+    let c = e.0 % base in let os = overflow base es in
+    let sums =
+    total-change (λ k. top base k (e ∷ es)) (λ k. top base k es) c base (λ k other.
+    top-other base k e es other) (mod-lt e.0 some) in
+    let before = counted base es some in
+    let step = grown base e es some in
+    omega (arith, sums, before, step)
+
+-- if a new overflow line is needed, there are eleven entries for each, and for this one too
+pub needed : (base c : ℕ) (es : List Entry) → 0 < base → c < base → top base c es ≡ 11 →
+    11 * length (overflow base es) + 11 ≤ length es
+needed base c es some within full =
+    omega (arith, counted base es some, total-ge (λ k. top base k es) c base within, full)

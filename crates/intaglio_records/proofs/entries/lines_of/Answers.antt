@@ -1,0 +1,61 @@
+use Rattle.std.proofs.Common.{◌<◌, ◌∷◌, length, arith, ap, ◌∙◌, sym, subst}
+use Rattle.std.proofs.lemmas.List.Sums.{sum_by-take-le}
+use Rattle.intaglio_records.specs.Chains.{IsFilled}
+use Rattle.intaglio_records.specs.Entries.{entries, slot_of}
+use Rattle.intaglio_records.proofs.EntryLemmas.{entry-more, length-entries}
+use Rattle.intaglio_records.proofs.entries.lines_of.Goals as goal
+
+pub slot_for-requires-clause-few : goal.slot_for-requires-clause-few
+slot_for-requires-clause-few c = omega (arith, c.loop-i-test.true, c.requires.enough, c.requires.few)
+
+pub slot_for-requires-clause-small : goal.slot_for-requires-clause-small
+slot_for-requires-clause-small c short =
+    omega (
+      arith,
+      c.requires.small short,
+      c.start.ensures,
+      sum_by-take-le length c.args.records.now.list c.loop-i.i,
+    )
+
+pub place-requires : goal.place-requires
+place-requires c =
+    let es = entries c.args.is_long c.args.records.now.list c.loop-i.i in
+    let few : c.loop-i.i < c.args.places = omega (
+      arith,
+      c.loop-i-test.true,
+      c.requires.enough,
+    ) in
+    record {
+      free = (
+        es,
+        c.loop-i.invariant.filled,
+        omega (
+          arith,
+          length-entries c.args.is_long c.args.records.now.list c.loop-i.i,
+          c.loop-i.invariant.places,
+          few,
+        ),
+      );
+    }
+
+pub loop-i-preserved : goal.loop-i-preserved
+loop-i-preserved c =
+    let long = c.args.is_long in
+    let rs = c.args.records.now.list in
+    let i = c.loop-i.i in
+    let within : i < length rs = omega (arith, c.loop-i-test.true) in
+    let hash = c.read_hash-hash.result in
+    let more = entry-more long rs i hash c.string.result.now c.string.ensures c.read_hash-hash.ensures in
+    let placed = c.place.ensures.placed (entries long rs i) (omega (
+      arith,
+      length-entries long rs i,
+      c.loop-i.invariant.places,
+      c.requires.enough,
+      within,
+    )) c.loop-i.invariant.filled in
+    let slot = c.slot_for.ensures ∙ ap (slot_of long i) c.start.ensures in
+    record {
+      filled = subst (λ es. IsFilled c.place.new.self es) (ap (λ s. (hash, s) ∷ entries long rs i) slot
+          ∙ sym more) placed;
+      places = omega (arith, c.place.ensures.room, c.loop-i.invariant.places);
+    }

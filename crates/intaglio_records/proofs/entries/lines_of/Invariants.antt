@@ -1,0 +1,10 @@
+use Rattle.std.proofs.Common.{◌≤◌}
+use Rattle.intaglio_records.specs.Chains.{IsFilled, places_of}
+use Rattle.intaglio_records.specs.Entries.{entries}
+use Rattle.intaglio_records.proofs.entries.lines_of.Given as goal
+
+abbrev pub invariant-loop-i : goal.invariant-loop-i
+invariant-loop-i l = record {
+  filled : IsFilled l.lines (entries l.is_long l.records.list l.i);
+  places : l.places ≤ places_of l.lines;
+}

@@ -1,0 +1,47 @@
+use Rattle.std.proofs.Common.{◌≡◌, ◌+◌, ◌-◌, arith, ap, ◌∙◌, subst}
+use Rattle.intaglio_records.specs.Chains.{IsFilled}
+use Rattle.intaglio_records.specs.Entries.{entries, position, slot_of}
+use Rattle.intaglio_records.proofs.EntryLemmas.{entry-more}
+use Rattle.intaglio_records.proofs.entries.remove_behind.Goals as goal
+
+pub remove_newest-requires : goal.remove_newest-requires
+remove_newest-requires c =
+    let long = c.args.is_long in
+    let rs = c.args.records.now.list in
+    let n = c.loop-count.count - 1 in
+    let more =
+    entry-more long rs n c.read_hash.result c.string.result.now c.string.ensures c.read_hash.ensures in
+    let at : c.loop-count.count ≡ n + 1 = omega (arith, c.loop-count-test.true) in (
+      slot_of long n (position rs n),
+      entries long rs n,
+      subst (λ es. IsFilled c.loop-count.lines es) (ap (entries long rs) at
+          ∙ more) c.loop-count.invariant.filled,
+    )
+
+pub loop-count-preserved : goal.loop-count-preserved
+loop-count-preserved c =
+    let long = c.args.is_long in
+    let rs = c.args.records.now.list in
+    let n = c.loop-count.count - 1 in
+    let more =
+    entry-more long rs n c.read_hash.result c.string.result.now c.string.ensures c.read_hash.ensures in
+    let at : c.loop-count.count ≡ n + 1 = omega (arith, c.loop-count-test.true) in
+    let old = subst (λ es. IsFilled c.loop-count.lines es) (ap (entries long rs) at
+    ∙ more) c.loop-count.invariant.filled in
+    record {
+      filled = c.remove_newest.ensures.removed (slot_of long n (position rs n)) (entries long rs n) old;
+      places = c.remove_newest.ensures.room ∙ c.loop-count.invariant.places;
+      within = omega (arith, c.loop-count.invariant.within);
+      above = omega (arith, c.loop-count.invariant.above, c.loop-count-test.true);
+    }
+
+pub returns-clause-kept : goal.returns-clause-kept
+returns-clause-kept c =
+    let long = c.args.is_long in
+    let rs = c.args.records.now.list in
+    subst (λ n. IsFilled c.loop-count.lines (entries long rs n)) (omega (
+      arith,
+      c.loop-count.invariant.above,
+      c.loop-count.invariant.within,
+      c.loop-count-test.false,
+    )) c.loop-count.invariant.filled

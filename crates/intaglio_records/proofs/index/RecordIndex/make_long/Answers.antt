@@ -1,0 +1,17 @@
+use Rattle.std.proofs.Common.{rules, true, sym, subst}
+use Rattle.intaglio_records.specs.Chains.{IsFilled}
+use Rattle.intaglio_records.proofs.EntryLemmas.{entries-all}
+use Rattle.intaglio_records.proofs.RecordLemmas.{are-long}
+use Rattle.intaglio_records.proofs.index.RecordIndex.make_long.Goals as goal
+
+pub returns-clause-over : goal.returns-clause-over
+returns-clause-over c _ =
+    let xs = c.args.records.now.list in
+    let rs = c.buffer.result.now.list in
+    let all = entries-all true xs rs c.buffer.ensures.list (are-long rs c.buffer.ensures.each) in
+    record {
+      filled = subst (λ es. IsFilled c.in_ok-lines.lines es) (sym all) c.in_ok-lines.ensures.filled;
+      within = c.requires.1.within;
+      places = c.in_ok-lines.ensures.places;
+      short = λ e. search rules;
+    }

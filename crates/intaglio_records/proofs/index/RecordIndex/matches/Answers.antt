@@ -1,0 +1,46 @@
+use Rattle.std.proofs.Common.{◌≡◌, ◌≤◌, ◌^◌, length, map, refl, arith, ap, sym, subst, ◌∙◌}
+use Rattle.std.specs.List.{concat}
+use Rattle.std.proofs.lemmas.List.{length-map}
+use Rattle.std.proofs.lemmas.List.Sorted.{All-permutation}
+use Rattle.intaglio_records.specs.Chains.{IsFilled}
+use Rattle.intaglio_records.specs.Search.{candidates, slots_of}
+use Rattle.intaglio_records.specs.Records.{pair_of}
+use Rattle.intaglio_records.specs.Entries.{entries}
+use Rattle.intaglio_records.specs.Matches.{IsSlot, begin_of, numbers_with}
+use Rattle.intaglio_records.proofs.EntryLemmas.{entries-all}
+use Rattle.intaglio_records.proofs.MatchLemmas.{all-found, slots-all}
+use Rattle.intaglio_records.proofs.RecordLemmas.{are-long}
+use Rattle.intaglio_records.proofs.index.RecordIndex.matches.Goals as goal
+
+pub returns : goal.returns
+returns c =
+    let rs = c.buffer.result.now.list in
+    let each = c.buffer.ensures.each in
+    let xs = c.args.records.now.list in
+    let long = c.args.self.now.is_long in
+    let base = c.args.self.now.lines.base in
+    let hash = c.args.hash in
+    let es = entries long rs (length rs) in
+    let all = entries-all long xs rs c.buffer.ensures.list (are-long rs each) in
+    let filled = subst (λ es. IsFilled c.args.self.now.lines es) all c.requires.filled in
+    let slots = candidates base hash es in
+    let perm = c.find-candidates.ensures.found es filled in
+    let size : length xs ≡ length rs = ap length (sym c.buffer.ensures.list) ∙ length-map rs pair_of in
+    let few : length rs ≤ 2 ^ 32 =
+    omega (arith, size, c.requires.within, c.requires.places, c.requires.filled.small) in
+    rw (← c.buffer.ensures.list) (
+      numbers_with hash (concat rs) (map (begin_of long rs) slots),
+      record {
+        slots = slots;
+        slots_left = c.find-candidates.ensures.left es filled;
+        each = each;
+        few = few;
+        each_slot =
+            All-permutation (IsSlot long rs) (slots_of base hash es) slots perm
+            (slots-all long rs base hash (length rs) (omega arith));
+        list = refl;
+        hash_is = refl;
+        left_is = refl;
+      },
+      all-found long rs base hash slots each few perm,
+    )

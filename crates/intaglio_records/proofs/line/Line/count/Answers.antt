@@ -1,0 +1,44 @@
+use Rattle.std.proofs.Common.{◌≡◌, ℕ, ◌<◌, ◌==◌, cond, get_or, length, arith, w64, inl, inr, ap, ◌∙◌, sym}
+use Rattle.std.specs.Int.{bit_at, trailing_zeros}
+use Rattle.std.proofs.lemmas.Nat.Bits.{bit_at-trailing_zeros, bit_at-zero}
+use Rattle.std.proofs.lemmas.Bool.{cases_eq, cases_order, cond-false, ne_eqb}
+use Rattle.intaglio_records.proofs.LineLemmas.{entry-tag}
+use Rattle.intaglio_records.proofs.line.Line.count.Goals as goal
+
+set_is_none : (tag : ℕ) → ◌≡◌ {A = ℕ} (cond (tag == 0) 1 0) 1 → tag ≡ 0
+set_is_none tag one =
+    elim (cases_eq tag 0) [
+      | inl none ↦ none
+      | inr some ↦
+          (let not_set : ◌≡◌ {A = ℕ} (cond (tag == 0) 1 0) 0 =
+          cond-false (tag == 0) 1 0 (ne_eqb tag 0 some) in
+          absurd (omega (arith, one, not_set)))
+    ]
+
+pub returns : goal.returns
+returns c es next is =
+    let m = c.equal.result in
+    let bits = c.equal.ensures.bits in
+    let at = length es in
+    let tags = c.args.self.now.tags in
+    let here : bit_at m at ≡ 1 =
+    bits at (omega (arith, is.few)) ∙ ap (λ tag. cond (tag == 0) 1 0) (is.others at (omega arith)) in
+    let some : 0 < m = elim (cases_order m 0) [
+      | inl none ↦ absurd (omega (arith, sym (bit_at-zero at) ∙ ap (λ n. bit_at n at) (sym none) ∙ here))
+      | inr (inl below) ↦ omega arith
+      | inr (inr above) ↦ above
+    ] in
+    let lowest = bit_at-trailing_zeros w64 m some (omega arith) in
+    elim (cases_order (trailing_zeros w64 m) at) [
+      | inl same ↦ same
+      | inr (inl below) ↦
+          (let none : get_or tags (trailing_zeros w64 m) 0 ≡ 0 =
+          set_is_none (get_or tags (trailing_zeros w64 m) 0)
+          (sym (bits (trailing_zeros w64 m) (omega (arith, is.few, below))) ∙ lowest.1) in
+          absurd (omega (
+            arith,
+            none,
+            entry-tag tags c.args.self.now.slots es (trailing_zeros w64 m) is.entries below,
+          )))
+      | inr (inr above) ↦ absurd (omega (arith, sym here ∙ lowest.2 at above))
+    ]

@@ -1,0 +1,56 @@
+use Rattle.std.proofs.Common.{◌≡◌, ◌<◌, ◌++◌, length, get_or, refl, sym, subst, ap, ◌∙◌, arith, mod-lt}
+use Rattle.std.proofs.lemmas.List.{get_or_default}
+use Rattle.intaglio_records.specs.Chains.{first_line, overflow, newest, no_line, AreBehind}
+use Rattle.intaglio_records.specs.Search.{slots_with, overflow_slots, picked, candidates}
+use Rattle.intaglio_records.proofs.LineLemmas.{tag-some}
+use Rattle.intaglio_records.proofs.Placing.{first-is}
+use Rattle.intaglio_records.proofs.Searching.{bits-within, picked-fresh}
+use Rattle.intaglio_records.proofs.Finding.{are-found}
+use Rattle.intaglio_records.proofs.lines.Lines.find.Goals as goal
+
+pub returns-clause-left : goal.returns-clause-left
+returns-clause-left c es filled =
+    let lines = c.args.self.now in
+    let base = lines.base in
+    let first = c.class-first.result in
+    let tag = c.tag_of-tag.result in
+    let os = overflow base es in
+    let F = first_line base first es in
+    let some : 0 < base = omega (arith, c.if-self-eq0.false) in
+    let within : first < base = rw c.class-first.ensures (mod-lt c.args.hash some) in
+    let inside : first < length lines.lines.items = omega (arith, within, filled.chains.size) in
+    let x = c.index-line.result.now in
+    let read = first-is lines es filled first within x c.index-line.ensures in
+    let all : c.deref-2.result.now ≡ lines.lines.items = c.deref-2.ensures.value in
+    let tagged : 0 < tag = rw c.tag_of-tag.ensures (tag-some c.args.hash) in
+    let b = c.equal.ensures in
+    let there : x ≡ get_or c.deref-2.result.now first no_line = c.index-line.ensures
+    ∙ get_or_default lines.lines.items first x no_line inside
+    ∙ ap (λ ls. get_or ls first no_line) (sym all) in
+    let fresh =
+    picked-fresh c.equal.result tag x.tags x.slots F read.entries
+    (λ i lt. b.bits i (omega (arith, lt, read.few))) in
+    let named : candidates base c.args.hash es ≡ slots_with tag F ++ overflow_slots first tag os =
+    rw (c.class-first.ensures, c.tag_of-tag.ensures) refl in
+    record {
+      base = base;
+      class = first;
+      count = length F;
+      behind = os;
+      some = tagged;
+      few = read.few;
+      bits = λ i lt set. bits-within x F (newest base first os) c.equal.result tag read tagged b.bits
+          b.above i set;
+      line = λ more. rw all inside;
+      based = some;
+      size = λ more. rw all (omega (arith, filled.chains.size));
+      next = c.next.ensures F (newest base first os) read;
+      lines = subst (λ ls. AreBehind base ls os) (sym all) filled.chains.behind;
+      left_is = named
+          ∙ ap (λ front. front ++ overflow_slots first tag os) (sym fresh
+          ∙ ap (λ l. picked c.equal.result l.slots (length F)) there);
+    }
+
+pub returns-clause-found : goal.returns-clause-found
+returns-clause-found c es filled =
+    are-found c.args.self.now.base c.args.hash es (omega (arith, c.if-self-eq0.false))

@@ -1,0 +1,36 @@
+use Rattle.std.proofs.Common.{◌≡◌, [], ◌∷◌, length, ap, ◌∙◌, arith, inl, inr}
+use Rattle.std.proofs.lemmas.Bool.{cases_lt}
+use Rattle.std.proofs.lemmas.List.{length-append, get_or_append_left}
+use Rattle.std.proofs.Math.Seq.{get_or-append_seam}
+use Rattle.intaglio_records.specs.Chains.{no_line}
+use Rattle.intaglio_records.proofs.lines.empty_lines.Goals as goal
+
+pub loop-i-preserved : goal.loop-i-preserved
+loop-i-preserved c =
+    let old = c.loop-i.lines.items in
+    let was = c.loop-i.invariant.lines in
+    let x = c.empty.result in
+    let items = c.push_reserved.ensures.items in
+    record {
+      lines = record {
+        size = ap length items ∙ omega (arith, length-append old (x ∷ []), was.size);
+        each = λ i lt. elim (cases_lt i c.loop-i._i) [
+          | inl low ↦ rw (items, get_or_append_left old (x ∷ []) no_line i (omega (arith, low, was.size)))
+              (was.each i low)
+          | inr high ↦
+              (let at : i ≡ length old = omega (arith, lt, high, was.size) in
+              rw (items, at, get_or-append_seam old x [] no_line) c.empty.ensures)
+        ];
+      };
+      room = omega (arith, c.push_reserved.ensures.capacity, c.loop-i.invariant.room);
+    }
+
+pub push_reserved-requires : goal.push_reserved-requires
+push_reserved-requires c = omega (
+  arith,
+  c.loop-i.lines.ok.0,
+  c.loop-i.invariant.lines.size,
+  c.loop-i.invariant.room,
+  c.loop-i-test.true,
+  c.requires,
+)

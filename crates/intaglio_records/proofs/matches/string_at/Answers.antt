@@ -1,0 +1,57 @@
+use Rattle.std.proofs.Common.{◌≡◌, ◌+◌, [], length, drop, slice_range, get_or, arith, ap, ◌∙◌}
+use Rattle.intaglio_records.proofs.Reading.{there, string-there}
+use Rattle.intaglio_records.proofs.matches.string_at.Goals as goal
+
+pub overflow_add-length : goal.overflow_add-length
+overflow_add-length c =
+    let t = there c.args.records.now.list c.bytes-bytes.result.now c.args.at c.requires.begins.0
+    c.bytes-bytes.ensures c.requires.each c.requires.few c.requires.begins.1 c.requires.begins.2 in
+    omega (arith, t, c.bytes-bytes.type_inv, t.within)
+
+pub bounds-bytes-at : goal.bounds-bytes-at
+bounds-bytes-at c =
+    let t = there c.args.records.now.list c.bytes-bytes.result.now c.args.at c.requires.begins.0
+    c.bytes-bytes.ensures c.requires.each c.requires.few c.requires.begins.1 c.requires.begins.2 in
+    omega (arith, t, c.bytes-bytes.type_inv, t.within)
+
+pub overflow_add-start : goal.overflow_add-start
+overflow_add-start c =
+    let t = there c.args.records.now.list c.bytes-bytes.result.now c.args.at c.requires.begins.0
+    c.bytes-bytes.ensures c.requires.each c.requires.few c.requires.begins.1 c.requires.begins.2 in
+    omega (arith, t, c.bytes-bytes.type_inv, t.within)
+
+pub overflow_add-end : goal.overflow_add-end
+overflow_add-end c =
+    let t = there c.args.records.now.list c.bytes-bytes.result.now c.args.at c.requires.begins.0
+    c.bytes-bytes.ensures c.requires.each c.requires.few c.requires.begins.1 c.requires.begins.2 in
+    omega (arith, t, c.bytes-bytes.type_inv, t.within, t.size)
+
+pub part-requires-clause-within : goal.part-requires-clause-within
+part-requires-clause-within c =
+    let t = there c.args.records.now.list c.bytes-bytes.result.now c.args.at c.requires.begins.0
+    c.bytes-bytes.ensures c.requires.each c.requires.few c.requires.begins.1 c.requires.begins.2 in
+    omega (arith, t, c.bytes-bytes.type_inv, t.within, t.size)
+
+pub long_string-requires-clause-there : goal.long_string-requires-clause-there
+long_string-requires-clause-there c =
+    let t = there c.args.records.now.list c.bytes-bytes.result.now c.args.at c.requires.begins.0
+    c.bytes-bytes.ensures c.requires.each c.requires.few c.requires.begins.1 c.requires.begins.2 in
+    omega (arith, t, c.bytes-bytes.type_inv, t.number, c.read_number.ensures, c.requires.begins.1)
+
+pub returns-then-length-eq-LONG : goal.returns-then-length-eq-LONG
+returns-then-length-eq-LONG c i l e =
+    let rs = c.args.records.now.list in
+    let t = there rs c.bytes-bytes.result.now c.args.at i c.bytes-bytes.ensures c.requires.each
+    c.requires.few l e in
+    let number : c.read_number.result ≡ i = c.read_number.ensures ∙ t.number in
+    c.long_string.ensures ∙ ap (λ k. drop 13 (get_or rs k [])) number
+
+pub returns : goal.returns
+returns c i l e =
+    let rs = c.args.records.now.list in
+    let bytes = c.bytes-bytes.result.now in
+    let t = there rs bytes c.args.at i c.bytes-bytes.ensures c.requires.each c.requires.few l e in
+    let n = get_or bytes (c.args.at + 12) 0 in
+    let size : n + 13 ≡ length (get_or rs i []) = omega (arith, t, c.if-length-eq-LONG.false) in
+    c.part.ensures ∙ ap (λ bs. slice_range bs (c.args.at + 13) (c.args.at + 13 + n)) c.bytes-bytes.ensures
+    ∙ string-there rs i (c.args.at + 13) n l (omega (arith, e)) size

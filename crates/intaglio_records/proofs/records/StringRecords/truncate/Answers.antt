@@ -1,0 +1,56 @@
+use Rattle.std.proofs.Common.{arith, sym}
+use Rattle.std.proofs.lemmas.List.{length-take, take-map}
+use Rattle.intaglio_records.specs.Records.{pair_of}
+use Rattle.intaglio_records.proofs.RecordLemmas.{are-long, headers-behind, records-take, room-is}
+use Rattle.intaglio_records.proofs.records.StringRecords.truncate.Goals as goal
+
+pub invariant_of-self : goal.invariant_of-self
+invariant_of-self c =
+    let rs = c.self.inside.records.list in
+    let room = rw c.truncate.ensures.list at c.truncate.ensures.byte_room in
+    let behind = headers-behind c.args.n rs (are-long rs c.self.invariant.each) in
+    rw c.truncate.ensures.list
+    (record {
+      each = records-take c.args.n rs c.self.invariant.each;
+      order = omega (arith, length-take c.args.n rs, c.truncate.ensures.most, c.self.invariant.order);
+      headers = omega (
+        arith,
+        length-take c.args.n rs,
+        behind,
+        c.truncate.ensures.most,
+        room,
+        c.self.invariant.order,
+        c.self.invariant.headers,
+      );
+      small = omega (arith, room, c.self.invariant.small);
+    })
+
+pub returns-clause-list : goal.returns-clause-list
+returns-clause-list c = rw (
+  ← c.self.view_is,
+  c.truncate.ensures.list,
+) (sym (take-map pair_of c.args.n c.self.inside.records.list))
+
+pub returns-clause-spare_bytes : goal.returns-clause-spare_bytes
+returns-clause-spare_bytes c =
+    let rs = c.self.inside.records.list in
+    rw (← c.self.view_is, c.truncate.ensures.list)
+    (omega (
+      arith,
+      length-take c.args.n rs,
+      headers-behind c.args.n rs (are-long rs c.self.invariant.each),
+      c.truncate.ensures.most,
+      rw c.truncate.ensures.list at c.truncate.ensures.byte_room,
+      c.self.invariant.order,
+      c.self.invariant.headers,
+    ))
+
+pub returns-clause-byte_room : goal.returns-clause-byte_room
+returns-clause-byte_room c =
+    let old = c.self.inside.records in
+    let new = c.truncate.new.self in
+    let is = invariant_of-self c in
+    let was =
+    room-is old (are-long old.list c.self.invariant.each) c.self.invariant.order c.self.invariant.headers in
+    let now = room-is new (are-long new.list is.each) is.order is.headers in
+    rw (← c.self.view_is) (omega (arith, was, now, c.truncate.ensures.most, c.truncate.ensures.byte_room))

@@ -1,0 +1,65 @@
+use Rattle.std.proofs.Common.{◌<◌, ◌++◌, length, get_or, sym, subst, ap, ◌∙◌, arith}
+use Rattle.std.specs.Int.{bit_at}
+use Rattle.std.proofs.lemmas.Nat.Bits.{bit_at-zero}
+use Rattle.intaglio_records.specs.Line.{IsLine}
+use Rattle.intaglio_records.specs.Chains.{newest, no_line}
+use Rattle.intaglio_records.specs.Search.{overflow_slots}
+use Rattle.intaglio_records.proofs.ChainLemmas.{newest-lt}
+use Rattle.intaglio_records.proofs.Searching.{next-line, next-inside, bits-within, picked-none, picked-fresh}
+use Rattle.intaglio_records.proofs.search.Candidates.advance.Goals as goal
+
+pub offset_bounds-self-self : goal.offset_bounds-self-self
+offset_bounds-self-self c = let inside =
+    next-inside c.args.self.now c.requires.search.0 c.requires.search.1 c.requires.more in let fits =
+    c.fits-self in omega arith
+
+pub bounds-self-self : goal.bounds-self-self
+bounds-self-self c = next-inside c.args.self.now c.requires.search.0 c.requires.search.1 c.requires.more
+
+pub returns-clause-left : goal.returns-clause-left
+returns-clause-left c left is =
+    let s = c.args.self.now in
+    let some : 0 < newest is.base is.class is.behind = omega (arith, is.next, c.requires.more) in
+    let there = next-line is.base is.class s.tag s.lines.now is.behind is.lines some in
+    let line = subst (λ i. IsLine (get_or s.lines.now i no_line) there.0 (newest is.base is.class there.1))
+    (sym is.next) there.2 in
+    let b = c.equal-self.ensures in
+    let slots = (get_or s.lines.now s.next no_line).slots in
+    let old =
+    picked-none s.equal (get_or s.lines.now s.line no_line).slots is.count
+    (λ i lt. ap (λ n. bit_at n i) c.requires.done ∙ bit_at-zero i) in
+    let fresh = picked-fresh c.equal-self.result s.tag (get_or s.lines.now s.next no_line).tags slots there.0
+    line.entries (λ i lt. b.bits i (omega (arith, lt, line.few))) in
+    record {
+      base = is.base;
+      class = is.class;
+      count = length there.0;
+      behind = there.1;
+      some = is.some;
+      few = line.few;
+      bits = λ i lt set.
+          bits-within (get_or s.lines.now s.next no_line) there.0 (newest is.base is.class there.1)
+          c.equal-self.result s.tag line is.some b.bits b.above i set;
+      line = λ some. next-inside s left is c.requires.more;
+      based = is.based;
+      size = λ some. omega (arith, is.size (omega (arith, there.5)), there.5);
+      next = c.next.ensures there.0 (newest is.base is.class there.1) line;
+      lines = there.3;
+      left_is = is.left_is ∙ ap (λ front. front ++ overflow_slots is.class s.tag is.behind) old ∙ there.4
+          ∙ ap (λ front. front ++ overflow_slots is.class s.tag there.1) (sym fresh);
+    }
+
+pub returns-clause-older : goal.returns-clause-older
+returns-clause-older c =
+    let s = c.args.self.now in let is = c.requires.search.1 in
+    let some : 0 < newest is.base is.class is.behind = omega (arith, is.next, c.requires.more) in
+    let there = next-line is.base is.class s.tag s.lines.now is.behind is.lines some in
+    let line = subst (λ i. IsLine (get_or s.lines.now i no_line) there.0 (newest is.base is.class there.1))
+    (sym is.next) there.2 in
+    omega (
+      arith,
+      c.next.ensures there.0 (newest is.base is.class there.1) line,
+      newest-lt is.base is.class there.1 is.based,
+      there.6,
+      is.next,
+    )
