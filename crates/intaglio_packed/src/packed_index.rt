@@ -1,10 +1,10 @@
 //! A [`RecordIndex`] as the index of a packed list.
-ghost use Rattle.std.specs.Prelude.{◌≡◌, ◌+◌, ◌^◌, ◌++◌, ◌≤◌, length, replicate};
+ghost use Rattle.std.specs.Prelude.{◌≡◌, ◌+◌, ◌-◌, ◌^◌, ◌++◌, ◌≤◌, length, replicate};
 ghost use Rattle.std.specs.Prelude.{IsOk, OnErr, OnOk};
 ghost use Rattle.intaglio_content.specs.Store.{Doubles};
 ghost use Rattle.intaglio_content.specs.Work.{placed};
-ghost use Rattle.intaglio_records.specs.Index.{IsOver, made_for};
-ghost use Rattle.intaglio_packed.specs.PackedIndex.{room_with, state_over};
+ghost use Rattle.intaglio_records.specs.Index.{IsOver, is_long_of, made_for};
+ghost use Rattle.intaglio_packed.specs.PackedIndex.{room_with, state_over, StaysShort};
 ghost use Rattle.intaglio_records.specs.Records.{record_room_of};
 
 use crate::packed::Packed;
@@ -191,6 +191,7 @@ fn reserve_in<K: Kind>(
     ensures most { list.old.most ≤ list.new.most }
     ensures grows { Doubles (length list.old.list + additional) list.old.most list.new.most }
     ensures free { OnOk result (length list.old.list + additional ≤ list.new.most) }
+    ensures short { StaysShort additional list.old → is_long_of index.new ≡ is_long_of index.old }
 {
     if !list.records().stays_short(additional) {
         index.lengthen(list.records())?;
@@ -215,6 +216,7 @@ fn reach_bytes<K: Kind>(
     ensures kept { OnOk result (list.new.spare_bytes ≡ list.old.spare_bytes) }
     ensures given_up { OnErr result (list.new.spare_bytes ≡ spare) }
     ensures none_needed { list.old.spare_bytes ≡ spare → IsOk result }
+    ensures short { record_room_of list.old ≤ 2 ^ 32 - 1 → is_long_of index.new ≡ is_long_of index.old }
 {
     if list.records().is_short() {
         return Ok(());

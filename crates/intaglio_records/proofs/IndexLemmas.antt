@@ -1,5 +1,5 @@
 -- Indexes over records.
-use Rattle.std.proofs.Common.{◌≡◌, ℕ, ◌^◌, ◌≤◌, List, [], ◌∷◌, length, map, drop, get_or, refl, sym, ap, arith}
+use Rattle.std.proofs.Common.{◌≡◌, ℕ, ◌-◌, ◌^◌, ◌≤◌, List, [], ◌∷◌, length, map, drop, get_or, refl, sym, ap, arith}
 use Rattle.intaglio_records.specs.declared.index.RecordIndex.{RecordIndex}
 use Rattle.intaglio_records.specs.Index.{IsOver}
 
@@ -11,6 +11,7 @@ over_less xs room less index is l = record {
   filled = is.filled;
   within = is.within;
   places = is.places;
+  tight = is.tight;
   short = λ e. omega (arith, is.short e, l);
 }
 
@@ -21,6 +22,7 @@ over_short xs room other index is l = record {
   filled = is.filled;
   within = is.within;
   places = is.places;
+  tight = is.tight;
   short = λ _. l;
 }
 

@@ -66,8 +66,9 @@ pub record IsFilled (lines : Lines) (es : List Entry) : Type 0 where
   pub chains : AreChains lines.base lines.lines.items (firsts_of lines.base es) (overflow lines.base es)
   pub power : 0 < lines.base → IsPowerOfTwo lines.base
   pub few : length es ≤ 8 * lines.base
-  -- there is memory for as many overflow lines as can be needed
+  -- there is memory for as many overflow lines as can be needed, and for no more
   pub reserved : 19 * lines.base ≤ 11 * vec_capacity lines.lines + 10
+  pub tight : 11 * vec_capacity lines.lines ≤ 19 * lines.base
   pub small : lines.base ≤ 2 ^ 29
 
 -- how many entries there is room for

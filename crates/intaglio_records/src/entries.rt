@@ -1,5 +1,5 @@
 //! The lines by which records are found.
-ghost use Rattle.std.specs.Prelude.{◌≡◌, ◌-◌, ◌^◌, ◌<◌, ◌≤◌, false, length, min, IfOk, IsOk};
+ghost use Rattle.std.specs.Prelude.{◌≡◌, ◌+◌, ◌*◌, ◌-◌, ◌^◌, ◌<◌, ◌≤◌, false, length, min, IfOk, IsOk};
 ghost use Rattle.intaglio_records.specs.Strings.{byte_count_of};
 ghost use Rattle.intaglio_records.specs.Chains.{IsFilled, places_of};
 ghost use Rattle.intaglio_records.specs.Records.{AreRecords};
@@ -34,6 +34,7 @@ pub(crate) fn lines_of(
     ensures filled { let es = entries is_long records.now.list (length records.now.list) in
         IfOk result (λ lines. IsFilled lines es) }
     ensures places { IfOk result (λ lines. places ≤ places_of lines) }
+    ensures tight { IfOk result (λ lines. places_of lines ≤ 2 * places + 6) }
     ensures none_needed { places ≡ 0 → IsOk result }
 {
     let mut lines = Lines::with_places(records.alloc(), places)?;

@@ -1,5 +1,5 @@
 //! Entries in chains of lines.
-ghost use Rattle.std.specs.Prelude.{◌≡◌, ◌≢◌, ◌*◌, ◌%◌, ◌^◌, ◌<◌, ◌≤◌, [], vec_capacity, IfOk, IsOk};
+ghost use Rattle.std.specs.Prelude.{◌≡◌, ◌≢◌, ◌+◌, ◌*◌, ◌%◌, ◌^◌, ◌<◌, ◌≤◌, [], vec_capacity, IfOk, IsOk};
 ghost use Rattle.std.specs.Int.{IsPowerOfTwo};
 ghost use Rattle.intaglio_records.specs.Search.{IsSearchFor, FindsAll};
 ghost use Rattle.intaglio_records.specs.Chains.{AreLines, HaveRoom, IsPlaced, IsFirstFull, AreOthersFull};
@@ -33,6 +33,7 @@ fn first_lines(places: usize) -> usize
     ensures small { result ≤ 2 ^ 29 }
     ensures enough { places ≤ 8 * result }
     ensures none { places ≡ 0 → result ≡ 0 }
+    ensures tight { 4 * result ≤ places + 3 }
 {
     if places == 0 {
         return 0;
@@ -44,7 +45,7 @@ fn first_lines(places: usize) -> usize
 fn empty_lines(alloc: Global, count: usize, most: usize) -> Result<Vec<Line>, AllocError>
     requires { count ≤ most }
     ensures made { IfOk result (λ lines. AreEmpty lines.items count) }
-    ensures room { IfOk result (λ lines. most ≤ vec_capacity lines) }
+    ensures room { IfOk result (λ lines. vec_capacity lines ≡ most) }
     ensures none_needed { most ≡ 0 → IsOk result }
 {
     let mut lines = Vec::with_capacity(alloc, most)?;
@@ -55,7 +56,8 @@ fn empty_lines(alloc: Global, count: usize, most: usize) -> Result<Vec<Line>, Al
 }
 
 impl Lines {
-    /// No entries, and room for at least so many. Without places nothing is allocated.
+    /// No entries, and room for at least so many, and for at most twice as many and six. Without places nothing
+    /// is allocated.
     ///
     /// # Errors
     ///
@@ -64,6 +66,7 @@ impl Lines {
         requires { places ≤ 2 ^ 32 }
         ensures empty { IfOk result (λ lines. IsFilled lines []) }
         ensures enough { IfOk result (λ lines. places ≤ places_of lines) }
+        ensures tight { IfOk result (λ lines. places_of lines ≤ 2 * places + 6) }
         ensures none_needed { places ≡ 0 → IsOk result }
     {
         let base = first_lines(places);

@@ -224,7 +224,11 @@ fn finds_number(
 )
     requires { IsOver records.now.list (record_room_of records.now) index.now }
 {
-    same(rt, number_of(records, index, 5, &number.to_le_bytes()), place);
+    same(
+        rt,
+        number_of(records, index, 5, &number.to_le_bytes()),
+        place,
+    );
 }
 
 // Asserts that the numbers below 20 are found, and no greater one.

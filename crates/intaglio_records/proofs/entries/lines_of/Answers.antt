@@ -58,4 +58,5 @@ loop-i-preserved c =
       filled = subst (λ es. IsFilled c.place.new.self es) (ap (λ s. (hash, s) ∷ entries long rs i) slot
           ∙ sym more) placed;
       places = omega (arith, c.place.ensures.room, c.loop-i.invariant.places);
+      tight = omega (arith, c.place.ensures.room, c.loop-i.invariant.tight);
     }

@@ -1,4 +1,4 @@
-use Rattle.std.proofs.Common.{◌≤◌}
+use Rattle.std.proofs.Common.{◌≤◌, ◌+◌, ◌*◌}
 use Rattle.intaglio_records.specs.Chains.{IsFilled, places_of}
 use Rattle.intaglio_records.specs.Entries.{entries}
 use Rattle.intaglio_records.proofs.entries.lines_of.Given as goal
@@ -7,4 +7,5 @@ abbrev pub invariant-loop-i : goal.invariant-loop-i
 invariant-loop-i l = record {
   filled : IsFilled l.lines (entries l.is_long l.records.list l.i);
   places : l.places ≤ places_of l.lines;
+  tight : places_of l.lines ≤ 2 * l.places + 6;
 }

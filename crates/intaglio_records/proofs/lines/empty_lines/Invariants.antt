@@ -1,6 +1,6 @@
-use Rattle.std.proofs.Common.{◌≤◌}
+use Rattle.std.proofs.Common.{◌≡◌}
 use Rattle.intaglio_records.specs.Chains.{AreEmpty}
 use Rattle.intaglio_records.proofs.lines.empty_lines.Given as goal
 
 abbrev pub invariant-loop-i : goal.invariant-loop-i
-invariant-loop-i l = record { lines : AreEmpty l.lines.items l._i; room : l.most ≤ l.lines.cap }
+invariant-loop-i l = record { lines : AreEmpty l.lines.items l._i; room : l.lines.cap ≡ l.most }

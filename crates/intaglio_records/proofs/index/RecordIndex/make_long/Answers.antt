@@ -13,5 +13,6 @@ returns-clause-over c _ =
       filled = subst (λ es. IsFilled c.in_ok-lines.lines es) (sym all) c.in_ok-lines.ensures.filled;
       within = c.requires.1.within;
       places = c.in_ok-lines.ensures.places;
+      tight = c.in_ok-lines.ensures.tight;
       short = λ e. search rules;
     }

@@ -25,5 +25,6 @@ returns-clause-over c =
       filled = subst (λ es. IsFilled c.in_ok-lines.lines es) (sym all) c.in_ok-lines.ensures.filled;
       within = c.requires.enough;
       places = c.in_ok-lines.ensures.places;
+      tight = c.in_ok-lines.ensures.tight;
       short = λ e. c.is_short-is_long.ensures.0 (not-false c.is_short-is_long.result e);
     }

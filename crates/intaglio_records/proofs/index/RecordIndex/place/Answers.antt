@@ -40,5 +40,6 @@ returns-clause-over c string =
           (c.place.ensures.placed es free c.requires.over.filled);
       within = omega (arith, length-append xs (x ∷ []), c.requires.free);
       places = omega (arith, c.place.ensures.room, c.requires.over.places);
+      tight = omega (arith, c.place.ensures.room, c.requires.over.tight);
       short = c.requires.over.short;
     }

@@ -34,5 +34,6 @@ returns-clause-over c =
       filled = subst (λ es. IsFilled c.remove_behind.new.lines es) (sym all) c.remove_behind.ensures.kept;
       within = omega (arith, length-take n xs, c.requires.within);
       places = omega (arith, c.remove_behind.ensures.places, c.requires.places);
+      tight = omega (arith, c.remove_behind.ensures.places, c.requires.tight);
       short = c.requires.short;
     }

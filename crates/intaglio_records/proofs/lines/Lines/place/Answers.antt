@@ -28,5 +28,6 @@ returns-clause-placed c es room filled =
       power = filled.power;
       few = omega (arith, room);
       reserved = filled.reserved;
+      tight = filled.tight;
       small = filled.small;
     }

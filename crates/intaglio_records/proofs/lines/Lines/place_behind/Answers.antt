@@ -81,6 +81,7 @@ returns-then-count-lt-SLOTS-clause-placed c es room filled =
       power = filled.power;
       few = omega (arith, room);
       reserved = filled.reserved;
+      tight = filled.tight;
       small = filled.small;
     }
 

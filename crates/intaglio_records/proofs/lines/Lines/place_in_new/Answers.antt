@@ -57,5 +57,6 @@ returns-clause-placed c es room filled =
       power = filled.power;
       few = omega (arith, room);
       reserved = omega (arith, filled.reserved, c.push_reserved.ensures.capacity);
+      tight = omega (arith, filled.tight, c.push_reserved.ensures.capacity);
       small = filled.small;
     }

@@ -103,6 +103,7 @@ returns-then-count-gt1-clause-removed c slot es filled =
             power = filled.power;
             few = omega (arith, filled.few);
             reserved = filled.reserved;
+            tight = filled.tight;
             small = filled.small;
           })
       | in_new full none ↦
@@ -178,6 +179,7 @@ returns-clause-removed c slot es filled =
             power = filled.power;
             few = omega (arith, filled.few);
             reserved = omega (arith, filled.reserved, c.truncate.ensures.capacity);
+            tight = omega (arith, filled.tight, c.truncate.ensures.capacity);
             small = filled.small;
           })
     ]

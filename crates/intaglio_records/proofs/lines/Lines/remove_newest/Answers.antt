@@ -48,6 +48,7 @@ returns-clause-removed c slot es filled =
             power = filled.power;
             few = omega (arith, filled.few);
             reserved = filled.reserved;
+            tight = filled.tight;
             small = filled.small;
           })
       | in_newest full lt there ↦ absurd (omega (arith, newest-more base e es full lt, zero, there))
