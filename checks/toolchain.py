@@ -62,6 +62,7 @@ SPOILT = re.compile(r": error: `spoilt`: ")
 HELD: list[Any] = []
 
 
+@functools.lru_cache(maxsize=None)
 def version():
     return subprocess.run(["rt", "version"], capture_output=True, text=True).stdout.strip()
 
