@@ -1,22 +1,16 @@
 #!/usr/bin/env python3
-"""Draws the ratios of bench/figures.txt by matplotlib, a package of Debian: bench/choice.svg has what a reader chooses a table
-by, and bench/ratios.svg each cell of the tables on single calls.
+"""Draws bench/choice.svg, by which a reader chooses a table, from the ratios of bench/figures.txt, by matplotlib, a package of
+Debian.
 
-    bench/plot.py [--check]
+    bench/plot.py
 
-What figures.txt doesn't have isn't drawn. A picture names the version of matplotlib that drew it, and the sum of figures.txt and
-of this script: with --check nothing is drawn, and the status is 1 if a picture has another sum, or if this version of matplotlib
-drew it and draws something else now. Without that version the second is left out, which a line says.
+What figures.txt doesn't have isn't drawn. The picture holds the sum of figures.txt and of this script, for checks/pictures.py.
 """
 
-import hashlib
 import importlib.util
 import io
 import re
-import shutil
-import subprocess
 import sys
-import textwrap
 from pathlib import Path
 
 sys.dont_write_bytecode = True
@@ -24,12 +18,10 @@ TOP = Path(__file__).resolve().parent.parent
 sys.path.append(str(TOP / "checks"))
 
 import arguments
-from pictures import in_the_dark
+from pictures import in_the_dark, mark_of_bench
 
 FIGURES = TOP / "bench/figures.txt"
-CHOICE, RATIOS = TOP / "bench/choice.svg", TOP / "bench/ratios.svg"
-# One that isn't that of Debian's packages may be first on the PATH.
-PYTHONS = ("python3", "/usr/bin/python3")
+CHOICE = TOP / "bench/choice.svg"
 
 # The lines: by the names of figures.txt what they are called, and their colours, markers and dashes. Colours differ in grey too.
 INK, GREY, FAINT = "#24292f", "#6e7781", "#d0d7de"
@@ -37,14 +29,13 @@ LINES = {
     "ours": ("owned table", "#0a58a6", "o", "-"),
     "packed": ("packed table", "#c2410c", "s", (0, (6, 1.5))),
     "IndexSet": ("IndexSet<Box<str>>", "#7a5195", "D", (0, (3, 1.5))),
-    "boxes": ("hashbrown, boxed strings", "#7a7a00", "v", (0, (1, 1.2))),
     "buffer": ("hashbrown, one buffer", "#1a7f5a", "^", (0, (4, 1.5, 1, 1.5))),
 }
 CRATE = "the Rust crate (1)"
 # What each colour is in the dark.
 DARK = {
     "#ffffff": "#0d1117", INK: "#e6edf3", GREY: "#9198a1", FAINT: "#30363d", "#0a58a6": "#6cb6ff", "#c2410c": "#ff9a5c",
-    "#7a5195": "#d2a8ff", "#7a7a00": "#d9d94a", "#1a7f5a": "#57d9a3",
+    "#7a5195": "#d2a8ff", "#1a7f5a": "#57d9a3",
 }
 # What is drawn for choosing, by the names of figures.txt, and what of it.
 CHOSEN = {
@@ -54,10 +45,9 @@ CHOSEN = {
     "intern new borrowed words": "interning new borrowed strings",
     "intern new owned words": "interning new owned strings",
 }
-TITLE = "Time relative to the Rust crate intaglio, by the number of {}: below 1 takes less"
+TITLE = "Time relative to the Rust crate intaglio, by the number of strings: below 1 takes less"
 OF_CHOICE = ("ours", "packed", "IndexSet", "buffer")
 FOLD = "FoldHasher's hashes on all sides (a fixed seed), packed by FixedState; grown"
-TITLES = {"FoldHasher": "FoldHasher", "SipHash": "SipHash-1-3", "the default": "each one's default"}
 
 
 def tables():
@@ -137,41 +127,8 @@ def choice(found):
         axes.set_title(title, fontsize=9.5, color=INK)
     every.flat[-1].axis("off")
     every.flat[-1].legend(handles=handles(names), loc="center", frameon=False, fontsize=9, labelcolor=INK, handlelength=3.2)
-    figure.suptitle(TITLE.format("strings"), fontsize=10.5, color=INK)
+    figure.suptitle(TITLE, fontsize=10.5, color=INK)
     return figure
-
-
-def ratios(found):
-    """The picture of all cells: a row for each operation, and a column for each of the tables."""
-    from matplotlib.figure import Figure
-
-    operations = list(dict.fromkeys(it for table in found.values() for it in table))
-    names = [it for it in LINES if any(it in drawn_in(table, LINES) for table in found.values())]
-    figure = Figure(figsize=(2.35 * len(found), 1.45 * len(operations) + 1))
-    figure.set_layout_engine("constrained", rect=(0, 0.02, 1, 0.98))
-    every = figure.subplots(len(operations), len(found), squeeze=False)
-    for across, (title, table) in enumerate(found.items()):
-        hashes = next(it for word, it in TITLES.items() if title.startswith(word))
-        every[0][across].set_title(f"{hashes},\n{title.rpartition('; ')[2]}", fontsize=10, color=INK)
-        for down, operation in enumerate(operations):
-            axes = every[down][across]
-            panel(axes, table[operation], names, (0.125, 4))
-            axes.tick_params(labelsize=7, labelleft=not across, labelbottom=operation in operations[-1:])
-    for down, operation in enumerate(operations):
-        every[down][0].set_ylabel(textwrap.fill(operation, 17), fontsize=8, color=INK)
-    figure.suptitle(TITLE.format("words") + " (less than 0.125 is drawn there)", fontsize=12, color=INK)
-    how = {"frameon": False, "fontsize": 10, "labelcolor": INK, "handlelength": 3.2}
-    figure.legend(handles=handles(names), loc="lower center", ncol=len(names) + 1, **how)
-    return figure
-
-
-def source():
-    """The sum of all that a picture is drawn from."""
-    return hashlib.sha256(FIGURES.read_bytes() + Path(__file__).read_bytes()).hexdigest()[:16]
-
-
-def mark(version):
-    return f"<!-- drawn from {source()} by bench/plot.py and matplotlib {version} -->"
 
 
 def lightened(text):
@@ -181,63 +138,18 @@ def lightened(text):
     return re.sub(r"(\d\.\d\d)\d+(?=[^<>]*>)", r"\1", re.sub(r"\s*\n\s*", "\n", text))
 
 
-def pictures():
-    """The text of each picture, by its path."""
+def main():
+    arguments.parser(__doc__).parse_args()
+    if not importlib.util.find_spec("matplotlib"):
+        sys.exit("bench/plot.py needs matplotlib: apt-get install python3-matplotlib")
     import matplotlib
 
-    found = tables()
     with matplotlib.rc_context(
         {"svg.fonttype": "none", "svg.hashsalt": "intaglio", "font.family": "sans-serif", "font.sans-serif": ["DejaVu Sans"]}
     ):
-        for path, figure in ((CHOICE, choice(found)), (RATIOS, ratios(found))):
-            wrote = io.StringIO()
-            figure.savefig(wrote, format="svg", facecolor="#ffffff", metadata={"Date": None, "Creator": None})
-            yield path, in_the_dark(lightened(wrote.getvalue()), DARK).rstrip() + f"\n{mark(matplotlib.__version__)}\n"
-
-
-def wrong():
-    """What is wrong with the pictures that are there."""
-    version = None
-    drawn: dict[Path, str] = {}
-    if importlib.util.find_spec("matplotlib"):
-        import matplotlib
-
-        version = matplotlib.__version__
-    for path in (CHOICE, RATIOS):
-        name, text = path.relative_to(TOP), path.read_text(encoding="utf-8") if path.is_file() else ""
-        if source() not in text:
-            yield f"{name}: isn't drawn from bench/figures.txt as that is: run bench/plot.py"
-        elif version is None or mark(version) not in text:
-            print(f"left out: {name}: {f'matplotlib {version} did not draw it' if version else 'matplotlib is not there'}")
-        else:
-            drawn = drawn or dict(pictures())
-            if drawn[path] != text:
-                yield f"{name}: isn't what bench/plot.py draws: run it"
-
-
-def run_by_another():
-    """Runs this script by an interpreter that has matplotlib, if this one has none and another does."""
-    if importlib.util.find_spec("matplotlib"):
-        return
-    is_there = "import sys; from importlib.util import find_spec; sys.exit(not find_spec('matplotlib'))"
-    for name in PYTHONS:
-        if shutil.which(name) and not subprocess.run([name, "-c", is_there], capture_output=True).returncode:
-            sys.exit(subprocess.run([name, __file__, *sys.argv[1:]]).returncode)
-
-
-def main():
-    parser = arguments.parser(__doc__)
-    parser.add_argument("--check", action="store_true")
-    given = parser.parse_args()
-    run_by_another()
-    if given.check:
-        found = [*wrong()]
-        print("\n".join(found) or "pictures of bench: all are up to date")
-        sys.exit(1 if found else 0)
-    if not importlib.util.find_spec("matplotlib"):
-        sys.exit("bench/plot.py needs matplotlib: apt-get install python3-matplotlib")
-    for path, text in pictures():
-        path.write_text(text, encoding="utf-8")
+        wrote = io.StringIO()
+        choice(tables()).savefig(wrote, format="svg", facecolor="#ffffff", metadata={"Date": None, "Creator": None})
+    CHOICE.write_text(f"{in_the_dark(lightened(wrote.getvalue()), DARK).rstrip()}\n{mark_of_bench()}\n", encoding="utf-8")
 
 
 if __name__ == "__main__":

@@ -1,11 +1,12 @@
 #!/usr/bin/env python3
-"""Writes docs/api, a page for each library with its public calls, and docs/FILES.md, what is in each file, from the sources.
+"""Writes pages from the sources into out/doc: for each library its public calls, for all crates what is in each file (files.md),
+and for each promise of docs/PROMISES.md its mutants and tests (evidence.md).
 
-    checks/api.py [--check]
+    checks/api.py [NAME]    (as ./intaglio doc does)
 
 A call has its signature, the first paragraph of its documentation, what it requires, its errors, and the names of its clauses.
-With --check nothing is written: what differs from the sources is printed, and the status is 1 if anything does.
-checks/consistency asks for that too.
+Prints where the pages are, or with a NAME one of them: that of a library such as `intaglio`, `files`, `evidence`, or the part of
+`evidence` on one promise, by its name in PROMISES.
 """
 
 import re
@@ -14,17 +15,17 @@ import textwrap
 
 sys.dont_write_bytecode = True
 import arguments
+import evidence
 import interface
 import sources
 from sources import TOP, UNNAMED
 
-FOLDER, FILES = TOP / "docs/api", TOP / "docs/FILES.md"
+FOLDER = TOP / "out/doc"
 WIDTH = 118
-NOTE = "This page is written by `checks/api.py` from the sources: change it there."
 MEANS = (
     "Each call has its signature, the first paragraph of its documentation, what it requires, its errors, and the names of its"
-    " clauses, which stand below its signature in the source. [CALLING.md](../CALLING.md) has calls by task, and the clauses that"
-    " callers rely on."
+    " clauses, which stand below its signature in the source. docs/CALLING.md has calls by task, and the clauses that callers"
+    " rely on."
 )
 # Libraries that are parts of a program, and crates of tests and examples, which no caller needs.
 # (The calls of `intaglio_c` are those of C: bindings/c/intaglio.h documents them.)
@@ -162,7 +163,7 @@ def heading(owner, trait, place):
 def page_of(every, crate):
     """The page of a crate: what belongs to no type, then each type with its calls, then the impls of traits."""
     calls = [Call(every, it) for it in every.functions if it.crate == crate and not it.is_test and every.is_public(it)]
-    yield f"# `{crate}`\n\n{NOTE}\n\n{wrapped(about(crate))}\n"
+    yield f"# `{crate}`\n\n{wrapped(about(crate))}\n"
     groups: dict[tuple[str, str, str], list[Call]] = {("", "", ""): []}
     declared = {}
     for name, place, head, said in types_of(crate):
@@ -188,7 +189,7 @@ def page_of(every, crate):
 
 def files():
     """The page of all files: what is in each, crate by crate, as crates.txt has them."""
-    yield f"# Files\n\n{NOTE}\nIt has each file of sources with what its first lines say, from the lowest crate to the highest.\n"
+    yield "# Files\n\nEach file of sources with what its first lines say, from the lowest crate to the highest.\n"
     for crate in re.findall(r"(?m)^(\w+)", (TOP / "crates.txt").read_text(encoding="utf-8")):
         at = TOP / "crates" / crate / "src"
         root = next(it for it in (at / "lib.rt", at / "main.rt") if it.is_file())
@@ -199,39 +200,33 @@ def files():
 
 
 def pages():
-    """Each page with what it should have."""
+    """Each page by its name."""
     every = sources.Sources()
-    yield FILES, "\n".join(files()).rstrip() + "\n"
     crates = [
         it.name for it in sorted((TOP / "crates").iterdir()) if (it / "src/lib.rt").is_file() and not LEFT_OUT.fullmatch(it.name)
     ]
     rows = [wrapped(f"[`{crate}`]({crate}.md): {about(crate)}", "- ", "  ") for crate in crates]
-    yield FOLDER / "README.md", f"# Public calls\n\n{NOTE}\n{wrapped(MEANS)}\n\n" + "\n".join(rows) + "\n"
-    for crate in crates:
-        yield FOLDER / f"{crate}.md", "\n".join(page_of(every, crate)).rstrip() + "\n"
-
-
-def wrong():
-    """What differs from the sources."""
-    there = {*FOLDER.glob("*.md")}
-    for path, text in pages():
-        there.discard(path)
-        if not path.is_file() or path.read_text(encoding="utf-8") != text:
-            yield f"{path.relative_to(TOP)}: isn't what checks/api.py writes: run it"
-    for path in sorted(there):
-        yield f"{path.relative_to(TOP)}: there is no such library: remove it"
+    calls = {crate: page_of(every, crate) for crate in crates}
+    return {
+        "README": ["# Public calls\n", wrapped(MEANS) + "\n", *rows], "files": files(), "evidence": evidence.page(every), **calls,
+    }
 
 
 def main():
     parser = arguments.parser(__doc__)
-    parser.add_argument("--check", action="store_true")
-    if parser.parse_args().check:
-        found = [*wrong()]
-        print("\n".join(found) or "api: all pages are up to date")
-        sys.exit(1 if found else 0)
-    FOLDER.mkdir(exist_ok=True)
-    for path, text in pages():
-        path.write_text(text, encoding="utf-8")
+    parser.add_argument("name", metavar="NAME", nargs="?")
+    name, every = parser.parse_args().name, pages()
+    FOLDER.mkdir(parents=True, exist_ok=True)
+    for page, parts in every.items():
+        (FOLDER / f"{page}.md").write_text("\n".join(parts).rstrip() + "\n", encoding="utf-8")
+    if not name:
+        print(f"{FOLDER}: README.md has the libraries, files.md what is in each file, evidence.md the mutants and tests")
+    elif name in every:
+        print((FOLDER / f"{name}.md").read_text(encoding="utf-8"), end="")
+    elif part := evidence.part((FOLDER / "evidence.md").read_text(encoding="utf-8"), name):
+        print(part, end="")
+    else:
+        sys.exit(f"there is no page and no promise {name}: {' '.join(every)}")
 
 
 if __name__ == "__main__":

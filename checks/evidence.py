@@ -1,37 +1,28 @@
-#!/usr/bin/env python3
-"""Writes docs/EVIDENCE.md: the mutants and the tests that show each promise of docs/PROMISES.md.
+"""The mutants and the tests that show each promise of docs/PROMISES.md.
 
-    checks/evidence.py [--check]
-
-Which mutants and tests belong to a promise stands in evidence.txt. What a mutant breaks comes from its block in mutants.txt, the
-file of a test from the sources. With --check nothing is written: what is wrong is printed, and the status is 1 if anything is.
-checks/consistency asks for that too.
+Which of them belong to a promise stands in evidence.txt. What a mutant breaks comes from its block in mutants.txt, the file of a
+test from the sources. checks/api.py writes the page, and checks/consistency asks what is wrong.
 """
 
 import collections
 import re
-import sys
 import textwrap
 from typing import NamedTuple
 
-sys.dont_write_bytecode = True
-import arguments
 import sources
 from sources import TOP
 
-TABLE, PROMISES, PAGE = TOP / "checks/evidence.txt", TOP / "docs/PROMISES.md", TOP / "docs/EVIDENCE.md"
+TABLE, PROMISES = TOP / "checks/evidence.txt", TOP / "docs/PROMISES.md"
 WIDTH = 118
-LINK = re.compile(r"\[([\w-]+)\]\(EVIDENCE\.md#([\w-]+)\)")
+# The heading of the cells of PROMISES.md that name blocks of the table.
+SHOWN = "Shown by"
 HEAD = """# Evidence
 
-This page is written by `checks/evidence.py` from `checks/evidence.txt` and the sources: change it there.
-
-It names the mutants and the tests that probe each promise of [PROMISES.md](PROMISES.md). A mutant is a wrong edit of a
-function, which the prover must refuse. Its line names the function, the clauses that the edit breaks, and what those
-clauses say. `ensures` is a clause without a name, `invariant` is that of a type, `requires` is one of a function that
-is called, `loop` is the invariant of a loop, and `bounds` are the bounds of an index. A mutant that 'stays' isn't
-removed while its clause is there.
-[checks/README.md](../checks/README.md#mutants-and-controls) follows a mutant from its edit to its verdict.
+It names the mutants and the tests that probe each promise of docs/PROMISES.md. A mutant is a wrong edit of a function,
+which the prover must refuse. Its line names the function, the clauses that the edit breaks, and what those clauses say.
+`ensures` is a clause without a name, `invariant` is that of a type, `requires` is one of a function that is called,
+`loop` is the invariant of a loop, and `bounds` are the bounds of an index. A mutant that 'stays' isn't removed while
+its clause is there.
 """
 
 
@@ -53,17 +44,21 @@ def blocks():
         yield Evidence(promise, kept, parts.get("mutants", []), parts.get("tests", []))
 
 
+def cited(cell):
+    """The blocks that a cell under `Shown by` names."""
+    return re.findall(r"`([\w-]+)`", cell)
+
+
 def promised():
-    """The headings of PROMISES.md, each with the names in the last cells of its rows that no heading before it has."""
+    """The headings of PROMISES.md, each with the blocks that its rows name and no heading before it does."""
     found: dict[str, list[str]] = {}
-    seen, heading = set(), ""
+    heading, is_shown = "", False
     for line in PROMISES.read_text(encoding="utf-8").splitlines():
         heading = line[3:] if line.startswith("## ") else heading
-        for name, anchor in LINK.findall(line) if line.startswith("|") else []:
-            name = name if name == anchor else f"{name} and {anchor}"
-            if name not in seen:
+        is_shown = line.startswith("|") and (is_shown or line.endswith(f"| {SHOWN} |"))
+        for name in cited(line.split(" | ")[-1]) if is_shown else []:
+            if not any(name in names for names in found.values()):
                 found.setdefault(heading, []).append(name)
-            seen.add(name)
     return found
 
 
@@ -89,7 +84,7 @@ def listed(names):
 
 
 def line_of_mutant(mutant, kept):
-    crate = f"[`{mutant.crate}`](../crates/{mutant.crate}/mutants.txt)"
+    crate = f"[`{mutant.crate}`](../../crates/{mutant.crate}/mutants.txt)"
     clauses = listed([f"`{it}`" for it in mutant.clauses])
     reason = f" It stays, since it was {kept}." if kept else ""
     return wrapped(
@@ -98,11 +93,11 @@ def line_of_mutant(mutant, kept):
 
 
 def line_of_test(name, test):
-    return wrapped(f"[`{name}`](../{test.file if test else name})")
+    return wrapped(f"[`{name}`](../../{test.file if test else name})")
 
 
 def page(every):
-    """The page as it should be."""
+    """The parts of the page of all promises."""
     of, mutants, tests = {it.promise: it for it in blocks()}, mutants_of(every), every.tests()
     kept = {name: it.kept for it in blocks() if it.kept for name in it.mutants}
     yield HEAD
@@ -116,9 +111,13 @@ def page(every):
                 yield "Tests:\n\n" + "\n".join(lines) + "\n"
 
 
-def wrong(every=None):
-    """What is wrong with evidence.txt, and whether the page is another than it says."""
-    every = every or sources.Sources()
+def part(page, name):
+    """The part of the page on one promise."""
+    return (re.search(rf"(?ms)^### {re.escape(name)}\n.*?(?=^##|\Z)", page) or [""])[0]
+
+
+def wrong(every):
+    """What is wrong with evidence.txt."""
     own, names = [*blocks()], {it for names in promised().values() for it in names}
     mutants = mutants_of(every)
     of_promises = {name for it in own if it.promise in names for name in it.mutants}
@@ -136,19 +135,3 @@ def wrong(every=None):
     for it in mutants:
         if not {it.name, f"{it.crate}/{it.name}"} & of_promises:
             yield f"{it.path}: it belongs to no promise in checks/evidence.txt"
-    if not PAGE.is_file() or PAGE.read_text(encoding="utf-8") != "\n".join(page(every)):
-        yield "docs/EVIDENCE.md: isn't what checks/evidence.py writes: run it"
-
-
-def main():
-    parser = arguments.parser(__doc__)
-    parser.add_argument("--check", action="store_true")
-    if parser.parse_args().check:
-        found = [*wrong()]
-        print("\n".join(found) or "evidence: docs/EVIDENCE.md is up to date")
-        sys.exit(1 if found else 0)
-    PAGE.write_text("\n".join(page(sources.Sources())), encoding="utf-8")
-
-
-if __name__ == "__main__":
-    main()

@@ -2,12 +2,11 @@
 """Draws the pictures of the pages by graphviz (a package of Debian): docs/crates.svg from crates.txt, docs/interning.svg from
 docs/interning.dot.
 
-    checks/pictures.py [--check]
+    checks/pictures.py
 
 Where the reader's screen is dark, so is a picture. In crates.svg an arrow leads from a crate to one that it stands on, unless
-that is reached through another arrow. Crates of tests, examples and benchmarks aren't drawn. bench/plot.py draws the pictures of
-bench. A picture holds the sum of what it was drawn from: with --check nothing is drawn, and the status is 1 if a picture was
-drawn from something else than what is there.
+that is reached through another arrow. Crates of tests, examples and benchmarks aren't drawn. bench/plot.py draws the picture of
+bench. A picture holds the sum of what it was drawn from, which checks/consistency compares with what is there.
 """
 
 import hashlib
@@ -85,19 +84,14 @@ def wrong():
     for path, text in sources_of().items():
         if not path.is_file() or mark(text) not in path.read_text(encoding="utf-8"):
             yield f"{path.relative_to(TOP)}: isn't drawn from its source as that is: run checks/pictures.py"
-    yield from wrong_of_bench()
+    if mark_of_bench() not in (TOP / "bench/choice.svg").read_text(encoding="utf-8"):
+        yield "bench/choice.svg: isn't drawn from bench/figures.txt as that is: run bench/plot.py"
 
 
-def wrong_of_bench():
-    """What is wrong with the pictures of bench, which bench/plot.py draws."""
-    ran = subprocess.run(
-        [sys.executable, TOP / "bench/plot.py", "--check"], stdin=subprocess.DEVNULL, capture_output=True, text=True
-    )
-    left_out = [it for it in ran.stdout.splitlines() if it.startswith("left out: ")]
-    print(*left_out, sep="\n", end="\n" * bool(left_out))
-    if ran.returncode:
-        said = [it for it in (ran.stdout + ran.stderr).splitlines() if it not in left_out]
-        yield from said or [f"bench/plot.py: ended with status {ran.returncode}"]
+def mark_of_bench():
+    """The last line of bench/choice.svg: the sum of what bench/plot.py draws it from."""
+    drawn_from = b"".join((TOP / "bench" / name).read_bytes() for name in ("figures.txt", "plot.py"))
+    return f"<!-- drawn from {hashlib.sha256(drawn_from).hexdigest()[:16]} by bench/plot.py -->"
 
 
 def draw(path, text):
@@ -108,12 +102,7 @@ def draw(path, text):
 
 
 def main():
-    parser = arguments.parser(__doc__)
-    parser.add_argument("--check", action="store_true")
-    if parser.parse_args().check:
-        found = [*wrong()]
-        print("\n".join(found) or "pictures: all are up to date")
-        sys.exit(1 if found else 0)
+    arguments.parser(__doc__).parse_args()
     if not shutil.which("dot"):
         sys.exit("checks/pictures.py needs graphviz: apt-get install graphviz")
     for path, text in sources_of().items():
