@@ -1,4 +1,4 @@
-//! Runs of a few calls on tables of texts, with the texts and the results of docs/TESTS.md.
+//! Runs of a few calls on tables of texts, with the texts and the results of a specification.
 //!
 //! The prover takes seconds wherever a table of one kind is passed to a call of any table, so
 //! most functions are over any kind.
