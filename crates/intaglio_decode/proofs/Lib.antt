@@ -1,2 +1,5 @@
 pub mod Digits
+mod FirstEqual
+mod InOrder
+mod Input
 pub mod Symbols

@@ -1,7 +1,7 @@
 use Rattle.std.proofs.Common.{◌∙◌, ap, sym, drop, length}
 use Rattle.std.proofs.Math.Seq.{drop-append_seam}
 use Rattle.intaglio_lines.specs.Encoded.{encoded}
-use Rattle.intaglio_laws.proofs.encoding_is_a_function.Goals as goal
+use Rattle.intaglio_decode.proofs.laws.encoding_is_a_function.Goals as goal
 
 pub returns : goal.returns
 returns c = λ kind input old new other_old other_new one two.

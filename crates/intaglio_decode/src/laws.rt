@@ -1,9 +1,7 @@
 //! What holds of encoded outputs and of what they are decoded to.
 //!
 //! The functions do nothing: the contract of each is a law.
-#![tactic(auto)]
-
-ghost use Rattle.intaglio_laws.specs.Laws.{FaultsAreExact, IsReadInOneWay, DecodingIsAFunction, EncodingIsAFunction, DecodingGivesFirstSpellings, DecodingGivesInput, EncodingKeepsInput, DecodingKeepsKeys, EncodingIsInOrder, EncodingGivesBytes};
+ghost use Rattle.intaglio_decode.specs.Laws.{FaultsAreExact, IsReadInOneWay, DecodingIsAFunction, EncodingIsAFunction, DecodingGivesFirstSpellings, DecodingGivesInput, EncodingKeepsInput, DecodingKeepsKeys, EncodingIsInOrder, EncodingGivesBytes};
 
 /// Bytes have no fault exactly if they are well formed: symbols in decimal, an empty line, and strings, each
 /// line ended and each symbol the number of a string.

@@ -1,6 +1,6 @@
 use Rattle.intaglio_lines.specs.Kind.{key_of}
-use Rattle.intaglio_laws.proofs.InOrder.{encodes-decoded}
-use Rattle.intaglio_laws.proofs.encoding_gives_the_bytes.Goals as goal
+use Rattle.intaglio_decode.proofs.InOrder.{encodes-decoded}
+use Rattle.intaglio_decode.proofs.laws.encoding_gives_the_bytes.Goals as goal
 
 pub returns : goal.returns
 returns c = λ kind symbols spellings bytes holds issued.

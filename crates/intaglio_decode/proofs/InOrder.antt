@@ -13,9 +13,9 @@ use Rattle.intaglio_lines.specs.Lines.{lines_of}
 use Rattle.intaglio_lines.specs.Output.{output_of}
 use Rattle.intaglio_lines.specs.Encoded.{encoded_by}
 use Rattle.intaglio_lines.specs.Decoded.{IsLine, Holds, decoded}
-use Rattle.intaglio_laws.specs.Laws.{AreInOrder}
+use Rattle.intaglio_decode.specs.Laws.{AreInOrder}
 use Rattle.intaglio_lines.proofs.ByLines.{lines_of-flat_map}
-use Rattle.intaglio_laws.proofs.FirstEqual.{decoded-map}
+use Rattle.intaglio_decode.proofs.FirstEqual.{decoded-map}
 
 module _ (key : List ℕ → Key) (spellings : List (List ℕ)) (distinct : Distinct key spellings) where
   abbrev spelling_at : ℕ → List ℕ

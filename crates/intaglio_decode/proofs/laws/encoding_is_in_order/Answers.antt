@@ -2,9 +2,9 @@ use Rattle.std.proofs.Common.{[], arith}
 use Rattle.intaglio_interner.specs.Issue.{issue, interned_all}
 use Rattle.intaglio_lines.specs.Lines.{lines_of}
 use Rattle.intaglio_lines.specs.Kind.{key_of}
-use Rattle.intaglio_laws.proofs.FirstEqual.{holds-encoded}
-use Rattle.intaglio_laws.proofs.InOrder.{issue-in_order, distinct-interned_all}
-use Rattle.intaglio_laws.proofs.encoding_is_in_order.Goals as goal
+use Rattle.intaglio_decode.proofs.FirstEqual.{holds-encoded}
+use Rattle.intaglio_decode.proofs.InOrder.{issue-in_order, distinct-interned_all}
+use Rattle.intaglio_decode.proofs.laws.encoding_is_in_order.Goals as goal
 
 pub returns : goal.returns
 returns c = λ kind input. (

@@ -1,5 +1,5 @@
 use Rattle.intaglio_lines.proofs.Reading.{one-output}
-use Rattle.intaglio_laws.proofs.decoding_is_a_function.Goals as goal
+use Rattle.intaglio_decode.proofs.laws.decoding_is_a_function.Goals as goal
 
 pub returns : goal.returns
 returns c = one-output

@@ -9,7 +9,7 @@ use Rattle.intaglio_lines.specs.Decoded.{Decodes, with_last_line_ended}
 use Rattle.intaglio_lines.specs.declared.kind.Kind.{Kind}
 use Rattle.intaglio_lines.specs.declared.kind.Kind.TheVariants.{Text, Bytes, BStr, CStr, OsStr, Path}
 use Rattle.intaglio_lines.proofs.ByLines.{flat_map-lines_of}
-use Rattle.intaglio_laws.proofs.FirstEqual.{decodes-first, first_spellings-same}
+use Rattle.intaglio_decode.proofs.FirstEqual.{decodes-first, first_spellings-same}
 
 -- equal contents are spelled alike, but paths
 spelled-alike : (kind : Kind) → kind ≢ Path → (a b : List ℕ) → key_of kind a ≡ key_of kind b → a ≡ b

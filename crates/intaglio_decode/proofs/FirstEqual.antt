@@ -14,7 +14,7 @@ use Rattle.intaglio_lines.specs.Lines.{lines_of}
 use Rattle.intaglio_lines.specs.Output.{spelling_line}
 use Rattle.intaglio_lines.specs.Encoded.{encoded_by}
 use Rattle.intaglio_lines.specs.Decoded.{IsLine, Holds, decoded, Decodes}
-use Rattle.intaglio_laws.specs.Laws.{first_equal, first_spellings}
+use Rattle.intaglio_decode.specs.Laws.{first_equal, first_spellings}
 use Rattle.intaglio_lines.proofs.ByLines.{lines_of-are_lines, lines_of-flat_map}
 
 -- a value if it is chosen, or else one option, or else another, is the same in either grouping

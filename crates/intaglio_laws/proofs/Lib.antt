@@ -1,3 +1,0 @@
-mod FirstEqual
-mod InOrder
-mod Input
