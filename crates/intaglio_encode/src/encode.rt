@@ -1,5 +1,5 @@
 //! From the bytes read to the bytes written.
-ghost use Rattle.std.specs.Prelude.{◌≡◌, ◌≢◌, ◌<◌, ◌^◌, OnOk, IfErr, IfSome, IsErrAnd};
+ghost use Rattle.std.specs.Prelude.{◌≡◌, ◌≢◌, ◌<◌, ◌^◌, [], OnOk, IfOk, IfErr, IfSome, IsErrAnd};
 ghost use Rattle.std.specs.Io.KnownBytes.{IsAtEnd};
 ghost use Rattle.intaglio_lines.specs.Encoded.{encoded};
 ghost use Rattle.intaglio_lines.specs.Kind.{Allows, is_fit, key_of};
@@ -7,7 +7,7 @@ ghost use Rattle.intaglio_lines.specs.Puts.{Writes, WritesOnlyIf};
 ghost use Rattle.intaglio_encode.specs.Encodes.{Accepts, Encodes, Forbids, IsEncoding, IsTooMany, ReadsForbidden};
 ghost use Rattle.intaglio_lines.specs.ToolError.{IsEncodingError, IsInputError};
 ghost use Rattle.intaglio_lines.specs.ToolError.{ReportsFirstUnfit};
-ghost use Rattle.intaglio_lines.specs.declared.tool_error.ToolError.TheVariants.{NotUtf8, Overflow, Write as WriteFailed};
+ghost use Rattle.intaglio_lines.specs.declared.tool_error.ToolError.TheVariants.{Memory, NotUtf8, Overflow, Write as WriteFailed};
 
 use intaglio_bytes::b_str::BStrKind;
 use intaglio_bytes::bytes::BytesKind;
@@ -124,6 +124,18 @@ fn encode_by<'a, K: KindOwned + LineKind<'a>, S: BuildHasher + Drop, W: Write>(
     requires { K.allows input.now }
     ensures { IsEncoding W.contents K.key_of K.fits input.now result writer.old writer.new }
 {
-    let table = Core::<ContentOf<K>, S>::with_hasher(alloc, builder)?;
+    let table = new_table::<K, S>(alloc, builder)?;
     encode_lines(alloc, table, input, writer)
+}
+
+// An empty table.
+fn new_table<K: KindOwned, S: BuildHasher + Drop>(
+    alloc: Global,
+    builder: S,
+) -> Result<Core<ContentOf<K>, S>, ToolError>
+    ensures empty { IfOk result (λ table. table.state.contents ≡ []) }
+    ensures limit { IfOk result (λ table. table.state.limit ≡ 2 ^ 32) }
+    ensures err { IfErr result (λ e. e ≡ Memory) }
+{
+    Ok(Core::with_hasher(alloc, builder)?)
 }

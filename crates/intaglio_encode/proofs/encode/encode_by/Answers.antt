@@ -1,4 +1,3 @@
-use Rattle.std.proofs.Common.{rules}
 use Rattle.intaglio_encode.proofs.encode.encode_by.Goals as goal
 
 pub returns : goal.returns
@@ -6,7 +5,7 @@ returns g c = record {
   written = c.encode_lines.ensures.written;
   zero = c.encode_lines.ensures.zero;
   fit = c.encode_lines.ensures.fit;
-  overflow = search rules;
+  overflow = rw c.in_ok-table.ensures.limit at c.encode_lines.ensures.overflow;
   nothing_written = c.encode_lines.ensures.nothing_written;
   err = c.encode_lines.ensures.err;
 }
