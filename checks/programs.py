@@ -34,15 +34,22 @@ def compiled(folder):
     return library
 
 
+def answer_of(command, given=b"", **settings):
+    """The status, and what went to standard output and to standard error."""
+    done = subprocess.run(command, input=given, capture_output=True, env=settings, timeout=60)
+    return done.returncode, done.stdout, done.stderr
+
+
 def run(command, given=b"", **settings):
     """The status, what went to standard output, and the lines of standard error."""
-    ran = subprocess.run(command, input=given, capture_output=True, env=settings, timeout=60)
-    return ran.returncode, ran.stdout, ran.stderr.decode(errors="replace").splitlines()
+    status, wrote, told = answer_of(command, given, **settings)
+    return status, wrote, told.decode(errors="replace").splitlines()
 
 
 def said(command, text):
-    """The lines of a message, which begins with the name by which the program was called."""
-    return [f"{os.path.basename(command[0])}: {text}"]
+    """What a program writes of a fault: the first one the bare text, and the second one its name before it."""
+    name = os.path.basename(command[0])
+    return (text if name.startswith(PROGRAMS[0]) else f"{name}: {text}").encode() + b"\n"
 
 
 def program(name, build):

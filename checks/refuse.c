@@ -7,6 +7,7 @@
 //   FULL=N          the N-th write to what is no standard stream fails, as on a full device
 //   SHORT=1         a read or a write to standard output moves one byte
 //   SAME_RANDOM=1   random bytes are zero, but for the first, which counts the calls from 0
+//   NO_RANDOM=1     there are no random bytes
 // No header is needed, so any C compiler will do.
 typedef __SIZE_TYPE__ size_t;
 typedef long ssize_t;
@@ -71,6 +72,7 @@ ssize_t write(int file, const void *bytes, size_t size) {
 }
 
 int getentropy(void *bytes, size_t size) {
+    if (number("NO_RANDOM") && fails(EIO)) return -1;
     if (!number("SAME_RANDOM")) return syscall(GETRANDOM, bytes, size, 0) == (long)size ? 0 : -1;
     for (size_t i = 0; i < size; i++) ((unsigned char *)bytes)[i] = i ? 0 : (unsigned char)draws;
     draws++;

@@ -7,7 +7,6 @@ ghost use Rattle.intaglio_lines.specs.declared.tool_error.ToolError.TheVariants.
 use intaglio_encode::serve::serve;
 use intaglio_hash::KeyedState;
 use intaglio_lines::error::report;
-use intaglio_lines::named::{MAX_NAME, Named, program_name};
 use intaglio_lines::tool_error::ToolError;
 use std::env;
 use std::hash::RandomState;
@@ -18,13 +17,7 @@ use std::rt::Env;
 
 fn main(rt: HostRuntime) -> ExitCode {
     let builder = random_builder(&rt);
-    let mut bytes = [0; MAX_NAME];
-    let name = program_name(&rt, "intaglio_tool", &mut bytes);
-    let (mut input, mut output, mut faults) = (
-        rt.stdin(),
-        rt.stdout(),
-        Named::new(rt.stderr(), name),
-    );
+    let (mut input, mut output, mut faults) = (rt.stdin(), rt.stdout(), rt.stderr());
     let status = match words(&rt) {
         Ok(words) => serve(
             rt.alloc(),
