@@ -1,3 +1,4 @@
+-- Each arm encodes by the kind that its variant stands for.
 use Rattle.intaglio_encode.proofs.encode.encode_allowed.Goals as goal
 
 pub returns-in-Text : goal.returns-in-Text

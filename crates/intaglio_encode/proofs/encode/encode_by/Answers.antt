@@ -1,3 +1,4 @@
+-- The table is made with the limit 2 ^ 32, and the rest is what `encode_lines` says.
 use Rattle.intaglio_encode.proofs.encode.encode_by.Goals as goal
 
 pub returns : goal.returns

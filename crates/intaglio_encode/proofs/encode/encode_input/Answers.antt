@@ -1,5 +1,7 @@
+-- The input is allowed where `encode_allowed` is called, and that never returns `NotUtf8`.
 use Rattle.std.proofs.Common.{rules}
-use Rattle.intaglio_lines.specs.Kind.{Allows}
+use Rattle.intaglio_lines.specs.Kind.{Allows, is_fit}
+use Rattle.intaglio_lines.specs.LineForms.{AllLinesFit}
 use Rattle.intaglio_encode.proofs.Accepted.{encodes, writes-if-both}
 use Rattle.intaglio_encode.proofs.encode.encode_input.Goals as goal
 
@@ -15,7 +17,8 @@ returns-clause-zero g c = c.encode_allowed.ensures.zero
 pub returns-clause-accepts : goal.returns-clause-accepts
 returns-clause-accepts g c =
     let allowed : Allows c.args.kind c.args.input.now = search rules in
-    writes-if-both _ _ _ _ _ allowed c.encode_allowed.ensures.fit
+    writes-if-both (Allows c.args.kind c.args.input.now) (AllLinesFit (is_fit c.args.kind) c.args.input.now)
+    _ _ _ allowed c.encode_allowed.ensures.fit
 
 pub returns-clause-overflow : goal.returns-clause-overflow
 returns-clause-overflow g c = c.encode_allowed.ensures.overflow

@@ -1,3 +1,4 @@
+-- Lines are interned in groups: what a group adds and what the lines behind it will add is what all lines add.
 use Rattle.std.proofs.Common.{◌≡◌, ◌∙◌, ◌++◌, ◌+◌, ◌<◌, length, length-append, map, sym, ap, append_assoc, arith, rules}
 use Rattle.std.proofs.lemmas.List.{length-map}
 use Rattle.intaglio_interner.specs.Issue.{interned_all}

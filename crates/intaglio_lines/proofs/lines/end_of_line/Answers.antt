@@ -1,3 +1,4 @@
+-- `memchr` finds the first byte 10, and `position` is of the same byte.
 use Rattle.std.proofs.Common.{◌==◌}
 use Rattle.intaglio_lines.proofs.FirstByte.{first-byte}
 use Rattle.intaglio_lines.proofs.lines.end_of_line.Goals as goal

@@ -1,3 +1,4 @@
+-- Cut at its first byte 10, an input is its first line and the lines behind it; without one it is one line.
 use Rattle.std.proofs.Common.{◌∙◌, sym, inl}
 use Rattle.intaglio_lines.proofs.LineCuts.{lines-cut-at, lines-cut-nowhere, whole-cut-at}
 use Rattle.intaglio_lines.proofs.lines.first_line.Goals as goal

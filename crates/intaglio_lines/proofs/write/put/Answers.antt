@@ -1,3 +1,4 @@
+-- What is written is a front of the block, or all of it and then a front of the piece.
 use Rattle.std.proofs.Common.{◌≡◌, ◌++◌, [], subst, sym, rules}
 use Rattle.std.specs.Io.KnownBytes.{append_known}
 use Rattle.intaglio_lines.specs.Puts.{IsFront}

@@ -1,3 +1,4 @@
+-- The line and its byte 10 are put one after the other: a front is one of the line, or all of it and one of the byte.
 use Rattle.std.proofs.Common.{◌++◌, [], ◌∷◌, append_assoc, subst}
 use Rattle.intaglio_lines.specs.Puts.{IsFront}
 use Rattle.intaglio_lines.proofs.Appended.{front-more, front-then}

@@ -1,3 +1,4 @@
+-- Each write adds what it took to what was written before.
 use Rattle.std.proofs.Common.{ap, length, length-drop, arith}
 use Rattle.std.proofs.lemmas.List.{take_rest}
 use Rattle.intaglio_lines.proofs.Appended.{written-next}
