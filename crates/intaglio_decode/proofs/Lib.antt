@@ -1,3 +1,4 @@
+mod AllLaws
 pub mod Digits
 mod FirstEqual
 mod InOrder

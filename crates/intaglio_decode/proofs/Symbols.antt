@@ -40,13 +40,13 @@ last-cons byte bytes some =
     ap (λ n. get_or (byte ∷ bytes) n 0) place
 
 -- if there is a byte, the test whether the last one is 10 says whether the bytes are ended
-pub is_ended-last : (bytes : List ℕ) → 1 ≤ length bytes →
+pub is_ended_last : (bytes : List ℕ) → 1 ≤ length bytes →
     eqb (get_or bytes (length bytes - 1) 0) 10 ≡ is_ended bytes
-is_ended-last [] some = absurd (omega arith)
-is_ended-last (byte ∷ []) some = refl
-is_ended-last (byte ∷ next ∷ more) some =
+is_ended_last [] some = absurd (omega arith)
+is_ended_last (byte ∷ []) some = refl
+is_ended_last (byte ∷ next ∷ more) some =
     ap (λ b. eqb b 10) (last-cons byte (next ∷ more) (omega arith))
-    ∙ is_ended-last (next ∷ more) (omega arith)
+    ∙ is_ended_last (next ∷ more) (omega arith)
 
 module _ (bytes line after : List ℕ) (lines : lines_of bytes ≡ line ∷ lines_of after)
     (written : is_blank line ≡ false) where

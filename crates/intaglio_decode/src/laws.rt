@@ -5,11 +5,13 @@ ghost use Rattle.intaglio_decode.specs.Laws.{FaultsAreExact, IsReadInOneWay, Dec
 
 /// Bytes have no fault exactly if they are well formed: symbols in decimal, an empty line, and strings, each
 /// line ended and each symbol the number of a string.
+#[tactic(auto, using(crate::proofs::AllLaws::faults_are_exact))]
 pub fn faults_are_exact()
     ensures { FaultsAreExact }
 {}
 
 /// Bytes are well formed in at most one way.
+#[tactic(auto, using(crate::proofs::AllLaws::bytes_are_read_in_one_way))]
 pub fn bytes_are_read_in_one_way()
     ensures { IsReadInOneWay }
 {}
@@ -21,33 +23,39 @@ pub fn decoding_is_a_function()
 
 /// What is written for an input is a function of the input and the kind: two runs that succeed write the
 /// same, whatever was written before, and whatever tables and hashers they use.
+#[tactic(auto, using(crate::proofs::AllLaws::encoding_is_a_function))]
 pub fn encoding_is_a_function()
     ensures { EncodingIsAFunction }
 {}
 
 /// Decoding an encoded input gives each of its lines in the spelling of the first line that is equal to it,
 /// each followed by byte 10.
+#[tactic(auto, using(crate::proofs::AllLaws::decoding_gives_first_spellings))]
 pub fn decoding_gives_first_spellings()
     ensures { DecodingGivesFirstSpellings }
 {}
 
 /// For each kind but paths, decoding an encoded input gives the input, its last line ended.
+#[tactic(auto, using(crate::proofs::AllLaws::decoding_gives_the_input))]
 pub fn decoding_gives_the_input()
     ensures { DecodingGivesInput }
 {}
 
 /// For each kind but paths, inputs with the same encoding are the same, their last lines ended.
+#[tactic(auto, using(crate::proofs::AllLaws::encoding_keeps_the_input))]
 pub fn encoding_keeps_the_input()
     ensures { EncodingKeepsInput }
 {}
 
 /// Decoding an encoded input gives as many lines with the same keys: for paths, the same components.
+#[tactic(auto, using(crate::proofs::AllLaws::decoding_keeps_keys))]
 pub fn decoding_keeps_keys()
     ensures { DecodingKeepsKeys }
 {}
 
 /// An encoded output is well formed, its symbols are issued in order, and no two of its strings are
 /// equal.
+#[tactic(auto, using(crate::proofs::AllLaws::encoding_is_in_order))]
 pub fn encoding_is_in_order()
     ensures { EncodingIsInOrder }
 {}

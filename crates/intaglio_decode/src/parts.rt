@@ -127,6 +127,7 @@ fn check_symbol(
 }
 
 // Whether the last byte is 10, or there is none.
+#[tactic(auto, using(crate::proofs::Symbols::is_ended_last))]
 fn ends_line(bytes: &[u8]) -> bool
     ensures { result ≡ is_ended bytes.now }
 {

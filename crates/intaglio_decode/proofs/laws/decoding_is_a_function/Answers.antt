@@ -1,3 +1,4 @@
+-- Bytes are read in one way, so they are decoded to one output.
 use Rattle.intaglio_lines.proofs.Reading.{one-output}
 use Rattle.intaglio_decode.proofs.laws.decoding_is_a_function.Goals as goal
 

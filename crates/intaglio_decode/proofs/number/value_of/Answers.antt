@@ -1,3 +1,4 @@
+-- A turn adds a digit to those before it, and its value to theirs; a byte that is no digit ends the number.
 use Rattle.std.proofs.Common.{sym, ◌∙◌}
 use Rattle.std.proofs.lemmas.List.{take_all}
 use Rattle.intaglio_decode.proofs.Digits.{more-digits, more-value, not-digits, digits-all}

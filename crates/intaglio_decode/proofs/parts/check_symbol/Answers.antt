@@ -1,3 +1,4 @@
+-- A line that is a number has digits alone, which are ASCII and so UTF-8.
 use Rattle.std.proofs.Common.{sym, subst, IsUtf8, ◌^◌, ◌-◌, min}
 use Rattle.std.specs.Str.Parse.{digits_value}
 use Rattle.std.proofs.lemmas.Option.{cond_some}

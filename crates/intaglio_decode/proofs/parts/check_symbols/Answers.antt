@@ -1,3 +1,4 @@
+-- The first fault is that of the first line, if it has one, or else that of the lines behind it.
 use Rattle.std.proofs.Common.{◌∙◌, ◌+◌, ap, subst, sym, rules}
 use Rattle.std.specs.Option.{option_or}
 use Rattle.std.proofs.lemmas.Result.{err_from_is_err_and}

@@ -1,3 +1,4 @@
+-- Each symbol was checked against the count of spellings, and the last line is ended: so the bytes hold both.
 use Rattle.std.proofs.Common.{◌≡◌, ◌∙◌, ap, sym, length, map, true, Some, Bor, List, ℕ, is_some, arith}
 use Rattle.std.specs.List.{list_any}
 use Rattle.std.proofs.lemmas.List.{length-map}

@@ -1,3 +1,4 @@
+-- Each symbol is known, so its line is the spelling of its number, and what is put grows by that.
 use Rattle.std.proofs.Common.{◌≡◌, ◌∙◌, ◌-◌, ◌^◌, ◌++◌, [], min, sym, ap, length, map, get_or, Bor, List, ℕ, arith, rules}
 use Rattle.std.specs.Str.Parse.{digits_value}
 use Rattle.std.proofs.lemmas.List.{length-map}

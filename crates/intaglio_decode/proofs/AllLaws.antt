@@ -1,0 +1,57 @@
+-- The laws, from the lemmas on reading, on first equal lines and on symbols in order.
+use Rattle.std.proofs.Common.{◌∙◌, ap, sym, subst, [], length, drop, arith}
+use Rattle.std.specs.List.{flat_map}
+use Rattle.std.proofs.Math.Seq.{drop-append_seam}
+use Rattle.intaglio_interner.specs.Issue.{issue, interned_all}
+use Rattle.intaglio_lines.specs.Lines.{lines_of}
+use Rattle.intaglio_lines.specs.Kind.{key_of}
+use Rattle.intaglio_lines.specs.Output.{spelling_line}
+use Rattle.intaglio_lines.specs.Encoded.{encoded}
+use Rattle.intaglio_lines.specs.Decoded.{Decodes, with_last_line_ended}
+use Rattle.intaglio_lines.proofs.Reading.{faults-exact, one-output, one-reading}
+use Rattle.intaglio_decode.specs.Laws.{FaultsAreExact, IsReadInOneWay, EncodingIsAFunction, DecodingGivesFirstSpellings, DecodingGivesInput, EncodingKeepsInput, DecodingKeepsKeys, EncodingIsInOrder, first_spellings}
+use Rattle.intaglio_decode.proofs.FirstEqual.{decodes-first, decoded-keys, holds-encoded}
+use Rattle.intaglio_decode.proofs.InOrder.{issue-in_order, distinct-interned_all}
+use Rattle.intaglio_decode.proofs.Input.{decodes-input}
+
+pub faults_are_exact : FaultsAreExact
+faults_are_exact = faults-exact
+
+pub bytes_are_read_in_one_way : IsReadInOneWay
+bytes_are_read_in_one_way = one-reading
+
+pub encoding_is_a_function : EncodingIsAFunction
+encoding_is_a_function = λ kind input old new other_old other_new one two.
+    ap (drop (length old)) one ∙ drop-append_seam old (encoded kind input)
+    ∙ sym (ap (drop (length other_old)) two ∙ drop-append_seam other_old (encoded kind input))
+
+pub decoding_gives_first_spellings : DecodingGivesFirstSpellings
+decoding_gives_first_spellings = λ kind input. decodes-first (key_of kind) input
+
+pub decoding_gives_the_input : DecodingGivesInput
+decoding_gives_the_input = decodes-input
+
+pub encoding_keeps_the_input : EncodingKeepsInput
+encoding_keeps_the_input = λ kind input other names few same.
+    one-output (encoded kind input) (with_last_line_ended input) (with_last_line_ended other) few
+    (decodes-input kind input names)
+    (subst (λ t. Decodes t (with_last_line_ended other)) (sym same) (decodes-input kind other names))
+
+pub decoding_keeps_keys : DecodingKeepsKeys
+decoding_keeps_keys = λ kind input. (
+  flat_map spelling_line (first_spellings (key_of kind) (lines_of input)),
+  decodes-first (key_of kind) input,
+  decoded-keys (key_of kind) input,
+)
+
+pub encoding_is_in_order : EncodingIsInOrder
+encoding_is_in_order = λ kind input. (
+  issue (key_of kind) (lines_of input),
+  interned_all (key_of kind) [] (lines_of input),
+  holds-encoded (key_of kind) input,
+  record {
+    order = issue-in_order (key_of kind) [] (lines_of input);
+    distinct =
+        distinct-interned_all (key_of kind) [] (lines_of input) (λ i j d below within. absurd (omega arith));
+  },
+)
