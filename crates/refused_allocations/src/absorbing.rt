@@ -4,19 +4,19 @@
 //! table, so these are of any kind.
 ghost use Rattle.intaglio_merge.specs.Merging.{AreAccepted};
 
-use crate::batches::all_interned;
-use crate::checked_table::tell;
-use crate::fault::Fault;
-use crate::outcome::Outcome;
+use crate::fault::{Fault, tell};
+use crate::results::{are_numbered, is_refused};
 use crate::words::{COUNT, forms_of};
-use intaglio::packed::bytes::BytesKind;
 use intaglio::packed::{Packed, PackedForm};
-use intaglio::{BaseInterner, ContentOf, KindForm, KindOwned, Table, TableOver, Work, bytes};
+use intaglio::{
+    BaseInterner, ContentOf, KindForm, KindOwned, Table, TableError, TableOver, Work, bytes,
+};
 use intaglio_frozen::StringList;
 use intaglio_hash::FixedState;
 use intaglio_merge::{FromString, absorb};
 use std::alloc::Global;
-use test_support::builders::Fold;
+use tests::support::builders::Fold;
+use tests::support::kinds::BytesKind;
 
 // Two empty tables.
 #[derive(Drop)]
@@ -48,7 +48,7 @@ fn absorb_list<'s, K: PackedForm<'s>, L: StringList>(
     tables: &mut Tables<K>,
     list: &'s L,
     number: u32,
-) -> Outcome
+) -> Result<bool, TableError>
     requires { AreAccepted K.is_spelling (L.strings list.now) }
 {
     if number == 1 {
@@ -62,12 +62,13 @@ fn absorbed<'s, L: StringList, T: BaseInterner>(
     alloc: Global,
     table: &mut T,
     list: &'s L,
-) -> Outcome
+) -> Result<bool, TableError>
 where
     T::Content: FromString<'s, T::Store>,
     requires { AreAccepted T.Content.accepts (L.strings list.now) }
 {
-    all_interned(absorb(alloc, table, list, &mut Work::new()), COUNT)
+    let symbols = absorb(alloc, table, list, &mut Work::new())?;
+    Ok(are_numbered(&symbols, COUNT))
 }
 
 // A table of these forms.
@@ -113,16 +114,16 @@ fn absorb_into<'s, K: PackedForm<'s>, L: StringList>(
     requires { AreAccepted K.is_spelling (L.strings list.now) }
 {
     tell(rt, "absorb", number);
-    let mut outcome = absorb_list(rt.alloc(), tables, list, number);
-    if outcome.is_refused() {
+    let mut answer = absorb_list(rt.alloc(), tables, list, number);
+    if is_refused(&answer) {
         tell(rt, "refused", number);
         if tables.count(number) != 0 {
             return Err(Fault::State(number));
         }
         tell(rt, "absorb", number);
-        outcome = absorb_list(rt.alloc(), tables, list, number);
+        answer = absorb_list(rt.alloc(), tables, list, number);
     }
-    if outcome.is_right() && tables.count(number) == COUNT {
+    if answer == Ok(true) && tables.count(number) == COUNT {
         Ok(())
     } else {
         Err(Fault::Answer(number))

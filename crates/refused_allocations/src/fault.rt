@@ -21,3 +21,8 @@ impl From<AllocError> for Fault {
         Fault::Making
     }
 }
+
+/// Prints a call, or a failure for memory that it reported.
+pub fn tell(rt: &impl Eprint, what: &str, number: u32) {
+    let _ = eprintln!(rt; "{what} {number}");
+}

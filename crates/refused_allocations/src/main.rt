@@ -4,68 +4,43 @@
 //! It prints each call to standard error before it makes it, and each failure for memory that a call reports,
 //! so that a harness that refuses requests for memory sees which call reported which. Without arguments it
 //! makes all runs; with a table's name and a run's, that one; with `rows` in place of a table's name, the
-//! rows whose texts are given, or with `absorb` tables that absorb another one.
+//! runs on a table of texts, or with `absorb` tables that absorb another one.
 #![tactic(auto)]
 
 mod absorbing;
-mod batches;
-mod change;
-mod checked_table;
-mod constructors;
-mod contents;
+mod asks;
+mod course;
 mod fault;
-mod form_calls;
-mod form_runs;
-mod kinds;
-mod outcome;
-mod rows;
+mod results;
 mod runs;
-mod stores;
 mod words;
 
 use absorbing::absorb_each;
-use checked_table::CallStyle;
-use constructors::make_all;
+use course::{watch, watch_equal};
 use fault::Fault;
-use form_runs::{watch_forms, watch_quiet};
 use intaglio::packed::{Packed, PackedForm};
-use intaglio::{ContentOf, KindForm};
-use intaglio_bytes::b_str::BStrKind;
-use intaglio_bytes::bytes::BytesKind;
-use intaglio_cstr::CStrKind;
-use intaglio_path::PathKind;
-use intaglio_text::StrKind;
-use intaglio_text::osstr::OsStrKind;
-use kinds::{Stored, StoredKind};
-use rows::{intern_first, without_memory};
-use runs::{Calls, watch};
+use intaglio::{ContentOf, Table, TableOver};
+use runs::RUNS;
 use std::env;
 use std::process::ExitCode;
 use std::rt::Env;
-use test_support::contents::KindOfSpelling;
-use words::OfDigits;
+use tests::support::kinds::{
+    BStrKind, BytesKind, CStrKind, OsStrKind, PathKind, StrKind, TestKind,
+};
 
-const TABLES: [&str; 6] = ["text", "osstr", "path", "bytes", "bstr", "cstr"];
-
-const RUNS: [&str; 7] = [
-    "calls",
-    "cut",
-    "replies",
-    "cut_replies",
-    "making",
-    "forms",
-    "no_memory",
+const ALL: [(&str, &str); 11] = [
+    ("text", "calls cut replies cut_replies making forms no_memory first room known equal"),
+    ("osstr", "calls cut replies cut_replies making forms no_memory"),
+    ("path", "calls cut replies cut_replies making forms no_memory"),
+    ("bytes", "calls cut replies cut_replies making forms no_memory"),
+    ("bstr", "calls cut replies cut_replies making forms no_memory"),
+    ("cstr", "calls cut replies cut_replies making forms no_memory"),
+    ("packed_text", "forms quiet"),
+    ("packed_osstr", "forms quiet"),
+    ("packed_path", "forms quiet"),
+    ("packed_bytes", "forms quiet"),
+    ("packed_bstr", "forms quiet"),
 ];
-
-const PACKED: [&str; 5] = [
-    "packed_text",
-    "packed_osstr",
-    "packed_path",
-    "packed_bytes",
-    "packed_bstr",
-];
-
-const PACKED_RUNS: [&str; 2] = ["forms", "no_memory"];
 
 fn main(rt: HostRuntime) -> ExitCode {
     match asked(&rt) {
@@ -96,105 +71,45 @@ fn asked<R: Env + Eprint + AllocGlobal>(rt: &R) -> Result<(), Fault> {
 }
 
 fn all(rt: &(impl Eprint + AllocGlobal)) -> Result<(), Fault> {
-    for i in 0..42usize {
-        one(rt, TABLES[i / 7], RUNS[i % 7])?;
+    for (table, runs) in ALL {
+        for run in runs.split(' ') {
+            one(rt, table, run)?;
+        }
     }
-    for i in 0..10usize {
-        one(rt, PACKED[i / 2], PACKED_RUNS[i % 2])?;
-    }
-    one(rt, "rows", "calls")?;
-    one(rt, "rows", "absorb")?;
-    one(rt, "rows", "no_memory")
+    absorb_each(rt)
 }
 
 // One run on one table.
 fn one(rt: &(impl Eprint + AllocGlobal), table: &str, run: &str) -> Result<(), Fault> {
-    if run == "forms" {
-        return forms(rt, table);
-    }
     match table {
-        "text" => on_kind::<StrKind>(rt, run),
-        "osstr" => on_kind::<OsStrKind>(rt, run),
-        "path" => on_kind::<PathKind>(rt, run),
-        "bytes" => on_kind::<BytesKind>(rt, run),
-        "bstr" => on_kind::<BStrKind>(rt, run),
-        "cstr" => on_kind::<CStrKind>(rt, run),
-        "rows" => row(rt, run),
-        _ => one_packed(rt, table, run),
-    }
-}
-
-// Calls by borrowed forms on one table.
-fn forms(rt: &(impl Eprint + AllocGlobal), table: &str) -> Result<(), Fault> {
-    match table {
-        "text" => forms_of_kind::<StrKind>(rt),
-        "osstr" => forms_of_kind::<OsStrKind>(rt),
-        "path" => forms_of_kind::<PathKind>(rt),
-        "bytes" => forms_of_kind::<BytesKind>(rt),
-        "bstr" => forms_of_kind::<BStrKind>(rt),
-        "cstr" => forms_of_kind::<CStrKind>(rt),
-        _ => one_packed(rt, table, "forms"),
-    }
-}
-
-// One run on one table in one buffer.
-fn one_packed(rt: &(impl Eprint + AllocGlobal), table: &str, run: &str) -> Result<(), Fault> {
-    match table {
+        "text" => on_owned::<StrKind>(rt, run),
+        "osstr" => on_owned::<OsStrKind>(rt, run),
+        "path" => on_owned::<PathKind>(rt, run),
+        "bytes" => on_owned::<BytesKind>(rt, run),
+        "bstr" => on_owned::<BStrKind>(rt, run),
+        "cstr" => on_owned::<CStrKind>(rt, run),
         "packed_text" => on_packed::<StrKind>(rt, run),
         "packed_osstr" => on_packed::<OsStrKind>(rt, run),
         "packed_path" => on_packed::<PathKind>(rt, run),
         "packed_bytes" => on_packed::<BytesKind>(rt, run),
         "packed_bstr" => on_packed::<BStrKind>(rt, run),
+        "absorbing" => absorb_each(rt),
         _ => Err(Fault::Words),
     }
 }
 
-// The rows whose texts are given.
-fn row(rt: &(impl Eprint + AllocGlobal), run: &str) -> Result<(), Fault> {
-    match run {
-        "calls" => intern_first::<StrKind>(rt),
-        "absorb" => absorb_each(rt),
-        "no_memory" => without_memory(rt),
-        _ => Err(Fault::Words),
+fn on_owned<K: TestKind>(rt: &(impl Eprint + AllocGlobal), name: &str) -> Result<(), Fault> {
+    let run = RUNS.iter().find(|run| run.0 == name).ok_or(Fault::Words)?;
+    if name == "equal" {
+        return watch_equal::<Vec<ContentOf<K>>>(rt, *run);
     }
+    watch::<Vec<ContentOf<K>>>(rt, *run)
 }
 
-// Calls by borrowed forms on a table of owned contents.
-fn forms_of_kind<'q, K: KindForm<'q> + KindOfSpelling>(
+fn on_packed<K: TestKind + PackedForm<'static>>(
     rt: &(impl Eprint + AllocGlobal),
-) -> Result<(), Fault>
-where
-    K::Form: OfDigits,
-{
-    watch_forms::<Vec<ContentOf<K>>>(rt)
-}
-
-fn on_packed<'q, K: PackedForm<'q> + KindOfSpelling>(
-    rt: &(impl Eprint + AllocGlobal),
-    run: &str,
-) -> Result<(), Fault>
-where
-    K::Form: OfDigits,
-{
-    match run {
-        "forms" => watch_forms::<Packed<K>>(rt),
-        "no_memory" => watch_quiet::<Packed<K>>(rt),
-        _ => Err(Fault::Words),
-    }
-}
-
-fn on_kind<K: StoredKind>(rt: &(impl Eprint + AllocGlobal), run: &str) -> Result<(), Fault> {
-    on::<ContentOf<K>>(rt, run)
-}
-
-fn on<C: Stored>(rt: &(impl Eprint + AllocGlobal), run: &str) -> Result<(), Fault> {
-    match run {
-        "calls" => watch::<C>(rt, CallStyle::Own, Calls::Plain),
-        "cut" => watch::<C>(rt, CallStyle::Own, Calls::Cut),
-        "replies" => watch::<C>(rt, CallStyle::Replies, Calls::Plain),
-        "cut_replies" => watch::<C>(rt, CallStyle::Replies, Calls::Cut),
-        "making" => make_all::<C>(rt),
-        "no_memory" => watch::<C>(rt, CallStyle::Own, Calls::NoMemory),
-        _ => Err(Fault::Words),
-    }
+    name: &str,
+) -> Result<(), Fault> {
+    let run = RUNS.iter().find(|run| run.0 == name).ok_or(Fault::Words)?;
+    watch::<Packed<K>>(rt, *run)
 }

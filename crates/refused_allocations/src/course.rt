@@ -1,0 +1,320 @@
+//! A table, and the list with which its results are compared: the first words, in order.
+use crate::asks::Ask;
+use crate::fault::{Fault, tell};
+use crate::results::{are_found, are_numbered, c_string, frozen, is_place, is_refused};
+use crate::runs::{Calls, Run};
+use crate::words::{COUNT, forms_of, spelling};
+use intaglio::{BaseInterner, ContentOf, Reply, RoomError, TableError, TableOver};
+use intaglio_frozen::StringList;
+use std::alloc::{AllocError, Global};
+use tests::support::builders::{Counted, HasherCount};
+use tests::support::stores::{TestStore, make_table, updated};
+
+/// What a run takes: the borrowed forms of all words, and the contents of each call, twice, since a failed
+/// call drops its own. Those of the first call come last.
+#[derive(Drop)]
+struct Given<L: TestStore> {
+    forms: Vec<L::By>,
+    contents: Vec<Vec<ContentOf<L::Kind>>>,
+}
+
+impl<L: TestStore> Given<L> {
+    fn make(alloc: Global, parts: &[Calls]) -> Result<Given<L>, AllocError> {
+        let mut given = Given {
+            forms: forms_of(alloc)?,
+            contents: Vec::new(alloc),
+        };
+        let mut held = 0;
+        for calls in parts {
+            held = given.add(alloc, calls, held)?;
+        }
+        given.contents.reverse();
+        Ok(given)
+    }
+
+    fn add(&mut self, alloc: Global, calls: Calls, before: usize) -> Result<usize, AllocError> {
+        let mut held = before;
+        for (ask, times) in calls {
+            for turn in 0..*times {
+                self.add_twice(alloc, *ask, ask.words(held, turn))?;
+                held = ask.held_after(held);
+            }
+        }
+        Ok(held)
+    }
+
+    fn add_twice(
+        &mut self,
+        alloc: Global,
+        ask: Ask,
+        words: Option<(usize, usize)>,
+    ) -> Result<(), AllocError> {
+        if let Some((first, count)) = words {
+            self.contents.push(ask.contents(alloc, first, count)?)?;
+            self.contents.push(ask.contents(alloc, first, count)?)?;
+        }
+        Ok(())
+    }
+}
+
+/// A table with its list, and what was printed so far.
+#[derive(Drop)]
+pub struct Course<L: TestStore, S: HasherCount> {
+    pub table: TableOver<L, S>,
+    given: Given<L>,
+    by_run: bool,
+    // how many words the table holds
+    held: usize,
+    calls: u32,
+    is_answered: bool,
+    // what is wrong, if something is
+    fault: Fault,
+}
+
+/// Makes a run on a new table. Requests for memory before the first printed call aren't the table's.
+pub fn watch<L: TestStore>(rt: &(impl Eprint + AllocGlobal), run: Run) -> Result<(), Fault>
+where
+    TableOver<L, L::Hasher>: StringList,
+{
+    let given = Given::<L>::make(rt.alloc(), run.3)?;
+    tell(rt, "table", 0);
+    let made = make_table::<L>(rt.alloc(), run.1);
+    Course::new(made, given, run.2)?.play(rt, run.3)
+}
+
+/// The same with equal hashes.
+pub fn watch_equal<L: TestStore>(rt: &(impl Eprint + AllocGlobal), run: Run) -> Result<(), Fault>
+where
+    TableOver<L, Counted>: StringList,
+{
+    let given = Given::<L>::make(rt.alloc(), run.3)?;
+    tell(rt, "table", 0);
+    let made = TableOver::with_hasher(rt.alloc(), Counted::new(Some(7)));
+    Course::new(made, given, run.2)?.play(rt, run.3)
+}
+
+impl<L: TestStore, S: HasherCount> Course<L, S>
+where
+    TableOver<L, S>: StringList,
+{
+    fn new(
+        made: Result<TableOver<L, S>, RoomError>,
+        given: Given<L>,
+        by_run: bool,
+    ) -> Result<Course<L, S>, Fault> {
+        Ok(Course {
+            table: made.map_err(|_| Fault::Answer(0))?,
+            given,
+            by_run,
+            held: 0,
+            calls: 0,
+            is_answered: false,
+            fault: Fault::Making,
+        })
+    }
+
+    fn play(mut self, rt: &(impl Eprint + AllocGlobal), parts: &[Calls]) -> Result<(), Fault> {
+        for calls in parts {
+            if !self.make_calls(rt, calls) {
+                return Err(self.fault);
+            }
+        }
+        Ok(())
+    }
+
+    fn make_calls(&mut self, rt: &(impl Eprint + AllocGlobal), calls: Calls) -> bool {
+        for (ask, times) in calls {
+            for turn in 0..*times {
+                if !self.make(rt, *ask, turn) {
+                    return false;
+                }
+            }
+        }
+        true
+    }
+
+    // Makes a call, and again if it failed for memory.
+    fn make(&mut self, rt: &(impl Eprint + AllocGlobal), ask: Ask, turn: usize) -> bool {
+        if matches!(ask, Ask::NoMemory) {
+            tell(rt, "none", 0);
+            return true;
+        }
+        let takes = ask.words(0, 0).is_some();
+        let (first, again) = if takes {
+            (self.given.contents.pop(), self.given.contents.pop())
+        } else {
+            (None, None)
+        };
+        let mut answer = self.make_once(rt, ask, turn, first);
+        if is_refused(&answer) {
+            answer = self.make_once(rt, ask, turn, again);
+        }
+        self.held = ask.held_after(self.held);
+        answer == Ok(true) && self.is_list()
+    }
+
+    // After a failure the table is still the list, its capacity isn't lower, and no other call of the run
+    // has failed.
+    fn make_once(
+        &mut self,
+        rt: &(impl Eprint + AllocGlobal),
+        ask: Ask,
+        turn: usize,
+        contents: Option<Vec<ContentOf<L::Kind>>>,
+    ) -> Result<bool, TableError> {
+        self.calls = self.calls.saturating_add(1);
+        self.fault = Fault::Answer(self.calls);
+        let room = self.table.capacity();
+        tell(rt, ask.name(), self.calls);
+        let answer = if self.by_run {
+            self.replied(rt.alloc(), ask, turn, contents)
+        } else {
+            self.answered(rt.alloc(), ask, contents)
+        };
+        if is_refused(&answer) {
+            tell(rt, "refused", self.calls);
+            let was_answered = self.is_answered;
+            self.is_answered = true;
+            if was_answered {
+                self.fault = Fault::Twice(self.calls);
+                return Ok(false);
+            }
+            if !self.is_list() || self.table.capacity() < room {
+                self.fault = Fault::State(self.calls);
+                return Ok(false);
+            }
+        }
+        answer
+    }
+
+    // Whether a run of this call alone has the reply of the list. If the list of calls or that of replies
+    // can't be allocated, no call was made.
+    fn replied(
+        &mut self,
+        alloc: Global,
+        ask: Ask,
+        turn: usize,
+        contents: Option<Vec<ContentOf<L::Kind>>>,
+    ) -> Result<bool, TableError> {
+        let mut calls = Vec::with_capacity(alloc, 1)?;
+        let Some(call) = ask.call(contents.and_then(|mut one| one.pop())) else {
+            return Ok(false);
+        };
+        calls.push_reserved(call);
+        let reply = L::run(alloc, &mut self.table, calls)?.pop();
+        match (ask, reply.unwrap_or(Reply::Stale)) {
+            (_, Reply::NoMemory) => Err(TableError::from(AllocError)),
+            (Ask::Intern, Reply::Symbol(Some(symbol))) => Ok(symbol.id() as usize == self.held),
+            (Ask::GetInterned, Reply::Pair(Some((symbol, text)))) => {
+                Ok(symbol.id() as usize == turn && text.as_slice() == spelling(turn))
+            }
+            (Ask::Update(_), Reply::Done) => Ok(true),
+            _ => Ok(false),
+        }
+    }
+
+    // Whether the table's own call returns what the list does.
+    fn answered(
+        &mut self,
+        alloc: Global,
+        ask: Ask,
+        contents: Option<Vec<ContentOf<L::Kind>>>,
+    ) -> Result<bool, TableError> {
+        if let Some(contents) = contents {
+            return self.took(alloc, ask, contents);
+        }
+        match ask {
+            Ask::Make(how, capacity) => {
+                let table = make_table::<L>(alloc, how)?;
+                Ok(table.is_empty() && table.capacity() == capacity)
+            }
+            Ask::TooLarge(how) => {
+                Ok(make_table::<L>(alloc, how).err() == Some(RoomError::CapacityOverflow))
+            }
+            Ask::ReserveTooMuch => {
+                let refused = self.table.reserve(4294967297).err();
+                Ok(refused == Some(RoomError::CapacityOverflow))
+            }
+            Ask::RunNothing => Ok(L::run(alloc, &mut self.table, Vec::new(alloc))?.is_empty()),
+            Ask::Capacity(wanted) => Ok(self.table.capacity() == wanted),
+            Ask::Update(update) => match updated(&mut self.table, update) {
+                Reply::NoMemory => Err(TableError::from(AllocError)),
+                reply => Ok(reply == Reply::Done),
+            },
+            Ask::ReserveBytes(additional) => {
+                L::reserve_bytes(&mut self.table, additional)?;
+                Ok(true)
+            }
+            Ask::Freeze => frozen(alloc, &self.table),
+            Ask::CString => c_string(alloc),
+            _ => self.took_forms(alloc, ask),
+        }
+    }
+
+    // The same of a call that takes contents.
+    fn took(
+        &mut self,
+        alloc: Global,
+        ask: Ask,
+        mut contents: Vec<ContentOf<L::Kind>>,
+    ) -> Result<bool, TableError> {
+        if let Ask::InternAll(count) = ask {
+            let symbols = L::intern_all(alloc, &mut self.table, contents)?;
+            return Ok(are_numbered(&symbols, count));
+        }
+        let wanted = match ask {
+            Ask::InternAgain => 0,
+            _ => self.held,
+        };
+        let content = contents.pop().ok_or(AllocError)?;
+        Ok(L::intern(&mut self.table, content)?.id() as usize == wanted)
+    }
+
+    // The same of a call that takes borrowed forms.
+    fn took_forms(&mut self, alloc: Global, ask: Ask) -> Result<bool, TableError> {
+        let (held, forms) = (self.held, &self.given.forms);
+        let next = *forms.get(held).ok_or(AllocError)?;
+        match ask {
+            Ask::GetOrIntern => Ok(self.table.get_or_intern(next)?.id() as usize == held),
+            Ask::Again => Ok(self.table.get_or_intern(forms[0])?.is(0)),
+            Ask::InsertFull => {
+                let (symbol, is_new) = self.table.insert_full(next)?;
+                Ok(is_new && symbol.id() as usize == held)
+            }
+            Ask::GetOrInternAll(more) => {
+                let count = held.saturating_add(more).min(forms.len());
+                let symbols = self.table.get_or_intern_all(&forms[..count])?;
+                Ok(are_numbered(&symbols, count))
+            }
+            Ask::CheckAll => Ok(are_found(&self.table.check_all(forms)?, held)),
+            Ask::FromSlice => {
+                let table = TableOver::<L, _>::from_slice(alloc, L::hasher(), forms)?;
+                Ok(table.len() == COUNT)
+            }
+            _ => Ok(false),
+        }
+    }
+
+    // Whether the table is the list: its length, where each word is found, and what each symbol leads to.
+    fn is_list(&mut self) -> bool {
+        let mut is_same = self.table.len() == self.held;
+        for (number, form) in self.given.forms.iter().enumerate() {
+            is_same = is_same && is_place(self.table.check_interned(*form), number, self.held);
+            let stored = self.table.store().spelling_at(number);
+            is_same = is_same && stored == self.spelling(number);
+        }
+        if !is_same {
+            self.fault = Fault::State(self.calls);
+        }
+        is_same
+    }
+
+    // The bytes of a word, if the table holds it.
+    fn spelling(&self, number: usize) -> Option<&'static [u8]> {
+        if number < self.held {
+            Some(spelling(number))
+        } else {
+            None
+        }
+    }
+}

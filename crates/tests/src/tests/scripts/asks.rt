@@ -1,0 +1,154 @@
+//! Calls of a table by borrowed forms, and what borrows from it, whose results are text.
+use super::printed::{Shown, inserted_text, paired, reply_text, spelled, symbols_text};
+use super::steps::walked;
+use crate::support::builders::HasherCount;
+use crate::support::kinds::{
+    BStrKind, BytesKind, CStrKind, Host, OsStrKind, PathKind, StrKind,
+};
+use crate::support::replies::interned;
+use crate::support::stores::TestStore;
+use intaglio::packed::Packed;
+use intaglio::{
+    Content, ContentOf, Indexed, KindForm, Lends, LookedUpIn, Reply, SoughtIn, Symbol, TableOver,
+    Work, get_or_intern_all,
+};
+
+/// A call by borrowed forms, or one that borrows what is stored.
+#[derive(Clone, Copy)]
+pub enum Ask {
+    /// `get_or_intern`.
+    GetOrIntern,
+    /// `insert_full`.
+    InsertFull,
+    /// `get_or_intern_all`.
+    GetOrInternAll,
+    /// The function `get_or_intern_all`.
+    CountedAll,
+    /// `check_interned`.
+    CheckInterned,
+    /// `check_all`.
+    CheckAll,
+    /// `is_interned`.
+    IsInterned,
+    /// `get_interned`.
+    GetInterned,
+    /// `contains`.
+    Contains(Symbol),
+    /// `get`.
+    Get(Symbol),
+    /// The steps on the iterator of forms.
+    Forms(&'static str),
+    /// The steps on `iter`.
+    Pairs(&'static str),
+    /// The steps on the iterator of the table itself.
+    Each(&'static str),
+}
+
+/// A store whose tables are asked. Its impls alone name tables of one kind, since the prover takes seconds
+/// wherever one of them is passed to a call of any table.
+pub trait Asked: TestStore {
+    /// Whether contents are compared as paths.
+    const ARE_PATHS: bool;
+
+    /// Makes a call by the borrowed forms of contents, and returns its result as text.
+    fn ask<R: Host, S: HasherCount>(
+        rt: &R,
+        table: &mut TableOver<Self, S>,
+        contents: &[ContentOf<Self::Kind>],
+        ask: Ask,
+    ) -> String;
+}
+
+macro_rules! asked {
+    ($($store:ty: $kind:ident $forms:ident $are_paths:literal;)*) => {$(
+        impl Asked for $store {
+            const ARE_PATHS: bool = $are_paths;
+
+            fn ask<R: Host, S: HasherCount>(
+                rt: &R,
+                table: &mut TableOver<$store, S>,
+                contents: &[ContentOf<$kind>],
+                ask: Ask,
+            ) -> String {
+                match ask {
+                    Ask::Forms(steps) => walked(rt, table.$forms(), steps),
+                    _ => answer(rt, table, contents, ask),
+                }
+            }
+        }
+    )*};
+}
+
+asked! {
+    Vec<ContentOf<StrKind>>: StrKind strings false;
+    Vec<ContentOf<OsStrKind>>: OsStrKind os_strings false;
+    Vec<ContentOf<BytesKind>>: BytesKind bytestrings false;
+    Vec<ContentOf<BStrKind>>: BStrKind bstrings false;
+    Vec<ContentOf<CStrKind>>: CStrKind c_strings false;
+    Vec<ContentOf<PathKind>>: PathKind paths true;
+    Packed<StrKind>: StrKind strings false;
+    Packed<OsStrKind>: OsStrKind os_strings false;
+    Packed<BytesKind>: BytesKind bytestrings false;
+    Packed<BStrKind>: BStrKind bstrings false;
+    Packed<PathKind>: PathKind paths true;
+}
+
+// What any table returns for a call by the forms of these.
+fn answer<'a, L: Lends<'a> + LookedUpIn<'a> + Indexed, K, S: HasherCount>(
+    rt: &impl Host,
+    table: &'a mut TableOver<L, S>,
+    contents: &'a [ContentOf<K>],
+    ask: Ask,
+) -> String
+where
+    K: KindForm<'a, Form = <L as LookedUpIn<'a>>::By>,
+    L::Content: Content + SoughtIn<L> + Drop,
+    L::Prepared: Drop,
+    L::Form: Shown,
+{
+    let mut forms = Vec::new(rt.alloc());
+    for content in contents {
+        forms.push(content.form()).expect(rt, "memory");
+    }
+    match ask {
+        Ask::GetOrInternAll => symbols_text(rt, table.get_or_intern_all(&forms)),
+        Ask::CountedAll => {
+            let symbols = get_or_intern_all(rt.alloc(), table, &forms, &mut Work::new());
+            symbols_text(rt, symbols)
+        }
+        Ask::CheckAll => {
+            let symbols = table.check_all(&forms).expect(rt, "memory");
+            format!(in rt.alloc(); "{symbols:?}").expect(rt, "memory")
+        }
+        Ask::InsertFull => inserted_text(rt, table.insert_full(forms.pop().expect(rt, "no form"))),
+        Ask::Pairs(steps) => walked(rt, table.iter(), steps),
+        Ask::Each(steps) => walked(rt, (&*table).into_iter(), steps),
+        Ask::Contains(symbol) => reply_text(rt, &Reply::Bool(table.contains(symbol))),
+        Ask::Get(symbol) => reply_text(rt, &spelled(rt, table.get(symbol))),
+        _ => reply_text(rt, &reply(rt, table, forms.pop().expect(rt, "no form"), ask)),
+    }
+}
+
+// The same for the calls that take one form.
+fn reply<'a, L: Lends<'a> + LookedUpIn<'a> + Indexed, S: HasherCount>(
+    rt: &impl Host,
+    table: &'a mut TableOver<L, S>,
+    form: <L as LookedUpIn<'a>>::By,
+    ask: Ask,
+) -> Reply
+where
+    L::Content: Content + SoughtIn<L> + Drop,
+    L::Prepared: Drop,
+    L::Form: Shown,
+{
+    match ask {
+        Ask::GetOrIntern => interned(table.get_or_intern(form)),
+        Ask::CheckInterned => Reply::Symbol(table.check_interned(form)),
+        Ask::IsInterned => Reply::Bool(table.is_interned(form)),
+        Ask::GetInterned => match table.get_interned(form) {
+            None => Reply::Pair(None),
+            Some((symbol, form)) => paired(rt, symbol, form),
+        },
+        _ => Reply::Stale,
+    }
+}
