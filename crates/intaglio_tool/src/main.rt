@@ -5,18 +5,16 @@ ghost use Rattle.std.specs.Prelude.{◌≡◌, IfErr};
 ghost use Rattle.intaglio_lines.specs.declared.tool_error.ToolError.TheVariants.{Memory};
 
 use intaglio_encode::serve::serve;
-use intaglio_hash::KeyedState;
 use intaglio_lines::error::report;
 use intaglio_lines::tool_error::ToolError;
 use std::env;
 use std::hash::RandomState;
 use std::io::ErrorKind;
 use std::process::ExitCode;
-use std::random::RandomSource;
 use std::rt::Env;
 
 fn main(rt: HostRuntime) -> ExitCode {
-    let builder = random_builder(&rt);
+    let builder = RandomState::new(&rt).ok();
     let (mut input, mut output, mut faults) = (rt.stdin(), rt.stdout(), rt.stderr());
     let status = match words(&rt) {
         Ok(words) => serve(
@@ -30,14 +28,6 @@ fn main(rt: HostRuntime) -> ExitCode {
         Err(fault) => report(fault, &mut faults),
     };
     ExitCode::from(status)
-}
-
-// A hash builder with random keys, if the system gives random bytes.
-fn random_builder<R: RandomSource>(rt: &R) -> Option<KeyedState> {
-    match RandomState::new(rt) {
-        Ok(random) => Some(KeyedState::from_random(&random)),
-        Err(_) => None,
-    }
 }
 
 // The arguments after the program's name. If one of them isn't text, there are
