@@ -110,7 +110,7 @@ const QUIET: [(Ask, usize); 11] = [
     (Ask::Intern, 1),
 ];
 
-// The rows of docs/TESTS.md for texts: an interning that is refused, ten words in room that was made, a
+// Rows for texts: an interning that is refused, ten words in room that was made, a
 // word that is held, and a rollback where all hashes are equal.
 const FIRST: [(Ask, usize); 1] = [(Ask::Lend, 1)];
 
