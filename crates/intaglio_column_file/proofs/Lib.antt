@@ -9,6 +9,5 @@ pub mod Written
 pub mod Overlaid
 pub mod Past
 pub mod Placed
-pub mod SameDictionary
 pub mod Hashed
 pub mod OfStrings

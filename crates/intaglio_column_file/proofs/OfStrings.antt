@@ -8,7 +8,6 @@ use Rattle.std.proofs.lemmas.List.Folds.{drop_split}
 use Rattle.std.proofs.Math.Seq.{take-add}
 use Rattle.intaglio_frozen.proofs.Ends.{ends-within}
 use Rattle.intaglio_frozen.proofs.Places.{strings_length, u32-in}
-use Rattle.intaglio_frozen.proofs.SameBytes.{AreBytes}
 use Rattle.intaglio_frozen.specs.Strings.{strings_from, AreEnds}
 use Rattle.intaglio_hash.specs.Numbers.{u32_at}
 use Rattle.intaglio_frozen.specs.Layout.{numbers_at, count, ends_at, pilots_at, text_at, ends, strings}
@@ -16,6 +15,10 @@ use Rattle.intaglio_frozen.specs.IsFrozen.{IsBlock}
 use Rattle.intaglio_column_file.specs.Id.{IsIdOf, IsIdOfStrings, end_behind, end_bytes}
 use Rattle.intaglio_column_file.specs.Identity.{ends_section, text_section}
 use Rattle.intaglio_column_file.specs.declared.id.DictionaryId.{DictionaryId}
+
+-- the numbers of a list are bytes: each is below 256
+abbrev pub AreBytes : List ℕ → Type 0
+AreBytes xs = (k : ℕ) → get_or xs k 0 < 256
 
 -- strings that follow each other are the bytes from where they begin
 text_from : (at n : ℕ) (xs es : List ℕ) → AreEnds at n es → length xs ≡ n →

@@ -1,7 +1,7 @@
 -- What the checks of all strings of a table go by.
 use Rattle.std.specs.Prelude.{◌≡◌, ◌≢◌, ℕ, ◌+◌, ◌<◌, List, length, get_or, slice_get, Some}
 use Rattle.std.specs.Str.{IsCharBoundary}
-use Rattle.intaglio_frozen.specs.Layout.{groups, pilot_of, strings}
+use Rattle.intaglio_frozen.specs.Layout.{strings}
 use Rattle.intaglio_frozen.specs.LookUp.{hash, find}
 
 -- the string at i has this hash; it is found at i; it isn't
@@ -32,7 +32,3 @@ IsFirstNotFoundFrom bs start i = (n : ℕ) × (i ≡ start + n) × AreFoundFrom 
 -- a character of the text ends at each of these
 abbrev pub AreCharEnds : List ℕ → List ℕ → Type 0
 AreCharEnds text es = (k : ℕ) → k < length es → IsCharBoundary text (get_or es k 0)
-
--- these are the pilots of the groups
-abbrev pub HasPilots : List ℕ → List ℕ → Type 0
-HasPilots bs pilots = (g : ℕ) → g < groups bs → pilot_of bs g ≡ get_or pilots g 0

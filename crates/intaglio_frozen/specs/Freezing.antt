@@ -7,9 +7,9 @@ use Rattle.std.specs.declared.hash.DefaultHasher.{DefaultHasher}
 use Rattle.intaglio_frozen.specs.declared.kind.Kind.{Kind}
 use Rattle.intaglio_frozen.specs.declared.kind.Kind.TheVariants.{Text}
 use Rattle.intaglio_frozen.specs.IsFrozen.{AreTexts, IsFrozen, number_of}
-use Rattle.intaglio_frozen.specs.Layout.{key0, key1, kind as kind_of, strings, pilot_of}
+use Rattle.intaglio_frozen.specs.Layout.{key0, key1, kind as kind_of, strings}
 use Rattle.intaglio_frozen.specs.LookUp.{hash_under}
-use Rattle.intaglio_frozen.specs.Pilots.{ArePilots, HavePlaces}
+use Rattle.intaglio_frozen.specs.Stuck.{IsStuck}
 use Rattle.intaglio_frozen.specs.Fault.{IsNoText}
 use Rattle.intaglio_frozen.specs.declared.error.FreezeError.{FreezeError}
 use Rattle.intaglio_frozen.specs.declared.error.FreezeError.TheVariants.{TooMany, TooLong, Equal, NotUtf8, NoPlaces, Memory}
@@ -29,28 +29,17 @@ pub record HasKeys (k0 k1 : ℕ) (bs : List ℕ) : Type 0 where
 abbrev pub hashes_under : ℕ → ℕ → List (List ℕ) → List ℕ
 hashes_under k0 k1 ws = map (hash_under k0 k1) ws
 
--- the bytes are the table of this kind of these strings under these keys, with the least pilots
-pub record IsLeastTable (wanted : Kind) (ws : List (List ℕ)) (k0 k1 : ℕ) (bs : List ℕ) : Type 0 where
-  pub table : IsTableOf wanted ws bs
-  pub key0 : key0 bs ≡ k0
-  pub key1 : key1 bs ≡ k1
-  pub pilots : ArePilots (hashes_under k0 k1 ws) (pilot_of bs)
-
--- under the n-th pair of keys from k0 and k1 on, not each string has a place
+-- under the n-th pair of keys from k0 and k1 on, a group of strings has no places
 abbrev pub LacksPlaces : List (List ℕ) → ℕ → ℕ → ℕ → Type 0
-LacksPlaces ws k0 k1 n = ¬ HavePlaces (hashes_under ((k0 + n) % 2 ^ 64) k1 ws)
+LacksPlaces ws k0 k1 n = IsStuck (hashes_under ((k0 + n) % 2 ^ 64) k1 ws)
 
--- of eight pairs of keys from k0 and k1 on, none has a place for each string
+-- so it is under each of eight pairs of keys from k0 and k1 on
 abbrev pub LackAllPlaces : List (List ℕ) → ℕ → ℕ → Type 0
 LackAllPlaces ws k0 k1 = (n : ℕ) → n < 8 → LacksPlaces ws k0 k1 n
 
--- the bytes are the table that is written of these strings: that with the least pilots, under the first of
--- eight pairs of keys, from k0 and k1 on, that have a place for each string
-pub record IsWritten (wanted : Kind) (ws : List (List ℕ)) (k0 k1 : ℕ) (bs : List ℕ) : Type 0 where
-  pub pair : ℕ
-  pub few : pair < 8
-  pub first : (n : ℕ) → n < pair → LacksPlaces ws k0 k1 n
-  pub table : IsLeastTable wanted ws ((k0 + pair) % 2 ^ 64) k1 bs
+-- so it is under each pair before that of these bytes
+abbrev pub LackEarlierPlaces : List (List ℕ) → ℕ → ℕ → List ℕ → Type 0
+LackEarlierPlaces ws k0 k1 bs = (n : ℕ) → n < (key0 bs + (2 ^ 64 - k0)) % 2 ^ 64 → LacksPlaces ws k0 k1 n
 
 -- a hasher after a string: its length, in eight bytes, and its bytes
 abbrev pub after_string : DefaultHasher → List ℕ → DefaultHasher
@@ -72,15 +61,16 @@ drawn_key1 ws = hash_all (drawn_key0 ws) 0 ws
 abbrev pub HasDefaultKeys : List (List ℕ) → List ℕ → Type 0
 HasDefaultKeys ws bs = HasKeys 0 0 bs ⊎ HasKeys (drawn_key0 ws) (drawn_key1 ws) bs
 
--- neither 0 and 0, nor the drawn keys, nor the seven pairs after either have a place for each string
+-- so it is under 0 and 0, under the drawn keys, and under the seven pairs after either
 abbrev pub LackDefaultPlaces : List (List ℕ) → Type 0
 LackDefaultPlaces ws = LackAllPlaces ws 0 0 × LackAllPlaces ws (drawn_key0 ws) (drawn_key1 ws)
 
--- the bytes are the table that is written of these strings if no keys are given
-abbrev pub IsWrittenWithDefaultKeys : Kind → List (List ℕ) → List ℕ → Type 0
-IsWrittenWithDefaultKeys wanted ws bs =
-    IsWritten wanted ws 0 0 bs
-    ⊎ (LackAllPlaces ws 0 0 × IsWritten wanted ws (drawn_key0 ws) (drawn_key1 ws) bs)
+-- the keys of these bytes are the first of all those that have places
+abbrev pub HaveFirstPlaces : List (List ℕ) → List ℕ → Type 0
+HaveFirstPlaces ws bs =
+    (HasKeys 0 0 bs × LackEarlierPlaces ws 0 0 bs)
+    ⊎ (LackAllPlaces ws 0 0 × HasKeys (drawn_key0 ws) (drawn_key1 ws) bs
+    × LackEarlierPlaces ws (drawn_key0 ws) (drawn_key1 ws) bs)
 
 -- the strings at i and at j, which is greater, are equal
 abbrev pub AreEqual : List (List ℕ) → ℕ → ℕ → Type 0

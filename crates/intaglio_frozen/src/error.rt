@@ -59,8 +59,8 @@ pub enum FreezeError {
     /// No places were found for the strings under any of the keys that were tried.
     #[error("no places were found for the strings")]
     NoPlaces,
-    /// An allocation failed. A check of what was sorted or written would return this too, if it failed. It
-    /// isn't proved that none ever fails.
+    /// An allocation failed. A check of what was written, or that a group of strings has no places, would
+    /// return this too, if it failed. It isn't proved that none ever fails.
     #[error("out of memory")]
     Memory,
 }

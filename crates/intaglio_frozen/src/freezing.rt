@@ -1,12 +1,10 @@
 //! How a list of strings is frozen.
-ghost use Rattle.std.specs.Prelude.{◌≡◌, ◌≢◌, ℕ, ◌-◌, ◌<◌, ◌≤◌, ◌^◌, IfErr, IfOk, IfSome, IsTrue, MatchOption, None, Some, get_or, length, min, sum_by};
+ghost use Rattle.std.specs.Prelude.{◌≡◌, ◌≢◌, ◌-◌, ◌<◌, ◌≤◌, ◌^◌, IfErr, IfOk, IfSome, IsTrue, None, length, min, sum_by};
 ghost use Rattle.intaglio_frozen.specs.Layout.{key0 as key0_of, key1 as key1_of, kind as kind_of, strings};
 ghost use Rattle.intaglio_frozen.specs.LookUp.{FindsAll};
 ghost use Rattle.intaglio_frozen.specs.IsFrozen.{IsFrozen, number_of};
-ghost use Rattle.intaglio_frozen.specs.Checked.{HasPilots};
-ghost use Rattle.intaglio_frozen.specs.Pilots.{HavePlaces};
-ghost use Rattle.intaglio_frozen.specs.Freezing.{AreAllowed, HasDefaultKeys, HasKeys, HasNoEqual, IsLeastTable, IsRefusal, IsTableOf, IsWritten, IsWrittenWithDefaultKeys, LackAllPlaces, LackDefaultPlaces, hashes_under};
-ghost use Rattle.intaglio_frozen.specs.FrozenBytes.{bytes_under, frozen_bytes, default_bytes};
+ghost use Rattle.intaglio_frozen.specs.Stuck.{IsStuck};
+ghost use Rattle.intaglio_frozen.specs.Freezing.{AreAllowed, HasDefaultKeys, HasKeys, HasNoEqual, IsRefusal, IsTableOf, HaveFirstPlaces, LackAllPlaces, LackDefaultPlaces, LackEarlierPlaces, hashes_under};
 ghost use Rattle.intaglio_frozen.specs.declared.error.FreezeError.TheVariants.{NoPlaces};
 
 use crate::block::Block;
@@ -30,15 +28,15 @@ const ATTEMPTS: u64 = 8;
 ///
 /// The hashes are keyed by these numbers, or, if a string gets no place under them, by `key1` and one of the
 /// seven numbers after `key0`, modulo 2^64. The same strings under the same keys always give the same bytes:
-/// the table with the least pilots, under the first of these pairs of keys that has a place for each string
-/// (`IsWritten`). `frozen_bytes` is this table as a function of the kind, the keys and the strings.
+/// the table with the least pilots, under the first of these pairs of keys that has a place for each string.
+/// This is only tested.
 ///
 /// # Errors
 ///
 /// `TooMany`, `TooLong`, `NotUtf8` or `Equal` for strings that no frozen table of this kind can have.
 /// `Equal(i, j)` says that string j is the first one that is equal to an earlier one, which is string i.
-/// Otherwise `Memory` if an allocation fails, which may hide that two strings are equal, and `NoPlaces` if a
-/// string got no place under any of the keys. By chance that is very unlikely, but strings can be chosen for
+/// Otherwise `Memory` if an allocation fails, which may hide that two strings are equal, and `NoPlaces` if
+/// under each of the pairs of keys a group of strings has no places (`IsStuck`). By chance that is very unlikely, but strings can be chosen for
 /// known keys; others can then serve.
 pub fn freeze<L: StringList>(
     alloc: Global,
@@ -51,15 +49,10 @@ pub fn freeze<L: StringList>(
     ensures strings { IfOk result (λ bytes. strings bytes.items ≡ L.strings list.now) }
     ensures kind { IfOk result (λ bytes. kind_of bytes.items ≡ number_of kind) }
     ensures keys { IfOk result (λ bytes. HasKeys key0 key1 bytes.items) }
-    ensures written { let IsWritten = IsWritten kind (L.strings list.now) key0 key1 in
-        IfOk result (λ bytes. IsWritten bytes.items) }
-    ensures bytes { IfOk result (λ bytes. frozen_bytes kind key0 key1 (L.strings list.now)
-        ≡ Some bytes.items) }
+    ensures passed { IfOk result (λ bytes. LackEarlierPlaces (L.strings list.now) key0 key1 bytes.items) }
     ensures err { IfErr result (IsRefusal kind (L.strings list.now)) }
     ensures no_places { IfErr result (λ error. error ≡ NoPlaces →
         LackAllPlaces (L.strings list.now) key0 key1) }
-    ensures no_bytes { let none = frozen_bytes kind key0 key1 (L.strings list.now) ≡ None in
-        IfErr result (λ error. error ≡ NoPlaces → none) }
 {
     check_strings(kind, list)?;
     match freeze_near(alloc, list, kind, key0, key1)? {
@@ -71,7 +64,7 @@ pub fn freeze<L: StringList>(
 /// As [`freeze`], for a caller who has no keys: under the keys 0 and 0 and those that `freeze` tries
 /// after them, and if a string gets no place under any of these, under keys that are drawn from the
 /// strings, by a hash of all of them, and those that `freeze` tries after these. The same strings
-/// always give the same bytes, `default_bytes`.
+/// always give the same bytes, which is only tested.
 ///
 /// # Errors
 ///
@@ -85,13 +78,9 @@ pub fn freeze_with_default_keys<L: StringList>(
     ensures strings { IfOk result (λ bytes. strings bytes.items ≡ L.strings list.now) }
     ensures kind { IfOk result (λ bytes. kind_of bytes.items ≡ number_of kind) }
     ensures keys { IfOk result (λ bytes. HasDefaultKeys (L.strings list.now) bytes.items) }
-    ensures written { let IsWritten = IsWrittenWithDefaultKeys kind (L.strings list.now) in
-        IfOk result (λ bytes. IsWritten bytes.items) }
-    ensures bytes { IfOk result (λ bytes. default_bytes kind (L.strings list.now) ≡ Some bytes.items) }
+    ensures passed { IfOk result (λ bytes. HaveFirstPlaces (L.strings list.now) bytes.items) }
     ensures err { IfErr result (IsRefusal kind (L.strings list.now)) }
     ensures no_places { IfErr result (λ error. error ≡ NoPlaces → LackDefaultPlaces (L.strings list.now)) }
-    ensures no_bytes { let none = default_bytes kind (L.strings list.now) ≡ None in
-        IfErr result (λ error. error ≡ NoPlaces → none) }
 {
     check_strings(kind, list)?;
     if let Some(bytes) = freeze_near(alloc, list, kind, 0, 0)? {
@@ -123,8 +112,8 @@ fn check_strings<L: StringList>(kind: Kind, list: &L) -> Result<(), FreezeError>
     }
 }
 
-// The bytes under these keys or one of the seven pairs after them, or nothing if each leaves a string no
-// place.
+// The bytes under these keys or one of the seven pairs after them, or nothing if each leaves a group of
+// strings no places.
 fn freeze_near<L: StringList>(
     alloc: Global,
     list: &L,
@@ -133,11 +122,13 @@ fn freeze_near<L: StringList>(
     key1: u64,
 ) -> Result<Option<Vec<u8>>, FreezeError>
     requires { AreAllowed kind (L.strings list.now) }
-    ensures written { let IsWritten = IsWritten kind (L.strings list.now) key0 key1 in
-        let lacking = LackAllPlaces (L.strings list.now) key0 key1 in
-        IfOk result (λ found. MatchOption found lacking (λ bytes. IsWritten bytes.items)) }
-    ensures bytes { let bytes = frozen_bytes kind key0 key1 (L.strings list.now) in
-        IfOk result (λ found. MatchOption found (bytes ≡ None) (λ made. bytes ≡ Some made.items)) }
+    ensures table { let IsTable = IsTableOf kind (L.strings list.now) in
+        IfOk result (λ found. IfSome found (λ bytes. IsTable bytes.items)) }
+    ensures keys { IfOk result (λ found. IfSome found (λ bytes. HasKeys key0 key1 bytes.items)) }
+    ensures passed { let HasPassed = LackEarlierPlaces (L.strings list.now) key0 key1 in
+        IfOk result (λ found. IfSome found (λ bytes. HasPassed bytes.items)) }
+    ensures none { let lacking = LackAllPlaces (L.strings list.now) key0 key1 in
+        IfOk result (λ found. found ≡ None → lacking) }
     ensures distinct { IfOk result (λ found. found ≡ None → HasNoEqual (L.strings list.now)) }
     ensures err { IfErr result (IsRefusal kind (L.strings list.now)) }
     ensures others { IfErr result (λ error. error ≢ NoPlaces) }
@@ -150,7 +141,7 @@ fn freeze_near<L: StringList>(
     Ok(None)
 }
 
-// The bytes under these keys, or nothing if they leave a string no place.
+// The bytes under these keys, or nothing if they leave a group of strings no places.
 fn freeze_under<L: StringList>(
     alloc: Global,
     list: &L,
@@ -159,11 +150,12 @@ fn freeze_under<L: StringList>(
     key1: u64,
 ) -> Result<Option<Vec<u8>>, FreezeError>
     requires { AreAllowed kind (L.strings list.now) }
-    ensures written { let IsTable = IsLeastTable kind (L.strings list.now) key0 key1 in
-        let lacking = ¬ HavePlaces (hashes_under key0 key1 (L.strings list.now)) in
-        IfOk result (λ found. MatchOption found lacking (λ bytes. IsTable bytes.items)) }
-    ensures bytes { let bytes = bytes_under kind (L.strings list.now) key0 key1 in
-        IfOk result (λ found. MatchOption found (bytes ≡ None) (λ made. bytes ≡ Some made.items)) }
+    ensures table { let IsTable = IsTableOf kind (L.strings list.now) in
+        IfOk result (λ found. IfSome found (λ bytes. IsTable bytes.items)) }
+    ensures first_key { IfOk result (λ found. IfSome found (λ bytes. key0_of bytes.items ≡ key0)) }
+    ensures second_key { IfOk result (λ found. IfSome found (λ bytes. key1_of bytes.items ≡ key1)) }
+    ensures none { let stuck = IsStuck (hashes_under key0 key1 (L.strings list.now)) in
+        IfOk result (λ found. found ≡ None → stuck) }
     ensures distinct { IfOk result (λ found. found ≡ None → HasNoEqual (L.strings list.now)) }
     ensures err { IfErr result (IsRefusal kind (L.strings list.now)) }
     ensures others { IfErr result (λ error. error ≢ NoPlaces) }
@@ -183,7 +175,7 @@ fn freeze_under<L: StringList>(
         [key0, key1, list.len() as u64],
         &sections,
     )?;
-    if holds(&bytes, list, kind, key0, key1, &hashes, &sections.pilots) {
+    if holds(&bytes, list, kind, key0, key1, &hashes) {
         Ok(Some(bytes))
     } else {
         // This is never so, but it isn't proved that it never is.
@@ -202,8 +194,7 @@ fn byte_count<L: StringList>(list: &L) -> u64
     count
 }
 
-// Whether the bytes are a frozen table of these strings, which have these hashes, under
-// these keys, and with these pilots.
+// Whether the bytes are a frozen table of these strings, which have these hashes, under these keys.
 fn holds<L: StringList>(
     bytes: &[u8],
     list: &L,
@@ -211,25 +202,19 @@ fn holds<L: StringList>(
     key0: u64,
     key1: u64,
     hashes: &[u64],
-    pilots: &[u16],
 ) -> bool
     requires allowed { AreAllowed kind (L.strings list.now) }
     requires hashes { hashes.now ≡ hashes_under key0 key1 (L.strings list.now) }
     ensures table { IsTrue result → IsTableOf kind (L.strings list.now) bytes.now }
     ensures first_key { IsTrue result → key0_of bytes.now ≡ key0 }
     ensures second_key { IsTrue result → key1_of bytes.now ≡ key1 }
-    ensures pilots { IsTrue result → HasPilots bytes.now pilots.now }
-    ensures fits { IsTrue result → (k : ℕ) → get_or bytes.now k 0 < 256 }
 {
     if !has_header(bytes, kind, key0, key1) {
         return false;
     }
     match Block::read(bytes) {
         Ok(block) => {
-            has_strings(&block, list)
-                && block.has_pilots(pilots)
-                && block.has_unused()
-                && finds_all(&block, hashes)
+            has_strings(&block, list) && block.has_unused() && finds_all(&block, hashes)
         }
         Err(_) => false,
     }

@@ -4,7 +4,7 @@ ghost use Rattle.intaglio_frozen.specs.Strings.{AreEnds};
 ghost use Rattle.intaglio_frozen.specs.Layout.{kind, numbers_at, text_at, ends, strings, places};
 ghost use Rattle.intaglio_frozen.specs.LookUp.{hash, place, find, IsCandidate};
 ghost use Rattle.intaglio_frozen.specs.IsFrozen.{number_of, HasSections, HasUnused, IsBlock, AreTexts};
-ghost use Rattle.intaglio_frozen.specs.Checked.{IsHashAt, IsFoundAt, AreCharEnds, HasPilots};
+ghost use Rattle.intaglio_frozen.specs.Checked.{IsHashAt, IsFoundAt, AreCharEnds};
 ghost use Rattle.intaglio_frozen.specs.Fault.{IsFault};
 
 use crate::error::FrozenError;
@@ -114,21 +114,6 @@ impl<'a> Layout<'a> {
             }
         }
         used == self.count
-    }
-
-    // Whether these are the pilots of the groups.
-    pub(crate) fn has_pilots(&self, pilots: &[u16]) -> bool
-        ensures { IsTrue result → HasPilots self.now pilots.now }
-    {
-        if pilots.len() as u64 != self.groups {
-            return false;
-        }
-        for group in 0..pilots.len() {
-            if read_u16(self.bytes, self.pilots_at + 2 * group) != pilots[group] {
-                return false;
-            }
-        }
-        true
     }
 
     // A string that is there, where the strings fill the text.

@@ -5,7 +5,6 @@ pub mod ahead;
 mod batch;
 mod bitmap;
 mod block;
-mod certifying;
 mod checking;
 mod drawing;
 mod equal;
@@ -24,6 +23,7 @@ mod numbers;
 mod placing;
 mod searching;
 mod sections;
+mod stuck;
 mod thawing;
 mod trusted;
 

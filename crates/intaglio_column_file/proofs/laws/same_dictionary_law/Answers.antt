@@ -1,17 +1,20 @@
-use Rattle.intaglio_frozen.proofs.SameBytes.{AreBytes}
-use Rattle.intaglio_frozen.specs.Layout.{count, kind}
-use Rattle.intaglio_column_file.proofs.SameDictionary.{count_same, ends_same, same_id, text_same}
-use Rattle.intaglio_column_file.specs.Identity.{ends_section, text_section}
+use Rattle.std.proofs.Common.{ℕ, List, subst}
+use Rattle.intaglio_frozen.specs.Layout.{kind, strings}
+use Rattle.intaglio_column_file.proofs.OfStrings.{AreBytes, of_strings, to_strings}
+use Rattle.intaglio_column_file.specs.Id.{IsIdOfStrings}
+use Rattle.intaglio_column_file.specs.Identity.{is_text_number}
 use Rattle.intaglio_column_file.proofs.laws.same_dictionary_law.Goals as goal
 
+-- both are what their strings are
 pub returns : goal.returns
 returns c =
     let bs = c.args.first.now in
     let cs = c.args.second.now in
+    let id = c.args.id in
     let fb : AreBytes bs = λ k. (c.type_inv.first k).fits in
     let fc : AreBytes cs = λ k. (c.type_inv.second k).fits in
     let h = c.requires in
-    same_id (kind bs) (kind cs) (count bs) (count cs) (ends_section bs) (ends_section cs) (text_section bs)
-    (text_section cs) c.args.id h.kind
-    (count_same bs cs fb fc h.first h.second h.strings) (ends_same bs cs fb fc h.first h.second h.strings)
-    (text_same bs cs fb fc h.first h.second h.strings) h.id
+    let of_first = to_strings bs fb h.first.block (is_text_number (kind bs)) id h.id in
+    let strings_same = subst (λ ws. IsIdOfStrings (is_text_number (kind bs)) ws id) h.strings of_first in
+    let kind_same = subst (λ k. IsIdOfStrings (is_text_number k) (strings cs) id) h.kind strings_same in
+    of_strings cs fc h.second.block (is_text_number (kind cs)) id kind_same

@@ -1,6 +1,5 @@
-use Rattle.intaglio_frozen.proofs.SameBytes.{AreBytes}
 use Rattle.intaglio_frozen.specs.Layout.{kind}
-use Rattle.intaglio_column_file.proofs.OfStrings.{of_strings, to_strings}
+use Rattle.intaglio_column_file.proofs.OfStrings.{AreBytes, of_strings, to_strings}
 use Rattle.intaglio_column_file.specs.Identity.{is_text_number}
 use Rattle.intaglio_column_file.proofs.laws.strings_law.Goals as goal
 

@@ -3,8 +3,9 @@ use super::assertions::{copy_of, holds, same};
 use intaglio::packed::bytes::SymbolTable;
 use intaglio::packed::{Packed, PackedForm};
 use intaglio::{Symbol, TableOver};
-use intaglio_frozen::{Frozen, FrozenError, TrustedFrozen};
+use intaglio_frozen::{Frozen, FrozenError, Kind, StringList, TrustedFrozen, freeze};
 use intaglio_hash::FixedState;
+use std::alloc::Global;
 use std::hash::BuildHasher;
 use std::process::Abort;
 
@@ -37,6 +38,21 @@ fn a_frozen_table_yields_its_strings(rt: HostRuntime) {
     same(&rt, strings.size_hint(), (0, Some(0)));
     same(&rt, strings.next(), None);
     same(&rt, copy.next(), Some(b"".as_slice()));
+}
+
+#[test]
+fn the_same_strings_are_frozen_to_the_same_bytes(rt: HostRuntime) {
+    let strings = [b"abc".as_slice(), b"".as_slice(), b"xy".as_slice()];
+    freezes(&rt, rt.alloc(), &strings.as_slice());
+    freezes(&rt, rt.alloc(), &strings.as_slice());
+    let table = Frozen::open(&TABLE).expect(&rt, "no table");
+    freezes(&rt, rt.alloc(), &table);
+}
+
+// Asserts that a list is frozen to the bytes of the table.
+fn freezes<L: StringList>(rt: &impl Abort, alloc: Global, list: &L) {
+    let bytes = freeze(alloc, list, Kind::Bytes, 1, 2).expect(rt, "not frozen");
+    same(rt, bytes.as_slice(), TABLE.as_slice());
 }
 
 #[test]

@@ -1,0 +1,127 @@
+-- The check that a group of strings has no places, step by step.
+use Rattle.std.proofs.Common.{◌≡◌, ◌≢◌, ℕ, ◌+◌, ◌^◌, ◌<◌, ◌==◌, inl, inr, Bool, List, length, get_or, set, take, sym, subst, ap, ◌∙◌, arith, eq-eqb}
+use Rattle.std.specs.List.{count_by}
+use Rattle.std.proofs.lemmas.Bool.{cases_eq, ne_eqb}
+use Rattle.std.proofs.lemmas.List.{get_or-set_same, get_or-set_other}
+use Rattle.std.proofs.lemmas.List.Sums.{count_by_more_yes, count_by_more_no}
+use Rattle.intaglio_frozen.specs.Layout.{groups_for}
+use Rattle.intaglio_frozen.specs.LookUp.{scaled}
+use Rattle.intaglio_frozen.specs.Stuck.{group_at, place_under, IsBeforeAt, IsEarlierAt, HasNoPlace}
+use Rattle.intaglio_frozen.specs.Marks.{AreMembers, AreMarked, taken_mark}
+
+-- whether a hash is one of a group
+abbrev pub is_in : List ℕ → ℕ → ℕ → Bool
+is_in hs g h = scaled (groups_for (length hs)) h == g
+
+-- one more string of a group is counted
+pub counted-more : (hs sizes : List ℕ) (i at x g : ℕ) → i < length hs → at ≡ group_at hs i →
+    at < length sizes → x ≡ get_or sizes at 0 + 1 →
+    get_or sizes g 0 ≡ count_by (is_in hs g) (take i hs) →
+    get_or (set sizes at x) g 0 ≡ count_by (is_in hs g) (take (i + 1) hs)
+counted-more hs sizes i at x g l is within more so_far = elim (cases_eq g at) [
+  | inl same ↦
+      (let read : get_or (set sizes at x) g 0 ≡ x =
+      ap (λ k. get_or (set sizes at x) k 0) same ∙ get_or-set_same sizes at x 0 within in
+      let here = count_by_more_yes (is_in hs g) hs i 0 l (eq-eqb (group_at hs i) g (sym (same ∙ is))) in
+      let before : get_or sizes at 0 ≡ get_or sizes g 0 = ap (λ k. get_or sizes k 0) (sym same) in
+      omega (arith, read, here, before, more, so_far))
+  | inr other ↦
+      get_or-set_other sizes at g x 0 other ∙ so_far
+      ∙ sym (count_by_more_no (is_in hs g) hs i 0 l (ne_eqb (group_at hs i) g (λ e. other (sym (is ∙ e)))))
+]
+
+module _ (hs : List ℕ) (pilots : ℕ → ℕ) (g : ℕ) where
+  -- one more place of a group before is marked
+  pub marked-more : (marks : List ℕ) (n at i : ℕ) → at < length marks → IsBeforeAt hs pilots g at i →
+      AreMarked hs pilots g marks n → AreMarked hs pilots g (set marks at taken_mark) n
+  marked-more marks n at i l is old = record {
+    taken = λ p e. elim (cases_eq p at) [
+      | inl same ↦ (i, subst (λ x. IsBeforeAt hs pilots g x i) (sym same) is)
+      | inr other ↦ old.taken p (sym (get_or-set_other marks at p taken_mark 0 other) ∙ e)
+    ];
+    others = λ p d. elim (cases_eq p at) [
+      | inl same ↦
+          absurd (d (ap (λ x. get_or (set marks at taken_mark) x 0) same
+          ∙ get_or-set_same marks at taken_mark 0 l))
+      | inr other ↦
+          (let read = get_or-set_other marks at p taken_mark 0 other in
+          omega (arith, read, old.others p (λ e. d (read ∙ e))))
+    ];
+  }
+
+  -- the marks after k of these strings were tried under the pilot q
+  pub record AreTried (members : List ℕ) (q : ℕ) (marks : List ℕ) (k : ℕ) : Type 0 where
+    pub marked : AreMarked hs pilots g marks (q + 1)
+    pub mine : (p : ℕ) → get_or marks p 0 ≡ q + 1 →
+        (a : ℕ) × (a < k) × (place_under hs (get_or members a 0) q ≡ p)
+
+  module _ (members : List ℕ) (q : ℕ) (few : q < 2 ^ 16) where
+    -- no string was tried
+    pub tried-none : (marks : List ℕ) → AreMarked hs pilots g marks q → AreTried members q marks 0
+    tried-none marks old = record {
+      marked = record { taken = old.taken; others = λ p d. omega (arith, old.others p d) };
+      mine = λ p e. absurd (omega (arith, e, few, old.others p (λ t. omega (arith, e, t, few))));
+    }
+
+    -- the place of one more is marked
+    pub tried-more : (marks : List ℕ) (k at : ℕ) → at < length marks →
+        place_under hs (get_or members k 0) q ≡ at → AreTried members q marks k →
+        AreTried members q (set marks at (q + 1)) (k + 1)
+    tried-more marks k at l is old =
+        let here = get_or-set_same marks at (q + 1) 0 l in
+        let new = set marks at (q + 1) in
+        let read : (p : ℕ) → p ≢ at → get_or new p 0 ≡ get_or marks p 0 =
+        λ p other. get_or-set_other marks at p (q + 1) 0 other in
+        let at-place : (p : ℕ) → p ≡ at → get_or new p 0 ≡ q + 1 =
+        λ p same. ap (λ x. get_or new x 0) same ∙ here in
+        record {
+          marked = record {
+            taken = λ p e. elim (cases_eq p at) [
+              | inl same ↦ absurd (omega (arith, e, few, at-place p same))
+              | inr other ↦ old.marked.taken p (sym (read p other) ∙ e)
+            ];
+            others = λ p d. elim (cases_eq p at) [
+              | inl same ↦ omega (arith, at-place p same)
+              | inr other ↦
+                  omega (arith, read p other, old.marked.others p (λ e. d (read p other ∙ e)))
+            ];
+          };
+          mine = λ p e. elim (cases_eq p at) [
+            | inl same ↦ (k, omega arith, is ∙ sym same)
+            | inr other ↦
+                (let found = old.mine p (sym (read p other) ∙ e) in
+                (found.0, omega (arith, found.1), found.2))
+          ];
+        }
+
+    module _ (marks : List ℕ) (k at : ℕ) (are : AreMembers hs g members) (l : k < length members)
+        (is : place_under hs (get_or members k 0) q ≡ at) (old : AreTried members q marks k) where
+      -- the place of a string is that of a group before
+      pub place-taken : get_or marks at 0 ≡ taken_mark → (j : ℕ) × HasNoPlace hs pilots g q j
+      place-taken e =
+          let found = old.marked.taken at e in (
+            get_or members k 0,
+            record {
+              there = are.there k l;
+              group = are.group k l;
+              taken = (found.0, inl (subst (λ x. IsBeforeAt hs pilots g x found.0) (sym is) found.1));
+            },
+          )
+
+      -- the place of a string is that of one of the same group
+      pub place-tried : get_or marks at 0 ≡ q + 1 → (j : ℕ) × HasNoPlace hs pilots g q j
+      place-tried e =
+          let found = old.mine at e in
+          let here : IsEarlierAt hs g q (place_under hs (get_or members k 0) q) (get_or members k 0)
+          (get_or members found.0 0) = record {
+            earlier = are.order found.0 k found.1 l;
+            group = are.group found.0 (omega (arith, found.1, l));
+            place = found.2 ∙ sym is;
+          } in (
+            get_or members k 0,
+            record {
+              there = are.there k l;
+              group = are.group k l;
+              taken = (get_or members found.0 0, inr here);
+            },
+          )

@@ -1,0 +1,30 @@
+use Rattle.std.proofs.Common.{◌∙◌, ℕ, inl, inr, get_or, subst, sym, arith}
+use Rattle.std.proofs.lemmas.Bool.{cases_eq}
+use Rattle.intaglio_frozen.specs.Stuck.{HasNoPlace}
+use Rattle.intaglio_frozen.proofs.stuck.has_pilot.Goals as goal
+
+pub loop-pilot-preserved : goal.loop-pilot-preserved
+loop-pilot-preserved c =
+    let hs = c.args.hashes.now in
+    let ps = λ (g : ℕ). get_or c.args.pilots.now g 0 in
+    let g = c.args.group in
+    let n = c.loop-pilot.pilot in
+    let old = c.loop-pilot.invariant in
+    record {
+      len = c.has_places.ensures.len ∙ old.len;
+      marked = c.has_places.ensures.marked ps g old.marked;
+      none = λ q l. elim (cases_eq q n) [
+        | inl same ↦
+            subst (λ x. (j : ℕ) × HasNoPlace hs ps g x j) (sym same)
+            (c.has_places.ensures.none ps g old.marked c.requires.members c.if-has_places.false)
+        | inr other ↦ old.none q (omega (arith, l, other))
+      ];
+    }
+
+pub returns : goal.returns
+returns c _ = record {
+  pilots = λ g. get_or c.args.pilots.now g 0;
+  few = λ g. (c.type_inv.pilots g).fits;
+  group = c.args.group;
+  none = λ q l. c.loop-pilot.invariant.none q (omega (arith, l, c.loop-pilot-test.false));
+}
