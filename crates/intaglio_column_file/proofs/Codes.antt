@@ -2,10 +2,9 @@
 use Rattle.std.proofs.Common.{◌≡◌, ◌∙◌, ℕ, zero, suc, ◌+◌, ◌*◌, ◌<◌, List, length, get_or, slice_get, Some, refl, sym, ap, arith}
 use Rattle.std.proofs.lemmas.Option.{get_or_from_slice_get, slice_get-get_or}
 use Rattle.intaglio_column_file.specs.Width.{bytes_of}
-use Rattle.intaglio_hash.specs.Numbers.{u8_at, u16_at, u32_at}
+use Rattle.intaglio_hash.specs.Push.{number}
 use Rattle.intaglio_column_file.specs.Layout.{code_at, codes_at, widened, rows, width, codes}
 use Rattle.intaglio_column_file.specs.declared.width.Width.{Width}
-use Rattle.intaglio_column_file.specs.declared.width.Width.TheVariants.{One, Two, Four}
 
 -- the list of n codes that follow each other in bytes has n items
 pub codes_length : (bs : List ℕ) (w : Width) (at n : ℕ) → length (codes_at bs w at n) ≡ n
@@ -48,20 +47,8 @@ read_or bs w row size ew l es =
     sym (get_or_from_slice_get (codes bs) row (code_at bs w (64 + size * row)) 0
     (read_get bs w row size (code_at bs w (64 + size * row)) ew l es refl))
 
--- the code at a position, by its width
-pub one_at : (bs : List ℕ) (w : Width) (at code byte : ℕ) → w ≡ One → byte ≡ u8_at bs at →
-    code ≡ widened One byte → code ≡ code_at bs w at
-unfolding code_at u8_at
-one_at bs w at code byte is read e = e ∙ ap (widened One) read ∙ ap (λ v. code_at bs v at) (sym is)
-
--- if codes have two bytes, the number of two bytes at a position, once widened, is the code there
-pub two_at : (bs : List ℕ) (w : Width) (at code read : ℕ) → w ≡ Two → read ≡ u16_at bs at →
-    code ≡ widened Two read → code ≡ code_at bs w at
-unfolding code_at u16_at
-two_at bs w at code read is same e = e ∙ ap (widened Two) same ∙ ap (λ v. code_at bs v at) (sym is)
-
--- if codes have four bytes, the number of four bytes at a position, once widened, is the code there
-pub four_at : (bs : List ℕ) (w : Width) (at code read : ℕ) → w ≡ Four → read ≡ u32_at bs at →
-    code ≡ widened Four read → code ≡ code_at bs w at
-unfolding code_at u32_at
-four_at bs w at code read is same e = e ∙ ap (widened Four) same ∙ ap (λ v. code_at bs v at) (sym is)
+-- the number at a position, once widened, is the code there
+pub code_is : (bs : List ℕ) (w : Width) (at code read : ℕ) → read ≡ number bs at 0 (bytes_of w) →
+    code ≡ widened w read → code ≡ code_at bs w at
+unfolding code_at
+code_is bs w at code read same e = e ∙ ap (widened w) same

@@ -29,13 +29,6 @@ widened_greatest w a e = sym (ap (λ b. cond b missing a) (eq-eqb a (greatest w)
 pub widened_other : (w : Width) (a : ℕ) → a ≢ greatest w → a ≡ widened w a
 widened_other w a e = sym (ap (λ b. cond b missing a) (ne_eqb a (greatest w) e))
 
--- a code of four bytes stays itself when it is widened
-pub widened_four : (a : ℕ) → a ≡ widened Four a
-widened_four a = elim (cases_eq a (greatest Four)) [
-  | inl e ↦ e ∙ widened_greatest Four a e
-  | inr other ↦ widened_other Four a other
-]
-
 -- a code is neither that of one of n strings nor the missing one if it isn't less than n, nor the greatest
 pub unknown_above : (w : Width) (n a : ℕ) → a ≤ greatest w → n ≤ a →
     not (a == greatest w) ≡ is_unknown n (widened w a)

@@ -1,5 +1,6 @@
 //! Codes of a width that is known when a loop over them is compiled.
 ghost use Rattle.std.specs.Prelude.{◌≡◌, ◌==◌, ◌+◌, ◌≤◌, ℕ, length, IfSome};
+ghost use Rattle.intaglio_hash.specs.Push.{number};
 ghost use Rattle.intaglio_column_file.specs.Width.{bytes_of, greatest};
 ghost use Rattle.intaglio_column_file.specs.Layout.{code_at, widened};
 ghost use Rattle.intaglio_column_file.specs.IsColumn.{is_unknown};
@@ -23,28 +24,70 @@ pub(crate) trait Code: Copy {
         requires { number ≤ greatest width }
         ensures { value result ≡ number };
 
-    /// The code that is this one of four bytes, if the width has it.
-    fn narrow(code: u32) -> Option<Self>
-        ensures { IfSome result (λ narrow. widened width (value narrow) ≡ code) };
+    /// Its number.
+    fn number(self) -> u32
+        ensures number { result ≡ value self }
+        ensures within { value self ≤ greatest width };
 
     /// How many bytes a code has.
     fn bytes() -> usize
         ensures { result ≡ bytes_of width };
 
+    /// The number of the greatest code, which stands for the missing one.
+    fn greatest() -> u32
+        ensures { result ≡ greatest width };
+
+    /// The code whose bytes are at a position.
+    fn at(bytes: &[u8], at: usize) -> Self
+        requires { at + bytes_of width ≤ length bytes.now }
+        ensures { value result ≡ number bytes.now at 0 (bytes_of width) };
+
+    /// The code that is this one of four bytes, if the width has it.
+    #[inline(always)]
+    fn narrow(code: u32) -> Option<Self>
+        ensures { IfSome result (λ narrow. widened width (value narrow) ≡ code) }
+    {
+        if code == MISSING {
+            Some(Self::of(Self::greatest() as u64))
+        } else if code < Self::greatest() {
+            Some(Self::of(code as u64))
+        } else {
+            None
+        }
+    }
+
     /// The code at a position, as one of four bytes.
+    #[inline(always)]
     fn read(bytes: &[u8], at: usize) -> u32
         requires { at + bytes_of width ≤ length bytes.now }
-        ensures { result ≡ code_at bytes.now width at };
+        ensures { result ≡ code_at bytes.now width at }
+    {
+        let code = Self::at(bytes, at).number();
+        if code == Self::greatest() {
+            MISSING
+        } else {
+            code
+        }
+    }
 
     /// Whether this code is at a position.
+    #[inline(always)]
     fn is_at(self, bytes: &[u8], at: usize) -> bool
         requires { at + bytes_of width ≤ length bytes.now }
-        ensures { result ≡ (code_at bytes.now width at == widened width (value self)) };
+        ensures { result ≡ (code_at bytes.now width at == widened width (value self)) }
+    {
+        Self::at(bytes, at).number() == self.number()
+    }
 
     /// Whether the code at a position is neither the missing one nor that of one of so many strings.
+    #[inline(always)]
     fn is_unknown(self, bytes: &[u8], at: usize) -> bool
         requires { at + bytes_of width ≤ length bytes.now }
-        ensures { result ≡ is_unknown (value self) (code_at bytes.now width at) };
+        ensures { result ≡ is_unknown (value self) (code_at bytes.now width at) }
+    {
+        let code = Self::at(bytes, at).number();
+        code >= self.number() && code != Self::greatest()
+    }
 }
 
 impl Code for u8 {
@@ -58,14 +101,8 @@ impl Code for u8 {
     }
 
     #[inline(always)]
-    fn narrow(code: u32) -> Option<u8> {
-        if code == MISSING {
-            Some(u8::MAX)
-        } else if code < u8::MAX as u32 {
-            Some(code as u8)
-        } else {
-            None
-        }
+    fn number(self) -> u32 {
+        self as u32
     }
 
     #[inline(always)]
@@ -74,24 +111,14 @@ impl Code for u8 {
     }
 
     #[inline(always)]
-    fn read(bytes: &[u8], at: usize) -> u32 {
-        let code = read_u8(bytes, at);
-        if code == u8::MAX {
-            MISSING
-        } else {
-            code as u32
-        }
+    fn greatest() -> u32 {
+        u8::MAX as u32
     }
 
     #[inline(always)]
-    fn is_at(self, bytes: &[u8], at: usize) -> bool {
-        read_u8(bytes, at) == self
-    }
-
-    #[inline(always)]
-    fn is_unknown(self, bytes: &[u8], at: usize) -> bool {
-        let code = read_u8(bytes, at);
-        code >= self && code != u8::MAX
+    #[tactic(auto, unfolding(intaglio_hash::specs::Numbers::u8_at))]
+    fn at(bytes: &[u8], at: usize) -> u8 {
+        read_u8(bytes, at)
     }
 }
 
@@ -106,14 +133,8 @@ impl Code for u16 {
     }
 
     #[inline(always)]
-    fn narrow(code: u32) -> Option<u16> {
-        if code == MISSING {
-            Some(u16::MAX)
-        } else if code < u16::MAX as u32 {
-            Some(code as u16)
-        } else {
-            None
-        }
+    fn number(self) -> u32 {
+        self as u32
     }
 
     #[inline(always)]
@@ -122,24 +143,14 @@ impl Code for u16 {
     }
 
     #[inline(always)]
-    fn read(bytes: &[u8], at: usize) -> u32 {
-        let code = read_u16(bytes, at);
-        if code == u16::MAX {
-            MISSING
-        } else {
-            code as u32
-        }
+    fn greatest() -> u32 {
+        u16::MAX as u32
     }
 
     #[inline(always)]
-    fn is_at(self, bytes: &[u8], at: usize) -> bool {
-        read_u16(bytes, at) == self
-    }
-
-    #[inline(always)]
-    fn is_unknown(self, bytes: &[u8], at: usize) -> bool {
-        let code = read_u16(bytes, at);
-        code >= self && code != u16::MAX
+    #[tactic(auto, unfolding(intaglio_hash::specs::Numbers::u16_at))]
+    fn at(bytes: &[u8], at: usize) -> u16 {
+        read_u16(bytes, at)
     }
 }
 
@@ -154,8 +165,8 @@ impl Code for u32 {
     }
 
     #[inline(always)]
-    fn narrow(code: u32) -> Option<u32> {
-        Some(code)
+    fn number(self) -> u32 {
+        self
     }
 
     #[inline(always)]
@@ -164,18 +175,13 @@ impl Code for u32 {
     }
 
     #[inline(always)]
-    fn read(bytes: &[u8], at: usize) -> u32 {
+    fn greatest() -> u32 {
+        u32::MAX
+    }
+
+    #[inline(always)]
+    #[tactic(auto, unfolding(intaglio_hash::specs::Numbers::u32_at))]
+    fn at(bytes: &[u8], at: usize) -> u32 {
         read_u32(bytes, at)
-    }
-
-    #[inline(always)]
-    fn is_at(self, bytes: &[u8], at: usize) -> bool {
-        read_u32(bytes, at) == self
-    }
-
-    #[inline(always)]
-    fn is_unknown(self, bytes: &[u8], at: usize) -> bool {
-        let code = read_u32(bytes, at);
-        code >= self && code != MISSING
     }
 }
