@@ -3,6 +3,7 @@
 It reads files as `rt fmt` lays them out, and nothing else.
 """
 
+import functools
 import re
 from collections import namedtuple
 from dataclasses import dataclass
@@ -145,8 +146,21 @@ def definitions_in(path):
     return found
 
 
+@functools.lru_cache(maxsize=None)
+def functions_of(crate):
+    return [it for path in sorted((TOP / "crates" / crate).glob("src/**/*.rt")) for it in functions_in(crate, path)[0]]
+
+
+def file_of(crate, function, pairs):
+    """The file of the function in which the texts of an edit stand, if there is one such."""
+    path, texts = ["", *function.split("::")], [old for old, _ in pairs]
+    every = [it for it in functions_of(crate) if it.name == path[-1] and path[-2].startswith(it.owner)]
+    found = {it.file for it in every if all(old in it.text for old in texts)}
+    return found.pop().split("/", 2)[2] if len(found) == 1 else "src/lib.rt"
+
+
 def edit_of(crate, path, text):
-    """The edit that a block of a file of mutants describes."""
+    """The edit that a block of a file of mutants describes. A line `file:` has its file, if that can't be told without."""
 
     def line(word):
         return (re.search(rf"^{word}: (.*)$", text, re.M) or ["", ""])[1]
@@ -156,7 +170,7 @@ def edit_of(crate, path, text):
     clauses = tuple(found[1].split(", ")) if found else ()
     pairs = tuple(re.findall(r"^old: (.*)\nnew: ?(.*)$", text, re.M))
     return Edit(crate, kind, name, f"{path.relative_to(TOP)}: {name}", line("fn"), clauses, found[2] if found else "",
-                tuple(line("beside").split()), line("file"), pairs)
+                tuple(line("beside").split()), line("file") or file_of(crate, line("fn"), pairs), pairs)
 
 
 def edits_in(crate):
