@@ -13,6 +13,7 @@ import importlib.util
 import os
 import re
 import shutil
+import statistics
 import subprocess
 import sys
 import tempfile
@@ -25,6 +26,8 @@ TOP = Path(__file__).resolve().parent.parent
 VERSIONS = ("rattle-kit-13b logic dac8208d650f15bf", "rattle-kit-13f logic dac8208d650f15bf")
 # The variable of the environment that says to a check that others run beside it.
 BESIDE = "INTAGLIO_BESIDE"
+# What `checks/build --measure` measured.
+SECONDS = TOP / "checks/seconds.txt"
 # How the names of the folders begin in which edits are tried.
 SCRATCH = "mutants-"
 # What `fmt --check` says of a file.
@@ -346,12 +349,6 @@ def ran_tests(crate):
     return ran.returncode, ran.stdout
 
 
-def lines_of(crate):
-    """How many lines the crate's source has, without its tests."""
-    files = (Path(it) for it in load().rtlib.files_of(crate.folder))
-    return sum(it.read_bytes().count(b"\n") for it in files if not {"tests", "tests.rt"} & {*it.parts})
-
-
 def standing_on(names):
     """The crates of these names and those that they stand on, lowest first."""
     found, every = [], {it.name: it for it in crates()}
@@ -438,22 +435,44 @@ def without_good_news(said):
     return re.sub(r"(?m)^(\w+ \S+: proved$|fn \S+: proved|statements |logic /|rt: chose ).*\n", "", said)
 
 
+@functools.lru_cache(maxsize=None)
 def functions_of(crate):
-    """How many functions the crate's source has, without its tests: a measure of how long its proof takes."""
+    """How many functions the crate's source has, without its tests."""
     files = (Path(it) for it in load().rtlib.files_of(crate.folder) if it.endswith(".rt"))
     return sum(len(re.findall(rb"\bfn \w", it.read_bytes())) for it in files if not {"tests", "tests.rt"} & {*it.parts})
 
 
+@functools.lru_cache(maxsize=None)
+def measured():
+    """The seconds that a function of each crate took to be proved, as SECONDS has them."""
+    rows = (line.split() for line in SECONDS.read_text(encoding="utf-8").splitlines() if not line.startswith("#"))
+    return {name: float(seconds) for name, seconds in rows}
+
+
+def seconds_of(crate):
+    """About how many seconds of a processor the crate's proof takes by one job. One that wasn't measured is like the others."""
+    known = measured()
+    return round(functions_of(crate) * known.get(crate.name, statistics.median(known.values())))
+
+
+def keep_seconds(took):
+    """Writes the seconds of a processor that these crates took, for each of their functions, into SECONDS."""
+    known = measured() | {it.name: seconds / functions_of(it) for it, seconds in took.items() if functions_of(it)}
+    rows = [f"{it.name} {known[it.name]:.2f}\n" for it in crates() if it.name in known]
+    head = "# The seconds of a processor in which one job proves a function of each crate: checks/build --measure writes them.\n"
+    SECONDS.write_text(head + "".join(rows), encoding="utf-8")
+
+
 def chains_through(crates):
-    """How long the longest chain through each crate is, in functions, in which each waits for the one before it. The crates come
+    """How long the longest chain through each crate is, in seconds, in which each waits for the one before it. The crates come
     lowest first."""
     below: dict[str, int] = {}
     behind: dict[str, int] = {}
     for crate in crates:
-        below[crate.name] = functions_of(crate) + max((below.get(it.name, 0) for it in crate.below()), default=0)
+        below[crate.name] = seconds_of(crate) + max((below.get(it.name, 0) for it in crate.below()), default=0)
     for crate in reversed(crates):
         behind[crate.name] = max(
-            (functions_of(it) + behind[it.name] for it in crates if crate.name in {under.name for under in it.below()}), default=0
+            (seconds_of(it) + behind[it.name] for it in crates if crate.name in {under.name for under in it.below()}), default=0
         )
     return {it.name: below[it.name] + behind[it.name] for it in crates}
 
@@ -465,11 +484,14 @@ def beside(call, *given):
         return pool.submit(call, *given).result()
 
 
-# A crate with this many functions or fewer is proved as soon by one job as by several, which each read all libraries.
-FEW = 8
+# A crate that one job proves in this many seconds is proved as soon by one as by several, which each read all libraries.
+FEW = 60
 # The shares of the longest chain from which on a chain would soon be the longest, if its crates had one job each, and if they had
 # what others leave.
 NEARLY, LONG = 0.88, 0.8
+# What provers hold of the memory that `rt` plans for them: what each counts as its own, and its share of what several read. (For
+# each further job `rt` plans .6 more.)
+HELD_OF_NEED = 0.5
 
 
 def in_lanes(crates, prove):
@@ -481,14 +503,13 @@ def in_lanes(crates, prove):
 
     def task(crate):
         waits, length = [(it.name, "proof") for it in crate.below() if it.name in through], through[crate.name]
-        is_small = functions_of(crate) <= FEW
+        is_small = seconds_of(crate) <= FEW
         least = 1 if is_small or length < NEARLY * longest else most if length == longest else min(2, most)
-        need = rt.need(crate) * (1 + 0.6 * (least - 1))
 
         def call(given, jobs):
             how = prove if length > LONG * longest else functools.partial(beside, prove)
             return all(given[it] for it in waits) and how(crate, 1 if is_small else max(jobs, least))
 
-        return waits, functions_of(crate), need, call
+        return waits, seconds_of(crate), HELD_OF_NEED * rt.need(crate), call
 
     return all(rt.in_lanes({(it.name, "proof"): task(it) for it in crates}).values())
