@@ -29,12 +29,30 @@ use tests::support::kinds::{
 };
 
 const ALL: [(&str, &str); 11] = [
-    ("text", "calls cut replies cut_replies making forms no_memory first room known equal"),
-    ("osstr", "calls cut replies cut_replies making forms no_memory"),
-    ("path", "calls cut replies cut_replies making forms no_memory"),
-    ("bytes", "calls cut replies cut_replies making forms no_memory"),
-    ("bstr", "calls cut replies cut_replies making forms no_memory"),
-    ("cstr", "calls cut replies cut_replies making forms no_memory"),
+    (
+        "text",
+        "calls cut replies cut_replies making forms no_memory first room known equal",
+    ),
+    (
+        "osstr",
+        "calls cut replies cut_replies making forms no_memory",
+    ),
+    (
+        "path",
+        "calls cut replies cut_replies making forms no_memory",
+    ),
+    (
+        "bytes",
+        "calls cut replies cut_replies making forms no_memory",
+    ),
+    (
+        "bstr",
+        "calls cut replies cut_replies making forms no_memory",
+    ),
+    (
+        "cstr",
+        "calls cut replies cut_replies making forms no_memory",
+    ),
     ("packed_text", "forms quiet"),
     ("packed_osstr", "forms quiet"),
     ("packed_path", "forms quiet"),

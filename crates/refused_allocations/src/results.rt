@@ -8,9 +8,11 @@ use std::alloc::{AllocError, Global};
 pub fn is_refused(answer: &Result<bool, TableError>) -> bool {
     matches!(
         answer,
-        Err(TableError::Memory(_)
-            | TableError::Intern(InternError::Memory(_))
-            | TableError::Room(RoomError::Memory(_)))
+        Err(
+            TableError::Memory(_)
+                | TableError::Intern(InternError::Memory(_))
+                | TableError::Room(RoomError::Memory(_))
+        )
     )
 }
 

@@ -14,7 +14,12 @@ pub static RUNS: [Run; 12] = [
     ("calls", Make::Exact(0), false, &[&FILL, &REST]),
     ("cut", Make::Exact(0), false, &[&FILL, &CUT, &REST]),
     ("replies", Make::Exact(0), true, &[&FILL, &LOOK_UPS, &REST]),
-    ("cut_replies", Make::Exact(0), true, &[&FILL, &LOOK_UPS, &CUT, &REST]),
+    (
+        "cut_replies",
+        Make::Exact(0),
+        true,
+        &[&FILL, &LOOK_UPS, &CUT, &REST],
+    ),
     ("making", Make::Exact(0), false, &[&MAKING, &C_STRING]),
     ("forms", Make::Exact(0), false, &[&MAKING, &FORMS]),
     ("no_memory", Make::Exact(0), false, &[&NO_MEMORY, &SIZES]),

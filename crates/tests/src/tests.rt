@@ -2,4 +2,7 @@
 //! crate, and each public call once.
 
 mod assertions;
+mod formats;
+mod programs;
 mod scripts;
+mod units;

@@ -85,15 +85,13 @@ impl OfSpelling for CString {
 }
 
 /// A kind whose strings can be made from any spelling.
-pub trait TestKind:
-    KindForm<'static, Form: OfEnded> + KindOwned<Static: OfEnded, Owned: OfSpelling>
-{
-}
+pub trait TestKind: KindForm<'static, Form: OfEnded>
+    + KindOwned<Static: OfEnded, Owned: OfSpelling> {}
 
-impl<K> TestKind for K where
-    K: KindForm<'static, Form: OfEnded> + KindOwned<Static: OfEnded, Owned: OfSpelling>
-{
-}
+impl<K> TestKind for K
+where
+    K: KindForm<'static, Form: OfEnded> + KindOwned<Static: OfEnded, Owned: OfSpelling>,
+{}
 
 /// An owned content of this spelling.
 pub fn owned<K: TestKind>(alloc: Global, spelling: &[u8]) -> Option<ContentOf<K>> {

@@ -4,8 +4,9 @@ use crate::support::kinds::{OfEnded, TestKind};
 use crate::support::replies::{roomy, taken};
 use intaglio::packed::{Packed, PackedForm};
 use intaglio::{
-    BaseInterner, Call, Content, ContentOf, Copied, Indexed, InternError, KindOwned, LookedUpIn, Mark, Moved,
-    Reply, RoomError, SoughtIn, SpelledStore, Symbol, Table, TableOver, Work, intern_all, run,
+    BaseInterner, Call, Content, ContentOf, Copied, Indexed, InternError, KindOwned, LookedUpIn,
+    Mark, Moved, Reply, RoomError, SoughtIn, SpelledStore, Symbol, Table, TableOver, Work,
+    intern_all, run,
 };
 use intaglio_hash::FixedState;
 use std::alloc::{AllocError, Global};
@@ -30,12 +31,10 @@ pub enum Make {
 pub type Made<L> = TableOver<L, <L as TestStore>::Hasher>;
 
 /// A store whose tables are tried: a list of owned contents, or one buffer.
-pub trait TestStore:
-    Indexed<Content: Content + SoughtIn<Self> + Drop, Prepared: Drop>
+pub trait TestStore: Indexed<Content: Content + SoughtIn<Self> + Drop, Prepared: Drop>
     + SpelledStore
     + LookedUpIn<'static, By: OfEnded>
-    + Drop
-{
+    + Drop {
     /// The kind of its strings.
     type Kind: TestKind;
 

@@ -3,8 +3,8 @@
 ghost use Rattle.intaglio_frozen.specs.IsFrozen.{AreTexts};
 ghost use Rattle.intaglio_merge.specs.Merging.{AreAccepted};
 
-use super::assertions::{holds, same};
-use super::tables::packed_of;
+use super::packing::packed_of;
+use crate::tests::assertions::{holds, same};
 use intaglio::packed::bstr::BStrKind;
 use intaglio::packed::bytes::{BytesKind, SymbolTable};
 use intaglio::packed::osstr::OsStrKind;

@@ -1,7 +1,7 @@
 //! Strings that are chosen so that under some keys one of them gets no place. The expected hashes are of the
 //! bytes that `checks/frozen_tables.py` writes.
-use super::assertions::same;
-use super::tables::packed_of;
+use super::packing::packed_of;
+use crate::tests::assertions::same;
 use intaglio::packed::{StrKind, SymbolTable};
 use intaglio_frozen::{FreezeError, Header, Kind, StringList, freeze, freeze_with_default_keys};
 use intaglio_hash::{FixedState, KeyedState};

@@ -1,5 +1,5 @@
 //! Frozen tables: what their iterators yield, and what is found in trusted bytes, also in damaged ones.
-use super::assertions::{copy_of, holds, same};
+use crate::tests::assertions::{copy_of, holds, same};
 use intaglio::packed::bytes::SymbolTable;
 use intaglio::packed::{Packed, PackedForm};
 use intaglio::{Symbol, TableOver};

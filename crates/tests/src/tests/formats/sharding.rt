@@ -1,7 +1,7 @@
 //! What `split` and `Shards` do with strings of a list: each is in its shard,
 //! and is found at its number in all.
-use super::assertions::{holds, same};
-use super::tables::packed_of;
+use super::packing::packed_of;
+use crate::tests::assertions::{holds, same};
 use intaglio::packed::bytes::{BytesKind, SymbolTable};
 use intaglio_core::Symbol;
 use intaglio_frozen::{Frozen, Kind, StringList, freeze};

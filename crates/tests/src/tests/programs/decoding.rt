@@ -1,6 +1,6 @@
 //! What decoding writes for whole inputs, and its errors, with readers and writers that fail.
-use super::assertions::holds;
 use super::fakes::{SlowReader, SmallWriter, StuckWriter, UnflushedWriter};
+use crate::tests::assertions::holds;
 use intaglio_decode::error::RestoreError;
 use intaglio_decode::restore::restore;
 use intaglio_decode::serve::serve;

@@ -1,6 +1,6 @@
 //! What encoding writes for whole inputs, and its errors, with readers and writers that fail.
-use super::assertions::holds;
 use super::fakes::{SlowReader, SmallWriter, StuckWriter, UnflushedWriter};
+use crate::tests::assertions::holds;
 use intaglio_encode::encode::encode;
 use intaglio_encode::serve::serve;
 use intaglio_lines::error::report;

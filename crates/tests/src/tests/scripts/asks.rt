@@ -2,9 +2,7 @@
 use super::printed::{Shown, inserted_text, paired, reply_text, spelled, symbols_text};
 use super::steps::walked;
 use crate::support::builders::HasherCount;
-use crate::support::kinds::{
-    BStrKind, BytesKind, CStrKind, Host, OsStrKind, PathKind, StrKind,
-};
+use crate::support::kinds::{BStrKind, BytesKind, CStrKind, Host, OsStrKind, PathKind, StrKind};
 use crate::support::replies::interned;
 use crate::support::stores::TestStore;
 use intaglio::packed::Packed;
@@ -125,7 +123,10 @@ where
         Ask::Each(steps) => walked(rt, (&*table).into_iter(), steps),
         Ask::Contains(symbol) => reply_text(rt, &Reply::Bool(table.contains(symbol))),
         Ask::Get(symbol) => reply_text(rt, &spelled(rt, table.get(symbol))),
-        _ => reply_text(rt, &reply(rt, table, forms.pop().expect(rt, "no form"), ask)),
+        _ => reply_text(
+            rt,
+            &reply(rt, table, forms.pop().expect(rt, "no form"), ask),
+        ),
     }
 }
 

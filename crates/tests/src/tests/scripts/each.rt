@@ -4,9 +4,7 @@ use super::loops::{interns, keeps_new};
 use super::script::plays;
 use super::table::{Makes, Table};
 use crate::support::builders::hash_of;
-use crate::support::kinds::{
-    BStrKind, BytesKind, CStrKind, Host, OsStrKind, PathKind, StrKind,
-};
+use crate::support::kinds::{BStrKind, BytesKind, CStrKind, Host, OsStrKind, PathKind, StrKind};
 use crate::support::stores::{Made, Make};
 use crate::tests::assertions::same;
 use intaglio::packed::Packed;

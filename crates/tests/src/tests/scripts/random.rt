@@ -13,7 +13,8 @@ const SCRIPTS: usize = 63;
 const CALLS: usize = 200;
 
 // Calls, with what they take: nothing, a text, a list of texts, a symbol, or a count.
-const NAMES: &str = "(intern text) (intern text) (intern text) (get_or_intern text) (get_or_intern text) \
+const NAMES: &str =
+    "(intern text) (intern text) (intern text) (get_or_intern text) (get_or_intern text) \
 (insert_full text) (check text) (is_interned text) (get_interned text) (get symbol) (index symbol) \
 (contains symbol) (intern_all texts) (intaglio::intern_all texts) (get_or_intern_all texts) \
 (get_or_intern_all texts) (check_all texts) (reserve count) (try_reserve count) (shrink_to count) \
@@ -21,7 +22,8 @@ const NAMES: &str = "(intern text) (intern text) (intern text) (get_or_intern te
 
 // Texts of each class of length by which hashes and comparisons go, some of which differ in one byte, each in
 // parentheses.
-const TEXTS: &str = "() (a) (b) (aa) (ab) (abc) (abd) (abcdefgh) (abcdefgi) (abcdefghi) (abcdefghj) \
+const TEXTS: &str =
+    "() (a) (b) (aa) (ab) (abc) (abd) (abcdefgh) (abcdefgi) (abcdefghi) (abcdefghj) \
 (abcdefghijklmnopq) (abcdefghiiklmnopq) (abcdefghijklmnopqrstuvwxyz0123456) \
 (abcdefghijklmnoqqrstuvwxyz0123456) \
 (abcdefghijklmnopqrstuvwxyz0123456abcdefghijklmnopqrstuvwxyz0123456) \
@@ -36,7 +38,8 @@ const SYMBOLS: &str = "(0) (1) (2) (4) (9) (17) (4294967295)";
 const COUNTS: &str = "(0) (1) (2) (5) (11) (40) (18446744073709551615)";
 
 // How a table is made. In the last way, which occurs twice as often, hashes are first bytes.
-const WAYS: &str = "(new ) (with_capacity 0) (with_capacity 5) (with_capacity_and_hasher 3) (with_limit 1) \
+const WAYS: &str =
+    "(new ) (with_capacity 0) (with_capacity 5) (with_capacity_and_hasher 3) (with_limit 1) \
 (with_limit 9) (with_limit 4294967296) (with_first_bytes 0) (with_first_bytes 0)";
 
 // Numbers that look random.
@@ -147,11 +150,7 @@ fn differs<T: Makes>(rt: &impl Host, first: Line, lines: &[Line]) -> Option<Stri
 }
 
 // The same without its first line.
-fn rest_that_differs<T: Makes>(
-    rt: &impl Host,
-    first: Line,
-    lines: &[Line],
-) -> Option<String> {
+fn rest_that_differs<T: Makes>(rt: &impl Host, first: Line, lines: &[Line]) -> Option<String> {
     let plain = Plain::new(rt.alloc(), limit(rt, first), T::ARE_PATHS);
     match way(rt, first).expect(rt, first.name) {
         Ok(how) => {

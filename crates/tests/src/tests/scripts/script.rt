@@ -72,7 +72,12 @@ pub fn symbol(rt: &impl Host, word: &str) -> Symbol {
 
 /// Asserts that the result is the one expected of this call.
 pub fn agrees(rt: &impl Host, got: &str, line: Line) {
-    assert_eq!(rt; got, line.wanted, "{}: {} {}", line.row, line.name, line.word);
+    assert_eq!(rt;
+        got,
+        line.wanted,
+        "{}: {} {}",
+        line.row, line.name, line.word
+    );
 }
 
 /// How a call makes a table: with counted hashers, if it is a builder, or else in this way.
@@ -90,10 +95,7 @@ pub fn way(rt: &impl Host, line: Line) -> Option<Result<Make, Counted>> {
 }
 
 /// The call that makes the first table, the calls on this one, and the rest.
-pub fn split_part<'l>(
-    rt: &impl Host,
-    lines: &'l [Line],
-) -> Option<(Line, &'l [Line], &'l [Line])> {
+pub fn split_part<'l>(rt: &impl Host, lines: &'l [Line]) -> Option<(Line, &'l [Line], &'l [Line])> {
     let (first, after) = lines.split_first()?;
     let mut count = 0;
     for line in after {
@@ -224,7 +226,9 @@ fn batch<T: Table>(rt: &impl Host, table: &mut T, line: Line) -> String {
     }
     let mut words = Vec::new(rt.alloc());
     for word in line.word.split_whitespace() {
-        words.push(content(rt, word.as_bytes())).expect(rt, "memory");
+        words
+            .push(content(rt, word.as_bytes()))
+            .expect(rt, "memory");
     }
     match line.name {
         "intern_all" => table.put_all(rt, words),

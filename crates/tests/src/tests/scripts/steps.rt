@@ -16,7 +16,8 @@ pub fn walked<W: Walk>(rt: &impl Host, mut walk: W, steps: &str) -> String {
         if !said.is_empty() {
             said.push_str(", ").expect(rt, "memory");
         }
-        said.push_str(walk.step(rt, step).as_str()).expect(rt, "memory");
+        said.push_str(walk.step(rt, step).as_str())
+            .expect(rt, "memory");
     }
     said
 }

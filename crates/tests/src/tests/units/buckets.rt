@@ -2,7 +2,7 @@
 //! rollbacks, shrinks and growth.
 ghost use Rattle.std.specs.Prelude.{◌≡◌, ◌≤◌, length};
 
-use super::assertions::same;
+use crate::tests::assertions::same;
 use intaglio::{Index, Symbol, Work};
 use std::process::Abort;
 

@@ -1,5 +1,5 @@
 //! Which bytes `CStr` and `CString` accept, and the errors for the others.
-use super::assertions::{holds, same};
+use crate::tests::assertions::{holds, same};
 use intaglio::cstr::{CStr, CStrError, CString, CStringError};
 use std::alloc::{AllocError, Global};
 use std::process::Abort;

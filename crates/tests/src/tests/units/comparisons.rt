@@ -1,7 +1,7 @@
 //! Byte strings of each length, compared with copies that differ in one byte.
 ghost use Rattle.std.specs.Prelude.{◌<◌};
 
-use super::assertions::holds;
+use crate::tests::assertions::holds;
 use intaglio_content::same_bytes;
 use std::alloc::Global;
 use std::process::Abort;

@@ -1,5 +1,5 @@
 //! The components of paths, and that paths are equal exactly if their components are.
-use super::assertions::{holds, same};
+use crate::tests::assertions::{holds, same};
 use intaglio::path::{Component, Path, PathContent};
 use intaglio::{Sought, Work};
 use std::hash::{BuildHasherDefault, FoldHasher};

@@ -1,5 +1,5 @@
 //! Conversions between symbols and numbers.
-use super::assertions::{holds, same};
+use crate::tests::assertions::same;
 use intaglio::{DEFAULT_SYMBOL_TABLE_CAPACITY, Mark, Symbol, SymbolOverflowError};
 use std::num::{NonZeroU8, NonZeroU16, NonZeroU32, NonZeroU64, NonZeroUsize};
 use std::process::Abort;
@@ -13,178 +13,209 @@ fn numbers_are_kept(rt: HostRuntime) {
     same(&rt, DEFAULT_SYMBOL_TABLE_CAPACITY, 4096);
 }
 
-fn is(rt: &impl Abort, symbol: Symbol, number: u32) {
-    same(rt, symbol.id(), number);
+// Asserts that all are the symbol of this number.
+fn are(rt: &impl Abort, symbols: &[Symbol], number: u32) {
+    for symbol in symbols {
+        same(rt, symbol.id(), number);
+    }
 }
 
-fn gives(rt: &impl Abort, symbol: Result<Symbol, SymbolOverflowError>, number: u32) {
-    holds(rt, symbol == Ok(Symbol::new(number)));
-}
+// What a conversion that may fail returns.
+type Tried = Result<Symbol, SymbolOverflowError>;
 
-fn refused(rt: &impl Abort, symbol: Result<Symbol, SymbolOverflowError>) {
-    holds(rt, symbol == Err(SymbolOverflowError::new()));
-}
-
-// Conversions that never fail.
-fn from_primitive(rt: &impl Abort) {
-    is(rt, Symbol::from(0u8), 0);
-    is(rt, Symbol::from(17u8), 17);
-    is(rt, Symbol::from(0u16), 0);
-    is(rt, Symbol::from(17u16), 17);
-    is(rt, Symbol::from(0u32), 0);
-    is(rt, Symbol::from(17u32), 17);
-}
-
-fn try_from_u64(rt: &impl Abort) {
-    gives(rt, Symbol::try_from(0u64), 0);
-    gives(rt, Symbol::try_from(17u64), 17);
-    gives(rt, Symbol::try_from(4294967295u64), 4294967295);
-    refused(rt, Symbol::try_from(4294967296u64));
-    refused(rt, Symbol::try_from(u64::MAX));
-}
-
-fn try_from_usize(rt: &impl Abort) {
-    gives(rt, Symbol::try_from(0usize), 0);
-    gives(rt, Symbol::try_from(17usize), 17);
-    gives(rt, Symbol::try_from(4294967295usize), 4294967295);
-    refused(rt, Symbol::try_from(4294967296usize));
-    refused(rt, Symbol::try_from(usize::MAX));
+// Asserts that all are this symbol, or are refused.
+fn give(rt: &impl Abort, symbols: &[Tried], wanted: Option<u32>) {
+    for symbol in symbols {
+        let wanted = wanted.map(|number| Symbol::new(number));
+        same(rt, *symbol, wanted.ok_or(SymbolOverflowError::new()));
+    }
 }
 
 #[test]
 fn symbol_from_primitive(rt: HostRuntime) {
-    from_primitive(&rt);
-    try_from_u64(&rt);
-    try_from_usize(&rt);
-}
-
-// The same of references.
-fn from_primitive_ref(rt: &impl Abort) {
-    is(rt, Symbol::from(&0u8), 0);
-    is(rt, Symbol::from(&17u8), 17);
-    is(rt, Symbol::from(&0u16), 0);
-    is(rt, Symbol::from(&17u16), 17);
-    is(rt, Symbol::from(&0u32), 0);
-    is(rt, Symbol::from(&17u32), 17);
-}
-
-fn try_from_u64_ref(rt: &impl Abort) {
-    gives(rt, Symbol::try_from(&0u64), 0);
-    gives(rt, Symbol::try_from(&17u64), 17);
-    refused(rt, Symbol::try_from(&4294967296u64));
-    refused(rt, Symbol::try_from(&u64::MAX));
-}
-
-fn try_from_usize_ref(rt: &impl Abort) {
-    gives(rt, Symbol::try_from(&0usize), 0);
-    gives(rt, Symbol::try_from(&17usize), 17);
-    refused(rt, Symbol::try_from(&4294967296usize));
-    refused(rt, Symbol::try_from(&usize::MAX));
+    are(&rt, &[0u8.into(), 0u16.into(), 0u32.into()], 0);
+    are(&rt, &[17u8.into(), 17u16.into(), 17u32.into()], 17);
+    give(
+        &rt,
+        &[Symbol::try_from(0u64), Symbol::try_from(0usize)],
+        Some(0),
+    );
+    give(
+        &rt,
+        &[Symbol::try_from(17u64), Symbol::try_from(17usize)],
+        Some(17),
+    );
+    let last = [
+        Symbol::try_from(4294967295u64),
+        Symbol::try_from(4294967295usize),
+    ];
+    give(&rt, &last, Some(4294967295));
+    give(
+        &rt,
+        &[Symbol::try_from(4294967296u64), Symbol::try_from(u64::MAX)],
+        None,
+    );
+    give(
+        &rt,
+        &[
+            Symbol::try_from(4294967296usize),
+            Symbol::try_from(usize::MAX),
+        ],
+        None,
+    );
 }
 
 #[test]
 fn symbol_from_primitive_ref(rt: HostRuntime) {
-    from_primitive_ref(&rt);
-    try_from_u64_ref(&rt);
-    try_from_usize_ref(&rt);
-}
-
-// Conversions that never fail.
-fn from_nonzero(rt: &impl Abort) {
-    is(rt, Symbol::from(NonZeroU8::new(17).unwrap()), 17);
-    is(rt, Symbol::from(NonZeroU16::new(17).unwrap()), 17);
-    is(rt, Symbol::from(NonZeroU32::new(17).unwrap()), 17);
-}
-
-fn try_from_nonzero_u64(rt: &impl Abort) {
-    gives(rt, Symbol::try_from(NonZeroU64::new(17).unwrap()), 17);
-    refused(rt, Symbol::try_from(NonZeroU64::new(4294967296).unwrap()));
-    refused(rt, Symbol::try_from(NonZeroU64::MAX));
-}
-
-fn try_from_nonzero_usize(rt: &impl Abort) {
-    gives(rt, Symbol::try_from(NonZeroUsize::new(17).unwrap()), 17);
-    refused(rt, Symbol::try_from(NonZeroUsize::new(4294967296).unwrap()));
-    refused(rt, Symbol::try_from(NonZeroUsize::MAX));
+    are(
+        &rt,
+        &[Symbol::from(&0u8), Symbol::from(&0u16), Symbol::from(&0u32)],
+        0,
+    );
+    are(
+        &rt,
+        &[
+            Symbol::from(&17u8),
+            Symbol::from(&17u16),
+            Symbol::from(&17u32),
+        ],
+        17,
+    );
+    give(
+        &rt,
+        &[Symbol::try_from(&0u64), Symbol::try_from(&0usize)],
+        Some(0),
+    );
+    give(
+        &rt,
+        &[Symbol::try_from(&17u64), Symbol::try_from(&17usize)],
+        Some(17),
+    );
+    give(
+        &rt,
+        &[
+            Symbol::try_from(&4294967296u64),
+            Symbol::try_from(&u64::MAX),
+        ],
+        None,
+    );
+    give(
+        &rt,
+        &[
+            Symbol::try_from(&4294967296usize),
+            Symbol::try_from(&usize::MAX),
+        ],
+        None,
+    );
 }
 
 #[test]
 fn symbol_from_nonzero(rt: HostRuntime) {
-    from_nonzero(&rt);
-    try_from_nonzero_u64(&rt);
-    try_from_nonzero_usize(&rt);
-}
-
-// The same of references.
-fn from_nonzero_ref(rt: &impl Abort) {
-    is(rt, Symbol::from(&NonZeroU8::new(17).unwrap()), 17);
-    is(rt, Symbol::from(&NonZeroU16::new(17).unwrap()), 17);
-    is(rt, Symbol::from(&NonZeroU32::new(17).unwrap()), 17);
-}
-
-fn try_from_nonzero_u64_ref(rt: &impl Abort) {
-    gives(rt, Symbol::try_from(&NonZeroU64::new(17).unwrap()), 17);
-    refused(rt, Symbol::try_from(&NonZeroU64::new(4294967296).unwrap()));
-    refused(rt, Symbol::try_from(&NonZeroU64::MAX));
-}
-
-fn try_from_nonzero_usize_ref(rt: &impl Abort) {
-    gives(rt, Symbol::try_from(&NonZeroUsize::new(17).unwrap()), 17);
-    refused(
-        rt,
-        Symbol::try_from(&NonZeroUsize::new(4294967296).unwrap()),
+    are(&rt, &[Symbol::from(NonZeroU8::new(17).unwrap())], 17);
+    are(&rt, &[Symbol::from(NonZeroU16::new(17).unwrap())], 17);
+    are(&rt, &[Symbol::from(NonZeroU32::new(17).unwrap())], 17);
+    give(
+        &rt,
+        &[Symbol::try_from(NonZeroU64::new(17).unwrap())],
+        Some(17),
     );
-    refused(rt, Symbol::try_from(&NonZeroUsize::MAX));
+    give(
+        &rt,
+        &[Symbol::try_from(NonZeroUsize::new(17).unwrap())],
+        Some(17),
+    );
+    give(
+        &rt,
+        &[Symbol::try_from(NonZeroU64::new(4294967296).unwrap())],
+        None,
+    );
+    give(
+        &rt,
+        &[Symbol::try_from(NonZeroUsize::new(4294967296).unwrap())],
+        None,
+    );
+    give(
+        &rt,
+        &[
+            Symbol::try_from(NonZeroU64::MAX),
+            Symbol::try_from(NonZeroUsize::MAX),
+        ],
+        None,
+    );
 }
 
 #[test]
 fn symbol_from_nonzero_ref(rt: HostRuntime) {
-    from_nonzero_ref(&rt);
-    try_from_nonzero_u64_ref(&rt);
-    try_from_nonzero_usize_ref(&rt);
-}
-
-fn has_id(rt: &impl Abort, number: u32) {
-    let symbol = Symbol::new(number);
-    same(rt, u32::from(symbol), number);
-    same(rt, u32::from(&symbol), number);
-    same(rt, symbol.id(), number);
+    are(&rt, &[Symbol::from(&NonZeroU8::new(17).unwrap())], 17);
+    are(&rt, &[Symbol::from(&NonZeroU16::new(17).unwrap())], 17);
+    are(&rt, &[Symbol::from(&NonZeroU32::new(17).unwrap())], 17);
+    give(
+        &rt,
+        &[Symbol::try_from(&NonZeroU64::new(17).unwrap())],
+        Some(17),
+    );
+    give(
+        &rt,
+        &[Symbol::try_from(&NonZeroUsize::new(17).unwrap())],
+        Some(17),
+    );
+    give(
+        &rt,
+        &[Symbol::try_from(&NonZeroU64::new(4294967296).unwrap())],
+        None,
+    );
+    give(
+        &rt,
+        &[Symbol::try_from(&NonZeroUsize::new(4294967296).unwrap())],
+        None,
+    );
+    give(
+        &rt,
+        &[
+            Symbol::try_from(&NonZeroU64::MAX),
+            Symbol::try_from(&NonZeroUsize::MAX),
+        ],
+        None,
+    );
 }
 
 #[test]
 fn symbol_into_u32_is_its_id(rt: HostRuntime) {
     for number in [0, 1, 17, 192, 4294967295] {
-        has_id(&rt, number);
+        let symbol = Symbol::new(number);
+        same(
+            &rt,
+            (u32::from(symbol), u32::from(&symbol)),
+            (number, number),
+        );
+        same(&rt, symbol.id(), number);
     }
-}
-
-// The numbers that a symbol gives, of each type that has one for each symbol.
-fn numbers(symbol: Symbol) -> (u32, u64, usize, i64) {
-    (
-        u32::from(symbol),
-        u64::from(symbol),
-        usize::from(symbol),
-        i64::from(symbol),
-    )
 }
 
 #[test]
 fn primitive_from_symbol(rt: HostRuntime) {
-    same(&rt, numbers(Symbol::new(0)), (0, 0, 0, 0));
-    same(&rt, numbers(Symbol::new(17)), (17, 17, 17, 17));
-}
-
-fn numbers_ref(symbol: &Symbol) -> (u32, u64, usize, i64) {
-    (
-        u32::from(symbol),
-        u64::from(symbol),
-        usize::from(symbol),
-        i64::from(symbol),
-    )
+    for (symbol, wanted) in [
+        (Symbol::new(0), (0, 0, 0, 0)),
+        (Symbol::new(17), (17, 17, 17, 17)),
+    ] {
+        let numbers: (u32, u64, usize, i64) = (
+            symbol.into(),
+            symbol.into(),
+            symbol.into(),
+            symbol.into(),
+        );
+        same(&rt, numbers, wanted);
+    }
 }
 
 #[test]
 fn primitive_from_symbol_ref(rt: HostRuntime) {
-    same(&rt, numbers_ref(&Symbol::new(0)), (0, 0, 0, 0));
-    same(&rt, numbers_ref(&Symbol::new(17)), (17, 17, 17, 17));
+    for (symbol, wanted) in [
+        (Symbol::new(0), (0, 0, 0, 0)),
+        (Symbol::new(17), (17, 17, 17, 17)),
+    ] {
+        let it = &symbol;
+        let numbers = (u32::from(it), u64::from(it), usize::from(it), i64::from(it));
+        same(&rt, numbers, wanted);
+    }
 }

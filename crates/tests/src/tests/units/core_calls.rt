@@ -3,7 +3,8 @@
 //!
 //! Functions over any store make the calls, and functions over any kind call those, since the prover takes
 //! seconds wherever a table of one kind is passed to a function over any store.
-use super::assertions::same;
+use crate::support::builders::Fold;
+use crate::tests::assertions::same;
 use intaglio_core::{
     BaseInterner, BytesContent, Call, Content, ContentOf, Core, Indexed, IndexedStore, InternError,
     Interner, KindForm, KindOwned, Lends, LookedUpIn, Mark, Reply, RoomError, SoughtIn, StrContent,
@@ -14,7 +15,6 @@ use std::alloc::Global;
 use std::fmt::Debug;
 use std::hash::{BuildHasher, RandomState};
 use std::process::Abort;
-use test_support::builders::Fold;
 
 fn rounded<K: KindOwned>(alloc: Global, capacity: usize) -> Result<usize, RoomError> {
     let table: Core<ContentOf<K>, Fold> = Core::with_capacity(alloc, capacity)?;

@@ -1,11 +1,11 @@
 //! What errors print, and that all values of `SymbolOverflowError` are equal.
-use super::assertions::{copy_of, holds, same};
+use crate::support::builders::hash_of;
+use crate::tests::assertions::{copy_of, holds, same};
 use intaglio::{InternError, RoomError, StaleMark, SymbolOverflowError, TableError};
 use std::alloc::{AllocError, AllocFailed};
 use std::cmp::Ordering;
 use std::fmt::Display;
 use std::process::Abort;
-use test_support::builders::hash_of;
 
 #[test]
 fn max_capacity_is_the_number_of_symbols(rt: HostRuntime) {

@@ -3,7 +3,7 @@ ghost use Rattle.std.specs.Prelude.{◌+◌, ◌-◌, ◌^◌, ◌==◌, false, 
 ghost use Rattle.std.specs.Option.{option_map_or};
 ghost use Rattle.std.specs.Cmp.Lexicographic.{pointwise};
 
-use crate::builders::HasherCount;
+use crate::support::builders::HasherCount;
 use std::hash::{BuildHasher, Hasher};
 
 /// A hasher that returns 1 if it got exactly the expected writes in order, and otherwise 0. It is also the

@@ -1,4 +1,5 @@
 //! The bytes that each kind of content writes to a hasher.
+use super::expected_writes::ExpectedWrites;
 use bstr::BStr;
 use intaglio::bstr::BStrContent;
 use intaglio::bytes::BytesContent;
@@ -14,7 +15,6 @@ use intaglio::{ContentOf, KindOwned, Packable, Sought, StrContent, Work};
 use intaglio_cstr::CStrKind;
 use std::mem::size_of;
 use std::process::Abort;
-use test_support::expected_writes::ExpectedWrites;
 
 // The hash by a builder that expects these writes: 1 if it gets exactly them.
 fn hash<K: KindOwned, Q: Packable<K>>(sought: &Q, writes: &'static [&'static [u8]]) -> u64 {

@@ -1,11 +1,11 @@
 //! Equal C strings, and the iterators over contents.
-use super::assertions::{copy_of, holds, same};
+use crate::support::builders::Fold;
+use crate::tests::assertions::{copy_of, holds, same};
 use intaglio::cstr::{CStr, CStrContent};
 use intaglio::{ContentOf, Forms, KindForm, KindOwned, Pairs, StrContent, Symbol, Table};
 use std::alloc::Global;
 use std::process::Abort;
 use std::test::Fail;
-use test_support::builders::Fold;
 
 #[test]
 fn c_strings_are_compared_by_their_bytes(rt: HostRuntime) {

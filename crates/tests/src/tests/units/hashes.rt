@@ -1,6 +1,6 @@
 //! Hashes of `KeyedHasher`, compared with those of Rust's own `DefaultHasher` and, with keys, of
 //! `SipHasher13`, and of `FixedHasher`, compared with those of std's `FoldHasher`.
-use super::assertions::{holds, same};
+use crate::tests::assertions::{holds, same};
 use intaglio_hash::{FixedHasher, FixedState, KeyedHasher, KeyedState};
 use std::alloc::{AllocError, Global};
 use std::collections::HashMap;
@@ -15,140 +15,34 @@ const KEY0: u64 = 0x0706_0504_0302_0100;
 const KEY1: u64 = 0x0f0e_0d0c_0b0a_0908;
 
 // With the keys 0 and 0: the hash of the bytes 0, 1, 2, .., as many as the position says.
-static PLAIN: [u64; 64] = [
-    0xd1fb_a762_150c_532c,
-    0x68a9_1412_8e01_e473,
-    0x010b_ac45_c41e_3669,
-    0x4d4c_9a4a_8ef6_e0ad,
-    0x7cc4_3f98_813e_4dbd,
-    0x5abe_2169_dff3_6275,
-    0xe3c2_5f87_624f_1cdb,
-    0x2f09_8ab0_c751_325a,
-    0xead4_11e6_7ebe_2eea,
-    0x7592_7f9d_9512_4362,
-    0xaf9f_77a6_5ab5_1a1d,
-    0xfe64_ce8b_6617_fcff,
-    0xa6ba_f4fb_0f9f_e1c2,
-    0xa0cf_3211_850f_8e0d,
-    0x7f86_0493_79fb_fe67,
-    0xf30e_b725_bb91_c9ea,
-    0x8972_1884_33a5_c5b7,
-    0x4883_c49a_2c00_9c1d,
-    0xadc2_c0b6_3044_067d,
-    0x091f_4a33_29f8_7d19,
-    0x639e_355a_e68c_0100,
-    0xb17b_ef2c_b521_3239,
-    0xf8ae_b106_6236_ccfe,
-    0x3733_2b13_89da_a4ff,
-    0x3118_5a47_af93_2f3a,
-    0xebf3_52e8_2ae2_3e2f,
-    0xed36_ff24_2fe4_78b2,
-    0x2454_d97d_2992_99df,
-    0x8cd5_7fe8_130d_0ac7,
-    0xbe98_eb2f_af0a_0e85,
-    0xd427_c34e_e094_70c6,
-    0x1697_3944_3111_d49b,
-    0x31ef_8061_c910_629b,
-    0x7fb7_1d24_dfa4_c9f6,
-    0x9277_1f49_e836_d389,
-    0x3c39_3cf6_f085_3bc3,
-    0xac77_921f_cc64_2bd3,
-    0x422a_9751_192f_f266,
-    0xc680_ae8a_8c58_4ddf,
-    0x6c76_b6d3_4bb6_d26b,
-    0x95bc_321a_b41d_8206,
-    0x908a_3a97_a6d3_7669,
-    0xfcaf_3c64_874d_d0b4,
-    0xf689_479b_32b8_4a44,
-    0xd857_6410_79ef_d1fd,
-    0x8b58_1578_7226_33f7,
-    0x83cb_09d3_5ea7_bcd4,
-    0x8485_f7f5_ae72_5a0d,
-    0xfe1f_2445_ba50_237f,
-    0x23ce_ce04_1d78_66b0,
-    0x4166_8748_0b33_6c09,
-    0xf159_60da_7e7f_3892,
-    0xded6_177b_9826_835a,
-    0xf80d_ae51_668b_e6be,
-    0x17ec_c6ee_6647_df18,
-    0x5220_d642_b4a5_2110,
-    0xa4f0_cf4b_a4ad_c016,
-    0xe512_5bb2_6d1f_2976,
-    0x851b_0e75_f580_d256,
-    0x1260_5250_a37e_39ac,
-    0xd95a_7135_68da_ebf1,
-    0xcdcf_4a42_ec0d_d605,
-    0xa5c7_0871_2b61_7164,
-    0x385d_3e39_e5f3_7359,
-];
+const PLAIN: &str = "
+    d1fba762150c532c 68a914128e01e473 010bac45c41e3669 4d4c9a4a8ef6e0ad 7cc43f98813e4dbd 5abe2169dff36275
+    e3c25f87624f1cdb 2f098ab0c751325a ead411e67ebe2eea 75927f9d95124362 af9f77a65ab51a1d fe64ce8b6617fcff
+    a6baf4fb0f9fe1c2 a0cf3211850f8e0d 7f86049379fbfe67 f30eb725bb91c9ea 8972188433a5c5b7 4883c49a2c009c1d
+    adc2c0b63044067d 091f4a3329f87d19 639e355ae68c0100 b17bef2cb5213239 f8aeb1066236ccfe 37332b1389daa4ff
+    31185a47af932f3a ebf352e82ae23e2f ed36ff242fe478b2 2454d97d299299df 8cd57fe8130d0ac7 be98eb2faf0a0e85
+    d427c34ee09470c6 169739443111d49b 31ef8061c910629b 7fb71d24dfa4c9f6 92771f49e836d389 3c393cf6f0853bc3
+    ac77921fcc642bd3 422a9751192ff266 c680ae8a8c584ddf 6c76b6d34bb6d26b 95bc321ab41d8206 908a3a97a6d37669
+    fcaf3c64874dd0b4 f689479b32b84a44 d857641079efd1fd 8b581578722633f7 83cb09d35ea7bcd4 8485f7f5ae725a0d
+    fe1f2445ba50237f 23cece041d7866b0 416687480b336c09 f15960da7e7f3892 ded6177b9826835a f80dae51668be6be
+    17ecc6ee6647df18 5220d642b4a52110 a4f0cf4ba4adc016 e5125bb26d1f2976 851b0e75f580d256 12605250a37e39ac
+    d95a713568daebf1 cdcf4a42ec0dd605 a5c708712b617164 385d3e39e5f37359
+";
 
 // The same with the keys above.
-static KEYED: [u64; 64] = [
-    0xabac_0158_050f_c4dc,
-    0xc9f4_9bf3_7d57_ca93,
-    0x82cb_9b02_4dc7_d44d,
-    0x8bf8_0ab8_e7dd_f7fb,
-    0xcf75_5760_88d3_8328,
-    0xdef9_d52f_4953_3b67,
-    0xc50d_2b50_c59f_22a7,
-    0xd392_7d98_9bb1_1140,
-    0x3690_9511_8d29_9a8e,
-    0x25a4_8eb3_6c06_3de4,
-    0x79de_85ee_92ff_097f,
-    0x70c1_18c1_f94d_c352,
-    0x78a3_84b1_57b4_d9a2,
-    0x306f_760c_1229_ffa7,
-    0x605a_a111_c0f9_5d34,
-    0xd320_d86d_2a51_9956,
-    0xcc4f_dd1a_7d90_8b66,
-    0x9cf2_6890_63db_d80c,
-    0x8ffc_389c_b473_e63e,
-    0xf21f_9de5_8d29_7d1c,
-    0xc0dc_2f46_a6cc_e040,
-    0xb992_abfe_2b45_f844,
-    0x7ffe_7b9b_a320_872e,
-    0x525a_0e7f_dae6_c123,
-    0xf464_aeb2_6734_9c8c,
-    0x45cd_5928_705b_0979,
-    0x3a3e_35e3_ca99_13a5,
-    0xa91d_c74e_4ade_3b35,
-    0xfb0b_ed02_ef6c_d00d,
-    0x88d9_3cb4_4ab1_e1f4,
-    0x540f_11d6_43c5_e663,
-    0x2370_dd1f_8c21_d1bc,
-    0x8115_7b6c_16a7_b60d,
-    0x4d54_b9e5_7a8f_f9bf,
-    0x759f_1278_1f2a_753e,
-    0xcea1_a3be_bf18_6b91,
-    0x2cf5_08d3_ada2_6206,
-    0xb610_1c2d_a3c3_3057,
-    0xb3f4_7496_ae3a_36a1,
-    0x626b_5754_7b10_8392,
-    0xc1d2_3632_99e4_1531,
-    0x667c_c192_3f1a_d944,
-    0x6570_4ffe_c813_8825,
-    0x24f2_80d1_c289_49a6,
-    0xc2ca_1ced_faf8_876b,
-    0xc216_4bfc_9f04_2196,
-    0xa16e_9c93_68b1_d623,
-    0x49fb_169c_8b51_14fd,
-    0x9f31_43f8_df07_4c46,
-    0xc6fd_af24_12cc_86b3,
-    0x7eaf_49d1_0a52_098f,
-    0x1cf3_1355_9d29_2f9a,
-    0xc44a_30dd_a2f4_1f12,
-    0x36fa_e989_43a7_1ed0,
-    0x318f_b34c_73f0_bce6,
-    0xa27a_bf36_70a7_e980,
-    0xb4bc_c0db_243c_6d75,
-    0x23f8_d852_fdb7_1513,
-    0x8f03_5f4d_a67d_8a08,
-    0xd89c_d0e5_b7e8_f148,
-    0xf6f4_e6bc_f7a6_44ee,
-    0xaec5_9ad8_0f18_37f2,
-    0xc3b2_f615_4b66_94e0,
-    0x9d19_9062_b7bb_b3a8,
-];
+const KEYED: &str = "
+    abac0158050fc4dc c9f49bf37d57ca93 82cb9b024dc7d44d 8bf80ab8e7ddf7fb cf75576088d38328 def9d52f49533b67
+    c50d2b50c59f22a7 d3927d989bb11140 369095118d299a8e 25a48eb36c063de4 79de85ee92ff097f 70c118c1f94dc352
+    78a384b157b4d9a2 306f760c1229ffa7 605aa111c0f95d34 d320d86d2a519956 cc4fdd1a7d908b66 9cf2689063dbd80c
+    8ffc389cb473e63e f21f9de58d297d1c c0dc2f46a6cce040 b992abfe2b45f844 7ffe7b9ba320872e 525a0e7fdae6c123
+    f464aeb267349c8c 45cd5928705b0979 3a3e35e3ca9913a5 a91dc74e4ade3b35 fb0bed02ef6cd00d 88d93cb44ab1e1f4
+    540f11d643c5e663 2370dd1f8c21d1bc 81157b6c16a7b60d 4d54b9e57a8ff9bf 759f12781f2a753e cea1a3bebf186b91
+    2cf508d3ada26206 b6101c2da3c33057 b3f47496ae3a36a1 626b57547b108392 c1d2363299e41531 667cc1923f1ad944
+    65704ffec8138825 24f280d1c28949a6 c2ca1cedfaf8876b c2164bfc9f042196 a16e9c9368b1d623 49fb169c8b5114fd
+    9f3143f8df074c46 c6fdaf2412cc86b3 7eaf49d10a52098f 1cf313559d292f9a c44a30dda2f41f12 36fae98943a71ed0
+    318fb34c73f0bce6 a27abf3670a7e980 b4bcc0db243c6d75 23f8d852fdb71513 8f035f4da67d8a08 d89cd0e5b7e8f148
+    f6f4e6bcf7a644ee aec59ad80f1837f2 c3b2f6154b6694e0 9d199062b7bbb3a8
+";
 
 // How many of the bytes 0, 1, .., 255, 0, 1, .. there are, and their hash with the keys
 // above. The length wraps at 256.
@@ -179,13 +73,19 @@ fn is_keyed(rt: &impl Abort, bytes: &[u8], wanted: u64) {
     same(rt, (len, hash_of(KEY0, KEY1, bytes)), (len, wanted));
 }
 
+// One of the hashes above.
+fn listed(rt: &impl Abort, list: &str, place: usize) -> u64 {
+    let word = list.split_whitespace().nth(place).expect(rt, "no hash");
+    u64::from_str_radix(word, 16).expect(rt, word)
+}
+
 #[test]
 fn bytes_have_the_hashes_of_rust(rt: HostRuntime) {
     let bytes = upward();
     for len in 0..64 {
         let plain = hash_of(0, 0, &bytes[..len]);
-        same(&rt, (len, plain), (len, PLAIN[len]));
-        is_keyed(&rt, &bytes[..len], KEYED[len]);
+        same(&rt, (len, plain), (len, listed(&rt, PLAIN, len)));
+        is_keyed(&rt, &bytes[..len], listed(&rt, KEYED, len));
     }
     for (len, hash) in LONG {
         is_keyed(&rt, &bytes[..len], hash);
@@ -207,11 +107,8 @@ fn writes_may_be_split_anywhere(rt: HostRuntime) {
     for first in 0..20 {
         for second in first..63 {
             let hash = written(&bytes[..first], &bytes[first..second], second as u8);
-            same(
-                &rt,
-                (first, second, hash),
-                (first, second, KEYED[second + 1]),
-            );
+            let wanted = listed(&rt, KEYED, second + 1);
+            same(&rt, (first, second, hash), (first, second, wanted));
         }
     }
 }

@@ -1,5 +1,6 @@
 //! Room in one buffer, and the ends of strings. The other calls of packed tables are made by the scripts.
-use super::assertions::{holds, same};
+use crate::support::builders::Fold;
+use crate::tests::assertions::{holds, same};
 use intaglio::packed::{Packed, PackedForm, StrKind};
 use intaglio::{BaseInterner, ByteStore, Content, Indexed, Lends, LookedUpIn, Symbol, TableOver};
 use intaglio_core::Store;
@@ -8,7 +9,6 @@ use std::alloc::Global;
 use std::fmt::Debug;
 use std::hash::BuildHasher;
 use std::process::Abort;
-use test_support::builders::Fold;
 
 // An empty table, without room.
 fn empty<'q, K: PackedForm<'q>>(rt: &impl Abort, alloc: Global) -> TableOver<Packed<K>, Fold> {

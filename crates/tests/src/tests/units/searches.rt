@@ -1,12 +1,12 @@
 //! How many contents a search compares, and how often it hashes, if many hashes are equal or share a bucket.
-use super::assertions::same;
 use super::counting::{Counting, CountsComparisons};
+use super::expected_writes::ExpectedWrites;
+use crate::support::builders::{Counted, HasherCount};
+use crate::tests::assertions::same;
 use intaglio::{Core, Symbol, Work};
 use std::alloc::Global;
 use std::fmt::Write;
 use std::process::Abort;
-use test_support::builders::{Counted, HasherCount};
-use test_support::expected_writes::ExpectedWrites;
 
 // Texts, many of which share a bucket, and what their searches do.
 #[derive(Clone, Copy)]

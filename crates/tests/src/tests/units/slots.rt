@@ -3,7 +3,7 @@ ghost use Rattle.std.specs.Prelude.{◌≡◌, ◌<◌, ◌≤◌, [], List, len
 ghost use Rattle.intaglio_records.specs.Line.{Entry};
 ghost use Rattle.intaglio_records.specs.Chains.{AreLines, HaveRoom, IsFilled, places_of};
 
-use super::assertions::same;
+use crate::tests::assertions::same;
 use intaglio_records::Lines;
 use std::process::Abort;
 

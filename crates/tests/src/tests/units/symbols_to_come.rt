@@ -1,7 +1,7 @@
 //! The iterator over the symbols of a table: tests of what the scripts don't test.
-use super::assertions::{copy_of, holds, same};
+use crate::support::builders::hash_of;
+use crate::tests::assertions::{copy_of, holds, same};
 use intaglio::{AllSymbols, Symbol};
-use test_support::builders::hash_of;
 
 #[test]
 fn the_last_symbol_of_a_full_table(rt: HostRuntime) {

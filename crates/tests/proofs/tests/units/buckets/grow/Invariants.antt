@@ -1,5 +1,5 @@
 use Rattle.std.proofs.Common.{◌≡◌, ◌≤◌, length}
-use Rattle.unit_tests.proofs.tests.buckets.grow.Given as goal
+use Rattle.tests.proofs.tests.units.buckets.grow.Given as goal
 
 abbrev pub invariant-loop-number : goal.invariant-loop-number
 invariant-loop-number g l = record {

@@ -1,7 +1,7 @@
 use Rattle.std.proofs.Common.{[], arith}
 use Rattle.intaglio_records.specs.Records.{record_room_of}
 use Rattle.intaglio_records.proofs.IndexLemmas.{over_less}
-use Rattle.unit_tests.proofs.tests.records.clear.Goals as goal
+use Rattle.tests.proofs.tests.units.records.clear.Goals as goal
 
 pub returns : goal.returns
 returns c =

@@ -1,6 +1,6 @@
 use Rattle.intaglio_records.specs.Records.{record_room_of}
 use Rattle.intaglio_records.proofs.IndexLemmas.{over_short}
-use Rattle.unit_tests.proofs.tests.records.follow.Goals as goal
+use Rattle.tests.proofs.tests.units.records.follow.Goals as goal
 
 pub returns-then-is_short : goal.returns-then-is_short
 returns-then-is_short g c =

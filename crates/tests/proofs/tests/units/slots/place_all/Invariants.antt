@@ -1,7 +1,7 @@
 use Rattle.std.proofs.Common.{◌≡◌, List, length}
 use Rattle.intaglio_records.specs.Line.{Entry}
 use Rattle.intaglio_records.specs.Chains.{IsFilled, places_of}
-use Rattle.unit_tests.proofs.tests.slots.place_all.Given as goal
+use Rattle.tests.proofs.tests.units.slots.place_all.Given as goal
 
 abbrev pub invariant-loop-number : goal.invariant-loop-number
 invariant-loop-number l = record {
