@@ -8,7 +8,7 @@ use intaglio::{BaseInterner, ContentOf, Reply, RoomError, TableError, TableOver}
 use intaglio_frozen::StringList;
 use std::alloc::{AllocError, Global};
 use tests::support::builders::{Counted, HasherCount};
-use tests::support::stores::{TestStore, make_table, updated};
+use tests::support::stores::{Made, TestStore, make_table, updated};
 
 /// What a run takes: the borrowed forms of all words, and the contents of each call, twice, since a failed
 /// call drops its own. Those of the first call come last.
@@ -60,7 +60,7 @@ impl<L: TestStore> Given<L> {
 /// A table with its list, and what was printed so far.
 #[derive(Drop)]
 pub struct Course<L: TestStore, S: HasherCount> {
-    pub table: TableOver<L, S>,
+    table: TableOver<L, S>,
     given: Given<L>,
     by_run: bool,
     // how many words the table holds
@@ -76,13 +76,22 @@ pub fn watch<L: TestStore>(rt: &(impl Eprint + AllocGlobal), run: Run) -> Result
 where
     TableOver<L, L::Hasher>: StringList,
 {
+    let _table = left_by::<L>(rt, run)?;
+    Ok(())
+}
+
+/// The table after a run.
+pub fn left_by<L: TestStore>(rt: &(impl Eprint + AllocGlobal), run: Run) -> Result<Made<L>, Fault>
+where
+    TableOver<L, L::Hasher>: StringList,
+{
     let given = Given::<L>::make(rt.alloc(), run.3)?;
     tell(rt, "table", 0);
     let made = make_table::<L>(rt.alloc(), run.1);
     Course::new(made, given, run.2)?.play(rt, run.3)
 }
 
-/// The same with equal hashes.
+/// Makes a run under equal hashes.
 pub fn watch_equal<L: TestStore>(rt: &(impl Eprint + AllocGlobal), run: Run) -> Result<(), Fault>
 where
     TableOver<L, Counted>: StringList,
@@ -90,7 +99,8 @@ where
     let given = Given::<L>::make(rt.alloc(), run.3)?;
     tell(rt, "table", 0);
     let made = TableOver::with_hasher(rt.alloc(), Counted::new(Some(7)));
-    Course::new(made, given, run.2)?.play(rt, run.3)
+    let _table = Course::new(made, given, run.2)?.play(rt, run.3)?;
+    Ok(())
 }
 
 impl<L: TestStore, S: HasherCount> Course<L, S>
@@ -113,13 +123,18 @@ where
         })
     }
 
-    fn play(mut self, rt: &(impl Eprint + AllocGlobal), parts: &[Calls]) -> Result<(), Fault> {
+    // Makes the calls, and returns the table.
+    fn play(
+        mut self,
+        rt: &(impl Eprint + AllocGlobal),
+        parts: &[Calls],
+    ) -> Result<TableOver<L, S>, Fault> {
         for calls in parts {
             if !self.make_calls(rt, calls) {
                 return Err(self.fault);
             }
         }
-        Ok(())
+        Ok(self.table)
     }
 
     fn make_calls(&mut self, rt: &(impl Eprint + AllocGlobal), calls: Calls) -> bool {

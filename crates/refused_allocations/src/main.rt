@@ -3,8 +3,8 @@
 //!
 //! It prints each call to standard error before it makes it, and each failure for memory that a call reports,
 //! so that a harness that refuses requests for memory sees which call reported which. Without arguments it
-//! makes all runs; with a table's name and a run's, that one; with `rows` in place of a table's name, the
-//! runs on a table of texts, or with `absorb` tables that absorb another one.
+//! makes all runs; with a table's name and a run's, that one; with `absorb` in place of a table's name, tables
+//! that absorb another one.
 #![tactic(auto)]
 
 mod absorbing;
@@ -16,11 +16,11 @@ mod runs;
 mod words;
 
 use absorbing::absorb_each;
-use course::{watch, watch_equal};
+use course::{left_by, watch, watch_equal};
 use fault::Fault;
 use intaglio::packed::{Packed, PackedForm};
-use intaglio::{ContentOf, Table, TableOver};
-use runs::RUNS;
+use intaglio::{ContentOf, StrContent};
+use runs::{RUNS, Run};
 use std::env;
 use std::process::ExitCode;
 use std::rt::Env;
@@ -28,37 +28,11 @@ use tests::support::kinds::{
     BStrKind, BytesKind, CStrKind, OsStrKind, PathKind, StrKind, TestKind,
 };
 
-const ALL: [(&str, &str); 11] = [
-    (
-        "text",
-        "calls cut replies cut_replies making forms no_memory first room known equal",
-    ),
-    (
-        "osstr",
-        "calls cut replies cut_replies making forms no_memory",
-    ),
-    (
-        "path",
-        "calls cut replies cut_replies making forms no_memory",
-    ),
-    (
-        "bytes",
-        "calls cut replies cut_replies making forms no_memory",
-    ),
-    (
-        "bstr",
-        "calls cut replies cut_replies making forms no_memory",
-    ),
-    (
-        "cstr",
-        "calls cut replies cut_replies making forms no_memory",
-    ),
-    ("packed_text", "forms quiet"),
-    ("packed_osstr", "forms quiet"),
-    ("packed_path", "forms quiet"),
-    ("packed_bytes", "forms quiet"),
-    ("packed_bstr", "forms quiet"),
-];
+const OWNED: &str = "text osstr path bytes bstr cstr";
+
+const OWNED_RUNS: &str = "calls cut replies cut_replies making forms no_memory first room equal";
+
+const PACKED: &str = "packed_text packed_osstr packed_path packed_bytes packed_bstr";
 
 fn main(rt: HostRuntime) -> ExitCode {
     match asked(&rt) {
@@ -89,17 +63,25 @@ fn asked<R: Env + Eprint + AllocGlobal>(rt: &R) -> Result<(), Fault> {
 }
 
 fn all(rt: &(impl Eprint + AllocGlobal)) -> Result<(), Fault> {
-    for (table, runs) in ALL {
+    each(rt, OWNED, OWNED_RUNS)?;
+    each(rt, PACKED, "forms quiet")?;
+    one(rt, "text", "known")?;
+    absorb_each(rt)
+}
+
+fn each(rt: &(impl Eprint + AllocGlobal), tables: &str, runs: &str) -> Result<(), Fault> {
+    for table in tables.split(' ') {
         for run in runs.split(' ') {
             one(rt, table, run)?;
         }
     }
-    absorb_each(rt)
+    Ok(())
 }
 
 // One run on one table.
 fn one(rt: &(impl Eprint + AllocGlobal), table: &str, run: &str) -> Result<(), Fault> {
     match table {
+        "text" if run == "known" => known(rt),
         "text" => on_owned::<StrKind>(rt, run),
         "osstr" => on_owned::<OsStrKind>(rt, run),
         "path" => on_owned::<PathKind>(rt, run),
@@ -111,23 +93,35 @@ fn one(rt: &(impl Eprint + AllocGlobal), table: &str, run: &str) -> Result<(), F
         "packed_path" => on_packed::<PathKind>(rt, run),
         "packed_bytes" => on_packed::<BytesKind>(rt, run),
         "packed_bstr" => on_packed::<BStrKind>(rt, run),
-        "absorbing" => absorb_each(rt),
+        "absorb" => absorb_each(rt),
         _ => Err(Fault::Words),
     }
 }
 
+fn run_of(name: &str) -> Result<Run, Fault> {
+    let run = RUNS.iter().find(|run| run.0 == name);
+    run.copied().ok_or(Fault::Words)
+}
+
 fn on_owned<K: TestKind>(rt: &(impl Eprint + AllocGlobal), name: &str) -> Result<(), Fault> {
-    let run = RUNS.iter().find(|run| run.0 == name).ok_or(Fault::Words)?;
     if name == "equal" {
-        return watch_equal::<Vec<ContentOf<K>>>(rt, *run);
+        return watch_equal::<Vec<ContentOf<K>>>(rt, run_of(name)?);
     }
-    watch::<Vec<ContentOf<K>>>(rt, *run)
+    watch::<Vec<ContentOf<K>>>(rt, run_of(name)?)
 }
 
 fn on_packed<K: TestKind + PackedForm<'static>>(
     rt: &(impl Eprint + AllocGlobal),
     name: &str,
 ) -> Result<(), Fault> {
-    let run = RUNS.iter().find(|run| run.0 == name).ok_or(Fault::Words)?;
-    watch::<Packed<K>>(rt, *run)
+    watch::<Packed<K>>(rt, run_of(name)?)
+}
+
+// A word that a table of texts holds is got without memory.
+fn known(rt: &(impl Eprint + AllocGlobal)) -> Result<(), Fault> {
+    let table = left_by::<Vec<StrContent>>(rt, run_of("known")?)?;
+    match table.get_interned("abc") {
+        Some((symbol, "abc")) if symbol.is(0) => Ok(()),
+        _ => Err(Fault::State(0)),
+    }
 }

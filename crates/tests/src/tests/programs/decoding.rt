@@ -1,40 +1,25 @@
 //! What decoding writes for whole inputs, and its errors, with readers and writers that fail.
-use super::fakes::{SlowReader, SmallWriter, StuckWriter, UnflushedWriter};
+use super::fakes::{SmallWriter, StuckWriter, UnflushedWriter, failing, is, repeated, slow};
+use crate::support::kinds::Host;
 use crate::tests::assertions::holds;
 use intaglio_decode::error::RestoreError;
 use intaglio_decode::restore::restore;
 use intaglio_decode::serve::serve;
 use intaglio_lines::error::{StreamError, report};
 use std::io::{ErrorKind, Read, Write};
-use std::process::Abort;
 
 const INPUT: &[u8] = b"0\n1\n0\n\nb\na\n";
 
 const OUTPUT: &[u8] = b"b\na\nb\n";
 
-fn is(rt: &impl Abort, bytes: &Vec<u8>, wanted: &[u8]) {
-    assert!(rt; bytes.as_slice() == wanted);
-}
-
-// Gives the input byte by byte.
-fn slow(input: &[u8]) -> SlowReader<'_> {
-    SlowReader {
-        rest: input,
-        step: 1,
-        reads: 0,
-        fails_at: 0,
-        kind: ErrorKind::Other,
-    }
-}
-
-fn runs<Rt: Abort + AllocGlobal, R: Read>(rt: &Rt, reader: &mut R, output: &[u8]) {
+fn runs<R: Read>(rt: &impl Host, reader: &mut R, output: &[u8]) {
     let mut written = Vec::new(rt.alloc());
     holds(rt, restore(rt.alloc(), reader, &mut written).is_ok());
     is(rt, &written, output);
 }
 
 // The output for the input, read at once and byte by byte.
-fn gives<Rt: Abort + AllocGlobal>(rt: &Rt, input: &[u8], output: &[u8]) {
+fn gives(rt: &impl Host, input: &[u8], output: &[u8]) {
     runs(rt, &mut { input }, output);
     runs(rt, &mut slow(input), output);
 }
@@ -51,10 +36,6 @@ fn symbols_become_their_strings(rt: HostRuntime) {
     gives(&rt, b"10\n\n\n1\n2\n3\n4\n5\n6\n7\n8\n9\nk\n", b"k\n");
 }
 
-fn repeated<Rt: Abort + AllocGlobal>(rt: &Rt, text: &str, count: usize) -> String {
-    text.repeat(rt.alloc(), count).expect(rt, "no memory")
-}
-
 // A string of 80,000 bytes, and 40,000 lines: both are longer than a block.
 #[test]
 fn strings_longer_than_a_block_are_written_whole(rt: HostRuntime) {
@@ -69,17 +50,13 @@ fn strings_longer_than_a_block_are_written_whole(rt: HostRuntime) {
 }
 
 // The exit status of a run on the input, and what it writes to its two writers.
-fn serves<Rt: Abort + AllocGlobal>(
-    rt: &Rt,
-    has_arguments: bool,
-    input: &[u8],
-    wanted: (u8, &[u8], &[u8]),
-) {
+fn serves(rt: &impl Host, has_arguments: bool, input: &[u8], wanted: (u8, &[u8], &[u8])) {
     let (mut written, mut reported) = (Vec::new(rt.alloc()), Vec::new(rt.alloc()));
+    let reader = &mut { input };
     let status = serve(
         rt.alloc(),
         has_arguments,
-        &mut { input },
+        reader,
         &mut written,
         &mut reported,
     );
@@ -133,17 +110,17 @@ fn the_first_line_that_is_wrong_is_reported(rt: HostRuntime) {
 }
 
 // If the read with this number fails, the run ends; if it is only interrupted, the run goes on.
-fn fails_at<Rt: Abort + AllocGlobal>(rt: &Rt, number: u64) {
+fn fails_at(rt: &impl Host, number: u64) {
     let (mut written, mut reported) = (Vec::new(rt.alloc()), Vec::new(rt.alloc()));
-    let mut failing = slow(INPUT);
-    failing.fails_at = number;
-    let status = serve(rt.alloc(), false, &mut failing, &mut written, &mut reported);
+    let mut other = failing(INPUT, number, ErrorKind::Other);
+    let status = serve(rt.alloc(), false, &mut other, &mut written, &mut reported);
     holds(rt, status == 1 && written.is_empty());
     is(rt, &reported, b"read failed\n");
-    let mut interrupted = slow(INPUT);
-    interrupted.fails_at = number;
-    interrupted.kind = ErrorKind::Interrupted;
-    runs(rt, &mut interrupted, OUTPUT);
+    runs(
+        rt,
+        &mut failing(INPUT, number, ErrorKind::Interrupted),
+        OUTPUT,
+    );
 }
 
 #[test]
@@ -153,7 +130,7 @@ fn failed_reads_end_the_decoding_and_interrupted_ones_do_not(rt: HostRuntime) {
     }
 }
 
-fn fails_to_write<Rt: Abort + AllocGlobal, W: Write>(rt: &Rt, writer: &mut W) {
+fn fails_to_write<W: Write>(rt: &impl Host, writer: &mut W) {
     let mut reported = Vec::new(rt.alloc());
     let status = serve(rt.alloc(), false, &mut { INPUT }, writer, &mut reported);
     holds(rt, status == 1);

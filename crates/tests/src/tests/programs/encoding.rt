@@ -1,5 +1,6 @@
 //! What encoding writes for whole inputs, and its errors, with readers and writers that fail.
-use super::fakes::{SlowReader, SmallWriter, StuckWriter, UnflushedWriter};
+use super::fakes::{SmallWriter, StuckWriter, UnflushedWriter, failing, is, repeated, slow};
+use crate::support::kinds::Host;
 use crate::tests::assertions::holds;
 use intaglio_encode::encode::encode;
 use intaglio_encode::serve::serve;
@@ -9,7 +10,6 @@ use intaglio_lines::tool_error::ToolError;
 use std::alloc::Global;
 use std::hash::{BuildHasherDefault, FoldHasher};
 use std::io::{ErrorKind, Read, Write};
-use std::process::Abort;
 
 type Builder = BuildHasherDefault<FoldHasher>;
 
@@ -18,10 +18,6 @@ const INPUT: &[u8] = b"b\na\nb";
 const OUTPUT: &[u8] = b"0\n1\n0\n\nb\na\n";
 
 const USAGE: &[u8] = b"usage: intaglio_tool text|bytes|bstr|cstr|osstr|path\n";
-
-fn is(rt: &impl Abort, bytes: &Vec<u8>, wanted: &[u8]) {
-    assert!(rt; bytes.as_slice() == wanted);
-}
 
 fn run<R: Read, W: Write>(
     alloc: Global,
@@ -33,30 +29,15 @@ fn run<R: Read, W: Write>(
     encode(alloc, kind, builder, reader, writer)
 }
 
-// Gives the input byte by byte.
-fn slow(input: &[u8]) -> SlowReader<'_> {
-    SlowReader {
-        rest: input,
-        step: 1,
-        reads: 0,
-        fails_at: 0,
-        kind: ErrorKind::Other,
-    }
-}
-
 // The output for the input, read at once and byte by byte.
-fn writes<Rt: Abort + AllocGlobal>(rt: &Rt, kind: Kind, input: &[u8], output: &[u8]) {
+fn writes(rt: &impl Host, kind: Kind, input: &[u8], output: &[u8]) {
     let mut written = Vec::new(rt.alloc());
-    holds(
-        rt,
-        run(rt.alloc(), kind, &mut { input }, &mut written).is_ok(),
-    );
+    let at_once = run(rt.alloc(), kind, &mut { input }, &mut written);
+    holds(rt, at_once.is_ok());
     is(rt, &written, output);
     written.clear();
-    holds(
-        rt,
-        run(rt.alloc(), kind, &mut slow(input), &mut written).is_ok(),
-    );
+    let in_bytes = run(rt.alloc(), kind, &mut slow(input), &mut written);
+    holds(rt, in_bytes.is_ok());
     is(rt, &written, output);
 }
 
@@ -68,10 +49,6 @@ fn lines_become_symbols_and_spellings(rt: HostRuntime) {
     writes(&rt, Kind::Text, b"\n\n", b"0\n0\n\n\n");
     writes(&rt, Kind::Text, b"a\r\na", b"0\n1\n\na\r\na\n");
     writes(&rt, Kind::Text, b"\0", b"0\n\n\0\n");
-}
-
-fn repeated<Rt: Abort + AllocGlobal>(rt: &Rt, text: &str, count: usize) -> String {
-    text.repeat(rt.alloc(), count).expect(rt, "no memory")
 }
 
 // What is written of a line of 80,000 bytes, and of 40,000 lines: both are longer than a block.
@@ -95,17 +72,13 @@ fn lines_of_several_groups_are_taken_in_order(rt: HostRuntime) {
     let output = format!(in rt.alloc(); "{symbols}1\n0\n\na\nb\n").expect(&rt, "no memory");
     writes(&rt, Kind::Text, input.as_bytes(), output.as_bytes());
     let input = format!(in rt.alloc(); "{lines}b\0\n").expect(&rt, "no memory");
-    let told = (
-        1,
-        b"".as_slice(),
-        b"line 101 holds a zero byte\n".as_slice(),
-    );
-    seeded(&rt, "cstr", input.as_bytes(), told);
+    let told = b"line 101 holds a zero byte\n";
+    seeded(&rt, "cstr", input.as_bytes(), (1, b"", told));
 }
 
 // What the program writes for the words of `arguments`, the errors that it writes, and its exit status.
-fn serves<Rt: Abort + AllocGlobal, R: Read>(
-    rt: &Rt,
+fn serves<R: Read>(
+    rt: &impl Host,
     arguments: &str,
     builder: Option<Builder>,
     reader: &mut R,
@@ -124,28 +97,10 @@ fn serves<Rt: Abort + AllocGlobal, R: Read>(
 }
 
 // The same with a seed, read at once and byte by byte.
-fn seeded<Rt: Abort + AllocGlobal>(
-    rt: &Rt,
-    arguments: &str,
-    input: &[u8],
-    wanted: (u8, &[u8], &[u8]),
-) {
-    let at_once = &mut { input };
-    serves(
-        rt,
-        arguments,
-        Some(BuildHasherDefault::new()),
-        at_once,
-        wanted,
-    );
-    let in_bytes = &mut slow(input);
-    serves(
-        rt,
-        arguments,
-        Some(BuildHasherDefault::new()),
-        in_bytes,
-        wanted,
-    );
+fn seeded(rt: &impl Host, arguments: &str, input: &[u8], wanted: (u8, &[u8], &[u8])) {
+    let builder: Builder = BuildHasherDefault::new();
+    serves(rt, arguments, Some(builder), &mut { input }, wanted);
+    serves(rt, arguments, Some(builder), &mut slow(input), wanted);
 }
 
 #[test]
@@ -168,7 +123,7 @@ fn a_run_with_a_seed_succeeds_and_one_without_is_told(rt: HostRuntime) {
     serves(&rt, "text", None, &mut { INPUT }, told);
 }
 
-fn tells<Rt: Abort + AllocGlobal>(rt: &Rt, fault: ToolError, wanted: &[u8]) {
+fn tells(rt: &impl Host, fault: ToolError, wanted: &[u8]) {
     let mut told = Vec::new(rt.alloc());
     report(fault, &mut told);
     is(rt, &told, wanted);
@@ -185,18 +140,13 @@ fn faults_have_their_texts(rt: HostRuntime) {
 }
 
 // If the read with this number fails, the run ends; if it is only interrupted, the run goes on.
-fn fails_at<Rt: Abort + AllocGlobal>(rt: &Rt, number: u64) {
+fn fails_at(rt: &impl Host, number: u64) {
     let mut written = Vec::new(rt.alloc());
-    let mut failing = slow(INPUT);
-    failing.fails_at = number;
-    let failed = run(rt.alloc(), Kind::Text, &mut failing, &mut written);
-    holds(
-        rt,
-        matches!(failed, Err(ToolError::Read)) && written.is_empty(),
-    );
-    let mut interrupted = slow(INPUT);
-    interrupted.fails_at = number;
-    interrupted.kind = ErrorKind::Interrupted;
+    let mut other = failing(INPUT, number, ErrorKind::Other);
+    let failed = run(rt.alloc(), Kind::Text, &mut other, &mut written);
+    holds(rt, matches!(failed, Err(ToolError::Read)));
+    holds(rt, written.is_empty());
+    let mut interrupted = failing(INPUT, number, ErrorKind::Interrupted);
     let ended = run(rt.alloc(), Kind::Text, &mut interrupted, &mut written);
     holds(rt, ended.is_ok());
     is(rt, &written, OUTPUT);
@@ -209,7 +159,7 @@ fn failed_reads_end_the_run_and_interrupted_ones_do_not(rt: HostRuntime) {
     }
 }
 
-fn is_told<Rt: Abort + AllocGlobal, W: Write>(rt: &Rt, writer: &mut W) {
+fn is_told<W: Write>(rt: &impl Host, writer: &mut W) {
     let answer = run(rt.alloc(), Kind::Text, &mut { INPUT }, writer);
     holds(rt, matches!(answer, Err(ToolError::Write)));
 }
@@ -242,16 +192,8 @@ fn modes_take_what_their_kind_takes(rt: HostRuntime) {
 
 #[test]
 fn a_zero_byte_is_told_by_the_first_line_that_holds_one(rt: HostRuntime) {
-    seeded(
-        &rt,
-        "cstr",
-        b"a\nb\x00\n",
-        (1, b"", b"line 2 holds a zero byte\n"),
-    );
-    seeded(
-        &rt,
-        "cstr",
-        b"\x00\n\x00",
-        (1, b"", b"line 1 holds a zero byte\n"),
-    );
+    let second = b"line 2 holds a zero byte\n";
+    seeded(&rt, "cstr", b"a\nb\x00\n", (1, b"", second));
+    let first = b"line 1 holds a zero byte\n";
+    seeded(&rt, "cstr", b"\x00\n\x00", (1, b"", first));
 }
