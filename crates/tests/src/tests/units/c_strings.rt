@@ -1,4 +1,5 @@
 //! Which bytes `CStr` and `CString` accept, and the errors for the others.
+use crate::support::kinds::Host;
 use crate::tests::assertions::{holds, same};
 use intaglio::cstr::{CStr, CStrError, CString, CStringError};
 use std::alloc::{AllocError, Global};
@@ -37,15 +38,14 @@ fn makes(alloc: Global, bytes: &[u8], wanted: Result<&[u8], usize>) -> bool {
 // Asserts what `from_bytes_with_nul` and `from_vec_with_nul` return, the spelling, and what `new` returns:
 // the bytes with the final zero, or the position of the first one.
 fn agrees(
-    rt: &impl Abort,
-    alloc: Global,
+    rt: &impl Host,
     bytes: &[u8],
     read: Result<&[u8], CStrError>,
     made: Result<&[u8], usize>,
 ) {
     holds(rt, reads(bytes, read));
-    holds(rt, takes(alloc, bytes, read));
-    holds(rt, makes(alloc, bytes, made));
+    holds(rt, takes(rt.alloc(), bytes, read));
+    holds(rt, makes(rt.alloc(), bytes, made));
 }
 
 // Bytes, what `from_bytes_with_nul` returns, and what `new` does.
@@ -69,7 +69,7 @@ static VECTORS: [Vector; 8] = [
 #[test]
 fn constructors_agree_with_the_vectors(rt: HostRuntime) {
     for (bytes, read, made) in VECTORS {
-        agrees(&rt, rt.alloc(), bytes, read, made);
+        agrees(&rt, bytes, read, made);
     }
     holds(&rt, reads(b"abc", MISSING));
 }

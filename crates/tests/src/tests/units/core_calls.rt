@@ -4,6 +4,7 @@
 //! Functions over any store make the calls, and functions over any kind call those, since the prover takes
 //! seconds wherever a table of one kind is passed to a function over any store.
 use crate::support::builders::Fold;
+use crate::support::kinds::Host;
 use crate::tests::assertions::same;
 use intaglio_core::{
     BaseInterner, BytesContent, Call, Content, ContentOf, Core, Indexed, IndexedStore, InternError,
@@ -38,43 +39,39 @@ fn each_constructor_makes_a_table(rt: HostRuntime) {
 }
 
 // The symbol of a content in an empty table.
-fn interned<K: KindOwned>(
-    rt: &impl Abort,
-    alloc: Global,
-    content: ContentOf<K>,
-) -> Result<Symbol, InternError> {
-    let mut table: Core<ContentOf<K>, Fold> = Core::with_capacity(alloc, 0).expect(rt, "memory");
+fn interned<K: KindOwned>(rt: &impl Host, content: ContentOf<K>) -> Result<Symbol, InternError> {
+    let mut table: Core<ContentOf<K>, Fold> = Core::with_capacity(rt.alloc(), 0).expect(
+        rt, "memory",
+    );
     table.intern_counted(content, &mut Work::new())
 }
 
 #[test]
 fn a_counted_interning_gives_the_symbol(rt: HostRuntime) {
-    let symbol = interned(&rt, rt.alloc(), StrContent::from("abc"));
+    let symbol = interned(&rt, StrContent::from("abc"));
     same(&rt, symbol, Ok(Symbol::new(0)));
 }
 
 // A table of the texts of a line, which are separated by spaces.
 fn table_of<S: BuildHasher + Drop>(
-    rt: &impl Abort,
-    alloc: Global,
+    rt: &impl Host,
     hasher: S,
     line: &'static str,
 ) -> Core<StrContent, S> {
-    let mut texts = Vec::new(alloc);
+    let mut texts = Vec::new(rt.alloc());
     for text in line.split(' ') {
         texts.push(StrContent::from(text)).expect(rt, "memory");
     }
-    filled(rt, alloc, hasher, texts)
+    filled(rt, hasher, texts)
 }
 
 // A table of these contents.
 fn filled<K: KindOwned, S: BuildHasher + Drop>(
-    rt: &impl Abort,
-    alloc: Global,
+    rt: &impl Host,
     hasher: S,
     contents: Vec<ContentOf<K>>,
 ) -> Core<ContentOf<K>, S> {
-    let mut table = Core::with_capacity_and_hasher(alloc, 0, hasher).expect(rt, "a table");
+    let mut table = Core::with_capacity_and_hasher(rt.alloc(), 0, hasher).expect(rt, "a table");
     for content in contents {
         table
             .intern(content, &mut Work::new())
@@ -99,14 +96,8 @@ where
 
 fn counts<L: Indexed, S: BuildHasher>(rt: &impl Abort, table: &IndexedStore<L, S>) {
     same(rt, table.is_empty(), false);
-    same(
-        rt,
-        (
-            table.contains(Symbol::new(3)),
-            table.contains(Symbol::new(4)),
-        ),
-        (true, false),
-    );
+    same(rt, table.contains(Symbol::new(3)), true);
+    same(rt, table.contains(Symbol::new(4)), false);
     same(rt, table.all_symbols().nth(3), Some(Symbol::new(3)));
 }
 
@@ -138,18 +129,12 @@ fn changes<K: KindOwned, S: BuildHasher>(rt: &impl Abort, table: &mut Core<Conte
 }
 
 fn reserves<L: Indexed, S: BuildHasher>(rt: &impl Abort, table: &mut IndexedStore<L, S>) {
-    same(
-        rt,
-        (table.reserve(100), table.capacity() >= 104),
-        (Ok(()), true),
-    );
-    same(
-        rt,
-        (table.try_reserve(1000), table.capacity() >= 1004),
-        (Ok(()), true),
-    );
-    let reserved = table.reserve_counted(10_000, &mut Work::new());
-    same(rt, (reserved, table.capacity() >= 10_004), (Ok(()), true));
+    same(rt, table.reserve(100), Ok(()));
+    same(rt, table.capacity() >= 104, true);
+    same(rt, table.try_reserve(1000), Ok(()));
+    same(rt, table.capacity() >= 1004, true);
+    same(rt, table.reserve_counted(10_000, &mut Work::new()), Ok(()));
+    same(rt, table.capacity() >= 10_004, true);
 }
 
 fn shrinks<L: Indexed, S: BuildHasher>(rt: &impl Abort, table: &mut IndexedStore<L, S>) {
@@ -168,16 +153,10 @@ where
     L::Content: Content + SoughtIn<L> + Drop,
     L::Prepared: Drop,
 {
-    same(
-        rt,
-        (table.mark(), BaseInterner::mark(table)),
-        (Mark::new(4), Mark::new(4)),
-    );
-    same(
-        rt,
-        (table.take_back(Mark::new(3)), table.len()),
-        (Ok(()), 3),
-    );
+    same(rt, table.mark(), Mark::new(4));
+    same(rt, BaseInterner::mark(table), Mark::new(4));
+    same(rt, table.take_back(Mark::new(3)), Ok(()));
+    same(rt, table.len(), 3);
     table.clear();
     same(rt, (table.len(), table.capacity()), (0, 4));
 }
@@ -192,26 +171,24 @@ fn gives_back<K: KindOwned, S: BuildHasher>(rt: &impl Abort, table: &mut Core<Co
 #[test]
 fn a_shrink_gives_the_memory_of_the_list_back(rt: HostRuntime) {
     let hasher = RandomState::new(&rt).expect(&rt, "a seed");
-    let mut table = table_of(&rt, rt.alloc(), hasher, "a b c d e");
+    let mut table = table_of(&rt, hasher, "a b c d e");
     gives_back(&rt, &mut table);
 }
 
 #[test]
 fn each_call_is_made_at_random_hashes(rt: HostRuntime) {
     let hasher = RandomState::new(&rt).expect(&rt, "a seed");
-    let mut table = table_of(&rt, rt.alloc(), hasher, "abc xyz 123 789");
+    let mut table = table_of(&rt, hasher, "abc xyz 123 789");
     reads(&rt, &table, &["abc", "xyz", "123", "789"]);
     changes(&rt, &mut table);
 }
 
 // The replies of calls on an empty table.
-fn replies<K: KindOwned>(
-    rt: &impl Abort,
-    alloc: Global,
-    calls: Vec<Call<ContentOf<K>>>,
-) -> Vec<Reply> {
-    let mut table: Core<ContentOf<K>, Fold> = Core::with_capacity(alloc, 0).expect(rt, "memory");
-    run(alloc, &mut table, calls, &mut Work::new()).expect(rt, "replies")
+fn replies<K: KindOwned>(rt: &impl Host, calls: Vec<Call<ContentOf<K>>>) -> Vec<Reply> {
+    let mut table: Core<ContentOf<K>, Fold> = Core::with_capacity(rt.alloc(), 0).expect(
+        rt, "memory",
+    );
+    run(rt.alloc(), &mut table, calls, &mut Work::new()).expect(rt, "replies")
 }
 
 #[test]
@@ -219,7 +196,7 @@ fn a_run_on_a_core_of_bytes_replies_to_each_call(rt: HostRuntime) {
     let first = Call::Intern(BytesContent::from(b"\xffa".as_slice()));
     let again = Call::Check(BytesContent::from(b"\xffa".as_slice()));
     let calls = vec![in rt.alloc(); first, again, Call::Len].expect(&rt, "calls");
-    let replies = replies(&rt, rt.alloc(), calls);
+    let replies = replies(&rt, calls);
     let wanted = [
         Reply::Symbol(Some(Symbol::new(0))),
         Reply::Symbol(Some(Symbol::new(0))),

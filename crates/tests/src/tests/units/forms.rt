@@ -1,10 +1,9 @@
 //! Equal C strings, and the iterators over contents.
 use crate::support::builders::Fold;
+use crate::support::kinds::Host;
 use crate::tests::assertions::{copy_of, holds, same};
 use intaglio::cstr::{CStr, CStrContent};
 use intaglio::{ContentOf, Forms, KindForm, KindOwned, Pairs, StrContent, Symbol, Table};
-use std::alloc::Global;
-use std::process::Abort;
 use std::test::Fail;
 
 #[test]
@@ -16,8 +15,8 @@ fn c_strings_are_compared_by_their_bytes(rt: HostRuntime) {
     holds(&rt, content.form() != other);
 }
 
-fn letters(rt: &impl Abort, alloc: Global) -> Vec<StrContent> {
-    vec![in alloc;
+fn letters(rt: &impl Host) -> Vec<StrContent> {
+    vec![in rt.alloc();
         StrContent::from("a"),
         StrContent::from("b"),
         StrContent::from("c"),
@@ -27,7 +26,7 @@ fn letters(rt: &impl Abort, alloc: Global) -> Vec<StrContent> {
 
 #[test]
 fn forms_are_skipped_counted_and_cloned(rt: HostRuntime) {
-    let contents = letters(&rt, rt.alloc());
+    let contents = letters(&rt);
     let forms = Forms::of(&contents);
     same(&rt, copy_of(&rt, &forms).nth(1), Some("b"));
     same(&rt, copy_of(&rt, &forms).nth_back(1), Some("b"));
@@ -38,7 +37,7 @@ fn forms_are_skipped_counted_and_cloned(rt: HostRuntime) {
 
 #[test]
 fn pairs_are_skipped_counted_and_cloned(rt: HostRuntime) -> Result<(), Fail> {
-    let contents = letters(&rt, rt.alloc());
+    let contents = letters(&rt);
     assert!(&rt; contents.len() == 3);
     let pairs = Pairs::of(&contents);
     same(&rt, pairs.clone()?.count(), 3);
@@ -50,11 +49,10 @@ fn pairs_are_skipped_counted_and_cloned(rt: HostRuntime) -> Result<(), Fail> {
 // A table of these contents. The prover takes seconds wherever a table of one kind is passed to a function
 // over any store, so this is over any kind.
 fn table_of<K: KindOwned>(
-    rt: &impl Abort,
-    alloc: Global,
+    rt: &impl Host,
     contents: Vec<ContentOf<K>>,
 ) -> Table<ContentOf<K>, Fold> {
-    let mut table = Table::new(alloc).expect(rt, "no table");
+    let mut table = Table::new(rt.alloc()).expect(rt, "no table");
     for content in contents {
         table.intern(content).expect(rt, "no symbol");
     }
@@ -73,6 +71,6 @@ fn the_pairs_of_a_table_are_counted(rt: HostRuntime) {
         StrContent::from("123"),
         StrContent::from("789"),
     ];
-    let table = table_of(&rt, rt.alloc(), texts.expect(&rt, "no memory"));
+    let table = table_of(&rt, texts.expect(&rt, "no memory"));
     same(&rt, count_of_pairs(&table), 4);
 }

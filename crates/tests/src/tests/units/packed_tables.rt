@@ -1,18 +1,18 @@
 //! Room in one buffer, and the ends of strings. The other calls of packed tables are made by the scripts.
 use crate::support::builders::Fold;
+use crate::support::kinds::Host;
 use crate::tests::assertions::{holds, same};
 use intaglio::packed::{Packed, PackedForm, StrKind};
 use intaglio::{BaseInterner, ByteStore, Content, Indexed, Lends, LookedUpIn, Symbol, TableOver};
 use intaglio_core::Store;
 use intaglio_records::{StringBuffer, StringEnds};
-use std::alloc::Global;
 use std::fmt::Debug;
 use std::hash::BuildHasher;
 use std::process::Abort;
 
 // An empty table, without room.
-fn empty<'q, K: PackedForm<'q>>(rt: &impl Abort, alloc: Global) -> TableOver<Packed<K>, Fold> {
-    TableOver::with_capacity_and_hasher(alloc, 0, Fold::new()).expect(rt, "a table")
+fn empty<'q, K: PackedForm<'q>>(rt: &impl Host) -> TableOver<Packed<K>, Fold> {
+    TableOver::with_capacity_and_hasher(rt.alloc(), 0, Fold::new()).expect(rt, "a table")
 }
 
 fn makes_room<L: ByteStore + Indexed, S: BuildHasher>(table: &mut TableOver<L, S>) -> bool
@@ -61,11 +61,10 @@ where
 
 // A table with this form, which made room for more, and gave it up.
 fn with_room_for<'q, K: PackedForm<'q>>(
-    rt: &impl Abort,
-    alloc: Global,
+    rt: &impl Host,
     form: K::Form,
 ) -> TableOver<Packed<K>, Fold> {
-    let mut table = empty::<K>(rt, alloc);
+    let mut table = empty::<K>(rt);
     takes_one(rt, &mut table, form);
     table
 }
@@ -83,7 +82,7 @@ where
 
 #[test]
 fn a_packed_table_has_room_and_gives_it_up(rt: HostRuntime) {
-    let table = with_room_for::<StrKind>(&rt, rt.alloc(), "abc");
+    let table = with_room_for::<StrKind>(&rt, "abc");
     has_form(&rt, &table, "abc");
 }
 
@@ -109,13 +108,8 @@ fn held<'q, K: PackedForm<'q>>(table: &TableOver<Packed<K>, Fold>) -> (usize, us
 
 // Asserts that 4 and 5 strings of 10 and 15 bytes, each with 13 bytes in front, make each room grow to twice
 // what it was, and a shrink leaves none that isn't used.
-fn doubles<'q, K: PackedForm<'q>>(
-    rt: &impl Abort,
-    alloc: Global,
-    four: &[K::Form],
-    fifth: &[K::Form],
-) {
-    let mut table = empty::<K>(rt, alloc);
+fn doubles<'q, K: PackedForm<'q>>(rt: &impl Host, four: &[K::Form], fifth: &[K::Form]) {
+    let mut table = empty::<K>(rt);
     adds(rt, &mut table, four);
     same(rt, held(&table), (4, 4 * 13 + 16));
     adds(rt, &mut table, fifth);
@@ -126,7 +120,7 @@ fn doubles<'q, K: PackedForm<'q>>(
 
 #[test]
 fn a_packed_table_doubles_its_memory_and_gives_it_back(rt: HostRuntime) {
-    doubles::<StrKind>(&rt, rt.alloc(), &["a", "bc", "def", "ghij"], &["klmno"]);
+    doubles::<StrKind>(&rt, &["a", "bc", "def", "ghij"], &["klmno"]);
 }
 
 #[test]
