@@ -8,9 +8,7 @@ use crate::fault::{Fault, tell};
 use crate::results::are_numbered;
 use crate::words::{COUNT, forms_of};
 use intaglio::packed::{Packed, PackedForm};
-use intaglio::{
-    BaseInterner, ContentOf, InternError, KindForm, Table, TableOver, Work, bytes,
-};
+use intaglio::{BaseInterner, ContentOf, InternError, KindForm, Table, TableOver, Work, bytes};
 use intaglio_frozen::StringList;
 use intaglio_hash::FixedState;
 use intaglio_merge::{FromString, absorb};

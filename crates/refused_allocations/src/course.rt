@@ -4,25 +4,29 @@ use crate::fault::{Fault, tell};
 use crate::results::{are_found, are_numbered, c_string, frozen, is_place, is_refused};
 use crate::runs::{Calls, Run};
 use crate::words::{COUNT, forms_of, spelling};
-use intaglio::{BaseInterner, ContentOf, Reply, RoomError, TableError, TableOver};
+use intaglio::{BaseInterner, ContentOf, LookedUpIn, Reply, RoomError, TableError, TableOver};
 use intaglio_frozen::StringList;
 use std::alloc::{AllocError, Global};
+use std::marker::PhantomData;
 use tests::support::builders::{Counted, HasherCount};
+use tests::support::kinds::OfEnded;
 use tests::support::stores::{Made, TestStore, make_table, updated};
 
 /// What a run takes: the borrowed forms of all words, and the contents of each call, twice, since a failed
 /// call drops its own. Those of the first call come last.
 #[derive(Drop)]
-struct Given<L: TestStore> {
+struct Given<'q, L: TestStore + LookedUpIn<'q>> {
     forms: Vec<L::By>,
     contents: Vec<Vec<ContentOf<L::Kind>>>,
+    lifetime: PhantomData<&'q ()>,
 }
 
-impl<L: TestStore> Given<L> {
-    fn make(alloc: Global, parts: &[Calls]) -> Result<Given<L>, AllocError> {
+impl<'q, L: TestStore + LookedUpIn<'q, By: OfEnded>> Given<'q, L> {
+    fn make(alloc: Global, parts: &[Calls<'_>]) -> Result<Given<'q, L>, AllocError> {
         let mut given = Given {
             forms: forms_of(alloc)?,
             contents: Vec::new(alloc),
+            lifetime: PhantomData,
         };
         let mut held = 0;
         for calls in parts {
@@ -32,7 +36,7 @@ impl<L: TestStore> Given<L> {
         Ok(given)
     }
 
-    fn add(&mut self, alloc: Global, calls: Calls, before: usize) -> Result<usize, AllocError> {
+    fn add(&mut self, alloc: Global, calls: Calls<'_>, before: usize) -> Result<usize, AllocError> {
         let mut held = before;
         for (ask, times) in calls {
             for turn in 0..*times {
@@ -59,9 +63,9 @@ impl<L: TestStore> Given<L> {
 
 /// A table with its list, and what was printed so far.
 #[derive(Drop)]
-pub struct Course<L: TestStore, S: HasherCount> {
+pub struct Course<'q, L: TestStore + LookedUpIn<'q>, S: HasherCount> {
     table: TableOver<L, S>,
-    given: Given<L>,
+    given: Given<'q, L>,
     by_run: bool,
     // how many words the table holds
     held: usize,
@@ -71,17 +75,12 @@ pub struct Course<L: TestStore, S: HasherCount> {
     fault: Fault,
 }
 
-/// Makes a run on a new table. Requests for memory before the first printed call aren't the table's.
-pub fn watch<L: TestStore>(rt: &(impl Eprint + AllocGlobal), run: Run) -> Result<(), Fault>
-where
-    TableOver<L, L::Hasher>: StringList,
-{
-    let _table = left_by::<L>(rt, run)?;
-    Ok(())
-}
-
-/// The table after a run.
-pub fn left_by<L: TestStore>(rt: &(impl Eprint + AllocGlobal), run: Run) -> Result<Made<L>, Fault>
+/// Makes a run on a new table, and returns the table. Requests for memory before the first printed call
+/// aren't the table's.
+pub fn left_by<'q, L: TestStore + LookedUpIn<'q, By: OfEnded>>(
+    rt: &(impl Eprint + AllocGlobal),
+    run: Run<'_>,
+) -> Result<Made<L>, Fault>
 where
     TableOver<L, L::Hasher>: StringList,
 {
@@ -92,7 +91,10 @@ where
 }
 
 /// Makes a run under equal hashes.
-pub fn watch_equal<L: TestStore>(rt: &(impl Eprint + AllocGlobal), run: Run) -> Result<(), Fault>
+pub fn watch_equal<'q, L: TestStore + LookedUpIn<'q, By: OfEnded>>(
+    rt: &(impl Eprint + AllocGlobal),
+    run: Run<'_>,
+) -> Result<(), Fault>
 where
     TableOver<L, Counted>: StringList,
 {
@@ -103,15 +105,15 @@ where
     Ok(())
 }
 
-impl<L: TestStore, S: HasherCount> Course<L, S>
+impl<'q, L: TestStore + LookedUpIn<'q, By: OfEnded>, S: HasherCount> Course<'q, L, S>
 where
     TableOver<L, S>: StringList,
 {
     fn new(
         made: Result<TableOver<L, S>, RoomError>,
-        given: Given<L>,
+        given: Given<'q, L>,
         by_run: bool,
-    ) -> Result<Course<L, S>, Fault> {
+    ) -> Result<Course<'q, L, S>, Fault> {
         Ok(Course {
             table: made.map_err(|_| Fault::Answer(0))?,
             given,
@@ -127,7 +129,7 @@ where
     fn play(
         mut self,
         rt: &(impl Eprint + AllocGlobal),
-        parts: &[Calls],
+        parts: &[Calls<'_>],
     ) -> Result<TableOver<L, S>, Fault> {
         for calls in parts {
             if !self.make_calls(rt, calls) {
@@ -137,7 +139,7 @@ where
         Ok(self.table)
     }
 
-    fn make_calls(&mut self, rt: &(impl Eprint + AllocGlobal), calls: Calls) -> bool {
+    fn make_calls(&mut self, rt: &(impl Eprint + AllocGlobal), calls: Calls<'_>) -> bool {
         for (ask, times) in calls {
             for turn in 0..*times {
                 if !self.make(rt, *ask, turn) {
@@ -316,20 +318,19 @@ where
         for (number, form) in self.given.forms.iter().enumerate() {
             is_same = is_same && is_place(self.table.check_interned(*form), number, self.held);
             let stored = self.table.store().spelling_at(number);
-            is_same = is_same && stored == self.spelling(number);
+            is_same = is_same && is_word(stored, number, self.held);
         }
         if !is_same {
             self.fault = Fault::State(self.calls);
         }
         is_same
     }
+}
 
-    // The bytes of a word, if the table holds it.
-    fn spelling(&self, number: usize) -> Option<&'static [u8]> {
-        if number < self.held {
-            Some(spelling(number))
-        } else {
-            None
-        }
+// Whether that is the word of this number, if the first `held` are stored.
+fn is_word(stored: Option<&[u8]>, number: usize, held: usize) -> bool {
+    match stored {
+        Some(bytes) => number < held && bytes == spelling(number),
+        None => number >= held,
     }
 }

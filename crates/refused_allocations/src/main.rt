@@ -16,16 +16,16 @@ mod runs;
 mod words;
 
 use absorbing::absorb_each;
-use course::{left_by, watch, watch_equal};
+use course::{left_by, watch_equal};
 use fault::Fault;
 use intaglio::packed::{Packed, PackedForm};
-use intaglio::{ContentOf, StrContent};
+use intaglio::{ContentOf, KindForm, StrContent};
 use runs::{RUNS, Run};
 use std::env;
 use std::process::ExitCode;
 use std::rt::Env;
 use tests::support::kinds::{
-    BStrKind, BytesKind, CStrKind, OsStrKind, PathKind, StrKind, TestKind,
+    BStrKind, BytesKind, CStrKind, OfEnded, OsStrKind, PathKind, StrKind, TestKind,
 };
 
 const OWNED: &str = "text osstr path bytes bstr cstr";
@@ -98,23 +98,28 @@ fn one(rt: &(impl Eprint + AllocGlobal), table: &str, run: &str) -> Result<(), F
     }
 }
 
-fn run_of(name: &str) -> Result<Run, Fault> {
+fn run_of(name: &str) -> Result<Run<'static>, Fault> {
     let run = RUNS.iter().find(|run| run.0 == name);
     run.copied().ok_or(Fault::Words)
 }
 
-fn on_owned<K: TestKind>(rt: &(impl Eprint + AllocGlobal), name: &str) -> Result<(), Fault> {
-    if name == "equal" {
-        return watch_equal::<Vec<ContentOf<K>>>(rt, run_of(name)?);
-    }
-    watch::<Vec<ContentOf<K>>>(rt, run_of(name)?)
-}
-
-fn on_packed<K: TestKind + PackedForm<'static>>(
+fn on_owned<'q, K: TestKind + KindForm<'q, Form: OfEnded>>(
     rt: &(impl Eprint + AllocGlobal),
     name: &str,
 ) -> Result<(), Fault> {
-    watch::<Packed<K>>(rt, run_of(name)?)
+    if name == "equal" {
+        return watch_equal::<Vec<ContentOf<K>>>(rt, run_of(name)?);
+    }
+    let _table = left_by::<Vec<ContentOf<K>>>(rt, run_of(name)?)?;
+    Ok(())
+}
+
+fn on_packed<'q, K: TestKind + PackedForm<'q, Form: OfEnded>>(
+    rt: &(impl Eprint + AllocGlobal),
+    name: &str,
+) -> Result<(), Fault> {
+    let _table = left_by::<Packed<K>>(rt, run_of(name)?)?;
+    Ok(())
 }
 
 // A word that a table of texts holds is got without memory.

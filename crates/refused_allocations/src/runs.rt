@@ -3,14 +3,14 @@ use crate::asks::Ask;
 use tests::support::stores::{Make, Update};
 
 /// Calls, each with how often it is made.
-pub type Calls = &'static [(Ask, usize)];
+pub type Calls<'r> = &'r [(Ask, usize)];
 
 /// A run: its name, how the table is made, whether each call is made by a `run` of it alone, which copies
 /// spellings too, and the calls in parts.
-pub type Run = (&'static str, Make, bool, &'static [Calls]);
+pub type Run<'r> = (&'r str, Make, bool, &'r [Calls<'r>]);
 
 /// All runs. The run `quiet` is for tables in one buffer.
-pub static RUNS: [Run; 12] = [
+pub static RUNS: [Run<'static>; 12] = [
     ("calls", Make::Exact(0), false, &[&FILL, &REST]),
     ("cut", Make::Exact(0), false, &[&FILL, &CUT, &REST]),
     ("replies", Make::Exact(0), true, &[&FILL, &LOOK_UPS, &REST]),

@@ -2,7 +2,7 @@
 use bstr::{BStr, BString};
 use intaglio::cstr::{CStr, CString};
 use intaglio::path::Path;
-use intaglio::{ContentOf, KindForm, KindOwned};
+use intaglio::{ContentOf, KindOwned};
 pub use intaglio_bytes::b_str::BStrKind;
 pub use intaglio_bytes::bytes::BytesKind;
 pub use intaglio_cstr::CStrKind;
@@ -85,13 +85,9 @@ impl OfSpelling for CString {
 }
 
 /// A kind whose strings can be made from any spelling.
-pub trait TestKind: KindForm<'static, Form: OfEnded>
-    + KindOwned<Static: OfEnded, Owned: OfSpelling> {}
+pub trait TestKind: KindOwned<Static: OfEnded, Owned: OfSpelling> {}
 
-impl<K> TestKind for K
-where
-    K: KindForm<'static, Form: OfEnded> + KindOwned<Static: OfEnded, Owned: OfSpelling>,
-{}
+impl<K: KindOwned<Static: OfEnded, Owned: OfSpelling>> TestKind for K {}
 
 /// An owned content of this spelling.
 pub fn owned<K: TestKind>(alloc: Global, spelling: &[u8]) -> Option<ContentOf<K>> {

@@ -1,12 +1,11 @@
 //! Stores of the tables that are tried: how tables over each are made, and the calls that change one.
 use crate::support::builders::{Fold, HasherCount};
-use crate::support::kinds::{OfEnded, TestKind};
+use crate::support::kinds::TestKind;
 use crate::support::replies::{roomy, taken};
-use intaglio::packed::{Packed, PackedForm};
+use intaglio::packed::Packed;
 use intaglio::{
-    BaseInterner, Call, Content, ContentOf, Copied, Indexed, InternError, KindOwned, LookedUpIn,
-    Mark, Moved, Reply, RoomError, SoughtIn, SpelledStore, Symbol, Table, TableOver, Work,
-    intern_all, run,
+    BaseInterner, Call, Content, ContentOf, Copied, Indexed, InternError, KindOwned, Mark, Moved,
+    Reply, RoomError, SoughtIn, SpelledStore, Symbol, Table, TableOver, Work, intern_all, run,
 };
 use intaglio_hash::FixedState;
 use std::alloc::{AllocError, Global};
@@ -33,7 +32,6 @@ pub type Made<L> = TableOver<L, <L as TestStore>::Hasher>;
 /// A store whose tables are tried: a list of owned contents, or one buffer.
 pub trait TestStore: Indexed<Content: Content + SoughtIn<Self> + Drop, Prepared: Drop>
     + SpelledStore
-    + LookedUpIn<'static, By: OfEnded>
     + Drop {
     /// The kind of its strings.
     type Kind: TestKind;
@@ -151,7 +149,7 @@ impl<K: TestKind> TestStore for Vec<ContentOf<K>> {
     }
 }
 
-impl<K: TestKind + PackedForm<'static>> TestStore for Packed<K> {
+impl<K: TestKind> TestStore for Packed<K> {
     type Kind = K;
 
     type Hasher = FixedState;

@@ -1,5 +1,5 @@
 //! Calls of a table by borrowed forms, and what borrows from it, whose results are text.
-use super::printed::{Shown, inserted_text, paired, reply_text, spelled, symbols_text};
+use super::printed::{Shown, inserted_text, numbered, reply_text, spelled, symbols_text, word};
 use super::steps::walked;
 use crate::support::builders::HasherCount;
 use crate::support::kinds::{BStrKind, BytesKind, CStrKind, Host, OsStrKind, PathKind, StrKind};
@@ -13,7 +13,7 @@ use intaglio::{
 
 /// A call by borrowed forms, or one that borrows what is stored.
 #[derive(Clone, Copy)]
-pub enum Ask {
+pub enum Ask<'s> {
     /// `get_or_intern`.
     GetOrIntern,
     /// `insert_full`.
@@ -35,11 +35,11 @@ pub enum Ask {
     /// `get`.
     Get(Symbol),
     /// The steps on the iterator of forms.
-    Forms(&'static str),
+    Forms(&'s str),
     /// The steps on `iter`.
-    Pairs(&'static str),
+    Pairs(&'s str),
     /// The steps on the iterator of the table itself.
-    Each(&'static str),
+    Each(&'s str),
 }
 
 /// A store whose tables are asked. Its impls alone name tables of one kind, since the prover takes seconds
@@ -53,7 +53,7 @@ pub trait Asked: TestStore {
         rt: &R,
         table: &mut TableOver<Self, S>,
         contents: &[ContentOf<Self::Kind>],
-        ask: Ask,
+        ask: Ask<'_>,
     ) -> String;
 }
 
@@ -66,10 +66,17 @@ macro_rules! asked {
                 rt: &R,
                 table: &mut TableOver<$store, S>,
                 contents: &[ContentOf<$kind>],
-                ask: Ask,
+                ask: Ask<'_>,
             ) -> String {
                 match ask {
                     Ask::Forms(steps) => walked(rt, table.$forms(), steps),
+                    Ask::GetInterned => {
+                        let content = contents.first().expect(rt, "no content");
+                        match table.get_interned(content.form()) {
+                            None => word(rt, "none"),
+                            Some((symbol, form)) => numbered(rt, symbol, form.shown()),
+                        }
+                    }
                     _ => answer(rt, table, contents, ask),
                 }
             }
@@ -96,7 +103,7 @@ fn answer<'a, L: Lends<'a> + LookedUpIn<'a> + Indexed, K, S: HasherCount>(
     rt: &impl Host,
     table: &'a mut TableOver<L, S>,
     contents: &'a [ContentOf<K>],
-    ask: Ask,
+    ask: Ask<'_>,
 ) -> String
 where
     K: KindForm<'a, Form = <L as LookedUpIn<'a>>::By>,
@@ -123,33 +130,24 @@ where
         Ask::Each(steps) => walked(rt, (&*table).into_iter(), steps),
         Ask::Contains(symbol) => reply_text(rt, &Reply::Bool(table.contains(symbol))),
         Ask::Get(symbol) => reply_text(rt, &spelled(rt, table.get(symbol))),
-        _ => reply_text(
-            rt,
-            &reply(rt, table, forms.pop().expect(rt, "no form"), ask),
-        ),
+        _ => reply_text(rt, &reply(table, forms.pop().expect(rt, "no form"), ask)),
     }
 }
 
 // The same for the calls that take one form.
-fn reply<'a, L: Lends<'a> + LookedUpIn<'a> + Indexed, S: HasherCount>(
-    rt: &impl Host,
+fn reply<'a, L: LookedUpIn<'a> + Indexed, S: HasherCount>(
     table: &'a mut TableOver<L, S>,
     form: <L as LookedUpIn<'a>>::By,
-    ask: Ask,
+    ask: Ask<'_>,
 ) -> Reply
 where
     L::Content: Content + SoughtIn<L> + Drop,
     L::Prepared: Drop,
-    L::Form: Shown,
 {
     match ask {
         Ask::GetOrIntern => interned(table.get_or_intern(form)),
         Ask::CheckInterned => Reply::Symbol(table.check_interned(form)),
         Ask::IsInterned => Reply::Bool(table.is_interned(form)),
-        Ask::GetInterned => match table.get_interned(form) {
-            None => Reply::Pair(None),
-            Some((symbol, form)) => paired(rt, symbol, form),
-        },
         _ => Reply::Stale,
     }
 }

@@ -119,10 +119,9 @@ where
 
 // `./intaglio test` makes 200 of these.
 const EQUAL: &str = "
-two_thousand_equal_hashes:
+two_thousand_equal_hashes_on_each_table:
     with_equal_hashes 0 > done; intern_numbers 2000 > done; check_numbers 2000 > done
     check 2000 > none
-two_thousand_first_bytes:
     with_first_bytes 0 > done; intern_numbers 2000 > done; check_numbers 2000 > done
     check 2000 > none
 ";
@@ -133,7 +132,7 @@ fn two_thousand_equal_hashes_on_each_table(rt: HostRuntime) {
 }
 
 const FEWER: &str = "
-two_hundred_equal_hashes:
+two_hundred_equal_hashes_on_each_packed_table:
     with_equal_hashes 0 > done; intern_numbers 200 > done; check_numbers 200 > done; check 200 > none
     with_first_bytes 0 > done; intern_numbers 200 > done; check_numbers 200 > done; check 200 > none
 ";

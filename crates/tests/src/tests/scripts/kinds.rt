@@ -36,8 +36,12 @@ zeros_are_bytes:
 ";
 
 #[test]
-fn bytes_that_are_no_text_are_kept(rt: HostRuntime) {
+fn zeros_are_bytes(rt: HostRuntime) {
     try_on_bytes(&rt, &Script(ZEROS));
+}
+
+#[test]
+fn bytes_that_are_no_text_are_kept(rt: HostRuntime) {
     let bytes: [&[u8]; 5] = [b"\x00", b"\xff", b"\x00\xff", b"\x00\xfe", b"\x00\xff\x00"];
     try_on_bytes(&rt, &Kept(&bytes));
     try_on_c_strings(&rt, &Kept(&[b"\xff"]));

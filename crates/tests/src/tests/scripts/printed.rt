@@ -10,11 +10,11 @@ use std::str;
 /// A form whose bytes can be read.
 pub trait Shown: Drop {
     /// The bytes of the spelling.
-    fn bytes(&self) -> &[u8];
+    fn shown(&self) -> &[u8];
 }
 
 impl<'a> Shown for &'a [u8] {
-    fn bytes(&self) -> &[u8] {
+    fn shown(&self) -> &[u8] {
         *self
     }
 }
@@ -22,7 +22,7 @@ impl<'a> Shown for &'a [u8] {
 macro_rules! shown {
     ($($form:ty: $($bytes:ident).+;)*) => {$(
         impl<'a> Shown for $form {
-            fn bytes(&self) -> &[u8] {
+            fn shown(&self) -> &[u8] {
                 self$(.$bytes())+
             }
         }
@@ -38,13 +38,7 @@ shown! {
 
 /// The reply with a form.
 pub fn spelled<F: Shown>(rt: &impl Host, form: Option<F>) -> Reply {
-    Reply::Spelling(form.and_then(|form| form.bytes().to_vec(rt.alloc()).ok()))
-}
-
-/// The reply with a symbol and a form.
-pub fn paired<F: Shown>(rt: &impl Host, symbol: Symbol, form: F) -> Reply {
-    let copy = form.bytes().to_vec(rt.alloc()).expect(rt, "memory");
-    Reply::Pair(Some((symbol, copy)))
+    Reply::Spelling(form.and_then(|form| form.shown().to_vec(rt.alloc()).ok()))
 }
 
 /// A reply as text.

@@ -203,7 +203,7 @@ fn count(rt: &impl Host, counts: Counts, line: Line) -> Option<Reply> {
     }
 }
 
-fn ask(rt: &impl Host, line: Line) -> Option<Ask> {
+fn ask(rt: &impl Host, line: Line) -> Option<Ask<'static>> {
     match line.name {
         "get_or_intern" => Some(Ask::GetOrIntern),
         "insert_full" => Some(Ask::InsertFull),

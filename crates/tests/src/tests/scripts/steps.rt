@@ -31,7 +31,7 @@ fn symbol_said(rt: &impl Host, symbol: Option<Symbol>) -> String {
 
 fn form_said<F: Shown>(rt: &impl Host, form: Option<F>) -> String {
     match form {
-        Some(form) => text(rt, form.bytes()),
+        Some(form) => text(rt, form.shown()),
         None => word(rt, "none"),
     }
 }
@@ -77,7 +77,7 @@ where
     fn step<R: Host>(&mut self, rt: &R, name: &str) -> String {
         match name {
             "next" => match self.next() {
-                Some((symbol, form)) => numbered(rt, symbol, form.bytes()),
+                Some((symbol, form)) => numbered(rt, symbol, form.shown()),
                 None => word(rt, "none"),
             },
             "size_hint" => hint_said(rt, self.size_hint()),

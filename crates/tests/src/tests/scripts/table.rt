@@ -39,7 +39,7 @@ pub trait Table: Drop {
     fn put_counted<R: Host>(&mut self, rt: &R, contents: Vec<ContentOf<Self::Kind>>) -> String;
 
     /// Makes a call by the borrowed forms of contents.
-    fn ask<R: Host>(&mut self, rt: &R, contents: &[ContentOf<Self::Kind>], ask: Ask) -> String;
+    fn ask<R: Host>(&mut self, rt: &R, contents: &[ContentOf<Self::Kind>], ask: Ask<'_>) -> String;
 
     /// Makes calls by `run`.
     fn run<R: Host>(&mut self, rt: &R, calls: Vec<Call<ContentOf<Self::Kind>>>) -> Vec<Reply>;
@@ -72,7 +72,7 @@ impl<L: Asked, S: HasherCount> Table for TableOver<L, S> {
         symbols_text(rt, L::intern_counted(rt.alloc(), self, contents))
     }
 
-    fn ask<R: Host>(&mut self, rt: &R, contents: &[ContentOf<L::Kind>], ask: Ask) -> String {
+    fn ask<R: Host>(&mut self, rt: &R, contents: &[ContentOf<L::Kind>], ask: Ask<'_>) -> String {
         L::ask(rt, self, contents, ask)
     }
 

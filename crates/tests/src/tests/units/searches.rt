@@ -134,12 +134,8 @@ fn a_text_feeds_its_bytes_and_an_end(rt: HostRuntime) {
         other: "",
         hashers: None,
     };
-    tells_apart::<Counting, _>(
-        &rt,
-        rt.alloc(),
-        ExpectedWrites::of(&[b"abc", b"\xff"]),
-        &row,
-    );
+    let builder = ExpectedWrites::of(&[b"abc", b"\xff"]);
+    tells_apart::<Counting, _>(&rt, builder, &row);
 }
 
 // Interns the decimal texts of the numbers below two thousand, and finds them.

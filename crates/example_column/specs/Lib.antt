@@ -1,2 +1,0 @@
--- What the contracts of the column cite.
-pub mod Rows
