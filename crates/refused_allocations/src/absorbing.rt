@@ -4,7 +4,7 @@
 //! table, so these are of any kind.
 ghost use Rattle.intaglio_merge.specs.Merging.{AreAccepted};
 
-use crate::fault::{Fault, tell};
+use crate::fault::{Fault, Told, tell};
 use crate::results::are_numbered;
 use crate::words::{COUNT, forms_of};
 use intaglio::packed::{Packed, PackedForm};
@@ -30,13 +30,13 @@ fn list_of(alloc: Global) -> Result<bytes::SymbolTable, Fault> {
 }
 
 /// Absorbs a table of all words into empty ones, and again where that failed: the table is empty then.
-pub fn absorb_each(rt: &(impl Eprint + AllocGlobal)) -> Result<(), Fault> {
+pub fn absorb_each(rt: &impl Told) -> Result<(), Fault> {
     let list = list_of(rt.alloc())?;
     absorb_in_turn::<BytesKind, _>(rt, &list)
 }
 
 fn absorb_in_turn<'s, K: PackedForm<'s>, L: StringList>(
-    rt: &(impl Eprint + AllocGlobal),
+    rt: &impl Told,
     list: &'s L,
 ) -> Result<(), Fault>
     requires { AreAccepted K.is_spelling (L.strings list.now) }
@@ -49,7 +49,7 @@ fn absorb_in_turn<'s, K: PackedForm<'s>, L: StringList>(
 }
 
 fn absorb_into<'s, L: StringList, T: BaseInterner + Drop>(
-    rt: &(impl Eprint + AllocGlobal),
+    rt: &impl Told,
     mut table: T,
     list: &'s L,
     number: u32,

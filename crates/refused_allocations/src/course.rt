@@ -1,6 +1,6 @@
 //! A table, and the list with which its results are compared: the first words, in order.
 use crate::asks::Ask;
-use crate::fault::{Fault, tell};
+use crate::fault::{Fault, Told, tell};
 use crate::results::{are_found, are_numbered, c_string, frozen, is_place, is_refused};
 use crate::runs::{Calls, Run};
 use crate::words::{COUNT, forms_of, spelling};
@@ -40,24 +40,14 @@ impl<'q, L: TestStore + LookedUpIn<'q, By: OfEnded>> Given<'q, L> {
         let mut held = before;
         for (ask, times) in calls {
             for turn in 0..*times {
-                self.add_twice(alloc, *ask, ask.words(held, turn))?;
+                if let Some((first, count)) = ask.words(held, turn) {
+                    self.contents.push(ask.contents(alloc, first, count)?)?;
+                    self.contents.push(ask.contents(alloc, first, count)?)?;
+                }
                 held = ask.held_after(held);
             }
         }
         Ok(held)
-    }
-
-    fn add_twice(
-        &mut self,
-        alloc: Global,
-        ask: Ask,
-        words: Option<(usize, usize)>,
-    ) -> Result<(), AllocError> {
-        if let Some((first, count)) = words {
-            self.contents.push(ask.contents(alloc, first, count)?)?;
-            self.contents.push(ask.contents(alloc, first, count)?)?;
-        }
-        Ok(())
     }
 }
 
@@ -78,7 +68,7 @@ pub struct Course<'q, L: TestStore + LookedUpIn<'q>, S: HasherCount> {
 /// Makes a run on a new table, and returns the table. Requests for memory before the first printed call
 /// aren't the table's.
 pub fn left_by<'q, L: TestStore + LookedUpIn<'q, By: OfEnded>>(
-    rt: &(impl Eprint + AllocGlobal),
+    rt: &impl Told,
     run: Run<'_>,
 ) -> Result<Made<L>, Fault>
 where
@@ -92,7 +82,7 @@ where
 
 /// Makes a run under equal hashes.
 pub fn watch_equal<'q, L: TestStore + LookedUpIn<'q, By: OfEnded>>(
-    rt: &(impl Eprint + AllocGlobal),
+    rt: &impl Told,
     run: Run<'_>,
 ) -> Result<(), Fault>
 where
@@ -126,11 +116,7 @@ where
     }
 
     // Makes the calls, and returns the table.
-    fn play(
-        mut self,
-        rt: &(impl Eprint + AllocGlobal),
-        parts: &[Calls<'_>],
-    ) -> Result<TableOver<L, S>, Fault> {
+    fn play(mut self, rt: &impl Told, parts: &[Calls<'_>]) -> Result<TableOver<L, S>, Fault> {
         for calls in parts {
             if !self.make_calls(rt, calls) {
                 return Err(self.fault);
@@ -139,7 +125,7 @@ where
         Ok(self.table)
     }
 
-    fn make_calls(&mut self, rt: &(impl Eprint + AllocGlobal), calls: Calls<'_>) -> bool {
+    fn make_calls(&mut self, rt: &impl Told, calls: Calls<'_>) -> bool {
         for (ask, times) in calls {
             for turn in 0..*times {
                 if !self.make(rt, *ask, turn) {
@@ -151,7 +137,7 @@ where
     }
 
     // Makes a call, and again if it failed for memory.
-    fn make(&mut self, rt: &(impl Eprint + AllocGlobal), ask: Ask, turn: usize) -> bool {
+    fn make(&mut self, rt: &impl Told, ask: Ask, turn: usize) -> bool {
         if matches!(ask, Ask::NoMemory) {
             tell(rt, "none", 0);
             return true;
@@ -174,7 +160,7 @@ where
     // has failed.
     fn make_once(
         &mut self,
-        rt: &(impl Eprint + AllocGlobal),
+        rt: &impl Told,
         ask: Ask,
         turn: usize,
         contents: Option<Vec<ContentOf<L::Kind>>>,

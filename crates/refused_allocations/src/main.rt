@@ -17,7 +17,7 @@ mod words;
 
 use absorbing::absorb_each;
 use course::{left_by, watch_equal};
-use fault::Fault;
+use fault::{Fault, Told};
 use intaglio::packed::{Packed, PackedForm};
 use intaglio::{ContentOf, KindForm, StrContent};
 use runs::{RUNS, Run};
@@ -48,7 +48,7 @@ fn main(rt: HostRuntime) -> ExitCode {
 }
 
 // The run that the arguments name, or all runs.
-fn asked<R: Env + Eprint + AllocGlobal>(rt: &R) -> Result<(), Fault> {
+fn asked<R: Env + Told>(rt: &R) -> Result<(), Fault> {
     let Ok(mut words) = env::args(rt) else {
         return Err(Fault::Making);
     };
@@ -62,14 +62,14 @@ fn asked<R: Env + Eprint + AllocGlobal>(rt: &R) -> Result<(), Fault> {
     }
 }
 
-fn all(rt: &(impl Eprint + AllocGlobal)) -> Result<(), Fault> {
+fn all(rt: &impl Told) -> Result<(), Fault> {
     each(rt, OWNED, OWNED_RUNS)?;
     each(rt, PACKED, "forms quiet")?;
     one(rt, "text", "known")?;
     absorb_each(rt)
 }
 
-fn each(rt: &(impl Eprint + AllocGlobal), tables: &str, runs: &str) -> Result<(), Fault> {
+fn each(rt: &impl Told, tables: &str, runs: &str) -> Result<(), Fault> {
     for table in tables.split(' ') {
         for run in runs.split(' ') {
             one(rt, table, run)?;
@@ -79,7 +79,7 @@ fn each(rt: &(impl Eprint + AllocGlobal), tables: &str, runs: &str) -> Result<()
 }
 
 // One run on one table.
-fn one(rt: &(impl Eprint + AllocGlobal), table: &str, run: &str) -> Result<(), Fault> {
+fn one(rt: &impl Told, table: &str, run: &str) -> Result<(), Fault> {
     match table {
         "text" if run == "known" => known(rt),
         "text" => on_owned::<StrKind>(rt, run),
@@ -104,7 +104,7 @@ fn run_of(name: &str) -> Result<Run<'static>, Fault> {
 }
 
 fn on_owned<'q, K: TestKind + KindForm<'q, Form: OfEnded>>(
-    rt: &(impl Eprint + AllocGlobal),
+    rt: &impl Told,
     name: &str,
 ) -> Result<(), Fault> {
     if name == "equal" {
@@ -115,7 +115,7 @@ fn on_owned<'q, K: TestKind + KindForm<'q, Form: OfEnded>>(
 }
 
 fn on_packed<'q, K: TestKind + PackedForm<'q, Form: OfEnded>>(
-    rt: &(impl Eprint + AllocGlobal),
+    rt: &impl Told,
     name: &str,
 ) -> Result<(), Fault> {
     let _table = left_by::<Packed<K>>(rt, run_of(name)?)?;
@@ -123,7 +123,7 @@ fn on_packed<'q, K: TestKind + PackedForm<'q, Form: OfEnded>>(
 }
 
 // A word that a table of texts holds is got without memory.
-fn known(rt: &(impl Eprint + AllocGlobal)) -> Result<(), Fault> {
+fn known(rt: &impl Told) -> Result<(), Fault> {
     let table = left_by::<Vec<StrContent>>(rt, run_of("known")?)?;
     match table.get_interned("abc") {
         Some((symbol, "abc")) if symbol.is(0) => Ok(()),

@@ -13,7 +13,7 @@ use intaglio::{
 
 /// A call by borrowed forms, or one that borrows what is stored.
 #[derive(Clone, Copy)]
-pub enum Ask<'s> {
+pub enum Ask {
     /// `get_or_intern`.
     GetOrIntern,
     /// `insert_full`.
@@ -34,12 +34,12 @@ pub enum Ask<'s> {
     Contains(Symbol),
     /// `get`.
     Get(Symbol),
-    /// The steps on the iterator of forms.
-    Forms(&'s str),
-    /// The steps on `iter`.
-    Pairs(&'s str),
-    /// The steps on the iterator of the table itself.
-    Each(&'s str),
+    /// Steps on the iterator of forms.
+    Forms,
+    /// Steps on `iter`.
+    Pairs,
+    /// Steps on the iterator of the table itself.
+    Each,
 }
 
 /// A store whose tables are asked. Its impls alone name tables of one kind, since the prover takes seconds
@@ -48,12 +48,13 @@ pub trait Asked: TestStore {
     /// Whether contents are compared as paths.
     const ARE_PATHS: bool;
 
-    /// Makes a call by the borrowed forms of contents, and returns its result as text.
+    /// Makes a call by the borrowed forms of contents, or these steps, and returns its result as text.
     fn ask<R: Host, S: HasherCount>(
         rt: &R,
         table: &mut TableOver<Self, S>,
         contents: &[ContentOf<Self::Kind>],
-        ask: Ask<'_>,
+        steps: &str,
+        ask: Ask,
     ) -> String;
 }
 
@@ -66,18 +67,16 @@ macro_rules! asked {
                 rt: &R,
                 table: &mut TableOver<$store, S>,
                 contents: &[ContentOf<$kind>],
-                ask: Ask<'_>,
+                steps: &str,
+                ask: Ask,
             ) -> String {
                 match ask {
-                    Ask::Forms(steps) => walked(rt, table.$forms(), steps),
-                    Ask::GetInterned => {
-                        let content = contents.first().expect(rt, "no content");
-                        match table.get_interned(content.form()) {
-                            None => word(rt, "none"),
-                            Some((symbol, form)) => numbered(rt, symbol, form.shown()),
-                        }
-                    }
-                    _ => answer(rt, table, contents, ask),
+                    Ask::Forms => walked(rt, table.$forms(), steps),
+                    Ask::GetInterned => match table.get_interned(first(rt, contents).form()) {
+                        None => word(rt, "none"),
+                        Some((symbol, form)) => numbered(rt, symbol, form.shown()),
+                    },
+                    _ => answer(rt, table, contents, steps, ask),
                 }
             }
         }
@@ -98,12 +97,17 @@ asked! {
     Packed<PathKind>: PathKind paths true;
 }
 
+fn first<'a, C>(rt: &impl Host, contents: &'a [C]) -> &'a C {
+    contents.first().expect(rt, "no content")
+}
+
 // What any table returns for a call by the forms of these.
 fn answer<'a, L: Lends<'a> + LookedUpIn<'a> + Indexed, K, S: HasherCount>(
     rt: &impl Host,
     table: &'a mut TableOver<L, S>,
     contents: &'a [ContentOf<K>],
-    ask: Ask<'_>,
+    steps: &str,
+    ask: Ask,
 ) -> String
 where
     K: KindForm<'a, Form = <L as LookedUpIn<'a>>::By>,
@@ -126,8 +130,8 @@ where
             format!(in rt.alloc(); "{symbols:?}").expect(rt, "memory")
         }
         Ask::InsertFull => inserted_text(rt, table.insert_full(forms.pop().expect(rt, "no form"))),
-        Ask::Pairs(steps) => walked(rt, table.iter(), steps),
-        Ask::Each(steps) => walked(rt, (&*table).into_iter(), steps),
+        Ask::Pairs => walked(rt, table.iter(), steps),
+        Ask::Each => walked(rt, (&*table).into_iter(), steps),
         Ask::Contains(symbol) => reply_text(rt, &Reply::Bool(table.contains(symbol))),
         Ask::Get(symbol) => reply_text(rt, &spelled(rt, table.get(symbol))),
         _ => reply_text(rt, &reply(table, forms.pop().expect(rt, "no form"), ask)),
@@ -138,7 +142,7 @@ where
 fn reply<'a, L: LookedUpIn<'a> + Indexed, S: HasherCount>(
     table: &'a mut TableOver<L, S>,
     form: <L as LookedUpIn<'a>>::By,
-    ask: Ask<'_>,
+    ask: Ask,
 ) -> Reply
 where
     L::Content: Content + SoughtIn<L> + Drop,

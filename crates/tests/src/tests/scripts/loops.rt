@@ -8,14 +8,14 @@ use crate::tests::assertions::same;
 use intaglio::{Reply, Symbol};
 
 /// What the call by the spelling returns.
-pub fn asked<T: Table>(rt: &impl Host, table: &mut T, spelling: &[u8], ask: Ask<'_>) -> String {
+pub fn asked<T: Table>(rt: &impl Host, table: &mut T, spelling: &[u8], ask: Ask) -> String {
     let mut contents = Vec::new(rt.alloc());
     contents.push(content(rt, spelling)).expect(rt, "memory");
-    table.ask(rt, &contents, ask)
+    table.ask(rt, &contents, "", ask)
 }
 
 // Asserts what the call by the spelling returns.
-fn gives<T: Table>(rt: &impl Host, table: &mut T, spelling: &[u8], ask: Ask<'_>, wanted: &str) {
+fn gives<T: Table>(rt: &impl Host, table: &mut T, spelling: &[u8], ask: Ask, wanted: &str) {
     let answer = asked(rt, table, spelling, ask);
     same(rt, answer.as_str(), wanted);
 }

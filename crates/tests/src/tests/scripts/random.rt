@@ -4,6 +4,7 @@ use super::plain::Plain;
 use super::script::{Line, answer, size, way};
 use super::table::{Makes, Table};
 use crate::support::kinds::Host;
+use crate::tests::assertions::same;
 use std::fmt::Write;
 use std::hash::{BuildHasher, RandomState};
 
@@ -129,7 +130,11 @@ fn agrees<T: Makes>(rt: &impl Host, first: Line, lines: Vec<Line>) {
         }
     }
     let script = differs::<T>(rt, first, &left).expect(rt, "a script");
-    assert_eq!(rt; script.as_str(), "", "a table differs from the plain list");
+    same(
+        rt,
+        script.as_str(),
+        "a script that a table plays as the plain list",
+    );
 }
 
 fn without(rt: &impl Host, lines: &[Line], place: usize) -> Vec<Line> {

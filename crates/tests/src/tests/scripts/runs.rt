@@ -3,15 +3,15 @@
 use super::each::{Trial, try_on_each};
 use super::printed::reply_text;
 use super::script::{Line, agrees, content, lines_of, size, split_part, symbol};
-use super::table::{Makes, Table};
+use super::table::{Makes, Table as _};
 use crate::support::builders::Fold;
 use crate::support::kinds::{Host, StrKind, TestKind};
-use crate::support::stores::{Make, TestStore};
+use crate::support::stores::Make;
 use crate::tests::assertions::same;
 use intaglio::packed::Packed;
 use intaglio::{
-    AddedTo, BaseInterner, Call, ContentOf, Copied, IndexedStore, Mark, Moved, Reply, RoomError,
-    SpelledStore, TableOver, Work, run,
+    AddedTo, BaseInterner, Call, ContentOf, Copied, IndexedStore, KindOwned, Mark, Moved, Packable,
+    Reply, RoomError, SpelledStore, Table, TableOver, Work, run,
 };
 
 const RUNS: &str = "
@@ -64,8 +64,8 @@ fn a_run_on_a_core_and_by_texts_answers_as_its_calls(rt: HostRuntime) {
     while let Some((first, calls, others)) = split_part(&rt, rest) {
         let limit = size(&rt, first.word);
         runs_on_a_core::<StrKind>(&rt, limit, calls);
-        runs_by_texts::<Vec<ContentOf<StrKind>>>(&rt, limit, calls);
-        runs_by_texts::<Packed<StrKind>>(&rt, limit, calls);
+        runs_owned::<StrKind, _>(&rt, limit, by_texts(&rt, calls), calls);
+        runs_packed::<StrKind, _>(&rt, limit, by_texts(&rt, calls), calls);
         rest = others;
     }
 }
@@ -75,15 +75,25 @@ fn runs_on_a_core<K: TestKind>(rt: &impl Host, limit: usize, lines: &[Line]) {
     runs::<Moved, _, _>(rt, made, by_contents::<K>(rt, lines), lines);
 }
 
-fn runs_by_texts<L: TestStore>(rt: &impl Host, limit: usize, lines: &[Line])
-where
-    &'static str: AddedTo<L, Copied>,
-{
-    let made = TableOver::<L, Fold>::with_limit(rt.alloc(), limit, Fold::new());
-    let mut calls = Vec::new(rt.alloc());
-    for line in lines {
-        push_call(rt, &mut calls, *line, line.word);
-    }
+// By forms, on a table of owned contents.
+fn runs_owned<K: KindOwned, Q: Packable<K> + Copy + Drop>(
+    rt: &impl Host,
+    limit: usize,
+    calls: Vec<Call<Q>>,
+    lines: &[Line],
+) {
+    let made = Table::<ContentOf<K>, Fold>::with_limit(rt.alloc(), limit, Fold::new());
+    runs::<Copied, _, _>(rt, made, calls, lines);
+}
+
+// By forms, on a table in one buffer.
+fn runs_packed<K: KindOwned, Q: Packable<K> + Copy + Drop>(
+    rt: &impl Host,
+    limit: usize,
+    calls: Vec<Call<Q>>,
+    lines: &[Line],
+) {
+    let made = TableOver::<Packed<K>, Fold>::with_limit(rt.alloc(), limit, Fold::new());
     runs::<Copied, _, _>(rt, made, calls, lines);
 }
 
@@ -115,6 +125,15 @@ fn by_contents<K: TestKind>(rt: &impl Host, lines: &[Line]) -> Vec<Call<ContentO
     let mut calls = Vec::new(rt.alloc());
     for line in lines {
         push_call(rt, &mut calls, *line, content(rt, line.word.as_bytes()));
+    }
+    calls
+}
+
+// The calls of lines, by borrowed texts.
+fn by_texts(rt: &impl Host, lines: &[Line]) -> Vec<Call<&'static str>> {
+    let mut calls = Vec::new(rt.alloc());
+    for line in lines {
+        push_call(rt, &mut calls, *line, line.word);
     }
     calls
 }

@@ -203,7 +203,7 @@ fn count(rt: &impl Host, counts: Counts, line: Line) -> Option<Reply> {
     }
 }
 
-fn ask(rt: &impl Host, line: Line) -> Option<Ask<'static>> {
+fn ask(rt: &impl Host, line: Line) -> Option<Ask> {
     match line.name {
         "get_or_intern" => Some(Ask::GetOrIntern),
         "insert_full" => Some(Ask::InsertFull),
@@ -212,17 +212,18 @@ fn ask(rt: &impl Host, line: Line) -> Option<Ask<'static>> {
         "get_interned" => Some(Ask::GetInterned),
         "contains" => Some(Ask::Contains(symbol(rt, line.word))),
         "get" => Some(Ask::Get(symbol(rt, line.word))),
-        "forms" => Some(Ask::Forms(line.word)),
-        "pairs" => Some(Ask::Pairs(line.word)),
-        "each" => Some(Ask::Each(line.word)),
         _ => None,
     }
 }
 
-// What the table returns for a call by a batch of words, or for the steps on `all_symbols`.
+// What the table returns for a call by a batch of words, or for steps on an iterator.
 fn batch<T: Table>(rt: &impl Host, table: &mut T, line: Line) -> String {
-    if line.name == "symbols" {
-        return walked(rt, table.symbols(), line.word);
+    match line.name {
+        "symbols" => return walked(rt, table.symbols(), line.word),
+        "forms" => return table.ask(rt, &[], line.word, Ask::Forms),
+        "pairs" => return table.ask(rt, &[], line.word, Ask::Pairs),
+        "each" => return table.ask(rt, &[], line.word, Ask::Each),
+        _ => {}
     }
     let mut words = Vec::new(rt.alloc());
     for word in line.word.split_whitespace() {
@@ -233,9 +234,9 @@ fn batch<T: Table>(rt: &impl Host, table: &mut T, line: Line) -> String {
     match line.name {
         "intern_all" => table.put_all(rt, words),
         "intaglio::intern_all" => table.put_counted(rt, words),
-        "get_or_intern_all" => table.ask(rt, &words, Ask::GetOrInternAll),
-        "intaglio::get_or_intern_all" => table.ask(rt, &words, Ask::CountedAll),
-        "check_all" => table.ask(rt, &words, Ask::CheckAll),
+        "get_or_intern_all" => table.ask(rt, &words, "", Ask::GetOrInternAll),
+        "intaglio::get_or_intern_all" => table.ask(rt, &words, "", Ask::CountedAll),
+        "check_all" => table.ask(rt, &words, "", Ask::CheckAll),
         _ => word(rt, "no such call"),
     }
 }

@@ -38,8 +38,14 @@ pub trait Table: Drop {
     /// By the function `intern_all`.
     fn put_counted<R: Host>(&mut self, rt: &R, contents: Vec<ContentOf<Self::Kind>>) -> String;
 
-    /// Makes a call by the borrowed forms of contents.
-    fn ask<R: Host>(&mut self, rt: &R, contents: &[ContentOf<Self::Kind>], ask: Ask<'_>) -> String;
+    /// Makes a call by the borrowed forms of contents, or these steps.
+    fn ask<R: Host>(
+        &mut self,
+        rt: &R,
+        contents: &[ContentOf<Self::Kind>],
+        steps: &str,
+        ask: Ask,
+    ) -> String;
 
     /// Makes calls by `run`.
     fn run<R: Host>(&mut self, rt: &R, calls: Vec<Call<ContentOf<Self::Kind>>>) -> Vec<Reply>;
@@ -72,8 +78,14 @@ impl<L: Asked, S: HasherCount> Table for TableOver<L, S> {
         symbols_text(rt, L::intern_counted(rt.alloc(), self, contents))
     }
 
-    fn ask<R: Host>(&mut self, rt: &R, contents: &[ContentOf<L::Kind>], ask: Ask<'_>) -> String {
-        L::ask(rt, self, contents, ask)
+    fn ask<R: Host>(
+        &mut self,
+        rt: &R,
+        contents: &[ContentOf<L::Kind>],
+        steps: &str,
+        ask: Ask,
+    ) -> String {
+        L::ask(rt, self, contents, steps, ask)
     }
 
     fn run<R: Host>(&mut self, rt: &R, calls: Vec<Call<ContentOf<L::Kind>>>) -> Vec<Reply> {

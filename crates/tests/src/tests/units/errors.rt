@@ -48,31 +48,22 @@ fn a_table_error_prints_what_it_holds(rt: HostRuntime) {
 #[test]
 fn a_table_error_takes_the_errors_of_other_collections(rt: HostRuntime) {
     let unstored = AllocFailed { value: 1u8 };
-    holds(
-        &rt,
-        TableError::from(unstored) == TableError::Memory(AllocError),
-    );
-    holds(
-        &rt,
-        TableError::from(AllocError) == TableError::Memory(AllocError),
-    );
+    let memory = TableError::Memory(AllocError);
+    same(&rt, TableError::from(unstored), memory);
+    same(&rt, TableError::from(AllocError), memory);
 }
 
 #[test]
 fn error_from_int_conversion_error(rt: HostRuntime) {
     let error = i8::try_from(255u8).err().expect(&rt, "too large");
-    holds(
-        &rt,
-        SymbolOverflowError::from(error) == SymbolOverflowError::new(),
-    );
+    let full = SymbolOverflowError::from(error);
+    same(&rt, full, SymbolOverflowError::new());
 }
 
 #[test]
 fn error_default_is_error_new(rt: HostRuntime) {
-    holds(
-        &rt,
-        SymbolOverflowError::default() == SymbolOverflowError::new(),
-    );
+    let full = SymbolOverflowError::default();
+    same(&rt, full, SymbolOverflowError::new());
     same(&rt, StaleMark::default(), StaleMark::new());
 }
 

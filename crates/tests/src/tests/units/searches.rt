@@ -138,20 +138,23 @@ fn a_text_feeds_its_bytes_and_an_end(rt: HostRuntime) {
     tells_apart::<Counting, _>(&rt, builder, &row);
 }
 
+// `./intaglio test` makes 200 of these.
+const MANY: u32 = 2000;
+
 // Interns the decimal texts of the numbers below two thousand, and finds them.
 fn tells_two_thousand_apart(rt: &impl Host, hash: Option<u64>) {
     let mut texts = "0".to_string(rt.alloc()).expect(rt, "memory");
-    for number in 1..2000u32 {
+    for number in 1..MANY {
         write!(texts, " {number}").expect(rt, "memory");
     }
     let row = Row {
         capacity: 0,
         texts: texts.as_str(),
-        count: 2000,
-        most: 1999,
+        count: MANY,
+        most: MANY as usize - 1,
         equal: "2000",
         other: "",
-        hashers: Some(2001),
+        hashers: Some(MANY as usize + 1),
     };
     tells_apart::<Counting, _>(rt, Counted::new(hash), &row);
 }
