@@ -4,7 +4,9 @@ use crate::fault::{Fault, Told, tell};
 use crate::results::{are_found, are_numbered, c_string, frozen, is_place, is_refused};
 use crate::runs::{Calls, Run};
 use crate::words::{COUNT, forms_of, spelling};
-use intaglio::{BaseInterner, ContentOf, LookedUpIn, Reply, RoomError, TableError, TableOver};
+use intaglio::{
+    BaseInterner, ContentOf, LookedUpIn, Reply, RoomError, SoughtIn, TableError, TableOver,
+};
 use intaglio_frozen::StringList;
 use std::alloc::{AllocError, Global};
 use std::marker::PhantomData;
@@ -72,6 +74,7 @@ pub fn left_by<'q, L: TestStore + LookedUpIn<'q, By: OfEnded>>(
     run: Run<'_>,
 ) -> Result<Made<L>, Fault>
 where
+    L::Content: SoughtIn<L>,
     TableOver<L, L::Hasher>: StringList,
 {
     let given = Given::<L>::make(rt.alloc(), run.3)?;
@@ -86,6 +89,7 @@ pub fn watch_equal<'q, L: TestStore + LookedUpIn<'q, By: OfEnded>>(
     run: Run<'_>,
 ) -> Result<(), Fault>
 where
+    L::Content: SoughtIn<L>,
     TableOver<L, Counted>: StringList,
 {
     let given = Given::<L>::make(rt.alloc(), run.3)?;
@@ -97,6 +101,7 @@ where
 
 impl<'q, L: TestStore + LookedUpIn<'q, By: OfEnded>, S: HasherCount> Course<'q, L, S>
 where
+    L::Content: SoughtIn<L>,
     TableOver<L, S>: StringList,
 {
     fn new(

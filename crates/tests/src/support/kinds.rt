@@ -24,34 +24,22 @@ pub trait OfEnded: Copy + Drop {
     fn of_ended(ended: &'static str) -> Option<Self>;
 }
 
-impl<'q> OfEnded for &'q str {
-    fn of_ended(ended: &'static str) -> Option<&'q str> {
-        ended.strip_suffix('\0')
-    }
+macro_rules! of_ended {
+    ($($form:ty: $ended:ident => $made:expr;)*) => {$(
+        impl<'q> OfEnded for $form {
+            fn of_ended($ended: &'static str) -> Option<$form> {
+                $made
+            }
+        }
+    )*};
 }
 
-impl<'q> OfEnded for &'q [u8] {
-    fn of_ended(ended: &'static str) -> Option<&'q [u8]> {
-        Some(ended.strip_suffix('\0')?.as_bytes())
-    }
-}
-
-impl<'q> OfEnded for Path<'q> {
-    fn of_ended(ended: &'static str) -> Option<Path<'q>> {
-        Some(Path::new(ended.strip_suffix('\0')?))
-    }
-}
-
-impl<'q> OfEnded for BStr<'q> {
-    fn of_ended(ended: &'static str) -> Option<BStr<'q>> {
-        Some(BStr::new(ended.strip_suffix('\0')?.as_bytes()))
-    }
-}
-
-impl<'q> OfEnded for CStr<'q> {
-    fn of_ended(ended: &'static str) -> Option<CStr<'q>> {
-        CStr::from_bytes_with_nul(ended.as_bytes()).ok()
-    }
+of_ended! {
+    &'q str: ended => ended.strip_suffix('\0');
+    &'q [u8]: ended => Some(ended.strip_suffix('\0')?.as_bytes());
+    Path<'q>: ended => Some(Path::new(ended.strip_suffix('\0')?));
+    BStr<'q>: ended => Some(BStr::new(ended.strip_suffix('\0')?.as_bytes()));
+    CStr<'q>: ended => CStr::from_bytes_with_nul(ended.as_bytes()).ok();
 }
 
 /// An owned string that is made from its spelling.

@@ -5,7 +5,7 @@ use crate::support::replies::{roomy, taken};
 use intaglio::packed::Packed;
 use intaglio::{
     BaseInterner, Call, Content, ContentOf, Copied, Indexed, InternError, KindOwned, Mark, Moved,
-    Reply, RoomError, SoughtIn, SpelledStore, Symbol, Table, TableOver, Work, intern_all, run,
+    Reply, RoomError, SpelledStore, Symbol, Table, TableOver, Work, intern_all, run,
 };
 use intaglio_hash::FixedState;
 use std::alloc::{AllocError, Global};
@@ -30,9 +30,7 @@ pub enum Make {
 pub type Made<L> = TableOver<L, <L as TestStore>::Hasher>;
 
 /// A store whose tables are tried: a list of owned contents, or one buffer.
-pub trait TestStore: Indexed<Content: Content + SoughtIn<Self> + Drop, Prepared: Drop>
-    + SpelledStore
-    + Drop {
+pub trait TestStore: Indexed<Content: Content + Drop, Prepared: Drop> + SpelledStore + Drop {
     /// The kind of its strings.
     type Kind: TestKind;
 

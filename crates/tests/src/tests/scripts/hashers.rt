@@ -4,12 +4,13 @@ use super::each::{Script, try_on_each, try_on_owned, try_on_packed};
 use super::script::{lines_of, makes_calls};
 use crate::support::builders::{Counted, HasherCount};
 use crate::support::kinds::{Host, StrKind};
+use crate::support::stores::TestStore;
 use crate::tests::assertions::same;
 use intaglio::packed::Packed;
 use intaglio::path::{Path, PathContent};
 use intaglio::{
-    AddedTo, BaseInterner, Content, Copied, Indexed, Keyed, LookedUpIn, Sought, SoughtIn,
-    StrContent, TableOver, Work, check_all,
+    AddedTo, BaseInterner, Copied, Keyed, LookedUpIn, Sought, SoughtIn, StrContent, TableOver,
+    Work, check_all,
 };
 use intaglio_core::look_ahead;
 use std::hash::RandomState;
@@ -54,14 +55,9 @@ fn a_table_made_of_forms_hashes_each_once(rt: HostRuntime) {
 }
 
 // Asserts how many hashers a table makes that is made of forms.
-fn hashes_forms<'q, L: LookedUpIn<'q> + Indexed + Drop>(
-    rt: &impl Host,
-    forms: &[L::By],
-    wanted: usize,
-)
+fn hashes_forms<'q, L: LookedUpIn<'q> + TestStore>(rt: &impl Host, forms: &[L::By], wanted: usize)
 where
-    L::Content: Content + SoughtIn<L> + Drop,
-    L::Prepared: Drop,
+    L::Content: SoughtIn<L>,
 {
     let made = TableOver::<L, Counted>::from_slice(rt.alloc(), Counted::new(None), forms);
     same(rt, made.expect(rt, "memory").hasher().made(), Some(wanted));
@@ -102,14 +98,13 @@ fn a_call_by_a_hash_makes_no_hasher(rt: HostRuntime) {
 }
 
 // Asserts how many hashers a table makes for these calls.
-fn hashes_counted_calls<H, L: Indexed + Drop, Q: AddedTo<L, H> + Copy>(
+fn hashes_counted_calls<H, L: TestStore, Q: AddedTo<L, H> + Copy>(
     rt: &impl Host,
     values: &[Q],
     wanted: usize,
 )
 where
-    L::Content: Content + SoughtIn<L> + Drop,
-    L::Prepared: Drop,
+    L::Content: SoughtIn<L>,
 {
     let made = TableOver::<L, Counted>::with_hasher(rt.alloc(), Counted::new(None));
     let mut table = made.expect(rt, "no table");

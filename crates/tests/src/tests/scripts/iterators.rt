@@ -15,6 +15,8 @@ ends_are_taken_in_turn:
 3, c, 2, (2, Some(2)), a, b, none, none
     pairs next size_hint next next next > 0 a, (2, Some(2)), 1 b, 2 c, none
     each next size_hint next next next > 0 a, (2, Some(2)), 1 b, 2 c, none
+the_pairs_of_a_table_are_counted:
+    new > done; intern abc, xyz, 123, 789 > 0, 1, 2, 3; pairs count next count > 4, 0 abc, 3
 nothing_comes_of_an_empty_table:
     new > done; symbols size_hint next next_back > (0, Some(0)), none, none
     forms len next next_back > 0, none, none; pairs size_hint next > (0, Some(0)), none

@@ -218,13 +218,6 @@ fn ask(rt: &impl Host, line: Line) -> Option<Ask> {
 
 // What the table returns for a call by a batch of words, or for steps on an iterator.
 fn batch<T: Table>(rt: &impl Host, table: &mut T, line: Line) -> String {
-    match line.name {
-        "symbols" => return walked(rt, table.symbols(), line.word),
-        "forms" => return table.ask(rt, &[], line.word, Ask::Forms),
-        "pairs" => return table.ask(rt, &[], line.word, Ask::Pairs),
-        "each" => return table.ask(rt, &[], line.word, Ask::Each),
-        _ => {}
-    }
     let mut words = Vec::new(rt.alloc());
     for word in line.word.split_whitespace() {
         words
@@ -232,6 +225,10 @@ fn batch<T: Table>(rt: &impl Host, table: &mut T, line: Line) -> String {
             .expect(rt, "memory");
     }
     match line.name {
+        "symbols" => walked(rt, table.symbols(), line.word),
+        "forms" => table.ask(rt, &words, line.word, Ask::Forms),
+        "pairs" => table.ask(rt, &words, line.word, Ask::Pairs),
+        "each" => table.ask(rt, &words, line.word, Ask::Each),
         "intern_all" => table.put_all(rt, words),
         "intaglio::intern_all" => table.put_counted(rt, words),
         "get_or_intern_all" => table.ask(rt, &words, "", Ask::GetOrInternAll),

@@ -80,6 +80,7 @@ where
                 Some((symbol, form)) => numbered(rt, symbol, form.shown()),
                 None => word(rt, "none"),
             },
+            "count" => number(rt, self.clone().expect(rt, "memory").count()),
             "size_hint" => hint_said(rt, self.size_hint()),
             _ => word(rt, "no such step"),
         }

@@ -1,9 +1,8 @@
 //! Equal C strings, and the iterators over contents.
-use crate::support::builders::Fold;
 use crate::support::kinds::Host;
 use crate::tests::assertions::{copy_of, holds, same};
 use intaglio::cstr::{CStr, CStrContent};
-use intaglio::{ContentOf, Forms, KindForm, KindOwned, Pairs, StrContent, Symbol, Table};
+use intaglio::{Forms, Pairs, StrContent, Symbol};
 use std::test::Fail;
 
 #[test]
@@ -44,33 +43,4 @@ fn pairs_are_skipped_counted_and_cloned(rt: HostRuntime) -> Result<(), Fail> {
     assert_eq!(&rt; pairs.clone()?.nth(1), Some((Symbol::new(1), "b")));
     assert_eq!(&rt; pairs.last(), Some((Symbol::new(2), "c")));
     Ok(())
-}
-
-// A table of these contents. The prover takes seconds wherever a table of one kind is passed to a function
-// over any store, so this is over any kind.
-fn table_of<K: KindOwned>(
-    rt: &impl Host,
-    contents: Vec<ContentOf<K>>,
-) -> Table<ContentOf<K>, Fold> {
-    let mut table = Table::new(rt.alloc()).expect(rt, "no table");
-    for content in contents {
-        table.intern(content).expect(rt, "no symbol");
-    }
-    table
-}
-
-fn count_of_pairs<'a, K: KindForm<'a>>(table: &'a Table<ContentOf<K>, Fold>) -> usize {
-    table.iter().count()
-}
-
-#[test]
-fn the_pairs_of_a_table_are_counted(rt: HostRuntime) {
-    let texts = vec![in rt.alloc();
-        StrContent::from("abc"),
-        StrContent::from("xyz"),
-        StrContent::from("123"),
-        StrContent::from("789"),
-    ];
-    let table = table_of(&rt, texts.expect(&rt, "no memory"));
-    same(&rt, count_of_pairs(&table), 4);
 }
