@@ -1,8 +1,8 @@
 //! The calls of runs.
 use crate::words::{ENDED, spelling};
-use intaglio::{Call, ContentOf, Mark};
+use intaglio::{Call, Mark};
 use std::alloc::{AllocError, Global};
-use tests::support::kinds::{TestKind, borrowed, owned};
+use tests::support::kinds::TestContent;
 use tests::support::stores::{Make, Update};
 
 /// A call. A table holds the first words, and the next word is the one after them.
@@ -42,8 +42,6 @@ pub enum Ask {
     Capacity(usize),
     /// A call without a string.
     Update(Update),
-    /// `reserve_bytes`.
-    ReserveBytes(usize),
     /// `freeze`.
     Freeze,
     /// `CString::new` of bytes without spare capacity, so that the final zero makes them grow.
@@ -67,14 +65,14 @@ impl Ask {
             Ask::CheckAll => "check_all",
             Ask::FromSlice => "from_slice",
             Ask::Make(_, _) | Ask::TooLarge(_) => "make",
-            Ask::ReserveTooMuch => "reserve",
             Ask::RunNothing => "run",
             Ask::Capacity(_) => "capacity",
-            Ask::Update(Update::Reserve(_) | Update::TryReserve(_)) => "reserve",
+            Ask::ReserveTooMuch | Ask::Update(Update::Reserve(_) | Update::TryReserve(_)) =>
+                "reserve",
             Ask::Update(Update::ShrinkTo(_) | Update::ShrinkToFit) => "shrink",
             Ask::Update(Update::Clear) => "clear",
             Ask::Update(Update::TakeBack(_)) => "take_back",
-            Ask::ReserveBytes(_) => "reserve_bytes",
+            Ask::Update(Update::ReserveBytes(_)) => "reserve_bytes",
             Ask::Freeze => "freeze",
             Ask::CString => "c_string",
             Ask::NoMemory => "none",
@@ -106,17 +104,17 @@ impl Ask {
     }
 
     /// Makes contents of these words.
-    pub fn contents<K: TestKind>(
+    pub fn contents<C: TestContent>(
         self,
         alloc: Global,
         first: usize,
         count: usize,
-    ) -> Result<Vec<ContentOf<K>>, AllocError> {
+    ) -> Result<Vec<C>, AllocError> {
         let mut contents = Vec::with_capacity(alloc, count)?;
         for number in first..first.saturating_add(count) {
             let content = match self {
-                Ask::Lend => borrowed::<K>(ENDED.get(number).copied().unwrap_or("")),
-                _ => owned::<K>(alloc, spelling(number)),
+                Ask::Lend => C::borrowed(ENDED.get(number).copied().unwrap_or("")),
+                _ => C::owned(alloc, spelling(number)),
             };
             contents.push(content.ok_or(AllocError)?)?;
         }

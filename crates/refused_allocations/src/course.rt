@@ -5,7 +5,7 @@ use crate::results::{are_found, are_numbered, c_string, frozen, is_place, is_ref
 use crate::runs::{Calls, Run};
 use crate::words::{COUNT, forms_of, spelling};
 use intaglio::{
-    BaseInterner, ContentOf, LookedUpIn, Reply, RoomError, SoughtIn, TableError, TableOver,
+    BaseInterner, Content, LookedUpIn, Reply, RoomError, SoughtIn, TableError, TableOver,
 };
 use intaglio_frozen::StringList;
 use std::alloc::{AllocError, Global};
@@ -17,13 +17,21 @@ use tests::support::stores::{Made, TestStore, make_table, updated};
 /// What a run takes: the borrowed forms of all words, and the contents of each call, twice, since a failed
 /// call drops its own. Those of the first call come last.
 #[derive(Drop)]
-struct Given<'q, L: TestStore + LookedUpIn<'q>> {
+struct Given<'q, L: TestStore + LookedUpIn<'q>>
+where
+    L::Content: Content + Drop,
+    L::Prepared: Drop,
+{
     forms: Vec<L::By>,
-    contents: Vec<Vec<ContentOf<L::Kind>>>,
+    contents: Vec<Vec<L::Item>>,
     lifetime: PhantomData<&'q ()>,
 }
 
-impl<'q, L: TestStore + LookedUpIn<'q, By: OfEnded>> Given<'q, L> {
+impl<'q, L: TestStore + LookedUpIn<'q, By: OfEnded>> Given<'q, L>
+where
+    L::Content: Content + Drop,
+    L::Prepared: Drop,
+{
     fn make(alloc: Global, parts: &[Calls<'_>]) -> Result<Given<'q, L>, AllocError> {
         let mut given = Given {
             forms: forms_of(alloc)?,
@@ -55,7 +63,11 @@ impl<'q, L: TestStore + LookedUpIn<'q, By: OfEnded>> Given<'q, L> {
 
 /// A table with its list, and what was printed so far.
 #[derive(Drop)]
-pub struct Course<'q, L: TestStore + LookedUpIn<'q>, S: HasherCount> {
+pub struct Course<'q, L: TestStore + LookedUpIn<'q>, S: HasherCount>
+where
+    L::Content: Content + Drop,
+    L::Prepared: Drop,
+{
     table: TableOver<L, S>,
     given: Given<'q, L>,
     by_run: bool,
@@ -74,7 +86,8 @@ pub fn left_by<'q, L: TestStore + LookedUpIn<'q, By: OfEnded>>(
     run: Run<'_>,
 ) -> Result<Made<L>, Fault>
 where
-    L::Content: SoughtIn<L>,
+    L::Content: Content + SoughtIn<L> + Drop,
+    L::Prepared: Drop,
     TableOver<L, L::Hasher>: StringList,
 {
     let given = Given::<L>::make(rt.alloc(), run.3)?;
@@ -89,7 +102,8 @@ pub fn watch_equal<'q, L: TestStore + LookedUpIn<'q, By: OfEnded>>(
     run: Run<'_>,
 ) -> Result<(), Fault>
 where
-    L::Content: SoughtIn<L>,
+    L::Content: Content + SoughtIn<L> + Drop,
+    L::Prepared: Drop,
     TableOver<L, Counted>: StringList,
 {
     let given = Given::<L>::make(rt.alloc(), run.3)?;
@@ -101,7 +115,8 @@ where
 
 impl<'q, L: TestStore + LookedUpIn<'q, By: OfEnded>, S: HasherCount> Course<'q, L, S>
 where
-    L::Content: SoughtIn<L>,
+    L::Content: Content + SoughtIn<L> + Drop,
+    L::Prepared: Drop,
     TableOver<L, S>: StringList,
 {
     fn new(
@@ -168,7 +183,7 @@ where
         rt: &impl Told,
         ask: Ask,
         turn: usize,
-        contents: Option<Vec<ContentOf<L::Kind>>>,
+        contents: Option<Vec<L::Item>>,
     ) -> Result<bool, TableError> {
         self.calls = self.calls.saturating_add(1);
         self.fault = Fault::Answer(self.calls);
@@ -202,7 +217,7 @@ where
         alloc: Global,
         ask: Ask,
         turn: usize,
-        contents: Option<Vec<ContentOf<L::Kind>>>,
+        contents: Option<Vec<L::Item>>,
     ) -> Result<bool, TableError> {
         let mut calls = Vec::with_capacity(alloc, 1)?;
         let Some(call) = ask.call(contents.and_then(|mut one| one.pop())) else {
@@ -226,7 +241,7 @@ where
         &mut self,
         alloc: Global,
         ask: Ask,
-        contents: Option<Vec<ContentOf<L::Kind>>>,
+        contents: Option<Vec<L::Item>>,
     ) -> Result<bool, TableError> {
         if let Some(contents) = contents {
             return self.took(alloc, ask, contents);
@@ -249,10 +264,6 @@ where
                 Reply::NoMemory => Err(TableError::from(AllocError)),
                 reply => Ok(reply == Reply::Done),
             },
-            Ask::ReserveBytes(additional) => {
-                L::reserve_bytes(&mut self.table, additional)?;
-                Ok(true)
-            }
             Ask::Freeze => frozen(alloc, &self.table),
             Ask::CString => c_string(alloc),
             _ => self.took_forms(alloc, ask),
@@ -264,7 +275,7 @@ where
         &mut self,
         alloc: Global,
         ask: Ask,
-        mut contents: Vec<ContentOf<L::Kind>>,
+        mut contents: Vec<L::Item>,
     ) -> Result<bool, TableError> {
         if let Ask::InternAll(count) = ask {
             let symbols = L::intern_all(alloc, &mut self.table, contents)?;

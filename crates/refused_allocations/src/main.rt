@@ -19,11 +19,12 @@ use absorbing::absorb_each;
 use course::{left_by, watch_equal};
 use fault::{Fault, Told};
 use intaglio::packed::{Packed, PackedForm};
-use intaglio::{ContentOf, KindForm, StrContent};
+use intaglio::{ContentOf, KindForm, Table};
 use runs::{RUNS, Run};
 use std::env;
 use std::process::ExitCode;
 use std::rt::Env;
+use tests::support::builders::Fold;
 use tests::support::kinds::{
     BStrKind, BytesKind, CStrKind, OfEnded, OsStrKind, PathKind, StrKind, TestKind,
 };
@@ -110,8 +111,15 @@ fn on_owned<'q, K: TestKind + KindForm<'q, Form: OfEnded>>(
     if name == "equal" {
         return watch_equal::<Vec<ContentOf<K>>>(rt, run_of(name)?);
     }
-    let _table = left_by::<Vec<ContentOf<K>>>(rt, run_of(name)?)?;
+    let _table = left_on::<K>(rt, name)?;
     Ok(())
+}
+
+fn left_on<'q, K: TestKind + KindForm<'q, Form: OfEnded>>(
+    rt: &impl Told,
+    name: &str,
+) -> Result<Table<ContentOf<K>, Fold>, Fault> {
+    left_by::<Vec<ContentOf<K>>>(rt, run_of(name)?)
 }
 
 fn on_packed<'q, K: TestKind + PackedForm<'q, Form: OfEnded>>(
@@ -124,7 +132,7 @@ fn on_packed<'q, K: TestKind + PackedForm<'q, Form: OfEnded>>(
 
 // A word that a table of texts holds is got without memory.
 fn known(rt: &impl Told) -> Result<(), Fault> {
-    let table = left_by::<Vec<StrContent>>(rt, run_of("known")?)?;
+    let table = left_on::<StrKind>(rt, "known")?;
     match table.get_interned("abc") {
         Some((symbol, "abc")) if symbol.is(0) => Ok(()),
         _ => Err(Fault::State(0)),

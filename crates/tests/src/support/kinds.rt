@@ -73,16 +73,45 @@ impl OfSpelling for CString {
 }
 
 /// A kind whose strings can be made from any spelling.
-pub trait TestKind: KindOwned<Static: OfEnded, Owned: OfSpelling> {}
+pub trait TestKind: KindOwned {
+    /// An owned content of this spelling.
+    fn owned(alloc: Global, spelling: &[u8]) -> Option<ContentOf<Self>>;
 
-impl<K: KindOwned<Static: OfEnded, Owned: OfSpelling>> TestKind for K {}
-
-/// An owned content of this spelling.
-pub fn owned<K: TestKind>(alloc: Global, spelling: &[u8]) -> Option<ContentOf<K>> {
-    Some(ContentOf::Owned(K::Owned::of_spelling(alloc, spelling)?))
+    /// A borrowed content of this text, behind which a zero byte stands.
+    fn borrowed(ended: &'static str) -> Option<ContentOf<Self>>;
 }
 
-/// A borrowed content of this text, behind which a zero byte stands.
-pub fn borrowed<K: TestKind>(ended: &'static str) -> Option<ContentOf<K>> {
-    Some(ContentOf::Borrowed(K::Static::of_ended(ended)?))
+/// A content of such a kind.
+pub trait TestContent: Drop {
+    /// An owned content of this spelling.
+    fn owned(alloc: Global, spelling: &[u8]) -> Option<Self>;
+
+    /// A borrowed content of this text, behind which a zero byte stands.
+    fn borrowed(ended: &'static str) -> Option<Self>;
 }
+
+impl<K: TestKind> TestContent for ContentOf<K> {
+    fn owned(alloc: Global, spelling: &[u8]) -> Option<ContentOf<K>> {
+        K::owned(alloc, spelling)
+    }
+
+    fn borrowed(ended: &'static str) -> Option<ContentOf<K>> {
+        K::borrowed(ended)
+    }
+}
+
+macro_rules! test_kinds {
+    ($($kind:ident)*) => {$(
+        impl TestKind for $kind {
+            fn owned(alloc: Global, spelling: &[u8]) -> Option<ContentOf<$kind>> {
+                Some(ContentOf::Owned(OfSpelling::of_spelling(alloc, spelling)?))
+            }
+
+            fn borrowed(ended: &'static str) -> Option<ContentOf<$kind>> {
+                Some(ContentOf::Borrowed(OfEnded::of_ended(ended)?))
+            }
+        }
+    )*};
+}
+
+test_kinds! { StrKind OsStrKind BytesKind BStrKind CStrKind PathKind }

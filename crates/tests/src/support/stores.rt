@@ -1,6 +1,6 @@
 //! Stores of the tables that are tried: how tables over each are made, and the calls that change one.
 use crate::support::builders::{Fold, HasherCount};
-use crate::support::kinds::TestKind;
+use crate::support::kinds::{TestContent, TestKind};
 use crate::support::replies::{roomy, taken};
 use intaglio::packed::Packed;
 use intaglio::{
@@ -30,9 +30,13 @@ pub enum Make {
 pub type Made<L> = TableOver<L, <L as TestStore>::Hasher>;
 
 /// A store whose tables are tried: a list of owned contents, or one buffer.
-pub trait TestStore: Indexed<Content: Content + Drop, Prepared: Drop> + SpelledStore + Drop {
-    /// The kind of its strings.
-    type Kind: TestKind;
+pub trait TestStore: Indexed + SpelledStore + Drop
+where
+    Self::Content: Content + Drop,
+    Self::Prepared: Drop,
+{
+    /// What is interned.
+    type Item: TestContent;
 
     /// The hash builder of its tables.
     type Hasher: HasherCount;
@@ -49,28 +53,28 @@ pub trait TestStore: Indexed<Content: Content + Drop, Prepared: Drop> + SpelledS
     /// As `intern`.
     fn intern<S: BuildHasher>(
         table: &mut TableOver<Self, S>,
-        content: ContentOf<Self::Kind>,
+        content: Self::Item,
     ) -> Result<Symbol, InternError>;
 
     /// As `intern_all`. A table in one buffer, which hasn't that call, interns one after the other.
     fn intern_all<S: BuildHasher>(
         alloc: Global,
         table: &mut TableOver<Self, S>,
-        contents: Vec<ContentOf<Self::Kind>>,
+        contents: Vec<Self::Item>,
     ) -> Result<Vec<Symbol>, InternError>;
 
     /// By the function `intern_all`.
     fn intern_counted<S: BuildHasher>(
         alloc: Global,
         table: &mut TableOver<Self, S>,
-        contents: Vec<ContentOf<Self::Kind>>,
+        contents: Vec<Self::Item>,
     ) -> Result<Vec<Symbol>, InternError>;
 
     /// Makes calls with contents by `run`.
     fn run<S: BuildHasher>(
         alloc: Global,
         table: &mut TableOver<Self, S>,
-        calls: Vec<Call<ContentOf<Self::Kind>>>,
+        calls: Vec<Call<Self::Item>>,
     ) -> Result<Vec<Reply>, AllocError>;
 
     /// The bytes of what `table[symbol]` gives, if the symbol was issued. A table in one buffer has no such call.
@@ -84,7 +88,7 @@ pub trait TestStore: Indexed<Content: Content + Drop, Prepared: Drop> + SpelledS
 }
 
 impl<K: TestKind> TestStore for Vec<ContentOf<K>> {
-    type Kind = K;
+    type Item = ContentOf<K>;
 
     type Hasher = Fold;
 
@@ -148,7 +152,7 @@ impl<K: TestKind> TestStore for Vec<ContentOf<K>> {
 }
 
 impl<K: TestKind> TestStore for Packed<K> {
-    type Kind = K;
+    type Item = ContentOf<K>;
 
     type Hasher = FixedState;
 
@@ -225,7 +229,11 @@ fn intern_each<K: KindOwned, S: BuildHasher>(
 }
 
 /// Makes an empty table.
-pub fn make_table<L: TestStore>(alloc: Global, how: Make) -> Result<Made<L>, RoomError> {
+pub fn make_table<L: TestStore>(alloc: Global, how: Make) -> Result<Made<L>, RoomError>
+where
+    L::Content: Content + Drop,
+    L::Prepared: Drop,
+{
     match how {
         Make::New => L::made_new(alloc),
         Make::Rounded(capacity) => L::made_rounded(alloc, capacity),
@@ -242,6 +250,8 @@ pub enum Update {
     Reserve(usize),
     /// `try_reserve`.
     TryReserve(usize),
+    /// `reserve_bytes`, in one buffer.
+    ReserveBytes(usize),
     /// `shrink_to`.
     ShrinkTo(usize),
     /// `shrink_to_fit`.
@@ -253,10 +263,17 @@ pub enum Update {
 }
 
 /// Makes a call that changes a table.
-pub fn updated<L: TestStore, S: HasherCount>(table: &mut TableOver<L, S>, update: Update) -> Reply {
+pub fn updated<L: TestStore, S: HasherCount>(table: &mut TableOver<L, S>, update: Update) -> Reply
+where
+    L::Content: Content + Drop,
+    L::Prepared: Drop,
+{
     match update {
         Update::Reserve(additional) => roomy(table.reserve(additional)),
         Update::TryReserve(additional) => roomy(table.try_reserve(additional)),
+        Update::ReserveBytes(additional) => {
+            roomy(L::reserve_bytes(table, additional).map_err(RoomError::Memory))
+        }
         Update::ShrinkTo(capacity) => roomy(table.shrink_to(capacity)),
         Update::ShrinkToFit => roomy(table.shrink_to_fit()),
         Update::Clear => {

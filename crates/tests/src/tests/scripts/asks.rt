@@ -2,13 +2,14 @@
 use super::printed::{Shown, inserted_text, numbered, reply_text, spelled, symbols_text, word};
 use super::steps::walked;
 use crate::support::builders::HasherCount;
-use crate::support::kinds::{BStrKind, BytesKind, CStrKind, Host, OsStrKind, PathKind, StrKind};
+use crate::support::kinds::{
+    BStrKind, BytesKind, CStrKind, Host, OsStrKind, PathKind, StrKind, TestKind,
+};
 use crate::support::replies::interned;
-use crate::support::stores::TestStore;
 use intaglio::packed::Packed;
 use intaglio::{
-    Content, ContentOf, Indexed, KindForm, Lends, LookedUpIn, Reply, SoughtIn, Symbol, TableOver,
-    Work, get_or_intern_all,
+    Content, ContentOf, Indexed, KindForm, Lends, LookedUpIn, Reply, SoughtIn, Symbol, Table,
+    TableOver, Work, get_or_intern_all,
 };
 
 /// A call by borrowed forms, or one that borrows what is stored.
@@ -42,30 +43,42 @@ pub enum Ask {
     Each,
 }
 
-/// A store whose tables are asked. Its impls alone name tables of one kind, since the prover takes seconds
-/// wherever one of them is passed to a call of any table.
-pub trait Asked: TestStore {
+/// A kind whose tables are asked. Its impls, and those of [`PackedKind`], alone name tables of one kind,
+/// since the prover takes seconds wherever one of them is passed to a call of any table.
+pub trait OwnedKind: TestKind {
     /// Whether contents are compared as paths.
     const ARE_PATHS: bool;
 
     /// Makes a call by the borrowed forms of contents, or these steps, and returns its result as text.
-    fn ask<R: Host, S: HasherCount>(
+    fn ask_owned<R: Host, S: HasherCount>(
         rt: &R,
-        table: &mut TableOver<Self, S>,
-        contents: &[ContentOf<Self::Kind>],
+        table: &mut Table<ContentOf<Self>, S>,
+        contents: &[ContentOf<Self>],
+        steps: &str,
+        ask: Ask,
+    ) -> String;
+}
+
+/// The same of tables in one buffer.
+pub trait PackedKind: OwnedKind {
+    /// Makes a call by the borrowed forms of contents, or these steps, and returns its result as text.
+    fn ask_packed<R: Host, S: HasherCount>(
+        rt: &R,
+        table: &mut TableOver<Packed<Self>, S>,
+        contents: &[ContentOf<Self>],
         steps: &str,
         ask: Ask,
     ) -> String;
 }
 
 macro_rules! asked {
-    ($($store:ty: $kind:ident $forms:ident $are_paths:literal;)*) => {$(
-        impl Asked for $store {
-            const ARE_PATHS: bool = $are_paths;
+    ($($trait:ident for $kind:ident: $name:ident $table:ty, $forms:ident $($are_paths:literal)?;)*) => {$(
+        impl $trait for $kind {
+            $(const ARE_PATHS: bool = $are_paths;)?
 
-            fn ask<R: Host, S: HasherCount>(
+            fn $name<R: Host, S: HasherCount>(
                 rt: &R,
-                table: &mut TableOver<$store, S>,
+                table: &mut TableOver<$table, S>,
                 contents: &[ContentOf<$kind>],
                 steps: &str,
                 ask: Ask,
@@ -84,17 +97,17 @@ macro_rules! asked {
 }
 
 asked! {
-    Vec<ContentOf<StrKind>>: StrKind strings false;
-    Vec<ContentOf<OsStrKind>>: OsStrKind os_strings false;
-    Vec<ContentOf<BytesKind>>: BytesKind bytestrings false;
-    Vec<ContentOf<BStrKind>>: BStrKind bstrings false;
-    Vec<ContentOf<CStrKind>>: CStrKind c_strings false;
-    Vec<ContentOf<PathKind>>: PathKind paths true;
-    Packed<StrKind>: StrKind strings false;
-    Packed<OsStrKind>: OsStrKind os_strings false;
-    Packed<BytesKind>: BytesKind bytestrings false;
-    Packed<BStrKind>: BStrKind bstrings false;
-    Packed<PathKind>: PathKind paths true;
+    OwnedKind for StrKind: ask_owned Vec<ContentOf<StrKind>>, strings false;
+    OwnedKind for OsStrKind: ask_owned Vec<ContentOf<OsStrKind>>, os_strings false;
+    OwnedKind for BytesKind: ask_owned Vec<ContentOf<BytesKind>>, bytestrings false;
+    OwnedKind for BStrKind: ask_owned Vec<ContentOf<BStrKind>>, bstrings false;
+    OwnedKind for CStrKind: ask_owned Vec<ContentOf<CStrKind>>, c_strings false;
+    OwnedKind for PathKind: ask_owned Vec<ContentOf<PathKind>>, paths true;
+    PackedKind for StrKind: ask_packed Packed<StrKind>, strings;
+    PackedKind for OsStrKind: ask_packed Packed<OsStrKind>, os_strings;
+    PackedKind for BytesKind: ask_packed Packed<BytesKind>, bytestrings;
+    PackedKind for BStrKind: ask_packed Packed<BStrKind>, bstrings;
+    PackedKind for PathKind: ask_packed Packed<PathKind>, paths;
 }
 
 fn first<'a, C>(rt: &impl Host, contents: &'a [C]) -> &'a C {

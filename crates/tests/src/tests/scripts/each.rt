@@ -1,5 +1,5 @@
 //! What is run on tables of each kind: scripts, and more.
-use super::asks::Asked;
+use super::asks::{OwnedKind, PackedKind};
 use super::loops::{interns, keeps_new};
 use super::script::plays;
 use super::table::{Makes, Table};
@@ -16,8 +16,17 @@ pub trait Trial {
     fn try_on<T: Makes, R: Host>(&self, rt: &R);
 }
 
-fn try_over<L: Asked, Q: Trial>(rt: &impl Host, trial: &Q) {
-    trial.try_on::<Made<L>, _>(rt);
+fn try_owned<K: OwnedKind, Q: Trial>(rt: &impl Host, trial: &Q) {
+    trial.try_on::<Made<Vec<ContentOf<K>>>, _>(rt);
+}
+
+fn try_packed<K: PackedKind, Q: Trial>(rt: &impl Host, trial: &Q) {
+    trial.try_on::<Made<Packed<K>>, _>(rt);
+}
+
+fn try_both<K: PackedKind, Q: Trial>(rt: &impl Host, trial: &Q) {
+    try_owned::<K, Q>(rt, trial);
+    try_packed::<K, Q>(rt, trial);
 }
 
 /// Runs the trial on tables of each kind.
@@ -28,46 +37,42 @@ pub fn try_on_each<Q: Trial>(rt: &impl Host, trial: &Q) {
 
 /// Runs the trial on tables of owned contents of each kind.
 pub fn try_on_owned<Q: Trial>(rt: &impl Host, trial: &Q) {
-    try_over::<Vec<ContentOf<StrKind>>, _>(rt, trial);
-    try_over::<Vec<ContentOf<OsStrKind>>, _>(rt, trial);
-    try_over::<Vec<ContentOf<BytesKind>>, _>(rt, trial);
-    try_over::<Vec<ContentOf<BStrKind>>, _>(rt, trial);
-    try_over::<Vec<ContentOf<CStrKind>>, _>(rt, trial);
-    try_over::<Vec<ContentOf<PathKind>>, _>(rt, trial);
+    try_owned::<StrKind, Q>(rt, trial);
+    try_owned::<OsStrKind, Q>(rt, trial);
+    try_owned::<BytesKind, Q>(rt, trial);
+    try_owned::<BStrKind, Q>(rt, trial);
+    try_owned::<CStrKind, Q>(rt, trial);
+    try_owned::<PathKind, Q>(rt, trial);
 }
 
 /// Runs the trial on tables in one buffer.
 pub fn try_on_packed<Q: Trial>(rt: &impl Host, trial: &Q) {
-    try_over::<Packed<StrKind>, _>(rt, trial);
-    try_over::<Packed<OsStrKind>, _>(rt, trial);
-    try_over::<Packed<BytesKind>, _>(rt, trial);
-    try_over::<Packed<BStrKind>, _>(rt, trial);
-    try_over::<Packed<PathKind>, _>(rt, trial);
+    try_packed::<StrKind, Q>(rt, trial);
+    try_packed::<OsStrKind, Q>(rt, trial);
+    try_packed::<BytesKind, Q>(rt, trial);
+    try_packed::<BStrKind, Q>(rt, trial);
+    try_packed::<PathKind, Q>(rt, trial);
 }
 
 /// Runs the trial on tables of bytes.
 pub fn try_on_bytes<Q: Trial>(rt: &impl Host, trial: &Q) {
-    try_over::<Vec<ContentOf<BytesKind>>, _>(rt, trial);
-    try_over::<Vec<ContentOf<BStrKind>>, _>(rt, trial);
-    try_over::<Packed<BytesKind>, _>(rt, trial);
-    try_over::<Packed<BStrKind>, _>(rt, trial);
+    try_both::<BytesKind, Q>(rt, trial);
+    try_both::<BStrKind, Q>(rt, trial);
 }
 
 /// Runs the trial on tables of C strings.
 pub fn try_on_c_strings<Q: Trial>(rt: &impl Host, trial: &Q) {
-    try_over::<Vec<ContentOf<CStrKind>>, _>(rt, trial);
+    try_owned::<CStrKind, Q>(rt, trial);
 }
 
 /// Plays the script on tables of texts.
 pub fn on_texts(rt: &impl Host, script: &'static str) {
-    try_over::<Vec<ContentOf<StrKind>>, _>(rt, &Script(script));
-    try_over::<Packed<StrKind>, _>(rt, &Script(script));
+    try_both::<StrKind, _>(rt, &Script(script));
 }
 
 /// Plays the script on tables of paths.
 pub fn on_paths(rt: &impl Host, script: &'static str) {
-    try_over::<Vec<ContentOf<PathKind>>, _>(rt, &Script(script));
-    try_over::<Packed<PathKind>, _>(rt, &Script(script));
+    try_both::<PathKind, _>(rt, &Script(script));
 }
 
 /// A script, whose calls make their tables.

@@ -1,16 +1,15 @@
 //! How many hashers a table makes, and tables whose hashes are equal, share buckets or are random.
-use super::asks::Asked;
+use super::asks::OwnedKind;
 use super::each::{Script, try_on_each, try_on_owned, try_on_packed};
 use super::script::{lines_of, makes_calls};
 use crate::support::builders::{Counted, HasherCount};
 use crate::support::kinds::{Host, StrKind};
-use crate::support::stores::TestStore;
 use crate::tests::assertions::same;
 use intaglio::packed::Packed;
 use intaglio::path::{Path, PathContent};
 use intaglio::{
-    AddedTo, BaseInterner, Copied, Keyed, LookedUpIn, Sought, SoughtIn, StrContent, TableOver,
-    Work, check_all,
+    AddedTo, BaseInterner, Content, ContentOf, Copied, Indexed, Keyed, LookedUpIn, Sought,
+    SoughtIn, StrContent, Table, TableOver, Work, check_all,
 };
 use intaglio_core::look_ahead;
 use std::hash::RandomState;
@@ -55,9 +54,14 @@ fn a_table_made_of_forms_hashes_each_once(rt: HostRuntime) {
 }
 
 // Asserts how many hashers a table makes that is made of forms.
-fn hashes_forms<'q, L: LookedUpIn<'q> + TestStore>(rt: &impl Host, forms: &[L::By], wanted: usize)
+fn hashes_forms<'q, L: LookedUpIn<'q> + Indexed + Drop>(
+    rt: &impl Host,
+    forms: &[L::By],
+    wanted: usize,
+)
 where
-    L::Content: SoughtIn<L>,
+    L::Content: Content + SoughtIn<L> + Drop,
+    L::Prepared: Drop,
 {
     let made = TableOver::<L, Counted>::from_slice(rt.alloc(), Counted::new(None), forms);
     same(rt, made.expect(rt, "memory").hasher().made(), Some(wanted));
@@ -98,13 +102,14 @@ fn a_call_by_a_hash_makes_no_hasher(rt: HostRuntime) {
 }
 
 // Asserts how many hashers a table makes for these calls.
-fn hashes_counted_calls<H, L: TestStore, Q: AddedTo<L, H> + Copy>(
+fn hashes_counted_calls<H, L: Indexed + Drop, Q: AddedTo<L, H> + Copy>(
     rt: &impl Host,
     values: &[Q],
     wanted: usize,
 )
 where
-    L::Content: SoughtIn<L>,
+    L::Content: Content + SoughtIn<L> + Drop,
+    L::Prepared: Drop,
 {
     let made = TableOver::<L, Counted>::with_hasher(rt.alloc(), Counted::new(None));
     let mut table = made.expect(rt, "no table");
@@ -147,11 +152,11 @@ random_hashes_serve_too:
 #[test]
 fn random_hashes_serve_too(rt: HostRuntime) {
     let hasher = RandomState::new(&rt).expect(&rt, "a seed");
-    plays_under::<Vec<StrContent>>(&rt, hasher);
+    plays_under::<StrKind>(&rt, hasher);
 }
 
-fn plays_under<L: Asked>(rt: &impl Host, hasher: RandomState) {
-    let made = TableOver::<L, RandomState>::with_hasher(rt.alloc(), hasher);
+fn plays_under<K: OwnedKind>(rt: &impl Host, hasher: RandomState) {
+    let made = Table::<ContentOf<K>, RandomState>::with_hasher(rt.alloc(), hasher);
     makes_calls(rt, &mut made.expect(rt, "no table"), &lines_of(rt, RANDOM));
 }
 

@@ -20,40 +20,31 @@ fn gives<T: Table>(rt: &impl Host, table: &mut T, spelling: &[u8], ask: Ask, wan
     same(rt, answer.as_str(), wanted);
 }
 
-/// What is done with each of the decimal numbers.
-#[derive(Clone, Copy)]
-pub enum Turn {
-    /// Interns it, which gets the symbol of this number.
-    Interns,
-    /// The same with the number padded with zeros to 100 bytes, twice, as [`keeps_new`].
-    Keeps,
-    /// Checks it. They are checked from the last to the first.
-    Checks,
-    /// Looks it up, by each of the three look-ups.
-    Finds,
-}
-
-/// Does this with the decimal numbers from 0.
-pub fn makes_turns<T: Table>(rt: &impl Host, table: &mut T, turn: Turn, count: u32) {
+/// Does with the decimal numbers from 0 what the name says: `intern_numbers` interns each, which gets the symbol of
+/// this number, `keep_numbers` keeps each as [`keeps_new`] does, padded with zeros to 100 bytes, `check_numbers`
+/// checks them from the last to the first, and `find_numbers` makes each of the three look-ups.
+pub fn makes_turns<T: Table>(rt: &impl Host, table: &mut T, name: &str, count: u32) {
     for number in 0..count {
-        match turn {
-            Turn::Checks => makes_turn(rt, table, turn, count - 1 - number),
-            _ => makes_turn(rt, table, turn, number),
-        }
+        let wanted = if name == "check_numbers" {
+            count - 1 - number
+        } else {
+            number
+        };
+        makes_turn(rt, table, name, wanted);
     }
 }
 
-fn makes_turn<T: Table>(rt: &impl Host, table: &mut T, turn: Turn, wanted: u32) {
-    let text = match turn {
-        Turn::Keeps => format!(in rt.alloc(); "{wanted:0100}").expect(rt, "memory"),
+fn makes_turn<T: Table>(rt: &impl Host, table: &mut T, name: &str, wanted: u32) {
+    let text = match name {
+        "keep_numbers" => format!(in rt.alloc(); "{wanted:0100}").expect(rt, "memory"),
         _ => wanted.to_string(rt.alloc()).expect(rt, "memory"),
     };
     let spelling = text.as_bytes();
-    match turn {
-        Turn::Interns => interns(rt, table, spelling, wanted),
-        Turn::Keeps => keeps_new(rt, table, spelling, wanted),
-        Turn::Checks => gives(rt, table, spelling, Ask::CheckInterned, text.as_str()),
-        Turn::Finds => finds(rt, table, spelling, Symbol::new(wanted)),
+    match name {
+        "intern_numbers" => interns(rt, table, spelling, wanted),
+        "keep_numbers" => keeps_new(rt, table, spelling, wanted),
+        "check_numbers" => gives(rt, table, spelling, Ask::CheckInterned, text.as_str()),
+        _ => finds(rt, table, spelling, Symbol::new(wanted)),
     }
 }
 

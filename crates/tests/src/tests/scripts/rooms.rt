@@ -1,14 +1,11 @@
 //! Capacities, reservations, shrinks, limits and rollbacks.
-use super::each::{Script, try_on_each};
+use super::each::{Script, try_on_each, try_on_packed};
 
 const ROOMS: &str = "
 tables_are_made_of_their_capacity:
-    with_capacity 0 > done; capacity > 0
-    with_capacity 1 > done; capacity > 1
-    with_capacity 10 > done; capacity > 16
-    with_capacity 4097 > done; capacity > 8192
-    new > done; capacity > 4096
-    with_hasher > done; capacity > 4096; limit > 4294967296
+    with_capacity 0 > done; capacity > 0; with_capacity 1 > done; capacity > 1
+    with_capacity 10 > done; capacity > 16; with_capacity 4097 > done; capacity > 8192
+    new > done; capacity > 4096; with_hasher > done; capacity > 4096; limit > 4294967296
     with_capacity_and_hasher 10 > done; capacity > 10
     with_capacity 4294967297 > capacity overflow
     with_capacity 18446744073709551615 > capacity overflow
@@ -35,10 +32,8 @@ a_shrink_leaves_what_was_asked_for:
     with_capacity 10 > done; intern a, b, c > 0, 1, 2; shrink_to 5 > done; fits 5 > true
     with_capacity 1 > done; intern a > 0; shrink_to 5 > done; capacity > 1
 a_limit_is_from_one_to_the_number_of_symbols:
-    with_limit 0 > capacity overflow
-    with_limit 4294967297 > capacity overflow
-    with_limit 4294967296 > done; limit > 4294967296; capacity > 0
-    with_limit 1 > done; limit > 1
+    with_limit 0 > capacity overflow; with_limit 4294967297 > capacity overflow
+    with_limit 4294967296 > done; limit > 4294967296; capacity > 0; with_limit 1 > done; limit > 1
 a_full_table_still_finds:
     with_limit 2 > done; intern a, b, c, a > 0, 1, Symbol overflow, 0; len > 2
 room_is_reserved_up_to_the_limit:
@@ -62,4 +57,15 @@ a_full_table_is_taken_back:
 #[test]
 fn room_is_made_limited_and_given_back(rt: HostRuntime) {
     try_on_each(&rt, &Script(ROOMS));
+}
+
+const PACKED: &str = "
+a_packed_table_has_room_and_gives_it_up:
+    with_capacity_and_hasher 0 > done; capacity > 0; reserve 3 > done; reserve_bytes 1000 > done
+    fits 3 > true; get_or_intern abc > 0; shrink_to_fit > done; capacity > 1; get 0 > abc; check abc > 0
+";
+
+#[test]
+fn a_packed_table_has_room_and_gives_it_up(rt: HostRuntime) {
+    try_on_packed(&rt, &Script(PACKED));
 }

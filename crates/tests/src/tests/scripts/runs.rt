@@ -5,7 +5,7 @@ use super::printed::reply_text;
 use super::script::{Line, agrees, content, lines_of, size, split_part, symbol};
 use super::table::{Makes, Table as _};
 use crate::support::builders::Fold;
-use crate::support::kinds::{Host, StrKind, TestKind};
+use crate::support::kinds::{Host, StrKind, TestContent, TestKind};
 use crate::support::stores::Make;
 use crate::tests::assertions::same;
 use intaglio::packed::Packed;
@@ -72,7 +72,7 @@ fn a_run_on_a_core_and_by_texts_answers_as_its_calls(rt: HostRuntime) {
 
 fn runs_on_a_core<K: TestKind>(rt: &impl Host, limit: usize, lines: &[Line]) {
     let made = IndexedStore::<Vec<ContentOf<K>>, Fold>::with_limit(rt.alloc(), limit, Fold::new());
-    runs::<Moved, _, _>(rt, made, by_contents::<K>(rt, lines), lines);
+    runs::<Moved, _, _>(rt, made, by_contents::<ContentOf<K>>(rt, lines), lines);
 }
 
 // By forms, on a table of owned contents.
@@ -121,7 +121,7 @@ fn agree(rt: &impl Host, lines: &[Line], replies: &[Reply]) {
 }
 
 // The calls of lines, by owned contents.
-fn by_contents<K: TestKind>(rt: &impl Host, lines: &[Line]) -> Vec<Call<ContentOf<K>>> {
+fn by_contents<C: TestContent>(rt: &impl Host, lines: &[Line]) -> Vec<Call<C>> {
     let mut calls = Vec::new(rt.alloc());
     for line in lines {
         push_call(rt, &mut calls, *line, content(rt, line.word.as_bytes()));

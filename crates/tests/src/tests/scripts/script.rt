@@ -2,15 +2,15 @@
 //! calls and their expected results: `intern a, b > 0, 1` are two calls, and `; ` stands between others. A
 //! call that makes a table begins anew with that one.
 use super::asks::Ask;
-use super::loops::{Turn, asked, makes_turns};
+use super::loops::{asked, makes_turns};
 use super::printed::{number, reply_text, spelled, word};
 use super::steps::walked;
 use super::table::{Counts, Makes, Table};
 use crate::support::builders::Counted;
-use crate::support::kinds::{Host, TestKind, borrowed, owned};
+use crate::support::kinds::{Host, TestContent};
 use crate::support::replies::roomy;
 use crate::support::stores::{Make, Update};
-use intaglio::{ContentOf, Reply, Symbol};
+use intaglio::{Reply, Symbol};
 
 /// A call: its row, its name, its arguments, and its expected result.
 #[derive(Clone, Copy)]
@@ -149,8 +149,8 @@ pub fn answer<T: Table>(rt: &impl Host, table: &mut T, line: Line) -> String {
     if let Some(ask) = ask(rt, line) {
         return asked(rt, table, line.word.as_bytes(), ask);
     }
-    if let Some(turn) = turn(line) {
-        makes_turns(rt, table, turn, size(rt, line.word) as u32);
+    if line.name.ends_with("_numbers") {
+        makes_turns(rt, table, line.name, size(rt, line.word) as u32);
         return word(rt, "done");
     }
     batch(rt, table, line)
@@ -159,7 +159,7 @@ pub fn answer<T: Table>(rt: &impl Host, table: &mut T, line: Line) -> String {
 fn reply<T: Table>(rt: &impl Host, table: &mut T, line: Line) -> Option<Reply> {
     match line.name {
         "intern" => Some(table.put(content(rt, line.word.as_bytes()))),
-        "lend" => Some(table.put(borrowed(line.word).expect(rt, line.word))),
+        "lend" => Some(table.put(T::Item::borrowed(line.word).expect(rt, line.word))),
         "index" => Some(spelled(rt, table.index(symbol(rt, line.word)))),
         _ => match update(rt, line) {
             Some(update) => Some(table.update(update)),
@@ -168,20 +168,11 @@ fn reply<T: Table>(rt: &impl Host, table: &mut T, line: Line) -> Option<Reply> {
     }
 }
 
-fn turn(line: Line) -> Option<Turn> {
-    match line.name {
-        "intern_numbers" => Some(Turn::Interns),
-        "keep_numbers" => Some(Turn::Keeps),
-        "check_numbers" => Some(Turn::Checks),
-        "find_numbers" => Some(Turn::Finds),
-        _ => None,
-    }
-}
-
 fn update(rt: &impl Host, line: Line) -> Option<Update> {
     match line.name {
         "reserve" => Some(Update::Reserve(size(rt, line.word))),
         "try_reserve" => Some(Update::TryReserve(size(rt, line.word))),
+        "reserve_bytes" => Some(Update::ReserveBytes(size(rt, line.word))),
         "shrink_to" => Some(Update::ShrinkTo(size(rt, line.word))),
         "shrink_to_fit" => Some(Update::ShrinkToFit),
         "clear" => Some(Update::Clear),
@@ -239,6 +230,6 @@ fn batch<T: Table>(rt: &impl Host, table: &mut T, line: Line) -> String {
 }
 
 /// An owned content of this spelling.
-pub fn content<K: TestKind>(rt: &impl Host, spelling: &[u8]) -> ContentOf<K> {
-    owned(rt.alloc(), spelling).expect(rt, "no such content")
+pub fn content<C: TestContent>(rt: &impl Host, spelling: &[u8]) -> C {
+    C::owned(rt.alloc(), spelling).expect(rt, "no such content")
 }

@@ -3,12 +3,13 @@
 //!
 //! The prover takes seconds wherever a table of one kind is passed to a call of any table: here that is
 //! done once, for tables of any kind.
-use super::asks::{Ask, Asked};
+use super::asks::{Ask, OwnedKind, PackedKind};
 use super::printed::symbols_text;
 use crate::support::builders::{Counted, HasherCount};
-use crate::support::kinds::{Host, TestKind};
+use crate::support::kinds::{Host, TestContent};
 use crate::support::replies::interned;
-use crate::support::stores::{Make, Update, make_table, updated};
+use crate::support::stores::{Made, Make, TestStore, Update, make_table, updated};
+use intaglio::packed::Packed;
 use intaglio::{AllSymbols, Call, ContentOf, Mark, Reply, RoomError, Symbol, TableOver};
 use std::alloc::Global;
 
@@ -26,29 +27,23 @@ pub struct Counts {
 
 /// A table, by its own calls.
 pub trait Table: Drop {
-    /// The kind of what it stores.
-    type Kind: TestKind;
+    /// What is interned.
+    type Item: TestContent;
 
     /// As `intern`.
-    fn put(&mut self, content: ContentOf<Self::Kind>) -> Reply;
+    fn put(&mut self, content: Self::Item) -> Reply;
 
     /// As `intern_all`.
-    fn put_all<R: Host>(&mut self, rt: &R, contents: Vec<ContentOf<Self::Kind>>) -> String;
+    fn put_all<R: Host>(&mut self, rt: &R, contents: Vec<Self::Item>) -> String;
 
     /// By the function `intern_all`.
-    fn put_counted<R: Host>(&mut self, rt: &R, contents: Vec<ContentOf<Self::Kind>>) -> String;
+    fn put_counted<R: Host>(&mut self, rt: &R, contents: Vec<Self::Item>) -> String;
 
     /// Makes a call by the borrowed forms of contents, or these steps.
-    fn ask<R: Host>(
-        &mut self,
-        rt: &R,
-        contents: &[ContentOf<Self::Kind>],
-        steps: &str,
-        ask: Ask,
-    ) -> String;
+    fn ask<R: Host>(&mut self, rt: &R, contents: &[Self::Item], steps: &str, ask: Ask) -> String;
 
     /// Makes calls by `run`.
-    fn run<R: Host>(&mut self, rt: &R, calls: Vec<Call<ContentOf<Self::Kind>>>) -> Vec<Reply>;
+    fn run<R: Host>(&mut self, rt: &R, calls: Vec<Call<Self::Item>>) -> Vec<Reply>;
 
     /// Makes a call that changes the table.
     fn update(&mut self, update: Update) -> Reply;
@@ -61,59 +56,6 @@ pub trait Table: Drop {
 
     /// The bytes of `table[symbol]`, if the symbol was issued.
     fn index(&self, symbol: Symbol) -> Option<&[u8]>;
-}
-
-impl<L: Asked, S: HasherCount> Table for TableOver<L, S> {
-    type Kind = L::Kind;
-
-    fn put(&mut self, content: ContentOf<L::Kind>) -> Reply {
-        interned(L::intern(self, content))
-    }
-
-    fn put_all<R: Host>(&mut self, rt: &R, contents: Vec<ContentOf<L::Kind>>) -> String {
-        symbols_text(rt, L::intern_all(rt.alloc(), self, contents))
-    }
-
-    fn put_counted<R: Host>(&mut self, rt: &R, contents: Vec<ContentOf<L::Kind>>) -> String {
-        symbols_text(rt, L::intern_counted(rt.alloc(), self, contents))
-    }
-
-    fn ask<R: Host>(
-        &mut self,
-        rt: &R,
-        contents: &[ContentOf<L::Kind>],
-        steps: &str,
-        ask: Ask,
-    ) -> String {
-        L::ask(rt, self, contents, steps, ask)
-    }
-
-    fn run<R: Host>(&mut self, rt: &R, calls: Vec<Call<ContentOf<L::Kind>>>) -> Vec<Reply> {
-        L::run(rt.alloc(), self, calls).expect(rt, "memory")
-    }
-
-    fn update(&mut self, update: Update) -> Reply {
-        updated(self, update)
-    }
-
-    fn counts(&self) -> Counts {
-        Counts {
-            len: self.len(),
-            is_empty: self.is_empty(),
-            capacity: self.capacity(),
-            limit: self.limit(),
-            mark: self.mark(),
-            hashers: self.hasher().made(),
-        }
-    }
-
-    fn symbols(&self) -> AllSymbols<'_> {
-        self.all_symbols()
-    }
-
-    fn index(&self, symbol: Symbol) -> Option<&[u8]> {
-        L::stored(self, symbol)
-    }
 }
 
 /// A table with the hash builder that it has by default.
@@ -135,20 +77,82 @@ pub trait Makes: Table {
     ) -> Result<Self::Counting, RoomError>;
 }
 
-impl<L: Asked> Makes for TableOver<L, L::Hasher> {
-    type Counting = TableOver<L, Counted>;
+macro_rules! tables {
+    ($($kind:ident $store:ty: $ask:ident;)*) => {$(
+        impl<K: $kind, S: HasherCount> Table for TableOver<$store, S> {
+            type Item = ContentOf<K>;
 
-    const ARE_PATHS: bool = L::ARE_PATHS;
+            fn put(&mut self, content: ContentOf<K>) -> Reply {
+                interned(<$store as TestStore>::intern(self, content))
+            }
 
-    fn make(alloc: Global, how: Make) -> Result<Self, RoomError> {
-        make_table(alloc, how)
-    }
+            fn put_all<R: Host>(&mut self, rt: &R, contents: Vec<ContentOf<K>>) -> String {
+                symbols_text(rt, <$store as TestStore>::intern_all(rt.alloc(), self, contents))
+            }
 
-    fn make_counting(
-        alloc: Global,
-        capacity: usize,
-        hasher: Counted,
-    ) -> Result<TableOver<L, Counted>, RoomError> {
-        TableOver::with_capacity_and_hasher(alloc, capacity, hasher)
-    }
+            fn put_counted<R: Host>(&mut self, rt: &R, contents: Vec<ContentOf<K>>) -> String {
+                symbols_text(rt, <$store as TestStore>::intern_counted(rt.alloc(), self, contents))
+            }
+
+            fn ask<R: Host>(
+                &mut self,
+                rt: &R,
+                contents: &[ContentOf<K>],
+                steps: &str,
+                ask: Ask,
+            ) -> String {
+                K::$ask(rt, self, contents, steps, ask)
+            }
+
+            fn run<R: Host>(&mut self, rt: &R, calls: Vec<Call<ContentOf<K>>>) -> Vec<Reply> {
+                <$store as TestStore>::run(rt.alloc(), self, calls).expect(rt, "memory")
+            }
+
+            fn update(&mut self, update: Update) -> Reply {
+                updated(self, update)
+            }
+
+            fn counts(&self) -> Counts {
+                Counts {
+                    len: self.len(),
+                    is_empty: self.is_empty(),
+                    capacity: self.capacity(),
+                    limit: self.limit(),
+                    mark: self.mark(),
+                    hashers: self.hasher().made(),
+                }
+            }
+
+            fn symbols(&self) -> AllSymbols<'_> {
+                self.all_symbols()
+            }
+
+            fn index(&self, symbol: Symbol) -> Option<&[u8]> {
+                <$store as TestStore>::stored(self, symbol)
+            }
+        }
+
+        impl<K: $kind> Makes for Made<$store> {
+            type Counting = TableOver<$store, Counted>;
+
+            const ARE_PATHS: bool = K::ARE_PATHS;
+
+            fn make(alloc: Global, how: Make) -> Result<Self, RoomError> {
+                make_table::<$store>(alloc, how)
+            }
+
+            fn make_counting(
+                alloc: Global,
+                capacity: usize,
+                hasher: Counted,
+            ) -> Result<TableOver<$store, Counted>, RoomError> {
+                TableOver::with_capacity_and_hasher(alloc, capacity, hasher)
+            }
+        }
+    )*};
+}
+
+tables! {
+    OwnedKind Vec<ContentOf<K>>: ask_owned;
+    PackedKind Packed<K>: ask_packed;
 }

@@ -24,8 +24,7 @@ owned_and_borrowed_agree:
 an_index_gives_the_stored_content:
     new > done; intern abc > 0; index 0 > abc
 tables_are_made_and_dropped:
-    new > done
-    with_capacity 16384 > done
+    new > done; with_capacity 16384 > done
     new > done; lend 1\0, 2\0, 3\0, 4\0, 5\0 > 0, 1, 2, 3, 4
     new > done; intern 1, 2, 3, 4, 5 > 0, 1, 2, 3, 4
 owned_texts_of_a_hundred_bytes_are_kept_once:

@@ -1,89 +1,17 @@
 //! Room in one buffer, and the ends of strings. The other calls of packed tables are made by the scripts.
 use crate::support::builders::Fold;
 use crate::support::kinds::Host;
-use crate::tests::assertions::{holds, same};
+use crate::tests::assertions::same;
 use intaglio::packed::{Packed, PackedForm, StrKind};
-use intaglio::{BaseInterner, ByteStore, Content, Indexed, Lends, LookedUpIn, Symbol, TableOver};
+use intaglio::{BaseInterner, Content, Indexed, LookedUpIn, TableOver};
 use intaglio_core::Store;
 use intaglio_records::{StringBuffer, StringEnds};
-use std::fmt::Debug;
 use std::hash::BuildHasher;
 use std::process::Abort;
 
 // An empty table, without room.
 fn empty<'q, K: PackedForm<'q>>(rt: &impl Host) -> TableOver<Packed<K>, Fold> {
     TableOver::with_capacity_and_hasher(rt.alloc(), 0, Fold::new()).expect(rt, "a table")
-}
-
-fn makes_room<L: ByteStore + Indexed, S: BuildHasher>(table: &mut TableOver<L, S>) -> bool
-where
-    L::Content: Content,
-{
-    table.reserve(3).is_ok() && table.reserve_bytes(1000).is_ok() && table.capacity() >= 3
-}
-
-// Whether it then has room for one string alone.
-fn gives_room_up<L: Indexed, S: BuildHasher>(table: &mut TableOver<L, S>) -> bool {
-    table.shrink_to_fit().is_ok() && table.capacity() == 1
-}
-
-// Asserts that an empty table makes room, takes in a string of three bytes, and gives the room up.
-fn takes_one<'q, L: ByteStore + LookedUpIn<'q> + Indexed, S: BuildHasher>(
-    rt: &impl Abort,
-    table: &mut TableOver<L, S>,
-    form: L::By,
-)
-where
-    L::Content: Content,
-    L::Prepared: Drop,
-{
-    same(rt, table.capacity(), 0);
-    holds(rt, makes_room(table));
-    same(rt, table.get_or_intern(form), Ok(Symbol::new(0)));
-    same(rt, table.byte_count(), 3);
-    holds(rt, gives_room_up(table));
-}
-
-// Asserts that a table has the form, under the first symbol.
-fn has<'a, L: Lends<'a> + LookedUpIn<'a> + Indexed, S: BuildHasher>(
-    rt: &impl Abort,
-    table: &'a TableOver<L, S>,
-    sought: L::By,
-    wanted: L::Form,
-)
-where
-    L::Content: Content,
-    L::Form: PartialEq + Debug,
-{
-    same(rt, table.get(Symbol::new(0)), Some(wanted));
-    same(rt, table.check_interned(sought), Some(Symbol::new(0)));
-}
-
-// A table with this form, which made room for more, and gave it up.
-fn with_room_for<'q, K: PackedForm<'q>>(
-    rt: &impl Host,
-    form: K::Form,
-) -> TableOver<Packed<K>, Fold> {
-    let mut table = empty::<K>(rt);
-    takes_one(rt, &mut table, form);
-    table
-}
-
-fn has_form<'a, K: PackedForm<'a>>(
-    rt: &impl Abort,
-    table: &'a TableOver<Packed<K>, Fold>,
-    form: K::Form,
-)
-where
-    K::Form: PartialEq + Debug,
-{
-    has(rt, table, form, form);
-}
-
-#[test]
-fn a_packed_table_has_room_and_gives_it_up(rt: HostRuntime) {
-    let table = with_room_for::<StrKind>(&rt, "abc");
-    has_form(&rt, &table, "abc");
 }
 
 fn adds<'q, L: LookedUpIn<'q> + Indexed, S: BuildHasher>(
@@ -116,6 +44,7 @@ fn doubles<'q, K: PackedForm<'q>>(rt: &impl Host, four: &[K::Form], fifth: &[K::
     same(rt, held(&table), (8, 8 * 13 + 16));
     same(rt, table.shrink_to_fit(), Ok(()));
     same(rt, held(&table), (5, 5 * 13 + 15));
+    same(rt, table.byte_count(), 15);
 }
 
 #[test]

@@ -87,29 +87,17 @@ fn tells_apart<C: CountsComparisons, S: HasherCount>(rt: &impl Host, builder: S,
     finds(rt, &table, row);
 }
 
-// The hash of each text, or none, the capacity, the texts, their count, the most comparisons that interning one
-// makes, missing texts of equal hashes and of others, and how many hashers have been made by then.
-type Given = (
-    Option<u64>,
-    usize,
-    &'static str,
-    u32,
-    usize,
-    &'static str,
-    &'static str,
-    usize,
-);
-
-static TESTS: [Given; 4] = [
-    (Some(7), 4096, "e0 e1 e2 e3 e4", 5, 4, "zz", "", 6),
-    (None, 8, "a b i", 3, 0, "", "q", 4),
-    (None, 8, "a i q y", 4, 0, "", "b", 5),
-    (None, 8, "aa ab ac", 3, 2, "ad", "i\nY", 6),
-];
-
 #[test]
 fn equal_hashes_alone_are_compared(rt: HostRuntime) {
-    for (hash, capacity, texts, count, most, equal, other, hashers) in TESTS {
+    // The hash of each text, or none, the capacity, the texts, their count, the most comparisons that interning one
+    // makes, missing texts of equal hashes and of others, and how many hashers have been made by then.
+    let rows = [
+        (Some(7), 4096, "e0 e1 e2 e3 e4", 5, 4, "zz", "", 6),
+        (None, 8, "a b i", 3, 0, "", "q", 4),
+        (None, 8, "a i q y", 4, 0, "", "b", 5),
+        (None, 8, "aa ab ac", 3, 2, "ad", "i\nY", 6),
+    ];
+    for (hash, capacity, texts, count, most, equal, other, hashers) in rows {
         let row = Row {
             capacity,
             texts,
