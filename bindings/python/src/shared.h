@@ -252,16 +252,23 @@ extern PyMethodDef frozen_functions[];
 
 /* Shards: shards.c */
 
+/* The bytes of a frozen table, and what their header says, which is read once: no string, if it is damaged. */
+typedef struct {
+    Py_buffer view;
+    intaglio_opened opened;
+} Shard;
+
 /* What strings are looked up in: a frozen table, or the shards of a dictionary, whose symbols count through the shards. */
 typedef struct {
-    /* The bytes of each, and how many there are. */
-    Py_buffer *views;
+    /* Each, and how many there are. */
+    Shard *shards;
     size_t count;
     /* The symbol at which each shard begins, and behind them how many strings there are. Null for a frozen table, whose first symbol is `first`. */
     const uint32_t *starts;
     uint32_t first;
     /* What these lead to. */
-    Py_buffer one, numbers;
+    Shard one;
+    Py_buffer numbers;
 } Tables;
 
 /* Borrows the bytes of a table. */
