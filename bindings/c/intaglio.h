@@ -381,7 +381,8 @@ size_t intaglio_column_len(const uint8_t *bytes, size_t len);
 size_t intaglio_column_width(const uint8_t *bytes, size_t len);
 
 /* Stores which dictionary a column belongs to, and which dictionary a frozen table is; of that, the ends and the text are read. A column
- * fits a frozen table if both are the same by intaglio_same_dictionary. shards_id is for a dictionary in shards.
+ * fits a frozen table if both are the same by intaglio_same_dictionary. shards_id is for a dictionary in shards. Of one block it stores what
+ * frozen_id does, and also refuses ends that decrease, which frozen_id doesn't compare.
  * Errors: those of column_check and frozen_check that a header, or the number of bytes, can have. *id is then unchanged. */
 INTAGLIO_MUST_USE intaglio_code intaglio_column_id(const uint8_t *bytes, size_t len, intaglio_dictionary_id *id);
 INTAGLIO_MUST_USE intaglio_code intaglio_frozen_id(const uint8_t *bytes, size_t len, intaglio_dictionary_id *id);
