@@ -23,8 +23,6 @@ NAME = "intaglio_dict"
 STRINGS = [b"b", b"a"]
 WAS = b"as it was"
 SECONDS = 20
-# What is said of the new file: its folder, and a name that was drawn.
-BESIDE = r"/\.intaglio\.[0-9a-f]{16}\.new"
 
 
 class Program:
@@ -33,6 +31,9 @@ class Program:
     def __init__(self, tool):
         self.name, self.command = tool, [tool, "freeze", "-o"]
         self.message = f"{NAME}: {{}}: {{}}".format
+
+    # What is named if it can't be made or written: the new file, by a name that was drawn.
+    new = r"\.intaglio\.[0-9a-f]{16}\.new"
 
     def given(self, strings):
         return b"".join(it + b"\n" for it in strings)
@@ -43,6 +44,8 @@ class Module:
 
     name, command = "Python's freeze", [sys.executable, "-S", f"{Path(__file__).resolve().parent}/frozen_replace.py"]
     message = "{}: {}".format
+    # (the file that it was to become)
+    new = "dict"
 
     def given(self, strings):
         return freeze(strings)
@@ -283,10 +286,10 @@ def errors(writer, folder):
     path = f"{folder}/dict"
     Path(path).write_bytes(WAS)
     status, said = frozen_to(writer, f"{folder}/absent/dict")
-    absent = writer.message(re.escape(f"{folder}/absent") + BESIDE, os.strerror(errno.ENOENT))
+    absent = writer.message(re.escape(f"{folder}/absent/") + writer.new, os.strerror(errno.ENOENT))
     yield "a missing folder", status == 1 and re.fullmatch(absent, said)
     status, said = frozen_to(writer, path, before=lambda: limit_files(signal.SIG_IGN))
-    full = writer.message(re.escape(folder) + BESIDE, os.strerror(errno.EFBIG))
+    full = writer.message(re.escape(f"{folder}/") + writer.new, os.strerror(errno.EFBIG))
     yield "a failed write", status == 1 and re.fullmatch(full, said)
     yield "after a failed write", os.listdir(folder) == ["dict"] and Path(path).read_bytes() == WAS
     status, said = frozen_to(writer, f"{folder}/none/")

@@ -26,6 +26,8 @@ from intaglio import MISSING, BytesTable, Column, Frozen, Shards, SymbolTable, m
 
 PROGRAM = TOP / "crates/intaglio_dict/out/intaglio_dict"
 ROUNDS = 200
+# Slices whose next step leads behind what 8 bytes count.
+STEPS = tuple((start, None, step) for start in (0, 1, -1) for step in (2**63 - 1, 1 - 2**63, 2**63, 2**70, -(2**70)))
 # How many shards dictionaries have.
 SHARDS = (1, 2, 3, 40)
 # How many strings dictionaries have, and the width of their codes.
@@ -42,6 +44,11 @@ def encoded(strings):
 
 def kind_of(strings):
     return frozen_tables.TEXT if all(isinstance(it, str) for it in strings) else frozen_tables.BYTES
+
+
+def if_grown(wanted, found):
+    """What is said in addition of a dictionary with more strings than that of the column."""
+    return f", of {found} strings, not {wanted}: if it grew, freeze the first {wanted} for it" * (found > wanted)
 
 
 def plain_index(lines, string, *bounds):
@@ -85,7 +92,7 @@ class OfColumns(unittest.TestCase):
         """A column does what the plain list of its lines does."""
         self.assertEqual((list(column), len(column), list(reversed(column))), (lines, len(lines), lines[::-1]))
         self.assertEqual([column[it] for it in range(-len(lines), len(lines))], lines + lines)
-        for bounds in ((None,), (None, None, -1), (1, -1), (-2, None), (9, 1), (9, 1, -3), (0, 99, 4)):
+        for bounds in ((None,), (None, None, -1), (1, -1), (-2, None), (9, 1), (9, 1, -3), (0, 99, 4), *STEPS):
             part = slice(*bounds)
             self.assertEqual(column[part], lines[part])
         for row in (len(lines), -len(lines) - 1, 2**70):
@@ -184,8 +191,9 @@ class OfColumns(unittest.TestCase):
             other = self.freeze(strings)
             for dictionary in (other, self.folder / "dict"):
                 for trusted in (False, True):
+                    said = f"{self.folder / 'dict'}{if_grown(3, len(strings))}$"
                     with self.assertRaisesRegex(
-                        intaglio.OtherDictionary, f"^{self.path}: a column of another dictionary than {self.folder / 'dict'}$"
+                        intaglio.OtherDictionary, f"^{self.path}: a column of another dictionary than {said}"
                     ) as caught:
                         Column(self.path, dictionary, trusted=trusted)
                     self.assertEqual(
@@ -372,8 +380,9 @@ class OfColumns(unittest.TestCase):
             self.assertNotEqual(in_order, strings)
             for dictionary in (Shards(other), other):
                 for trusted in (False, True):
+                    said = f"{other}{if_grown(300, len(in_order))}$"
                     with self.assertRaisesRegex(
-                        intaglio.OtherDictionary, f"^{self.path}: a column of another dictionary than {other}$"
+                        intaglio.OtherDictionary, f"^{self.path}: a column of another dictionary than {said}"
                     ) as caught:
                         Column(self.path, dictionary, trusted=trusted)
                     self.assertEqual((caught.exception.column, caught.exception.dictionary), (str(self.path), str(other)))
@@ -388,7 +397,8 @@ class OfColumns(unittest.TestCase):
         whole, maps = merge(parts, self.folder / "whole", shards=2)
         for part, of_part, numbers in zip(parts, lines, maps):
             part.write_column(self.path, part.encode(of_part, missing=MISSING))
-            with self.assertRaisesRegex(intaglio.OtherDictionary, f" than {self.folder / 'whole'}$"):
+            said = f" than {self.folder / 'whole'}{if_grown(len(part), len(whole))}$"
+            with self.assertRaisesRegex(intaglio.OtherDictionary, said):
                 Column(self.path, whole)
             with Column(self.path, part) as column:
                 whole.write_column(self.folder / "new", renumber(column.widened(), numbers))

@@ -480,8 +480,9 @@ class WithNumpy(unittest.TestCase):
     def test_other_arrays_are_refused(self):
         words = frozen_of(WORDS)
         for kind in ("i8", "u8", "u2", "i2", "f4", ">u4", ">i4", "S4"):
+            advice = {"u2": "widened", "S4": "encode"}.get(kind, "astype")
             for call in (words.decode, lambda it: words.encode_into(["to"], it), lambda it: renumber(it, numpy.zeros(3, "u4"))):
-                with self.assertRaisesRegex(TypeError, "^codes are integers of 4 bytes.*astype"):
+                with self.assertRaisesRegex(TypeError, f"^codes are integers of 4 bytes.*: .*{advice}"):
                     call(numpy.zeros(3, kind))
         with self.assertRaises(ValueError):
             words.encode_into(["to"], numpy.zeros(6, "u4")[::2])

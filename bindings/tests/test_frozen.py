@@ -48,7 +48,10 @@ class OfFrozen(unittest.TestCase):
                 self.assertEqual(table.find_all(strings), list(range(len(strings))))
                 self.assertEqual(list(table.items()), list(enumerate(strings)))
                 self.assertEqual((table[0], table[-1], table[1:3]), (strings[0], strings[-1], strings[1:3]))
-                for part in (slice(None), slice(None, None, -2), slice(-2, None), slice(3, 1), slice(0, 99), slice(5, 500, 7)):
+                for part in (
+                    slice(None), slice(None, None, -2), slice(-2, None), slice(3, 1), slice(0, 99), slice(5, 500, 7),
+                    *(slice(start, None, step) for start in (0, -1) for step in (2**63 - 1, 2**70, 1 - 2**63, -(2**70))),
+                ):
                     self.assertEqual(table[part], strings[part])
                 self.assertEqual(
                     (list(reversed(table)), table.get_all(iter([0, len(strings) - 1])), table.get_all([])),

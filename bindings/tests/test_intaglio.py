@@ -409,7 +409,7 @@ class OneKind(unittest.TestCase):
         self.assertEqual((table.intern("a/./b"), table.intern(PurePath("a/b")), table[0]), (0, 0, "a//b"))
 
     def test_the_keys_may_be_chosen(self):
-        table = SymbolTable("ab", keys=(0, 2**64 - 1))
+        table = SymbolTable(["a", "b"], keys=(0, 2**64 - 1))
         self.assertEqual(table.intern("b"), 1)
         for keys in ((2**64, 0), (0, -1), (1,), (1, 2, 3), ()):
             with self.assertRaises(ValueError):

@@ -77,7 +77,7 @@ class OfShards(unittest.TestCase):
         self.assertEqual((list(shards), len(shards), list(reversed(shards))), (strings, count, strings[::-1]))
         self.assertEqual([shards[it] for it in range(-count, count)], strings + strings)
         self.assertEqual(list(shards.items()), list(enumerate(strings)))
-        for bounds in ((None,), (None, None, -1), (1, -1), (-2, None), (9, 1), (9, 1, -3), (0, 99, 4)):
+        for bounds in ((None,), (None, None, -1), (1, -1), (-2, None), (9, 1), (9, 1, -3), (0, 99, 4), (1, None, 2**63 - 1)):
             self.assertEqual(shards[slice(*bounds)], strings[slice(*bounds)])
         for symbol in (count, -count - 1, 2**70, MISSING):
             with self.assertRaisesRegex(IndexError, f"^no such symbol: {symbol}, and the table has {count} strings$"):

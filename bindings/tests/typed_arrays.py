@@ -47,4 +47,6 @@ with TemporaryDirectory() as folder:
     column_file: Column[str] = Column(Path(folder) / "column", words)
 shared: "numpy.typing.NDArray[numpy.uint8]" = numpy.frombuffer(column_file.codes, numpy.uint8)
 wide: "numpy.typing.NDArray[numpy.int32]" = numpy.frombuffer(column_file.widened(), numpy.int32)
-assert (shared.tolist(), wide.tolist()) == ([0, 255, 1, 0], [0, -1, 1, 0])
+of_nothing: "array[int]" = column_file.rows_of(float("nan"))
+assert (shared.tolist(), wide.tolist(), list(of_nothing)) == ([0, 255, 1, 0], [0, -1, 1, 0], [1])
+assert column_file.to_categorical().tolist()[::2] == ["b", "a"]

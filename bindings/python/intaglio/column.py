@@ -1,21 +1,20 @@
 """Columns: the codes of a list of strings in a file that says which dictionary they belong to."""
 import bisect
-import contextlib
+import copy
 import itertools
-import operator
 import os
 from array import array
 from collections import Counter
-from collections.abc import Sequence
 
 from intaglio._table import (
     MISSING, column_check, column_codes, column_count, column_counts, column_id, column_len, column_rows, column_width,
+    is_missing,
 )
 from intaglio.errors import OtherDictionary, Refused, name_file
 from intaglio.frozen import Frozen, map_file
 from intaglio.frozen import refuse_bytes as refuse_table
 from intaglio.shards import Shards
-from intaglio.strings import CHUNK
+from intaglio.strings import Mapped
 
 # What a column begins with, and how many bytes its header has.
 MAGIC, HEADER = b"INT\x89COL\n", 64
@@ -23,7 +22,7 @@ MAGIC, HEADER = b"INT\x89COL\n", 64
 FORMATS = {1: "B", 2: "H", 4: "I"}
 
 
-class Column(Sequence):
+class Column(Mapped):
     """A read-only column of strings in a file, as write_column of a Frozen or of a Shards writes it. The file is mapped. It is a
     sequence of its strings, and of None for those that are missing.
 
@@ -48,23 +47,32 @@ class Column(Sequence):
     OtherDictionary, OSError, and what Frozen and Shards raise.
     """
 
+    _own = ("_data", "_map", "_dictionary", "_opened", "_len", "_width")
+
     def __init__(self, path, dictionary, *, trusted=False):
         refuse_bytes(path)
         self._data, self._map, _ = map_file(path)
-        self._own = None
+        self._opened = None
         try:
-            (column_id if trusted else column_check)(self._data)
-            self._own = None if isinstance(dictionary, (Frozen, Shards)) else opened(dictionary)
-            self._dictionary = dictionary if self._own is None else self._own
-            if column_id(self._data) != self._dictionary._identity():
-                raise OtherDictionary(shown(path), dictionary._name() if self._own is None else shown(dictionary))
-        except BaseException as error:
+            self._check(path, trusted)
+            self._opened = None if isinstance(dictionary, (Frozen, Shards)) else opened(dictionary)
+            self._dictionary = dictionary if self._opened is None else self._opened
+            named, found = column_id(self._data), self._dictionary._identity()
+            if named != found:
+                name = dictionary._name() if self._opened is None else shown(dictionary)
+                raise OtherDictionary(shown(path), name, named[1], found[1])
+        except BaseException:
             self.close()
-            # (an error of the dictionary has a name)
-            if isinstance(error, Refused) and error.filename is None:
-                name_file(error, path if isinstance(path, int) else os.fspath(path))
             raise
         self._len, self._width = column_len(self._data), column_width(self._data)
+
+    # Checks the bytes, or the header alone. An error names the file.
+    def _check(self, path, trusted):
+        try:
+            (column_id if trusted else column_check)(self._data)
+        except Refused as error:
+            name_file(error, path if isinstance(path, int) else os.fspath(path))
+            raise
 
     @property
     def dictionary(self):
@@ -80,7 +88,7 @@ class Column(Sequence):
     def codes(self):
         """The codes as they are in the file: a read-only memoryview of integers of `width` bytes without a sign, as
         numpy.frombuffer takes it without a copy. The greatest is `missing`."""
-        return self._data[HEADER:].cast(FORMATS[self._width])
+        return self._bytes()[HEADER:].cast(FORMATS[self._width])
 
     @property
     def missing(self):
@@ -92,9 +100,22 @@ class Column(Sequence):
         The dictionary's decode and renumber take it."""
         return column_codes(self._data, 0, self._len, 1)
 
+    def to_categorical(self):
+        """A pandas.Categorical of the rows, whose categories are the strings of the dictionary. Missing rows are NaN."""
+        import pandas
+
+        codes = memoryview(self.widened()).cast("B").cast("i")
+        return pandas.Categorical.from_codes(codes, categories=list(self._dictionary))
+
+    def __array__(self, dtype=None, copy=None):
+        """For numpy and pandas an array of objects, with None for missing rows."""
+        import numpy
+
+        return numpy.array(self._dictionary.decode(self.widened(), missing=None), dtype or object)
+
     def rows_of(self, string, /):
-        """An array('Q') of the rows that have a string, or that are missing for None, in ascending order. Only codes are
-        compared."""
+        """An array('Q') of the rows that have a string, or that are missing for None, NaN or pandas.NA, in ascending order. Only
+        codes are compared."""
         code = self._code_of(string)
         return array("Q") if code is None else column_rows(self._data, code)
 
@@ -102,7 +123,8 @@ class Column(Sequence):
         """A Counter of how many rows have each string that occurs, in the order of the dictionary, and how many are missing, at
         None. Only codes are counted."""
         counts, missing = column_counts(self._data, len(self._dictionary))
-        counter = Counter({string: count for string, count in zip(self._dictionary, counts) if count})
+        codes = array("I", itertools.compress(range(len(counts)), counts))
+        counter = Counter(dict(zip(self._dictionary.decode(codes), filter(None, counts))))
         if missing:
             counter[None] = missing
         return counter
@@ -122,60 +144,41 @@ class Column(Sequence):
 
     def to_bytes(self):
         """The bytes of the file."""
-        return bytes(self._data)
+        return bytes(self._bytes())
 
     def close(self):
-        """Unmaps the file, if no buffer of `codes` is left, and closes the dictionary if it was passed as a path. Calls that read
-        it then raise ValueError. Raises BufferError while another thread reads it."""
-        self._data.release()
-        if self._map is not None:
-            with contextlib.suppress(BufferError):
-                self._map.close()
-        if self._own is not None:
-            self._own.close()
+        """Unmaps the file, if no copy and no buffer of `codes` is left, and closes the dictionary if it was passed as a path.
+        Calls that read it then raise ValueError. Raises BufferError while another thread reads it."""
+        super().close()
+        if self._opened is not None:
+            self._opened.close()
+
+    def __copy__(self):
+        other = super().__copy__()
+        if self._opened is not None:
+            other._dictionary = other._opened = copy.copy(self._opened)
+        return other
+
+    def __reduce__(self):
+        raise TypeError("a Column can't be pickled: send its path and its dictionary, and open it there")
 
     # The code of a string, or None if the dictionary hasn't got it.
     def _code_of(self, string):
-        return MISSING if string is None else self._dictionary.check_interned(string)
+        return MISSING if is_missing(string) else self._dictionary.check_interned(string)
 
-    # The strings of rows, each a step behind the last.
-    def _strings(self, row, count, step):
+    def _run(self, row, count, step):
         return self._dictionary.decode(column_codes(self._data, row, count, step), missing=None)
 
-    def _slice(self, start, stop):
-        return self._strings(start, stop - start, 1)
+    def _item(self, row):
+        if not -self._len <= row < self._len:
+            raise IndexError(f"no such row: {row}, and the column has {self._len}")
+        return self._run(row % self._len, 1, 1)[0]
 
-    def __len__(self):
-        return self._len
+    def _described(self):
+        return f"{self._len} rows of {len(self._dictionary)} strings"
 
     def __contains__(self, string):
         return self.count(string) > 0
-
-    def __getitem__(self, index):
-        if isinstance(index, slice):
-            rows = range(*index.indices(self._len))
-            return self._strings(rows.start, len(rows), rows.step)
-        row = operator.index(index)
-        if not -self._len <= row < self._len:
-            raise IndexError(f"no such row: {row}, and the column has {self._len}")
-        return self._strings(row % self._len, 1, 1)[0]
-
-    def __iter__(self):
-        starts = range(0, self._len, CHUNK)
-        return itertools.chain.from_iterable(map(self._slice, starts, (min(start + CHUNK, self._len) for start in starts)))
-
-    def __enter__(self):
-        return self
-
-    def __exit__(self, kind, error, trace):
-        self.close()
-
-    def __repr__(self):
-        try:
-            self._data.nbytes
-        except ValueError:
-            return f"<{type(self).__name__}, closed>"
-        return f"<{type(self).__name__} of {self._len} rows of {len(self._dictionary)} strings>"
 
 
 def shown(path):
@@ -186,6 +189,9 @@ def shown(path):
 def opened(path):
     """The dictionary at a path: a file, or a folder of shards."""
     refuse_table(path)
+    if not isinstance(path, (str, bytes, int, os.PathLike)):
+        name = type(path).__name__
+        raise TypeError(f"a column is read with a Frozen, a Shards or the path of one, not a {name}: a table is frozen before")
     return Shards(path) if os.path.isdir(path) else Frozen(path)
 
 

@@ -1,5 +1,6 @@
 """The errors of the tables. Each is also one of Python's, so that code which knows nothing of tables catches them."""
 import os
+from typing import Any
 
 
 class Refused(Exception):
@@ -186,14 +187,18 @@ class Misplaced(Refused, ValueError):
 
 
 class OtherDictionary(ValueError):
-    """A column belongs to another dictionary than the one that it is to be read with: the names of the two."""
+    """A column belongs to another dictionary than the one that it is to be read with: the names of the two, how many strings that
+    of the column has, and how many this one."""
 
-    def __init__(self, column: str, dictionary: str) -> None:
-        super().__init__(column, dictionary)
-        self.column, self.dictionary = column, dictionary
+    def __init__(self, column: str, dictionary: str, named: int = 0, found: int = 0) -> None:
+        super().__init__(column, dictionary, named, found)
+        self.column, self.dictionary, self.named, self.found = column, dictionary, named, found
 
     def __str__(self) -> str:
-        return f"{self.column}: a column of another dictionary than {self.dictionary}"
+        message = f"{self.column}: a column of another dictionary than {self.dictionary}"
+        if self.found <= self.named:
+            return message
+        return f"{message}, of {self.found} strings, not {self.named}: if it grew, freeze the first {self.named} for it"
 
 
 class Missing(KeyError):
@@ -268,6 +273,29 @@ def no_symbol(code: int, position: int) -> NoSymbol:
     error = NoSymbol(f"code {code} at position {position} is no symbol")
     error.position = position
     return error
+
+
+# What to do in place of passing something else than codes, by the last letter of its format or by its name, and with others.
+TO_CODES = {
+    **dict.fromkeys("Osuw", "encode makes codes of strings, and astype('int32') of integers"),
+    **dict.fromkeys("BH", "a Column's widened() has 4 bytes for each, and array('I', data) reads those of a file"),
+    "Column": "widened() returns them",
+    "mask": "its filled(-1), or filled(MISSING) of uint32, has the code of what is missing for what is masked",
+    "list": "array('I', codes) puts them into one, and encode makes codes of strings",
+}
+AS_CODES = "numpy's astype('uint32') or astype('int32') makes them, or array('I', ..)"
+
+
+def no_codes(given: Any) -> TypeError:
+    """The error of what holds no codes, or masks some of them."""
+    name = type(given).__name__
+    try:
+        format = memoryview(given).format
+        what, how = (f"a {name} with a mask", "mask") if hasattr(given, "mask") else (f"of format {format!r}", format[-1:])
+    except TypeError:
+        what, how = f"a {name}", name if name in TO_CODES else "list"
+    codes = "codes are integers of 4 bytes in a buffer, such as array('I') or numpy's uint32 and int32"
+    return TypeError(f"{codes}, not {what}: {TO_CODES.get(how, AS_CODES)}")
 
 
 def wrong_line(number: int) -> NotShards:

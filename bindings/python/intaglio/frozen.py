@@ -8,9 +8,7 @@ import os
 import stat
 import zlib
 
-from intaglio._table import (
-    column_bytes, frozen_check, frozen_check_header, frozen_check_texts, frozen_id, frozen_is_text, frozen_len,
-)
+from intaglio._table import column_bytes, frozen_check, frozen_check_header, frozen_check_texts, frozen_is_text, frozen_len
 from intaglio.errors import Refused, name_file
 from intaglio.strings import Strings
 
@@ -55,13 +53,13 @@ def replace(path, data):
     """Writes the bytes to a new file beside the path, syncs it, and renames it to the path.
 
     A symbolic link is followed, and the mode of the file that is replaced is kept. The new file is written, renamed and removed
-    only here.
+    only here. An OSError names the path, and not the new file, which is gone.
     """
-    path = os.fsdecode(path)
+    path, beside = os.fsdecode(path), None
     mode = mode_at(path)
     target = os.path.realpath(path) if os.path.islink(path) else path
-    file, beside = create_beside(target, 0o666 if mode is None else 0o600)
     try:
+        file, beside = create_beside(target, 0o666 if mode is None else 0o600)
         with file:
             file.write(data)
             file.flush()
@@ -70,11 +68,11 @@ def replace(path, data):
             os.fsync(file.fileno())
         os.replace(beside, target)
     except BaseException as error:
-        with contextlib.suppress(FileNotFoundError):
-            os.remove(beside)
-        # (that of a write has no name)
-        if isinstance(error, OSError) and error.filename is None:
-            error.filename = beside
+        if beside is not None:
+            with contextlib.suppress(FileNotFoundError):
+                os.remove(beside)
+        if isinstance(error, OSError) and error.filename2 is None:
+            error.filename = path
         raise
 
 
@@ -168,43 +166,29 @@ class Frozen(Strings):
         as decode takes it, with MISSING for what is missing. The file has 1, 2 or 4 bytes for each.
 
         A file at the path is replaced at once, as by Table.freeze, and keeps its mode. Raises NoSymbol, with the position of the
-        first code that is neither a symbol nor MISSING, and OSError. There is then no new file.
+        first code that is neither a symbol nor MISSING, TextEnds if a trusted file is damaged, and OSError. There is then no new
+        file.
         """
         replace(path, column_bytes(self._identity(), codes))
 
     def to_bytes(self):
         """The bytes of the table, which from_bytes takes, and which a file of it has."""
-        return bytes(self._data)
-
-    def close(self):
-        """Unmaps the file, if no copy has it. Calls that read it then raise ValueError. Raises BufferError while another thread
-        reads it."""
-        self._data.release()
-        if self._map is not None:
-            with contextlib.suppress(BufferError):
-                self._map.close()
-
-    def __copy__(self):
-        other = type(self).__new__(type(self))
-        other.__dict__.update(self.__dict__)
-        other._data = memoryview(self._data)
-        return other
+        return bytes(self._bytes())
 
     def __reduce__(self):
-        kind = str if self._is_text else bytes
+        kind, data = str if self._is_text else bytes, self._bytes()
         if self._is_at_path():
-            return reopen, (type(self), self._path, self._trusted, kind, len(self._data), self._checksum()), self._attributes()
-        return thaw, (type(self), bytes(self._data), self._trusted, kind), self._attributes()
-
-    # What the table is to columns: its strings and whether the file says that they are UTF-8. All strings are read once.
-    def _identity(self):
-        if self._id is None:
-            self._id = frozen_id(self._data)
-        return self._id
+            return reopen, (type(self), self._path, self._trusted, kind, len(data), self._checksum()), self._attributes()
+        return thaw, (type(self), bytes(data), self._trusted, kind), self._attributes()
 
     # What messages call it.
     def _name(self):
         return repr(self) if self._path is None else os.fsdecode(self._path)
+
+    def _name_in(self, error):
+        error.position = None
+        if self._path is not None:
+            name_file(error, self._path)
 
     # Whether the path still leads to the file that is mapped.
     def _is_at_path(self):
@@ -221,13 +205,6 @@ class Frozen(Strings):
         if self._sum is None:
             self._sum = zlib.crc32(self._data[:HEADER] if self._trusted else self._data)
         return self._sum
-
-    def __repr__(self):
-        try:
-            self._data.nbytes
-        except ValueError:
-            return f"<{type(self).__name__}, closed>"
-        return f"<{type(self).__name__} of {self._len} {'str' if self._is_text else 'bytes'}>"
 
 
 # Pickles name these two functions, so they keep their names and their parameters.

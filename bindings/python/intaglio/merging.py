@@ -14,12 +14,16 @@ from intaglio.shards import (
 # The index of one map: a dictionary, the checksum of the map, and the shards to which it leads.
 ID, SUM = rb"(?:bytes|text)(?: [0-9a-f]{16}){3}", rb"(?: [0-9a-f]{16}){2}"
 OF_MAP = re.compile(rb"intaglio maps 1 0{15}1\n%s(%s)\n(%s)\n" % (ID, SUM, ID))
+# What is said of shards that are merged to one file.
+IN_SHARDS = "shards are merged by merge(.., shards=..)"
 
 
 def path_of(table, position):
     """The path of one of the tables that are merged. Raises TypeError if it is none."""
     try:
         refuse_bytes(table)
+        if isinstance(table, Shards):
+            raise TypeError(IN_SHARDS)
         return os.fspath(table)
     except TypeError as error:
         raise TypeError(f"each of the tables to merge is a Frozen or a path; at position {position}: {error}") from None
@@ -27,7 +31,13 @@ def path_of(table, position):
 
 def opened(table, position, trusted):
     """A Frozen of one of the tables that are merged, which is closed again behind its use if a path was given."""
-    return contextlib.nullcontext(table) if isinstance(table, Frozen) else Frozen(path_of(table, position), trusted=trusted)
+    if isinstance(table, Frozen):
+        return contextlib.nullcontext(table)
+    try:
+        return Frozen(path_of(table, position), trusted=trusted)
+    except IsADirectoryError as error:
+        error.strerror = IN_SHARDS
+        raise
 
 
 def is_text_at(position, table):

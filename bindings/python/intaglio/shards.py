@@ -10,8 +10,7 @@ import zlib
 from array import array
 
 from intaglio._table import (
-    BytesTable, SymbolTable, checksum, column_bytes, frozen_id, frozen_is_text, frozen_misplaced, frozen_shards, shards_id,
-    split_map,
+    BytesTable, SymbolTable, checksum, column_bytes, frozen_id, frozen_is_text, frozen_misplaced, frozen_shards, split_map,
 )
 from intaglio.errors import NotShards, OtherShard, Refused, TooMany, misplaced, name_file, wrong_line
 from intaglio.frozen import Frozen, replace
@@ -195,32 +194,24 @@ class Shards(Strings):
         return itertools.chain.from_iterable(self._tables)
 
     def __copy__(self):
-        other = type(self).__new__(type(self))
-        other.__dict__.update(self.__dict__)
+        other = super().__copy__()
         other._hold([copy.copy(it) for it in self._tables])
         return other
 
     def __reduce__(self):
+        self._bytes()
         if not self._is_there():
             raise TypeError(f"{self._folder}: it has other shards by now, so a Shards of those before can't be pickled")
         kind = str if self._is_text else bytes
         return reopen, (type(self), self._folder, self._trusted, kind, self._sum), self._attributes()
 
-    # What the dictionary is to columns: the strings of all shards, and whether each says that its own are UTF-8. All strings are
-    # read once.
-    def _identity(self):
-        if self._id is None:
-            try:
-                self._id = shards_id(self._data)
-            except Refused as error:
-                if error.position is not None:
-                    name_file(error, shard_name(self._folder, error.position))
-                raise
-        return self._id
-
     # What messages call it.
     def _name(self):
         return self._folder
+
+    def _name_in(self, error):
+        if error.position is not None:
+            name_file(error, shard_name(self._folder, error.position))
 
     # Whether the folder still has the index of these shards.
     def _is_there(self):
@@ -229,12 +220,8 @@ class Shards(Strings):
         except (NotShards, OSError):
             return False
 
-    def __repr__(self):
-        try:
-            self._tables[0]._data.nbytes
-        except ValueError:
-            return f"<{type(self).__name__}, closed>"
-        return f"<{type(self).__name__} of {self._len} {'str' if self._is_text else 'bytes'} in {len(self._tables)} shards>"
+    def _described(self):
+        return f"{super()._described()} in {len(self._tables)} shards"
 
 
 # Pickles name this function, so it keeps its name and its parameters.

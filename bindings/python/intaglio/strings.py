@@ -1,4 +1,5 @@
-"""What frozen tables and dictionaries in shards share."""
+"""What frozen tables, dictionaries in shards and columns share."""
+import contextlib
 import copy
 import itertools
 import operator
@@ -8,9 +9,9 @@ from typing import Any
 
 from intaglio._table import (
     frozen_decode, frozen_encode, frozen_encode_into, frozen_encode_lines, frozen_find, frozen_find_all, frozen_get,
-    frozen_get_all, frozen_slice,
+    frozen_get_all, frozen_slice, shards_id,
 )
-from intaglio.errors import no_such_symbol
+from intaglio.errors import Refused, no_such_symbol
 
 # What is passed if nothing stands in for a missing string.
 NOTHING = object()
@@ -18,16 +19,95 @@ NOTHING = object()
 CHUNK = 256
 
 
-class Strings(Sequence):
-    """A read-only sequence of distinct strings, each at its symbol: those of a Frozen or of a Shards."""
+class Mapped(Sequence):
+    """A read-only sequence of strings over bytes that are in memory or mapped, until it is closed."""
 
-    # What strings and symbols are looked up in (the bytes of a table, or the starts of shards and the bytes of each), whether the
-    # strings are `str`, and how many they are.
+    # The bytes, the map that they are in, if any, and how many items there are.
     _data: Any
-    _is_text: bool
+    _map: Any
     _len: int
     # The names of what an object has by itself: other attributes are a subclass's or a caller's.
     _own: tuple[str, ...] = ()
+
+    def close(self):
+        """Unmaps the file, if no copy has it. Calls that read it then raise ValueError. Raises BufferError while another thread
+        reads it."""
+        self._data.release()
+        if self._map is not None:
+            with contextlib.suppress(BufferError):
+                self._map.close()
+
+    # The bytes, of shards those of the first. Raises ValueError if they were closed.
+    def _bytes(self):
+        data = self._data[1][0] if isinstance(self._data, tuple) else self._data
+        try:
+            data.nbytes
+        except ValueError:
+            raise ValueError(f"the {type(self).__name__} was closed") from None
+        return data
+
+    @abstractmethod
+    def _run(self, start, count, step):
+        """A list of so many items from a place on, each a step behind the last."""
+
+    @abstractmethod
+    def _item(self, place):
+        """The item at a place, which counts from the end if it is negative."""
+
+    @abstractmethod
+    def _described(self):
+        """What there is, as repr has it."""
+
+    def __len__(self):
+        return self._len
+
+    def __getitem__(self, index):
+        if not isinstance(index, slice):
+            return self._item(operator.index(index))
+        places = range(*index.indices(self._len))
+        # (a step to where no second item is may have any number of digits)
+        return self._run(places.start, len(places), places.step if len(places) > 1 else 1)
+
+    def __iter__(self):
+        starts = range(0, self._len, CHUNK)
+        return itertools.chain.from_iterable(self._run(start, min(CHUNK, self._len - start), 1) for start in starts)
+
+    def __enter__(self):
+        return self
+
+    def __exit__(self, kind, error, trace):
+        self.close()
+
+    def __copy__(self):
+        other = type(self).__new__(type(self))
+        other.__dict__.update(self.__dict__)
+        other._data = memoryview(self._bytes())
+        return other
+
+    def __deepcopy__(self, memo):
+        other = copy.copy(self)
+        other.__dict__.update(copy.deepcopy(self._attributes(), memo))
+        return other
+
+    # What a subclass or a caller has set.
+    def _attributes(self):
+        return {name: value for name, value in self.__dict__.items() if name not in self._own}
+
+    def __repr__(self):
+        try:
+            self._bytes()
+        except ValueError:
+            return f"<{type(self).__name__}, closed>"
+        return f"<{type(self).__name__} of {self._described()}>"
+
+
+class Strings(Mapped):
+    """A read-only sequence of distinct strings, each at its symbol: those of a Frozen or of a Shards. Its bytes are those of a
+    table, or the starts of shards and the bytes of each."""
+
+    # Whether the strings are `str`, and what they are to columns, once that was read.
+    _is_text: bool
+    _id: Any
 
     @property
     def is_text(self):
@@ -118,44 +198,32 @@ class Strings(Sequence):
         """The symbols with their strings, in order."""
         return enumerate(self)
 
-    def _slice(self, start, stop):
-        return frozen_slice(self._data, self._is_text, start, stop - start, 1)
-
-    def __len__(self):
-        return self._len
-
     def __contains__(self, string):
         return self.check_interned(string) is not None
 
-    def __getitem__(self, index):
-        if isinstance(index, slice):
-            symbols = range(*index.indices(self._len))
-            return frozen_slice(self._data, self._is_text, symbols.start, len(symbols), symbols.step)
-        symbol = operator.index(index)
+    def _run(self, start, count, step):
+        return frozen_slice(self._data, self._is_text, start, count, step)
+
+    def _item(self, symbol):
         string = frozen_get(self._data, self._is_text, symbol + self._len if symbol < 0 else symbol)
         if string is None:
             raise no_such_symbol(symbol, self._len)
         return string
 
-    def __iter__(self):
-        starts = range(0, self._len, CHUNK)
-        return itertools.chain.from_iterable(map(self._slice, starts, (min(start + CHUNK, self._len) for start in starts)))
+    def _described(self):
+        return f"{self._len} {'str' if self._is_text else 'bytes'}"
+
+    # What the dictionary is to columns: its strings in their order, and whether each file says that they are UTF-8. All strings
+    # are read once.
+    def _identity(self):
+        if self._id is None:
+            try:
+                self._id = shards_id(self._data)
+            except Refused as error:
+                self._name_in(error)
+                raise
+        return self._id
 
     @abstractmethod
-    def close(self):
-        """Unmaps what is mapped."""
-
-    def __enter__(self):
-        return self
-
-    def __exit__(self, kind, error, trace):
-        self.close()
-
-    def __deepcopy__(self, memo):
-        other = copy.copy(self)
-        other.__dict__.update(copy.deepcopy(self._attributes(), memo))
-        return other
-
-    # What a subclass or a caller has set.
-    def _attributes(self):
-        return {name: value for name, value in self.__dict__.items() if name not in self._own}
+    def _name_in(self, error):
+        """Puts the name of the file that it is about into an error."""

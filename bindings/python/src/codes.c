@@ -18,25 +18,21 @@ int read_stand(PyObject *missing, Stand *stand) {
 
 /* Buffers */
 
-/* TypeError for a buffer of other items, with what to do. */
-static void wrong_format(const Py_buffer *view) {
-    const char *format = view->format ? view->format : "B";
-    PyErr_Format(PyExc_TypeError, "codes are integers of 4 bytes, not of format '%.20s' with %zd: make them by numpy's astype('uint32') or astype('int32'), or by array('I', ..)",
-                 format, view->itemsize);
-}
-
-/* Borrows a buffer of codes: integers of 4 bytes, with or without a sign. */
-static int borrow(PyObject *buffer, Py_buffer *view, int flags) {
-    if (!PyObject_CheckBuffer(buffer)) {
-        PyErr_Format(PyExc_TypeError, "codes are in a buffer of integers of 4 bytes, such as array('I') or numpy's uint32 and int32, not in a %.200s", Py_TYPE(buffer)->tp_name);
-        return -1;
-    }
-    if (PyObject_GetBuffer(buffer, view, flags | PyBUF_FORMAT) < 0) return -1;
+/* Whether a buffer has integers of 4 bytes, with or without a sign. */
+static bool has_codes(const Py_buffer *view) {
     const char *format = view->format ? view->format : "B";
     if (format[0] == '@' || format[0] == '=' || format[0] == '<') format++;
-    if (view->itemsize == sizeof(uint32_t) && format[0] && !format[1] && strchr("IiLl", format[0])) return 0;
-    wrong_format(view);
-    PyBuffer_Release(view);
+    return view->itemsize == sizeof(uint32_t) && format[0] && !format[1] && strchr("IiLl", format[0]);
+}
+
+/* Borrows a buffer of codes. An array of numpy with a mask, which its buffer doesn't have, is refused. */
+static int borrow(PyObject *buffer, Py_buffer *view, int flags) {
+    if (PyObject_CheckBuffer(buffer) && !PyObject_HasAttrString(buffer, "mask")) {
+        if (PyObject_GetBuffer(buffer, view, flags | PyBUF_FORMAT) < 0) return -1;
+        if (has_codes(view)) return 0;
+        PyBuffer_Release(view);
+    }
+    raise_by("no_codes", "(O)", buffer);
     return -1;
 }
 

@@ -77,7 +77,8 @@ static PyObject *column_width(PyObject *Py_UNUSED(module), PyObject *data) {
 static size_t read_codes(const Py_buffer *view, Py_ssize_t row, Py_ssize_t step, uint32_t *codes, size_t count) {
     if (step == 1) return intaglio_column_codes(view->buf, (size_t)view->len, (size_t)row, codes, count);
     size_t i = 0;
-    for (; i < count && row >= 0 && intaglio_column_code(view->buf, (size_t)view->len, (size_t)row, codes + i); i++) row += step;
+    /* (numbers without a sign, which wrap around: no column has a row that is negative) */
+    while (i < count && intaglio_column_code(view->buf, (size_t)view->len, (size_t)row + i * (size_t)step, codes + i)) i++;
     return i;
 }
 
@@ -124,6 +125,9 @@ static size_t count_rows(const Py_buffer *view, uint32_t code) {
     Py_END_ALLOW_THREADS
     return count;
 }
+
+PyDoc_STRVAR(is_missing_doc, "is_missing(object, /)\n--\n\nWhether an object is None, NaN or pandas.NA.");
+static PyObject *is_missing_object(PyObject *Py_UNUSED(module), PyObject *object) { return PyBool_FromLong(is_missing(object)); }
 
 PyDoc_STRVAR(column_count_doc, "column_count(data, code, /)\n--\n\nHow many rows have a code.");
 static PyObject *column_count(PyObject *Py_UNUSED(module), PyObject *const *args, Py_ssize_t given) {
@@ -212,6 +216,7 @@ PyMethodDef columns_functions[] = {
     {"column_len", column_len, METH_O, column_len_doc},
     {"column_width", column_width, METH_O, column_width_doc},
     {"column_codes", FAST(column_codes), METH_FASTCALL, column_codes_doc},
+    {"is_missing", is_missing_object, METH_O, is_missing_doc},
     {"column_count", FAST(column_count), METH_FASTCALL, column_count_doc},
     {"column_rows", FAST(column_rows), METH_FASTCALL, column_rows_doc},
     {"column_counts", FAST(column_counts), METH_FASTCALL, column_counts_doc},

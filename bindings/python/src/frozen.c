@@ -245,8 +245,10 @@ static PyObject *frozen_get_all(PyObject *Py_UNUSED(module), PyObject *const *ar
 }
 
 /* Puts the strings of symbols, each a step behind the last, into a list. Returns -1 and an exception. */
-static int slice_into(PyObject *list, const Reader *reader, Py_ssize_t symbol, Py_ssize_t step) {
-    for (Py_ssize_t i = 0; i < PyList_GET_SIZE(list); i++, symbol += step) {
+static int slice_into(PyObject *list, const Reader *reader, size_t first, size_t step) {
+    for (Py_ssize_t i = 0; i < PyList_GET_SIZE(list); i++) {
+        /* (numbers without a sign, which wrap around) */
+        Py_ssize_t symbol = (Py_ssize_t)(first + (size_t)i * step);
         PyObject *string = string_at(reader, symbol);
         if (!string) {
             PyObject *number = PyErr_Occurred() ? NULL : PyLong_FromSsize_t(symbol);
@@ -264,7 +266,7 @@ static PyObject *frozen_slice(PyObject *Py_UNUSED(module), PyObject *const *args
     if (open_frozen(args, given, 5, &reader.tables, &reader.is_text) < 0) return NULL;
     Py_ssize_t symbol = PyLong_AsSsize_t(args[2]), count = PyLong_AsSsize_t(args[3]), step = PyLong_AsSsize_t(args[4]);
     PyObject *list = PyErr_Occurred() ? NULL : new_list(count);
-    if (list) list = filled(list, slice_into(list, &reader, symbol, step));
+    if (list) list = filled(list, slice_into(list, &reader, (size_t)symbol, (size_t)step));
     close_tables(&reader.tables);
     return list;
 }

@@ -88,14 +88,26 @@ int own_list(Source *source, PyObject *contents) {
     return 0;
 }
 
-/* The items of an array of another type, such as one of str of a fixed width, become objects all at once. */
+/* Returns -1 and TypeError for an array of another number of dimensions than one, such as that of a DataFrame. */
+static int check_dimensions(PyObject *array) {
+    PyObject *number;
+    long dimensions = find_attribute(array, "ndim", &number) == 1 ? PyLong_AsLong(number) : 1;
+    Py_XDECREF(number);
+    if (PyErr_Occurred()) return -1;
+    if (dimensions == 1) return 0;
+    PyErr_Format(PyExc_TypeError, "a column of strings has one dimension, and this has %ld: pass each of its columns by itself", dimensions);
+    return -1;
+}
+
+/* The items of an array of another type, such as one of str of a fixed width, become objects all at once, and so do those of one with a mask:
+ * what is masked becomes None. */
 static int open_array(Source *source, PyObject *array) {
     PyObject *list;
-    int is_borrowed = borrow_objects(source, array);
+    if (check_dimensions(array) < 0) return -1;
+    int is_borrowed = PyObject_HasAttrString(array, "mask") ? 0 : borrow_objects(source, array);
     if (is_borrowed) return is_borrowed < 0 ? -1 : 0;
     if (call_if_there(array, "tolist", &list) == 0) return own_list(source, array);
-    int status = list && PyList_Check(list) ? own_list(source, list) : -1;
-    if (list && !PyList_Check(list)) PyErr_SetString(PyExc_TypeError, "an iterable of strings, not an array of no dimension");
+    int status = list ? own_list(source, list) : -1;
     Py_XDECREF(list);
     return status;
 }
@@ -110,7 +122,11 @@ int open_column(Source *source, PyObject *contents) {
 
 int open_items(Source *source, uint32_t kind, PyObject *contents, bool skips) {
     *source = (Source){.kind = kind, .skips = skips};
-    bool is_array = PyObject_CheckBuffer(contents) && !PyBytes_Check(contents), is_list = PyList_CheckExact(contents) || PyTuple_CheckExact(contents);
+    if (PyUnicode_Check(contents) || PyBytes_Check(contents)) {
+        PyErr_Format(PyExc_TypeError, "a list or another iterable of strings, not a single %.200s: [string] is a list of one", Py_TYPE(contents)->tp_name);
+        return -1;
+    }
+    bool is_array = PyObject_CheckBuffer(contents), is_list = PyList_CheckExact(contents) || PyTuple_CheckExact(contents);
     int is_categorical = is_list || is_array ? 0 : open_categorical(source, contents, skips);
     if (is_categorical) return is_categorical < 0 ? -1 : 0;
     int status = is_list ? own_list(source, contents) : (is_array ? open_array(source, contents) : open_column(source, contents));

@@ -725,7 +725,7 @@ PyDoc_STRVAR(absorb_doc, "absorb($self, frozen, /)\n--\n\n"
 static PyObject *absorb_frozen(Table *self, PyObject *frozen, bool is_alone) {
     Py_buffer view;
     PyObject *symbols = NULL, *data = bytes_of_frozen(frozen);
-    if (data && PyObject_GetBuffer(data, &view, PyBUF_SIMPLE) == 0) {
+    if (data && borrow_frozen(data, &view) == 0) {
         symbols = absorb(self, &view, is_alone);
         PyBuffer_Release(&view);
     }
