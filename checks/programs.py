@@ -5,8 +5,8 @@ import subprocess
 import sys
 import tempfile
 
-TOP = os.path.join(os.path.dirname(os.path.abspath(__file__)), "..")
-SOURCE = "checks/refuse.c"
+TOP = os.path.realpath(os.path.join(os.path.dirname(os.path.abspath(__file__)), ".."))
+SOURCE = f"{TOP}/checks/refuse.c"
 BUILDS = ("", ".by-rattle")  # the two compilers' executables
 OUT_OF_MEMORY = "out of memory"
 
@@ -75,12 +75,17 @@ def commands(build):
     return [([tool, mode], *MODES[mode]) for mode in modes(tool)] + [([restore], *ENCODED)]
 
 
-def judge(checks, names):
-    """Makes the checks, each of which yields what is wrong, and ends with the status."""
-    os.chdir(TOP)
+def check_built(names):
+    """Ends with a message if a program isn't built."""
     missing = [it for it in (program(name, build) for name in names for build in BUILDS) if not os.access(it, os.X_OK)]
     if missing:
         sys.exit(f"not built: {' '.join(missing)}")
+
+
+def judge(checks, names):
+    """Makes the checks, each of which yields what is wrong, and ends with the status."""
+    os.chdir(TOP)
+    check_built(names)
     with tempfile.TemporaryDirectory() as folder:
         wrong = list(checks(compiled(folder)))
     print(*wrong, sep="\n", end="\n" * bool(wrong))

@@ -1,4 +1,4 @@
-"""Column files from Python: beside plain lists, beside checks/frozen_columns.py, which is written from docs/COLUMN-FILES.md
+"""Column files from Python: beside plain lists, beside checks/formats.py, which is written from docs/COLUMN-FILES.md
 alone, and beside the program, if it is built."""
 import copy
 import itertools
@@ -17,10 +17,7 @@ from pathlib import Path
 sys.dont_write_bytecode = True
 TOP = Path(__file__).resolve().parent.parent.parent
 sys.path.insert(0, str(TOP / "checks"))
-import columns
-import frozen_columns
-import frozen_shards
-import frozen_tables
+import formats
 import intaglio
 from intaglio import MISSING, BytesTable, Column, Frozen, Shards, SymbolTable, merge, renumber, split
 
@@ -43,7 +40,7 @@ def encoded(strings):
 
 
 def kind_of(strings):
-    return frozen_tables.TEXT if all(isinstance(it, str) for it in strings) else frozen_tables.BYTES
+    return formats.TEXT if all(isinstance(it, str) for it in strings) else formats.BYTES
 
 
 def if_grown(wanted, found):
@@ -74,18 +71,18 @@ class OfColumns(unittest.TestCase):
 
     def put(self, strings, count, name="words"):
         """A folder of these strings in so many shards that another writer wrote, and the strings in its order."""
-        parts, kind = frozen_shards.shards_of(encoded(strings), count), kind_of(strings)
-        frozen_shards.put(self.folder / name, frozen_shards.folder_of(parts, kind))
+        parts, kind = formats.shards_of(encoded(strings), count), kind_of(strings)
+        formats.put(self.folder / name, formats.folder_of(parts, kind))
         in_order = [*itertools.chain(*parts)]
-        return self.folder / name, [it.decode() for it in in_order] if kind == frozen_tables.TEXT else in_order
+        return self.folder / name, [it.decode() for it in in_order] if kind == formats.TEXT else in_order
 
     def write_of(self, strings, codes):
         """The bytes of a column of these codes of a dictionary with these strings in this order, by another writer."""
-        return frozen_columns.column(frozen_columns.id_of_strings(encoded(strings), kind_of(strings)), codes)
+        return formats.column(formats.id_of_strings(encoded(strings), kind_of(strings)), codes)
 
     def write(self, words, codes):
         """A column of these codes that another writer wrote."""
-        self.path.write_bytes(frozen_columns.column(frozen_columns.id_of(words.to_bytes()), codes))
+        self.path.write_bytes(formats.column(formats.id_of(words.to_bytes()), codes))
         return self.path
 
     def compare(self, column, lines):
@@ -147,7 +144,7 @@ class OfColumns(unittest.TestCase):
             table.freeze(self.folder / "dict")
             with Frozen(self.folder / "dict") as words:
                 words.write_column(self.path, words.encode(lines, missing=MISSING))
-                self.assertEqual(frozen_columns.faults_of(self.path.read_bytes()), [])
+                self.assertEqual(formats.column_faults(self.path.read_bytes()), [])
                 with Column(self.path, words) as column:
                     self.compare(column, lines)
 
@@ -216,7 +213,7 @@ class OfColumns(unittest.TestCase):
         changed += [data[:i] + bytes([data[i] ^ bit]) + data[i + 1:] for i in range(len(data)) for bit in (1, 128)]
         for bad in changed:
             self.path.write_bytes(bad)
-            found = frozen_columns.faults_of(bad)
+            found = formats.column_faults(bad)
             if not found:
                 # (the hashes or the kind of another dictionary, or another string's code)
                 continue
@@ -361,10 +358,10 @@ class OfColumns(unittest.TestCase):
         self.assertEqual(list(Column(self.path, words)), [strings[1]])
 
     def test_shards_of_both_kinds_are_a_dictionary_of_bytes(self):
-        both = [frozen_shards.shards_of([b"a", b"b", b"c", b"d"], 2)[it] for it in (0, 1)]
-        tables = [frozen_tables.freeze(it, kind) for it, kind in zip(both, (frozen_tables.TEXT, frozen_tables.BYTES))]
-        index = frozen_shards.index_of([frozen_columns.id_of(it) for it in tables])
-        frozen_shards.put(self.folder / "both", {"0.dict": tables[0], "1.dict": tables[1], "shards": index})
+        both = [formats.shards_of([b"a", b"b", b"c", b"d"], 2)[it] for it in (0, 1)]
+        tables = [formats.freeze(it, kind) for it, kind in zip(both, (formats.TEXT, formats.BYTES))]
+        index = formats.index_of([formats.id_of(it) for it in tables])
+        formats.put(self.folder / "both", {"0.dict": tables[0], "1.dict": tables[1], "shards": index})
         strings = [*itertools.chain(*both)]
         with Shards(self.folder / "both") as words:
             words.write_column(self.path, array("I", [3, 0]))
@@ -448,7 +445,7 @@ class OfColumns(unittest.TestCase):
             return subprocess.run([PROGRAM, *map(str, words)], check=True, capture_output=True, input=given).stdout
 
         lines = [None if it % 7 == 0 else f"s{it * it % 300}" for it in range(500)]
-        given, name = columns.ended(b"absent" if it is None else it.encode() for it in lines), self.folder / "of_program"
+        given, name = formats.ended(b"absent" if it is None else it.encode() for it in lines), self.folder / "of_program"
         for count in SHARDS:
             self.freeze(texts(300))
             ran("split", self.folder / "dict", "--shards", count, "-o", self.folder / f"{count}")

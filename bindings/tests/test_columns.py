@@ -12,8 +12,7 @@ from pathlib import Path
 
 sys.dont_write_bytecode = True
 sys.path.insert(0, str(Path(__file__).resolve().parent.parent.parent / "checks"))
-import columns
-import frozen_tables
+import formats
 import intaglio
 from intaglio import MISSING, BytesTable, Frozen, SymbolTable, merge, renumber
 
@@ -29,8 +28,8 @@ ROUNDS = 300
 def frozen_of(strings, is_text=None):
     """A table of these strings in memory, by the writer in Python."""
     is_text = all(isinstance(it, str) for it in strings) if is_text is None else is_text
-    kind = frozen_tables.TEXT if is_text else frozen_tables.BYTES
-    return Frozen.from_bytes(frozen_tables.freeze([it.encode() if is_text else it for it in strings], kind, 1, 2))
+    kind = formats.TEXT if is_text else formats.BYTES
+    return Frozen.from_bytes(formats.freeze([it.encode() if is_text else it for it in strings], kind, 1, 2))
 
 
 class Encoding(unittest.TestCase):
@@ -272,11 +271,11 @@ class Encoding(unittest.TestCase):
         self.assertEqual(repr(words), "<Frozen, closed>")
 
     def test_trusted_texts_that_are_damaged_are_not_decoded(self):
-        data = frozen_tables.freeze([b"a", b"bc"], frozen_tables.TEXT)
+        data = formats.freeze([b"a", b"bc"], formats.TEXT)
         words = Frozen.from_bytes(data[:-1] + b"\xff", trusted=True)
         with self.assertRaises(UnicodeDecodeError):
             words.decode(array("I", [0, 1]))
-        at = frozen_tables.Sections(2).ends
+        at = formats.Sections(2).ends
         words = Frozen.from_bytes(data[:at] + b"\x07" + data[at + 1:], trusted=True)
         with self.assertRaises(intaglio.NoSymbol):
             words.decode(array("I", [1]))
@@ -290,12 +289,12 @@ class Encoding(unittest.TestCase):
                 data[chance.randrange(len(data))] = chance.randrange(256)
             codes = array("I", bytes(data))
             for call, other in (
-                (words.decode, lambda: columns.decoded(list(words), list(codes))),
-                (lambda it: list(renumber(it, numbers)), lambda: columns.renumbered(list(numbers), list(codes))),
+                (words.decode, lambda: formats.decoded(list(words), list(codes))),
+                (lambda it: list(renumber(it, numbers)), lambda: formats.renumbered(list(numbers), list(codes))),
             ):
                 try:
                     wanted = other()
-                except columns.Damaged as fault:
+                except formats.Damaged as fault:
                     with self.assertRaises(intaglio.NoSymbol) as raised:
                         call(codes)
                     self.assertEqual(raised.exception.position, fault.args[0] - 1)
@@ -368,7 +367,7 @@ class Merging(unittest.TestCase):
             out = self.folder / "out"
             words, maps = merge(given, out, keys=(5, 6))
             self.assertEqual((list(words), [list(it) for it in maps]), (strings, wanted))
-            self.assertEqual(out.read_bytes(), frozen_tables.freeze([it.encode() for it in strings], frozen_tables.TEXT, 5, 6))
+            self.assertEqual(out.read_bytes(), formats.freeze([it.encode() for it in strings], formats.TEXT, 5, 6))
             words.close()
         self.assertEqual(list(one), ["to", "be"])
 
@@ -430,7 +429,7 @@ class Merging(unittest.TestCase):
     def test_many_tables_need_few_descriptors(self):
         names = [self.folder / str(it) for it in range(1200)]
         for number, name in enumerate(names):
-            name.write_bytes(frozen_tables.freeze([b"%d" % number, b"all"]))
+            name.write_bytes(formats.freeze([b"%d" % number, b"all"]))
         words, maps = merge(names)
         self.assertEqual((len(words), [list(it) for it in maps[:2]], list(maps[-1])), (1201, [[0, 1], [2, 1]], [1200, 1]))
 
@@ -438,7 +437,7 @@ class Merging(unittest.TestCase):
         chance = random.Random(9)
         for size in (0, 1, 7, 300, 5_000, 100_000):
             for are_texts in (True, False):
-                parts = columns.random_parts(chance, size, frozen_tables.TEXT if are_texts else frozen_tables.BYTES)
+                parts = formats.random_parts(chance, size, formats.TEXT if are_texts else formats.BYTES)
                 if are_texts:
                     parts = [[it.decode() for it in lines] for lines in parts]
                 frozen = [frozen_of([*dict.fromkeys(lines)], are_texts) for lines in parts]

@@ -1,4 +1,4 @@
-"""Frozen tables from Python: those of checks/frozen_tables.py, which is written from docs/FROZEN.md alone."""
+"""Frozen tables from Python: those of checks/formats.py, which is written from docs/FROZEN.md alone."""
 import copy
 import multiprocessing
 import os
@@ -13,7 +13,7 @@ from pathlib import Path
 
 sys.dont_write_bytecode = True
 sys.path.insert(0, str(Path(__file__).resolve().parent.parent.parent / "checks"))
-import frozen_tables
+import formats
 import intaglio
 from intaglio import Frozen
 from intaglio._table import frozen_find_all, thaw
@@ -37,8 +37,8 @@ class OfFrozen(unittest.TestCase):
     def write(self, strings):
         """A file with these strings."""
         is_text = all(isinstance(it, str) for it in strings)
-        kind = frozen_tables.TEXT if is_text else frozen_tables.BYTES
-        self.path.write_bytes(frozen_tables.freeze([it.encode() if is_text else it for it in strings], kind, 1, 2))
+        kind = formats.TEXT if is_text else formats.BYTES
+        self.path.write_bytes(formats.freeze([it.encode() if is_text else it for it in strings], kind, 1, 2))
         return self.path
 
     def test_strings_are_found_at_their_symbols(self):
@@ -330,9 +330,8 @@ class OfFrozen(unittest.TestCase):
         for _ in range(5_000):
             damaged = bytearray(whole)
             for _ in range(chance.randint(1, 9)):
-                damaged[chance.randrange(frozen_tables.HEADER.size, len(whole))] = chance.randrange(256)
-            reader = frozen_tables.Frozen.__new__(frozen_tables.Frozen)
-            reader.read(bytes(damaged))
+                damaged[chance.randrange(formats.TABLE_HEADER.size, len(whole))] = chance.randrange(256)
+            reader = formats.Frozen(bytes(damaged), True)
             symbols = frozen_find_all(bytes(damaged), True, [*words, "absent"])
             for word, symbol in zip([*words, "absent"], symbols, strict=True):
                 self.assertTrue(symbol is None or reader[symbol] == word.encode(), (word, symbol))
@@ -356,7 +355,7 @@ class OfFrozen(unittest.TestCase):
                 with self.assertRaises(UnicodeDecodeError):
                     call()
         # The end of the first string lies behind that of the second.
-        at = frozen_tables.Sections(len(TEXTS)).ends
+        at = formats.Sections(len(TEXTS)).ends
         self.path.write_bytes(whole[:at] + b"\x05" + whole[at + 1:])
         with Frozen(self.path, trusted=True) as table:
             self.assertIsNone(table.get(1))

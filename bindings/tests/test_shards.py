@@ -1,4 +1,4 @@
-"""Dictionaries in shards from Python: beside plain lists, beside checks/frozen_shards.py, which is written from docs/FROZEN.md
+"""Dictionaries in shards from Python: beside plain lists, beside checks/formats.py, which is written from docs/FROZEN.md
 alone, and beside the program, if it is built."""
 import copy
 import errno
@@ -16,15 +16,13 @@ from pathlib import Path
 sys.dont_write_bytecode = True
 TOP = Path(__file__).resolve().parent.parent.parent
 sys.path.insert(0, str(TOP / "checks"))
-import columns
-import frozen_shards
-import frozen_tables
+import formats
 import intaglio
 from intaglio import MISSING, BytesTable, Frozen, Shards, SymbolTable, merge, renumber, split
 
 PROGRAM = TOP / "crates/intaglio_dict/out/intaglio_dict"
 ROUNDS = 60
-KINDS = {True: (frozen_tables.TEXT, SymbolTable), False: (frozen_tables.BYTES, BytesTable)}
+KINDS = {True: (formats.TEXT, SymbolTable), False: (formats.BYTES, BytesTable)}
 WORDS = ["", "a", "b c", "\u00e9", "a string that is longer than the others", *(f"w{it}" for it in range(60))]
 
 
@@ -40,13 +38,13 @@ def files_of(strings, count, is_text, has_map=True):
     """The files of a folder that has these strings in so many shards, by the writer in plain Python."""
     data, kind = encoded(strings), KINDS[is_text][0]
     if has_map:
-        return frozen_shards.split_folder(data, count, kind)
-    return frozen_shards.folder_of(frozen_shards.shards_of(data, count), kind)
+        return formats.split_folder(data, count, kind)
+    return formats.folder_of(formats.shards_of(data, count), kind)
 
 
 def merged_shards(lists, count):
     """The strings of each merged shard, and for each list the map to all of them."""
-    each = [columns.merged(frozen_shards.shards_of(encoded(it), count)[shard] for it in lists) for shard in range(count)]
+    each = [formats.merged(formats.shards_of(encoded(it), count)[shard] for it in lists) for shard in range(count)]
     shards = [strings for strings, _ in each]
     symbols = {it: number for number, it in enumerate(itertools.chain(*shards))}
     return shards, [[symbols[it] for it in encoded(strings)] for strings in lists]
@@ -61,8 +59,8 @@ class OfShards(unittest.TestCase):
 
     def put(self, strings, count, is_text=True, has_map=True, folder=None):
         """A folder of these strings that another writer wrote, and the strings in its order."""
-        frozen_shards.put(folder or self.folder, files_of(strings, count, is_text, has_map))
-        return decoded(itertools.chain(*frozen_shards.shards_of(encoded(strings), count)), is_text)
+        formats.put(folder or self.folder, files_of(strings, count, is_text, has_map))
+        return decoded(itertools.chain(*formats.shards_of(encoded(strings), count)), is_text)
 
     def freeze(self, strings, is_text=True):
         return Frozen.from_bytes(KINDS[is_text][1](strings).freeze())
@@ -105,7 +103,7 @@ class OfShards(unittest.TestCase):
         self.assertEqual((shards.encode_into(asked, out, missing=MISSING), out), (len(asked), with_missing))
         if strings:
             self.assertEqual(shards.encode(tuple(strings)), array("I", range(len(strings))))
-        lines = columns.ended(encoded(asked))
+        lines = formats.ended(encoded(asked))
         self.assertEqual(shards.encode_lines(lines, missing=MISSING), with_missing)
         self.assertEqual(shards.decode(with_missing, missing=None), [None if it == absent else it for it in asked])
         with self.assertRaisesRegex(intaglio.NoSymbol, f"^code {len(strings)} at position 0 is no symbol$"):
@@ -136,9 +134,9 @@ class OfShards(unittest.TestCase):
             folder = self.at / str(seed)
             split(self.freeze(strings, is_text), folder, rng.randrange(1, 6))
             count = len(list(folder.glob("*.dict")))
-            self.assertEqual(frozen_shards.files_in(folder), files_of(strings, count, is_text))
+            self.assertEqual(formats.files_in(folder), files_of(strings, count, is_text))
             with Shards(str(folder) if seed % 2 else os.fsencode(folder)) as shards:
-                self.compare(shards, decoded(itertools.chain(*frozen_shards.shards_of(encoded(strings), count)), is_text))
+                self.compare(shards, decoded(itertools.chain(*formats.shards_of(encoded(strings), count)), is_text))
 
     def test_split_writes_what_another_writer_does(self):
         self.freeze(WORDS).write_column(self.at / "column", array("I", [0]))
@@ -148,7 +146,7 @@ class OfShards(unittest.TestCase):
                 folder = self.at / f"{count}"
                 for _ in range(2):
                     split(table, folder, count)
-                    self.assertEqual(frozen_shards.files_in(folder), files_of(WORDS, count, True))
+                    self.assertEqual(formats.files_in(folder), files_of(WORDS, count, True))
         codes = array("I", [3, 0, len(WORDS) - 1])
         shards, numbers = Shards(self.at / "16"), array("I", (self.at / "16/map").read_bytes())
         self.assertEqual(shards.decode(renumber(codes, numbers)), [WORDS[it] for it in codes])
@@ -156,18 +154,18 @@ class OfShards(unittest.TestCase):
 
     def test_other_keys_give_the_same_index(self):
         split(self.freeze(WORDS), self.folder, 3)
-        before = frozen_shards.files_in(self.folder)
+        before = formats.files_in(self.folder)
         for keys in (None, (5, 6)):
             split(self.freeze(WORDS), self.folder, 3, keys=keys)
-            files = frozen_shards.files_in(self.folder)
+            files = formats.files_in(self.folder)
             for name in ("shards", "map", "map.index"):
                 self.assertEqual(files[name], before[name])
             self.assertNotEqual(files["0.dict"], before["0.dict"])
-            self.assertEqual(encoded(Shards(self.folder)), frozen_shards.strings_in(self.folder))
+            self.assertEqual(encoded(Shards(self.folder)), formats.strings_in(self.folder))
 
     def test_a_folder_with_other_shards_stays(self):
         split(self.freeze(WORDS), self.folder, 3)
-        before = frozen_shards.files_in(self.folder)
+        before = formats.files_in(self.folder)
         said = "it has other shards: remove it, or name another folder"
         for strings, count in ((WORDS, 4), (WORDS[:-1], 3), (WORDS[::-1], 3), (encoded(WORDS), 3)):
             is_text = strings is not None and isinstance(strings[0], str)
@@ -178,7 +176,7 @@ class OfShards(unittest.TestCase):
                 with self.assertRaisesRegex(FileExistsError, said) as caught:
                     write()
                 self.assertEqual((caught.exception.errno, caught.exception.filename), (errno.EEXIST, str(self.folder)))
-                self.assertEqual(frozen_shards.files_in(self.folder), before)
+                self.assertEqual(formats.files_in(self.folder), before)
         (self.folder / "shards").write_bytes(b"no index\n")
         with self.assertRaisesRegex(FileExistsError, said):
             split(self.freeze(WORDS), self.folder, 3)
@@ -200,8 +198,8 @@ class OfShards(unittest.TestCase):
                 [tables[0], os.fsencode(at / "1.shards"), at / "2.dict", at / "3.shards"],
             )):
                 whole, found = merge(iter(parts), at / f"whole{number}", shards=count)
-                wanted = frozen_shards.folder_of(shards, KINDS[is_text][0])
-                self.assertEqual(frozen_shards.files_in(at / f"whole{number}"), wanted)
+                wanted = formats.folder_of(shards, KINDS[is_text][0])
+                self.assertEqual(formats.files_in(at / f"whole{number}"), wanted)
                 self.assertEqual([list(it) for it in found], maps)
                 self.assertEqual((list(whole), whole.is_text), (strings, is_text))
                 for table, part in zip(tables, found):
@@ -218,10 +216,10 @@ class OfShards(unittest.TestCase):
         left, lefts = merge(tables[:2], self.at / "left", shards=4)
         right, rights = merge(tables[2:], self.at / "right", shards=4)
         shards, maps = merged_shards(lists, 4)
-        wanted = frozen_shards.folder_of(shards, frozen_tables.TEXT)
+        wanted = formats.folder_of(shards, formats.TEXT)
         for number, halves in enumerate(([left, right], [self.at / "left", self.at / "right"], [left, self.at / "right"])):
             whole, outer = merge(halves, self.at / f"whole{number}", shards=4)
-            self.assertEqual(frozen_shards.files_in(self.at / f"whole{number}"), wanted)
+            self.assertEqual(formats.files_in(self.at / f"whole{number}"), wanted)
             inner = [renumber(it, outer[0]) for it in lefts] + [renumber(it, outer[1]) for it in rights]
             self.assertEqual([list(it) for it in inner], maps)
             self.assertEqual(whole.decode(renumber(left.encode(lists[1]), outer[0])), lists[1])
@@ -243,9 +241,9 @@ class OfShards(unittest.TestCase):
             Shards(self.folder, kind=int)
         # A folder of both kinds, as `intaglio_dict join` may write it.
         files = files_of(["a"], 2, True, False), files_of(["b", "c", "d"], 2, False, False)
-        mixed = [frozen_shards.ids_in(it["shards"])[number] for number, it in enumerate(files)]
+        mixed = [formats.ids_in(it["shards"])[number] for number, it in enumerate(files)]
         names = {f"{number}.dict": it[f"{number}.dict"] for number, it in enumerate(files)}
-        frozen_shards.put(self.at / "mixed", names | {"shards": frozen_shards.index_of(mixed)})
+        formats.put(self.at / "mixed", names | {"shards": formats.index_of(mixed)})
         self.assertEqual({*map(type, Shards(self.at / "mixed"))}, {bytes})
 
     def test_damaged_indexes_are_refused_by_line(self):
@@ -316,14 +314,14 @@ class OfShards(unittest.TestCase):
                     self.assertTrue(str(error).startswith(str(self.folder)), error)
                 else:
                     # (other keys or pilots under which the strings are found too)
-                    table = frozen_tables.Frozen(data).sections if name != "shards" else None
+                    table = formats.Frozen(data).sections if name != "shards" else None
                     self.assertTrue(found == strings and table and (16 <= at < 32 or table.pilots <= at < table.tags), (name, at))
             path.write_bytes(data)
         self.assertEqual(list(Shards(self.folder)), strings)
 
     def test_strings_must_be_in_their_shards(self):
-        shards = frozen_shards.shards_of(encoded(WORDS), 3)
-        frozen_shards.put(self.folder, frozen_shards.folder_of([shards[0], shards[2], shards[1]], frozen_tables.TEXT))
+        shards = formats.shards_of(encoded(WORDS), 3)
+        formats.put(self.folder, formats.folder_of([shards[0], shards[2], shards[1]], formats.TEXT))
         said = f"^{self.folder}/1.dict: string 0 belongs to another shard, or there is another number of shards$"
         for read in (lambda: Shards(self.folder), lambda: merge([self.folder], self.at / "out", shards=3)):
             with self.assertRaisesRegex(intaglio.Misplaced, said) as caught:
@@ -334,7 +332,7 @@ class OfShards(unittest.TestCase):
             self.assertEqual(trusted.find_all(decoded(shards[2], True)), [None] * len(shards[2]))
         last = shards[1][-1]
         moved = [[*shards[0], last], shards[1][:-1], shards[2]]
-        frozen_shards.put(self.folder, frozen_shards.folder_of(moved, frozen_tables.TEXT))
+        formats.put(self.folder, formats.folder_of(moved, formats.TEXT))
         with self.assertRaisesRegex(intaglio.Misplaced, f"/0.dict: string {len(shards[0])} belongs to another shard"):
             Shards(self.folder)
 
@@ -362,7 +360,7 @@ class OfShards(unittest.TestCase):
         path, index = self.folder / "map", self.folder / "map.index"
         data = path.read_bytes()
         changed = data[:-4] + b"\xf0\xff\xff\xff"
-        sums = (frozen_shards.checksum_of(it).encode() for it in (data, changed))
+        sums = (formats.checksum_of(it).encode() for it in (data, changed))
         index.write_bytes(index.read_bytes().replace(*sums))
         path.write_bytes(changed)
         said = f"^{path}: code 4294967280 at position {len(WORDS) - 1} is no symbol"
@@ -393,7 +391,7 @@ class OfShards(unittest.TestCase):
         self.put(WORDS, 3)
         SymbolTable(WORDS).freeze(self.at / "0.dict")
         words = Frozen(self.at / "0.dict")
-        before = frozen_shards.files_in(self.folder), (self.at / "0.dict").read_bytes()
+        before = formats.files_in(self.folder), (self.at / "0.dict").read_bytes()
         path = self.at / "0.dict"
         for write, name in (
             (lambda: split(words, self.at, 2), path), (lambda: split(path, self.at, 2), path),
@@ -403,7 +401,7 @@ class OfShards(unittest.TestCase):
         ):
             with self.assertRaisesRegex(ValueError, f"^{name}: this input is in the folder that is written, "):
                 write()
-        self.assertEqual((frozen_shards.files_in(self.folder), (self.at / "0.dict").read_bytes()), before)
+        self.assertEqual((formats.files_in(self.folder), (self.at / "0.dict").read_bytes()), before)
 
     def test_copies_and_pickles(self):
         class Named(Shards):
@@ -473,7 +471,7 @@ class OfShards(unittest.TestCase):
         self.assertEqual(shards.find_all(iter([*strings, "no"])), [*numbers, None])
         self.assertEqual(shards.encode_lines("\n".join(strings).encode()), numbers)
         for shard, table in enumerate(shards.tables):
-            self.assertTrue(all(frozen_shards.shard_of(7, it.encode()) == shard for it in table[:20]))
+            self.assertTrue(all(formats.shard_of(7, it.encode()) == shard for it in table[:20]))
 
     def test_wrong_arguments_raise(self):
         self.put(WORDS, 3)
@@ -516,19 +514,19 @@ class OfShards(unittest.TestCase):
             SymbolTable(strings).freeze(self.at / f"{number}.part")
             ran("split", self.at / f"{number}.part", "--shards", count, "-o", self.at / f"{number}.of_program")
             split(self.at / f"{number}.part", self.at / f"{number}.shards", count)
-            self.assertEqual(*(frozen_shards.files_in(self.at / f"{number}.{it}") for it in ("shards", "of_program")))
+            self.assertEqual(*(formats.files_in(self.at / f"{number}.{it}") for it in ("shards", "of_program")))
         folders = [self.at / f"{it}.shards" for it in range(len(parts))]
         for shard in range(count):
             ran("merge", "--shard", shard, "-o", self.at / f"{shard}.merged", "--maps", self.at / f"maps/{shard}", *folders)
         ran("join", "-o", self.at / "joined", *(self.at / f"{it}.merged" for it in range(count)))
         whole, maps = merge(folders, self.at / "whole", shards=count)
-        self.assertEqual(frozen_shards.files_in(self.at / "whole"), frozen_shards.files_in(self.at / "joined"))
+        self.assertEqual(formats.files_in(self.at / "whole"), formats.files_in(self.at / "joined"))
         for number, strings in enumerate(parts):
             (self.at / "codes").write_bytes(array("I", range(len(strings))))
             words = ["--into", self.at / "joined", "--maps", self.at / "maps", "--part", number, folders[number]]
             self.assertEqual(ran("renumber", *words, self.at / "codes"), maps[number].tobytes())
         ran("check", self.at / "whole")
-        self.assertEqual(ran("list", self.at / "whole"), columns.ended(encoded(whole)))
+        self.assertEqual(ran("list", self.at / "whole"), formats.ended(encoded(whole)))
 
 
 if __name__ == "__main__":

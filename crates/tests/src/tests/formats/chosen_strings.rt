@@ -1,5 +1,5 @@
 //! Strings that are chosen so that under some keys one of them gets no place. The expected hashes are of the
-//! bytes that `checks/frozen_tables.py` writes.
+//! bytes that `checks/formats.py` writes.
 use super::packing::packed_of;
 use crate::tests::assertions::same;
 use intaglio::packed::{StrKind, SymbolTable};

@@ -8,7 +8,7 @@ use std::alloc::AllocError;
 use std::process::Abort;
 
 // The column of the codes 0, 2, 2, missing, 1 under the dictionary of `abc`, the empty string and `xy`, as
-// `checks/frozen_columns.py` writes it.
+// `checks/formats.py` writes it.
 const COLUMN: [u8; 69] = [
     73, 78, 84, 137, 67, 79, 76, 10, 1, 0, 0, 0, 0, 0, 0, 0, 248, 104, 127, 193, 74, 28, 227, 176,
     246, 76, 199, 177, 197, 138, 104, 50, 3, 0, 0, 0, 0, 0, 0, 0, 5, 0, 0, 0, 0, 0, 0, 0, 1, 0, 0,

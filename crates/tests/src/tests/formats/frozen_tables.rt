@@ -10,7 +10,7 @@ use std::hash::BuildHasher;
 use std::process::Abort;
 
 // The table of `abc`, the empty string and `xy` under the keys 1 and 2, as
-// `checks/frozen_tables.py` writes it.
+// `checks/formats.py` writes it.
 const TABLE: [u8; 110] = [
     73, 78, 84, 65, 71, 76, 73, 79, 1, 0, 0, 0, 0, 0, 0, 0, 1, 0, 0, 0, 0, 0, 0, 0, 2, 0, 0, 0, 0,
     0, 0, 0, 3, 0, 0, 0, 0, 0, 0, 0, 0, 0, 0, 0, 0, 0, 0, 0, 0, 0, 0, 0, 0, 0, 0, 0, 0, 0, 0, 0, 0,

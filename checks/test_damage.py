@@ -1,0 +1,265 @@
+"""Damaged files: the program must accept a file exactly if the reader in formats.py does, and otherwise report a fault that it
+has. hypothesis damages them, and finds the least damage by which a test fails."""
+
+import itertools
+import os
+import re
+import tempfile
+
+import pytest
+from formats import (
+    BYTES, COLUMN_HEADER, MISSING, TEXT, Column, Damaged, Frozen, begins_as_column, column, column_faults, decoded, encoded,
+    ended, freeze, id_of, packed, put, rebuilt, renumbered, table_faults, unpacked,
+)
+from hypothesis import given, seed, settings
+from hypothesis import strategies as st
+from test_answers import NOT_ONE
+from test_codes import missing_line
+from test_columns import commands, of_another, trusted
+from test_tables import LISTS, table_of
+from tool import NAME, said, wrote
+
+FAULTS = {
+    "not a frozen table": "magic", NOT_ONE: "magic", "the header is cut short": "header", "another version": "version",
+    "an unknown kind": "kind", "a reserved byte isn't zero": "reserved", "too many strings": "too many",
+    "the file is truncated": "truncated", "the codes are cut short": "truncated", "the strings don't fill the text": "ends",
+    "a place without a string isn't empty": "unused", "another width than that of the number of strings": "width",
+    "there are bytes behind the last row": "too long",
+}
+NUMBERED = (
+    (r"string (\d+) isn't found at its symbol", "not found"), (r"string (\d+) isn't UTF-8", "not UTF-8"),
+    (r"row (\d+) has a code that is no symbol", "no string"),
+)
+# How many files one run of the program checks, and how many tests share the damaged files.
+BATCH, TURNS = 50, 16
+TURN = pytest.mark.parametrize("turn", range(TURNS))
+SMALL = [table_of(strings, seed) for strings in LISTS.values() for seed in (0, 1)]
+# Columns of each width, with the tables that they are of.
+COLUMNS = [
+    (table, column(id_of(table), [*range(0, count, max(1, count // 7)), MISSING, MISSING]))
+    for count, kind in ((0, BYTES), (3, TEXT), (255, BYTES), (300, BYTES))
+    for table in [freeze([b"%d" % it for it in range(count)], kind)]
+]
+
+
+def fault_of(message):
+    """The fault that a message names."""
+    message = re.sub("^a (frozen table|column) of (?=an)", "", message)
+    for pattern, fault in NUMBERED:
+        if found := re.fullmatch(pattern, message):
+            return f"{fault}: {found[1]}"
+    return FAULTS.get(message, message)
+
+
+# What is damaged, and how.
+
+
+# Where the numbers of a header are.
+FIELDS = (8, 12, 16, 24, 32, 40, 48, 52, 56)
+
+
+@st.composite
+def damaged(draw, data, files):
+    """A file that was damaged once or a few times: a number is another one, bytes are others, more or fewer, two numbers that are
+    near each other are exchanged, or the file is cut, or ends as another does."""
+    for _ in range(draw(st.sampled_from((1, 1, 1, 2, 3)))):
+        width, place = draw(st.sampled_from((1, 2, 4, 8))), draw(st.integers(0, len(data)))
+        at = draw(st.sampled_from((place, place // width * width, *FIELDS)))
+        before, old, after = data[:at], data[at : at + width], data[at + width :]
+        number, bits = int.from_bytes(old, "little"), 8 * width
+        flipped = number ^ 1 << draw(st.integers(0, bits - 1))
+        number = draw(st.sampled_from((number + 1, number - 1, flipped, -1)) | st.integers(0, 40))
+        far = width * draw(st.integers(0, 15))
+        data = draw(st.sampled_from((
+            before + (number % 2**bits).to_bytes(width, "little") + after,
+            before + draw(st.binary(max_size=4)) + data[at + draw(st.integers(0, 4)) :],
+            before + after[far : far + width] + after[:far] + old + after[far + width :],
+            before, before + draw(st.sampled_from(files))[at:],
+        ))) or b"I"
+    return data
+
+
+def each_byte(data, end):
+    """The file with each byte before an end changed to several values, cut at each length, and longer."""
+    for at, byte in enumerate(data[:end]):
+        for other in {byte ^ 1, byte ^ 0x80, byte + 1 & 255, 0, 2, 4, 255} - {byte}:
+            yield data[:at] + bytes([other]) + data[at + 1 :]
+    yield from (data[:cut_at] for cut_at in range(len(data)))
+    yield from (data + it for it in (b"\0", bytes(8), data))
+
+
+# What the program says of them.
+
+
+def reported(tool, names, before=()):
+    """What `check` says of each file."""
+    status, written, told = tool("check", *before, *names)
+    parts = [line.split(": ", 2) for line in told]
+    assert (status, written, {it[0] for it in parts}) == (int(bool(told)), b"", {NAME} if told else set())
+    messages = {it[1]: it[2] for it in parts}
+    assert len(messages) == len(told) and messages.keys() <= {*names}
+    return messages
+
+
+def check_tables(tool, files):
+    names = {str(number): data for number, data in enumerate(files)}
+    put(".", names)
+    messages, has_table = reported(tool, names), False
+    for name, data in names.items():
+        faults, message = table_faults(data), messages.get(name)
+        if begins_as_column(data):
+            # It is checked as a column of the last file before it that doesn't begin so.
+            assert message == (NOT_ONE if has_table else "a column, and no dictionary before it; name its dictionary first")
+            continue
+        has_table = True
+        assert message and fault_of(message) in faults if faults else message is None, (message, faults[:3], data.hex())
+        # A table is fixed by its kind, keys, strings and pilots.
+        assert faults or rebuilt(Frozen(data)) == data, data.hex()
+
+
+def check_columns(tool, table, files):
+    names = {str(number): data for number, data in enumerate(files) if begins_as_column(data)}
+    put(".", {"table": table, **{str(number): data for number, data in enumerate(files)}})
+    messages = reported(tool, names, ["table"])
+    for number, (name, data) in enumerate((str(number), data) for number, data in enumerate(files)):
+        faults, message = column_faults(data), messages.get(name)
+        another = of_another(name, "table")
+        is_other = not faults and Column(data).id != id_of(table)
+        if name in names:
+            wanted = another.removeprefix(f"{name}: ") if is_other else None
+            is_right = message and fault_of(message) in faults if faults else message == wanted
+            assert is_right, (message, faults[:3], data.hex())
+        if faults or is_other:
+            # A command is refused by its name, and writes nothing; with trusted bytes it may go on.
+            words, status = commands("table", name)[1 + number % 4]
+            ended_as, written, (told,) = tool(*words)
+            start, _, fault = told.removeprefix(f"{NAME}: ").partition(": ")
+            is_right = (fault_of(fault) in faults if faults else told == f"{NAME}: {another}") and start == name
+            assert (ended_as, written, is_right) == (status, b"", True), (words, told, faults[:3], data.hex())
+            assert tool(*trusted(words))[0] in (0, 1, 2), data.hex()
+
+
+@pytest.fixture(autouse=True)
+def in_memory(monkeypatch):
+    """Many files are written, so they are in memory, if there is such a folder."""
+    with tempfile.TemporaryDirectory(dir="/dev/shm" if os.path.isdir("/dev/shm") else None) as folder:
+        monkeypatch.chdir(folder)
+        yield
+
+
+@pytest.mark.parametrize("data", SMALL)
+def test_each_byte_of_a_table(tool, data):
+    for files in iter_batches(each_byte(data, None)):
+        check_tables(tool, files)
+
+
+@pytest.mark.parametrize("table, data", COLUMNS)
+def test_each_byte_of_a_column(tool, table, data):
+    for files in iter_batches(each_byte(data, COLUMN_HEADER.size)):
+        check_columns(tool, table, files)
+
+
+def iter_batches(files):
+    while batch := [*itertools.islice(files, 500)]:
+        yield batch
+
+
+def examples(request, tool, turn, most=None):
+    """The settings under which a test makes its share of the damaged files: the second build a tenth."""
+    count = min(request.config.getoption("count"), most or 10**9) // (10 if "by-rattle" in tool.path else 1)
+    return lambda test: seed(turn)(settings(max_examples=max(1, count // TURNS // BATCH))(test))
+
+
+@TURN
+def test_damaged_tables(tool, request, turn):
+    @examples(request, tool, turn)
+    @given(st.lists(st.sampled_from(SMALL).flatmap(lambda it: damaged(it, SMALL)), min_size=BATCH, max_size=BATCH))
+    def each(files):
+        check_tables(tool, files)
+
+    each()
+
+
+@TURN
+def test_damaged_columns(tool, request, turn):
+    @examples(request, tool, turn, 10_000)
+    @given(st.data())
+    def each(data):
+        table, whole = data.draw(st.sampled_from(COLUMNS))
+        files = st.lists(damaged(whole, [it for _, it in COLUMNS]), min_size=BATCH, max_size=BATCH)
+        check_columns(tool, table, data.draw(files))
+
+    each()
+
+
+# Codes and maps.
+
+
+STRINGS = [b"%d" % it for it in range(200)]
+REPEATED = st.sampled_from((1, 400, 800))
+
+
+def translated(translate, data):
+    """What the codes before the first fault become, and the fault, if there is one."""
+    codes, fault = unpacked(data[: len(data) // 4 * 4]), None
+    try:
+        unpacked(data)
+    except Damaged as found:
+        fault = found
+    try:
+        return translate(codes), fault
+    except Damaged as found:
+        return translate(codes[: found.args[0] - 1]), found
+
+
+@pytest.mark.program
+def test_damaged_codes_and_maps(tool):
+    """What the program writes of random bytes, and the first code at which it stops, are what the reader finds."""
+    put(".", {"table": freeze(STRINGS)})
+    codes = st.lists(st.sampled_from([*range(200), MISSING]), max_size=50)
+
+    @settings(max_examples=150)
+    @given(st.data(), codes, REPEATED, st.lists(st.integers(0, 2**32 - 1), min_size=150, max_size=200))
+    def each(data, codes, times, numbers):
+        changed = data.draw(damaged(packed(numbers), [b""]) if data.draw(st.booleans()) else st.just(packed(numbers)))
+        given_codes = packed(codes * times)
+        given_codes = data.draw(damaged(given_codes, [b""])) if data.draw(st.booleans()) else given_codes
+        put(".", {"map": changed})
+        for words, translate in (
+            ("decode table", lambda codes: ended(decoded(STRINGS, codes))),
+            ("decode --missing ? table", lambda codes: ended(decoded(STRINGS, codes, b"?"))),
+            ("renumber map", lambda codes: packed(renumbered(unpacked(changed), codes))),
+        ):
+            status, written, told = tool(*words.split(), given=given_codes)
+            if words[0] == "r" and len(changed) % 4:
+                assert (status, written, told) == said(1, "map: not a map: its length is no multiple of 4")
+                continue
+            wanted, fault = translated(translate, given_codes)
+            message = [f"standard input: code number {fault.args[0]} {fault.args[1]}"] if fault else []
+            assert (status, told) == said(int(bool(fault)), *message)[::2]
+            assert wanted.startswith(written) if fault else wanted == written
+
+    each()
+
+
+@pytest.mark.program
+def test_lines_that_are_missing(tool):
+    """`encode` writes codes of lines before the first that isn't in the dictionary, and nothing else."""
+    put(".", {"table": freeze(STRINGS)})
+
+    @settings(max_examples=150)
+    @given(st.lists(st.sampled_from(STRINGS), min_size=1, max_size=50), REPEATED, st.data())
+    def each(lines, times, data):
+        lines = lines * times
+        for place in data.draw(st.lists(st.integers(0, len(lines) - 1), max_size=2)):
+            lines[place] = b"none of them"
+        codes = encoded(STRINGS, lines)
+        if MISSING not in codes:
+            assert tool("encode", "table", given=ended(lines)) == wrote(packed(codes))
+            return
+        place = codes.index(MISSING)
+        status, written, told = tool("encode", "table", given=ended(lines))
+        assert (status, told) == said(1, missing_line("standard input", place + 1, lines[place]))[::2]
+        assert packed(codes[:place]).startswith(written)
+
+    each()

@@ -1,0 +1,195 @@
+"""Frozen tables: what the program says of whole ones, what it freezes, blocks, long lines, trusted bytes, and what it shows."""
+
+import os
+import random
+import resource
+import subprocess
+import sys
+
+import pytest
+from formats import BYTES, KINDS, MISSING, TEXT, Frozen, encoded, ended, freeze, is_text, lines_of, packed, put, sip_hash
+from programs import run
+from tool import DONE, NAME, WORDS, left, read, said, wrote
+
+LISTS: dict[str, list[bytes]] = {
+    "no string": [],
+    "an empty string": [b""],
+    "one string": [b"a"],
+    "two strings, of which one begins the other": [b"ab", b"a"],
+    "digits, and an empty string": [b"%d" % number for number in range(9)] + [b""],
+    "bytes that are no text": [b"\xff", b"\x80\xff", b"\0", b"\0\0"],
+    "texts": [it.encode() for it in ("é", "漢字", "😀", "\u2028", "a b")],
+    "twenty words": [b"word%d" % (number * number) for number in range(20)],
+}
+LARGE = {
+    "a hundred thousand words": [b"w%d" % number for number in range(100_000)],
+    "strings of 1 MB": [b"x" * 1_000_000, b"x" * 999_999 + b"y", b""],
+}
+EACH = pytest.mark.parametrize("strings", [pytest.param(it, id=name) for name, it in (LISTS | LARGE).items()])
+# Strings that all fall into the first of their groups under 0 and 0, and under the seven pairs of keys after these: a search
+# found them in a minute.
+CHOSEN = (
+    b"gmwreda ubzttfa coknaha xvnccja ihhdwoa nbdjxwa irfvzwa cplerxa unktlya hhgofcb llwjhfb vypazkb "
+    b"cowdblb vayiunb lmubmob mcbvadc vqevxdc qfrowec vfbfpgc qiwxxhc hblmjjc crszojc eeviemc htjjunc"
+).split()
+LINES, TABLE = ended(WORDS), freeze(WORDS)
+
+
+def table_of(strings, seed):
+    """A file of these strings, under other keys for each seed."""
+    kind = TEXT if seed % 2 and all(it.isascii() for it in strings) else BYTES
+    keys = random.Random(seed)
+    return freeze(strings, kind, keys.randrange(2**64), keys.randrange(2**64))
+
+
+def test_the_hash_is_that_of_python():
+    """Python's own hash of bytes is SipHash-1-3 too, where its seed is 0."""
+    words = [bytes(range(length)) for length in range(1, 40)]
+    asked = f"import sys; print(sys.hash_info.algorithm, *(hash(it) for it in {words!r}))"
+    algorithm, *hashes = run([sys.executable, "-c", asked], PYTHONHASHSEED="0")[1].decode().split()
+    if algorithm != "siphash13":
+        pytest.skip(f"the hash of this Python is {algorithm}")
+    assert [sip_hash(0, 0, it) for it in words] == [int(it) % 2**64 for it in hashes]
+
+
+@EACH
+def test_commands(tool, strings):
+    data = table_of(strings, len(strings))
+    put(".", {"whole": data})
+    lines, tenths = ended(strings), 10 * len(data) // max(1, len(strings))
+    told = f"kind {KINDS[Frozen(data, True).kind]}\nstrings {len(strings)}\nbytes {len(data)}\n"
+    told += f"bytes a string {tenths // 10}.{tenths % 10}\nlongest {max(map(len, strings), default=0)}\n"
+    assert tool("check", "whole") == DONE
+    assert tool("list", "whole") == wrote(lines)
+    assert tool("stat", "whole") == wrote(told.encode())
+    for given in (lines, lines[:-1] + b"x\n\n" + lines + b"absent"):
+        codes = encoded(strings, lines_of(given))
+        found = wrote(ended(b"-" if it == MISSING else b"%d" % it for it in codes), int(MISSING in codes))
+        assert tool("find", "whole", given=given) == found == tool("find", "--trusted", "whole", given=given)
+    some = [0, len(strings) - 1, 0] if strings else []
+    for words in ([], ["--trusted"]):
+        assert not some or tool("get", *words, "whole", *map(str, some)) == wrote(ended(strings[it] for it in some))
+        absent = tool("get", *words, "whole", *map(str, [*some, len(strings)]))
+        assert absent == said(1, f"whole: no string has the symbol {len(strings)}")
+
+
+@EACH
+@pytest.mark.parametrize("kind", KINDS)
+def test_freezing(tool, strings, kind):
+    lines, half, freezes = ended(strings), len(strings) // 2, ["freeze", "--kind", kind, "-o", "frozen"]
+    parts = {"part": strings[:half], "rest": strings[half:] + strings[:1]}
+    put(".", {name: ended(some)[: -1 if some and some[-1] else None] for name, some in parts.items()})
+    are_texts = [is_text(it) for it in strings]
+    if kind == "text" and not all(are_texts):
+        told = said(1, f"standard input: line {1 + are_texts.index(False)} is not UTF-8")
+        assert tool(*freezes, given=lines) == told and not left()
+        return
+    for files, given in (((), lines), ((), lines + lines), (parts, b"")):
+        assert tool(*freezes, *files, given=given) == DONE
+        assert read("frozen") == freeze(strings, KINDS.index(kind)) and not left()
+    assert tool("check", "frozen") == DONE
+
+
+def test_random_keys(tool):
+    drawn = []
+    for _ in range(4):
+        assert tool("freeze", "-o", "keyed", "--random-keys", given=LINES) == DONE
+        drawn.append(Frozen(read("keyed")))
+    assert all([*it] == WORDS for it in drawn) and len({key for it in drawn for key in (it.key0, it.key1)}) == 8
+
+
+def test_chosen_lines(tool):
+    """Lines that were chosen to have no places under the first eight pairs."""
+    refused = "no places were found for the strings; other keys may do: --random-keys"
+    assert tool.refuses(1, refused, "freeze", "-o", "out", "--keys", "0,0", given=ended(CHOSEN))
+    for words in (["--random-keys"], ["--keys", "8,0"], []):
+        assert tool("freeze", "-o", "out", *words, given=ended(CHOSEN)) == DONE and [*Frozen(read("out"))] == CHOSEN
+    assert read("out") == freeze(CHOSEN)
+
+
+# Blocks, and long lines.
+
+
+@pytest.mark.parametrize("end", [b"", b"\n"])
+@pytest.mark.parametrize("lines", [
+    [b"a" * length for length in (65_534, 65_535, 1, 65_536, 131_071, 0, 65_535)], [b"a", b"b" * 500_000, b"c"],
+    [b"%d" % (number % 20_000) for number in range(60_000)],
+    [it.encode() for it in ("é" * 32_767, "é" * 40_000, "é" * 3, "a" + "é" * 70_000)],
+], ids=["lines that end where a block does", "a line of many blocks", "short lines over many blocks", "characters over blocks"])
+def test_blocks(tool, lines, end):
+    """Lines that reach over the end of a block are whole."""
+    given, distinct = b"\n".join(lines) + end, [*dict.fromkeys(lines)]
+    assert tool("freeze", "-o", "made", "--kind", "text", "--codes", "codes", given=given) == DONE
+    assert read("made") == freeze(distinct, TEXT) and read("codes") == packed(encoded(distinct, lines))
+    assert tool("freeze", "-o", "-", given=given) == wrote(freeze(distinct))
+
+
+def test_lines_that_repeat_take_no_memory(tool):
+    given = b"".join(b"a line that is there a thousand times: %d\n" % (number % 1_000) for number in range(1_000_000))
+    for words in ([], ["--codes", "codes"]):
+        assert tool.shell('ulimit -v 40000; exec "$@"', "freeze", "-o", "made", *words, given=given) == DONE
+    assert os.path.getsize("codes") == 4_000_000
+
+
+def test_long_lines(tool):
+    """Each command on a line of 100 MiB: what it writes, and its processor time, which would be minutes if it grew with the
+    square of the length."""
+    line = b"0123456789abcdef" * (100 * 2**16)
+    lines, two = line + b"\nb\n", packed([0, 1])
+    put(".", {"source": lines})
+    missing = f"line 1 is not in the dictionary: '{line[1:201].decode()}'..; --missing gives such lines the code {MISSING}"
+    for words, given, wanted in (
+        ("freeze -o long --codes codes source", b"", DONE), ("encode long source", b"", wrote(two)),
+        ("encode long", line, wrote(two[:4])), ("encode long", line[1:], said(1, f"standard input: {missing}")),
+        ("find long source", b"", wrote(b"0\n1\n")), ("decode long codes", b"", wrote(lines)),
+        ("get long 0", b"", wrote(line + b"\n")), ("list long", b"", wrote(lines)),
+        ("merge long long -o out --maps maps", b"", DONE),
+    ):
+        before = sum(resource.getrusage(resource.RUSAGE_CHILDREN)[:2])
+        # (a difference of so long lines takes pytest minutes to show)
+        is_right = tool(*words.split(), given=given) == wanted
+        assert is_right, words
+        assert sum(resource.getrusage(resource.RUSAGE_CHILDREN)[:2]) - before < 15, words
+    is_right = read("codes") == two == read("maps/1.map") and read("out") == read("long")
+    assert is_right
+
+
+@pytest.mark.parametrize("section, following", [("symbols", "ends"), ("ends", "pilots"), ("tags", "text")])
+def test_trusted_and_damaged(tool, section, following):
+    """A trusted dictionary is opened by its header: a damaged one too, but what is found is there."""
+    at = Frozen(TABLE).sections
+    start, end = getattr(at, section), getattr(at, following)
+    put(".", {"damaged": TABLE[:start] + bytes(end - start) + TABLE[end:]})
+    assert tool("find", "damaged", given=LINES)[0] == 2
+    status, written, told = tool("find", "--trusted", "damaged", given=LINES)
+    found = [(line, int(it)) for line, it in zip(WORDS, lines_of(written), strict=True) if it != b"-"]
+    assert (status, told) == (int(len(found) < 20), [])
+    assert all(tool("get", "--trusted", "damaged", str(it)) == wrote(line + b"\n") for line, it in found)
+
+
+# What is shown.
+
+
+def test_progress(tool):
+    """Each tenth of what is read is shown if it is known how much there is."""
+    given = b"".join(b"%d\n" % it for it in range(200_000))
+    put(".", {"lines": given})
+    freezes, tenths = ["freeze", "-o", "made", "--progress"], [f"{it}0 % of {len(given)} bytes read" for it in range(1, 11)]
+    told = tool(*freezes, "lines")
+    last = [f"{len(given)} bytes read", "200000 distinct lines", f"{os.path.getsize('made')} bytes frozen"]
+    assert told == said(0, *tenths, *last) == tool.shell('exec "$@" < lines', *freezes)
+    assert f"{NAME}: 50 % of {2 * len(given)} bytes read" in tool(*freezes, "lines", "lines")[2]
+    assert tool(*freezes, given=given) == said(0, *last) and read("made") == freeze(lines_of(given))
+
+
+@pytest.mark.parametrize("called, shown", [
+    ("intaglio dict", "intaglio dict"), ("/some/folder/dict", "dict"), ("./intaglio dict", "intaglio dict"),
+])
+def test_names_of_the_program(tool, called, shown):
+    """Usage lines and messages begin with the name by which the program was called."""
+    for words, message in (
+        ("list no", "no: No such file or directory"), ("freeze -o no --keys 5", "--keys '5': "), ("get no x", "'x' is no "),
+        ("find --help", None), ("find", None), ("find --no", None),
+    ):
+        ran = subprocess.run([called, *words.split()], executable=tool.path, capture_output=True, text=True, timeout=60)
+        assert ran.stderr.startswith(f"{shown}: {message}") if message else f"Usage: {shown} find " in ran.stdout + ran.stderr

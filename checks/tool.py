@@ -1,0 +1,119 @@
+"""How the tests of `intaglio_dict` run it, in the working folder, and what they share."""
+
+import itertools
+import os
+import re
+import subprocess
+from pathlib import Path
+
+import pytest
+from formats import folder_of, freeze, line_of, maps_of, merged, packed, put, shards_of, split_folder
+from programs import BUILDS, run
+
+NAME = "intaglio_dict"
+WAS = b"as it was"
+WORDS = [b"word%d" % number for number in range(20)]
+# What is said where a request for memory, a read or a write fails.
+FAILURES = {
+    "REFUSE": "out of memory", "FAIL_READ": "Input/output error", "FAIL_WRITE": "Input/output error",
+    "FULL": "No space left on device",
+}
+ONE_STANDARD_INPUT = "standard input can be only one of the inputs"
+# Parameters: the executables of the two compilers.
+OF_PROGRAM = [pytest.param(it, id=it or "first", marks=pytest.mark.program) for it in BUILDS]
+# The status of a program whose output nobody reads.
+UNREAD = 141
+
+
+def said(status, *lines, wrote=b""):
+    """How the program ends, with these messages."""
+    return status, wrote, [f"{NAME}: {it}" for it in lines]
+
+
+def wrote(data, status=0):
+    return status, data, []
+
+
+DONE = said(0)
+
+
+def read(name):
+    """The bytes of a file, or nothing if it isn't there."""
+    return Path(name).read_bytes() if os.path.exists(name) else None
+
+
+def left(folder="."):
+    """The new files that weren't renamed."""
+    return [it for it in os.listdir(folder) if it.endswith(".new")]
+
+
+def also_output(what, output, kind="input"):
+    """That an input, or an output, is an output."""
+    return said(2, f"{what}: this {kind} is also the output {output}; nothing was written")
+
+
+class Tool:
+    """The program, as one of the two compilers built it."""
+
+    def __init__(self, path, library):
+        self.path, self.library = str(path), str(library)
+
+    def __call__(self, *words, given=b"", **settings):
+        """The status, what went to standard output, and the lines of standard error."""
+        return run([self.path, *words], given, **settings)
+
+    def shell(self, line, *words, given=b"", **settings):
+        """The same by a line of a shell, in which the command is "$@"."""
+        return run(["/bin/sh", "-c", line, "sh", self.path, *words], given, **settings)
+
+    def refuses(self, status, messages, *words, given=b""):
+        """Whether a command is refused by a message, or by one of several, and its output stays as it was."""
+        Path("out").write_bytes(WAS)
+        wanted = [said(status, it) for it in ([messages] if isinstance(messages, str) else messages)]
+        assert self(*words, given=given) in wanted
+        return read("out") == WAS and not left()
+
+    def unread(self, *words, given=b""):
+        """The status and the messages if nobody reads the output."""
+        reader, writer = os.pipe()
+        os.close(reader)
+        ended = subprocess.run([self.path, *words], input=given, stdout=writer, stderr=subprocess.PIPE, timeout=60)
+        os.close(writer)
+        return ended.returncode, ended.stderr
+
+    def failing(self, setting, words, wanted, given=b"", status=1, prepare=lambda: None, is_whole=lambda: True, is_kept=all):
+        """The N-th request for memory, read or write fails, for each N until none does and the output is whole: the program
+        reports it, writes no more than a beginning, and leaves files as they must be."""
+        statuses = {status, 1} if setting == "REFUSE" else {status}
+        names = {Path(str(it)).parts[0] for it in words if it} | {"standard input", "standard output"}
+        for n in itertools.count(1):
+            prepare()
+            ended, begun, told = self(*words, given=given, LD_PRELOAD=self.library, **{setting: str(n)})
+            if (ended, begun, told) == wrote(wanted) and is_whole():
+                break
+            case = f"{setting}={n}: {ended}, {begun!r}, {told}"
+            found = re.fullmatch(rf"{NAME}: (?:(.*): )?{FAILURES[setting]}", told[-1] if told else "")
+            assert found and ended in statuses and wanted.startswith(begun), case
+            is_named = found[1] is None if setting == "REFUSE" else found[1] and (
+                Path(found[1]).parts[0] in names or ".intaglio." in found[1]
+            )
+            assert is_named and is_kept(()) and not left(), case
+        assert n > 1, f"{setting}: nothing failed"
+
+
+def made(count=3):
+    """Makes two parts in shards, their merged shards, the joined folder, and the maps, by the writer here. Returns the two
+    lists of strings, and that of the joined folder."""
+    lists = [[b"w%d" % it for it in range(start, start + 30)] for start in (0, 20)]
+    for part, strings in enumerate(lists):
+        put(str(part), split_folder(strings, count))
+        put(".", {f"{part}.dict": freeze(strings)})
+    each = [merged(shards_of(it, count)[shard] for it in lists) for shard in range(count)]
+    put("whole", folder_of([strings for strings, _ in each]))
+    indexes = [read(f"{part}/shards") for part in range(2)]
+    for shard, (strings, numbers) in enumerate(each):
+        table = freeze(strings)
+        put(".", {f"{shard}.merged": table, f"{shard}.merged.line": line_of(shard, indexes, table)})
+        put(f"maps/{shard}", maps_of(numbers, [read(f"{part}/{shard}.dict") for part in range(2)], table))
+    put(".", {"codes": packed([0, 1, 2])})
+    return *lists, [*itertools.chain(*(strings for strings, _ in each))]
