@@ -19,7 +19,7 @@ import arguments
 
 BYTES, TEXT = 0, 1
 KINDS = ("bytes", "text")
-MAX_COUNT, MAX_TEXT = 2**31, 2**32 - 1
+MAX_COUNT = 2**31
 TABLE_MAGIC, TABLE_VERSION = b"INTAGLIO", 1
 TABLE_HEADER = struct.Struct("<8sIIQQQ24s")
 NO_SYMBOL, MAX_PILOT = 2**32 - 1, 2**16 - 1
@@ -35,11 +35,7 @@ SHARD_KEYS = tuple(int.from_bytes(it, "big") for it in (b"shards.0", b"shards.1"
 
 
 class Damaged(ValueError):
-    """The bytes aren't what they are read as. It has what is wrong with them: of codes the position, counted from 1, and what
-    is wrong there."""
-
-
-# SipHash-1-3.
+    """The bytes aren't what they are read as. It has their faults: of codes the position, from 1 on, and what is wrong there."""
 
 
 def rotated(word, by):
@@ -68,7 +64,7 @@ def sip_hash(key0, key1, string):
     return a ^ b ^ c ^ d
 
 
-# Frozen tables: how they are read.
+# Frozen tables.
 
 
 def scaled(many, number):
@@ -167,9 +163,6 @@ def is_text(string):
     return True
 
 
-# Frozen tables: how they are written.
-
-
 def pilot_of(hashes, taken, places):
     """The least pilot under which the hashes have places of their own that aren't taken, and these places."""
     for pilot in range(MAX_PILOT + 1):
@@ -210,10 +203,8 @@ def default_keys(strings):
 
 
 def freeze(strings, kind=BYTES, key0=None, key1=0):
-    """The bytes of a frozen table of these strings, which must be distinct, or nothing if a string gets no place. If no
-    keys are given, they are 0 and 0, and then those that are drawn from the strings."""
-    if len({*strings}) != len(strings):
-        raise ValueError("two strings are equal")
+    """The bytes of a frozen table of these strings, which must be distinct, or nothing if a string gets no place. If no keys are
+    given, they are the default ones."""
     for first, second in default_keys(strings) if key0 is None else [(key0, key1)]:
         for tried in [first + attempt & WORD for attempt in range(ATTEMPTS)]:
             if found := places_of([sip_hash(tried, second, it) for it in strings]):
@@ -235,14 +226,9 @@ def rebuilt(table):
 def assembled(strings, kind, key0, key1, symbols, tags, pilots):
     """The bytes of all sections."""
     ends = [*itertools.accumulate(map(len, strings))]
-    if ends and ends[-1] > MAX_TEXT:
-        raise ValueError("the strings are too long")
     header = TABLE_HEADER.pack(TABLE_MAGIC, TABLE_VERSION, kind, key0, key1, len(strings), bytes(24))
     numbers = struct.pack(f"<{len(symbols)}I{len(ends)}I{len(pilots)}H", *symbols, *ends, *pilots)
     return b"".join([header, numbers, tags, *strings])
-
-
-# Which dictionary it is.
 
 
 class Id(NamedTuple):
@@ -285,15 +271,10 @@ def column(dictionary, codes):
     return COLUMN_HEADER.pack(*header) + struct.pack(f"<{len(codes)}{CODES[width]}", *narrowed)
 
 
-class Column:
-    """A column over its bytes."""
-
-    def __init__(self, data):
-        if faults := column_faults(data):
-            raise Damaged(*faults)
-        _, _, kind, hash0, hash1, count, self.rows, self.width, _ = COLUMN_HEADER.unpack_from(data)
-        self.id = Id(kind, count, hash0, hash1)
-        self.codes = widened(data, self.width)
+def read_column(data):
+    """Of the bytes of a column the id of its dictionary, and the codes."""
+    _, _, kind, hash0, hash1, count, _, width, _ = COLUMN_HEADER.unpack_from(data)
+    return Id(kind, count, hash0, hash1), widened(data, width)
 
 
 def widened(data, width):

@@ -4,7 +4,7 @@ import shlex
 
 import pytest
 from formats import BYTES, MISSING, TEXT, column, ended, files_in, freeze, id_of, packed, put
-from tool import DONE, ONE_STANDARD_INPUT, UNREAD, WORDS, said, wrote
+from tool import DONE, ONE_STANDARD_INPUT, UNREAD, WORDS, also_output, said, wrote
 
 LINES, TABLE, NUMBERS = ended(WORDS), freeze(WORDS), ended(b"%d" % it for it in range(20))
 FEW, MERGED = [b"a", b"bb", b""], freeze([b"a", b"b", b"c"])
@@ -33,6 +33,15 @@ ROWS = [
     *((it, TABLE, said(2, ONE_STANDARD_INPUT)) for it in (
         "find -", "find - lines -", "get -", "encode -", "decode - codes -", "renumber -", "merge - one - -o out",
     )),
+    # Each output is a file of its own.
+    *((words, b"", also_output(name, name)) for words, name in (
+        ("freeze -o lines lines", "lines"), ("encode one codes -o codes", "codes"), ("encode one codes -o one", "one"),
+        ("renumber map codes -o codes", "codes"), ("renumber map codes -o map", "map"), ("merge one two -o two", "two"),
+        ("freeze -o new --codes codes codes", "codes"),
+    )),
+    ("freeze -o - --codes -", b"a", also_output("standard output", "standard output", "output")),
+    ("freeze -o new --codes new", b"a", also_output("new", "new", "output")),
+    ("freeze -o one --codes ./one", b"a", also_output("./one", "one", "output")),
     # Statuses of `find`.
     ("find words", LINES, wrote(NUMBERS)), ("find words", b"word2\nabsent\nword1\n", wrote(b"2\n-\n1\n", 1)),
     ("find words", b"", DONE), ("find words - seventh", b"x\n", wrote(b"-\n7\n", 1)),
@@ -111,6 +120,13 @@ ROWS = [
 def test_answers(tool, words, given, wanted):
     put(".", FILES)
     assert tool(*shlex.split(words), given=given) == wanted
+    assert files_in(".") == FILES
+
+
+def test_redirected_files(tool):
+    put(".", FILES)
+    assert tool.shell('exec "$@" < lines', "freeze", "-o", "lines") == also_output("standard input", "lines")
+    assert tool.shell('exec "$@" >> lines', "freeze", "-o", "-", "lines") == also_output("lines", "standard output")
     assert files_in(".") == FILES
 
 

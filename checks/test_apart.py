@@ -8,6 +8,7 @@ that is open for it.
 
 import itertools
 import os
+import re
 import stat
 import subprocess
 from collections.abc import Callable
@@ -28,39 +29,28 @@ TYPED = {"numbers": b"3\n0\n", "words": b""}
 
 
 class Command(NamedTuple):
-    """A command: its words, what its inputs are, behind their options, whether the last is standard input if it isn't named,
-    and its outputs."""
+    """A command: its words, what its inputs are, behind their options, its outputs, and whether the last input is standard input
+    if it isn't named."""
 
     words: str
-    inputs: tuple
-    outputs: tuple
-    reads_standard: bool = True
+    inputs: list[str]
+    outputs: list[str]
+    reads_standard: bool
 
 
-COMMANDS = [
-    Command("freeze", ("lines",), ("-o!", "--codes")),
-    Command("freeze", ("lines", "lines"), ("-o!", "--codes"), False),
-    Command("freeze", ("lines",), ("-o!", "--column")),
-    Command("find", ("dict", "lines"), ("stdout",)),
-    Command("find --trusted", ("dict", "lines", "lines"), ("stdout",), False),
-    Command("get", ("dict", "numbers"), ("stdout",)),
-    Command("get --trusted", ("dict", "numbers"), ("stdout",)),
-    Command("list", ("dict",), ("stdout",), False),
-    Command("check", ("dict", "dict"), ("stdout",), False),
-    Command("stat", ("dict",), ("stdout",), False),
-    Command("encode", ("dict", "lines"), ("-o",)),
-    Command("encode", ("dict", "lines", "lines"), ("-o",), False),
-    Command("decode", ("dict", "codes"), ("-o",)),
-    Command("encode", ("dict", "lines"), ("--column",)),
-    Command("decode", ("dict", "column"), ("-o",)),
-    Command("rows", ("dict", "column", "words"), ("stdout",), False),
-    Command("count", ("dict", "column"), ("stdout",), False),
-    Command("match --invert", ("dict", "column", "words"), ("stdout",), False),
-    Command("check", ("dict", "column"), ("stdout",), False),
-    Command("renumber", ("map", "codes"), ("-o",)),
-    Command("renumber", ("map", "--column column", "--dict dict", "--into dict"), ("-o",), False),
-    Command("merge", ("dict", "dict"), ("-o!", "maps", "0.map", "1.map"), False),
-]
+ROWS: tuple[tuple[Any, ...], ...] = (
+    ("freeze", "lines", "-o! --codes"), ("freeze", "lines, lines", "-o! --codes", False), ("freeze", "lines", "-o! --column"),
+    ("find", "dict, lines", "stdout"), ("find --trusted", "dict, lines, lines", "stdout", False),
+    ("get", "dict, numbers", "stdout"), ("get --trusted", "dict, numbers", "stdout"), ("list", "dict", "stdout", False),
+    ("check", "dict, dict", "stdout", False), ("stat", "dict", "stdout", False), ("encode", "dict, lines", "-o"),
+    ("encode", "dict, lines, lines", "-o", False), ("decode", "dict, codes", "-o"), ("encode", "dict, lines", "--column"),
+    ("decode", "dict, column", "-o"), ("rows", "dict, column, words", "stdout", False),
+    ("count", "dict, column", "stdout", False), ("match --invert", "dict, column, words", "stdout", False),
+    ("check", "dict, column", "stdout", False), ("renumber", "map, codes", "-o"),
+    ("renumber", "map, --column column, --dict dict, --into dict", "-o", False),
+    ("merge", "dict, dict", "-o! maps 0.map 1.map", False),
+)
+COMMANDS = [Command(words, inputs.split(", "), outputs.split(), not named) for words, inputs, outputs, *named in ROWS]
 MERGE = COMMANDS[-1]
 # How a file is named: from the folder that the program runs in, with what makes a link to the file.
 NAMES = {"a path": "file", "another path": "folder/.././file", "a symbolic link": "folder/link", "a link to a link": "link"}
@@ -172,8 +162,8 @@ def ended_as(tool, command, given={}, messages=None):
 def is_refused(ended):
     """Whether the program says that one file is two, with status 2, and nothing else happened."""
     status, written, told, is_same = ended
-    is_said = len(told) == 1 and told[0].startswith(f"{NAME}: ") and " is also the output " in told[0]
-    return (status, written, is_said, is_same) == (2, b"", True, True)
+    is_said = re.fullmatch(f"{NAME}: .+: this (in|out)put is also the output .+; nothing was written", "\n".join(told))
+    return (status, written, bool(is_said), is_same) == (2, b"", True, True)
 
 
 @pytest.fixture(autouse=True)

@@ -1,15 +1,14 @@
 """Damaged files: the program must accept a file exactly if the reader in formats.py does, and otherwise report a fault that it
 has. hypothesis damages them, and finds the least damage by which a test fails."""
 
-import itertools
 import os
 import re
 import tempfile
 
 import pytest
 from formats import (
-    BYTES, COLUMN_HEADER, MISSING, TEXT, Column, Damaged, Frozen, begins_as_column, column, column_faults, decoded, encoded,
-    ended, freeze, id_of, packed, put, rebuilt, renumbered, table_faults, unpacked,
+    BYTES, COLUMN_HEADER, MISSING, TEXT, Damaged, Frozen, begins_as_column, column, column_faults, decoded, encoded,
+    ended, freeze, id_of, packed, put, read_column, rebuilt, renumbered, table_faults, unpacked,
 )
 from hypothesis import given, seed, settings
 from hypothesis import strategies as st
@@ -30,6 +29,8 @@ NUMBERED = (
     (r"string (\d+) isn't found at its symbol", "not found"), (r"string (\d+) isn't UTF-8", "not UTF-8"),
     (r"row (\d+) has a code that is no symbol", "no string"),
 )
+# Where the numbers of a header are.
+FIELDS = (8, 12, 16, 24, 32, 40, 48, 52, 56)
 # How many files one run of the program checks, and how many tests share the damaged files.
 BATCH, TURNS = 50, 16
 TURN = pytest.mark.parametrize("turn", range(TURNS))
@@ -49,13 +50,6 @@ def fault_of(message):
         if found := re.fullmatch(pattern, message):
             return f"{fault}: {found[1]}"
     return FAULTS.get(message, message)
-
-
-# What is damaged, and how.
-
-
-# Where the numbers of a header are.
-FIELDS = (8, 12, 16, 24, 32, 40, 48, 52, 56)
 
 
 @st.composite
@@ -80,15 +74,12 @@ def damaged(draw, data, files):
 
 
 def each_byte(data, end):
-    """The file with each byte before an end changed to several values, cut at each length, and longer."""
+    """The file with each byte before an end changed to several values, cut at each length, and longer, in batches."""
+    files = [data[:at] for at in range(len(data))] + [data + it for it in (b"\0", bytes(8), data)]
     for at, byte in enumerate(data[:end]):
-        for other in {byte ^ 1, byte ^ 0x80, byte + 1 & 255, 0, 2, 4, 255} - {byte}:
-            yield data[:at] + bytes([other]) + data[at + 1 :]
-    yield from (data[:cut_at] for cut_at in range(len(data)))
-    yield from (data + it for it in (b"\0", bytes(8), data))
-
-
-# What the program says of them.
+        others = {byte ^ 1, byte ^ 0x80, byte + 1 & 255, 0, 2, 4, 255} - {byte}
+        files += [data[:at] + bytes([other]) + data[at + 1 :] for other in others]
+    return [files[at : at + 500] for at in range(0, len(files), 500)]
 
 
 def reported(tool, names, before=()):
@@ -118,20 +109,21 @@ def check_tables(tool, files):
 
 
 def check_columns(tool, table, files):
-    names = {str(number): data for number, data in enumerate(files) if begins_as_column(data)}
-    put(".", {"table": table, **{str(number): data for number, data in enumerate(files)}})
+    named = {str(number): data for number, data in enumerate(files)}
+    put(".", {"table": table, **named})
+    names = [name for name, data in named.items() if begins_as_column(data)]
     messages = reported(tool, names, ["table"])
-    for number, (name, data) in enumerate((str(number), data) for number, data in enumerate(files)):
+    for name, data in named.items():
         faults, message = column_faults(data), messages.get(name)
         another = of_another(name, "table")
-        is_other = not faults and Column(data).id != id_of(table)
+        is_other = not faults and read_column(data)[0] != id_of(table)
         if name in names:
             wanted = another.removeprefix(f"{name}: ") if is_other else None
             is_right = message and fault_of(message) in faults if faults else message == wanted
             assert is_right, (message, faults[:3], data.hex())
         if faults or is_other:
             # A command is refused by its name, and writes nothing; with trusted bytes it may go on.
-            words, status = commands("table", name)[1 + number % 4]
+            words, status = commands("table", name)[1 + int(name) % 4]
             ended_as, written, (told,) = tool(*words)
             start, _, fault = told.removeprefix(f"{NAME}: ").partition(": ")
             is_right = (fault_of(fault) in faults if faults else told == f"{NAME}: {another}") and start == name
@@ -149,19 +141,14 @@ def in_memory(monkeypatch):
 
 @pytest.mark.parametrize("data", SMALL)
 def test_each_byte_of_a_table(tool, data):
-    for files in iter_batches(each_byte(data, None)):
+    for files in each_byte(data, None):
         check_tables(tool, files)
 
 
 @pytest.mark.parametrize("table, data", COLUMNS)
 def test_each_byte_of_a_column(tool, table, data):
-    for files in iter_batches(each_byte(data, COLUMN_HEADER.size)):
+    for files in each_byte(data, COLUMN_HEADER.size):
         check_columns(tool, table, files)
-
-
-def iter_batches(files):
-    while batch := [*itertools.islice(files, 500)]:
-        yield batch
 
 
 def examples(request, tool, turn, most=None):
@@ -212,7 +199,6 @@ def translated(translate, data):
         return translate(codes[: found.args[0] - 1]), found
 
 
-@pytest.mark.program
 def test_damaged_codes_and_maps(tool):
     """What the program writes of random bytes, and the first code at which it stops, are what the reader finds."""
     put(".", {"table": freeze(STRINGS)})
@@ -242,7 +228,6 @@ def test_damaged_codes_and_maps(tool):
     each()
 
 
-@pytest.mark.program
 def test_lines_that_are_missing(tool):
     """`encode` writes codes of lines before the first that isn't in the dictionary, and nothing else."""
     put(".", {"table": freeze(STRINGS)})

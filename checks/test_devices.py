@@ -31,6 +31,7 @@ COMMANDS = [
     Command("get words", b"2\n0", ended([WORDS[2], WORDS[0]])),
     Command("list words", wrote=ended(WORDS)),
     Command("check words"),
+    Command("freeze -o -", LINES, TWO),
     Command("freeze -o out", LINES, files={"out": TWO}),
     Command("encode two", b"a\nb", packed([1, 0])),
     Command("decode two codes", wrote=b"a\nb\n"),
@@ -80,14 +81,19 @@ def settings_of(command):
     pytest.param(it, setting, id=f"{it.words}, {setting}") for it in COMMANDS for setting in settings_of(it)
 ])
 def test_failures(tool, command, setting):
-    """The output stays as it was after an error, and each file beside it as it was or is whole."""
-    def is_kept(_):
-        return all(read(it) == WAS or it != "out" and read(it) == data for it, data in command.files.items())
+    """The output stays as it was after an error, and each file beside it as it was or is whole. Commands on one dictionary write
+    all or nothing."""
+    words = command.words.split()
 
-    tool.failing(
-        setting, command.words.split(), command.wrote, command.given, command.failed,
-        lambda: put(".", dict.fromkeys(command.files, WAS)), lambda: is_whole(command), is_kept,
-    )
+    def is_kept(begun):
+        is_right = all(read(it) == WAS or it != "out" and read(it) == data for it, data in command.files.items())
+        return is_right and not (begun and words[0] in ("find", "get", "list", "check"))
+
+    def prepare():
+        put(".", dict.fromkeys(command.files, WAS))
+
+    how = {"is_whole": lambda: is_whole(command), "is_kept": is_kept, "prepare": prepare}
+    tool.failing(setting, words, command.wrote, command.given, command.failed, **how)
 
 
 @EACH

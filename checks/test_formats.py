@@ -4,8 +4,8 @@ import re
 from pathlib import Path
 
 from formats import (
-    MISSING, TEXT, Column, Frozen, Id, column, column_faults, encoded, ended, freeze, id_of, id_of_strings, ids_in, index_of,
-    lines_of, map_index_of, packed, rebuilt, shard_of, shards_of, sip_hash, split_folder, table_faults, unpacked,
+    MISSING, TEXT, Frozen, Id, column, column_faults, encoded, ended, freeze, id_of, id_of_strings, ids_in, index_of,
+    lines_of, map_index_of, packed, read_column, rebuilt, shard_of, shards_of, sip_hash, split_folder, table_faults, unpacked,
 )
 from hypothesis import given
 from hypothesis import strategies as st
@@ -48,7 +48,7 @@ def test_tables(strings, is_text, key0, key1):
 def test_columns(strings, data):
     codes = data.draw(st.lists(st.sampled_from([*range(len(strings)), MISSING])))
     made = column(id_of_strings(strings, 0), codes)
-    assert (Column(made).codes, Column(made).id, column_faults(made)) == (codes, id_of_strings(strings, 0), [])
+    assert (read_column(made), column_faults(made)) == ((id_of_strings(strings, 0), codes), [])
     assert unpacked(packed(codes)) == codes
 
 

@@ -14,10 +14,11 @@ from pathlib import Path
 
 import pytest
 from formats import (
-    KINDS, MISSING, TEXT, Frozen, checksum_of, encoded, ended, files_in, folder_of, freeze, id_of, index_of, line_of,
+    KINDS, TEXT, Frozen, checksum_of, encoded, ended, files_in, folder_of, freeze, id_of, index_of, line_of,
     map_index_of, maps_of, merged, packed, put, shards_of, split_folder, strings_in, unpacked,
 )
 from programs import TOP
+from test_tables import check_commands
 from tool import DONE, also_output, left, made, read, said, wrote
 
 OTHER = "not the shard that the index names: it is damaged, or of another split or merge"
@@ -62,21 +63,13 @@ def check_merge(tool, shard, lists, kind, count):
 
 def check_folder(tool, strings, kind):
     """What the commands say of the folder, which are those of one dictionary of these strings."""
+    check_commands(tool, "whole", strings, kind, sum(os.path.getsize(it) for it in Path("whole").glob("*.dict")))
     asked = strings[::-2] + [b"none of them"]
-    codes, some = encoded(strings, asked), [*range(0, len(strings), 3)]
-    assert tool("list", "whole") == wrote(ended(strings)) and tool("check", "whole") == DONE
-    found = ended(b"-" if it == MISSING else b"%d" % it for it in codes)
-    assert tool("find", "whole", given=ended(asked)) == wrote(found, 1)
-    assert tool("get", "whole", given=ended(b"%d" % it for it in some)) == wrote(ended(strings[it] for it in some))
-    assert tool("get", "whole", str(len(strings))) == said(1, f"whole: no string has the symbol {len(strings)}")
-    size, longest = sum(os.path.getsize(it) for it in Path("whole").glob("*.dict")), max(map(len, strings), default=0)
-    tenths = 10 * size // max(1, len(strings))
-    told = f"kind {KINDS[kind]}\nstrings {len(strings)}\nbytes {size}\nbytes a string {tenths // 10}.{tenths % 10}\n"
-    assert tool("stat", "whole") == wrote(f"{told}longest {longest}\n".encode())
-    assert tool("encode", "--missing", "whole", given=ended(asked)) == wrote(packed(codes))
-    assert tool("decode", "--missing", "?", "whole", given=packed(codes)) == wrote(ended([*asked[:-1], b"?"]))
-    for words in (["find"], ["get"]):
-        assert tool(*words, "--trusted", "whole", given=b"0\n") == said(2, f"whole: {TRUSTED_FOLDER}")
+    codes = packed(encoded(strings, asked))
+    assert tool("encode", "--missing", "whole", given=ended(asked)) == wrote(codes)
+    assert tool("decode", "--missing", "?", "whole", given=codes) == wrote(ended([*asked[:-1], b"?"]))
+    for command in ("find", "get"):
+        assert tool(command, "--trusted", "whole", given=b"0\n") == said(2, f"whole: {TRUSTED_FOLDER}")
     before = files_in("whole")
     for command, name in (("encode", "whole/0.dict"), ("decode", "whole/shards")):
         assert tool(command, "whole", "-o", name) == also_output(name, name) and files_in("whole") == before
@@ -158,10 +151,6 @@ def test_damaged_indexes(tool):
 # Folders that don't belong together, and wrong arguments.
 
 
-def replaced(words, old, new):
-    return [new if it == old else it for it in words]
-
-
 def test_other_folders(tool):
     first, _, _ = made()
     put("five", split_folder(first, 5))
@@ -204,11 +193,10 @@ def test_outputs_in_folders(tool):
 # Maps that were changed.
 
 
-def with_checksum_of(data, index, part=0):
-    """The index of maps with the checksum of another map in the place of that of the map with this number."""
-    lines = index.split(b"\n")
-    lines[part + 1] = b" ".join([*lines[part + 1].split(b" ")[:4], checksum_of(data).encode()])
-    return b"\n".join(lines)
+def with_checksum_of(data, index):
+    """The index of maps with the checksum of another map in the place of that of the first."""
+    head, line, rest = index.split(b"\n", 2)
+    return b"\n".join([head, b" ".join([*line.split(b" ")[:4], checksum_of(data).encode()]), rest])
 
 
 def changed(codes, count):
@@ -452,13 +440,6 @@ def test_recipes_of_the_page(tool, language):
 # Processes that are killed.
 
 
-def killed(tool, words, seconds):
-    process = subprocess.Popen([tool.path, *words])
-    time.sleep(seconds)
-    process.send_signal(signal.SIGKILL)
-    process.wait()
-
-
 def is_whole(folder, old, new):
     """Whether a folder is what it was, without an index or with that of its shards, or the new one."""
     files = files_in(folder) or {}
@@ -468,50 +449,60 @@ def is_whole(folder, old, new):
     return all(files[it] in (old.get(it), new.get(it)) for it in files if not it.endswith(".new"))
 
 
-def timed(tool, words):
-    began = time.monotonic()
+def kill_often(tool, words, part, prepare, check):
+    """Kills a command 24 times, at random within a part of the time that it takes."""
+    chance, began = random.Random(5), time.monotonic()
     assert tool(*words) == DONE
-    return time.monotonic() - began
+    took = (time.monotonic() - began) * part
+    for turn in range(24):
+        prepare(turn)
+        process = subprocess.Popen([tool.path, *words])
+        time.sleep(chance.random() * took)
+        process.send_signal(signal.SIGKILL)
+        process.wait()
+        check(turn)
 
 
 def test_killed_splits(tool):
     """A process that is killed leaves the folder without an index, or whole; the next one makes it whole. In every other turn the
     folder is written again."""
-    strings, chance, split = [b"w%d" % it for it in range(4_000)], random.Random(5), "split table --shards 8 -o shards".split()
+    strings, split = [b"w%d" % it for it in range(4_000)], "split table --shards 8 -o shards".split()
     put(".", {"table": freeze(strings)})
-    new, took = split_folder(strings, 8), timed(tool, split)
-    assert files_in("shards") == new
-    for turn in range(24):
-        if turn % 2 == 0:
-            shutil.rmtree("shards")
-        killed(tool, split, chance.random() * took * 1.2)
-        assert is_whole("shards", new if turn % 2 else {}, new), turn
-        assert tool(*split) == DONE
+    new = split_folder(strings, 8)
+
+    def check(turn):
+        assert is_whole("shards", new if turn % 2 else {}, new) and tool(*split) == DONE, turn
         for name in left("shards"):
             os.remove(f"shards/{name}")
         assert files_in("shards") == new, turn
+
+    kill_often(tool, split, 1.2, lambda turn: None if turn % 2 else shutil.rmtree("shards"), check)
 
 
 def test_killed_merges(tool):
     """A merge of a shard that is killed leaves the old or the new shard, and its line or none; a join that is killed leaves no
     index, or the whole folder."""
-    chance, parts = random.Random(6), [[b"w%d" % it for it in range(start, start + 3_000)] for start in (0, 2_000)]
+    parts = [[b"w%d" % it for it in range(start, start + 3_000)] for start in (0, 2_000)]
     for part, strings in enumerate(parts):
         put(str(part), folder_of(shards_of(strings, 2)))
     indexes, each = [read(f"{it}/shards") for it in "01"], [merged(shards_of(it, 2)[shard] for it in parts) for shard in (0, 1)]
-    tables, old, joins = [freeze(it) for it, _ in each], freeze([b"another"]), "join 0.merged 1.merged -o whole".split()
-    merges = [f"merge --shard {it} -o {it}.merged --maps maps{it} 0 1".split() for it in (0, 1)]
+    tables, old = [freeze(it) for it, _ in each], freeze([b"another"])
+    merges, joins = [f"merge --shard {it} -o {it}.merged --maps maps{it} 0 1".split() for it in (0, 1)], "join -o whole".split()
+    joins += ["0.merged", "1.merged"]
     whole = {"shards": index_of([*map(id_of, tables)])} | {f"{it}.dict": table for it, table in enumerate(tables)}
     maps = maps_of(each[0][1], [read(f"{it}/0.dict") for it in "01"], tables[0])
-    took = max(timed(tool, it) for it in merges)
-    assert [read(f"{it}.merged") for it in (0, 1)] == tables
-    for turn in range(24):
-        put(".", {"0.merged": old, "0.merged.line": line_of(0, indexes, old)})
-        killed(tool, merges[0], chance.random() * took * 1.2)
+
+    def check_merge_of(turn):
         files, now = files_in("maps0"), read("0.merged")
         assert "index" not in files or {it: files[it] for it in maps} == maps, turn
         assert now in (old, tables[0]) and read("0.merged.line") in (None, line_of(0, indexes, now)), turn
         assert tool(*merges[0]) == DONE and read("0.merged") == tables[0]
-        shutil.rmtree("whole", ignore_errors=True)
-        killed(tool, joins, chance.random() * took / 4)
+
+    def check_join(turn):
         assert is_whole("whole", {}, whole) and tool(*joins) == DONE and is_whole("whole", whole, whole), turn
+
+    assert tool(*merges[1]) == DONE
+    was = {"0.merged": old, "0.merged.line": line_of(0, indexes, old)}
+    kill_often(tool, merges[0], 1.2, lambda _: put(".", was), check_merge_of)
+    kill_often(tool, joins, 1.2, lambda _: shutil.rmtree("whole"), check_join)
+    assert [read(f"{it}.merged") for it in (0, 1)] == tables

@@ -1,13 +1,16 @@
 """Frozen tables: what the program says of whole ones, what it freezes, blocks, long lines, trusted bytes, and what it shows."""
 
+import itertools
 import os
 import random
 import resource
 import subprocess
 import sys
 
+import hypothesis
 import pytest
 from formats import BYTES, KINDS, MISSING, TEXT, Frozen, encoded, ended, freeze, is_text, lines_of, packed, put, sip_hash
+from hypothesis import strategies as st
 from programs import run
 from tool import DONE, NAME, WORDS, left, read, said, wrote
 
@@ -52,25 +55,29 @@ def test_the_hash_is_that_of_python():
     assert [sip_hash(0, 0, it) for it in words] == [int(it) % 2**64 for it in hashes]
 
 
+def check_commands(tool, name, strings, kind, size):
+    """What the commands say of a dictionary of these strings, in a file or in a folder of shards."""
+    lines, tenths = ended(strings), 10 * size // max(1, len(strings))
+    options: list[list[str]] = [[]] if os.path.isdir(name) else [[], ["--trusted"]]
+    told = f"kind {KINDS[kind]}\nstrings {len(strings)}\nbytes {size}\nbytes a string {tenths // 10}.{tenths % 10}\n"
+    assert tool("check", name) == DONE and tool("list", name) == wrote(lines)
+    assert tool("stat", name) == wrote(f"{told}longest {max(map(len, strings), default=0)}\n".encode())
+    some = [*range(0, len(strings), max(1, len(strings) // 1000)), len(strings) - 1, 0] if strings else []
+    for words, given in itertools.product(options, (lines, lines[:-1] + b"x\n\n" + lines + b"absent")):
+        codes = encoded(strings, lines_of(given))
+        found = wrote(ended(b"-" if it == MISSING else b"%d" % it for it in codes), int(MISSING in codes))
+        assert tool("find", *words, name, given=given) == found
+        assert tool("get", *words, name, given=ended(b"%d" % it for it in some)) == wrote(ended(strings[it] for it in some))
+        assert not some or tool("get", *words, name, *map(str, some)) == wrote(ended(strings[it] for it in some))
+        absent = tool("get", *words, name, *map(str, [*some, len(strings)]))
+        assert absent == said(1, f"{name}: no string has the symbol {len(strings)}")
+
+
 @EACH
 def test_commands(tool, strings):
     data = table_of(strings, len(strings))
     put(".", {"whole": data})
-    lines, tenths = ended(strings), 10 * len(data) // max(1, len(strings))
-    told = f"kind {KINDS[Frozen(data, True).kind]}\nstrings {len(strings)}\nbytes {len(data)}\n"
-    told += f"bytes a string {tenths // 10}.{tenths % 10}\nlongest {max(map(len, strings), default=0)}\n"
-    assert tool("check", "whole") == DONE
-    assert tool("list", "whole") == wrote(lines)
-    assert tool("stat", "whole") == wrote(told.encode())
-    for given in (lines, lines[:-1] + b"x\n\n" + lines + b"absent"):
-        codes = encoded(strings, lines_of(given))
-        found = wrote(ended(b"-" if it == MISSING else b"%d" % it for it in codes), int(MISSING in codes))
-        assert tool("find", "whole", given=given) == found == tool("find", "--trusted", "whole", given=given)
-    some = [0, len(strings) - 1, 0] if strings else []
-    for words in ([], ["--trusted"]):
-        assert not some or tool("get", *words, "whole", *map(str, some)) == wrote(ended(strings[it] for it in some))
-        absent = tool("get", *words, "whole", *map(str, [*some, len(strings)]))
-        assert absent == said(1, f"whole: no string has the symbol {len(strings)}")
+    check_commands(tool, "whole", strings, Frozen(data, True).kind, len(data))
 
 
 @EACH
@@ -88,6 +95,24 @@ def test_freezing(tool, strings, kind):
         assert tool(*freezes, *files, given=given) == DONE
         assert read("frozen") == freeze(strings, KINDS.index(kind)) and not left()
     assert tool("check", "frozen") == DONE
+
+
+def test_random_lists(tool):
+    """Two processes that freeze the same lines under the same keys write the bytes that the other writer does: the kind, the keys
+    and the strings fix them."""
+    last = 2**64 - 1
+
+    @hypothesis.settings(max_examples=60)
+    @hypothesis.given(st.lists(st.binary(max_size=11).filter(lambda it: b"\n" not in it), unique=True, max_size=400), st.sampled_from((
+        (0, 0), (last, 0), None,
+    )), st.integers(0, last), st.integers(0, last))
+    def each(strings, keys, *drawn):
+        key0, key1 = keys or drawn
+        for name in ("first", "second"):
+            assert tool("freeze", "--keys", f"{key0},{key1}", "-o", name, given=ended(strings)) == DONE
+            assert read(name) == freeze(strings, BYTES, key0, key1)
+
+    each()
 
 
 def test_random_keys(tool):

@@ -81,9 +81,9 @@ class Tool:
         os.close(writer)
         return ended.returncode, ended.stderr
 
-    def failing(self, setting, words, wanted, given=b"", status=1, prepare=lambda: None, is_whole=lambda: True, is_kept=all):
+    def failing(self, setting, words, wanted, given=b"", status=1, *, is_whole, is_kept, prepare=lambda: None):
         """The N-th request for memory, read or write fails, for each N until none does and the output is whole: the program
-        reports it, writes no more than a beginning, and leaves files as they must be."""
+        reports it, writes no more than a beginning, and leaves files as they must be after that."""
         statuses = {status, 1} if setting == "REFUSE" else {status}
         names = {Path(str(it)).parts[0] for it in words if it} | {"standard input", "standard output"}
         for n in itertools.count(1):
@@ -97,7 +97,7 @@ class Tool:
             is_named = found[1] is None if setting == "REFUSE" else found[1] and (
                 Path(found[1]).parts[0] in names or ".intaglio." in found[1]
             )
-            assert is_named and is_kept(()) and not left(), case
+            assert is_named and is_kept(begun) and not left(), case
         assert n > 1, f"{setting}: nothing failed"
 
 
