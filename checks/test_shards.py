@@ -28,8 +28,11 @@ NOT_ITS_MAP = "not the map that the index names: it is damaged, or was written a
 NOT_ITS_FILE = "not the shard that its line is of: it is damaged, or was written again"
 NO_CHECKSUM = "does not end with the checksum of a map, two numbers of sixteen digits"
 OF_ANOTHER_PART = "another part's map: it has {less} codes, and the part has {size} strings here"
+NO_FILE, CUT = "No such file or directory", "the file is truncated"
 TRUSTED_FOLDER = "--trusted takes a file, and this is a folder of shards"
 MERGED = ["0.merged", "1.merged", "2.merged"]
+# The strings of the first part that `made` makes.
+PART = [b"w%d" % it for it in range(30)]
 INTO = "renumber --into whole --maps maps --part 0 0 codes -o out".split()
 
 
@@ -98,13 +101,84 @@ def check_parts(tool, parts, kind, count):
     return strings
 
 
-# Damaged folders.
+# Damaged files: what becomes of the bytes of one, or nothing if it is removed, and what is said of it.
 
 
 READERS = [
     ("decode whole -o out", packed([0])), ("encode whole -o out", b""), ("find whole", b""), ("get whole 0", b""),
     ("list whole", b""), ("check whole", b""), ("stat whole", b""), ("merge --shard 1 -o out whole 0", b""),
 ]
+JOIN = ["join", *MERGED, "-o", "new"]
+
+
+def line(number, change):
+    """A change of a line, counted from 1."""
+    def changed(data):
+        lines = data.split(b"\n")
+        return b"\n".join([*lines[: number - 1], *change(lines[number - 1]), *lines[number:]])
+
+    return changed
+
+
+def sums(change):
+    """A change of the two hashes that are the checksum at the end of the second line."""
+    return line(2, lambda it: [b" ".join([*it.split(b" ")[:4], *change(*it.split(b" ")[4:])])])
+
+
+def as_bytes(data):
+    return lambda _: data
+
+
+def is_no_line(number, what, change):
+    return change, f"line {number} is not that of an index of {what}"
+
+
+DAMAGED = {
+    "whole/1.dict": [
+        (lambda _: folder_of(shards_of(PART, 3))["1.dict"], OTHER), (lambda _: freeze(shards_of(PART, 5)[1]), OTHER),
+        (lambda _: read("whole/2.dict"), OTHER), (lambda it: it[:-1], [OTHER, "the strings don't fill the text", CUT]),
+        (lambda it: it[:-1] + b"x", OTHER), (as_bytes(b"x" * 100), "not a frozen table"), (lambda it: it[:70], CUT),
+        (None, NO_FILE),
+    ],
+    "whole/shards": [is_no_line(number, "shards", change) for number, change in (
+        (1, as_bytes(b"")), (1, lambda it: it.replace(b"s 1", b"s 2")), (1, lambda it: it[:20]), (4, lambda it: it[:-1]),
+        (2, lambda it: it.split(b"\n")[0] + b"\n"), (3, line(3, lambda it: [it.upper()])), (5, line(5, lambda _: [b"x", b""])),
+        (2, lambda it: it.replace(b"bytes", b"texts", 1)), (5, lambda it: it + b"\n"), (4, line(4, lambda _: [])),
+    )],
+    "maps/1/index": [
+        *(is_no_line(number, "maps", change) for number, change in (
+            (1, as_bytes(b"")), (4, lambda it: it[:-1]), (1, lambda _: read("1.merged.line")), (5, lambda it: it + b"\n"),
+            (1, line(1, lambda it: [it.replace(b"map", b"shard")])), (1, line(1, lambda it: [it.replace(b"s 1", b"s 2")])),
+            (4, line(3, lambda it: [it, it])), (4, line(4, lambda _: [])), (2, line(2, lambda it: [b"x" + it])),
+            (3, line(3, lambda it: [it.replace(b" ", b" 0", 1)])),
+        )),
+        *((sums(change), f"line 2 {NO_CHECKSUM}") for change in (
+            lambda *_: [], lambda one, _: [one], lambda one, two: [one, two[:-1]], lambda one, two: [one, two + b"0"],
+            lambda one, two: [one[1:], two], lambda _, two: [b"ABCDEF0123456789", two], lambda one, two: [one, two, one],
+            lambda one, two: [one, two[:-1] + b"g"], lambda one, two: [one, two, b""],
+        )),
+        (line(3, lambda _: []), f"line 3 {NO_CHECKSUM}"), (None, NOT_MERGED),
+    ],
+    "0/map.index": [
+        *(is_no_line(number, "maps", change) for number, change in (
+            (1, as_bytes(b"")), (3, lambda it: it[:-1]), (4, lambda it: it + b"\n"),
+        )),
+        (sums(lambda *_: []), f"line 2 {NO_CHECKSUM}"), (None, NOT_SPLIT),
+        (lambda it: line(1, lambda head: [head[:-1] + b"0"])(line(2, lambda _: [])(it)), "it names no map: split 0 again"),
+    ],
+    "1.merged.line": [
+        *((change, "not the line of a merged shard") for change in (
+            as_bytes(b""), lambda it: it[:-1], lambda it: it + b"\n", lambda it: it.replace(b"shard 1", b"shard 2"),
+            lambda it: it.upper(), lambda it: it.replace(b"\n", b" "), lambda _: read("whole/shards"),
+        )), (None, NOT_MERGED),
+    ],
+    "1.merged": [
+        *((change, NOT_ITS_FILE) for change in (
+            lambda it: it[:-1], lambda it: it + b"x", lambda it: b"x" * len(it), lambda it: freeze([*Frozen(it)], TEXT),
+            lambda it: freeze([Frozen(it)[0] + Frozen(it)[1], *[*Frozen(it)][2:]]), as_bytes(b""),
+        )), (None, NO_FILE),
+    ],
+}
 
 
 def are_refused(tool, messages, of_merge=None):
@@ -114,33 +188,24 @@ def are_refused(tool, messages, of_merge=None):
         assert tool.refuses(2 if words.startswith("find") else 1, told, *words.split(), given=data)
 
 
-def test_damaged_shards(tool):
-    first, _, _ = made()
-    was = read("whole/1.dict")
-    for data, *messages in (
-        (folder_of(shards_of(first, 3))["1.dict"], OTHER), (freeze(shards_of(first, 5)[1]), OTHER), (read("whole/2.dict"), OTHER),
-        (was[:-1], OTHER, "the strings don't fill the text", "the file is truncated"), (was[:-1] + b"x", OTHER),
-        (b"x" * 100, "not a frozen table"), (was[:70], "the file is truncated"), (None, "No such file or directory"),
-    ):
-        put("whole", {"1.dict": data}) if data else os.remove("whole/1.dict")
-        are_refused(tool, [f"whole/1.dict: {it}" for it in messages])
+@pytest.mark.parametrize("name, change, messages", [(name, *it) for name, rows in DAMAGED.items() for it in rows])
+def test_damaged_files(tool, name, change, messages):
+    made()
+    put(".", {name: change(read(name))}) if change else os.remove(name)
+    messages = [f"{name}: {it}" for it in ([messages] if isinstance(messages, str) else messages)]
+    if name.startswith("whole"):
+        are_refused(tool, messages)
+    else:
+        assert tool.refuses(1, messages, *(JOIN if "merged" in name else INTO)) and not os.path.exists("new")
 
 
-def test_damaged_indexes(tool):
-    first, _, _ = made()
-    was = read("whole/shards")
-    lines = was.split(b"\n")
-    for number, data in (
-        (1, b""), (1, b"intaglio shards 2" + was[17:]), (1, was[:20]), (2, lines[0] + b"\n"),
-        (3, was.replace(lines[2], lines[2].upper())), (4, was[:-1]), (5, was + lines[1] + b"\n"),
-        (2, was.replace(b"bytes", b"texts", 1)), (5, was + b"\n"), (4, b"\n".join(lines[:3]) + b"\n"),
-    ):
-        put("whole", {"shards": data})
-        are_refused(tool, f"whole/shards: line {number} is not that of an index of shards")
-    put("whole", {"shards": b"\n".join([lines[0], lines[2], lines[1], *lines[3:]])})
+def test_folders_in_another_order(tool):
+    made()
+    head, one, two, rest = read("whole/shards").split(b"\n", 3)
+    put("whole", {"shards": b"\n".join([head, two, one, rest])})
     are_refused(tool, f"whole/0.dict: {OTHER}", f"whole/1.dict: {OTHER}")
     # The shards are changed with the index: each string must be in its shard.
-    zero, one, two = shards_of(first, 3)
+    zero, one, two = shards_of(PART, 3)
     put("whole", folder_of([one, zero, two]))
     what = "string 0 belongs to another shard, or there is another number of shards"
     are_refused(tool, f"whole/0.dict: {what}", f"whole/1.dict: {what}")
@@ -152,8 +217,8 @@ def test_damaged_indexes(tool):
 
 
 def test_other_folders(tool):
-    first, _, _ = made()
-    put("five", split_folder(first, 5))
+    made()
+    put("five", split_folder(PART, 5))
     merge, needed = ["merge", "-o", "out", "0"], "the number of a shard is needed, counted from 0"
     for words, message, status in (
         ([*merge, "five", "--shard", "0"], "five: it has 5 shards, and the folders before it have 3", 1),
@@ -259,59 +324,14 @@ def test_maps_of_other_merges(tool):
     assert tool(*INTO) == DONE
 
 
-def damaged_indexes(index, other):
-    """Damaged forms of the index of two maps, and what is said of them."""
-    head, one, two, into, end = lines = index.split(b"\n")
-    id, sums = one.rsplit(b" ", 2)[0], one.split(b" ")[4:]
-
-    def with_line(number, line):
-        return b"\n".join([*lines[: number - 1], line, *lines[number:]])
-
-    for number, data in (
-        (1, b""), (4, index[:-1]), (1, other), (1, index.replace(b"maps", b"shards")), (1, index.replace(b"maps 1", b"maps 2")),
-        (5, index + b"\n"), (4, b"\n".join([head, one, two, two, into, end])), (4, b"\n".join([head, one, two, end])),
-        (2, with_line(2, b"x" + one)), (3, with_line(3, two.replace(b" ", b" 0", 1))),
-    ):
-        yield data, f"line {number} is not that of an index of maps"
-    for line in (
-        id, id + b" " + sums[0], one[:-1], one + b"0", b" ".join([id, sums[0][1:], sums[1]]),
-        b" ".join([id, b"ABCDEF0123456789", sums[1]]), one + b" " + sums[0], one[:-1] + b"g", one + b" ",
-    ):
-        yield with_line(2, line), f"line 2 {NO_CHECKSUM}"
-    yield b"\n".join([head, one, into, end]), f"line 3 {NO_CHECKSUM}"
-
-
-def test_damaged_indexes_of_maps(tool):
-    made()
-    was = read("maps/1/index")
-    for data, fault in damaged_indexes(was, read("1.merged.line")):
-        put("maps/1", {"index": data})
-        assert tool.refuses(1, f"maps/1/index: {fault}", *INTO)
-    os.remove("maps/1/index")
-    assert tool.refuses(1, f"maps/1/index: {NOT_MERGED}", *INTO)
-
-
 def test_maps_of_other_splits(tool):
-    first, _, _ = made()
+    made()
     was, others = ({it: read(f"{part}/{it}") for it in ("map", "map.index")} for part in "01")
     put("0", {"map": others["map"]})
     assert tool.refuses(1, f"0/map: {NOT_ITS_MAP}", *INTO)
     put("0", others)
     assert tool.refuses(1, "0/map.index: the map leads to other shards than those of 0", *INTO)
-    put("0", was)
-    index = was["map.index"]
-    head, words, *_ = index.split(b"\n")
-    for data, told in (
-        (b"", "line 1 is not that of an index of maps"), (index[:-1], "line 3 is not that of an index of maps"),
-        (index + b"\n", "line 4 is not that of an index of maps"),
-        (index.replace(words, words.rsplit(b" ", 2)[0]), f"line 2 {NO_CHECKSUM}"),
-        (index.replace(head, head[:-1] + b"0").replace(words + b"\n", b""), "it names no map: split 0 again"),
-    ):
-        put("0", {"map.index": data})
-        assert tool.refuses(1, f"0/map.index: {told}", *INTO)
-    os.remove("0/map.index")
-    assert tool.refuses(1, f"0/map.index: {NOT_SPLIT}", *INTO)
-    assert tool("split", "0.dict", "--shards", "3", "-o", "0") == DONE and files_in("0") == split_folder(first, 3)
+    assert tool("split", "0.dict", "--shards", "3", "-o", "0") == DONE and files_in("0") == split_folder(PART, 3)
 
 
 # What `join` refuses, and where it puts shards.
@@ -345,45 +365,26 @@ def test_shards_of_several_merges(tool):
         assert is_joined(tool, shards, message)
 
 
-def test_damaged_lines(tool):
-    made()
-    was = read("1.merged.line")
-    for data in (
-        b"", was[:-1], was + b"\n", was.replace(b"shard 1", b"shard 2"), was.upper(), was.replace(b"\n", b" "),
-        read("whole/shards"),
-    ):
-        put(".", {"1.merged.line": data})
-        assert is_joined(tool, MERGED, "1.merged.line: not the line of a merged shard")
-    os.remove("1.merged.line")
-    assert is_joined(tool, MERGED, f"1.merged.line: {NOT_MERGED}")
-
-
-def test_files_that_are_not_those_of_their_lines(tool):
-    """`join` sees it by their length or header, and otherwise the commands that open the folder do."""
+def test_files_that_join_does_not_notice(tool):
+    """Files that are as long as that of the line: the commands that open the folder notice them."""
     made()
     name, table, whole = "1.merged", read("1.merged"), files_in("whole")
-    strings = [*Frozen(table)]
-    for data in (
-        table[:-1], table + b"x", b"x" * len(table), freeze(strings, TEXT), b"", freeze([strings[0] + strings[1], *strings[2:]]),
-    ):
+    one, two, *strings = Frozen(table)
+    for data in (table[:-1] + b"x", freeze([two, one, *strings]), table):
         put(".", {name: data})
-        assert is_joined(tool, MERGED, f"{name}: {NOT_ITS_FILE}")
-    os.remove(name)
-    assert is_joined(tool, MERGED, f"{name}: No such file or directory")
-    os.mkdir(name)
-    assert is_joined(tool, MERGED, f"{name}: {NOT_ITS_FILE}")
-    os.rmdir(name)
-    for data in (table[:-1] + b"x", freeze([strings[1], strings[0], *strings[2:]]), table):
-        put(".", {name: data})
-        assert len(data) == len(table) and tool("join", *MERGED, "-o", "new") == DONE
+        shutil.rmtree("new", ignore_errors=True)
+        assert len(data) == len(table) and tool(*JOIN) == DONE
         wanted = DONE if data == table else said(1, f"new/1.dict: {OTHER}")
         assert tool("check", "new") == wanted
         assert data == table or tool("list", "new") == wanted == tool("decode", "new", given=packed([0]))
-        shutil.rmtree("new") if data != table else None
     assert files_in("new") == whole
     # A shard that is damaged when it has a link: it is the file in the folder too.
     put(".", {name: table[:-1] + b"x"})
     assert tool("check", "new") == said(1, f"new/1.dict: {OTHER}")
+    shutil.rmtree("new")
+    os.remove(name)
+    os.mkdir(name)
+    assert is_joined(tool, MERGED, f"{name}: {NOT_ITS_FILE}")
 
 
 def test_shards_in_their_places(tool):
