@@ -101,13 +101,13 @@ def test_random_lists(tool):
     """Two processes that freeze the same lines under the same keys write the bytes that the other writer does: the kind, the keys
     and the strings fix them."""
     last = 2**64 - 1
+    lines = st.lists(st.binary(max_size=11).filter(lambda it: b"\n" not in it), unique=True, max_size=400)
+    keys = st.sampled_from(((0, 0), (last, 0))) | st.tuples(st.integers(0, last), st.integers(0, last))
 
     @hypothesis.settings(max_examples=60)
-    @hypothesis.given(st.lists(st.binary(max_size=11).filter(lambda it: b"\n" not in it), unique=True, max_size=400), st.sampled_from((
-        (0, 0), (last, 0), None,
-    )), st.integers(0, last), st.integers(0, last))
-    def each(strings, keys, *drawn):
-        key0, key1 = keys or drawn
+    @hypothesis.given(lines, keys)
+    def each(strings, keys):
+        key0, key1 = keys
         for name in ("first", "second"):
             assert tool("freeze", "--keys", f"{key0},{key1}", "-o", name, given=ended(strings)) == DONE
             assert read(name) == freeze(strings, BYTES, key0, key1)
