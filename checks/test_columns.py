@@ -213,9 +213,9 @@ def test_any_parts(tool):
     lines = st.lists(st.binary(max_size=3).filter(lambda it: b"\n" not in it), max_size=12)
 
     @settings(max_examples=20)
-    @given(st.lists(lines, min_size=1, max_size=5), st.randoms(use_true_random=False), st.integers(1, 9))
-    def each(parts, chance, count):
-        check_all(tool, chance, parts, BYTES, count)
+    @given(st.lists(lines, min_size=1, max_size=5), st.integers(0, 2**32), st.integers(1, 9))
+    def each(parts, seed, count):
+        check_all(tool, random.Random(seed), parts, BYTES, count)
 
     each()
 
