@@ -25,7 +25,7 @@ from programs import BUILDS
 from tool import NAME, OF_PROGRAM, WAS, read
 
 STRINGS = [b"b", b"a"]
-# What is said of the new file in this folder: a name that was drawn.
+# What the program names if the new file can't be made or written: that file, by a name that was drawn.
 NEW = r"\.intaglio\.[0-9a-f]{16}\.new"
 DONE = (0, "")
 
@@ -34,22 +34,24 @@ class Writer(NamedTuple):
     """How tables are frozen to a path: by the program, or as the Python module does."""
 
     command: list[str]
-    # What is given of strings, the option by which something is said meanwhile, and what messages begin with.
+    # What is given of strings, the option by which something is said meanwhile, what messages begin with, and which file they
+    # name if the new one can't be made or written.
     given: Callable
     noise: str
     start: str
+    new: str
 
     def said(self, path, what):
         return 1, f"{self.start}{path}: {what}"
 
 
-MODULE = Writer([sys.executable, "-S", f"{Path(__file__).resolve().parent}/frozen_replace.py"], freeze, "--noisy", "")
+MODULE = Writer([sys.executable, "-S", f"{Path(__file__).resolve().parent}/frozen_replace.py"], freeze, "--noisy", "", "dict")
 
 
 def writer_of(request, name):
     if name == "module":
         return MODULE
-    return Writer([request.getfixturevalue("tools")(name).path, "freeze", "-o"], ended, "--progress", f"{NAME}: ")
+    return Writer([request.getfixturevalue("tools")(name).path, "freeze", "-o"], ended, "--progress", f"{NAME}: ", NEW)
 
 
 @pytest.fixture(params=["module", *OF_PROGRAM])
@@ -222,7 +224,7 @@ def test_errors(writer):
     ):
         status, told = frozen_to(writer, target, before=before)
         start, end = writer.said(new, os.strerror(error))[1].split(f"{new}: ")
-        assert status == 1 and re.fullmatch(f"{re.escape(f'{start}{new}/')}{NEW}: {re.escape(end)}", told)
+        assert status == 1 and re.fullmatch(f"{re.escape(f'{start}{new}/')}{writer.new}: {re.escape(end)}", told)
     status, told = frozen_to(writer, "none/")
     assert status == 1 and told.startswith(writer.said("none", "")[1][:-2])
     assert os.listdir() == ["dict"] and read("dict") == WAS
