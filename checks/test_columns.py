@@ -119,6 +119,16 @@ def check_column(tool, chance, table, strings, kind, lines):
     assert tool("stat", "column") == wrote(stat.encode())
 
 
+def check_encoded(tool, chance, table, strings, kind, lines):
+    """Tries the commands on the column of lines of which some may be missing. Returns these lines, as they are given."""
+    data, wanted = with_text(lines, b"none of them"), column_of(lines, strings, kind)
+    for name, written in (("-", wanted), ("column", b"")):
+        assert tool("encode", "--missing", "--column", name, table, given=data) == wrote(written)
+    assert read("column") == wanted
+    check_column(tool, chance, table, strings, kind, lines)
+    return data
+
+
 def check_lines(tool, chance, lines, kind):
     """Tries the commands on the column of lines, and on one with missing lines."""
     put(".", {"lines": ended(lines)})
@@ -131,10 +141,7 @@ def check_lines(tool, chance, lines, kind):
     assert tool("encode", "again", "--column", "-", given=ended(lines)) == wrote(wanted)
     check_column(tool, chance, "dict", strings, kind, lines)
     others = some_missing(chance, lines)
-    data = with_text(others, b"none of them")
-    assert tool("encode", "--missing", "--column", "column", "dict", given=data) == DONE
-    assert read("column") == column_of(others, strings, kind)
-    check_column(tool, chance, "dict", strings, kind, others)
+    data = check_encoded(tool, chance, "dict", strings, kind, others)
     if None in others:
         told = missing_line("standard input", others.index(None) + 1, b"none of them")
         assert tool.refuses(1, told, "encode", "dict", "--column", "out", given=data)
@@ -148,12 +155,9 @@ def check_shards(tool, chance, lines, kind, count):
     strings, kept = [*itertools.chain(*shards)], some_missing(chance, lines)
     put("folder", folder_of(shards, kind))
     put(".", {"one": freeze(strings, kind)})
-    data, wanted = with_text(kept, b"none of them"), column_of(kept, strings, kind)
     assert id_of(read("one")) == id_of_strings(strings, kind)
     for table in ("folder", "one"):
-        assert tool("encode", "--missing", "--column", "column", table, given=data) == DONE and read("column") == wanted
-        assert tool("encode", "--missing", "--column", "-", table, given=data) == wrote(wanted)
-        check_column(tool, chance, table, strings, kind, kept)
+        check_encoded(tool, chance, table, strings, kind, kept)
     assert not left()
     shutil.rmtree("folder")
 
