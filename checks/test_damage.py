@@ -58,7 +58,8 @@ def damaged(draw, data, files):
     near each other are exchanged, or the file is cut, or ends as another does."""
     for _ in range(draw(st.sampled_from((1, 1, 1, 2, 3)))):
         width, place = draw(st.sampled_from((1, 2, 4, 8))), draw(st.integers(0, len(data)))
-        at = draw(st.sampled_from((place, place // width * width, *FIELDS)))
+        aligned = place // width * width
+        at = draw(st.sampled_from((place, aligned, aligned, draw(st.sampled_from(FIELDS)))))
         before, old, after = data[:at], data[at : at + width], data[at + width :]
         number, bits = int.from_bytes(old, "little"), 8 * width
         flipped = number ^ 1 << draw(st.integers(0, bits - 1))
