@@ -5,7 +5,8 @@ use crate::results::{are_found, are_numbered, c_string, frozen, is_place, is_ref
 use crate::runs::{Calls, Run};
 use crate::words::{COUNT, forms_of, spelling};
 use intaglio::{
-    BaseInterner, Content, LookedUpIn, Reply, RoomError, SoughtIn, TableError, TableOver,
+    BaseInterner, Content, LookedUpIn, Reply, RoomError, SoughtIn, SpelledStore, TableError,
+    TableOver,
 };
 use intaglio_frozen::StringList;
 use std::alloc::{AllocError, Global};
@@ -86,6 +87,7 @@ pub fn left_by<'q, L: TestStore + LookedUpIn<'q, By: OfEnded>>(
     run: Run<'_>,
 ) -> Result<Made<L>, Fault>
 where
+    L: SpelledStore,
     L::Content: Content + SoughtIn<L> + Drop,
     L::Prepared: Drop,
     TableOver<L, L::Hasher>: StringList,
@@ -102,6 +104,7 @@ pub fn watch_equal<'q, L: TestStore + LookedUpIn<'q, By: OfEnded>>(
     run: Run<'_>,
 ) -> Result<(), Fault>
 where
+    L: SpelledStore,
     L::Content: Content + SoughtIn<L> + Drop,
     L::Prepared: Drop,
     TableOver<L, Counted>: StringList,
@@ -115,6 +118,7 @@ where
 
 impl<'q, L: TestStore + LookedUpIn<'q, By: OfEnded>, S: HasherCount> Course<'q, L, S>
 where
+    L: SpelledStore,
     L::Content: Content + SoughtIn<L> + Drop,
     L::Prepared: Drop,
     TableOver<L, S>: StringList,

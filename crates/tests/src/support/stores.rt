@@ -30,7 +30,7 @@ pub enum Make {
 pub type Made<L> = TableOver<L, <L as TestStore>::Hasher>;
 
 /// A store whose tables are tried: a list of owned contents, or one buffer.
-pub trait TestStore: Indexed + SpelledStore + Drop
+pub trait TestStore: Indexed + Drop
 where
     Self::Content: Content + Drop,
     Self::Prepared: Drop,

@@ -2,14 +2,12 @@
 use super::printed::{Shown, inserted_text, numbered, reply_text, spelled, symbols_text, word};
 use super::steps::walked;
 use crate::support::builders::HasherCount;
-use crate::support::kinds::{
-    BStrKind, BytesKind, CStrKind, Host, OsStrKind, PathKind, StrKind, TestKind,
-};
+use crate::support::kinds::{BStrKind, BytesKind, CStrKind, Host, OsStrKind, PathKind, StrKind};
 use crate::support::replies::interned;
 use intaglio::packed::Packed;
 use intaglio::{
-    Content, ContentOf, Indexed, KindForm, Lends, LookedUpIn, Reply, SoughtIn, Symbol, Table,
-    TableOver, Work, get_or_intern_all,
+    Content, ContentOf, Indexed, KindForm, KindOwned, Lends, LookedUpIn, Reply, SoughtIn, Symbol,
+    Table, TableOver, Work, get_or_intern_all,
 };
 
 /// A call by borrowed forms, or one that borrows what is stored.
@@ -45,7 +43,7 @@ pub enum Ask {
 
 /// A kind whose tables are asked. Its impls, and those of [`PackedKind`], alone name tables of one kind,
 /// since the prover takes seconds wherever one of them is passed to a call of any table.
-pub trait OwnedKind: TestKind {
+pub trait OwnedKind: KindOwned {
     /// Whether contents are compared as paths.
     const ARE_PATHS: bool;
 
@@ -60,7 +58,7 @@ pub trait OwnedKind: TestKind {
 }
 
 /// The same of tables in one buffer.
-pub trait PackedKind: OwnedKind {
+pub trait PackedKind: KindOwned {
     /// Makes a call by the borrowed forms of contents, or these steps, and returns its result as text.
     fn ask_packed<R: Host, S: HasherCount>(
         rt: &R,

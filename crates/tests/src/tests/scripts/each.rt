@@ -4,7 +4,9 @@ use super::loops::{interns, keeps_new};
 use super::script::plays;
 use super::table::{Makes, Table};
 use crate::support::builders::hash_of;
-use crate::support::kinds::{BStrKind, BytesKind, CStrKind, Host, OsStrKind, PathKind, StrKind};
+use crate::support::kinds::{
+    BStrKind, BytesKind, CStrKind, Host, OsStrKind, PathKind, StrKind, TestKind,
+};
 use crate::support::stores::{Made, Make};
 use crate::tests::assertions::same;
 use intaglio::packed::Packed;
@@ -16,15 +18,15 @@ pub trait Trial {
     fn try_on<T: Makes, R: Host>(&self, rt: &R);
 }
 
-fn try_owned<K: OwnedKind, Q: Trial>(rt: &impl Host, trial: &Q) {
+fn try_owned<K: TestKind + OwnedKind, Q: Trial>(rt: &impl Host, trial: &Q) {
     trial.try_on::<Made<Vec<ContentOf<K>>>, _>(rt);
 }
 
-fn try_packed<K: PackedKind, Q: Trial>(rt: &impl Host, trial: &Q) {
+fn try_packed<K: TestKind + OwnedKind + PackedKind, Q: Trial>(rt: &impl Host, trial: &Q) {
     trial.try_on::<Made<Packed<K>>, _>(rt);
 }
 
-fn try_both<K: PackedKind, Q: Trial>(rt: &impl Host, trial: &Q) {
+fn try_both<K: TestKind + OwnedKind + PackedKind, Q: Trial>(rt: &impl Host, trial: &Q) {
     try_owned::<K, Q>(rt, trial);
     try_packed::<K, Q>(rt, trial);
 }

@@ -3,7 +3,7 @@ use super::asks::OwnedKind;
 use super::each::{Script, try_on_each, try_on_owned, try_on_packed};
 use super::script::{lines_of, makes_calls};
 use crate::support::builders::{Counted, HasherCount};
-use crate::support::kinds::{Host, StrKind};
+use crate::support::kinds::{Host, StrKind, TestKind};
 use crate::tests::assertions::same;
 use intaglio::packed::Packed;
 use intaglio::path::{Path, PathContent};
@@ -155,7 +155,7 @@ fn random_hashes_serve_too(rt: HostRuntime) {
     plays_under::<StrKind>(&rt, hasher);
 }
 
-fn plays_under<K: OwnedKind>(rt: &impl Host, hasher: RandomState) {
+fn plays_under<K: TestKind + OwnedKind>(rt: &impl Host, hasher: RandomState) {
     let made = Table::<ContentOf<K>, RandomState>::with_hasher(rt.alloc(), hasher);
     makes_calls(rt, &mut made.expect(rt, "no table"), &lines_of(rt, RANDOM));
 }

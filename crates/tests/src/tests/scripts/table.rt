@@ -6,7 +6,7 @@
 use super::asks::{Ask, OwnedKind, PackedKind};
 use super::printed::symbols_text;
 use crate::support::builders::{Counted, HasherCount};
-use crate::support::kinds::{Host, TestContent};
+use crate::support::kinds::{Host, TestContent, TestKind};
 use crate::support::replies::interned;
 use crate::support::stores::{Made, Make, TestStore, Update, make_table, updated};
 use intaglio::packed::Packed;
@@ -78,8 +78,8 @@ pub trait Makes: Table {
 }
 
 macro_rules! tables {
-    ($($kind:ident $store:ty: $ask:ident;)*) => {$(
-        impl<K: $kind, S: HasherCount> Table for TableOver<$store, S> {
+    ($($($kind:ident)+, $store:ty: $ask:ident;)*) => {$(
+        impl<K: TestKind $(+ $kind)+, S: HasherCount> Table for TableOver<$store, S> {
             type Item = ContentOf<K>;
 
             fn put(&mut self, content: ContentOf<K>) -> Reply {
@@ -132,7 +132,7 @@ macro_rules! tables {
             }
         }
 
-        impl<K: $kind> Makes for Made<$store> {
+        impl<K: TestKind $(+ $kind)+> Makes for Made<$store> {
             type Counting = TableOver<$store, Counted>;
 
             const ARE_PATHS: bool = K::ARE_PATHS;
@@ -153,6 +153,6 @@ macro_rules! tables {
 }
 
 tables! {
-    OwnedKind Vec<ContentOf<K>>: ask_owned;
-    PackedKind Packed<K>: ask_packed;
+    OwnedKind, Vec<ContentOf<K>>: ask_owned;
+    OwnedKind PackedKind, Packed<K>: ask_packed;
 }
