@@ -82,12 +82,11 @@ where
 
 /// Makes a run on a new table, and returns the table. Requests for memory before the first printed call
 /// aren't the table's.
-pub fn left_by<'q, L: TestStore + LookedUpIn<'q, By: OfEnded>>(
+pub fn left_by<'q, L: TestStore + SpelledStore + LookedUpIn<'q, By: OfEnded>>(
     rt: &impl Told,
     run: Run<'_>,
 ) -> Result<Made<L>, Fault>
 where
-    L: SpelledStore,
     L::Content: Content + SoughtIn<L> + Drop,
     L::Prepared: Drop,
     TableOver<L, L::Hasher>: StringList,
@@ -99,12 +98,11 @@ where
 }
 
 /// Makes a run under equal hashes.
-pub fn watch_equal<'q, L: TestStore + LookedUpIn<'q, By: OfEnded>>(
+pub fn watch_equal<'q, L: TestStore + SpelledStore + LookedUpIn<'q, By: OfEnded>>(
     rt: &impl Told,
     run: Run<'_>,
 ) -> Result<(), Fault>
 where
-    L: SpelledStore,
     L::Content: Content + SoughtIn<L> + Drop,
     L::Prepared: Drop,
     TableOver<L, Counted>: StringList,
@@ -116,9 +114,8 @@ where
     Ok(())
 }
 
-impl<'q, L: TestStore + LookedUpIn<'q, By: OfEnded>, S: HasherCount> Course<'q, L, S>
+impl<'q, L: TestStore + SpelledStore + LookedUpIn<'q, By: OfEnded>, S: HasherCount> Course<'q, L, S>
 where
-    L: SpelledStore,
     L::Content: Content + SoughtIn<L> + Drop,
     L::Prepared: Drop,
     TableOver<L, S>: StringList,

@@ -18,7 +18,8 @@ pub trait Trial {
     fn try_on<T: Makes, R: Host>(&self, rt: &R);
 }
 
-fn try_owned<K: TestKind + OwnedKind, Q: Trial>(rt: &impl Host, trial: &Q) {
+/// Runs the trial on tables of owned contents of one kind.
+pub fn try_owned<K: TestKind + OwnedKind, Q: Trial>(rt: &impl Host, trial: &Q) {
     trial.try_on::<Made<Vec<ContentOf<K>>>, _>(rt);
 }
 
@@ -60,11 +61,6 @@ pub fn try_on_packed<Q: Trial>(rt: &impl Host, trial: &Q) {
 pub fn try_on_bytes<Q: Trial>(rt: &impl Host, trial: &Q) {
     try_both::<BytesKind, Q>(rt, trial);
     try_both::<BStrKind, Q>(rt, trial);
-}
-
-/// Runs the trial on tables of C strings.
-pub fn try_on_c_strings<Q: Trial>(rt: &impl Host, trial: &Q) {
-    try_owned::<CStrKind, Q>(rt, trial);
 }
 
 /// Plays the script on tables of texts.
