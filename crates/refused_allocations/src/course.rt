@@ -13,7 +13,7 @@ use std::alloc::{AllocError, Global};
 use std::marker::PhantomData;
 use tests::support::builders::{Counted, HasherCount};
 use tests::support::kinds::OfEnded;
-use tests::support::stores::{Made, TestStore, make_table, updated};
+use tests::support::stores::{Made, TestStore, Update, updated};
 
 /// What a run takes: the borrowed forms of all words, and the contents of each call, twice, since a failed
 /// call drops its own. Those of the first call come last.
@@ -93,7 +93,7 @@ where
 {
     let given = Given::<L>::make(rt.alloc(), run.3)?;
     tell(rt, "table", 0);
-    let made = make_table::<L>(rt.alloc(), run.1);
+    let made = L::make(rt.alloc(), run.1);
     Course::new(made, given, run.2)?.play(rt, run.3)
 }
 
@@ -249,11 +249,11 @@ where
         }
         match ask {
             Ask::Make(how, capacity) => {
-                let table = make_table::<L>(alloc, how)?;
+                let table = L::make(alloc, how)?;
                 Ok(table.is_empty() && table.capacity() == capacity)
             }
             Ask::TooLarge(how) => {
-                Ok(make_table::<L>(alloc, how).err() == Some(RoomError::CapacityOverflow))
+                Ok(L::make(alloc, how).err() == Some(RoomError::CapacityOverflow))
             }
             Ask::ReserveTooMuch => {
                 let refused = self.table.reserve(4294967297).err();
@@ -261,6 +261,10 @@ where
             }
             Ask::RunNothing => Ok(L::run(alloc, &mut self.table, Vec::new(alloc))?.is_empty()),
             Ask::Capacity(wanted) => Ok(self.table.capacity() == wanted),
+            Ask::Update(Update::ReserveBytes(additional)) => {
+                L::reserve_bytes(&mut self.table, additional)?;
+                Ok(true)
+            }
             Ask::Update(update) => match updated(&mut self.table, update) {
                 Reply::NoMemory => Err(TableError::from(AllocError)),
                 reply => Ok(reply == Reply::Done),

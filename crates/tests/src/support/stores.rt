@@ -44,11 +44,8 @@ where
     /// A hash builder.
     fn hasher() -> Self::Hasher;
 
-    /// Makes a table by `new`.
-    fn made_new(alloc: Global) -> Result<Made<Self>, RoomError>;
-
-    /// Makes a table by `with_capacity`.
-    fn made_rounded(alloc: Global, capacity: usize) -> Result<Made<Self>, RoomError>;
+    /// Makes an empty table.
+    fn make(alloc: Global, how: Make) -> Result<Made<Self>, RoomError>;
 
     /// As `intern`.
     fn intern<S: BuildHasher>(
@@ -96,12 +93,12 @@ impl<K: TestKind> TestStore for Vec<ContentOf<K>> {
         Fold::new()
     }
 
-    fn made_new(alloc: Global) -> Result<Made<Self>, RoomError> {
-        Table::new(alloc)
-    }
-
-    fn made_rounded(alloc: Global, capacity: usize) -> Result<Made<Self>, RoomError> {
-        Table::with_capacity(alloc, capacity)
+    fn make(alloc: Global, how: Make) -> Result<Made<Self>, RoomError> {
+        match how {
+            Make::New => Table::new(alloc),
+            Make::Rounded(capacity) => Table::with_capacity(alloc, capacity),
+            _ => made_by(alloc, how, Fold::new()),
+        }
     }
 
     fn intern<S: BuildHasher>(
@@ -160,12 +157,14 @@ impl<K: TestKind> TestStore for Packed<K> {
         FixedState
     }
 
-    fn made_new(alloc: Global) -> Result<Made<Self>, RoomError> {
-        TableOver::<Packed<K>, FixedState>::new(alloc)
-    }
-
-    fn made_rounded(alloc: Global, capacity: usize) -> Result<Made<Self>, RoomError> {
-        TableOver::<Packed<K>, FixedState>::with_capacity(alloc, capacity)
+    fn make(alloc: Global, how: Make) -> Result<Made<Self>, RoomError> {
+        match how {
+            Make::New => TableOver::<Packed<K>, FixedState>::new(alloc),
+            Make::Rounded(capacity) => TableOver::<Packed<K>, FixedState>::with_capacity(
+                alloc, capacity,
+            ),
+            _ => made_by(alloc, how, FixedState),
+        }
     }
 
     fn intern<S: BuildHasher>(
@@ -228,18 +227,19 @@ fn intern_each<K: KindOwned, S: BuildHasher>(
     Ok(symbols)
 }
 
-/// Makes an empty table.
-pub fn make_table<L: TestStore>(alloc: Global, how: Make) -> Result<Made<L>, RoomError>
+// Makes an empty table with this hasher.
+fn made_by<L: Indexed + Drop, S: BuildHasher + Drop>(
+    alloc: Global,
+    how: Make,
+    hasher: S,
+) -> Result<TableOver<L, S>, RoomError>
 where
-    L::Content: Content + Drop,
-    L::Prepared: Drop,
+    L::Content: Content,
 {
     match how {
-        Make::New => L::made_new(alloc),
-        Make::Rounded(capacity) => L::made_rounded(alloc, capacity),
-        Make::Usual => TableOver::with_hasher(alloc, L::hasher()),
-        Make::Exact(capacity) => TableOver::with_capacity_and_hasher(alloc, capacity, L::hasher()),
-        Make::Limited(limit) => TableOver::with_limit(alloc, limit, L::hasher()),
+        Make::Exact(capacity) => TableOver::with_capacity_and_hasher(alloc, capacity, hasher),
+        Make::Limited(limit) => TableOver::with_limit(alloc, limit, hasher),
+        _ => TableOver::with_hasher(alloc, hasher),
     }
 }
 
@@ -262,24 +262,20 @@ pub enum Update {
     TakeBack(usize),
 }
 
-/// Makes a call that changes a table.
-pub fn updated<L: TestStore, S: HasherCount>(table: &mut TableOver<L, S>, update: Update) -> Reply
+/// Makes a call that changes a table, other than `reserve_bytes`.
+pub fn updated<L: Indexed, S: HasherCount>(table: &mut TableOver<L, S>, update: Update) -> Reply
 where
-    L::Content: Content + Drop,
-    L::Prepared: Drop,
+    L::Content: Drop,
 {
     match update {
         Update::Reserve(additional) => roomy(table.reserve(additional)),
         Update::TryReserve(additional) => roomy(table.try_reserve(additional)),
-        Update::ReserveBytes(additional) => {
-            roomy(L::reserve_bytes(table, additional).map_err(RoomError::Memory))
-        }
         Update::ShrinkTo(capacity) => roomy(table.shrink_to(capacity)),
         Update::ShrinkToFit => roomy(table.shrink_to_fit()),
-        Update::Clear => {
+        Update::TakeBack(count) => taken(table.take_back(Mark::new(count))),
+        _ => {
             table.clear();
             Reply::Done
         }
-        Update::TakeBack(count) => taken(table.take_back(Mark::new(count))),
     }
 }

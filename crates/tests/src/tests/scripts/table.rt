@@ -7,8 +7,8 @@ use super::asks::{Ask, OwnedKind, PackedKind};
 use super::printed::symbols_text;
 use crate::support::builders::{Counted, HasherCount};
 use crate::support::kinds::{Host, TestContent, TestKind};
-use crate::support::replies::interned;
-use crate::support::stores::{Made, Make, TestStore, Update, make_table, updated};
+use crate::support::replies::{interned, roomy};
+use crate::support::stores::{Made, Make, TestStore, Update, updated};
 use intaglio::packed::Packed;
 use intaglio::{AllSymbols, Call, ContentOf, Mark, Reply, RoomError, Symbol, TableOver};
 use std::alloc::Global;
@@ -109,7 +109,13 @@ macro_rules! tables {
             }
 
             fn update(&mut self, update: Update) -> Reply {
-                updated(self, update)
+                match update {
+                    Update::ReserveBytes(additional) => {
+                        let made = <$store as TestStore>::reserve_bytes(self, additional);
+                        roomy(made.map_err(RoomError::Memory))
+                    }
+                    _ => updated(self, update),
+                }
             }
 
             fn counts(&self) -> Counts {
@@ -138,7 +144,7 @@ macro_rules! tables {
             const ARE_PATHS: bool = K::ARE_PATHS;
 
             fn make(alloc: Global, how: Make) -> Result<Self, RoomError> {
-                make_table::<$store>(alloc, how)
+                <$store as TestStore>::make(alloc, how)
             }
 
             fn make_counting(
