@@ -11,7 +11,7 @@ from pathlib import Path
 
 sys.dont_write_bytecode = True
 sys.path.insert(0, str(Path(__file__).resolve().parent.parent.parent / "checks"))
-import frozen_tables
+import formats
 import intaglio
 from intaglio import MISSING, BytesTable, Column, Frozen, Shards, SymbolTable, merge, renumber, split
 
@@ -134,7 +134,7 @@ class OddCalls(unittest.TestCase):
         self.refused(*((lambda it=it: self.table.encode(it), TypeError, said) for it in deep))
 
     def test_ends_that_decrease(self):
-        data, at = self.words.to_bytes(), frozen_tables.Sections(len(WORDS)).ends
+        data, at = self.words.to_bytes(), formats.Sections(len(WORDS)).ends
         damaged = data[:at] + b"\x09" + data[at + 1:]
         (self.folder / "damaged").write_bytes(damaged)
         for words, name in ((Frozen(self.folder / "damaged", trusted=True), str(self.folder / "damaged")),
