@@ -85,7 +85,7 @@ class Tool:
         """The N-th request for memory, read or write fails, for each N until none does and the output is whole: the program
         reports it, writes no more than a beginning, and leaves files as they must be after that."""
         statuses = {status, 1} if setting == "REFUSE" else {status}
-        names = {Path(str(it)).parts[0] for it in words if it} | {"standard input", "standard output"}
+        names = (*(Path(it).parts[0] for it in words), "standard input", "standard output")
         for n in itertools.count(1):
             prepare()
             ended, begun, told = self(*words, given=given, LD_PRELOAD=self.library, **{setting: str(n)})
@@ -94,9 +94,8 @@ class Tool:
             case = f"{setting}={n}: {ended}, {begun!r}, {told}"
             found = re.fullmatch(rf"{NAME}: (?:(.*): )?{FAILURES[setting]}", told[-1] if told else "")
             assert found and ended in statuses and wanted.startswith(begun), case
-            is_named = found[1] is None if setting == "REFUSE" else found[1] and (
-                Path(found[1]).parts[0] in names or ".intaglio." in found[1]
-            )
+            name = found[1] or ""
+            is_named = not name if setting == "REFUSE" else name.startswith(names) or ".intaglio." in name
             assert is_named and is_kept(begun) and not left(), case
         assert n > 1, f"{setting}: nothing failed"
 
