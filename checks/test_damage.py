@@ -140,13 +140,13 @@ def in_memory(monkeypatch):
         yield
 
 
-@pytest.mark.parametrize("data", SMALL)
+@pytest.mark.parametrize("data", SMALL, ids=range(len(SMALL)))
 def test_each_byte_of_a_table(tool, data):
     for files in each_byte(data, None):
         check_tables(tool, files)
 
 
-@pytest.mark.parametrize("table, data", COLUMNS)
+@pytest.mark.parametrize("table, data", COLUMNS, ids=range(len(COLUMNS)))
 def test_each_byte_of_a_column(tool, table, data):
     for files in each_byte(data, COLUMN_HEADER.size):
         check_columns(tool, table, files)
