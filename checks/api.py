@@ -30,7 +30,7 @@ MEANS = (
 # Libraries that are parts of a program, and crates of tests and examples, which no caller needs.
 # (The calls of `intaglio_c` are those of C: bindings/c/intaglio.h documents them.)
 LEFT_OUT = re.compile(
-    r"intaglio_dict_(io|columns|shards)|intaglio_c|tests|refused_allocations|bench|example_\w+"
+    r"intaglio_dict_(io|columns|shards)|intaglio_c|test_support|refused_allocations|bench|\w+_tests|example_\w+"
 )
 
 
