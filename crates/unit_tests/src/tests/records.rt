@@ -421,11 +421,15 @@ fn finds_long(rt: &impl Abort, records: &StringRecords, index: &RecordIndex, zer
 {
     let mut number = 0;
     for length in 250..260 {
-        same(rt, index.find(records, 1, &zeros[..length]), Some(number));
+        same(
+            rt,
+            number_of(records, index, 1, &zeros[..length]),
+            Some(number),
+        );
         same(rt, records.get(number as usize), Some(&zeros[..length]));
         number = number.wrapping_add(1);
     }
-    same(rt, index.find(records, 1, &zeros[..249]), None);
+    same(rt, number_of(records, index, 1, &zeros[..249]), None);
 }
 
 #[test]
