@@ -3,7 +3,7 @@ use Rattle.intaglio_records.specs.Matches.{IsSearch, most_left}
 use Rattle.unit_tests.proofs.tests.records.number_of.Given as goal
 
 abbrev pub invariant-loop-found : goal.invariant-loop-found
-invariant-loop-found g l = IsSearch l.matches
+invariant-loop-found l = IsSearch l.matches
 
 abbrev pub decreases-loop-found : goal.decreases-loop-found
-decreases-loop-found g l = most_left l.matches
+decreases-loop-found l = most_left l.matches
