@@ -33,11 +33,11 @@ hashes_under k0 k1 ws = map (hash_under k0 k1) ws
 abbrev pub LacksPlaces : List (List ℕ) → ℕ → ℕ → ℕ → Type 0
 LacksPlaces ws k0 k1 n = IsStuck (hashes_under ((k0 + n) % 2 ^ 64) k1 ws)
 
--- so it is under each of eight pairs of keys from k0 and k1 on
+-- this is so under each of eight pairs of keys from k0 and k1 on
 abbrev pub LackAllPlaces : List (List ℕ) → ℕ → ℕ → Type 0
 LackAllPlaces ws k0 k1 = (n : ℕ) → n < 8 → LacksPlaces ws k0 k1 n
 
--- so it is under each pair before that of these bytes
+-- this is so under each pair before that of these bytes
 abbrev pub LackEarlierPlaces : List (List ℕ) → ℕ → ℕ → List ℕ → Type 0
 LackEarlierPlaces ws k0 k1 bs = (n : ℕ) → n < (key0 bs + (2 ^ 64 - k0)) % 2 ^ 64 → LacksPlaces ws k0 k1 n
 
@@ -61,7 +61,7 @@ drawn_key1 ws = hash_all (drawn_key0 ws) 0 ws
 abbrev pub HasDefaultKeys : List (List ℕ) → List ℕ → Type 0
 HasDefaultKeys ws bs = HasKeys 0 0 bs ⊎ HasKeys (drawn_key0 ws) (drawn_key1 ws) bs
 
--- so it is under 0 and 0, under the drawn keys, and under the seven pairs after either
+-- a group of strings has no places under 0 and 0, under the drawn keys, and under the seven pairs after either
 abbrev pub LackDefaultPlaces : List (List ℕ) → Type 0
 LackDefaultPlaces ws = LackAllPlaces ws 0 0 × LackAllPlaces ws (drawn_key0 ws) (drawn_key1 ws)
 
