@@ -27,17 +27,16 @@ const ATTEMPTS: u64 = 8;
 /// symbol.
 ///
 /// The hashes are keyed by these numbers, or, if a string gets no place under them, by `key1` and one of the
-/// seven numbers after `key0`, modulo 2^64. The same strings under the same keys always give the same bytes:
-/// the table with the least pilots, under the first of these pairs of keys that has a place for each string.
-/// This is only tested.
+/// seven numbers after `key0`, modulo 2^64. It is only tested that the same strings under the same keys always
+/// give the same bytes.
 ///
 /// # Errors
 ///
 /// `TooMany`, `TooLong`, `NotUtf8` or `Equal` for strings that no frozen table of this kind can have.
 /// `Equal(i, j)` says that string j is the first one that is equal to an earlier one, which is string i.
 /// Otherwise `Memory` if an allocation fails, which may hide that two strings are equal, and `NoPlaces` if
-/// under each of the pairs of keys a group of strings has no places (`IsStuck`). By chance that is very unlikely, but strings can be chosen for
-/// known keys; others can then serve.
+/// under each of the pairs of keys a group of strings has no places (`IsStuck`). By chance that is very
+/// unlikely, but strings can be chosen for known keys; others can then serve.
 pub fn freeze<L: StringList>(
     alloc: Global,
     list: &L,
