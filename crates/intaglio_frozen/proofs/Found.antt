@@ -75,7 +75,7 @@ pub find-sound : (bs w : List ℕ) (i : ℕ) → find bs w ≡ Some i → slice_
 unfolding find
 find-sound bs w i e =
     let p = place bs (hash bs w) in
-    let s = u32_at bs (64 + 4 * p) in
+    let s = u32_at bs (128 + 4 * p) in
     let h = same-sound (slice_get (strings bs) s) s i w
     (passed (get_or bs (tags_at bs + p) 0 == hash bs w % 256) (if_same (slice_get (strings bs) s) s w) i
     e) in
@@ -115,7 +115,7 @@ at-other bs w p tag t et n =
 
 -- at a place that has the tag, but whose symbol isn't below the number of strings, nothing is found
 pub at-past : (bs w : List ℕ) (p tag t s : ℕ) → t ≡ tags_at bs → get_or bs (t + p) 0 ≡ tag →
-    s ≡ u32_at bs (64 + 4 * p) → count bs ≤ s → find_at bs p tag w ≡ None
+    s ≡ u32_at bs (128 + 4 * p) → count bs ≤ s → find_at bs p tag w ≡ None
 at-past bs w p tag t s et e es past =
     let m : get_or bs (tags_at bs + p) 0 ≡ tag = rw et at e in
     let none : slice_get (strings bs) s ≡ None =
@@ -124,7 +124,7 @@ at-past bs w p tag t s et e es past =
 
 -- at a place that has the tag, its symbol is found if its string is the sought one, and else nothing
 pub at-same : (bs w : List ℕ) (p tag t s : ℕ) → t ≡ tags_at bs → get_or bs (t + p) 0 ≡ tag →
-    s ≡ u32_at bs (64 + 4 * p) →
+    s ≡ u32_at bs (128 + 4 * p) →
     find_at bs p tag w ≡ if_same (slice_get (strings bs) s) s w
 at-same bs w p tag t s et e es =
     let m : get_or bs (tags_at bs + p) 0 ≡ tag = rw et at e in

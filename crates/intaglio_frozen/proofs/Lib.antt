@@ -12,3 +12,5 @@ pub mod Thawed
 pub mod Spelled
 pub mod Distinct
 pub mod Marked
+pub mod Hashed
+pub mod OfStrings

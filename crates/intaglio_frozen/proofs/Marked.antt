@@ -1,5 +1,5 @@
 -- The check that a group of strings has no places, step by step.
-use Rattle.std.proofs.Common.{◌≡◌, ◌≢◌, ℕ, ◌+◌, ◌^◌, ◌<◌, ◌==◌, inl, inr, Bool, List, length, get_or, set, take, sym, subst, ap, ◌∙◌, arith, eq-eqb}
+use Rattle.std.proofs.Common.{◌≡◌, ℕ, ◌+◌, ◌<◌, ◌==◌, inl, inr, Bool, List, length, get_or, set, take, sym, subst, ap, ◌∙◌, arith, eq-eqb}
 use Rattle.std.specs.List.{count_by}
 use Rattle.std.proofs.lemmas.Bool.{cases_eq, ne_eqb}
 use Rattle.std.proofs.lemmas.List.{get_or-set_same, get_or-set_other}
@@ -55,73 +55,35 @@ module _ (hs : List ℕ) (pilots : ℕ → ℕ) (g : ℕ) where
     pub mine : (p : ℕ) → get_or marks p 0 ≡ q + 1 →
         (a : ℕ) × (a < k) × (place_under hs (get_or members a 0) q ≡ p)
 
-  module _ (members : List ℕ) (q : ℕ) (few : q < 2 ^ 16) where
-    -- no string was tried
-    pub tried-none : (marks : List ℕ) → AreMarked hs pilots g marks q → AreTried members q marks 0
-    tried-none marks old = record {
-      marked = record { taken = old.taken; others = λ p d. omega (arith, old.others p d) };
-      mine = λ p e. absurd (omega (arith, e, few, old.others p (λ t. omega (arith, e, t, few))));
-    }
+  module _ (members : List ℕ) (q : ℕ) (marks : List ℕ) (k at : ℕ) (are : AreMembers hs g members)
+      (l : k < length members) (is : place_under hs (get_or members k 0) q ≡ at)
+      (old : AreTried members q marks k) where
+    -- the place of a string is that of a group before
+    pub place-taken : get_or marks at 0 ≡ taken_mark → (j : ℕ) × HasNoPlace hs pilots g q j
+    place-taken e =
+        let found = old.marked.taken at e in (
+          get_or members k 0,
+          record {
+            there = are.there k l;
+            group = are.group k l;
+            taken = (found.0, inl (subst (λ x. IsBeforeAt hs pilots g x found.0) (sym is) found.1));
+          },
+        )
 
-    -- the place of one more is marked
-    pub tried-more : (marks : List ℕ) (k at : ℕ) → at < length marks →
-        place_under hs (get_or members k 0) q ≡ at → AreTried members q marks k →
-        AreTried members q (set marks at (q + 1)) (k + 1)
-    tried-more marks k at l is old =
-        let here = get_or-set_same marks at (q + 1) 0 l in
-        let new = set marks at (q + 1) in
-        let read : (p : ℕ) → p ≢ at → get_or new p 0 ≡ get_or marks p 0 =
-        λ p other. get_or-set_other marks at p (q + 1) 0 other in
-        let at-place : (p : ℕ) → p ≡ at → get_or new p 0 ≡ q + 1 =
-        λ p same. ap (λ x. get_or new x 0) same ∙ here in
-        record {
-          marked = record {
-            taken = λ p e. elim (cases_eq p at) [
-              | inl same ↦ absurd (omega (arith, e, few, at-place p same))
-              | inr other ↦ old.marked.taken p (sym (read p other) ∙ e)
-            ];
-            others = λ p d. elim (cases_eq p at) [
-              | inl same ↦ omega (arith, at-place p same)
-              | inr other ↦
-                  omega (arith, read p other, old.marked.others p (λ e. d (read p other ∙ e)))
-            ];
-          };
-          mine = λ p e. elim (cases_eq p at) [
-            | inl same ↦ (k, omega arith, is ∙ sym same)
-            | inr other ↦
-                (let found = old.mine p (sym (read p other) ∙ e) in
-                (found.0, omega (arith, found.1), found.2))
-          ];
-        }
-
-    module _ (marks : List ℕ) (k at : ℕ) (are : AreMembers hs g members) (l : k < length members)
-        (is : place_under hs (get_or members k 0) q ≡ at) (old : AreTried members q marks k) where
-      -- the place of a string is that of a group before
-      pub place-taken : get_or marks at 0 ≡ taken_mark → (j : ℕ) × HasNoPlace hs pilots g q j
-      place-taken e =
-          let found = old.marked.taken at e in (
-            get_or members k 0,
-            record {
-              there = are.there k l;
-              group = are.group k l;
-              taken = (found.0, inl (subst (λ x. IsBeforeAt hs pilots g x found.0) (sym is) found.1));
-            },
-          )
-
-      -- the place of a string is that of one of the same group
-      pub place-tried : get_or marks at 0 ≡ q + 1 → (j : ℕ) × HasNoPlace hs pilots g q j
-      place-tried e =
-          let found = old.mine at e in
-          let here : IsEarlierAt hs g q (place_under hs (get_or members k 0) q) (get_or members k 0)
-          (get_or members found.0 0) = record {
-            earlier = are.order found.0 k found.1 l;
-            group = are.group found.0 (omega (arith, found.1, l));
-            place = found.2 ∙ sym is;
-          } in (
-            get_or members k 0,
-            record {
-              there = are.there k l;
-              group = are.group k l;
-              taken = (get_or members found.0 0, inr here);
-            },
-          )
+    -- the place of a string is that of one of the same group
+    pub place-tried : get_or marks at 0 ≡ q + 1 → (j : ℕ) × HasNoPlace hs pilots g q j
+    place-tried e =
+        let found = old.mine at e in
+        let here : IsEarlierAt hs g q (place_under hs (get_or members k 0) q) (get_or members k 0)
+        (get_or members found.0 0) = record {
+          earlier = are.order found.0 k found.1 l;
+          group = are.group found.0 (omega (arith, found.1, l));
+          place = found.2 ∙ sym is;
+        } in (
+          get_or members k 0,
+          record {
+            there = are.there k l;
+            group = are.group k l;
+            taken = (get_or members found.0 0, inr here);
+          },
+        )

@@ -13,7 +13,7 @@ pub pilot_within : (bs : List ℕ) (s : Sections) (h : ℕ) → AreSectionsOf bs
 pilot_within bs s h are l =
     let below : scaled (groups bs) h < groups bs = scaled-below (groups bs) h (omega arith) l in
     let same : scaled s.groups h ≡ scaled (groups bs) h = ap (λ n. scaled n h) are.groups in
-    omega (arith, below, same, are.pilots_at, are.within.within)
+    omega (arith, below, same, are.pilots_at, are.within.size)
 
 -- the place of a hash
 pub place_below : (bs : List ℕ) (h : ℕ) → place bs h < places bs
@@ -34,24 +34,24 @@ pub tag_within : (bs : List ℕ) (s : Sections) (h p : ℕ) → AreSectionsOf bs
     s.tags_at + p < length bs
 tag_within bs s h p are e =
     let same : p ≡ place bs h = cc in
-    omega (arith, same, place_below bs h, are.tags_at, are.within.within)
+    omega (arith, same, place_below bs h, are.tags_at, are.within.size)
 
 -- the symbol at the place of a hash is within the bytes
 pub symbol_within : (bs : List ℕ) (s : Sections) (h p : ℕ) → AreSectionsOf bs s → Some p ≡ Some (place bs h) →
-    64 + 4 * p + 4 ≤ length bs
+    128 + 4 * p + 4 ≤ length bs
 symbol_within bs s h p are e =
     let same : p ≡ place bs h = cc in
-    omega (arith, same, place_below bs h, are.within.within)
+    omega (arith, same, place_below bs h, are.within.size)
 
 -- where a string begins and ends
 pub start_within : (bs : List ℕ) (s : Sections) (i : ℕ) → AreSectionsOf bs s → i < count bs →
     s.starts_at + 4 * i + 4 ≤ length bs
-start_within bs s i are l = omega (arith, l, are.starts_at, are.within.within)
+start_within bs s i are l = omega (arith, l, are.starts_at, are.within.size)
 
 -- the number that says where a string ends is within the bytes
 pub end_within : (bs : List ℕ) (s : Sections) (i : ℕ) → AreSectionsOf bs s → i < count bs →
     s.starts_at + (4 * i + 4) + 4 ≤ length bs
-end_within bs s i are l = omega (arith, l, are.starts_at, are.within.within)
+end_within bs s i are l = omega (arith, l, are.starts_at, are.within.size)
 
 -- the number that is read for the start of a string, if it isn't the first, is where it begins
 pub start_by : (bs : List ℕ) (s : Sections) (i before : ℕ) → AreSectionsOf bs s → i < count bs → 0 < i →

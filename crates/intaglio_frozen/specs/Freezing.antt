@@ -1,5 +1,5 @@
 -- The keys of the table that strings are given, and why strings have no frozen table, or weren't given one.
-use Rattle.std.specs.Prelude.{◌≡◌, ℕ, ◌+◌, ◌-◌, ◌%◌, ◌^◌, ◌<◌, ◌≤◌, ◌⊎◌, List, length, map, sum_by, slice_get, take, Some}
+use Rattle.std.specs.Prelude.{◌≡◌, ℕ, ◌+◌, ◌-◌, ◌%◌, ◌^◌, ◌<◌, ◌≤◌, ◌⊎◌, List, length, map, sum_by, slice_get, take, Option, Some, None}
 use Rattle.std.specs.Hash.{u64}
 use Rattle.std.specs.Hash.DefaultHasher.{with_keys, write, finish}
 use Rattle.std.specs.List.{fold}
@@ -71,6 +71,21 @@ HaveFirstPlaces ws bs =
     (HasKeys 0 0 bs × LackEarlierPlaces ws 0 0 bs)
     ⊎ (LackAllPlaces ws 0 0 × HasKeys (drawn_key0 ws) (drawn_key1 ws) bs
     × LackEarlierPlaces ws (drawn_key0 ws) (drawn_key1 ws) bs)
+
+-- the keys of these bytes are those that were given, or the default ones if none were
+abbrev pub HasKeysFor : Option (ℕ × ℕ) → List (List ℕ) → List ℕ → Type 0
+HasKeysFor (Some keys) ws bs = HasKeys keys.0 keys.1 bs
+HasKeysFor None ws bs = HasDefaultKeys ws bs
+
+-- they are the first of those that are then tried and have places
+abbrev pub HasPassedFor : Option (ℕ × ℕ) → List (List ℕ) → List ℕ → Type 0
+HasPassedFor (Some keys) ws bs = LackEarlierPlaces ws keys.0 keys.1 bs
+HasPassedFor None ws bs = HaveFirstPlaces ws bs
+
+-- none of those that are then tried has places
+abbrev pub LackPlacesFor : Option (ℕ × ℕ) → List (List ℕ) → Type 0
+LackPlacesFor (Some keys) ws = LackAllPlaces ws keys.0 keys.1
+LackPlacesFor None ws = LackDefaultPlaces ws
 
 -- the strings at i and at j, which is greater, are equal
 abbrev pub AreEqual : List (List ℕ) → ℕ → ℕ → Type 0

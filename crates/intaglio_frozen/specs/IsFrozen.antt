@@ -2,8 +2,10 @@
 use Rattle.std.specs.Prelude.{◌≡◌, ℕ, zero, suc, ◌+◌, ◌-◌, ◌^◌, ◌<◌, ◌≤◌, ◌==◌, cond, List, length, slice_get, Some, IsUtf8}
 use Rattle.intaglio_frozen.specs.Strings.{AreEnds}
 use Rattle.intaglio_hash.specs.Numbers.{u32_at, u64_at}
-use Rattle.intaglio_frozen.specs.Layout.{kind, key0, key1, count, places, text_at, ends, strings, symbol_of, tag_of}
+use Rattle.intaglio_frozen.specs.Identity.{HasId, id_in}
+use Rattle.intaglio_frozen.specs.Layout.{kind, key0, key1, count, text_length, own0, own1, set0, set1, shards, shard, places, size, text_at, ends, strings, symbol_of, tag_of}
 use Rattle.intaglio_frozen.specs.LookUp.{FindsAll}
+use Rattle.intaglio_frozen.specs.SetId.{place_in}
 use Rattle.intaglio_frozen.specs.declared.header.Header.{Header}
 use Rattle.intaglio_frozen.specs.declared.kind.Kind.{Kind}
 use Rattle.intaglio_frozen.specs.declared.kind.Kind.TheVariants.{Bytes, Text}
@@ -22,41 +24,50 @@ pub record Describes (bs : List ℕ) (h : Header) : Type 0 where
   pub key0 : h.key0 ≡ key0 bs
   pub key1 : h.key1 ≡ key1 bs
   pub count : h.count ≡ count bs
+  pub text_length : h.text_length ≡ text_length bs
+  pub id : h.id ≡ id_in bs
+  pub place : h.place ≡ place_in bs
 
 -- the reserved bytes of the header
 pub record IsReserved (bs : List ℕ) : Type 0 where
-  pub first : u64_at bs 40 ≡ 0
-  pub second : u64_at bs 48 ≡ 0
-  pub third : u64_at bs 56 ≡ 0
+  pub first : u64_at bs 88 ≡ 0
+  pub second : u64_at bs 96 ≡ 0
+  pub third : u64_at bs 104 ≡ 0
+  pub fourth : u64_at bs 112 ≡ 0
+  pub fifth : u64_at bs 120 ≡ 0
 
 -- it begins with "INTAGLIO"
 abbrev pub HasMagic : List ℕ → Type 0
 HasMagic bs = (8 ≤ length bs) × (u64_at bs 0 ≡ 0x4f49_4c47_4154_4e49)
 
--- a header whose version is 1
+-- behind it stands a version, which is 2
 pub record HasVersion (bs : List ℕ) : Type 0 where
-  pub long : 64 ≤ length bs
   pub magic : HasMagic bs
-  pub version : u32_at bs 8 ≡ 1
+  pub within : 12 ≤ length bs
+  pub version : u32_at bs 8 ≡ 2
 
--- a header of version 1 whose kind is one of the two
+-- a header of version 2 whose kind is one of the two
 pub record HasKind (bs : List ℕ) : Type 0 where
   pub version : HasVersion bs
+  pub long : 128 ≤ length bs
   pub kind : kind bs ≤ text_kind
 
--- a header of version 1
+-- the set of a single table has the identity of this table
+abbrev pub HasSet : List ℕ → Type 0
+HasSet bs = shards bs ≡ 1 → (set0 bs ≡ own0 bs) × (set1 bs ≡ own1 bs)
+
+-- a header of version 2
 pub record HasHeader (bs : List ℕ) : Type 0 where
-  pub long : 64 ≤ length bs
-  pub magic : HasMagic bs
-  pub version : u32_at bs 8 ≡ 1
-  pub kind : kind bs ≤ text_kind
+  pub kind : HasKind bs
   pub reserved : IsReserved bs
   pub few : count bs ≤ 2 ^ 31
+  pub shard : shard bs < shards bs
+  pub set : HasSet bs
 
--- a header, and the sections within the bytes
+-- a header, and as many bytes as it requires
 pub record HasSections (bs : List ℕ) : Type 0 where
   pub header : HasHeader bs
-  pub within : text_at bs ≤ length bs
+  pub size : length bs ≡ size bs
 
 -- the strings fill the text
 pub record IsBlock (bs : List ℕ) : Type 0 where
@@ -90,3 +101,4 @@ pub record IsFrozen (bs : List ℕ) : Type 0 where
   pub unused : HasUnused bs
   pub found : FindsAll bs
   pub texts : kind bs ≡ text_kind → AreTexts (strings bs)
+  pub id : HasId bs

@@ -5,6 +5,9 @@ pub mod LookUp
 pub mod Ahead
 pub mod Checked
 pub mod IsFrozen
+pub mod Id
+pub mod SetId
+pub mod Identity
 pub mod Fault
 pub mod Read
 pub mod Sections

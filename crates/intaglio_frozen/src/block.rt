@@ -5,6 +5,7 @@ ghost use Rattle.intaglio_frozen.specs.LookUp.{find, hash};
 ghost use Rattle.intaglio_frozen.specs.IsFrozen.{number_of, HasUnused, IsBlock, AreTexts};
 ghost use Rattle.intaglio_frozen.specs.Checked.{IsHashAt, IsFoundAt, IsNotFoundAt};
 ghost use Rattle.intaglio_frozen.specs.Fault.{IsFault};
+ghost use Rattle.intaglio_frozen.specs.Identity.{HasId};
 
 use crate::ahead::HashesAhead;
 use crate::error::FrozenError;
@@ -51,7 +52,7 @@ impl<'a> Block<'a> {
     ///
     /// # Errors
     ///
-    /// What is wrong with the header, `Truncated` or `Ends`.
+    /// What is wrong with the header, `Truncated`, `TooLong` or `Ends`.
     pub fn read(bytes: &'a [u8]) -> Result<Block<'a>, FrozenError>
         ensures read { IfOk result (λ b. b ≡ bytes.now) }
         ensures block { IfOk result (λ b. IsBlock bytes.now) }
@@ -103,6 +104,13 @@ impl<'a> Block<'a> {
         ensures { IsTrue result ↔ HasUnused self.now }
     {
         self.layout.has_unused()
+    }
+
+    // Whether the identity in the header is that of the strings.
+    pub(crate) fn has_id(&self) -> bool
+        ensures { IsTrue result ↔ HasId self.now }
+    {
+        self.layout.has_id()
     }
 
     // Whether all of the text is UTF-8, and each string ends where a character does.

@@ -11,7 +11,10 @@ pub enum FrozenError {
     /// The bytes don't begin with the magic.
     #[error("not a frozen table")]
     Magic,
-    /// The version isn't 1.
+    /// The version is 1, whose tables aren't read.
+    #[error("a dictionary of version 1: freeze its strings again")]
+    OldVersion,
+    /// The version is neither 1 nor 2.
     #[error("a frozen table of another version")]
     Version,
     /// The number of the kind is none.
@@ -23,9 +26,19 @@ pub enum FrozenError {
     /// The header counts more strings than a frozen table can have.
     #[error("too many strings")]
     TooMany,
+    /// The number of the shard isn't below the number of shards.
+    #[error("the number of the shard isn't below the number of shards")]
+    Shard,
+    /// The identity in the header isn't that of the strings, or the only table of a set has another identity
+    /// than the set.
+    #[error("the identity isn't that of the strings")]
+    OtherIdentity,
     /// The bytes end within the header or a section.
     #[error("the file is truncated")]
     Truncated,
+    /// There are more bytes than the header requires.
+    #[error("there are bytes behind the strings")]
+    TooLong,
     /// The strings don't fill the text: an end lies before the one before it, or the last isn't the text's.
     #[error("the strings don't fill the text")]
     Ends,

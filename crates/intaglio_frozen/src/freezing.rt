@@ -1,10 +1,13 @@
 //! How a list of strings is frozen.
 ghost use Rattle.std.specs.Prelude.{◌≡◌, ◌≢◌, ◌-◌, ◌<◌, ◌≤◌, ◌^◌, IfErr, IfOk, IfSome, IsTrue, None, length, min, sum_by};
-ghost use Rattle.intaglio_frozen.specs.Layout.{key0 as key0_of, key1 as key1_of, kind as kind_of, strings};
+ghost use Rattle.intaglio_frozen.specs.Layout.{key0 as key0_of, key1 as key1_of, kind as kind_of, shards, strings};
 ghost use Rattle.intaglio_frozen.specs.LookUp.{FindsAll};
-ghost use Rattle.intaglio_frozen.specs.IsFrozen.{IsFrozen, number_of};
+ghost use Rattle.intaglio_frozen.specs.Id.{IsIdOfStrings};
+ghost use Rattle.intaglio_frozen.specs.Identity.{HasId, is_text_number};
+ghost use Rattle.intaglio_frozen.specs.IsFrozen.{IsBlock, IsFrozen, number_of};
 ghost use Rattle.intaglio_frozen.specs.Stuck.{IsStuck};
-ghost use Rattle.intaglio_frozen.specs.Freezing.{AreAllowed, HasDefaultKeys, HasKeys, HasNoEqual, IsRefusal, IsTableOf, HaveFirstPlaces, LackAllPlaces, LackDefaultPlaces, LackEarlierPlaces, hashes_under};
+ghost use Rattle.intaglio_frozen.specs.SetId.{IsAt};
+ghost use Rattle.intaglio_frozen.specs.Freezing.{AreAllowed, HasDefaultKeys, HasKeys, HasKeysFor, HasNoEqual, HasPassedFor, IsRefusal, IsTableOf, HaveFirstPlaces, LackAllPlaces, LackDefaultPlaces, LackEarlierPlaces, LackPlacesFor, hashes_under};
 ghost use Rattle.intaglio_frozen.specs.declared.error.FreezeError.TheVariants.{NoPlaces};
 
 use crate::block::Block;
@@ -14,10 +17,13 @@ use crate::equal::equal_strings;
 use crate::error::FreezeError;
 use crate::hashing::hashes;
 use crate::header::{HEADER, Header, MAGIC, MAX_COUNT, VERSION};
+use crate::id::{DictionaryId, kind_number};
 use crate::kind::Kind;
 use crate::list::{StringList, first_fault};
 use crate::placing::{Sections, place_all};
+use crate::set_id::{Place, SetId};
 use intaglio_content::same_bytes;
+use intaglio_hash::numbers::read_u64;
 use std::alloc::{AllocError, Global};
 
 // How many pairs of keys are tried.
@@ -47,17 +53,14 @@ pub fn freeze<L: StringList>(
     ensures frozen { IfOk result (λ bytes. IsFrozen bytes.items) }
     ensures strings { IfOk result (λ bytes. strings bytes.items ≡ L.strings list.now) }
     ensures kind { IfOk result (λ bytes. kind_of bytes.items ≡ number_of kind) }
+    ensures single { IfOk result (λ bytes. shards bytes.items ≡ 1) }
     ensures keys { IfOk result (λ bytes. HasKeys key0 key1 bytes.items) }
     ensures passed { IfOk result (λ bytes. LackEarlierPlaces (L.strings list.now) key0 key1 bytes.items) }
     ensures err { IfErr result (IsRefusal kind (L.strings list.now)) }
     ensures no_places { IfErr result (λ error. error ≡ NoPlaces →
         LackAllPlaces (L.strings list.now) key0 key1) }
 {
-    check_strings(kind, list)?;
-    match freeze_near(alloc, list, kind, key0, key1)? {
-        Some(bytes) => Ok(bytes),
-        None => Err(FreezeError::NoPlaces),
-    }
+    freeze_at(alloc, list, kind, Some((key0, key1)), Place::SINGLE)
 }
 
 /// As [`freeze`], for a caller who has no keys: under the keys 0 and 0 and those that `freeze` tries
@@ -76,18 +79,39 @@ pub fn freeze_with_default_keys<L: StringList>(
     ensures frozen { IfOk result (λ bytes. IsFrozen bytes.items) }
     ensures strings { IfOk result (λ bytes. strings bytes.items ≡ L.strings list.now) }
     ensures kind { IfOk result (λ bytes. kind_of bytes.items ≡ number_of kind) }
+    ensures single { IfOk result (λ bytes. shards bytes.items ≡ 1) }
     ensures keys { IfOk result (λ bytes. HasDefaultKeys (L.strings list.now) bytes.items) }
     ensures passed { IfOk result (λ bytes. HaveFirstPlaces (L.strings list.now) bytes.items) }
     ensures err { IfErr result (IsRefusal kind (L.strings list.now)) }
     ensures no_places { IfErr result (λ error. error ≡ NoPlaces → LackDefaultPlaces (L.strings list.now)) }
 {
+    freeze_at(alloc, list, kind, None, Place::SINGLE)
+}
+
+/// As [`freeze`] under given keys, and otherwise as [`freeze_with_default_keys`], but the table is at this
+/// place. If this is the only one of its set, the set is what the strings are, whatever the place says.
+///
+/// # Errors
+///
+/// Those of [`freeze`].
+pub fn freeze_at<L: StringList>(
+    alloc: Global,
+    list: &L,
+    kind: Kind,
+    keys: Option<(u64, u64)>,
+    place: Place,
+) -> Result<Vec<u8>, FreezeError>
+    requires { place.shard < place.shards }
+    ensures table { IfOk result (λ bytes. IsTableOf kind (L.strings list.now) bytes.items) }
+    ensures place { IfOk result (λ bytes. IsAt place bytes.items) }
+    ensures keys { IfOk result (λ bytes. HasKeysFor keys (L.strings list.now) bytes.items) }
+    ensures passed { IfOk result (λ bytes. HasPassedFor keys (L.strings list.now) bytes.items) }
+    ensures err { IfErr result (IsRefusal kind (L.strings list.now)) }
+    ensures no_places { IfErr result (λ error. error ≡ NoPlaces → LackPlacesFor keys (L.strings list.now)) }
+{
     check_strings(kind, list)?;
-    if let Some(bytes) = freeze_near(alloc, list, kind, 0, 0)? {
-        return Ok(bytes);
-    }
-    let key0 = hash_all(list, 0, 0);
-    let key1 = hash_all(list, key0, 0);
-    match freeze_near(alloc, list, kind, key0, key1)? {
+    let id = DictionaryId::of_list(kind == Kind::Text, list);
+    match freeze_by(alloc, list, kind, id, place, keys)? {
         Some(bytes) => Ok(bytes),
         None => Err(FreezeError::NoPlaces),
     }
@@ -111,18 +135,58 @@ fn check_strings<L: StringList>(kind: Kind, list: &L) -> Result<(), FreezeError>
     }
 }
 
+// The bytes under the first keys that have places of those that are tried, or nothing if each leaves a group of
+// strings no places.
+fn freeze_by<L: StringList>(
+    alloc: Global,
+    list: &L,
+    kind: Kind,
+    id: DictionaryId,
+    place: Place,
+    keys: Option<(u64, u64)>,
+) -> Result<Option<Vec<u8>>, FreezeError>
+    requires allowed { AreAllowed kind (L.strings list.now) }
+    requires id { IsIdOfStrings (is_text_number (number_of kind)) (L.strings list.now) id }
+    ensures table { let IsTable = IsTableOf kind (L.strings list.now) in
+        IfOk result (λ found. IfSome found (λ bytes. IsTable bytes.items)) }
+    ensures place { IfOk result (λ found. IfSome found (λ bytes. IsAt place bytes.items)) }
+    ensures keys { let HasKeys = HasKeysFor keys (L.strings list.now) in
+        IfOk result (λ found. IfSome found (λ bytes. HasKeys bytes.items)) }
+    ensures passed { let HasPassed = HasPassedFor keys (L.strings list.now) in
+        IfOk result (λ found. IfSome found (λ bytes. HasPassed bytes.items)) }
+    ensures none { let lacking = LackPlacesFor keys (L.strings list.now) in
+        IfOk result (λ found. found ≡ None → lacking) }
+    ensures distinct { IfOk result (λ found. found ≡ None → HasNoEqual (L.strings list.now)) }
+    ensures err { IfErr result (IsRefusal kind (L.strings list.now)) }
+    ensures others { IfErr result (λ error. error ≢ NoPlaces) }
+{
+    let Some((key0, key1)) = keys else {
+        if let Some(bytes) = freeze_near(alloc, list, kind, id, place, 0, 0)? {
+            return Ok(Some(bytes));
+        }
+        let key0 = hash_all(list, 0, 0);
+        let key1 = hash_all(list, key0, 0);
+        return freeze_near(alloc, list, kind, id, place, key0, key1);
+    };
+    freeze_near(alloc, list, kind, id, place, key0, key1)
+}
+
 // The bytes under these keys or one of the seven pairs after them, or nothing if each leaves a group of
 // strings no places.
 fn freeze_near<L: StringList>(
     alloc: Global,
     list: &L,
     kind: Kind,
+    id: DictionaryId,
+    place: Place,
     key0: u64,
     key1: u64,
 ) -> Result<Option<Vec<u8>>, FreezeError>
-    requires { AreAllowed kind (L.strings list.now) }
+    requires allowed { AreAllowed kind (L.strings list.now) }
+    requires id { IsIdOfStrings (is_text_number (number_of kind)) (L.strings list.now) id }
     ensures table { let IsTable = IsTableOf kind (L.strings list.now) in
         IfOk result (λ found. IfSome found (λ bytes. IsTable bytes.items)) }
+    ensures place { IfOk result (λ found. IfSome found (λ bytes. IsAt place bytes.items)) }
     ensures keys { IfOk result (λ found. IfSome found (λ bytes. HasKeys key0 key1 bytes.items)) }
     ensures passed { let HasPassed = LackEarlierPlaces (L.strings list.now) key0 key1 in
         IfOk result (λ found. IfSome found (λ bytes. HasPassed bytes.items)) }
@@ -133,7 +197,8 @@ fn freeze_near<L: StringList>(
     ensures others { IfErr result (λ error. error ≢ NoPlaces) }
 {
     for attempt in 0..ATTEMPTS {
-        if let Some(bytes) = freeze_under(alloc, list, kind, key0.wrapping_add(attempt), key1)? {
+        let key0 = key0.wrapping_add(attempt);
+        if let Some(bytes) = freeze_under(alloc, list, kind, id, place, key0, key1)? {
             return Ok(Some(bytes));
         }
     }
@@ -145,12 +210,16 @@ fn freeze_under<L: StringList>(
     alloc: Global,
     list: &L,
     kind: Kind,
+    id: DictionaryId,
+    place: Place,
     key0: u64,
     key1: u64,
 ) -> Result<Option<Vec<u8>>, FreezeError>
-    requires { AreAllowed kind (L.strings list.now) }
+    requires allowed { AreAllowed kind (L.strings list.now) }
+    requires id { IsIdOfStrings (is_text_number (number_of kind)) (L.strings list.now) id }
     ensures table { let IsTable = IsTableOf kind (L.strings list.now) in
         IfOk result (λ found. IfSome found (λ bytes. IsTable bytes.items)) }
+    ensures place { IfOk result (λ found. IfSome found (λ bytes. IsAt place bytes.items)) }
     ensures first_key { IfOk result (λ found. IfSome found (λ bytes. key0_of bytes.items ≡ key0)) }
     ensures second_key { IfOk result (λ found. IfSome found (λ bytes. key1_of bytes.items ≡ key1)) }
     ensures none { let stuck = IsStuck (hashes_under key0 key1 (L.strings list.now)) in
@@ -167,14 +236,8 @@ fn freeze_under<L: StringList>(
             Err(_) => Err(FreezeError::Memory),
         };
     };
-    let bytes = assemble(
-        alloc,
-        list,
-        kind,
-        [key0, key1, list.len() as u64],
-        &sections,
-    )?;
-    if holds(&bytes, list, kind, key0, key1, &hashes) {
+    let bytes = assemble(alloc, list, id, place, [key0, key1], &sections)?;
+    if holds(&bytes, list, kind, id, place, key0, key1, &hashes) {
         Ok(Some(bytes))
     } else {
         // This is never so, but it isn't proved that it never is.
@@ -193,41 +256,65 @@ fn byte_count<L: StringList>(list: &L) -> u64
     count
 }
 
-// Whether the bytes are a frozen table of these strings, which have these hashes, under these keys.
+// Whether the bytes are a frozen table of these strings, which have these hashes, at this place and under these
+// keys.
 fn holds<L: StringList>(
     bytes: &[u8],
     list: &L,
     kind: Kind,
+    id: DictionaryId,
+    place: Place,
     key0: u64,
     key1: u64,
     hashes: &[u64],
 ) -> bool
     requires allowed { AreAllowed kind (L.strings list.now) }
+    requires id { IsIdOfStrings (is_text_number (number_of kind)) (L.strings list.now) id }
     requires hashes { hashes.now ≡ hashes_under key0 key1 (L.strings list.now) }
     ensures table { IsTrue result → IsTableOf kind (L.strings list.now) bytes.now }
+    ensures place { IsTrue result → IsAt place bytes.now }
     ensures first_key { IsTrue result → key0_of bytes.now ≡ key0 }
     ensures second_key { IsTrue result → key1_of bytes.now ≡ key1 }
 {
-    if !has_header(bytes, kind, key0, key1) {
+    if !has_header(bytes, kind, place, key0, key1) {
         return false;
     }
-    match Block::read(bytes) {
-        Ok(block) => {
-            has_strings(&block, list) && block.has_unused() && finds_all(&block, hashes)
+    let Ok(block) = Block::read(bytes) else {
+        return false;
+    };
+    if !has_strings(&block, list) {
+        return false;
+    }
+    block.has_unused() && has_id(bytes, id) && finds_all(&block, hashes)
+}
+
+// Whether a header is that of a table of this kind, at this place and under these keys.
+fn has_header(bytes: &[u8], kind: Kind, place: Place, key0: u64, key1: u64) -> bool
+    ensures kind { IsTrue result → kind_of bytes.now ≡ number_of kind }
+    ensures place { IsTrue result → IsAt place bytes.now }
+    ensures first_key { IsTrue result → key0_of bytes.now ≡ key0 }
+    ensures second_key { IsTrue result → key1_of bytes.now ≡ key1 }
+{
+    match Header::read(bytes) {
+        Ok(header) => {
+            header.kind == kind
+                && header.key0 == key0
+                && header.key1 == key1
+                && header.place.shards == place.shards
+                && header.place.shard == place.shard
+                && (place.shards == 1 || header.place.set == place.set)
         }
         Err(_) => false,
     }
 }
 
-fn has_header(bytes: &[u8], kind: Kind, key0: u64, key1: u64) -> bool
-    ensures kind { IsTrue result → kind_of bytes.now ≡ number_of kind }
-    ensures first_key { IsTrue result → key0_of bytes.now ≡ key0 }
-    ensures second_key { IsTrue result → key1_of bytes.now ≡ key1 }
+// Whether the header of these bytes has this identity, which is that of their strings.
+fn has_id(bytes: &[u8], id: DictionaryId) -> bool
+    requires block { IsBlock bytes.now }
+    requires id { IsIdOfStrings (is_text_number (kind_of bytes.now)) (strings bytes.now) id }
+    ensures { IsTrue result → HasId bytes.now }
 {
-    match Header::read(bytes) {
-        Ok(header) => header.kind == kind && header.key0 == key0 && header.key1 == key1,
-        Err(_) => false,
-    }
+    id.hash0 == read_u64(bytes, 48) && id.hash1 == read_u64(bytes, 56)
 }
 
 // Whether these are the strings of a block.
@@ -256,16 +343,17 @@ fn finds_all(block: &Block<'_>, hashes: &[u64]) -> bool
     }
 }
 
-// The bytes of all sections. The numbers are the keys and the number of strings.
+// The bytes of the header and of all sections.
 fn assemble<L: StringList>(
     alloc: Global,
     list: &L,
-    kind: Kind,
-    numbers: [u64; 3],
+    id: DictionaryId,
+    place: Place,
+    keys: [u64; 2],
     sections: &Sections,
 ) -> Result<Vec<u8>, AllocError> {
     let mut bytes = Vec::with_capacity(alloc, size_of_table(list, sections))?;
-    put_header(&mut bytes, kind, numbers)?;
+    put_header(&mut bytes, keys, byte_count(list), id, place)?;
     put_symbols(&mut bytes, &sections.symbols)?;
     put_ends(&mut bytes, list)?;
     for pilot in &sections.pilots {
@@ -286,18 +374,38 @@ fn size_of_table<L: StringList>(list: &L, sections: &Sections) -> usize {
     numbers.saturating_add(byte_count(list)) as usize
 }
 
-fn put_header(bytes: &mut Vec<u8>, kind: Kind, numbers: [u64; 3]) -> Result<(), AllocError> {
-    let kind = match kind {
-        Kind::Bytes => 0u32,
-        Kind::Text => 1u32,
-    };
+// Adds the header of a table at this place.
+fn put_header(
+    bytes: &mut Vec<u8>,
+    keys: [u64; 2],
+    text_length: u64,
+    id: DictionaryId,
+    place: Place,
+) -> Result<(), AllocError> {
     bytes.extend_from_slice(&MAGIC.to_le_bytes())?;
     bytes.extend_from_slice(&VERSION.to_le_bytes())?;
-    bytes.extend_from_slice(&kind.to_le_bytes())?;
-    for number in &numbers {
+    bytes.extend_from_slice(&kind_number(id.is_text).to_le_bytes())?;
+    let set = if place.shards == 1 {
+        SetId::of_shards(&[id])
+    } else {
+        place.set
+    };
+    for number in &[
+        keys[0],
+        keys[1],
+        id.count,
+        text_length,
+        id.hash0,
+        id.hash1,
+        set.hash0,
+        set.hash1,
+    ] {
         bytes.extend_from_slice(&number.to_le_bytes())?;
     }
-    bytes.extend_from_slice(&[0u8; 24])
+    // The number of shards, the number of this one, and the reserved bytes.
+    bytes.extend_from_slice(&place.shards.to_le_bytes())?;
+    bytes.extend_from_slice(&place.shard.to_le_bytes())?;
+    bytes.extend_from_slice(&[0u8; 40])
 }
 
 fn put_symbols(bytes: &mut Vec<u8>, symbols: &[u32]) -> Result<(), AllocError> {

@@ -38,7 +38,8 @@ impl<'a> Model for Frozen<'a> {
 
 impl<'a> Frozen<'a> {
     /// The table of these bytes, after a check of all of them: that each string is found at its symbol, that
-    /// the places without a string are empty, and, if the kind is text, that each string is UTF-8.
+    /// the places without a string are empty, that each string is UTF-8 if the kind is text, and that the
+    /// identity in the header is that of the strings.
     ///
     /// # Errors
     ///
@@ -58,6 +59,9 @@ impl<'a> Frozen<'a> {
         }
         if let Some(i) = first_no_text(&block) {
             return Err(FrozenError::NotUtf8(i));
+        }
+        if !block.has_id() {
+            return Err(FrozenError::OtherIdentity);
         }
         Ok(Frozen { block })
     }

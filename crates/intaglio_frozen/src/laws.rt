@@ -1,7 +1,11 @@
 //! Laws for proofs of callers.
 ghost use Rattle.std.specs.Prelude.{◌≡◌, [], ◌∷◌, map};
 ghost use Rattle.intaglio_interner.specs.State.{first};
+ghost use Rattle.intaglio_frozen.specs.Identity.{IsIdOfTable};
+ghost use Rattle.intaglio_frozen.specs.IsFrozen.{IsFrozen};
+ghost use Rattle.intaglio_frozen.specs.Layout.{kind, strings};
 
+use crate::id::DictionaryId;
 use intaglio::Table;
 use intaglio_content::Content;
 use std::hash::BuildHasher;
@@ -31,4 +35,20 @@ pub fn spelling_law<C: Content, S: BuildHasher>(table: &Table<C, S>, string: &[u
         ≡ first (λ w. w ∷ []) (map C.spelling contents) (string.now ∷ []) }
 {
     // The contract is the law.
+}
+
+/// A dictionary of the same kind with the same strings is the same, whatever its keys and its pilots are. So
+/// a column fits each of them, and decoding it with any gives the same lines.
+///
+/// The function does nothing: its contract is the law.
+pub fn same_dictionary_law(first: &[u8], second: &[u8], id: DictionaryId)
+    requires first { IsFrozen first.now }
+    requires second { IsFrozen second.now }
+    requires kind { kind first.now ≡ kind second.now }
+    requires strings { strings first.now ≡ strings second.now }
+    requires id { IsIdOfTable first.now id }
+    ensures { IsIdOfTable second.now id }
+{
+    // The contract is the law.
+    let _lengths = (first.len(), second.len());
 }

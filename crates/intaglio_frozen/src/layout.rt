@@ -6,15 +6,17 @@ ghost use Rattle.intaglio_frozen.specs.LookUp.{hash, place, find, IsCandidate};
 ghost use Rattle.intaglio_frozen.specs.IsFrozen.{number_of, HasSections, HasUnused, IsBlock, AreTexts};
 ghost use Rattle.intaglio_frozen.specs.Checked.{IsHashAt, IsFoundAt, AreCharEnds};
 ghost use Rattle.intaglio_frozen.specs.Fault.{IsFault};
+ghost use Rattle.intaglio_frozen.specs.Identity.{HasId};
 
 use crate::error::FrozenError;
 use crate::header::HEADER;
+use crate::id::DictionaryId;
 use crate::iter::FrozenStrings;
 use crate::kind::Kind;
 use crate::numbers::{NO_SYMBOL, hash_by, mixed, scaled};
 use crate::sections::Sections;
 use intaglio_hash::KeyedState;
-use intaglio_hash::numbers::{read_u16, read_u32};
+use intaglio_hash::numbers::{read_u16, read_u32, read_u64};
 use intaglio_records::part;
 use std::marker::Model;
 use std::str;
@@ -114,6 +116,15 @@ impl<'a> Layout<'a> {
             }
         }
         used == self.count
+    }
+
+    // Whether the identity in the header is that of the strings.
+    pub(crate) fn has_id(&self) -> bool
+        ensures { IsTrue result ↔ HasId self.now }
+    {
+        let ends = &self.bytes[self.ends_at..self.pilots_at];
+        let id = DictionaryId::of(self.kind == Kind::Text, self.count as u64, ends, self.text);
+        id.hash0 == read_u64(self.bytes, 48) && id.hash1 == read_u64(self.bytes, 56)
     }
 
     // A string that is there, where the strings fill the text.

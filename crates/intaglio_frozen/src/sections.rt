@@ -68,7 +68,7 @@ impl Sections {
     ///
     /// # Errors
     ///
-    /// What is wrong with the header, or `Truncated` if the bytes end within a section.
+    /// What is wrong with the header, or `Truncated` or `TooLong` if there aren't as many bytes as it requires.
     pub fn read(bytes: &[u8]) -> Result<Sections, FrozenError>
         ensures sections { IfOk result (AreSectionsOf bytes.now) }
         ensures only { HasSections bytes.now → IsOk result }
@@ -82,8 +82,11 @@ impl Sections {
         let pilots_at = ends_at + 4 * count;
         let tags_at = pilots_at + 2 * groups as usize;
         let text_at = tags_at + places as usize;
-        if text_at > bytes.len() {
+        if text_at > bytes.len() || ((bytes.len() - text_at) as u64) < header.text_length {
             return Err(FrozenError::Truncated);
+        }
+        if (bytes.len() - text_at) as u64 > header.text_length {
+            return Err(FrozenError::TooLong);
         }
         Ok(Sections {
             key0: header.key0,

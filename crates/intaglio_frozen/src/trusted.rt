@@ -50,7 +50,7 @@ impl<'a> TrustedFrozen<'a> {
     ///
     /// # Errors
     ///
-    /// What is wrong with the header, or `Truncated` if the bytes end within a section.
+    /// What is wrong with the header, or `Truncated` or `TooLong` if there aren't as many bytes as it requires.
     pub fn open(bytes: &'a [u8]) -> Result<TrustedFrozen<'a>, FrozenError>
         ensures bytes { IfOk result (λ f. f ≡ bytes.now) }
         ensures sections { IfOk result (λ _. HasSections bytes.now) }

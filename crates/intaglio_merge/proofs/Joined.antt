@@ -3,10 +3,9 @@ use Rattle.std.proofs.Common.{◌≡◌, ◌∙◌, ℕ, ◌+◌, ◌<◌, List,
 use Rattle.std.specs.Prelude.{slice_get, All}
 use Rattle.std.proofs.lemmas.List.{map-append}
 use Rattle.std.proofs.lemmas.Option.{slice_get_within}
-use Rattle.intaglio_merge.specs.Merging.{decode, renumber, IsMap}
-use Rattle.intaglio_merge.specs.Laws.{ShardMapsJoin, ShardedCodesKeepStrings}
-use Rattle.intaglio_merge.specs.Shards.{AreWithin, joined, joined_map, shards, sum_of, AreShardMaps}
-use Rattle.intaglio_merge.proofs.Renumbered.{renumbered}
+use Rattle.intaglio_merge.specs.Merging.{decode, IsMap}
+use Rattle.intaglio_merge.specs.Laws.{ShardMapsJoin}
+use Rattle.intaglio_merge.specs.Shards.{AreWithin, joined, joined_map, sum_of, AreShardMaps}
 use Rattle.intaglio_merge.proofs.Sharded.{at-back, at-front}
 
 -- the numbers of a map, counted on from the end of other strings, lead to the same strings behind these
@@ -81,10 +80,3 @@ within-push (c ∷ counts) (m ∷ maps) count numbers same are all =
 -- the maps of shards, as one map, lead from all strings of the shards to all those of the others
 pub maps-join : ShardMapsJoin
 maps-join olds news maps are = behind-front [] olds news maps are
-
--- codes renumbered by maps to shards, and then to others, keep their strings, if both have few enough
-pub sharded-codes : ShardedCodesKeepStrings
-sharded-codes count strings news split codes maps is are few fewer =
-    renumbered (joined news) fewer (joined (shards count strings)) (joined_map 0 (map length news) maps)
-    (renumber split codes) (maps-join (shards count strings) news maps are)
-    ∙ renumbered (joined (shards count strings)) few strings split codes is

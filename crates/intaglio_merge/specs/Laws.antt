@@ -2,7 +2,7 @@
 use Rattle.std.specs.Prelude.{◌≡◌, ℕ, ◌≤◌, List, ◌∷◌, ◌++◌, length, map}
 use Rattle.intaglio_interner.specs.State.{Distinct}
 use Rattle.intaglio_merge.specs.Merging.{decode, missing, renumber, string_key, union, IsMap}
-use Rattle.intaglio_merge.specs.Shards.{joined, joined_map, shard, shards, AreShardMaps}
+use Rattle.intaglio_merge.specs.Shards.{joined, joined_map, shard, AreShardMaps}
 
 -- renumbered codes have the strings that the codes had
 abbrev pub RenumberingKeepsStrings : Type 0
@@ -36,14 +36,3 @@ ShardsMerge = (count s : ℕ) (lists : List (List (List ℕ))) →
 abbrev pub ShardMapsJoin : Type 0
 ShardMapsJoin = (olds news : List (List (List ℕ))) (maps : List (List ℕ)) → AreShardMaps olds news maps
     → IsMap (joined olds) (joined news) (joined_map 0 (map length news) maps)
-
--- codes under a list that are renumbered by the map to its shards, and then by the maps from these to other
--- shards, have the strings that they had
-abbrev pub ShardedCodesKeepStrings : Type 0
-ShardedCodesKeepStrings =
-    (count : ℕ) (strings : List (List ℕ)) (news : List (List (List ℕ))) (split codes : List ℕ)
-    (maps : List (List ℕ))
-    → IsMap strings (joined (shards count strings)) split → AreShardMaps (shards count strings) news maps
-    → length (joined (shards count strings)) ≤ missing → length (joined news) ≤ missing
-    → decode (joined news) (renumber (joined_map 0 (map length news) maps) (renumber split codes))
-    ≡ decode strings codes

@@ -1,7 +1,7 @@
 //! Laws for proofs of callers: what merging and renumbering keep.
 //!
 //! The functions do nothing: the contract of each is a law.
-ghost use Rattle.intaglio_merge.specs.Laws.{RenumberingKeepsStrings, MapsCompose, MapsAreUnique, MergingNests, ShardMapsJoin, ShardedCodesKeepStrings, ShardsMerge};
+ghost use Rattle.intaglio_merge.specs.Laws.{RenumberingKeepsStrings, MapsCompose, MapsAreUnique, MergingNests, ShardMapsJoin, ShardsMerge};
 
 /// Decoding renumbered codes under the merged dictionary gives what decoding the codes under the old one
 /// gave, also where a code is no symbol. The merged dictionary has fewer strings than the number of the
@@ -51,15 +51,6 @@ pub fn sharding_law()
 /// shard are counted on from the end of the shards before it.
 pub fn joining_law()
     ensures { ShardMapsJoin }
-{
-    // The contract is the law.
-}
-
-/// Codes of a part that are renumbered by the map to its shards
-/// ([`split_map`](crate::split_map)), and then by the maps from these to the merged shards, have
-/// the strings that they had, also where a code is no symbol.
-pub fn sharded_codes_law()
-    ensures { ShardedCodesKeepStrings }
 {
     // The contract is the law.
 }

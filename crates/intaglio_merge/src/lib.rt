@@ -18,5 +18,5 @@ pub use absorbing::absorb;
 pub use error::ShardsError;
 pub use from_string::{FromString, are_texts};
 pub use merging::{Merged, merge_tables};
-pub use sharding::{shard_of, split, split_map, split_with_map};
+pub use sharding::{shard_of, split_with_map};
 pub use shards::{Shards, first_misplaced};

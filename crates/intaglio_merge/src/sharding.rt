@@ -38,7 +38,8 @@ pub fn shard_of(string: &[u8], count: u32) -> u32
     ((hasher.finish() >> 32) * count as u64 >> 32) as u32
 }
 
-/// The strings of each shard of a list, in the list's order. They stay where they are.
+/// The strings of each shard of a list, in the list's order, and the map from the list to its shards, one behind
+/// the other: the new symbol of each string. The strings stay where they are.
 ///
 /// Each list can be frozen, or merged with the same shard of other lists: shards of a union are the unions of
 /// shards ([`sharding_law`](crate::laws::sharding_law)).
@@ -48,63 +49,16 @@ pub fn shard_of(string: &[u8], count: u32) -> u32
 /// [`AllocError`] if an allocation fails.
 ///
 /// ```
-/// # use intaglio::{StrContent, SymbolTable};
-/// # use intaglio_merge::{shard_of, split};
-/// # let alloc = rt.alloc();
-/// # let mut table = SymbolTable::new(alloc)?;
-/// # let _symbol = table.intern(StrContent::from("rose"))?;
-/// let shards = split(alloc, &table, 4)?;
-/// assert!(rt; shards.len() == 4);
-/// let shard = &shards[shard_of(b"rose", 4) as usize];
-/// assert!(rt; shard.as_slice() == [b"rose".as_slice()].as_slice());
-/// ```
-pub fn split<'s, L: StringList>(
-    alloc: Global,
-    list: &'s L,
-    count: u32,
-) -> Result<Vec<Vec<&'s [u8]>>, AllocError>
-    requires { 0 < count }
-    ensures { IfOk result (λ split. map (λ ws. map (λ w. w.now) ws.items) split.items
-        ≡ shards count (L.strings list.now)) }
-{
-    let shards = shards_of(alloc, list, count)?;
-    lists_of(alloc, list, count, &shards)
-}
-
-/// The map from a list to its shards, one behind the other: the new symbol of each string.
-///
-/// # Errors
-///
-/// [`AllocError`] if an allocation fails.
-pub fn split_map<L: StringList>(
-    alloc: Global,
-    list: &L,
-    count: u32,
-) -> Result<Vec<Symbol>, AllocError>
-    requires some { 0 < count }
-    requires few { length (L.strings list.now) ≤ missing }
-    ensures { IfOk result (λ numbers. IsMap (L.strings list.now)
-        (joined (shards count (L.strings list.now))) numbers.items) }
-{
-    let shards = shards_of(alloc, list, count)?;
-    numbers_of(alloc, list, count, &shards)
-}
-
-/// What [`split`] and [`split_map`] return. Each string is hashed once for both.
-///
-/// # Errors
-///
-/// [`AllocError`] if an allocation fails.
-///
-/// ```
-/// # use intaglio::{StrContent, SymbolTable};
-/// # use intaglio_merge::split_with_map;
+/// # use intaglio::{StrContent, Symbol, SymbolTable};
+/// # use intaglio_merge::{shard_of, split_with_map};
 /// # let alloc = rt.alloc();
 /// # let mut table = SymbolTable::new(alloc)?;
 /// # let _symbol = table.intern(StrContent::from("rose"))?;
 /// let (shards, map) = split_with_map(alloc, &table, 4)?;
 /// assert!(rt; shards.len() == 4);
-/// assert!(rt; map.len() == 1);
+/// let shard = &shards[shard_of(b"rose", 4) as usize];
+/// assert!(rt; shard.as_slice() == [b"rose".as_slice()].as_slice());
+/// assert!(rt; map.as_slice() == [Symbol::new(0)].as_slice());
 /// ```
 pub fn split_with_map<'s, L: StringList>(
     alloc: Global,

@@ -15,9 +15,9 @@ returns-then-marks-place-clause-none c pilots g marked are _ =
     let is = sym c.place_under-place.ensures.value in
     elim c.then-marks-place.branch [
       | then-marks-place-via-then-marks-place w ↦
-          place-taken hs pilots g c.args.members.now q c.ranges.pilot.fits marks k at are l is tried
+          place-taken hs pilots g c.args.members.now q marks k at are l is tried
           w.if-marks-place.true
       | then-marks-place-via-else-marks-place+then-marks-place-2 w ↦
-          place-tried hs pilots g c.args.members.now q c.ranges.pilot.fits marks k at are l is tried
+          place-tried hs pilots g c.args.members.now q marks k at are l is tried
           w.if-marks-place-2.true
     ]

@@ -14,7 +14,7 @@ read_u32-requires c =
       below,
       ap length c.self.invariant.ends,
       length-drop (ends_at bs - 4) bs,
-      c.self.invariant.sections.within,
+      c.self.invariant.sections.size,
     )
 
 pub returns : goal.returns

@@ -34,5 +34,5 @@ returns c = λ are w is.
     same_Some _ _ (c.in_ok-byte_within.ensures (tag_within bs c.args.self.now c.args.hashed p are at)) in
     rw (c.u32_within.ensures (symbol_within bs c.args.self.now c.args.hashed p are at))
     (find-by bs w c.args.hashed p is (same_Some _ _ at)
-    ∙ at-same bs w p (c.args.hashed % 256) c.args.self.now.tags_at (u32_at bs (64 + 4 * p)) are.tags_at
+    ∙ at-same bs w p (c.args.hashed % 256) c.args.self.now.tags_at (u32_at bs (128 + 4 * p)) are.tags_at
     (sym tag ∙ c.if-branch-hashed.false) refl)

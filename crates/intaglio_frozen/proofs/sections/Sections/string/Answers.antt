@@ -18,7 +18,7 @@ returns-clause-found c = λ are.
     let end = same_Some _ _ (c.in_ok-end.ensures are below) in
     let part : IsGetRangeResult (drop (text_at bs) bs) c.in_ok-start.start c.in_ok-end.end
     c.part_within.result =
-    rw are.text_at at c.part_within.ensures (omega (arith, are.text_at, are.within.within)) in
+    rw are.text_at at c.part_within.ensures (omega (arith, are.text_at, are.within.size)) in
     part-found bs c.args.i c.in_ok-start.start c.in_ok-end.end c.part_within.result below start end part
 
 pub returns-clause-block : goal.returns-clause-block
@@ -29,5 +29,5 @@ returns-clause-block c = λ are block.
     let end = same_Some _ _ (c.in_ok-end.ensures are below) in
     let part : IsGetRangeResult (drop (text_at bs) bs) c.in_ok-start.start c.in_ok-end.end
     c.part_within.result =
-    rw are.text_at at c.part_within.ensures (omega (arith, are.text_at, are.within.within)) in
+    rw are.text_at at c.part_within.ensures (omega (arith, are.text_at, are.within.size)) in
     part_whole bs c.args.i c.in_ok-start.start c.in_ok-end.end c.part_within.result block below start end part

@@ -1,4 +1,4 @@
-use Rattle.intaglio_frozen.proofs.freezing.freeze.Goals as goal
+use Rattle.intaglio_frozen.proofs.freezing.freeze_at.Goals as goal
 
 pub returns-in-None-clause-err : goal.returns-in-None-clause-err
 returns-in-None-clause-err g c =

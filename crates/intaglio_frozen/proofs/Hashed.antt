@@ -1,0 +1,75 @@
+-- What strings write to a hasher, one after the other.
+use Rattle.std.proofs.Common.{◌≡◌, ◌∙◌, ℕ, ◌+◌, ◌<◌, ◌≤◌, List, [], ◌∷◌, ◌++◌, length, drop, get_or, slice_get, Some, refl, sym, ap}
+use Rattle.std.specs.List.{concat, flat_map}
+use Rattle.std.specs.Int.{w32, to_le_bytes}
+use Rattle.std.specs.Hash.DefaultHasher.{write, write_byte}
+use Rattle.std.specs.declared.hash.DefaultHasher.{DefaultHasher}
+use Rattle.std.proofs.lemmas.List.{drop_all, drop_more}
+use Rattle.std.proofs.lemmas.List.Sums.{fold-append}
+use Rattle.std.proofs.lemmas.Option.{slice_get_within, get_or_from_slice_get}
+use Rattle.intaglio_frozen.specs.Id.{end_behind, end_bytes}
+
+-- bytes behind others
+pub write-behind : (h : DefaultHasher) (xs ys : List ℕ) → write (write h xs) ys ≡ write h (xs ++ ys)
+unfolding write
+write-behind h xs ys = sym (fold-append write_byte h xs ys)
+
+-- bytes behind those that were written
+pub written-behind : (h now : DefaultHasher) (xs ys : List ℕ) → now ≡ write h xs →
+    write now ys ≡ write h (xs ++ ys)
+written-behind h now xs ys written = ap (λ t. write t ys) written ∙ write-behind h xs ys
+
+-- writing no bytes leaves a hasher as it is
+pub write-none : (h : DefaultHasher) → write h [] ≡ h
+unfolding write
+write-none h = refl
+
+-- what is left of a list begins with its item
+cut-at : {X : Type 0} (xs : List X) (i : ℕ) (x : X) → slice_get xs i ≡ Some x →
+    drop i xs ≡ x ∷ drop (i + 1) xs
+cut-at xs i x at = drop_more xs i x (slice_get_within xs i x at)
+    ∙ ap (λ y. y ∷ drop (i + 1) xs) (get_or_from_slice_get xs i x x at)
+
+-- the bytes of one more item
+pub next-item : {X : Type 0} (f : X → List ℕ) (h now : DefaultHasher) (i : ℕ) (d : X) (xs : List X) →
+    i < length xs → now ≡ write h (f (get_or xs i d))
+    → write now (flat_map f (drop (i + 1) xs)) ≡ write h (flat_map f (drop i xs))
+next-item f h now i d xs l written =
+    written-behind h now (f (get_or xs i d)) (flat_map f (drop (i + 1) xs)) written
+    ∙ ap (λ t. write h (flat_map f t)) (sym (drop_more xs i d l))
+
+-- if no items are left, their bytes leave a hasher as it is
+pub last-item : {X : Type 0} (f : X → List ℕ) (h : DefaultHasher) (i : ℕ) (xs : List X) → length xs ≤ i →
+    h ≡ write h (flat_map f (drop i xs))
+last-item f h i xs l = sym (write-none h) ∙ ap (λ t. write h (flat_map f t)) (sym (drop_all i xs l))
+
+-- the end of one more string
+pub next-end : (h now : DefaultHasher) (end next i : ℕ) (w : List ℕ) (ws : List (List ℕ)) →
+    slice_get ws i ≡ Some w → next ≡ end_behind end w
+    → now ≡ write h (to_le_bytes w32 next) → write now (end_bytes next (drop (i + 1) ws))
+    ≡ write h (end_bytes end (drop i ws))
+next-end h now end next i w ws at is written =
+    let left = drop (i + 1) ws in
+    let rest = end_bytes next left in
+    let whole : end_bytes end (drop i ws) ≡ to_le_bytes w32 next ++ rest =
+    ap (end_bytes end) (cut-at ws i w at) ∙ ap (λ e. to_le_bytes w32 e ++ end_bytes e left) (sym is) in
+    written-behind h now (to_le_bytes w32 next) rest written ∙ ap (write h) (sym whole)
+
+-- if no strings are left, their ends leave a hasher as it is
+pub last-end : (h : DefaultHasher) (end i : ℕ) (ws : List (List ℕ)) → length ws ≤ i →
+    h ≡ write h (end_bytes end (drop i ws))
+last-end h end i ws l = sym (write-none h) ∙ ap (λ t. write h (end_bytes end t)) (sym (drop_all i ws l))
+
+-- the bytes of one more string
+pub next-text : (h now : DefaultHasher) (i : ℕ) (w : List ℕ) (ws : List (List ℕ)) → slice_get ws i ≡ Some w →
+    now ≡ write h w
+    → write now (concat (drop (i + 1) ws)) ≡ write h (concat (drop i ws))
+next-text h now i w ws at written =
+    let rest = concat (drop (i + 1) ws) in
+    written-behind h now w rest written
+    ∙ ap (λ t. write h (concat t)) (sym (cut-at ws i w at))
+
+-- if no strings are left, their bytes leave a hasher as it is
+pub last-text : (h : DefaultHasher) (i : ℕ) (ws : List (List ℕ)) → length ws ≤ i →
+    h ≡ write h (concat (drop i ws))
+last-text h i ws l = sym (write-none h) ∙ ap (λ t. write h (concat t)) (sym (drop_all i ws l))

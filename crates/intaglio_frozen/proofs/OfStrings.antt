@@ -1,0 +1,167 @@
+-- The ends and the text of a frozen table are those of its strings.
+use Rattle.std.proofs.Common.{◌≡◌, ◌∙◌, ℕ, zero, suc, ◌+◌, ◌-◌, ◌*◌, ◌/◌, ◌%◌, ◌^◌, ◌<◌, ◌≤◌, Bool, List, [], ◌∷◌, ◌++◌, length, take, drop, get_or, slice_range, refl, sym, ap, subst, arith, length-drop}
+use Rattle.std.specs.List.{concat}
+use Rattle.std.specs.Int.{w32, to_le_bytes}
+use Rattle.std.proofs.lemmas.List.{drop_all, drop-drop, get_or-drop}
+use Rattle.std.proofs.lemmas.List.Edits.{length-between}
+use Rattle.std.proofs.lemmas.List.Folds.{drop_split}
+use Rattle.std.proofs.Math.Seq.{take-add}
+use Rattle.intaglio_frozen.proofs.Ends.{ends-within}
+use Rattle.intaglio_frozen.proofs.Places.{strings_length, u32-in}
+use Rattle.intaglio_frozen.specs.Strings.{strings_from, AreEnds}
+use Rattle.intaglio_hash.specs.Numbers.{u32_at}
+use Rattle.intaglio_frozen.specs.Layout.{kind, numbers_at, count, own0, own1, ends_at, pilots_at, text_at, ends, strings}
+use Rattle.intaglio_frozen.specs.IsFrozen.{IsBlock}
+use Rattle.intaglio_frozen.specs.Id.{IsIdOf, IsIdOfStrings, end_behind, end_bytes}
+use Rattle.intaglio_frozen.specs.Identity.{HasId, is_text_number, ends_section, text_section}
+use Rattle.intaglio_frozen.specs.declared.id.DictionaryId.{DictionaryId}
+
+-- the numbers of a list are bytes: each is below 256
+abbrev pub AreBytes : List ℕ → Type 0
+AreBytes xs = (k : ℕ) → get_or xs k 0 < 256
+
+-- strings that follow each other are the bytes from where they begin
+text_from : (at n : ℕ) (xs es : List ℕ) → AreEnds at n es → length xs ≡ n →
+    concat (strings_from at xs es) ≡ drop at xs
+text_from at n xs [] h l = sym (drop_all at xs (omega (arith, h, l)))
+text_from at n xs (e ∷ es) h l = ap (λ t. slice_range xs at e ++ t) (text_from e n xs es h.1 l)
+    ∙ sym (drop_split xs at e h.0)
+
+-- four bytes, by the number that they make
+first_byte : (a b c d : ℕ) → a < 256 → (a + 256 * (b + 256 * (c + 256 * (d + 256 * 0)))) % 256 ≡ a
+first_byte a b c d la = omega (arith, la)
+
+-- the number that four bytes make, divided by 2 ^ 8 and taken modulo 256, is the second of them
+second_byte : (a b c d : ℕ) → a < 256 → b < 256 →
+    (a + 256 * (b + 256 * (c + 256 * (d + 256 * 0)))) / 256 % 256 ≡ b
+second_byte a b c d la lb = omega (arith, la, lb)
+
+-- the number that four bytes make, divided by 2 ^ 16 and taken modulo 256, is the third of them
+third_byte : (a b c d : ℕ) → a < 256 → b < 256 → c < 256 →
+    (a + 256 * (b + 256 * (c + 256 * (d + 256 * 0)))) / 65536 % 256 ≡ c
+third_byte a b c d la lb lc = omega (arith, la, lb, lc)
+
+-- the number that four bytes make, divided by 2 ^ 24 and taken modulo 256, is the fourth of them
+fourth_byte : (a b c d : ℕ) → a < 256 → b < 256 → c < 256 → d < 256 →
+    (a + 256 * (b + 256 * (c + 256 * (d + 256 * 0)))) / 16777216 % 256 ≡ d
+fourth_byte a b c d la lb lc ld = omega (arith, la, lb, lc, ld)
+
+-- two lists of four numbers are equal if the numbers at each position are
+four_same : (x y z t a b c d : ℕ) → x ≡ a → y ≡ b → z ≡ c → t ≡ d →
+    ◌≡◌ {A = List ℕ} (x ∷ y ∷ z ∷ t ∷ []) (a ∷ b ∷ c ∷ d ∷ [])
+four_same x y z t a b c d ex ey ez et = rw (ex, ey, ez, et) refl
+
+-- the number that four bytes make, written as four little-endian bytes, is these four
+digits_back : (a b c d : ℕ) → a < 256 → b < 256 → c < 256 → d < 256 →
+    to_le_bytes w32 (a + 256 * (b + 256 * (c + 256 * (d + 256 * 0)))) ≡ a ∷ b ∷ c ∷ d ∷ []
+digits_back a b c d la lb lc ld =
+    let n = a + 256 * (b + 256 * (c + 256 * (d + 256 * 0))) in
+    four_same (n % 256) (n / 256 % 256) (n / 65536 % 256) (n / 16777216 % 256) a b c d
+    (first_byte a b c d la) (second_byte a b c d la lb) (third_byte a b c d la lb lc)
+    (fourth_byte a b c d la lb lc ld)
+
+-- the number of the first four of some bytes, written as four bytes, is these four
+four_back : (xs : List ℕ) → AreBytes xs → 4 ≤ length xs → to_le_bytes w32 (u32_at xs 0) ≡ take 4 xs
+unfolding u32_at
+four_back [] f l = absurd (omega (arith, l))
+four_back (a ∷ []) f l = absurd (omega (arith, l))
+four_back (a ∷ b ∷ []) f l = absurd (omega (arith, l))
+four_back (a ∷ b ∷ c ∷ []) f l = absurd (omega (arith, l))
+four_back (a ∷ b ∷ c ∷ d ∷ xs) f l = digits_back a b c d (f 0) (f 1) (f 2) (f 3)
+
+-- the number that four bytes make is below 2 ^ 32
+four_below : (a b c d : ℕ) → a < 256 → b < 256 → c < 256 → d < 256 →
+    a + 256 * (b + 256 * (c + 256 * (d + 256 * 0))) < 2 ^ 32
+four_below a b c d la lb lc ld = omega (arith, la, lb, lc, ld)
+
+-- the 32-bit number at any position of bytes is below 2 ^ 32
+pub u32_below : (xs : List ℕ) (at : ℕ) → AreBytes xs → u32_at xs at < 2 ^ 32
+unfolding u32_at
+u32_below xs at f = four_below (get_or xs (at + 0) 0) (get_or xs (at + 1) 0) (get_or xs (at + 2) 0)
+    (get_or xs (at + 3) 0) (f (at + 0)) (f (at + 1)) (f (at + 2)) (f (at + 3))
+
+-- if each item of a list is a byte, so is each that is left without the first ones
+drop_bytes : (xs : List ℕ) (at : ℕ) → AreBytes xs → AreBytes (drop at xs)
+drop_bytes xs at f k = let same = get_or-drop at xs k 0 in omega (arith, same, f (at + k))
+
+-- an end, as it stands in the bytes
+end_back : (bs : List ℕ) (p : ℕ) → AreBytes bs → p + 4 ≤ length bs →
+    to_le_bytes w32 (u32_at bs p) ≡ take 4 (drop p bs)
+end_back bs p f l =
+    let same : u32_at (drop p bs) 0 ≡ u32_at bs p = u32-in bs p 0 p (omega arith) in
+    ap (to_le_bytes w32) (sym same)
+    ∙ four_back (drop p bs) (drop_bytes bs p f) (omega (arith, length-drop p bs, l))
+
+-- the ends of strings stand in the bytes one after the other
+ends_from : (bs xs : List ℕ) (at n p k : ℕ) → AreBytes bs → AreEnds at n (numbers_at bs p k) → length xs ≡ n →
+    p + 4 * k ≤ length bs
+    → end_bytes at (strings_from at xs (numbers_at bs p k)) ≡ take (4 * k) (drop p bs)
+ends_from bs xs at n p zero f h l w = refl
+ends_from bs xs at n p (suc k) f h l w =
+    let e = u32_at bs p in
+    let string = slice_range xs at e in
+    let others = strings_from e xs (numbers_at bs (p + 4) k) in
+    let size : length string ≡ e - at =
+    length-between xs at e (omega (arith, ends-within e n (numbers_at bs (p + 4) k) h.1, l)) in
+    let same : end_behind at string ≡ e = omega (arith, size, h.0, u32_below bs p f) in
+    let here = end_back bs p f (omega (arith, w)) in
+    let rest = ends_from bs xs e n (p + 4) k f h.1 l (omega (arith, w)) in
+    let behind : drop 4 (drop p bs) ≡ drop (p + 4) bs = drop-drop 4 p bs in
+    let cut : take (4 + 4 * k) (drop p bs) ≡ take 4 (drop p bs) ++ take (4 * k) (drop (p + 4) bs) =
+    take-add 4 (4 * k) (drop p bs) ∙ ap (λ t. take 4 (drop p bs) ++ take (4 * k) t) behind in
+    let many : 4 + 4 * k ≡ 4 * suc k = omega arith in
+    ap (λ x. to_le_bytes w32 x ++ end_bytes x others) same ∙ ap (λ t. t ++ end_bytes e others) here
+    ∙ ap (λ t. take 4 (drop p bs) ++ t) rest ∙ sym cut
+    ∙ ap (λ m. take m (drop p bs)) many
+
+-- what identifies a dictionary identifies one with an equal count, equal ends and an equal text
+same_parts : (is_text : Bool) (n m : ℕ) (es fs xs ys : List ℕ) (id : DictionaryId) → n ≡ m → es ≡ fs →
+    xs ≡ ys → IsIdOf is_text n es xs id → IsIdOf is_text m fs ys id
+same_parts is_text n m es fs xs ys id en ee ex h =
+    let many : IsIdOf is_text m es xs id = subst (λ (x : ℕ). IsIdOf is_text x es xs id) en h in
+    let ends : IsIdOf is_text m fs xs id = subst (λ (x : List ℕ). IsIdOf is_text m x xs id) ee many in
+    subst (λ (x : List ℕ). IsIdOf is_text m fs x id) ex ends
+
+module _ (bs : List ℕ) (f : AreBytes bs) (b : IsBlock bs) where
+  pub text_is : text_section bs ≡ concat (strings bs)
+  unfolding strings
+  text_is =
+      sym (text_from 0 (length bs - text_at bs) (drop (text_at bs) bs) (ends bs) b.ends
+      (length-drop (text_at bs) bs))
+
+  pub ends_are : ends_section bs ≡ end_bytes 0 (strings bs)
+  unfolding strings
+  ends_are =
+      let within : ends_at bs + 4 * count bs ≤ length bs = omega (arith, b.sections.size) in
+      let all = ends_from bs (drop (text_at bs) bs) 0 (length bs - text_at bs) (ends_at bs) (count bs) f
+      b.ends (length-drop (text_at bs) bs) within in
+      let size : pilots_at bs - ends_at bs ≡ 4 * count bs = omega arith in
+      ap (λ m. take m (drop (ends_at bs) bs)) size ∙ sym all
+
+  pub to_strings : (is_text : Bool) (id : DictionaryId) →
+      IsIdOf is_text (count bs) (ends_section bs) (text_section bs) id → IsIdOfStrings is_text (strings bs) id
+  to_strings is_text id h =
+      let ws = strings bs in
+      same_parts is_text (count bs) (length ws) (ends_section bs) (end_bytes 0 ws) (text_section bs)
+      (concat ws) id (sym (strings_length bs)) ends_are text_is h
+
+  pub of_strings : (is_text : Bool) (id : DictionaryId) → IsIdOfStrings is_text (strings bs) id →
+      IsIdOf is_text (count bs) (ends_section bs) (text_section bs) id
+  of_strings is_text id h =
+      let ws = strings bs in
+      same_parts is_text (length ws) (count bs) (end_bytes 0 ws) (ends_section bs) (concat ws)
+      (text_section bs) id (strings_length bs) (sym ends_are) (sym text_is) h
+
+  -- if the header has the hashes of what the strings are, it says what they are
+  pub of_header : (id : DictionaryId) → IsIdOfStrings (is_text_number (kind bs)) (strings bs) id →
+      id.hash0 ≡ own0 bs → id.hash1 ≡ own1 bs → HasId bs
+  of_header id h e0 e1 =
+      let is = of_strings (is_text_number (kind bs)) id h in
+      record {
+        id = record {
+          kind = refl;
+          count = refl;
+          hash0 = sym e0 ∙ is.hash0;
+          hash1 = sym e1 ∙ is.hash1;
+        };
+      }

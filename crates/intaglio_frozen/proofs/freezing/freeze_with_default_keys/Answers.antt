@@ -1,5 +1,0 @@
-use Rattle.intaglio_frozen.proofs.freezing.freeze_with_default_keys.Goals as goal
-
-pub returns-in-None-clause-err : goal.returns-in-None-clause-err
-returns-in-None-clause-err g c =
-    (c.in_ok-check_strings.ensures.allowed, c.in_ok-bytes-2.ensures.distinct c.in-None.is)
