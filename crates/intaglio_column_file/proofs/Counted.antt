@@ -6,7 +6,7 @@ use Rattle.std.proofs.lemmas.Grind.{get_or-set_at}
 use Rattle.std.proofs.lemmas.List.Sums.{count_by_more_yes, count_by_more_no, sum_by-set}
 use Rattle.std.proofs.lemmas.Option.{slice_get_within, get_or_from_slice_get}
 use Rattle.intaglio_column_file.specs.Width.{missing}
-use Rattle.intaglio_column_file.specs.IsColumn.{AreCodes}
+use Rattle.intaglio_column_file.specs.Codes.{AreCodes}
 use Rattle.intaglio_column_file.specs.Rows.{count_of}
 
 pub record IsTally (n : ℕ) (cs : List ℕ) (i : ℕ) (counts : List ℕ) (gone : ℕ) : Type 0 where

@@ -1,4 +1,5 @@
 -- Lemmas on the bytes of a column.
+pub mod Checksums
 pub mod Codes
 pub mod Widths
 pub mod Counted
@@ -9,5 +10,3 @@ pub mod Written
 pub mod Overlaid
 pub mod Past
 pub mod Placed
-pub mod Hashed
-pub mod OfStrings

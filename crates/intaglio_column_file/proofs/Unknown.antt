@@ -4,7 +4,7 @@ use Rattle.std.proofs.lemmas.Bool.Decides.{nat_tests}
 use Rattle.std.proofs.lemmas.Bool.{cases_eq, cases_lt, false_from_ne_true, true≢false}
 use Rattle.std.proofs.lemmas.Option.{get_or_from_slice_get, slice_get-get_or, slice_get_within}
 use Rattle.intaglio_column_file.specs.Width.{missing}
-use Rattle.intaglio_column_file.specs.IsColumn.{AreCodes, IsCode, is_unknown}
+use Rattle.intaglio_column_file.specs.Codes.{AreCodes, IsCode, is_unknown}
 use Rattle.intaglio_column_file.specs.Fault.{HasNoString}
 use Rattle.intaglio_column_file.specs.Rows.{IsNextRow, rows_from, rows_past}
 

@@ -1,8 +1,8 @@
 -- How many codes fit.
-use Rattle.std.proofs.Common.{◌≡◌, ◌≢◌, ◌∙◌, inl, inr, cond, sym, ap, eq-eqb, ℕ, ◌+◌, ◌*◌, ◌<◌, ◌≤◌, ◌==◌, not, nat_le, arith}
-use Rattle.std.proofs.lemmas.Bool.{cases_eq, ne_eqb}
+use Rattle.std.proofs.Common.{◌≡◌, ◌≢◌, cond, sym, ap, eq-eqb, ℕ, ◌+◌, ◌*◌, ◌<◌, ◌≤◌, ◌==◌, not, nat_le, arith}
+use Rattle.std.proofs.lemmas.Bool.{ne_eqb}
 use Rattle.std.proofs.lemmas.Bool.Decides.{nat_tests}
-use Rattle.intaglio_column_file.specs.IsColumn.{is_unknown}
+use Rattle.intaglio_column_file.specs.Codes.{is_unknown}
 use Rattle.intaglio_column_file.specs.Layout.{widened}
 use Rattle.intaglio_column_file.specs.Width.{bytes_of, greatest, missing}
 use Rattle.intaglio_column_file.specs.declared.width.Width.{Width}

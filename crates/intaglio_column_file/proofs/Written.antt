@@ -1,5 +1,5 @@
 -- What is written of codes is a column of them.
-use Rattle.std.proofs.Common.{◌≡◌, ◌≢◌, ◌∙◌, ℕ, zero, suc, ◌+◌, ◌*◌, ◌/◌, ◌%◌, ◌^◌, ◌<◌, ◌≤◌, inl, inr, ◌⊎◌, true, false, cond, List, [], ◌∷◌, ◌++◌, length, get_or, slice_get, Some, Bool, refl, sym, ap, subst, arith, eq-eqb, length-append}
+use Rattle.std.proofs.Common.{◌≡◌, ◌≢◌, ◌∙◌, ◌==◌, ℕ, zero, suc, ◌+◌, ◌*◌, ◌/◌, ◌%◌, ◌^◌, ◌<◌, ◌≤◌, inl, inr, ◌⊎◌, true, false, cond, List, [], ◌∷◌, ◌++◌, length, get_or, slice_get, Some, Bool, refl, sym, ap, subst, arith, eq-eqb, length-append}
 use Rattle.std.proofs.lemmas.List.{append_assoc}
 use Rattle.std.specs.List.{flat_map}
 use Rattle.std.specs.Int.{w16, w32, w64, to_le_bytes, from_le_bytes}
@@ -8,12 +8,17 @@ use Rattle.std.proofs.lemmas.List.{get_or-append-add}
 use Rattle.std.proofs.lemmas.Nat.{from_le_bytes-to_le_bytes_2, from_le_bytes-to_le_bytes_4, from_le_bytes-to_le_bytes_8}
 use Rattle.intaglio_hash.specs.Push.{number}
 use Rattle.intaglio_hash.specs.Numbers.{u32_at, u64_at}
-use Rattle.intaglio_column_file.specs.Id.{kind_number}
+use Rattle.intaglio_frozen.specs.Id.{kind_number}
 use Rattle.intaglio_column_file.specs.Width.{bytes_of, greatest, missing, width_for}
-use Rattle.intaglio_column_file.specs.Layout.{code_at, codes_at, codes, widened, rows, strings, width}
-use Rattle.intaglio_column_file.specs.IsColumn.{AreCodes, Describes, IsCode, IsColumn, magic}
-use Rattle.intaglio_column_file.specs.Writing.{code_bytes, column_of, header_of}
-use Rattle.intaglio_column_file.specs.declared.id.DictionaryId.{DictionaryId}
+use Rattle.intaglio_column_file.specs.Source.{fits}
+use Rattle.intaglio_column_file.specs.Layout.{checksum_of, code_at, codes_at, codes, widened, rows, source_kind, source_of, strings, width}
+use Rattle.intaglio_column_file.specs.Codes.{AreCodes, IsCode}
+use Rattle.intaglio_column_file.specs.Fault.{HasGap}
+use Rattle.intaglio_column_file.specs.Rows.{rows_of, rows_past}
+use Rattle.intaglio_column_file.specs.IsColumn.{HasChecksum, HasRows, IsHeaderOf, IsReserved, end_of, magic}
+use Rattle.intaglio_column_file.specs.Writing.{HasRanges, code_bytes, file_of, header_for, header_of, reserved_bytes, source_bytes, start_of}
+use Rattle.intaglio_column_file.specs.declared.header.ColumnHeader.{ColumnHeader}
+use Rattle.intaglio_column_file.specs.declared.source.RowSource.{RowSource}
 use Rattle.intaglio_column_file.specs.declared.width.Width.{Width}
 use Rattle.intaglio_column_file.specs.declared.width.Width.TheVariants.{One, Two, Four}
 
@@ -158,8 +163,8 @@ width_four n m =
     let more : 0xff < n = omega (arith, m) in
     rw (lt-leb n 0xff more) (rw (lt-leb n 0xffff m) refl)
 
--- the code of one of at most 2 ^ 31 strings, or the missing one, fits the width for so many
-fits_width : (n c : ℕ) → n ≤ 2 ^ 31 → IsCode n c → Fits (width_for n) c
+-- the code of one of fewer than 2 ^ 32 strings, or the missing one, fits the width for so many
+fits_width : (n c : ℕ) → n < 2 ^ 32 → IsCode n c → Fits (width_for n) c
 fits_width n c few (inr e) = inr e
 fits_width n c few (inl l) = elim (cases_lt 0xff n) [
   | inr one ↦ fits_in n c One (width_one n one) (omega (arith, l, one))
@@ -187,115 +192,217 @@ width_small One = omega arith
 width_small Two = omega arith
 width_small Four = omega arith
 
-module _ (id : DictionaryId) (w : Width) (rows : ℕ) (rest : List ℕ) where
+-- whether a kind that was written is that of texts
+kind_back : (b : Bool) (n : ℕ) → n ≡ kind_number b → (n == 1) ≡ b
+kind_back true n e = rw e refl
+kind_back false n e = rw e refl
+
+-- a source is what its five parts are
+same_source : (a : ℕ) (b : Bool) (c d e : ℕ) (s : RowSource) → a ≡ s.shards → b ≡ s.is_text → c ≡ s.hash0 →
+    d ≡ s.hash1 → e ≡ s.shard →
+    ◌≡◌ {A = RowSource} (record { shards = a; is_text = b; hash0 = c; hash1 = d; shard = e }) s
+same_source a b c d e s ea eb ec ed ee = rw (ea, eb, ec, ed, ee) refl
+
+-- a header with this checksum
+abbrev head_of : ColumnHeader → ℕ → List ℕ
+head_of h sum = start_of h ++ to_le_bytes w64 sum ++ source_bytes h.source ++ reserved_bytes
+
+module _ (h : ColumnHeader) (sum : ℕ) (rest : List ℕ) where
   abbrev whole : List ℕ
-  whole = header_of id w rows ++ rest
+  whole = head_of h sum ++ rest
 
   magic_is : u64_at whole 0 ≡ magic
   unfolding u64_at
   magic_is = refl
 
-  version_is : u32_at whole 8 ≡ 1
+  version_is : u32_at whole 8 ≡ 2
   unfolding u32_at
   version_is = refl
 
-  kind_is : u32_at whole 12 ≡ kind_number id.is_text
+  kind_is : u32_at whole 12 ≡ kind_number h.id.is_text
   unfolding u32_at
-  kind_is = le4 (kind_number id.is_text) (omega (arith, kind_small id.is_text))
+  kind_is = le4 (kind_number h.id.is_text) (omega (arith, kind_small h.id.is_text))
 
-  hash0_is : id.hash0 < 2 ^ 64 → u64_at whole 16 ≡ id.hash0
+  hash0_is : h.id.hash0 < 2 ^ 64 → u64_at whole 16 ≡ h.id.hash0
   unfolding u64_at
-  hash0_is l = le8 id.hash0 l
+  hash0_is l = le8 h.id.hash0 l
 
-  hash1_is : id.hash1 < 2 ^ 64 → u64_at whole 24 ≡ id.hash1
+  hash1_is : h.id.hash1 < 2 ^ 64 → u64_at whole 24 ≡ h.id.hash1
   unfolding u64_at
-  hash1_is l = le8 id.hash1 l
+  hash1_is l = le8 h.id.hash1 l
 
-  strings_is : id.count < 2 ^ 64 → u64_at whole 32 ≡ id.count
+  strings_is : h.id.count < 2 ^ 64 → u64_at whole 32 ≡ h.id.count
   unfolding u64_at
-  strings_is l = le8 id.count l
+  strings_is l = le8 h.id.count l
 
-  rows_is : rows < 2 ^ 64 → u64_at whole 40 ≡ rows
+  rows_is : h.rows < 2 ^ 64 → u64_at whole 40 ≡ h.rows
   unfolding u64_at
-  rows_is l = le8 rows l
+  rows_is l = le8 h.rows l
 
-  width_is : u32_at whole 48 ≡ bytes_of w
+  width_is : u32_at whole 48 ≡ bytes_of h.width
   unfolding u32_at
-  width_is = le4 (bytes_of w) (width_small w)
+  width_is = le4 (bytes_of h.width) (width_small h.width)
 
-  reserved_is : (u32_at whole 52 ≡ 0) × (u64_at whole 56 ≡ 0)
+  shards_is : h.shards < 2 ^ 32 → u32_at whole 52 ≡ h.shards
+  unfolding u32_at
+  shards_is l = le4 h.shards l
+
+  checksum_is : sum < 2 ^ 64 → u64_at whole 56 ≡ sum
+  unfolding u64_at
+  checksum_is l = le8 sum l
+
+  from_shards_is : h.source.shards < 2 ^ 32 → u32_at whole 64 ≡ h.source.shards
+  unfolding u32_at
+  from_shards_is l = le4 h.source.shards l
+
+  from_kind_is : u32_at whole 68 ≡ kind_number h.source.is_text
+  unfolding u32_at
+  from_kind_is = le4 (kind_number h.source.is_text) (omega (arith, kind_small h.source.is_text))
+
+  from_hash0_is : h.source.hash0 < 2 ^ 64 → u64_at whole 72 ≡ h.source.hash0
+  unfolding u64_at
+  from_hash0_is l = le8 h.source.hash0 l
+
+  from_hash1_is : h.source.hash1 < 2 ^ 64 → u64_at whole 80 ≡ h.source.hash1
+  unfolding u64_at
+  from_hash1_is l = le8 h.source.hash1 l
+
+  from_shard_is : h.source.shard < 2 ^ 32 → u32_at whole 88 ≡ h.source.shard
+  unfolding u32_at
+  from_shard_is l = le4 h.source.shard l
+
+  reserved_is : IsReserved whole
   unfolding u32_at u64_at
-  reserved_is = (refl, refl)
+  reserved_is = record { at_92 = refl; at_96 = refl; at_104 = refl; at_112 = refl; at_120 = refl }
 
-  size_is : length whole ≡ 64 + length rest
-  size_is = length-append (header_of id w rows) rest
+  size_is : length whole ≡ 128 + length rest
+  size_is = length-append (head_of h sum) rest
 
-module _ (id : DictionaryId) (cs : List ℕ) (few : id.count ≤ 2 ^ 31) (h0 : id.hash0 < 2 ^ 64)
-    (h1 : id.hash1 < 2 ^ 64) (long : length cs < 2 ^ 64) (ok : AreCodes id.count cs) where
-  abbrev w : Width
-  w = width_for id.count
+  source_is : HasRanges h → source_of whole ≡ h.source
+  source_is r =
+      same_source _ _ _ _ _ h.source (from_shards_is r.from_shards)
+      (kind_back h.source.is_text (source_kind whole) from_kind_is)
+      (from_hash0_is r.from_hash0) (from_hash1_is r.from_hash1) (from_shard_is r.from_shard)
 
+  sum_is : checksum_of whole ≡ checksum_of (header_of h ++ rest)
+  sum_is = refl
+
+module _ (h : ColumnHeader) (cs : List ℕ) (wide : h.width ≡ width_for h.id.count)
+    (long : h.rows ≡ length cs) (few : h.id.count < 2 ^ 32) (r : HasRanges h)
+    (small : checksum_of (header_of h ++ flat_map (code_bytes h.width) cs) < 2 ^ 64)
+    (fit : fits h.shards h.source ≡ true) (ok : AreCodes h.id.count cs) where
   abbrev rest : List ℕ
-  rest = flat_map (code_bytes w) cs
+  rest = flat_map (code_bytes h.width) cs
 
-  abbrev n : ℕ
-  n = length cs
+  abbrev sum : ℕ
+  sum = checksum_of (header_of h ++ rest)
 
-  strings_same : strings (column_of id cs) ≡ id.count
-  strings_same = strings_is id w n rest (omega (arith, few))
+  abbrev bs : List ℕ
+  bs = head_of h sum ++ rest
 
-  width_same : width (column_of id cs) ≡ w
-  width_same = ap width_for strings_same
+  strings_same : strings bs ≡ h.id.count
+  strings_same = strings_is h sum rest (omega (arith, few))
 
-  rows_same : rows (column_of id cs) ≡ n
-  rows_same = rows_is id w n rest long
+  width_same : width bs ≡ h.width
+  width_same = ap width_for strings_same ∙ sym wide
 
-  pub codes_same : codes (column_of id cs) ≡ cs
+  rows_same : rows bs ≡ length cs
+  rows_same = rows_is h sum rest r.rows ∙ long
+
+  codes_there : codes bs ≡ cs
   unfolding codes
-  codes_same =
-      let bs = column_of id cs in
-      ap (λ v. codes_at bs v 64 (rows bs)) width_same ∙ ap (λ r. codes_at bs w 64 r) rows_same
-      ∙ codes_back w cs (header_of id w n) 64 refl (λ row code is.
-      fits_width id.count code few (ok row code is))
+  codes_there =
+      ap (λ v. codes_at bs v 128 (rows bs)) width_same ∙ ap (λ n. codes_at bs h.width 128 n) rows_same
+      ∙ codes_back h.width cs (head_of h sum) 128 refl (λ row code is.
+      subst (λ (v : Width). Fits v code) (sym wide) (fits_width h.id.count code few (ok row code is)))
 
-  size_same : length (column_of id cs) ≡ 64 + bytes_of (width (column_of id cs)) * rows (column_of id cs)
+  size_same : length bs ≡ end_of bs
   size_same =
-      let bs = column_of id cs in
-      size_is id w n rest ∙ ap (λ k. 64 + k) (codes_size w cs)
-      ∙ ap (λ v. 64 + bytes_of v * n) (sym width_same)
-      ∙ ap (λ r. 64 + bytes_of (width bs) * r) (sym rows_same)
+      size_is h sum rest ∙ ap (λ k. 128 + k) (codes_size h.width cs)
+      ∙ ap (λ v. 128 + bytes_of v * length cs) (sym width_same)
+      ∙ ap (λ n. 128 + bytes_of (width bs) * n) (sym rows_same)
 
-  pub column_same : IsColumn (column_of id cs)
-  column_same = record {
-    rows = record {
-      header = record {
+  source_there : source_of bs ≡ h.source
+  source_there = source_is h sum rest r
+
+  rows_there : HasRows bs
+  rows_there = record {
+    header = record {
+      source = record {
         width = record {
           kind = record {
             version = record {
-              long = omega (arith, size_same);
-              magic = (omega (arith, size_same), magic_is id w n rest);
-              version = version_is id w n rest;
+              magic = (omega (arith, size_same), magic_is h sum rest);
+              version = version_is h sum rest;
             };
-            kind = omega (arith, kind_is id w n rest, kind_small id.is_text);
+            long = omega (arith, size_same);
+            kind = omega (arith, kind_is h sum rest, kind_small h.id.is_text);
           };
           few = omega (arith, strings_same, few);
-          width = width_is id w n rest ∙ ap bytes_of (sym width_same);
+          width = width_is h sum rest ∙ ap bytes_of (sym width_same);
         };
-        reserved = record { first = (reserved_is id w n rest).0; second = (reserved_is id w n rest).1 };
+        kind = omega (arith, from_kind_is h sum rest, kind_small h.source.is_text);
+        fits = ap (λ n. fits n (source_of bs)) (shards_is h sum rest r.shards)
+            ∙ ap (fits h.shards) source_there ∙ fit;
       };
-      whole = size_same;
+      reserved = reserved_is h sum rest;
     };
-    codes = λ row code is.
-        subst (λ (k : ℕ). IsCode k code) (sym strings_same) (ok row code (rw codes_same at is));
+    whole = size_same;
   }
 
-  pub describes_same : Describes (column_of id cs) id
-  describes_same = record {
-    kind = sym (kind_is id w n rest);
-    count = sym strings_same;
-    hash0 = sym (hash0_is id w n rest h0);
-    hash1 = sym (hash1_is id w n rest h1);
+  checksum_there : HasChecksum bs
+  checksum_there = record {
+    rows = rows_there;
+    checksum = checksum_is h sum rest small ∙ sym (sum_is h sum rest);
   }
+
+  known_there : AreCodes (strings bs) (codes bs)
+  known_there = λ row code is.
+      subst (λ (k : ℕ). IsCode k code) (sym strings_same) (ok row code (rw codes_there at is))
+
+  header_there : IsHeaderOf bs h
+  header_there = record {
+    id = record {
+      kind = sym (kind_is h sum rest);
+      count = sym strings_same;
+      hash0 = sym (hash0_is h sum rest r.hash0);
+      hash1 = sym (hash1_is h sum rest r.hash1);
+    };
+    shards = sym (shards_is h sum rest r.shards);
+    source = sym source_there;
+    width = sym width_same;
+    rows = long ∙ sym rows_same;
+  }
+
+-- a header of codes is fixed by its dictionary and by the source of its rows
+pub same_header : (h : ColumnHeader) (cs : List ℕ) → h.width ≡ width_for h.id.count → h.rows ≡ length cs →
+    h ≡ header_for h.id h.shards h.source cs
+same_header h cs wide long = rw (← wide, ← long) refl
+
+module _ {h : ColumnHeader} (cs : List ℕ) {bytes : List ℕ} (wide : h.width ≡ width_for h.id.count) (long : h.rows ≡ length cs)
+    (fit : fits h.shards h.source ≡ true) (few : h.id.count < 2 ^ 32) (r : HasRanges h)
+    (small : checksum_of (header_of h ++ flat_map (code_bytes h.width) cs) < 2 ^ 64)
+    (ok : AreCodes h.id.count cs) (is : bytes ≡ file_of h cs) where
+  pub codes_same : codes bytes ≡ cs
+  codes_same = rw is (codes_there h cs wide long few r small fit ok)
+
+  pub checksum_same : HasChecksum bytes
+  checksum_same = rw is (checksum_there h cs wide long few r small fit ok)
+
+  pub known_same : AreCodes (strings bytes) (codes bytes)
+  known_same = rw is (known_there h cs wide long few r small fit ok)
+
+  pub header_same : IsHeaderOf bytes h
+  header_same = rw is (header_there h cs wide long few r small fit ok)
+
+  pub whole_header_same : IsHeaderOf bytes (header_for h.id h.shards h.source cs)
+  whole_header_same = rw (← same_header h cs wide long) header_same
+
+-- a row can't be missing where none is
+pub no_gap : (cs : List ℕ) (row : ℕ) → rows_of missing cs ≡ [] → HasGap cs row → ⊥
+no_gap cs row none gap =
+    let off : row ∷ rows_past (λ code. code == missing) (row + 1) cs ≡ [] = sym gap.first ∙ none in
+    cc
 
 -- nine parts that were added one by one
 pub nine_parts : (o a b c d e f g h i : List ℕ) (x1 x2 x3 x4 x5 x6 x7 x8 x9 : List ℕ) → x1 ≡ o ++ a →

@@ -1,7 +1,7 @@
 -- What a list of codes says of its rows.
 use Rattle.std.specs.Prelude.{◌≡◌, ℕ, ◌+◌, ◌<◌, ◌≤◌, ◌==◌, cond, true, drop, MatchOption, Option, Bool, List, [], ◌∷◌, count_by, get_or, length, sum}
 use Rattle.intaglio_column_file.specs.Width.{missing}
-use Rattle.intaglio_column_file.specs.IsColumn.{AreCodes}
+use Rattle.intaglio_column_file.specs.Codes.{AreCodes}
 
 -- the rows whose codes pass a test, where the first row has this number
 abbrev pub rows_from : (ℕ → Bool) → ℕ → List ℕ → List ℕ

@@ -3,7 +3,7 @@ ghost use Rattle.std.specs.Prelude.{◌≡◌, ◌==◌, ◌+◌, ◌≤◌, ℕ
 ghost use Rattle.intaglio_hash.specs.Push.{number};
 ghost use Rattle.intaglio_column_file.specs.Width.{bytes_of, greatest};
 ghost use Rattle.intaglio_column_file.specs.Layout.{code_at, widened};
-ghost use Rattle.intaglio_column_file.specs.IsColumn.{is_unknown};
+ghost use Rattle.intaglio_column_file.specs.Codes.{is_unknown};
 ghost use Rattle.intaglio_column_file.specs.declared.width.Width.{Width};
 ghost use Rattle.intaglio_column_file.specs.declared.width.Width.TheVariants.{Four, One, Two};
 

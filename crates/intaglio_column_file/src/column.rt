@@ -1,23 +1,25 @@
 //! A column.
-ghost use Rattle.std.specs.Prelude.{◌≡◌, ◌^◌, ◌<◌, ◌≤◌, length, slice_get, IfErr, IfOk, IsOk, MatchOption, get_or};
-ghost use Rattle.intaglio_column_file.specs.Layout.{codes, rows as rows_of, strings, width as width_of};
-ghost use Rattle.intaglio_column_file.specs.IsColumn.{AreCodes, Describes, HasHeader, HasRows, IsColumn};
-ghost use Rattle.intaglio_column_file.specs.Fault.{HasNoString, IsFault};
+ghost use Rattle.std.specs.Prelude.{◌≡◌, ◌≢◌, ◌^◌, ◌<◌, ◌≤◌, length, slice_get, IfErr, IfOk, IsOk, MatchOption, get_or};
+ghost use Rattle.intaglio_column_file.specs.Codes.{AreCodes};
+ghost use Rattle.intaglio_column_file.specs.Layout.{codes, rows as rows_of, source_of, strings, width as width_of};
+ghost use Rattle.intaglio_column_file.specs.IsColumn.{Describes, HasHeader, HasRows, IsColumn, IsFull, IsHeaderOf};
+ghost use Rattle.intaglio_column_file.specs.Fault.{HasGap, HasNoString, IsFault};
 
-use crate::code::Code;
+use crate::checksum::checksum_of;
+use crate::code::{Code, MISSING};
 use crate::error::ColumnError;
 use crate::header::{ColumnHeader, HEADER};
-use crate::id::DictionaryId;
 use crate::testing::{CodeTest, IsUnknown};
 use crate::width::Width;
+use intaglio_frozen::DictionaryId;
+use intaglio_hash::numbers::read_u64;
 use std::marker::Model;
 
 /// A column: a list of codes, and which dictionary they belong to. A contract sees its bytes.
 #[derive(Drop)]
 pub struct Column<'a> {
     bytes: &'a [u8],
-    id: DictionaryId,
-    width: Width,
+    header: ColumnHeader,
     rows: usize,
 }
 
@@ -33,7 +35,7 @@ impl<'a> Model for Column<'a> {
 }
 
 impl<'a> Column<'a> {
-    /// The column in these bytes, after a check of the header and of each code.
+    /// The column in these bytes, after a check of the header, of the checksum and of each code.
     ///
     /// # Errors
     ///
@@ -45,14 +47,20 @@ impl<'a> Column<'a> {
         ensures err { IfErr result (IsFault bytes.now) }
     {
         let column = Column::open_trusted(bytes)?;
-        match column.first_fault() {
-            Some(row) => Err(ColumnError::NoString(row as u64)),
+        if checksum_of(bytes) != read_u64(bytes, 56) {
+            return Err(ColumnError::Damaged);
+        }
+        if let Some(row) = column.first_fault() {
+            return Err(ColumnError::NoString(row as u64));
+        }
+        match column.first_gap() {
+            Some(row) => Err(ColumnError::Missing(row as u64)),
             None => Ok(column),
         }
     }
 
     /// The column in these bytes, after a check of the header and of how many bytes there are: then a code
-    /// may be that of no string. Nothing behind the header is read.
+    /// may be that of no string, and the checksum another. Nothing behind the header is read.
     ///
     /// # Errors
     ///
@@ -67,8 +75,7 @@ impl<'a> Column<'a> {
         let rows = rows_within(bytes, header.width, header.rows)?;
         Ok(Column {
             bytes,
-            id: header.id,
-            width: header.width,
+            header,
             rows,
         })
     }
@@ -78,23 +85,30 @@ impl<'a> Column<'a> {
     pub fn len(&self) -> usize
         ensures count { result ≡ rows_of self.now }
         ensures length { result ≡ length (codes self.now) }
-        ensures few { strings self.now ≤ 2 ^ 31 }
+        ensures few { strings self.now < 2 ^ 32 }
     {
         self.rows
+    }
+
+    /// What the header says.
+    pub fn header(&self) -> ColumnHeader
+        ensures { IsHeaderOf self.now result }
+    {
+        self.header
     }
 
     /// The dictionary of the column.
     pub fn id(&self) -> DictionaryId
         ensures { Describes self.now result }
     {
-        self.id
+        self.header.id
     }
 
     /// How many bytes a code has.
     pub fn width(&self) -> Width
         ensures { result ≡ width_of self.now }
     {
-        self.width
+        self.header.width
     }
 
     /// The code of a row, counted from 0: a symbol, or [`MISSING`]. If the bytes were
@@ -106,7 +120,7 @@ impl<'a> Column<'a> {
         if row >= self.rows {
             return None;
         }
-        match self.width {
+        match self.header.width {
             Width::One => Some(self.read::<u8>(row)),
             Width::Two => Some(self.read::<u16>(row)),
             Width::Four => Some(self.read::<u32>(row)),
@@ -138,7 +152,7 @@ impl<'a> Column<'a> {
         ensures { let n = strings self.now in
             MatchOption result (AreCodes n (codes self.now)) (HasNoString n (codes self.now)) }
     {
-        match self.width {
+        match self.header.width {
             Width::One => self.first_unknown::<u8>(),
             Width::Two => self.first_unknown::<u16>(),
             Width::Four => self.first_unknown::<u32>(),
@@ -150,8 +164,19 @@ impl<'a> Column<'a> {
         ensures { let n = strings self.now in
             MatchOption result (AreCodes n (codes self.now)) (HasNoString n (codes self.now)) }
     {
-        let strings = C::of(self.id.count);
+        let strings = C::of(self.header.id.count);
         self.next_row::<C, IsUnknown<C>>(&IsUnknown { strings }, 0)
+    }
+
+    // The first row that is missing, if the rows come from a dictionary.
+    pub(crate) fn first_gap(&self) -> Option<usize>
+        ensures { MatchOption result (IsFull self.now)
+            (λ row. ((source_of self.now).shards ≢ 0) × HasGap (codes self.now) row) }
+    {
+        if self.header.source.shards == 0 {
+            return None;
+        }
+        self.next_row_of(MISSING, 0)
     }
 }
 

@@ -2,6 +2,7 @@
 //! header that says which dictionary.
 #![tactic(auto)]
 
+mod checksum;
 mod code;
 mod column;
 mod copying;
@@ -9,13 +10,10 @@ mod counting;
 mod error;
 mod filter;
 mod header;
-mod id;
-mod identity;
-pub mod laws;
 mod list;
 mod scanning;
 mod selecting;
-mod strings;
+mod source;
 mod testing;
 mod width;
 mod writing;
@@ -26,8 +24,8 @@ pub use counting::Counts;
 pub use error::{ColumnError, ColumnWriteError};
 pub use filter::RowFilter;
 pub use header::{ColumnHeader, HEADER, begins_as_column};
-pub use id::DictionaryId;
-pub use identity::id_of_table;
+pub use intaglio_frozen::{DictionaryId, id_of_table};
 pub use list::CodeList;
+pub use source::RowSource;
 pub use width::Width;
-pub use writing::{column_bytes, header_bytes};
+pub use writing::{column_bytes, header_bytes, sourced_column_bytes};

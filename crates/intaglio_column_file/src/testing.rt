@@ -2,7 +2,7 @@
 ghost use Rattle.std.specs.Prelude.{◌≡◌, ◌==◌, ◌+◌, ◌≤◌, ℕ, Bool, length};
 ghost use Rattle.intaglio_column_file.specs.Width.{bytes_of};
 ghost use Rattle.intaglio_column_file.specs.Layout.{code_at, widened};
-ghost use Rattle.intaglio_column_file.specs.IsColumn.{is_unknown};
+ghost use Rattle.intaglio_column_file.specs.Codes.{is_unknown};
 ghost use Rattle.intaglio_column_file.specs.Filter.{selects};
 
 use crate::code::Code;

@@ -1,7 +1,7 @@
 //! Column files of each width, whole and damaged.
 use intaglio_column_file::{
-    Column, ColumnError, ColumnHeader, ColumnWriteError, DictionaryId, MISSING, Width,
-    begins_as_column, column_bytes, header_bytes,
+    Column, ColumnError, ColumnHeader, ColumnWriteError, DictionaryId, MISSING, RowSource, Width,
+    begins_as_column, column_bytes, header_bytes, sourced_column_bytes,
 };
 use intaglio_symbol::Symbol;
 use std::alloc::AllocError;
@@ -9,10 +9,12 @@ use std::process::Abort;
 
 // The column of the codes 0, 2, 2, missing, 1 under the dictionary of `abc`, the empty string and `xy`, as
 // `checks/formats.py` writes it.
-const COLUMN: [u8; 69] = [
-    73, 78, 84, 137, 67, 79, 76, 10, 1, 0, 0, 0, 0, 0, 0, 0, 248, 104, 127, 193, 74, 28, 227, 176,
+const COLUMN: [u8; 133] = [
+    73, 78, 84, 137, 67, 79, 76, 10, 2, 0, 0, 0, 0, 0, 0, 0, 248, 104, 127, 193, 74, 28, 227, 176,
     246, 76, 199, 177, 197, 138, 104, 50, 3, 0, 0, 0, 0, 0, 0, 0, 5, 0, 0, 0, 0, 0, 0, 0, 1, 0, 0,
-    0, 0, 0, 0, 0, 0, 0, 0, 0, 0, 0, 0, 0, 0, 2, 2, 255, 1,
+    0, 1, 0, 0, 0, 107, 73, 211, 189, 29, 53, 107, 150, 0, 0, 0, 0, 0, 0, 0, 0, 0, 0, 0, 0, 0, 0,
+    0, 0, 0, 0, 0, 0, 0, 0, 0, 0, 0, 0, 0, 0, 0, 0, 0, 0, 0, 0, 0, 0, 0, 0, 0, 0, 0, 0, 0, 0, 0, 0,
+    0, 0, 0, 0, 0, 0, 0, 0, 0, 0, 0, 0, 0, 0, 0, 0, 0, 0, 0, 2, 2, 255, 1,
 ];
 
 const ID: DictionaryId = DictionaryId {
@@ -23,24 +25,71 @@ const ID: DictionaryId = DictionaryId {
 };
 
 // As it writes columns under dictionaries of 256 and of 65,536 texts, whose hashes are given as 5 and 6.
-const TWO: [u8; 70] = [
-    73, 78, 84, 137, 67, 79, 76, 10, 1, 0, 0, 0, 1, 0, 0, 0, 5, 0, 0, 0, 0, 0, 0, 0, 6, 0, 0, 0, 0,
-    0, 0, 0, 0, 1, 0, 0, 0, 0, 0, 0, 3, 0, 0, 0, 0, 0, 0, 0, 2, 0, 0, 0, 0, 0, 0, 0, 0, 0, 0, 0, 0,
-    0, 0, 0, 255, 0, 255, 255, 1, 0,
+const TWO: [u8; 134] = [
+    73, 78, 84, 137, 67, 79, 76, 10, 2, 0, 0, 0, 1, 0, 0, 0, 5, 0, 0, 0, 0, 0, 0, 0, 6, 0, 0, 0, 0,
+    0, 0, 0, 0, 1, 0, 0, 0, 0, 0, 0, 3, 0, 0, 0, 0, 0, 0, 0, 2, 0, 0, 0, 1, 0, 0, 0, 49, 212, 84,
+    30, 224, 78, 56, 227, 0, 0, 0, 0, 0, 0, 0, 0, 0, 0, 0, 0, 0, 0, 0, 0, 0, 0, 0, 0, 0, 0, 0, 0,
+    0, 0, 0, 0, 0, 0, 0, 0, 0, 0, 0, 0, 0, 0, 0, 0, 0, 0, 0, 0, 0, 0, 0, 0, 0, 0, 0, 0, 0, 0, 0, 0,
+    0, 0, 0, 0, 0, 0, 0, 0, 255, 0, 255, 255, 1, 0,
 ];
 
-const FOUR: [u8; 72] = [
-    73, 78, 84, 137, 67, 79, 76, 10, 1, 0, 0, 0, 1, 0, 0, 0, 5, 0, 0, 0, 0, 0, 0, 0, 6, 0, 0, 0, 0,
-    0, 0, 0, 0, 0, 1, 0, 0, 0, 0, 0, 2, 0, 0, 0, 0, 0, 0, 0, 4, 0, 0, 0, 0, 0, 0, 0, 0, 0, 0, 0, 0,
-    0, 0, 0, 255, 255, 0, 0, 255, 255, 255, 255,
+const FOUR: [u8; 136] = [
+    73, 78, 84, 137, 67, 79, 76, 10, 2, 0, 0, 0, 1, 0, 0, 0, 5, 0, 0, 0, 0, 0, 0, 0, 6, 0, 0, 0, 0,
+    0, 0, 0, 0, 0, 1, 0, 0, 0, 0, 0, 2, 0, 0, 0, 0, 0, 0, 0, 4, 0, 0, 0, 1, 0, 0, 0, 236, 141, 151,
+    98, 9, 56, 9, 115, 0, 0, 0, 0, 0, 0, 0, 0, 0, 0, 0, 0, 0, 0, 0, 0, 0, 0, 0, 0, 0, 0, 0, 0, 0,
+    0, 0, 0, 0, 0, 0, 0, 0, 0, 0, 0, 0, 0, 0, 0, 0, 0, 0, 0, 0, 0, 0, 0, 0, 0, 0, 0, 0, 0, 0, 0, 0,
+    0, 0, 0, 0, 0, 0, 0, 255, 255, 0, 0, 255, 255, 255, 255,
 ];
+
+// As it writes the map from a dictionary of texts in one file, and that of the last of three shards, whose hashes are
+// given as 7 and 8.
+const MAP: [u8; 130] = [
+    73, 78, 84, 137, 67, 79, 76, 10, 2, 0, 0, 0, 0, 0, 0, 0, 248, 104, 127, 193, 74, 28, 227, 176,
+    246, 76, 199, 177, 197, 138, 104, 50, 3, 0, 0, 0, 0, 0, 0, 0, 2, 0, 0, 0, 0, 0, 0, 0, 1, 0, 0,
+    0, 1, 0, 0, 0, 103, 38, 79, 212, 56, 1, 190, 7, 1, 0, 0, 0, 1, 0, 0, 0, 7, 0, 0, 0, 0, 0, 0, 0,
+    8, 0, 0, 0, 0, 0, 0, 0, 0, 0, 0, 0, 0, 0, 0, 0, 0, 0, 0, 0, 0, 0, 0, 0, 0, 0, 0, 0, 0, 0, 0, 0,
+    0, 0, 0, 0, 0, 0, 0, 0, 0, 0, 0, 0, 0, 0, 0, 0, 2, 0,
+];
+
+const SHARD: [u8; 130] = [
+    73, 78, 84, 137, 67, 79, 76, 10, 2, 0, 0, 0, 0, 0, 0, 0, 248, 104, 127, 193, 74, 28, 227, 176,
+    246, 76, 199, 177, 197, 138, 104, 50, 3, 0, 0, 0, 0, 0, 0, 0, 2, 0, 0, 0, 0, 0, 0, 0, 1, 0, 0,
+    0, 3, 0, 0, 0, 107, 119, 184, 107, 239, 124, 16, 226, 3, 0, 0, 0, 1, 0, 0, 0, 7, 0, 0, 0, 0, 0,
+    0, 0, 8, 0, 0, 0, 0, 0, 0, 0, 2, 0, 0, 0, 0, 0, 0, 0, 0, 0, 0, 0, 0, 0, 0, 0, 0, 0, 0, 0, 0, 0,
+    0, 0, 0, 0, 0, 0, 0, 0, 0, 0, 0, 0, 0, 0, 0, 0, 0, 0, 2, 0,
+];
+
+// As it writes a column with a code that is no symbol, and a map with a missing code.
+const NO_STRING: [u8; 131] = [
+    73, 78, 84, 137, 67, 79, 76, 10, 2, 0, 0, 0, 0, 0, 0, 0, 248, 104, 127, 193, 74, 28, 227, 176,
+    246, 76, 199, 177, 197, 138, 104, 50, 3, 0, 0, 0, 0, 0, 0, 0, 3, 0, 0, 0, 0, 0, 0, 0, 1, 0, 0,
+    0, 1, 0, 0, 0, 197, 10, 12, 167, 237, 253, 106, 207, 0, 0, 0, 0, 0, 0, 0, 0, 0, 0, 0, 0, 0, 0,
+    0, 0, 0, 0, 0, 0, 0, 0, 0, 0, 0, 0, 0, 0, 0, 0, 0, 0, 0, 0, 0, 0, 0, 0, 0, 0, 0, 0, 0, 0, 0, 0,
+    0, 0, 0, 0, 0, 0, 0, 0, 0, 0, 0, 0, 0, 0, 0, 0, 0, 0, 0, 1, 3,
+];
+
+const MISSING_ROW: [u8; 130] = [
+    73, 78, 84, 137, 67, 79, 76, 10, 2, 0, 0, 0, 0, 0, 0, 0, 248, 104, 127, 193, 74, 28, 227, 176,
+    246, 76, 199, 177, 197, 138, 104, 50, 3, 0, 0, 0, 0, 0, 0, 0, 2, 0, 0, 0, 0, 0, 0, 0, 1, 0, 0,
+    0, 1, 0, 0, 0, 54, 201, 222, 236, 61, 174, 250, 173, 1, 0, 0, 0, 1, 0, 0, 0, 7, 0, 0, 0, 0, 0,
+    0, 0, 8, 0, 0, 0, 0, 0, 0, 0, 0, 0, 0, 0, 0, 0, 0, 0, 0, 0, 0, 0, 0, 0, 0, 0, 0, 0, 0, 0, 0, 0,
+    0, 0, 0, 0, 0, 0, 0, 0, 0, 0, 0, 0, 0, 0, 0, 0, 0, 0, 0, 255,
+];
+
+const SOURCE: RowSource = RowSource {
+    shards: 1,
+    is_text: true,
+    hash0: 7,
+    hash1: 8,
+    shard: 0,
+};
 
 fn opened<'a>(rt: &impl Abort, bytes: &'a [u8]) -> Column<'a> {
     Column::open(bytes).expect(rt, "no column")
 }
 
 // The column with one byte changed.
-fn changed(at: usize, byte: u8) -> [u8; 69] {
+fn changed(at: usize, byte: u8) -> [u8; 133] {
     let mut bytes = COLUMN;
     if at < bytes.len() {
         bytes[at] = byte;
@@ -103,38 +152,73 @@ fn wider_columns_are_written_as_another_writer_does(rt: HostRuntime) {
 #[test]
 fn each_fault_of_a_column_is_named(rt: HostRuntime) {
     assert!(&rt; fault(&COLUMN).is_none());
-    assert!(&rt; fault(&COLUMN[..7]) == Some(ColumnError::Magic));
+    assert!(&rt; fault(&COLUMN[..11]) == Some(ColumnError::Magic));
     assert!(&rt; fault(&changed(3, 0)) == Some(ColumnError::Magic));
-    assert!(&rt; fault(&COLUMN[..63]) == Some(ColumnError::Header));
-    assert!(&rt; fault(&changed(8, 2)) == Some(ColumnError::Version));
+    assert!(&rt; fault(&changed(8, 1)) == Some(ColumnError::OldVersion));
+    assert!(&rt; fault(&changed(11, 1)[..12]) == Some(ColumnError::Version));
+    assert!(&rt; fault(&COLUMN[..12]) == Some(ColumnError::Header));
+    assert!(&rt; fault(&COLUMN[..127]) == Some(ColumnError::Header));
     assert!(&rt; fault(&changed(12, 2)) == Some(ColumnError::Kind));
     assert!(&rt; fault(&changed(36, 1)) == Some(ColumnError::TooMany));
     assert!(&rt; fault(&changed(48, 2)) == Some(ColumnError::Width));
     assert!(&rt; fault(&changed(33, 1)) == Some(ColumnError::Width));
-    assert!(&rt; fault(&changed(52, 1)) == Some(ColumnError::Reserved));
-    assert!(&rt; fault(&changed(63, 1)) == Some(ColumnError::Reserved));
+    assert!(&rt; fault(&changed(52, 0)) == Some(ColumnError::Source));
+    assert!(&rt; fault(&changed(72, 1)) == Some(ColumnError::Source));
+    assert!(&rt; fault(&changed(92, 1)) == Some(ColumnError::Reserved));
+    assert!(&rt; fault(&changed(127, 1)) == Some(ColumnError::Reserved));
 }
 
 #[test]
 fn rows_and_codes_that_are_wrong_are_named(rt: HostRuntime) {
-    assert!(&rt; fault(&COLUMN[..68]) == Some(ColumnError::Truncated));
+    assert!(&rt; fault(&COLUMN[..132]) == Some(ColumnError::Truncated));
     assert!(&rt; fault(&changed(40, 6)) == Some(ColumnError::Truncated));
     assert!(&rt; fault(&changed(47, 128)) == Some(ColumnError::Truncated));
     assert!(&rt; fault(&changed(40, 4)) == Some(ColumnError::TooLong));
-    assert!(&rt; fault(&TWO[..69]) == Some(ColumnError::Truncated));
-    assert!(&rt; fault(&changed(66, 3)) == Some(ColumnError::NoString(2)));
-    assert!(&rt; fault(&changed(68, 254)) == Some(ColumnError::NoString(4)));
+    assert!(&rt; fault(&TWO[..133]) == Some(ColumnError::Truncated));
+    assert!(&rt; fault(&changed(16, 0)) == Some(ColumnError::Damaged));
+    assert!(&rt; fault(&changed(63, 0)) == Some(ColumnError::Damaged));
+    assert!(&rt; fault(&changed(132, 2)) == Some(ColumnError::Damaged));
+    assert!(&rt; fault(&NO_STRING) == Some(ColumnError::NoString(2)));
+    assert!(&rt; fault(&MISSING_ROW) == Some(ColumnError::Missing(1)));
+}
+
+#[test]
+fn a_source_fits_the_shards_of_a_dictionary(rt: HostRuntime) {
+    let mut source = SOURCE;
+    assert!(&rt; source.fits(1) && source.fits(3) && !source.fits(0));
+    assert!(&rt; RowSource::LINES.fits(1) && RowSource::LINES.fits(3) && !RowSource::LINES.fits(0));
+    source.shard = 1;
+    assert!(&rt; !source.fits(1));
+    source.shards = 3;
+    assert!(&rt; source.fits(3) && !source.fits(1) && !source.fits(2));
+    source.shards = 0;
+    assert!(&rt; !source.fits(3));
+}
+
+#[test]
+fn maps_are_columns(rt: HostRuntime) {
+    let codes = [2u32, 0];
+    let bytes = sourced_column_bytes(rt.alloc(), ID, 1, SOURCE, &codes.as_slice());
+    assert!(&rt; bytes.expect(&rt, "no map").as_slice() == MAP.as_slice());
+    let map = opened(&rt, &MAP).header();
+    assert!(&rt; map.source == SOURCE && map.shards == 1 && map.rows == 2);
+    let shard = opened(&rt, &SHARD).header();
+    assert!(&rt; shard.source.shards == 3 && shard.source.shard == 2 && shard.shards == 3);
+    assert!(&rt; opened(&rt, &COLUMN).header().source == RowSource::LINES);
+    let codes = [0, MISSING];
+    let refused = sourced_column_bytes(rt.alloc(), ID, 1, SOURCE, &codes.as_slice()).err();
+    assert!(&rt; refused == Some(ColumnWriteError::Missing(1)));
 }
 
 #[test]
 fn trusted_codes_are_read_as_they_are(rt: HostRuntime) {
-    let bytes = changed(66, 3);
+    let bytes = changed(130, 3);
     let column = Column::open_trusted(&bytes).expect(&rt, "no column");
     assert_eq!(&rt; column.code(2), Some(3));
     let counts = column.counts(rt.alloc()).expect(&rt, "memory");
     assert!(&rt; counts.of.as_slice() == [1, 1, 1].as_slice());
     assert_eq!(&rt; counts.missing, 1);
-    assert!(&rt; Column::open_trusted(&COLUMN[..68]).is_err());
+    assert!(&rt; Column::open_trusted(&COLUMN[..132]).is_err());
 }
 
 #[test]
@@ -218,7 +302,8 @@ fn a_filter_of_one_string_has_its_code(rt: HostRuntime) {
 fn a_header_has_the_bytes_that_were_read(rt: HostRuntime) {
     let header = ColumnHeader::read(&TWO).expect(&rt, "no header");
     let bytes = header_bytes(rt.alloc(), header).expect(&rt, "memory");
-    assert!(&rt; bytes.as_slice() == &TWO[..64]);
+    assert!(&rt; &bytes[..56] == &TWO[..56]);
+    assert!(&rt; &bytes[64..] == &TWO[64..128]);
 }
 
 #[test]
@@ -263,7 +348,7 @@ fn codes_without_a_string_make_no_column(rt: HostRuntime) {
     let refused = column_bytes(rt.alloc(), ID, &codes.as_slice()).err();
     assert!(&rt; refused == Some(ColumnWriteError::NoString(1)));
     let mut many = ID;
-    many.count = (1 << 31) + 1;
+    many.count = 1 << 32;
     let refused = column_bytes(rt.alloc(), many, &codes.as_slice()).err();
     assert!(&rt; refused == Some(ColumnWriteError::TooMany));
 }
@@ -278,13 +363,11 @@ fn a_dictionary_has_the_hashes_that_another_writer_has(rt: HostRuntime) {
 }
 
 #[test]
-fn shards_have_the_id_of_one_dictionary(rt: HostRuntime) -> Result<(), AllocError> {
-    let (mut first, mut second) = (Vec::new(rt.alloc()), Vec::new(rt.alloc()));
-    let none: Vec<&[u8]> = Vec::new(rt.alloc());
-    first.push(b"abc".as_slice())?;
-    second.push(b"".as_slice())?;
-    second.push(b"xy".as_slice())?;
-    let lists = [none, first, second];
-    assert!(&rt; DictionaryId::of_lists(false, 3, &lists) == ID);
+fn a_list_has_the_id_of_its_dictionary(rt: HostRuntime) -> Result<(), AllocError> {
+    let mut strings = Vec::new(rt.alloc());
+    for string in &["abc", "", "xy"] {
+        strings.push(string.as_bytes())?;
+    }
+    assert!(&rt; DictionaryId::of_list(false, &strings) == ID);
     Ok(())
 }

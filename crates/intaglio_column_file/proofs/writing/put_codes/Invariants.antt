@@ -1,7 +1,7 @@
 -- The codes so far were added, and are symbols or missing.
 use Rattle.std.proofs.Common.{◌≡◌, ◌++◌, take}
 use Rattle.std.specs.List.{flat_map}
-use Rattle.intaglio_column_file.specs.IsColumn.{AreCodesBefore}
+use Rattle.intaglio_column_file.specs.Codes.{AreCodesBefore}
 use Rattle.intaglio_column_file.specs.Writing.{code_bytes}
 use Rattle.intaglio_column_file.proofs.writing.put_codes.Given as goal
 

@@ -1,6 +1,6 @@
 -- What isn't below the number of strings is unknown, unless it is the greatest code.
-use Rattle.std.proofs.Common.{◌∙◌, ◌==◌, ℕ, ap, not, refl, sym, arith}
-use Rattle.intaglio_column_file.specs.IsColumn.{is_unknown}
+use Rattle.std.proofs.Common.{◌∙◌, ap, refl, arith}
+use Rattle.intaglio_column_file.specs.Codes.{is_unknown}
 use Rattle.intaglio_column_file.specs.Layout.{widened}
 use Rattle.intaglio_column_file.proofs.Codes.{code_is}
 use Rattle.intaglio_column_file.proofs.Widths.{unknown_above, unknown_below}

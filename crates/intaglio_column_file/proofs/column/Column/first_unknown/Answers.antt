@@ -6,6 +6,6 @@ use Rattle.intaglio_column_file.proofs.column.Column.first_unknown.Goals as goal
 pub returns : goal.returns
 returns g c =
     let bs = c.args.self.now in
-    let count : c.self.inside.id.count ≡ strings bs = rw (← c.self.view_is) c.self.invariant.id.count in
+    let count : c.self.inside.header.id.count ≡ strings bs = rw (← c.self.view_is) c.self.invariant.header.id.count in
     first_of_unknown (strings bs) _ (codes bs) c.next_row.result (c.of-strings.ensures
     ∙ count) c.next_row.ensures

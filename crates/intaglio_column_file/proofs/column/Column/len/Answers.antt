@@ -7,4 +7,4 @@ returns-clause-length c =
     rw (← c.self.view_is) (c.self.invariant.rows ∙ sym (all_length c.self.inside.bytes.now))
 
 pub returns-clause-few : goal.returns-clause-few
-returns-clause-few c = rw (← c.self.view_is) c.self.invariant.whole.header.width.few
+returns-clause-few c = rw (← c.self.view_is) c.self.invariant.whole.header.source.width.few

@@ -1,5 +1,5 @@
 use Rattle.intaglio_column_file.proofs.Written.{nine_parts}
-use Rattle.intaglio_column_file.proofs.writing.put_header.Goals as goal
+use Rattle.intaglio_column_file.proofs.writing.put_start.Goals as goal
 
 pub returns : goal.returns
 returns c =
@@ -8,4 +8,4 @@ returns c =
     nine_parts _ _ _ _ _ _ _ _ _ _ _ _ _ _ _ _ _ _ _ c.in_ok-put_u64.ensures c.in_ok-put_u32.ensures kind
     c.in_ok-put_u64-2.ensures
     c.in_ok-put_u64-3.ensures c.in_ok-put_u64-4.ensures c.in_ok-put_u64-5.ensures width
-    c.in_ok-put_reserved.ensures
+    c.in_ok-put_u32-4.ensures

@@ -1,9 +1,0 @@
--- What the other strings write.
-use Rattle.std.proofs.Common.{◌≡◌, drop}
-use Rattle.std.specs.List.{concat}
-use Rattle.std.specs.Hash.DefaultHasher.{write}
-use Rattle.intaglio_column_file.proofs.strings.write_texts.Given as goal
-
-abbrev pub invariant-loop-place : goal.invariant-loop-place
-invariant-loop-place g l = let ws = g.L.StringList.strings l.list in
-    write l.hasher (concat (drop l.place ws)) ≡ write l.initial.hasher (concat ws)
