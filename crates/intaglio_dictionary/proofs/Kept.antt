@@ -1,5 +1,5 @@
 -- Codes by a map keep their lines.
-use Rattle.std.proofs.Common.{◌≡◌, ◌∙◌, ℕ, suc, ◌^◌, ◌≤◌, inl, inr, cond, List, [], ◌∷◌, ◌++◌, length, get_or, Option, Some, unwrap_or, refl, sym, ap, arith, eq-eqb}
+use Rattle.std.proofs.Common.{◌≡◌, ◌∙◌, ℕ, suc, ◌^◌, ◌<◌, ◌≤◌, inl, inr, cond, List, [], ◌∷◌, ◌++◌, length, get_or, Option, Some, unwrap_or, refl, sym, ap, arith, eq-eqb}
 use Rattle.std.specs.List.{flat_map, slice_get}
 use Rattle.std.proofs.lemmas.Bool.{ne_eqb}
 use Rattle.std.proofs.lemmas.List.{get_or_past, length-map}
@@ -7,12 +7,12 @@ use Rattle.std.proofs.lemmas.Option.{get_or_from_slice_get, slice_get-get_or, sl
 use Rattle.intaglio_lines.specs.Output.{spelling_line}
 use Rattle.intaglio_merge.specs.Merging.{IsMap, missing, renumber}
 use Rattle.intaglio_merge.proofs.Renumbered.{same-string}
-use Rattle.intaglio_column_file.specs.IsColumn.{AreCodes, IsCode}
+use Rattle.intaglio_column_file.specs.Codes.{AreCodes, IsCode}
 use Rattle.intaglio_dictionary.specs.Rows.{code_line, string_at}
 
 module _ (old new : List (List ℕ)) (text : Option (List ℕ)) (numbers : List ℕ) (n : ℕ)
     (is : IsMap old new numbers) (few : length new ≤ missing) (long : length numbers ≡ n)
-    (small : n ≤ 2 ^ 31) where
+    (small : n < 2 ^ 32) where
   as_long : length old ≡ n
   as_long = sym (length-map old (λ (w : List ℕ). Some w)) ∙ sym (ap length is)
       ∙ length-map numbers (λ (c : ℕ). slice_get new c) ∙ long

@@ -6,13 +6,12 @@ pub mod Found
 pub mod Translated
 pub mod Coded
 pub mod Counted
+pub mod Agreed
 pub mod Cut
 pub mod Marked
 pub mod Ranged
 pub mod Ranked
-pub mod Indexed
-pub mod Merged
+pub mod Shared
 pub mod Kept
 pub mod Owned
-pub mod Mapped
 pub mod Interned

@@ -5,12 +5,7 @@ use Rattle.std.proofs.lemmas.Bool.{eqb-true, eq-eqb}
 use Rattle.intaglio_merge.specs.Merging.{union}
 use Rattle.intaglio_merge.specs.Shards.{BelongTo, shard_of}
 use Rattle.intaglio_merge.proofs.Filtered.{filter-union}
-use Rattle.intaglio_dictionary.specs.Frozen.{IsMergingRefusal, IsUnionRefusal}
 use Rattle.intaglio_dictionary.specs.ShardMerging.{AreOwn}
-use Rattle.intaglio_dictionary.specs.declared.error.FreezingError.{FreezingError}
-use Rattle.intaglio_dictionary.specs.declared.error.FreezingError.TheVariants.{NotUtf8, Table, Stream}
-use Rattle.intaglio_frozen.specs.declared.kind.Kind.{Kind}
-use Rattle.intaglio_lines.specs.StreamError.{IsWritingError}
 
 module _ (p : List ℕ → Bool) where
   -- if all strings pass, those that pass are all
@@ -51,10 +46,3 @@ own-union count number parts own i w at =
     let all : filter p (union parts) ≡ union parts = filter-union p parts ∙ ap union each in
     eqb-true (shard_of count w) number
     (passed p w (union parts) i (subst (λ t. slice_get t i ≡ Some w) (sym all) at))
-
--- what is refused before anything is written is refused by a merge
-pub refused-union : (kind : Kind) (strings : List (List ℕ)) (e : FreezingError) →
-    IsUnionRefusal kind strings e → IsMergingRefusal kind strings e
-refused-union kind strings NotUtf8 it = it
-refused-union kind strings (Table error) it = it
-refused-union kind strings (Stream failure) it = subst IsWritingError (sym it) tt

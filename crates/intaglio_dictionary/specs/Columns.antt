@@ -1,11 +1,11 @@
 -- Columns in files: a code is four bytes, little-endian.
-use Rattle.std.specs.Prelude.{◌≡◌, ℕ, ◌+◌, ◌-◌, ◌^◌, ◌<◌, ◌≤◌, ◌==◌, ◌&&◌, ◌||◌, min, Bool, List, [], ◌∷◌, length, map, get_or, slice_get, is_some, unwrap_or, position, Option, None}
+use Rattle.std.specs.Prelude.{◌≡◌, ℕ, ◌+◌, ◌-◌, ◌^◌, ◌<◌, ◌≤◌, ◌==◌, ◌&&◌, ◌||◌, min, Bool, List, [], ◌∷◌, length, map, slice_get, is_some, unwrap_or, position, Option, None}
 use Rattle.std.specs.List.{flat_map}
 use Rattle.std.specs.Int.{w32, to_le_bytes, from_le_bytes}
 use Rattle.intaglio_lines.specs.Lines.{lines_of}
 use Rattle.intaglio_lines.specs.Output.{spelling_line}
 use Rattle.intaglio_lines.specs.Decoded.{with_last_line_ended}
-use Rattle.intaglio_merge.specs.Merging.{missing, IsMap}
+use Rattle.intaglio_merge.specs.Merging.{missing}
 use Rattle.intaglio_dictionary.specs.Answers.{position_in}
 use Rattle.intaglio_dictionary.specs.Translation.{IsFirstMisfit}
 use Rattle.intaglio_dictionary.specs.declared.error.ColumnError.{ColumnError}
@@ -62,29 +62,10 @@ line_of strings text piece = spelling_line (unwrap_or (slice_get strings (code_o
 abbrev pub decoded_column : List (List ℕ) → Option (List ℕ) → List ℕ → List ℕ
 decoded_column strings text bytes = flat_map (line_of strings text) (code_pieces bytes)
 
--- whether four bytes are a code that a map has, or the missing code
-abbrev pub has_number : List ℕ → List ℕ → Bool
-has_number numbers piece =
-    (length piece == 4) && (is_some (slice_get numbers (code_of piece)) || (code_of piece == missing))
-
--- the code that a map has for a code
-abbrev pub renumbered_code : List ℕ → List ℕ → List ℕ
-renumbered_code numbers piece = code_bytes (get_or numbers (code_of piece) missing)
-
--- codes by a map
-abbrev pub renumbered_column : List ℕ → List ℕ → List ℕ
-renumbered_column numbers bytes = flat_map (renumbered_code numbers) (code_pieces bytes)
-
 -- what is encoded and then decoded is the input, its last line ended
 abbrev pub DecodesToInput : List (List ℕ) → List ℕ → Type 0
 DecodesToInput strings input = (text : Option (List ℕ)) →
     decoded_column strings text (encoded_column strings input) ≡ with_last_line_ended input
-
--- renumbered codes are decoded as before
-abbrev pub DecodesAsBefore : List ℕ → List ℕ → Type 0
-DecodesAsBefore numbers bytes = (old new : List (List ℕ)) (text : Option (List ℕ)) → IsMap old new numbers →
-    length new ≤ missing
-    → decoded_column new text (renumbered_column numbers bytes) ≡ decoded_column old text bytes
 
 -- a position counted from 1, which stops at the largest `u64`
 abbrev pub from_one : ℕ → ℕ

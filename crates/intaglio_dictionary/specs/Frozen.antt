@@ -1,15 +1,15 @@
 -- What is written of the lines of an input, frozen.
-use Rattle.std.specs.Prelude.{◌≡◌, ℕ, ⊤, List, [], ◌∷◌, Option, Some, None}
+use Rattle.std.specs.Prelude.{◌≡◌, ℕ, ⊤, List, [], ◌∷◌, Option}
 use Rattle.std.specs.Str.{IsUtf8}
 use Rattle.intaglio_interner.specs.Issue.{interned_all, issue}
 use Rattle.intaglio_lines.specs.Lines.{lines_of}
 use Rattle.intaglio_lines.specs.Puts.{Writes}
-use Rattle.intaglio_lines.specs.StreamError.{IsWritingError}
 use Rattle.intaglio_lines.specs.declared.error.StreamError.TheVariants.{Memory}
-use Rattle.intaglio_column_file.specs.Identity.{IsIdOfTable}
+use Rattle.intaglio_frozen.specs.Identity.{IsIdOfTable}
 use Rattle.intaglio_column_file.specs.Writing.{column_of}
-use Rattle.intaglio_column_file.specs.declared.id.DictionaryId.{DictionaryId}
-use Rattle.intaglio_frozen.specs.Freezing.{HasDefaultKeys, HasKeys, IsRefusal as IsTableRefusal, IsTableOf}
+use Rattle.intaglio_frozen.specs.declared.id.DictionaryId.{DictionaryId}
+use Rattle.intaglio_frozen.specs.Freezing.{IsRefusal as IsTableRefusal, IsTableOf}
+use Rattle.intaglio_frozen.specs.Layout.{shards}
 use Rattle.intaglio_frozen.specs.declared.kind.Kind.{Kind}
 use Rattle.intaglio_frozen.specs.declared.kind.Kind.TheVariants.{Bytes, Text}
 use Rattle.intaglio_dictionary.specs.declared.error.FreezingError.{FreezingError}
@@ -28,11 +28,13 @@ abbrev pub Allows : Kind → List ℕ → Type 0
 Allows Bytes input = ⊤
 Allows Text input = IsUtf8 input
 
--- a frozen table of this kind, of these strings, under keys that are allowed, is written
+-- a frozen table of this kind, of these strings, under keys that are allowed, the only one of its set, is
+-- written
 abbrev pub WritesTable : {W : Type 0} → Kind → (List ℕ → Type 0) → List (List ℕ) → (W → Option (List ℕ)) →
     W → W → Type 0
 WritesTable kind HasAllowedKeys lines contents old new =
-    (bytes : List ℕ) × IsTableOf kind lines bytes × HasAllowedKeys bytes × Writes contents old new bytes
+    (bytes : List ℕ) × IsTableOf kind lines bytes × (shards bytes ≡ 1) × HasAllowedKeys bytes
+    × Writes contents old new bytes
 
 -- the bytes are the column file of these symbols under a frozen table
 abbrev pub IsColumnOf : List ℕ → List ℕ → List ℕ → Type 0
@@ -42,11 +44,6 @@ IsColumnOf table symbols file = (id : DictionaryId) × IsIdOfTable table id × (
 abbrev pub WritesColumn : {V : Type 0} → Kind → List ℕ → (V → Option (List ℕ)) → V → V → Type 0
 WritesColumn kind input contents old new = (table file : List ℕ) × IsTableOf kind (distinct_lines input) table
     × IsColumnOf table (line_symbols input) file × Writes contents old new file
-
--- the keys of a table of these strings, if keys are given, and if none are
-abbrev pub HasKeysFor : Option (ℕ × ℕ) → List (List ℕ) → List ℕ → Type 0
-HasKeysFor (Some keys) lines bytes = HasKeys keys.0 keys.1 bytes
-HasKeysFor None lines bytes = HasDefaultKeys lines bytes
 
 -- when each error is returned
 abbrev pub IsRefusal : Kind → List ℕ → FreezingError → Type 0
@@ -59,9 +56,3 @@ abbrev pub IsUnionRefusal : Kind → List (List ℕ) → FreezingError → Type 
 IsUnionRefusal kind strings NotUtf8 = ⊥
 IsUnionRefusal kind strings (Table error) = IsTableRefusal kind strings error
 IsUnionRefusal kind strings (Stream failure) = failure ≡ Memory
-
--- when each error of a merge is returned
-abbrev pub IsMergingRefusal : Kind → List (List ℕ) → FreezingError → Type 0
-IsMergingRefusal kind strings NotUtf8 = ⊥
-IsMergingRefusal kind strings (Table error) = IsTableRefusal kind strings error
-IsMergingRefusal kind strings (Stream failure) = IsWritingError failure

@@ -8,8 +8,6 @@ pub mod Rows
 pub mod Matching
 pub mod Counting
 pub mod Joining
-pub mod ShardIndex
-pub mod MergedShard
 pub mod Renumbering
 pub mod ShardMerging
-pub mod MapIndex
+pub mod Sharding

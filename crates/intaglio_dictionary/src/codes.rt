@@ -1,14 +1,12 @@
-//! Codes in bytes, and maps of codes.
+//! Plain codes.
 ghost use Rattle.std.specs.Prelude.{◌≡◌, ◌==◌, ◌%◌, ◌<◌, ◌≤◌, [], ◌∷◌, ◌++◌, drop, is_some, length, slice_get, take, IfSome, None, OnOk, Some};
-ghost use Rattle.std.specs.List.{flat_map};
 ghost use Rattle.intaglio_lines.specs.Puts.{Puts, WritesFront};
 ghost use Rattle.intaglio_dictionary.specs.Columns.{code_bytes, code_of, code_pieces, codes_of};
 ghost use Rattle.intaglio_dictionary.specs.Translation.{StartsWith, last_piece};
 
 use intaglio_column_file::CodeList;
 pub use intaglio_column_file::MISSING;
-use intaglio_lines::write::{Output, put};
-use intaglio_symbol::Symbol;
+use intaglio_lines::write::put;
 use std::io;
 use std::io::Write;
 use std::marker::Model;
@@ -16,14 +14,13 @@ use std::marker::Model;
 /// How many bytes a code has.
 pub const CODE: usize = 4;
 
-/// A map from the codes of one dictionary to those of another, in the bytes of a file: the new code of each
-/// old one, in order. A contract sees the new codes.
+/// Plain codes, in bytes. A contract sees the codes.
 #[derive(Drop)]
-pub struct CodeMap<'a> {
+pub struct PlainCodes<'a> {
     bytes: &'a [u8],
 }
 
-impl<'a> Model for CodeMap<'a> {
+impl<'a> Model for PlainCodes<'a> {
     ghost use Rattle.std.specs.Prelude.{◌≡◌, ◌*◌, ℕ, List, length};
     ghost use Rattle.intaglio_dictionary.specs.Columns.{codes_of};
 
@@ -34,26 +31,26 @@ impl<'a> Model for CodeMap<'a> {
     ghost invariant = { λ m. length m.bytes.now ≡ 4 * length (codes_of m.bytes.now) };
 }
 
-impl<'a> CodeMap<'a> {
-    /// The map in these bytes, if their number is a multiple of 4.
-    pub fn of(bytes: &'a [u8]) -> Option<CodeMap<'a>>
+impl<'a> PlainCodes<'a> {
+    /// The codes in these bytes, if their number is a multiple of 4.
+    pub fn of(bytes: &'a [u8]) -> Option<PlainCodes<'a>>
         ensures codes { IfSome result (λ m. m ≡ codes_of bytes.now) }
         ensures whole { is_some result ≡ (length bytes.now % 4 == 0) }
     {
         if bytes.len() % CODE != 0 {
             return None;
         }
-        Some(CodeMap { bytes })
+        Some(PlainCodes { bytes })
     }
 
-    /// How many codes it has.
+    /// How many there are.
     pub fn len(&self) -> usize
         ensures { result ≡ length self.now }
     {
         self.bytes.len() / CODE
     }
 
-    /// The new code of an old one.
+    /// The code at a position.
     #[inline]
     pub fn get(&self, code: u32) -> Option<u32>
         ensures { result ≡ slice_get self.now code }
@@ -76,37 +73,17 @@ impl<'a> CodeMap<'a> {
     }
 }
 
-impl CodeList for CodeMap<'_> {
+impl CodeList for PlainCodes<'_> {
     ghost codes = { λ map. map };
 
     #[inline(always)]
     fn len(&self) -> usize {
-        CodeMap::len(self)
+        PlainCodes::len(self)
     }
 
     #[inline(always)]
     fn code(&self, i: usize) -> u32 {
         self.read(i)
-    }
-}
-
-/// Codes as an output.
-#[derive(Drop)]
-pub struct Codes<'a> {
-    /// The codes.
-    pub codes: &'a [Symbol],
-}
-
-impl Output for Codes<'_> {
-    ghost bytes = { λ output. flat_map code_bytes output.codes.now };
-
-    ghost is_ready = { λ _. Unit {0} };
-
-    fn put_all<W: Write>(&self, block: &mut Vec<u8>, writer: &mut W) -> io::Result<()> {
-        for code in self.codes {
-            put_code(code.id(), block, writer)?;
-        }
-        Ok(())
     }
 }
 

@@ -1,14 +1,14 @@
-//! Columns in files: encodes lines, decodes codes, and renumbers them.
-ghost use Rattle.std.specs.Prelude.{◌≡◌, ◌==◌, ◌&&◌, ◌||◌, ℕ, List, Bool, [], false, get_or, is_some, option_map, slice_get, unwrap_or, IfErr, IfOk, IfSome, OnErr, OnOk};
+//! Plain codes: encodes lines, and decodes codes.
+ghost use Rattle.std.specs.Prelude.{◌≡◌, ◌==◌, ◌&&◌, ◌||◌, ℕ, List, Bool, [], false, is_some, option_map, slice_get, unwrap_or, IfErr, IfOk, IfSome, OnErr, OnOk};
 ghost use Rattle.std.proofs.Common.{refl};
 ghost use Rattle.std.specs.Io.KnownBytes.{IsAtEnd};
 ghost use Rattle.intaglio_lines.specs.Lines.{lines_of};
 ghost use Rattle.intaglio_lines.specs.Puts.{Writes};
 ghost use Rattle.intaglio_merge.specs.Merging.{missing};
-ghost use Rattle.intaglio_dictionary.specs.Columns.{DecodesAsBefore, DecodesToInput, ReportsCode, ReportsLine, code_pieces, decoded_column, encoded_column, encoded_line, has_code, has_number, has_string, line_of, renumbered_code, renumbered_column};
+ghost use Rattle.intaglio_dictionary.specs.Columns.{DecodesToInput, ReportsCode, ReportsLine, code_pieces, decoded_column, encoded_column, encoded_line, has_code, has_string, line_of};
 ghost use Rattle.intaglio_dictionary.specs.Translation.{AllFit, ReportsMisfit, WritesPart, count_of};
 
-use crate::codes::{CODE, CodeMap, MISSING, code_of, first_code, put_code};
+use crate::codes::{CODE, MISSING, code_of, first_code};
 use crate::dictionary::WholeDictionary;
 use crate::encoding::Encoding;
 use crate::error::ColumnError;
@@ -113,69 +113,6 @@ impl<'a, D: WholeDictionary> Decoding<'a, D> {
     }
 }
 
-// Codes to codes.
-#[derive(Drop)]
-pub struct Renumbering<'a, 'm> {
-    map: &'a CodeMap<'m>,
-}
-
-impl Translator for Renumbering<'_, '_> {
-    ghost pieces = { code_pieces };
-
-    ghost fits = { λ renumbering piece. has_number renumbering.map.now piece };
-
-    ghost translated = { λ renumbering piece. renumbered_code renumbering.map.now piece };
-
-    ghost no_pieces = { refl };
-
-    fn first(bytes: &[u8]) -> Option<(usize, usize)> {
-        first_code(bytes)
-    }
-
-    // Reads of one code don't wait for those of the code before it.
-    #[inline(always)]
-    fn look_ahead(&self, _bytes: &[u8], _at: usize) {}
-
-    fn put<W: Write>(&self, piece: &[u8], block: &mut Vec<u8>, writer: &mut W) -> io::Result<bool> {
-        let Some(code) = code_of(piece) else {
-            return Ok(false);
-        };
-        let Some(number) = self.number_of(code) else {
-            return Ok(false);
-        };
-        put_code(number, block, writer)?;
-        Ok(true)
-    }
-}
-
-impl FrontTranslator for Renumbering<'_, '_> {
-    fn put_front<W: Write>(
-        &self,
-        _alloc: Global,
-        bytes: &[u8],
-        _seen: usize,
-        number: u64,
-        block: &mut Vec<u8>,
-        writer: &mut W,
-    ) -> Result<(usize, u64), TranslateError> {
-        translate_pieces(self, bytes, number, block, writer)
-    }
-}
-
-impl Renumbering<'_, '_> {
-    // The new code of an old one, or the missing code of itself.
-    fn number_of(&self, code: u32) -> Option<u32>
-        ensures found { let numbers = self.now.map.now in
-            is_some result ≡ (is_some (slice_get numbers code) || (code == missing)) }
-        ensures number { IfSome result (λ n. n ≡ get_or self.now.map.now code missing) }
-    {
-        match self.map.get(code) {
-            Some(number) => Some(number),
-            None => { if code == MISSING { Some(MISSING) } else { None } }
-        }
-    }
-}
-
 /// Writes the code of each line of an input, the symbol of its string, and returns how many lines
 /// there are, or `u64::MAX` if there are more. If `missing` is true, the code of a line that
 /// isn't in the table is [`MISSING`].
@@ -276,44 +213,6 @@ pub fn decode_column<D: WholeDictionary, R: Read, W: Write>(
         text: missing,
     };
     match translate(alloc, &decoding, reader, writer) {
-        Ok(count) => Ok(count),
-        Err(stopped) => Err(code_error(stopped)),
-    }
-}
-
-/// Writes for each code of an input its new code by a map, and returns how many codes there are, or
-/// `u64::MAX` if there are more. [`MISSING`] stays as it is.
-///
-/// The input is read in blocks of 64 KiB.
-///
-/// # Errors
-///
-/// `NoString` for the first code that isn't in the map, `ShortCode` if the input ends
-/// within a code; `Memory`, `Read` or `Write`. What was written then is the front of the
-/// new codes of the codes before that one.
-pub fn renumber_column<R: Read, W: Write>(
-    alloc: Global,
-    map: &CodeMap<'_>,
-    reader: &mut R,
-    writer: &mut W,
-) -> Result<u64, ColumnError>
-    ensures written { OnOk result (IfSome (R.remaining reader.old)
-        (λ input. Writes W.contents writer.old writer.new (renumbered_column map.now input))) }
-    ensures known { OnOk result (IfSome (R.remaining reader.old)
-        (λ input. AllFit (has_number map.now) (code_pieces input))) }
-    ensures count { IfOk result (λ count. IfSome (R.remaining reader.old)
-        (λ input. count ≡ count_of (code_pieces input))) }
-    ensures all_read { OnOk result (IsAtEnd (R.remaining reader.new)) }
-    ensures unknown { IfErr result (λ e. IfSome (R.remaining reader.old)
-        (λ input. ReportsCode (has_number map.now) e (code_pieces input))) }
-    ensures part { let Part = WritesPart (has_number map.now) (renumbered_code map.now) in
-        OnErr result (IfSome (R.remaining reader.old)
-        (λ input. Part (W.contents writer.old) [] (W.contents writer.new) (code_pieces input))) }
-
-    // What is written is decoded under the new dictionary as the input is under the old one.
-    ensures decodes { OnOk result (IfSome (R.remaining reader.old) (λ input. DecodesAsBefore map.now input)) }
-{
-    match translate(alloc, &Renumbering { map }, reader, writer) {
         Ok(count) => Ok(count),
         Err(stopped) => Err(code_error(stopped)),
     }

@@ -62,7 +62,7 @@ pub fn write_counts<D: Dictionary, W: Write>(
         IfErr result (IsCountsFault (D.strings table.now) (D.is_whole table.now) n (codes column.now)) }
     ensures nothing_written { IfErr result (λ e. e ≢ Stream WriteFailed → writer.new ≡ writer.old) }
 {
-    // The number of strings is at most 2^31.
+    // The number of strings is below 2^32.
     let _rows = column.len();
     let Ok(counts) = column.counts(alloc) else {
         return Err(DictionaryError::Stream(StreamError::Memory));

@@ -3,10 +3,8 @@ ghost use Rattle.std.specs.Prelude.{◌≡◌, ◌^◌, ◌≤◌, ℕ, List, le
 ghost use Rattle.intaglio_frozen.specs.IsFrozen.{IsFrozen};
 ghost use Rattle.intaglio_frozen.specs.Layout.{strings as strings_of_bytes};
 ghost use Rattle.intaglio_merge.specs.Shards.{joined};
-ghost use Rattle.intaglio_column_file.specs.Id.{IsIdOfStrings};
 ghost use Rattle.intaglio_dictionary.specs.Answers.{position_in};
 
-use intaglio_column_file::DictionaryId;
 use intaglio_frozen::{Frozen, TrustedFrozen};
 use intaglio_merge::Shards;
 use intaglio_symbol::Symbol;
@@ -127,11 +125,6 @@ pub trait WholeDictionary {
     fn symbols_of(&self, alloc: Global, batch: &[&[u8]]) -> Result<Vec<Option<Symbol>>, AllocError>
         ensures { IfOk result (λ found.
             found.items ≡ map (λ w. position_in (strings self.now) w.now) batch.now) };
-
-    /// What it is, for the header of a column file, as a dictionary of texts or of any
-    /// bytes. Each string is read twice.
-    fn id(&self, is_text: bool) -> DictionaryId
-        ensures { IsIdOfStrings is_text (strings self.now) result };
 }
 
 impl WholeDictionary for Frozen<'_> {
@@ -160,10 +153,6 @@ impl WholeDictionary for Frozen<'_> {
     ) -> Result<Vec<Option<Symbol>>, AllocError> {
         self.check_all(alloc, batch)
     }
-
-    fn id(&self, is_text: bool) -> DictionaryId {
-        DictionaryId::of_list(is_text, self)
-    }
 }
 
 impl WholeDictionary for Shards<'_> {
@@ -191,9 +180,5 @@ impl WholeDictionary for Shards<'_> {
         batch: &[&[u8]],
     ) -> Result<Vec<Option<Symbol>>, AllocError> {
         self.check_all(alloc, batch)
-    }
-
-    fn id(&self, is_text: bool) -> DictionaryId {
-        DictionaryId::of_lists(is_text, Shards::len(self) as u64, self.tables())
     }
 }

@@ -1,15 +1,12 @@
 //! Errors.
 ghost use Rattle.std.specs.Prelude.{◌≡◌};
 ghost use Rattle.intaglio_dictionary.specs.declared.error.DictionaryError.TheVariants.{Stream};
-ghost use Rattle.intaglio_dictionary.specs.declared.error.MapError.TheVariants.{Memory};
 ghost use Rattle.intaglio_dictionary.specs.declared.error.FreezingError.TheVariants.{Table, Stream as FreezingStopped};
 ghost use Rattle.intaglio_dictionary.specs.declared.error.RowsError.TheVariants.{Stream as RowsStopped};
 ghost use Rattle.intaglio_dictionary.specs.declared.error.ShardMergeError.TheVariants.{Strings};
 
-use intaglio_column_file::ColumnWriteError;
 use intaglio_frozen::FreezeError;
 use intaglio_lines::error::StreamError;
-use std::alloc::AllocError;
 use thiserror::Error;
 
 /// Why nothing, or not all, was written.
@@ -64,7 +61,7 @@ impl From<FreezeError> for FreezingError {
 /// Why a shard of several parts wasn't merged.
 #[derive(Clone, Copy, Debug, PartialEq, Eq, Error)]
 pub enum ShardMergeError {
-    /// The shard's number isn't below the number of shards, or there are 2^32 shards or more.
+    /// The shard's number isn't below the number of shards.
     #[error("there is no such shard")]
     NoShard,
     /// In the part with the first number the string with the second one belongs to another
@@ -101,60 +98,6 @@ pub enum ColumnError {
     Stream(StreamError),
 }
 
-/// Why maps of shards weren't joined.
-#[derive(Clone, Copy, Debug, PartialEq, Eq, Error)]
-pub enum MapError {
-    /// The map of this shard has a number that no string of the shard has.
-    #[error("the map of shard {0} has a number that is no symbol")]
-    NoString(usize),
-    /// The map of a split has at this place, counted from 0, a number that no string of the shards has.
-    #[error("the map has at place {0} a number that is no symbol of the shards")]
-    NoCode(usize),
-    /// The shards have 2^32 strings or more.
-    #[error("too many strings")]
-    TooMany,
-    /// An allocation failed.
-    #[error("out of memory")]
-    Memory,
-}
-
-impl From<AllocError> for MapError {
-    ghost from_gives = { λ _ error. error ≡ Memory };
-
-    fn from(_error: AllocError) -> MapError {
-        MapError::Memory
-    }
-}
-
-/// Why a text is no index of maps. A line is counted from 1.
-#[derive(Clone, Copy, Debug, PartialEq, Eq, Error)]
-pub enum MapTextError {
-    /// The line with this number is the first that isn't as it must be, or that is one too many.
-    #[error("line {0} is not that of an index of maps")]
-    WrongLine(u64),
-    /// The line with this number is the first that names a dictionary, and doesn't
-    /// end with the checksum of its map.
-    #[error("line {0} does not end with the checksum of a map, two numbers of sixteen digits")]
-    NoChecksum(u64),
-    /// An allocation failed.
-    #[error("out of memory")]
-    Memory,
-}
-
-/// Why a map isn't the one that is wanted.
-#[derive(Clone, Copy, Debug, PartialEq, Eq, Error)]
-pub enum MapIndexError {
-    /// There are only this many maps.
-    #[error("there are {0} maps, counted from 0")]
-    NoMap(usize),
-    /// The map leads from another dictionary.
-    #[error("the map leads from another dictionary")]
-    OtherFrom,
-    /// The maps lead to another dictionary.
-    #[error("the maps lead to another dictionary")]
-    OtherInto,
-}
-
 /// Why rows of a column weren't written.
 #[derive(Clone, Copy, Debug, PartialEq, Eq, Error)]
 pub enum RowsError {
@@ -177,13 +120,26 @@ impl From<StreamError> for RowsError {
     }
 }
 
-/// Why a column wasn't renumbered.
+/// Why a column wasn't renumbered. A map is counted from 0.
 #[derive(Clone, Copy, Debug, PartialEq, Eq, Error)]
 pub enum RenumberError {
-    /// The map has another number of codes than the dictionary of the column has strings.
-    #[error("the map is that of another dictionary")]
+    /// There isn't one map for each shard of the column's dictionary, or just one if the column is the map of
+    /// a shard.
+    #[error("another number of maps than of shards")]
+    OtherCount,
+    /// The map with this number leads from another dictionary than that of the column, or from another shard.
+    #[error("map {0} leads from another dictionary")]
+    OtherSource(usize),
+    /// The map with this number leads to another dictionary than the first one.
+    #[error("map {0} leads to another dictionary")]
+    OtherTarget(usize),
+    /// The maps have more or fewer rows than the column's dictionary has strings.
+    #[error("the maps are those of another number of strings")]
     OtherLength,
-    /// The new codes aren't a column.
-    #[error(transparent)]
-    Column(ColumnWriteError),
+    /// The maps lead to 2^32 strings or more.
+    #[error("too many strings")]
+    TooMany,
+    /// An allocation failed.
+    #[error("out of memory")]
+    Memory,
 }

@@ -4,20 +4,18 @@ ghost use Rattle.std.specs.Io.KnownBytes.{IsAtEnd};
 ghost use Rattle.intaglio_lines.specs.Lines.{lines_of};
 ghost use Rattle.intaglio_lines.specs.Puts.{Writes};
 ghost use Rattle.intaglio_lines.specs.declared.error.StreamError.TheVariants.{Memory, Write as WriteFailed};
-ghost use Rattle.intaglio_frozen.specs.Freezing.{IsRefusal as IsTableRefusal, IsTableOf};
-ghost use Rattle.intaglio_dictionary.specs.Columns.{encoded_column};
-ghost use Rattle.intaglio_dictionary.specs.Frozen.{Allows, HasKeysFor, IsColumnOf, IsRefusal, WritesColumn, WritesTable, distinct_lines};
+ghost use Rattle.intaglio_frozen.specs.Freezing.{HasKeysFor, IsRefusal as IsTableRefusal, IsTableOf};
+ghost use Rattle.intaglio_frozen.specs.Layout.{shards};
+ghost use Rattle.intaglio_dictionary.specs.Frozen.{Allows, IsColumnOf, IsRefusal, WritesColumn, WritesTable, distinct_lines};
 ghost use Rattle.intaglio_dictionary.specs.Translation.{count_of};
 ghost use Rattle.intaglio_dictionary.specs.declared.error.FreezingError.TheVariants.{Stream};
 
-use crate::codes::Codes;
 use crate::error::FreezingError;
 use crate::interning::{Interned, intern_input};
 use crate::progress::Progress;
 use intaglio_column_file::{column_bytes, id_of_table};
-use intaglio_frozen::{FreezeError, Kind, StringList, freeze, freeze_with_default_keys};
+use intaglio_frozen::{FreezeError, Kind, Place, freeze_at};
 use intaglio_lines::error::StreamError;
-use intaglio_lines::write::write_output;
 use intaglio_symbol::Symbol;
 use std::alloc::Global;
 use std::hash::BuildHasher;
@@ -64,89 +62,8 @@ pub fn freeze_lines<S: BuildHasher + Drop, R: Read, W: Write, P: Progress>(
     }
 }
 
-/// As [`freeze_lines`], and writes the code of each line to `codes`, as
-/// [`encode_column`](crate::columns::encode_column) would under the frozen table. The codes are written
-/// first: nothing of the table is written before all of them are.
-///
-/// # Errors
-///
-/// Those of [`freeze_lines`]; after each but `Write` nothing was written. After that either nothing of the
-/// table was written, or all codes were.
-///
-/// ```
-/// use anyhow::Result;
-/// use intaglio_dictionary::columns::decode_column;
-/// use intaglio_dictionary::freezing::freeze_column;
-/// use intaglio_dictionary::progress::Progress;
-/// use intaglio_frozen::{Frozen, Kind};
-/// use intaglio_hash::FixedState;
-///
-/// // Says nothing of how far the freezing is.
-/// #[derive(Drop)]
-/// struct Quiet;
-///
-/// impl Progress for Quiet {
-///     fn interned(&mut self, _count: usize) {}
-///
-///     fn frozen(&mut self, _size: usize) {}
-/// }
-///
-/// fn main(rt: HostRuntime) -> Result<()> {
-///     let lines = b"rose\nthorn\nrose\n";
-///     let (mut table, mut codes) = (Vec::new(rt.alloc()), Vec::new(rt.alloc()));
-///     let (alloc, builder, mut reader) = (rt.alloc(), FixedState, lines.as_slice());
-///     freeze_column(alloc, Kind::Text, None, builder, &mut reader, &mut table, &mut codes, &mut Quiet)?;
-///     assert!(rt; codes.as_slice() == [0, 0, 0, 0, 1, 0, 0, 0, 0, 0, 0, 0].as_slice());
-///
-///     let dictionary = Frozen::open(&table)?;
-///     let mut decoded = Vec::new(rt.alloc());
-///     let count = decode_column(rt.alloc(), &dictionary, None, &mut codes.as_slice(), &mut decoded)?;
-///     assert!(rt; count == 3);
-///     assert!(rt; decoded.as_slice() == lines.as_slice());
-///     Ok(())
-/// }
-/// ```
-pub fn freeze_column<S: BuildHasher + Drop, R: Read, W: Write, V: Write, P: Progress>(
-    alloc: Global,
-    kind: Kind,
-    keys: Option<(u64, u64)>,
-    builder: S,
-    reader: &mut R,
-    writer: &mut W,
-    codes: &mut V,
-    progress: &mut P,
-) -> Result<u64, FreezingError>
-    ensures written { OnOk result
-        (IfSome (R.remaining reader.old) (λ input. let lines = distinct_lines input in
-        WritesTable kind (HasKeysFor keys lines) lines W.contents writer.old writer.new)) }
-    ensures codes { OnOk result (IfSome (R.remaining reader.old) (λ input.
-        Writes V.contents codes.old codes.new (encoded_column (distinct_lines input) input))) }
-    ensures count { IfOk result
-        (λ n. IfSome (R.remaining reader.old) (λ input. n ≡ count_of (lines_of input))) }
-    ensures allowed { OnOk result (IfSome (R.remaining reader.old) (Allows kind)) }
-    ensures all_read { OnOk result (IsAtEnd (R.remaining reader.new)) }
-    ensures err { IfErr result (λ e. IfSome (R.remaining reader.old) (λ input. IsRefusal kind input e)) }
-    ensures nothing_written { IfErr result (λ e. e ≢ Stream WriteFailed → writer.new ≡ writer.old) }
-    ensures no_codes { IfErr result (λ e. e ≢ Stream WriteFailed → codes.new ≡ codes.old) }
-    ensures order { (writer.new ≡ writer.old) ⊎ IfSome (R.remaining reader.old) (λ input.
-        Writes V.contents codes.old codes.new (encoded_column (distinct_lines input) input)) }
-{
-    let made = intern_input(alloc, kind, true, builder, reader)?;
-    let bytes = made.frozen(alloc, kind, keys, progress)?;
-    write_output(
-        alloc,
-        &Codes {
-            codes: &made.symbols,
-        },
-        codes,
-    )?;
-    match write_whole(&bytes, writer) {
-        Ok(()) => Ok(made.count),
-        Err(_) => Err(FreezingError::Stream(StreamError::Write)),
-    }
-}
-
-/// As [`freeze_column`], but writes the codes as a column file of the frozen table.
+/// As [`freeze_lines`], and writes the column of the lines to `column`. It is written first: nothing of the
+/// table is written before all of it is.
 ///
 /// # Errors
 ///
@@ -220,34 +137,14 @@ impl<S: BuildHasher> Interned<S> {
         progress: &mut P,
     ) -> Result<Vec<u8>, FreezeError>
         ensures table { IfOk result (λ bytes. IsTableOf kind self.now.table.state.contents bytes.items) }
+        ensures single { IfOk result (λ bytes. shards bytes.items ≡ 1) }
         ensures keyed { IfOk result (λ bytes. HasKeysFor keys self.now.table.state.contents bytes.items) }
         ensures err { IfErr result (IsTableRefusal kind self.now.table.state.contents) }
     {
         progress.interned(self.table.len());
-        let bytes = freeze_table(alloc, &self.table, kind, keys)?;
+        let bytes = freeze_at(alloc, &self.table, kind, keys, Place::SINGLE)?;
         progress.frozen(bytes.len());
         Ok(bytes)
-    }
-}
-
-/// The bytes of a frozen table of these strings, under these keys, or under those that the library chooses.
-///
-/// # Errors
-///
-/// Why the strings have no frozen table of this kind, or `Memory`.
-pub fn freeze_table<L: StringList>(
-    alloc: Global,
-    list: &L,
-    kind: Kind,
-    keys: Option<(u64, u64)>,
-) -> Result<Vec<u8>, FreezeError>
-    ensures table { IfOk result (λ bytes. IsTableOf kind (L.strings list.now) bytes.items) }
-    ensures keyed { IfOk result (λ bytes. HasKeysFor keys (L.strings list.now) bytes.items) }
-    ensures err { IfErr result (IsTableRefusal kind (L.strings list.now)) }
-{
-    match keys {
-        Some((key0, key1)) => freeze(alloc, list, kind, key0, key1),
-        None => freeze_with_default_keys(alloc, list, kind),
     }
 }
 

@@ -1,22 +1,16 @@
 //! Merges the same shard of several parts.
-ghost use Rattle.std.specs.Prelude.{◌≡◌, ◌<◌, map, IfErr, IfOk, IfSome, MatchOption, OnOk};
+ghost use Rattle.std.specs.Prelude.{◌≡◌, ◌<◌, length, map, IfErr, IfOk, OnOk};
 ghost use Rattle.intaglio_merge.specs.Merging.{AreMaps, union};
 ghost use Rattle.intaglio_merge.specs.Shards.{BelongTo};
-ghost use Rattle.intaglio_dictionary.specs.Frozen.{HasKeysFor};
-ghost use Rattle.intaglio_dictionary.specs.MergedShard.{merged_text};
-ghost use Rattle.intaglio_dictionary.specs.ShardMerging.{AreOwn, IsNoPlace, IsShardIn, IsShardRefusal};
-ghost use Rattle.intaglio_dictionary.specs.declared.error.FreezingError.TheVariants.{Stream};
-ghost use Rattle.intaglio_frozen.specs.Freezing.{IsTableOf};
+ghost use Rattle.intaglio_dictionary.specs.ShardMerging.{AreOwn, IsShardRefusal, merged_place};
+ghost use Rattle.intaglio_frozen.specs.Freezing.{HasKeysFor, IsTableOf};
+ghost use Rattle.intaglio_frozen.specs.SetId.{IsAt};
 ghost use Rattle.intaglio_frozen.specs.declared.kind.Kind.{Kind};
-ghost use Rattle.intaglio_lines.specs.declared.error.StreamError.TheVariants.{Memory};
 
-use crate::error::{FreezingError, ShardMergeError};
-use crate::merged_shard::{MergedShard, ShardPlace, write_merged};
+use crate::error::ShardMergeError;
 use crate::merging::frozen_union;
 use crate::progress::Progress;
-use intaglio_column_file::id_of_table;
-use intaglio_frozen::{Frozen, Kind};
-use intaglio_lines::error::StreamError;
+use intaglio_frozen::{Frozen, Kind, Place, SetId};
 use intaglio_merge::first_misplaced;
 use intaglio_symbol::Symbol;
 use std::alloc::Global;
@@ -29,31 +23,26 @@ pub struct NewShard {
     pub bytes: Vec<u8>,
     /// For each part the symbols of its strings: the map by which its codes are renumbered.
     pub maps: Vec<Vec<Symbol>>,
-    /// Which shard it is, how many bytes it has, and what its dictionary is.
-    pub shard: MergedShard,
-    /// The text of that, for the file beside the table.
-    /// [`read_merged`](crate::merged_shard::read_merged) reads it.
-    pub line: Vec<u8>,
 }
 
 /// Merges the same shard of several parts, each of which is a frozen table: into one of the distinct strings,
 /// in the order of their first occurrences, with a map for each part.
 ///
-/// Each string must belong to this shard. So the shards of one merge, joined, are one dictionary
-/// ([`merged_shards_law`](crate::merged_shard::merged_shards_law)). Kind, keys and builder are as for
-/// [`merge`](crate::merging::merge).
+/// Each string must belong to this shard. So the shards of one merge are one dictionary, whose set
+/// ([`SetId::of_merge`]) the table has: it is made of the sets of the parts, in the parts' order. If there is
+/// one shard, this is [`merge`](crate::merging::merge), and the set is what the strings are. Kind, keys and
+/// builder are as for that.
 ///
 /// # Errors
 ///
-/// `NoShard` if the place isn't that of a shard, `Misplaced` for a string that belongs to another shard,
-/// `Strings` if the strings have no frozen table of this kind, or if an allocation fails.
+/// `NoShard` if there is no such shard, `Misplaced` for a string that belongs to another one, `Strings` if the
+/// strings have no frozen table of this kind, or if an allocation fails.
 ///
 /// ```
 /// use anyhow::Result;
-/// use intaglio_dictionary::merged_shard::{ShardPlace, read_merged};
 /// use intaglio_dictionary::progress::Progress;
 /// use intaglio_dictionary::shard_merging::merge_shard;
-/// use intaglio_frozen::{Frozen, Kind, freeze};
+/// use intaglio_frozen::{Frozen, Kind, SetId, freeze};
 /// use intaglio_hash::FixedState;
 ///
 /// // Says nothing of how far the merge is.
@@ -73,86 +62,55 @@ pub struct NewShard {
 ///
 ///     // The only shard of two parts.
 ///     let parts = [Frozen::open(&part)?, Frozen::open(&part)?];
-///     let place = ShardPlace { number: 0, count: 1, parts0: 5, parts1: 6 };
-///     let made = merge_shard(rt.alloc(), &parts, place, Kind::Text, None, FixedState, &mut Quiet)?;
+///     let sets = [SetId { hash0: 5, hash1: 6 }; 2];
+///     let made =
+///         merge_shard(rt.alloc(), &parts, &sets, 1, 0, Kind::Text, None, FixedState, &mut Quiet)?;
 ///     assert!(rt; Frozen::open(&made.bytes)?.len() == 1);
 ///     assert!(rt; made.maps.len() == 2);
-///     assert!(rt; read_merged(&made.line) == Some(made.shard));
 ///     Ok(())
 /// }
 /// ```
 pub fn merge_shard<S: BuildHasher + Drop, P: Progress>(
     alloc: Global,
     parts: &[Frozen<'_>],
-    place: ShardPlace,
+    sets: &[SetId],
+    shards: u32,
+    shard: u32,
     kind: Kind,
     keys: Option<(u64, u64)>,
     builder: S,
     progress: &mut P,
 ) -> Result<NewShard, ShardMergeError>
+    requires { length sets.now ≡ length parts.now }
     ensures table { IfOk result (λ made. IsTableOf kind (union parts.now) made.bytes.items) }
+    ensures place { IfOk result (λ made. IsAt (merged_place shards shard sets.now) made.bytes.items) }
     ensures keyed { IfOk result (λ made. HasKeysFor keys (union parts.now) made.bytes.items) }
     ensures maps { IfOk result
         (λ made. AreMaps parts.now (union parts.now) (map (λ m. m.items) made.maps.items)) }
-    ensures shard { IfOk result (λ made. IsShardIn place made.bytes.items made.shard) }
-    ensures line { IfOk result (λ made. made.line.items ≡ merged_text made.shard) }
-    ensures own { OnOk result (BelongTo place.count place.number (union parts.now)) }
-    ensures below { OnOk result (place.number < place.count) }
-    ensures err { IfErr result (IsShardRefusal kind place parts.now) }
+    ensures own { OnOk result (BelongTo shards shard (union parts.now)) }
+    ensures below { OnOk result (shard < shards) }
+    ensures err { IfErr result (IsShardRefusal kind shards shard parts.now) }
 {
-    check_own(parts, &place)?;
-    let (bytes, maps) = frozen_union(alloc, parts, kind, keys, builder, progress)?;
-    let shard = shard_in(&bytes, place)?;
-    let Ok(line) = write_merged(alloc, &shard) else {
-        return Err(ShardMergeError::Strings(FreezingError::Stream(StreamError::Memory)));
-    };
-    Ok(NewShard {
-        bytes,
-        maps,
-        shard,
-        line,
-    })
+    check_own(parts, shards, shard)?;
+    let set = SetId::of_merge(shards, sets);
+    let place = Place { set, shards, shard };
+    let (bytes, maps) = frozen_union(alloc, parts, kind, keys, place, builder, progress)?;
+    Ok(NewShard { bytes, maps })
 }
 
 // Checks that there is such a shard, and that each string of each part belongs to it.
-fn check_own(parts: &[Frozen<'_>], place: &ShardPlace) -> Result<(), ShardMergeError>
-    ensures own { OnOk result (AreOwn place.now.count place.now.number parts.now) }
-    ensures below { OnOk result (place.now.number < place.now.count) }
-    ensures err { IfErr result (λ e. (kind : Kind) → IsShardRefusal kind place.now parts.now e) }
+fn check_own(parts: &[Frozen<'_>], shards: u32, shard: u32) -> Result<(), ShardMergeError>
+    ensures own { OnOk result (AreOwn shards shard parts.now) }
+    ensures below { OnOk result (shard < shards) }
+    ensures err { IfErr result (λ e. (kind : Kind) → IsShardRefusal kind shards shard parts.now e) }
 {
-    let Some((count, number)) = numbers_of(place) else {
+    if shard >= shards {
         return Err(ShardMergeError::NoShard);
-    };
+    }
     for part in 0..parts.len() {
-        if let Some(string) = first_misplaced(&parts[part], count, number) {
+        if let Some(string) = first_misplaced(&parts[part], shards, shard) {
             return Err(ShardMergeError::Misplaced(part, string));
         }
     }
     Ok(())
-}
-
-// How many shards there are, and the number of this one, if there is such a shard.
-fn numbers_of(place: &ShardPlace) -> Option<(u32, u32)>
-    ensures count { IfSome result (λ found. found.0 ≡ place.now.count) }
-    ensures number { IfSome result (λ found. found.1 ≡ place.now.number) }
-    ensures below { MatchOption result (IsNoPlace place.now) (λ found. found.1 < found.0) }
-{
-    let (count, number) = (place.count, place.number);
-    if count > u32::MAX as u64 || number >= count {
-        return None;
-    }
-    Some((count as u32, number as u32))
-}
-
-// What is said of the shard in these bytes.
-fn shard_in(bytes: &[u8], place: ShardPlace) -> Result<MergedShard, FreezingError>
-    ensures shard { IfOk result (IsShardIn place bytes.now) }
-    ensures err { IfErr result (λ e. e ≡ Stream Memory) }
-{
-    // The bytes are a frozen table: it has a dictionary's identity.
-    let Ok(id) = id_of_table(bytes) else {
-        return Err(FreezingError::Stream(StreamError::Memory));
-    };
-    let size = bytes.len() as u64;
-    Ok(MergedShard { place, size, id })
 }

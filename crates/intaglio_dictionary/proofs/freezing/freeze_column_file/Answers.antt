@@ -23,6 +23,7 @@ returns-in-Ok-write_whole-clause-written g c =
     (λ input made. (
       c.in_ok-bytes.bytes.items,
       rw made.held at c.in_ok-bytes.ensures.table,
+      c.in_ok-bytes.ensures.single,
       rw made.held at c.in_ok-bytes.ensures.keyed,
       search rules,
     )) c.in_ok-made.ensures.interned

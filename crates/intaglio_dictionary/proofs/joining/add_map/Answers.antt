@@ -1,18 +1,26 @@
-use Rattle.std.proofs.Common.{◌∙◌, ◌++◌, [], ◌∷◌, ap, arith, rules, sym}
-use Rattle.intaglio_dictionary.proofs.Counted.{added-next, below-next}
+use Rattle.std.proofs.Common.{◌≡◌, ◌<◌, ◌∙◌, ◌++◌, [], ◌∷◌, ap, arith, rules, Some, sym}
+use Rattle.std.specs.List.{slice_get}
+use Rattle.intaglio_column_file.specs.Layout.{codes, strings}
+use Rattle.intaglio_dictionary.proofs.Counted.{added-next, below-at}
 use Rattle.intaglio_dictionary.proofs.joining.add_map.Goals as goal
 
-pub loop-code-preserved : goal.loop-code-preserved
-loop-code-preserved c =
-    let ns = c.args.numbers.now in
-    let code = c.loop-code.code in
-    let number = c.unwrap-number.result in
-    let at = sym c.get.ensures ∙ c.unwrap-number.ensures in
+pub overflow_add-start : goal.overflow_add-start
+overflow_add-start c =
+    let cs = codes c.args.numbers.now in
+    let at : slice_get cs c.loop-row.row ≡ Some c.unwrap-number.result =
+    sym c.code.ensures ∙ c.unwrap-number.ensures in
+    let below : c.unwrap-number.result < strings c.args.numbers.now =
+    below-at c.args.numbers.now c.requires.map c.loop-row.row c.unwrap-number.result at in
+    omega (arith, c.requires.few)
+
+pub loop-row-preserved : goal.loop-row-preserved
+loop-row-preserved c =
+    let cs = codes c.args.numbers.now in
+    let at : slice_get cs c.loop-row.row ≡ Some c.unwrap-number.result =
+    sym c.code.ensures ∙ c.unwrap-number.ensures in
     record {
-      added = added-next ns code number at c.args.start _ _ _ c.loop-code.invariant.added
-          (c.push_reserved.ensures.items ∙ ap (λ n. c.loop-code.joined.items ++ n ∷ []) c.new.ensures);
-      within =
-          below-next ns code number at c.args.count c.loop-code.invariant.within
-          (omega (arith, c.if-number-count.false));
+      added = added-next cs c.loop-row.row c.unwrap-number.result at c.args.start _ _ _
+          c.loop-row.invariant.added
+          (c.push_reserved.ensures.items ∙ ap (λ n. c.loop-row.joined.items ++ n ∷ []) c.new.ensures);
       room = search rules;
     }

@@ -3,4 +3,4 @@ use Rattle.intaglio_dictionary.specs.ShardMerging.{AreOwnBefore}
 use Rattle.intaglio_dictionary.proofs.shard_merging.check_own.Given as goal
 
 abbrev pub invariant-loop-part : goal.invariant-loop-part
-invariant-loop-part l = AreOwnBefore l.part l.place.count l.place.number l.parts
+invariant-loop-part l = AreOwnBefore l.part l.shards l.shard l.parts

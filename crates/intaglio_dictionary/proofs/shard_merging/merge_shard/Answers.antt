@@ -9,4 +9,4 @@ returns-in_err-check_own-clause-err g c =
 
 pub returns-clause-own : goal.returns-clause-own
 returns-clause-own g c =
-    own-union c.args.place.count c.args.place.number c.args.parts.now c.in_ok-check_own.ensures.own
+    own-union c.args.shards c.args.shard c.args.parts.now c.in_ok-check_own.ensures.own
