@@ -1,6 +1,6 @@
 //! The hash builder of the tables in which strings are interned.
-use intaglio_dict_io::report;
-use intaglio_dict_io::report::Tell;
+use crate::io::report;
+use crate::io::report::Tell;
 use intaglio_hash::KeyedState;
 use std::hash::RandomState;
 use std::random::RandomSource;

@@ -1,8 +1,8 @@
 //! An input that keeps what was read last, so that a message can show a line or code that isn't translated.
 ghost use Rattle.std.specs.Prelude.{None};
 
-use intaglio_dict_io::metered::Metered;
-use intaglio_dict_io::report::Tell;
+use crate::io::metered::Metered;
+use crate::io::report::Tell;
 use intaglio_dictionary::codes::CODE;
 use std::alloc::AllocError;
 use std::io;

@@ -1,15 +1,14 @@
 //! The subcommands that look lines or symbols up.
+use crate::dictionaries::{Bytes, first_dictionary, not_trusted, open_shards};
+use crate::io::checking::checked;
+use crate::io::input::{STANDARD_INPUT, name_of};
+use crate::io::metered::{Meter, Metered};
+use crate::io::noticing::Noticing;
+use crate::io::output::OUTPUT;
+use crate::io::report;
+use crate::io::report::Tell;
+use crate::io::symbols::{read_symbols, typed_symbols};
 use clap::ArgMatches;
-use intaglio_dict_io::checking::checked;
-use intaglio_dict_io::input::{STANDARD_INPUT, name_of};
-use intaglio_dict_io::metered::{Meter, Metered};
-use intaglio_dict_io::noticing::Noticing;
-use intaglio_dict_io::output::OUTPUT;
-use intaglio_dict_io::report;
-use intaglio_dict_io::report::Tell;
-use intaglio_dict_io::symbols::{read_symbols, typed_symbols};
-use intaglio_dict_shards::folder::open_shards;
-use intaglio_dict_shards::opening::{Bytes, first_dictionary, not_trusted};
 use intaglio_dictionary::dictionary::Dictionary;
 use intaglio_dictionary::error::DictionaryError;
 use intaglio_dictionary::look_up::{find_lines, write_strings};

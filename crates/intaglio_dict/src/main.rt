@@ -4,20 +4,25 @@
 //! What is asked is read from the arguments, and answered by `intaglio_dictionary`.
 #![tactic(auto)]
 
+mod column_files;
 mod columns;
+mod dictionaries;
 mod freezing;
 mod hashing;
+mod io;
 mod keeping;
 mod look_ups;
+mod maps;
 mod merging;
 mod misfit;
 mod progress;
+mod renumbering;
 mod run;
 
-use intaglio_dict_io::command::matches;
-use intaglio_dict_io::report;
-use intaglio_dict_io::report::Tell;
-use intaglio_dict_io::words::words;
+use crate::io::command::matches;
+use crate::io::report;
+use crate::io::report::Tell;
+use crate::io::words::words;
 use std::process::ExitCode;
 use std::random::RandomSource;
 use std::rt::{Env, Files};

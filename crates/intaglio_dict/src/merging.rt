@@ -1,126 +1,53 @@
-//! The subcommand that merges dictionaries.
-use crate::freezing::refusal;
+//! The subcommand that merges dictionaries, and shares dictionaries out.
+ghost use Rattle.std.specs.Prelude.{◌<◌};
+
+use crate::dictionaries::{
+    Reference, are_of_one_set, check_number, header_of, misplaced, other_set, read_shard,
+};
+use crate::freezing::{refusal, write_shards};
 use crate::hashing::random_builder;
+use crate::io::checking::{common_kind, tables_of};
+use crate::io::folders::{is_folder, make_folder, shard_name};
+use crate::io::input::{meter_of, name_of, whole};
+use crate::io::keys::keys_of;
+use crate::io::metered::Meter;
+use crate::io::output::{Bytes, write_to};
+use crate::io::report;
+use crate::io::report::Tell;
+use crate::io::symbols::{plain_number, shards_of};
+use crate::maps::Maps;
 use crate::progress::Shown;
 use clap::ArgMatches;
-use intaglio_dict_io::checking::{common_kind, tables_of};
-use intaglio_dict_io::input::whole_files;
-use intaglio_dict_io::keys::keys_of;
-use intaglio_dict_io::maps::{make_folder, map_index_name, map_name};
-use intaglio_dict_io::noticing::Noticing;
-use intaglio_dict_io::output::{Bytes, Payload, write_to};
-use intaglio_dict_io::removing::remove_file;
-use intaglio_dict_io::report;
-use intaglio_dict_io::report::Tell;
-use intaglio_dict_shards::folder::misplaced;
-use intaglio_dict_shards::lines::{remove_line, write_shard};
-use intaglio_dict_shards::parts::{ShardOfParts, names_in, shard_of_folders};
-use intaglio_dictionary::error::ShardMergeError;
-use intaglio_dictionary::map_index::{IndexedMap, write_map_index};
-use intaglio_dictionary::merging::{merge, write_codes};
-use intaglio_dictionary::shard_merging::{NewShard, merge_shard};
-use intaglio_frozen::{Frozen, Kind};
+use intaglio_dictionary::error::{FreezingError, ShardMergeError};
+use intaglio_dictionary::merging::{merge, merged_tables};
+use intaglio_dictionary::shard_merging::merge_shard;
+use intaglio_dictionary::sharding::ShardedList;
+use intaglio_frozen::{FreezeError, Frozen, Header, SetId};
 use intaglio_symbol::Symbol;
-use std::alloc::{AllocError, Global};
-use std::io::Write;
 use std::random::RandomSource;
 use std::rt::Files;
 
-// The dictionary of all strings of several, and the folder for their maps.
+// What is merged to where.
 #[derive(Drop)]
-struct Merging<'a, 't, R> {
-    tables: &'a [Frozen<'t>],
-    kind: Kind,
+struct Merging<'a, 'r, R> {
+    names: &'a [&'a str],
+    output: &'a str,
+    // The folder for the maps, if they are asked for.
+    maps: Option<&'a str>,
     keys: Option<(u64, u64)>,
-    folder: Option<&'a str>,
-    // How many strings the dictionaries have together.
-    count: usize,
-    shown: Shown<'a, R>,
+    shown: Shown<'r, R>,
+    // How many strings the dictionaries have, and their union.
+    strings: u64,
+    distinct: u64,
 }
 
-// The map of one dictionary.
+// The parts of a merge, or the same shard of each of them.
 #[derive(Drop)]
-struct Map<'a> {
-    codes: &'a [Symbol],
-}
-
-impl<R: Tell + AllocGlobal> Payload<R> for Map<'_> {
-    fn write<W: Write>(&mut self, rt: &R, name: &str, output: &mut Noticing<W>) -> Result<(), u8> {
-        match write_codes(rt.alloc(), self.codes, output) {
-            Ok(()) => Ok(()),
-            Err(fault) => Err(report::stopped(rt, fault, name, output.error)),
-        }
-    }
-}
-
-impl<R: Files + RandomSource + Print + Tell + AllocGlobal> Payload<R> for Merging<'_, '_, R> {
-    // The maps are written before the dictionary has its place: whoever sees that can read them.
-    fn write<W: Write>(&mut self, rt: &R, name: &str, output: &mut Noticing<W>) -> Result<(), u8> {
-        let builder = random_builder(rt)?;
-        let (tables, kind, keys) = (self.tables, self.kind, self.keys);
-        match merge(
-            rt.alloc(),
-            tables,
-            kind,
-            keys,
-            builder,
-            output,
-            &mut self.shown,
-        ) {
-            Ok(maps) => {
-                self.count = count_of(&maps);
-                self.write_maps(rt, &maps, None)
-            }
-            Err(refused) => Err(refusal(rt, name, refused, output.error)),
-        }
-    }
-}
-
-impl<R> Merging<'_, '_, R> {
-    // Writes the map of each dictionary to the folder, if one is given, and then their index, if they
-    // have one. The index that was there is removed before a map is written, so that at any time it is
-    // that of the maps, or there is none.
-    fn write_maps<Q: Files + RandomSource + Print + Tell + AllocGlobal>(
-        &self,
-        rt: &Q,
-        maps: &[Vec<Symbol>],
-        index: Option<&[u8]>,
-    ) -> Result<(), u8> {
-        let Some(folder) = self.folder else {
-            return Ok(());
-        };
-        let Ok(name) = map_index_name(rt.alloc(), folder) else {
-            return Err(report::out_of_memory(rt));
-        };
-        make_folder(rt, folder)?;
-        remove_file(rt, name.as_str())?;
-        for (number, codes) in maps.iter().enumerate() {
-            write_map(rt, folder, number, codes)?;
-        }
-        match index {
-            Some(bytes) => write_to(rt, name.as_str(), &mut Bytes { bytes }),
-            None => Ok(()),
-        }
-    }
-}
-
-fn write_map<R: Files + RandomSource + Print + Tell + AllocGlobal>(
-    rt: &R,
-    folder: &str,
-    number: usize,
-    codes: &[Symbol],
-) -> Result<(), u8> {
-    match map_name(rt.alloc(), folder, number) {
-        Ok(path) => write_to(rt, path.as_str(), &mut Map { codes }),
-        Err(_) => Err(report::out_of_memory(rt)),
-    }
-}
-
-// How many symbols the maps have together.
-fn count_of(maps: &[Vec<Symbol>]) -> usize {
-    maps.iter()
-        .map(|map| map.len())
-        .fold(0, |sum, n| sum.saturating_add(n))
+struct Parts {
+    // What each is called in messages.
+    names: Vec<String>,
+    headers: Vec<Header>,
+    files: Vec<Vec<u8>>,
 }
 
 /// Merges dictionaries. Otherwise the exit status after a message.
@@ -128,124 +55,356 @@ pub fn merge_dictionaries<R: Files + RandomSource + Input + Print + Tell + Alloc
     rt: &R,
     found: &ArgMatches<'_>,
 ) -> Result<(), u8> {
-    let Some(names) = found.get_strs("DICT") else {
+    let (Some(names), Some(output)) = (found.get_strs("DICT"), found.get_str("OUT")) else {
         return Err(2);
     };
-    let keys = keys_of(rt, found)?;
-    match found.get_str("SHARD") {
-        Some(typed) => {
-            let shard = shard_of_folders(rt, names, typed)?;
-            let names = names_in(rt, &shard.names)?;
-            merge_files(rt, found, keys, &names, &shard.files, Some(&shard))
-        }
-        None => {
-            let all = whole_files(rt, names, found.get_flag("PROGRESS"))?;
-            merge_files(rt, found, keys, names, &all, None)
-        }
-    }
-}
-
-// Merges the dictionaries in these files, which may be one shard of several folders.
-fn merge_files<R: Files + RandomSource + Print + Tell + AllocGlobal>(
-    rt: &R,
-    found: &ArgMatches<'_>,
-    keys: Option<(u64, u64)>,
-    names: &[&str],
-    all: &[Vec<u8>],
-    shard: Option<&ShardOfParts>,
-) -> Result<(), u8> {
-    let Some(output) = found.get_str("OUT") else {
-        return Err(2);
-    };
-    let tables = tables_of(rt, names, all)?;
-    let merging = Merging {
-        tables: &tables,
-        kind: common_kind(all),
-        keys,
-        folder: found.get_str("FOLDER"),
-        count: 0,
+    let mut merging = Merging {
+        names,
+        output,
+        maps: found.get_str("MAPS"),
+        keys: keys_of(rt, found)?,
         shown: Shown::new(rt, found.get_flag("PROGRESS")),
+        strings: 0,
+        distinct: 0,
     };
-    merge_to(rt, output, merging, shard, found.get_flag("VERBOSE"))
-}
-
-fn merge_to<R: Files + RandomSource + Print + Tell + AllocGlobal>(
-    rt: &R,
-    output: &str,
-    mut merging: Merging<'_, '_, R>,
-    shard: Option<&ShardOfParts>,
-    is_counted: bool,
-) -> Result<(), u8> {
-    match shard {
-        Some(shard) => write_merged(rt, output, &mut merging, shard)?,
-        None => write_to(rt, output, &mut merging)?,
+    let mut meter = meter_of(rt, names, found.get_flag("PROGRESS"));
+    if let Some(shard) = shard_of(rt, found)? {
+        let _parts = merging.merge_shard(rt, shard, None)?;
+    } else if let Some(shards) = shards_of(rt, found)? {
+        merging.share_out(rt, shards, &mut meter)?;
+    } else {
+        merging.merge_whole(rt, &mut meter)?;
     }
-    if is_counted {
-        report::count(rt, merging.tables.len() as u64, "dictionaries merged");
-        report::count(rt, merging.count as u64, "strings merged");
-        report::count(rt, merging.shown.distinct as u64, "distinct strings");
+    if found.get_flag("VERBOSE") {
+        report::count(rt, names.len() as u64, "dictionaries merged");
+        report::count(rt, merging.strings, "strings merged");
+        report::count(rt, merging.distinct, "distinct strings");
     }
     Ok(())
 }
 
-// Merges a shard, and writes its maps, then the shard, and last the line beside it. The line that was there
-// is removed before anything is written.
-fn write_merged<R: Files + RandomSource + Print + Tell + AllocGlobal>(
-    rt: &R,
-    output: &str,
-    merging: &mut Merging<'_, '_, R>,
-    shard: &ShardOfParts,
-) -> Result<(), u8> {
-    let builder = random_builder(rt)?;
-    let (alloc, parts, kind, keys) = (rt.alloc(), merging.tables, merging.kind, merging.keys);
-    match merge_shard(
-        alloc,
-        parts,
-        shard.place,
-        kind,
-        keys,
-        builder,
-        &mut merging.shown,
-    ) {
-        Ok(made) => {
-            let Ok(index) = index_of_maps(alloc, shard, &made) else {
-                return Err(report::out_of_memory(rt));
-            };
-            merging.count = count_of(&made.maps);
-            remove_line(rt, output)?;
-            merging.write_maps(rt, &made.maps, Some(&index))?;
-            write_shard(rt, output, &made.bytes, &made.line)
+// The number after --shard, if it is there.
+fn shard_of<R: Tell>(rt: &R, found: &ArgMatches<'_>) -> Result<Option<u32>, u8> {
+    let Some(typed) = found.get_str("SHARD") else {
+        return Ok(None);
+    };
+    match plain_number(typed).map(u32::try_from) {
+        Some(Ok(shard)) => Ok(Some(shard)),
+        _ => {
+            let needed = "the number of a shard is needed, counted from 0";
+            Err(report::wrong_number(rt, "--shard", typed, needed))
         }
-        Err(refused) => Err(unmerged(rt, output, shard, refused)),
     }
 }
 
-// The index of the maps of a merged shard, with a checksum of each.
-fn index_of_maps(
-    alloc: Global,
-    shard: &ShardOfParts,
-    made: &NewShard,
-) -> Result<Vec<u8>, AllocError> {
-    let mut maps = Vec::new(alloc);
-    for (from, codes) in shard.ids.iter().zip(made.maps.iter()) {
-        maps.push(IndexedMap::of(from, codes))?;
+impl<R: Files + RandomSource + Input + Print + Tell + AllocGlobal> Merging<'_, '_, R> {
+    // Merges dictionaries in files to a file, or folders of shards to a folder, one shard after the other.
+    fn merge_whole(&mut self, rt: &R, meter: &mut Meter) -> Result<(), u8> {
+        let first = self.names.first().copied().unwrap_or("");
+        if !is_folder(rt, first) {
+            return self.merge_files(rt, meter);
+        }
+        let (header, _) = read_shard(rt, first, 0)?;
+        let mut parts = self.merge_shard(rt, 0, None)?;
+        for shard in 1..header.place.shards {
+            parts = self.merge_shard(rt, shard, Some(&parts))?;
+        }
+        Ok(())
     }
-    write_map_index(alloc, &maps, &made.shard.id)
+
+    // Merges dictionaries in files to a file.
+    fn merge_files(&mut self, rt: &R, meter: &mut Meter) -> Result<(), u8> {
+        let parts = read_files(rt, self.names, meter)?;
+        let tables = tables_of(rt, &parts.names, &parts.files)?;
+        let (builder, kind) = (random_builder(rt)?, common_kind(&parts.files));
+        match merge(
+            rt.alloc(),
+            &tables,
+            kind,
+            self.keys,
+            builder,
+            &mut self.shown,
+        ) {
+            Ok((bytes, maps)) => {
+                self.write_maps(rt, &parts, &bytes, &maps)?;
+                write_to(rt, self.output, &mut Bytes { bytes: &bytes })
+            }
+            Err(refused) => Err(refusal(rt, self.output, refused, None)),
+        }
+    }
+
+    // Merges one shard of each part, and returns the header of each. It must belong to the one that is given,
+    // which is that of another shard.
+    fn merge_shard(
+        &mut self,
+        rt: &R,
+        shard: u32,
+        before: Option<&[Header]>,
+    ) -> Result<Vec<Header>, u8> {
+        let parts = read_parts(rt, self.names, shard)?;
+        let found = sets_of(rt, &parts)?;
+        if let Some(before) = before {
+            self.check_sets(rt, shard, before, &parts.headers)?;
+        }
+        let shards = parts
+            .headers
+            .first()
+            .map_or(1, |header| header.place.shards);
+        let tables = tables_of(rt, &parts.names, &parts.files)?;
+        let (bytes, maps) = self.merged(rt, &parts, &tables, &found, (shards, shard))?;
+        drop(tables);
+        make_folder(rt, self.output)?;
+        self.write_maps(rt, &parts, &bytes, &maps)?;
+        let Ok(name) = shard_name(rt.alloc(), self.output, shard) else {
+            return Err(report::out_of_memory(rt));
+        };
+        write_to(rt, name.as_str(), &mut Bytes { bytes: &bytes })?;
+        Ok(parts.headers)
+    }
+
+    // The bytes of a merged shard, by its place among so many, and the map of each part.
+    fn merged(
+        &mut self,
+        rt: &R,
+        parts: &Parts,
+        tables: &[Frozen<'_>],
+        sets: &[SetId],
+        place: (u32, u32),
+    ) -> Result<(Vec<u8>, Vec<Vec<Symbol>>), u8> {
+        if sets.len() != tables.len() {
+            return Err(2);
+        }
+        let (builder, kind) = (random_builder(rt)?, common_kind(&parts.files));
+        match merge_shard(
+            rt.alloc(),
+            tables,
+            sets,
+            place.0,
+            place.1,
+            kind,
+            self.keys,
+            builder,
+            &mut self.shown,
+        ) {
+            Ok(made) => Ok((made.bytes, made.maps)),
+            Err(ShardMergeError::Misplaced(part, string)) => match parts.names.get(part) {
+                Some(name) => Err(misplaced(rt, name.as_str(), string)),
+                None => Err(2),
+            },
+            Err(ShardMergeError::NoShard) => Err(report::of_input(rt, ShardMergeError::NoShard)),
+            Err(ShardMergeError::Strings(refused)) => {
+                Err(refusal(rt, self.output, refused, None))
+            }
+        }
+    }
+
+    // Writes the maps to the dictionary that has these bytes, if they are asked for: before the dictionary
+    // has its place, so that whoever sees it can read them.
+    fn write_maps(
+        &mut self,
+        rt: &R,
+        parts: &Parts,
+        bytes: &[u8],
+        maps: &[Vec<Symbol>],
+    ) -> Result<(), u8> {
+        let header = header_of(rt, self.output, bytes)?;
+        self.count(maps, header.count);
+        match self.maps {
+            Some(folder) => {
+                let to = Reference::of(&header);
+                Maps { folder, to }.write_all(rt, &parts.headers, maps)
+            }
+            None => Ok(()),
+        }
+    }
+
+    // Counts the strings of a merge.
+    fn count(&mut self, maps: &[Vec<Symbol>], distinct: u64) {
+        for map in maps {
+            self.strings = self.strings.saturating_add(map.len() as u64);
+        }
+        self.distinct = self.distinct.saturating_add(distinct);
+    }
+
+    // Refuses a shard that isn't of the same set as the one before it in its folder.
+    fn check_sets(
+        &self,
+        rt: &R,
+        shard: u32,
+        before: &[Header],
+        found: &[Header],
+    ) -> Result<(), u8> {
+        for ((name, header), other) in self.names.iter().zip(before.iter()).zip(found.iter()) {
+            if !are_of_one_set(header, other) {
+                return Err(other_set(rt, name, shard));
+            }
+        }
+        Ok(())
+    }
+
+    // Merges dictionaries in files to a folder of so many shards.
+    fn share_out(&mut self, rt: &R, shards: u32, meter: &mut Meter) -> Result<(), u8>
+        requires { 0 < shards }
+    {
+        let parts = read_files(rt, self.names, meter)?;
+        let tables = tables_of(rt, &parts.names, &parts.files)?;
+        let (builder, kind) = (random_builder(rt)?, common_kind(&parts.files));
+        let merged = match merged_tables(rt.alloc(), &tables, builder) {
+            Ok(merged) => merged,
+            Err(refused) => return Err(refusal(rt, self.output, refused, None)),
+        };
+        match ShardedList::of(rt.alloc(), &merged.table, kind, shards) {
+            Ok(shared) => self.write_shared(rt, &parts, &merged.maps, &shared),
+            Err(_) => Err(report::out_of_memory(rt)),
+        }
+    }
+
+    // Writes the maps to shards, and these.
+    fn write_shared(
+        &mut self,
+        rt: &R,
+        parts: &Parts,
+        maps: &[Vec<Symbol>],
+        shared: &ShardedList<'_>,
+    ) -> Result<(), u8> {
+        let to = Reference {
+            id: shared.id(),
+            shards: shared.shards,
+        };
+        self.count(maps, to.id.count);
+        make_folder(rt, self.output)?;
+        if let Some(folder) = self.maps {
+            make_folder(rt, folder)?;
+            for (header, symbols) in parts.headers.iter().zip(maps.iter()) {
+                let Ok(codes) = shared.codes(rt.alloc(), symbols) else {
+                    return Err(report::out_of_memory(rt));
+                };
+                Maps { folder, to }.write(rt, header, &codes)?;
+            }
+        }
+        write_shards(rt, self.output, shared, self.keys, &mut self.shown)
+    }
 }
 
-// The exit status after a shard wasn't merged.
-fn unmerged<R: Tell + AllocGlobal>(
+// The set of each part.
+fn sets_of<R: Tell + AllocGlobal>(rt: &R, parts: &Parts) -> Result<Vec<SetId>, u8> {
+    let mut sets = Vec::new(rt.alloc());
+    for header in &parts.headers {
+        if sets.push(header.place.set).is_err() {
+            return Err(report::out_of_memory(rt));
+        }
+    }
+    Ok(sets)
+}
+
+// The dictionaries in these files, none of which is a shard of several.
+fn read_files<R: Files + Input + Tell + AllocGlobal>(
     rt: &R,
-    output: &str,
-    shard: &ShardOfParts,
-    refused: ShardMergeError,
-) -> u8 {
-    match refused {
-        ShardMergeError::Misplaced(part, string) => match shard.names.get(part) {
-            Some(name) => misplaced(rt, name.as_str(), string),
-            None => 2,
-        },
-        ShardMergeError::NoShard => report::of_input(rt, refused),
-        ShardMergeError::Strings(refused) => refusal(rt, output, refused, None),
+    names: &[&str],
+    meter: &mut Meter,
+) -> Result<Parts, u8> {
+    let mut parts = Parts::new(rt);
+    for name in names {
+        if is_folder(rt, name) {
+            let (header, bytes) = read_shard(rt, name, 0)?;
+            parts.add_single(rt, name, header, bytes)?;
+        } else {
+            let bytes = whole(rt, name, meter)?;
+            let header = header_of(rt, name, &bytes)?;
+            parts.add_single(rt, name, header, bytes)?;
+        }
+    }
+    Ok(parts)
+}
+
+// The shard with this number of each of these dictionaries, which are folders, or files of this shard.
+fn read_parts<R: Files + Input + Tell + AllocGlobal>(
+    rt: &R,
+    names: &[&str],
+    shard: u32,
+) -> Result<Parts, u8> {
+    let mut parts = Parts::new(rt);
+    for name in names {
+        let (header, bytes) = if is_folder(rt, name) {
+            read_shard(rt, name, shard)?
+        } else {
+            let bytes = whole(rt, name, &mut Meter::silent())?;
+            let header = header_of(rt, name, &bytes)?;
+            check_number(rt, name_of(name), &header, shard)?;
+            (header, bytes)
+        };
+        parts.add_shard(rt, name, header, bytes)?;
+    }
+    Ok(parts)
+}
+
+impl Parts {
+    // None.
+    fn new<R: AllocGlobal>(rt: &R) -> Parts {
+        Parts {
+            names: Vec::new(rt.alloc()),
+            headers: Vec::new(rt.alloc()),
+            files: Vec::new(rt.alloc()),
+        }
+    }
+
+    // Adds a dictionary that is no shard of several.
+    fn add_single<R: Tell + AllocGlobal>(
+        &mut self,
+        rt: &R,
+        name: &str,
+        header: Header,
+        bytes: Vec<u8>,
+    ) -> Result<(), u8> {
+        let (shards, shard) = (header.place.shards, header.place.shard);
+        if shards != 1 {
+            return Err(report::failed(
+                rt,
+                name_of(name),
+                format_args!("shard {shard} of {shards}; name folders of shards, or give --shard"),
+            ));
+        }
+        self.add(rt, name, header, bytes)
+    }
+
+    // Adds a shard of as many as the first one is of.
+    fn add_shard<R: Tell + AllocGlobal>(
+        &mut self,
+        rt: &R,
+        name: &str,
+        header: Header,
+        bytes: Vec<u8>,
+    ) -> Result<(), u8> {
+        let (shards, shard) = (header.place.shards, header.place.shard);
+        if let (Some(first), Some(before)) = (self.names.first(), self.headers.first()) {
+            let others = before.place.shards;
+            if others != shards {
+                return Err(report::failed(
+                    rt,
+                    name_of(name),
+                    format_args!("shard {shard} of {shards}, and {first} has {others} shards"),
+                ));
+            }
+        }
+        self.add(rt, name, header, bytes)
+    }
+
+    fn add<R: Tell + AllocGlobal>(
+        &mut self,
+        rt: &R,
+        name: &str,
+        header: Header,
+        bytes: Vec<u8>,
+    ) -> Result<(), u8> {
+        let Ok(name) = String::from_str(rt.alloc(), name) else {
+            return Err(report::out_of_memory(rt));
+        };
+        if self.names.push(name).is_err()
+            || self.headers.push(header).is_err()
+            || self.files.push(bytes).is_err()
+        {
+            return Err(report::out_of_memory(rt));
+        }
+        Ok(())
     }
 }

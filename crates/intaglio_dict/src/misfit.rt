@@ -1,6 +1,6 @@
 //! Messages on a line or code that isn't translated.
-use intaglio_dict_io::report::{Tell, failed};
-use intaglio_dictionary::codes::{CODE, CodeMap, MISSING};
+use crate::io::report::{Tell, failed};
+use intaglio_dictionary::codes::{CODE, MISSING, PlainCodes};
 use intaglio_dictionary::dictionary::WholeDictionary;
 use intaglio_symbol::Symbol;
 use std::str;
@@ -90,28 +90,12 @@ pub fn no_string<R: Tell, D: WholeDictionary>(
     }
 }
 
-/// Of the code with this number, counted from 1, which is the first of these that a map hasn't.
-pub fn no_number<R: Tell>(rt: &R, name: &str, number: u64, map: &CodeMap<'_>, codes: &[u8]) -> u8 {
-    match find_code(codes, |code| map.get(code).is_none() && code != MISSING) {
-        Some(code) => failed(
-            rt,
-            name,
-            format_args!("code number {number} is {code}, which isn't in the map"),
-        ),
-        None => failed(
-            rt,
-            name,
-            format_args!("code number {number} isn't in the map"),
-        ),
-    }
-}
-
 // The first whole code of which this holds.
 fn find_code<P: FnMut(u32) -> bool + Drop>(codes: &[u8], mut holds: P) -> Option<u32>
     requires { (f : _) (x : _) → P.pre f x }
 {
     for bytes in codes.chunks_exact(CODE) {
-        let code = CodeMap::of(bytes)?.get(0)?;
+        let code = PlainCodes::of(bytes)?.get(0)?;
         if holds(code) {
             return Some(code);
         }

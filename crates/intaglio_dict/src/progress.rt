@@ -1,5 +1,5 @@
 //! How far `freeze` and `merge` are, on standard error.
-use intaglio_dict_io::report::{Tell, say};
+use crate::io::report::{Tell, say};
 use intaglio_dictionary::progress::Progress;
 
 /// Shows each stage that is reached, if that is asked for. A line that can't be written is lost.

@@ -1,28 +1,28 @@
 //! What each subcommand does.
-use crate::columns::{decode_codes, encode_lines, renumber_codes};
+use crate::column_files::checking::{LastDictionary, check_column, stat_column};
+use crate::column_files::counting::count;
+use crate::column_files::matching::match_rows;
+use crate::column_files::rows::rows;
+use crate::columns::{decode_codes, encode_lines};
+use crate::dictionaries::{
+    Bytes, Reference, first_dictionary, header_of, open_shards, read_dictionary,
+};
 use crate::freezing::freeze;
+use crate::io::checking::checked;
+use crate::io::command::files_of;
+use crate::io::noticing::Noticing;
+use crate::io::output::ended;
+use crate::io::report;
+use crate::io::report::Tell;
 use crate::look_ups::{find, get};
 use crate::merging::merge_dictionaries;
+use crate::renumbering::renumber;
 use clap::ArgMatches;
-use intaglio_column_file::{DictionaryId, begins_as_column};
-use intaglio_dict_columns::checking::{LastDictionary, check_column, stat_column};
-use intaglio_dict_columns::counting::count;
-use intaglio_dict_columns::matching::match_rows;
-use intaglio_dict_columns::rows::rows;
-use intaglio_dict_io::checking::{checked, common_kind, kind_of};
-use intaglio_dict_io::command::files_of;
-use intaglio_dict_io::noticing::Noticing;
-use intaglio_dict_io::output::ended;
-use intaglio_dict_io::report;
-use intaglio_dict_io::report::Tell;
-use intaglio_dict_shards::folder::open_shards;
-use intaglio_dict_shards::joining::join_shards;
-use intaglio_dict_shards::opening::{Bytes, first_dictionary, read_dictionary};
-use intaglio_dict_shards::splitting::split_dictionary;
+use intaglio_column_file::begins_as_column;
 use intaglio_dictionary::dictionary::WholeDictionary;
 use intaglio_dictionary::look_up::list;
 use intaglio_dictionary::size::size_of_strings;
-use intaglio_frozen::Kind;
+use intaglio_frozen::{Header, Kind};
 use intaglio_lines::error::StreamError;
 use std::io;
 use std::io::Write;
@@ -69,12 +69,10 @@ fn run_subcommand<R: Files + RandomSource + Input + Print + Tell + AllocGlobal>(
         "encode" => status_of(encode_lines(rt, found)),
         "decode" => status_of(decode_codes(rt, found)),
         "merge" => status_of(merge_dictionaries(rt, found)),
-        "renumber" => status_of(renumber_codes(rt, found)),
+        "renumber" => status_of(renumber(rt, found)),
         "rows" => status_of(rows(rt, found)),
         "count" => status_of(count(rt, found)),
         "match" => match_rows(rt, found),
-        "split" => status_of(split_dictionary(rt, found)),
-        "join" => status_of(join_shards(rt, found)),
         "check" => check(rt, found),
         _ => on_dictionary(rt, name, found),
     }
@@ -92,9 +90,8 @@ fn check<R: Files + Input + Tell + AllocGlobal>(rt: &R, found: &ArgMatches<'_>) 
     let mut status = 0;
     let mut last = None;
     if let Some(names) = found.get_strs("DICT") {
-        for (place, name) in names.iter().enumerate() {
-            let is_followed = place.saturating_add(1) < names.len();
-            status = check_one(rt, name, is_followed, &mut last).max(status);
+        for name in names {
+            status = check_one(rt, name, &mut last).max(status);
         }
     }
     status
@@ -103,11 +100,10 @@ fn check<R: Files + Input + Tell + AllocGlobal>(rt: &R, found: &ArgMatches<'_>) 
 fn check_one<'a, R: Files + Input + Tell + AllocGlobal>(
     rt: &R,
     name: &'a str,
-    is_followed: bool,
     last: &mut Option<LastDictionary<'a>>,
 ) -> u8 {
     match read_dictionary(rt, name) {
-        Ok(bytes) => check_bytes(rt, name, &bytes, is_followed, last),
+        Ok(bytes) => check_bytes(rt, name, &bytes, last),
         Err(status) => status,
     }
 }
@@ -116,7 +112,6 @@ fn check_bytes<'a, R: Tell + AllocGlobal>(
     rt: &R,
     name: &'a str,
     bytes: &Bytes,
-    is_followed: bool,
     last: &mut Option<LastDictionary<'a>>,
 ) -> u8 {
     if let Bytes::OfFile(file) = bytes {
@@ -124,34 +119,30 @@ fn check_bytes<'a, R: Tell + AllocGlobal>(
             return status_of(check_column(rt, *last, name, file));
         }
     }
-    match id_of(rt, name, bytes, is_followed) {
-        Ok(id) => {
-            *last = Some(LastDictionary { name, id });
-            0
-        }
-        Err(status) => {
-            *last = Some(LastDictionary { name, id: None });
-            status
-        }
-    }
+    let checked = check_dictionary(rt, name, bytes);
+    *last = Some(LastDictionary {
+        name,
+        reference: checked.ok().flatten(),
+    });
+    status_of(checked.map(|_| ()))
 }
 
-// What the dictionary in these bytes is, after a check of all of them. That is asked only for columns, so
-// nothing is hashed for it if no file follows. Otherwise the exit status after a message.
-fn id_of<R: Tell + AllocGlobal>(
+// What columns say of the dictionary in these bytes, after a check of all of them: nothing of one shard of
+// several. Otherwise the exit status after a message.
+fn check_dictionary<R: Tell + AllocGlobal>(
     rt: &R,
     name: &str,
     bytes: &Bytes,
-    is_followed: bool,
-) -> Result<Option<DictionaryId>, u8> {
+) -> Result<Option<Reference>, u8> {
     match bytes {
-        Bytes::OfFile(bytes) => {
-            let table = checked(rt, name, bytes)?;
-            Ok(is_followed.then(|| table.id(kind_of(bytes) == Kind::Text)))
+        Bytes::OfFile(file) => {
+            checked(rt, name, file)?;
+            let header = header_of(rt, name, file)?;
+            Ok((header.place.shards == 1).then(|| Reference::of(&header)))
         }
         Bytes::OfShards(all) => {
-            let shards = open_shards(rt, name, all)?;
-            Ok(is_followed.then(|| shards.id(common_kind(all) == Kind::Text)))
+            open_shards(rt, name, all)?;
+            Ok(Some(bytes.reference(rt, name)?))
         }
     }
 }
@@ -175,7 +166,7 @@ fn on_dictionary<R: Files + Input + Print + Tell + AllocGlobal>(
 fn on_file<R: Print + Tell + AllocGlobal>(rt: &R, command: &str, name: &str, bytes: &[u8]) -> u8 {
     match checked(rt, name, bytes) {
         Ok(table) if command == "list" => list_all(rt, &table),
-        Ok(table) => stat(rt, &table, kind_of(bytes), bytes.len() as u64),
+        Ok(table) => stat(rt, &table, name, bytes, bytes.len() as u64),
         Err(status) => status,
     }
 }
@@ -188,7 +179,10 @@ fn on_shards<R: Print + Tell + AllocGlobal>(
 ) -> u8 {
     match open_shards(rt, name, all) {
         Ok(shards) if command == "list" => list_all(rt, &shards),
-        Ok(shards) => stat(rt, &shards, common_kind(all), length_of(all)),
+        Ok(shards) => match all.first() {
+            Some(first) => stat(rt, &shards, name, first, length_of(all)),
+            None => 2,
+        },
         Err(status) => status,
     }
 }
@@ -206,36 +200,55 @@ fn list_all<R: Print + Tell + AllocGlobal, D: WholeDictionary>(rt: &R, table: &D
     ended(rt, answer, output.error)
 }
 
+// Writes what a dictionary has, whose first file has these bytes.
 fn stat<R: Print + Tell + AllocGlobal, D: WholeDictionary>(
     rt: &R,
     table: &D,
-    kind: Kind,
+    name: &str,
+    first: &[u8],
     length: u64,
 ) -> u8 {
+    match header_of(rt, name, first) {
+        Ok(header) => {
+            let mut output = Noticing::new(io::writer(rt));
+            let answer = write_stat(&mut output, table, &header, length);
+            ended(rt, answer, output.error)
+        }
+        Err(status) => status,
+    }
+}
+
+fn write_stat<W: Write, D: WholeDictionary>(
+    output: &mut W,
+    table: &D,
+    header: &Header,
+    length: u64,
+) -> Result<(), StreamError> {
     let size = size_of_strings(table);
     let tenths = length.saturating_mul(10) / size.count.max(1);
-    let mut output = Noticing::new(io::writer(rt));
+    let place = header.place;
     let written = writeln!(
-        &mut output,
-        "kind {}\nstrings {}\nbytes {}\nbytes a string {}.{}\nlongest {}",
-        name_of_kind(kind),
+        output,
+        "kind {}\nstrings {}\nbytes {}\nbytes a string {}.{}\nlongest {}\n\
+         identity {:016x}{:016x}\nshards {}\nshard {}",
+        name_of_kind(header.kind == Kind::Text),
         size.count,
         length,
         tenths / 10,
         tenths % 10,
-        size.longest
+        size.longest,
+        place.set.hash0,
+        place.set.hash1,
+        place.shards,
+        place.shard
     );
-    let answer = match written {
+    match written {
         Ok(()) => Ok(()),
         Err(_) => Err(StreamError::Write),
-    };
-    ended(rt, answer, output.error)
+    }
 }
 
-// What freeze calls a kind.
-fn name_of_kind(kind: Kind) -> &'static str {
-    match kind {
-        Kind::Text => "text",
-        Kind::Bytes => "bytes",
-    }
+/// What freeze calls a kind.
+pub fn name_of_kind(is_text: bool) -> &'static str {
+    if is_text { "text" } else { "bytes" }
 }
