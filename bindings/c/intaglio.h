@@ -82,19 +82,15 @@ typedef struct {
     size_t len;
 } intaglio_spelling;
 
-/* The bytes of a frozen table, where several are passed. `at` isn't null. */
-typedef struct {
-    const uint8_t *at;
-    size_t len;
-} intaglio_block;
-
-/* What the dictionary of a column is: whether its strings are UTF-8, how many there are, and two hashes of them. The library writes it,
- * and no field may be changed. */
+/* A dictionary, or one of its shards: whether the strings are UTF-8, how many there are, the two hashes that are the identity of the
+ * dictionary, how many shards it has, and the number of this one. A dictionary in one file is its only shard. */
 typedef struct {
     bool is_text;
     uint64_t count;
     uint64_t hash0;
     uint64_t hash1;
+    uint32_t shards;
+    uint32_t shard;
 } intaglio_dictionary_id;
 
 /* What the header of a frozen table says, and where its sections begin. The library writes it, and no field needs to be read: `count` is
@@ -137,32 +133,35 @@ typedef uint32_t intaglio_code;
 /* The codes. */
 enum {
     INTAGLIO_DONE = 0,
-    INTAGLIO_NO_TABLE = 1,       /* the handle holds no table */
-    INTAGLIO_FULL = 2,           /* the string is new, and the table holds as many as its limit */
-    INTAGLIO_NO_MEMORY = 3,      /* malloc or realloc returned null */
-    INTAGLIO_TOO_LARGE = 4,      /* a capacity above 2^32 or the limit, or a limit of 0 or above 2^32 */
-    INTAGLIO_STALE = 5,          /* the table has fewer strings than the mark counts */
-    INTAGLIO_NOT_UTF8 = 6,       /* text, path, osstr, packed_text, a frozen table of UTF-8 strings: the bytes aren't UTF-8 */
-    INTAGLIO_INNER_ZERO = 7,     /* cstr: a zero byte before the last byte */
-    INTAGLIO_MISSING_ZERO = 8,   /* cstr: no zero byte at all */
-    INTAGLIO_BAD_ENDS = 9,       /* the ends of a batch decrease or exceed its bytes, or its arrays differ in length */
-    INTAGLIO_NO_SYMBOL = 10,     /* the table has no such symbol; a code of a column is none */
-    INTAGLIO_NO_SPACE = 11,      /* the buffer is too short */
-    INTAGLIO_NO_KIND = 12,       /* the number is not that of a kind */
-    INTAGLIO_NOT_FROZEN = 13,    /* the bytes don't begin as a frozen table does */
-    INTAGLIO_OTHER_VERSION = 14, /* a frozen table or a column of another version */
-    INTAGLIO_RESERVED = 15,      /* a reserved byte of a frozen table or a column isn't zero */
-    INTAGLIO_TOO_MANY = 16,      /* more strings than a frozen table can have, which is 2^31 */
-    INTAGLIO_TRUNCATED = 17,     /* the bytes of a frozen table end within its header or a section, or those of a column before its last row */
-    INTAGLIO_TEXT_ENDS = 18,     /* the strings of a frozen table don't fill its text */
-    INTAGLIO_UNUSED = 19,        /* a place of a frozen table that no string has isn't empty */
-    INTAGLIO_NOT_FOUND = 20,     /* a string of a frozen table isn't found at its symbol */
-    INTAGLIO_TOO_LONG = 21,      /* the strings have 2^32 bytes or more together, too many for a frozen table */
-    INTAGLIO_EQUAL = 22,         /* two strings are equal: never of a table's strings, but no contract says so */
-    INTAGLIO_NO_PLACES = 23,     /* the search for places in a frozen table failed: freeze with other keys */
-    INTAGLIO_NOT_COLUMN = 24,    /* the bytes don't begin as a column does */
-    INTAGLIO_BAD_WIDTH = 25,     /* the codes of a column haven't the least width that serves its dictionary */
-    INTAGLIO_TRAILING_BYTES = 26 /* there are bytes behind the last row of a column */
+    INTAGLIO_NO_TABLE = 1,        /* the handle holds no table */
+    INTAGLIO_FULL = 2,            /* the string is new, and the table holds as many as its limit */
+    INTAGLIO_NO_MEMORY = 3,       /* malloc or realloc returned null */
+    INTAGLIO_TOO_LARGE = 4,       /* a capacity above 2^32 or the limit, or a limit of 0 or above 2^32 */
+    INTAGLIO_STALE = 5,           /* the table has fewer strings than the mark counts */
+    INTAGLIO_NOT_UTF8 = 6,        /* text, path, osstr, packed_text, a frozen table of UTF-8 strings: the bytes aren't UTF-8 */
+    INTAGLIO_INNER_ZERO = 7,      /* cstr: a zero byte before the last byte */
+    INTAGLIO_MISSING_ZERO = 8,    /* cstr: no zero byte at all */
+    INTAGLIO_BAD_ENDS = 9,        /* the ends of a batch decrease or exceed its bytes, or its arrays differ in length */
+    INTAGLIO_NO_SYMBOL = 10,      /* the table has no such symbol; a code of a column is none */
+    INTAGLIO_NO_SPACE = 11,       /* the buffer is too short */
+    INTAGLIO_NO_KIND = 12,        /* the number is not that of a kind */
+    INTAGLIO_NOT_FROZEN = 13,     /* the bytes don't begin as a frozen table does */
+    INTAGLIO_OTHER_VERSION = 14,  /* a frozen table or a column of another version */
+    INTAGLIO_RESERVED = 15,       /* a reserved byte of a frozen table or a column isn't zero */
+    INTAGLIO_TOO_MANY = 16,       /* more strings than a frozen table can have, which is 2^31 */
+    INTAGLIO_TRUNCATED = 17,      /* the bytes of a frozen table end within its header or a section, or those of a column before its last row */
+    INTAGLIO_TEXT_ENDS = 18,      /* the strings of a frozen table don't fill its text */
+    INTAGLIO_UNUSED = 19,         /* a place of a frozen table that no string has isn't empty */
+    INTAGLIO_NOT_FOUND = 20,      /* a string of a frozen table isn't found at its symbol */
+    INTAGLIO_TOO_LONG = 21,       /* the strings have 2^32 bytes or more together, too many for a frozen table */
+    INTAGLIO_EQUAL = 22,          /* two strings are equal: never of a table's strings, but no contract says so */
+    INTAGLIO_NO_PLACES = 23,      /* the search for places in a frozen table failed: freeze with other keys */
+    INTAGLIO_NOT_COLUMN = 24,     /* the bytes don't begin as a column does */
+    INTAGLIO_BAD_WIDTH = 25,      /* the codes of a column haven't the least width that serves its dictionary */
+    INTAGLIO_TRAILING_BYTES = 26, /* there are bytes behind the strings of a frozen table, or behind the last row of a column */
+    INTAGLIO_BAD_SHARD = 27,      /* the number of a shard isn't below the number of shards; the rows of a column come from no dictionary that can be */
+    INTAGLIO_OTHER_IDENTITY = 28, /* the identity in the header of a frozen table isn't that of its strings */
+    INTAGLIO_DAMAGED = 29         /* the checksum of a column isn't that of its codes and its header */
 };
 
 /* Returns the text of a code, without a full stop. */
@@ -194,7 +193,10 @@ static inline const char *intaglio_message(intaglio_code code) {
         case INTAGLIO_NOT_FOUND: return "a string of the frozen table is not found at its symbol";
         case INTAGLIO_NOT_COLUMN: return "not a column";
         case INTAGLIO_BAD_WIDTH: return "the codes do not have the width of the dictionary";
-        case INTAGLIO_TRAILING_BYTES: return "there are bytes behind the last row";
+        case INTAGLIO_TRAILING_BYTES: return "there are bytes behind the last string or row";
+        case INTAGLIO_BAD_SHARD: return "the number of the shard is not below the number of shards";
+        case INTAGLIO_OTHER_IDENTITY: return "the identity is not that of the strings";
+        case INTAGLIO_DAMAGED: return "the column is damaged: it has another checksum";
         default: return "unknown code";
     }
 }
@@ -273,7 +275,7 @@ INTAGLIO_MUST_USE intaglio_code intaglio_check_all(const intaglio_table *table, 
  * strings before the one that isn't there or doesn't fit are then copied, with their ends, and nothing behind them is written. */
 INTAGLIO_MUST_USE intaglio_code intaglio_copy_all(const intaglio_table *table, const uint32_t *symbols, size_t count, uint8_t *buffer, size_t size, size_t *ends, size_t ends_count);
 
-/* A frozen table is a symbol table as one block of bytes, such as a mapped file: docs/FROZEN.md has the format. It has no handle, and
+/* A frozen table is a symbol table as one block of bytes, such as a mapped file: docs/FORMATS.md has the format. It has no handle, and
  * nothing is allocated or freed: each function takes the bytes. Any number of threads may read one at the same time.
  *
  * frozen_check says whether bytes are a frozen table. If they are, and stay as they were, the functions below it find each string at
@@ -338,6 +340,19 @@ static inline size_t intaglio_opened_len(const intaglio_opened *opened) { return
  * nothing is then written. */
 INTAGLIO_MUST_USE intaglio_code intaglio_freeze(const intaglio_table *table, uint64_t key0, uint64_t key1, uint8_t *buffer, size_t size, size_t *len);
 
+/* The same as freeze, but the frozen table is the shard id->shard of id->shards ones, which together are the dictionary whose identity
+ * is id->hash0 and id->hash1. Whether the strings belong to that shard isn't checked. The other fields aren't read. With one shard it is what
+ * freeze makes, and the identity is that of the strings. Errors: those of freeze; BAD_SHARD. */
+INTAGLIO_MUST_USE intaglio_code intaglio_freeze_shard(const intaglio_table *table, uint64_t key0, uint64_t key1, const intaglio_dictionary_id *id, uint8_t *buffer, size_t size, size_t *len);
+
+/* Stores what the dictionary of the table's strings is, if it is in one file. Errors: NO_TABLE. *id is then unchanged. */
+INTAGLIO_MUST_USE intaglio_code intaglio_own_id(const intaglio_table *table, intaglio_dictionary_id *id);
+
+/* Stores which dictionary a frozen table is, or which shard of one: `count` is the number of its own strings. Only the header is read.
+ * The shards of one dictionary have the same kind, hashes and number of shards, each has its own number, and `count` of the dictionary is
+ * the sum of theirs. Errors: those of frozen_check that a header can have. *id is then unchanged. */
+INTAGLIO_MUST_USE intaglio_code intaglio_frozen_id(const uint8_t *bytes, size_t len, intaglio_dictionary_id *id);
+
 /* Interns all strings of a frozen table in its order, all or none, and stores the symbol of each: string i of the frozen table is then that
  * of symbols[i], so codes of the frozen table become codes of the table. `symbols_count` must equal frozen_len. The error is that of the
  * first string, in order, that can't be interned after those before it. The bytes needn't be checked: if they aren't a frozen table, but have
@@ -350,7 +365,7 @@ INTAGLIO_MUST_USE intaglio_code intaglio_absorb(intaglio_table *table, const uin
  * covers this function, but freeze returns NO_SPACE if the number is too small. */
 static inline size_t intaglio_frozen_size(const intaglio_table *table) {
     intaglio_spelling out;
-    size_t count = intaglio_len(table), places = count + count / 19 + 2, size = 64 + 5 * places + 4 * count + 2 * (count / 3 + 1);
+    size_t count = intaglio_len(table), places = count + count / 19 + 2, size = 128 + 5 * places + 4 * count + 2 * (count / 3 + 1);
     for (size_t i = 0; i < count; i++)
         if (intaglio_get(table, (uint32_t)i, &out)) size += out.len;
     return size;
@@ -359,38 +374,41 @@ static inline size_t intaglio_frozen_size(const intaglio_table *table) {
 /* Returns whether the table is one of UTF-8 strings, which frozen_check has then found them to be, or false if the header is invalid. */
 bool intaglio_frozen_is_text(const uint8_t *bytes, size_t len);
 
-/* A column is a list of codes in one block of bytes, such as a mapped file, that says which dictionary they belong to: docs/COLUMN-FILES.md has
- * the format. The dictionary is a frozen table, or several, its shards (shards_id), and the code of a row is the symbol of its string there, or
- * INTAGLIO_MISSING. As a frozen table, a column has no handle, and any number of threads may read one at the same time.
+/* A column is a list of codes in one block of bytes, such as a mapped file, that says which dictionary they belong to: docs/FORMATS.md has the
+ * format. The dictionary is a frozen table, or several, its shards, and the code of a row is the symbol of its string there, or
+ * INTAGLIO_MISSING. Symbols of a shard count on from those of the shards before it. As a frozen table, a column has no handle, and any number of
+ * threads may read one at the same time.
  *
- * column_check says whether bytes are a column. The functions below it never read outside the bytes, whatever these are; of bytes that
- * weren't checked, a code may be that of no string. Rows are counted from 0. */
+ * column_check says whether bytes are a column. The functions below it never read outside the bytes, whatever these are; of bytes that weren't
+ * checked, a code may be that of no string. Rows are counted from 0. */
 
 /* The code of a row whose string the dictionary doesn't have. It is never a symbol. */
 #define INTAGLIO_MISSING UINT32_MAX
 
 /* Checks that these bytes are a column. All of them are read.
- * Errors: NOT_COLUMN, OTHER_VERSION, NO_KIND, TOO_MANY, BAD_WIDTH, RESERVED, TRUNCATED, TRAILING_BYTES, NO_SYMBOL. */
+ * Errors: NOT_COLUMN, OTHER_VERSION, NO_KIND, TOO_MANY, BAD_WIDTH, BAD_SHARD, RESERVED, TRUNCATED, TRAILING_BYTES, DAMAGED, NO_SYMBOL. */
 INTAGLIO_MUST_USE intaglio_code intaglio_column_check(const uint8_t *bytes, size_t len);
 
 /* Returns the number of rows, or 0 if the header is invalid or doesn't agree with the number of bytes. */
 size_t intaglio_column_len(const uint8_t *bytes, size_t len);
 
-/* Returns how many bytes a code has, 1, 2 or 4, or 0 as column_len. The codes begin at byte 64, little-endian; the greatest of 1 or 2 bytes
+/* Returns how many bytes a code has, 1, 2 or 4, or 0 as column_len. The codes begin at byte 128, little-endian; the greatest of 1 or 2 bytes
  * stands for INTAGLIO_MISSING. */
 size_t intaglio_column_width(const uint8_t *bytes, size_t len);
 
-/* Stores which dictionary a column belongs to, and which dictionary a frozen table is; of that, the ends and the text are read. A column
- * fits a frozen table if both are the same by intaglio_same_dictionary. shards_id is for a dictionary in shards. Of one block it stores what
- * frozen_id does, and also refuses ends that decrease, which frozen_id doesn't compare.
- * Errors: those of column_check and frozen_check that a header, or the number of bytes, can have. *id is then unchanged. */
+/* Stores which dictionary a column belongs to. In the map of a shard, it is the shard with the same number, and `count` is the number of its
+ * strings; otherwise `shard` is 0. Errors: those of column_check that a header, or the number of bytes, can have. *id is then unchanged. */
 INTAGLIO_MUST_USE intaglio_code intaglio_column_id(const uint8_t *bytes, size_t len, intaglio_dictionary_id *id);
-INTAGLIO_MUST_USE intaglio_code intaglio_frozen_id(const uint8_t *bytes, size_t len, intaglio_dictionary_id *id);
 
-/* Returns whether two dictionaries have the same strings in the same order, and the same kind, as far as their hashes say: two hashes of
- * eight bytes, which aren't made to resist strings that somebody chose. */
+/* Stores from which dictionary the rows of a column come. If it is a map, row i is the string with symbol i of this dictionary, or of this
+ * shard of it, and `count` is the number of rows. If the rows are lines, `shards` is 0. Errors: those of column_id. *id is then unchanged. */
+INTAGLIO_MUST_USE intaglio_code intaglio_column_source(const uint8_t *bytes, size_t len, intaglio_dictionary_id *id);
+
+/* Returns whether two dictionaries, or two shards, have the same strings in the same order, and the same kind, as far as their hashes say: two
+ * hashes of eight bytes, which aren't made to resist strings that somebody chose. A dictionary in shards can be made in several ways, and
+ * then differs from one with the same strings. */
 static inline bool intaglio_same_dictionary(const intaglio_dictionary_id *one, const intaglio_dictionary_id *other) {
-    return one->is_text == other->is_text && one->count == other->count && one->hash0 == other->hash0 && one->hash1 == other->hash1;
+    return one->is_text == other->is_text && one->count == other->count && one->hash0 == other->hash0 && one->hash1 == other->hash1 && one->shards == other->shards && one->shard == other->shard;
 }
 
 /* Stores the code of a row. Returns false if there is no such row; *code is then unchanged. */
@@ -407,37 +425,32 @@ size_t intaglio_column_rows(const uint8_t *bytes, size_t len, uint32_t code, uin
  * number of the dictionary's strings. Errors: BAD_ENDS, and those of column_id. Nothing is then written. */
 INTAGLIO_MUST_USE intaglio_code intaglio_column_counts(const uint8_t *bytes, size_t len, uint64_t *counts, size_t count, uint64_t *missing);
 
-/* Makes a column of codes: stores the number of its bytes in *len, and copies them to the start of the buffer if it has space for all of
- * them, as it has with intaglio_column_size. The same codes under the same dictionary give the same bytes.
- * Errors: NO_SYMBOL, TOO_MANY, NO_MEMORY; nothing is then written. NO_SPACE, with *len. */
+/* Makes a column of lines that have these codes: stores the number of its bytes in *len, and copies them to the start of the buffer if it has space
+ * for all of them, as it has with intaglio_column_size. The same codes under the same dictionary give the same bytes. Errors: NO_SYMBOL,
+ * TOO_MANY, BAD_SHARD for a dictionary without shards, NO_MEMORY; nothing is then written. NO_SPACE, with *len. */
 INTAGLIO_MUST_USE intaglio_code intaglio_column_write(const intaglio_dictionary_id *id, const uint32_t *codes, size_t count, uint8_t *buffer, size_t size, size_t *len);
 
 /* Returns how many bytes a column of so many codes has. No contract covers this function, but column_write returns NO_SPACE if the number is
  * too small. */
 static inline size_t intaglio_column_size(const intaglio_dictionary_id *id, size_t count) {
     size_t width = id->count <= 255 ? 1 : (id->count <= 65535 ? 2 : 4);
-    return 64 + width * count;
+    return 128 + width * count;
 }
 
-/* A dictionary in shards is a folder of frozen tables, of which each has the strings that belong to it: docs/FROZEN.md has the format. So equal
+/* A dictionary in shards is several frozen tables, of which each has the strings that belong to it: docs/FORMATS.md has the format. So equal
  * strings of several dictionaries meet in one shard, on whatever machine. */
 
-/* Stores which dictionary the shards are together: what frozen_id stores for one frozen table that has the strings of all shards, one shard
- * after the other, and whose strings are UTF-8 if those of each shard are. The ends and the text of each shard are read. Whether each string
- * is found, and is in the shard that it belongs to, isn't checked. Memory for the number of shards is allocated, and freed before the call
- * returns.
- * Errors: those of frozen_check that a header, the number of bytes or the ends can have; *number is then that of the first shard with such a
- * fault. TOO_MANY if there are 2^32 strings or more together, and NO_MEMORY; *number is then `count`, as it is without an error. After
- * an error *id is unchanged. */
-INTAGLIO_MUST_USE intaglio_code intaglio_shards_id(const intaglio_block *shards, size_t count, intaglio_dictionary_id *id, size_t *number);
-
-/* Returns which shard a string belongs to, of `shards` ones: from 0 to shards - 1. It depends on the bytes and on `shards` alone. If `shards` is 0, it
- * is 0. */
+/* Returns which shard a string belongs to, of `shards` ones: from 0 to shards - 1. It depends on the bytes and on `shards` alone. If `shards` is 0,
+ * it is 0. */
 uint32_t intaglio_shard_of(uint32_t shards, const uint8_t *string, size_t len);
 
-/* Returns the hash of bytes under two keys, by SipHash-1-3. Two of these, under the keys 0 and 0, and under 0 and 1, are the checksum of a map in a
- * folder of shards. */
-uint64_t intaglio_keyed_hash(uint64_t key0, uint64_t key1, const uint8_t *bytes, size_t len);
+/* Stores the identity of a dictionary whose shards are these, in their order, as own_id has each of them. Errors: NO_MEMORY; nothing is then
+ * written. */
+INTAGLIO_MUST_USE intaglio_code intaglio_set_of_shards(const intaglio_dictionary_id *ids, size_t count, uint64_t *hash0, uint64_t *hash1);
+
+/* Stores the identity of a dictionary in so many shards, each of which is merged of the shards with its number of several dictionaries, the
+ * parts, in their order. Of each part only the hashes are read, so one of its shards says enough. Errors: NO_MEMORY; nothing is then written. */
+INTAGLIO_MUST_USE intaglio_code intaglio_set_of_merge(uint32_t shards, const intaglio_dictionary_id *parts, size_t count, uint64_t *hash0, uint64_t *hash1);
 
 /* The functions on tables for each kind, on a struct of that kind, such as intaglio_text. Initialize it with INTAGLIO_NONE. */
 /* clang-format off */
@@ -463,6 +476,8 @@ uint64_t intaglio_keyed_hash(uint64_t key0, uint64_t key1, const uint8_t *bytes,
     INTAGLIO_MUST_USE static inline intaglio_code intaglio_##NAME##_check_all(const intaglio_##NAME *table, const uint8_t *bytes, size_t len, const size_t *ends, size_t count, uint64_t *symbols, size_t symbols_count) { return intaglio_check_all(&table->table, bytes, len, ends, count, symbols, symbols_count); } \
     INTAGLIO_MUST_USE static inline intaglio_code intaglio_##NAME##_copy_all(const intaglio_##NAME *table, const uint32_t *symbols, size_t count, uint8_t *buffer, size_t size, size_t *ends, size_t ends_count) { return intaglio_copy_all(&table->table, symbols, count, buffer, size, ends, ends_count); } \
     INTAGLIO_MUST_USE static inline intaglio_code intaglio_##NAME##_freeze(const intaglio_##NAME *table, uint64_t key0, uint64_t key1, uint8_t *buffer, size_t size, size_t *len) { return intaglio_freeze(&table->table, key0, key1, buffer, size, len); } \
+    INTAGLIO_MUST_USE static inline intaglio_code intaglio_##NAME##_freeze_shard(const intaglio_##NAME *table, uint64_t key0, uint64_t key1, const intaglio_dictionary_id *id, uint8_t *buffer, size_t size, size_t *len) { return intaglio_freeze_shard(&table->table, key0, key1, id, buffer, size, len); } \
+    INTAGLIO_MUST_USE static inline intaglio_code intaglio_##NAME##_own_id(const intaglio_##NAME *table, intaglio_dictionary_id *id) { return intaglio_own_id(&table->table, id); } \
     INTAGLIO_MUST_USE static inline intaglio_code intaglio_##NAME##_absorb(intaglio_##NAME *table, const uint8_t *frozen, size_t len, uint32_t *symbols, size_t symbols_count) { return intaglio_absorb(&table->table, frozen, len, symbols, symbols_count); }
 
 INTAGLIO_KIND(text, INTAGLIO_TEXT)

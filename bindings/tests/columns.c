@@ -112,93 +112,76 @@ static void same_dictionary(const uint8_t *bytes, size_t len, const uint8_t *tab
     free(counts);
 }
 
-/* A frozen table of the strings from one symbol to another. */
-static intaglio_block freeze_some(const uint8_t *table, size_t len, size_t from, size_t to, uint32_t kind) {
+/* The strings of a frozen table that belong to a shard. */
+static intaglio_table some_of(const uint8_t *table, size_t len, uint32_t shards, uint32_t shard) {
     intaglio_table part = INTAGLIO_TABLE_NONE;
     intaglio_spelling string;
-    intaglio_block block;
     uint32_t symbol;
-    WANT(intaglio_new(&part, kind, 1, 2) == INTAGLIO_DONE);
-    for (size_t i = from; i < to; i++) {
-        WANT(intaglio_frozen_get(table, len, (uint32_t)i, &string));
-        WANT(intaglio_intern(&part, string.at, string.len, &symbol) == INTAGLIO_DONE && symbol == i - from);
-    }
-    size_t size = intaglio_frozen_size(&part);
+    WANT(intaglio_new(&part, INTAGLIO_TEXT, 1, 2) == INTAGLIO_DONE);
+    for (uint32_t i = 0; intaglio_frozen_get(table, len, i, &string); i++)
+        if (intaglio_shard_of(shards, string.at, string.len) == shard) WANT(intaglio_intern(&part, string.at, string.len, &symbol) == INTAGLIO_DONE);
+    return part;
+}
+
+/* A shard of a dictionary is written, and its header says which. Returns it, and how many bytes it has. */
+static uint8_t *write_shard(const intaglio_table *part, const intaglio_dictionary_id *id, size_t *len) {
+    size_t size = intaglio_frozen_size(part);
     uint8_t *bytes = (uint8_t *)malloc(size);
-    WANT(bytes && intaglio_freeze(&part, 5, 6, bytes, size, &block.len) == INTAGLIO_DONE && block.len == size);
-    block.at = bytes;
-    intaglio_free(&part);
-    return block;
+    intaglio_dictionary_id found = *id;
+    WANT(bytes && intaglio_freeze_shard(part, 5, 6, id, bytes, size, len) == INTAGLIO_DONE && *len == size);
+    WANT(intaglio_frozen_check(bytes, size) == INTAGLIO_DONE && intaglio_frozen_id(bytes, size, &found) == INTAGLIO_DONE);
+    WANT(found.is_text && found.count == intaglio_len(part) && found.hash0 == id->hash0 && found.hash1 == id->hash1);
+    WANT(found.shards == id->shards && found.shard == id->shard);
+    return bytes;
 }
 
-/* What shards are, whole. */
-static intaglio_dictionary_id id_of(const intaglio_block *shards, size_t number_of_shards) {
-    intaglio_dictionary_id id;
-    size_t number = UNWRITTEN;
-    memset(&id, UNWRITTEN, sizeof id);
-    WANT(intaglio_shards_id(shards, number_of_shards, &id, &number) == INTAGLIO_DONE && number == number_of_shards);
-    return id;
+/* What can't be a shard isn't written. */
+static void refuse_shards(const intaglio_table *part, intaglio_dictionary_id id) {
+    size_t size = UNWRITTEN;
+    uint8_t byte = UNWRITTEN;
+    id.shard = id.shards;
+    WANT(intaglio_freeze_shard(part, 5, 6, &id, &byte, 1, &size) == INTAGLIO_BAD_SHARD && size == UNWRITTEN && byte == UNWRITTEN);
+    id.shard--;
+    WANT(intaglio_freeze_shard(part, 5, 6, &id, &byte, 1, &size) == INTAGLIO_NO_SPACE && size == intaglio_frozen_size(part) && byte == UNWRITTEN);
+    id.shards = 0;
+    WANT(intaglio_column_write(&id, NULL, 0, &byte, 1, &size) == INTAGLIO_BAD_SHARD && byte == UNWRITTEN);
+    intaglio_table none = INTAGLIO_TABLE_NONE;
+    WANT(intaglio_own_id(&none, &id) == INTAGLIO_NO_TABLE && id.shards == 0);
+    WANT(intaglio_freeze_shard(&none, 5, 6, &id, &byte, 1, &size) == INTAGLIO_NO_TABLE && byte == UNWRITTEN);
 }
 
-/* Shards with a fault: the number is that of the first, and nothing else is written. */
-static void refuse_shards(const intaglio_block *shards, uint32_t code, size_t first) {
-    intaglio_dictionary_id id, unwritten;
-    size_t number = UNWRITTEN;
-    memset(&id, UNWRITTEN, sizeof id);
-    memset(&unwritten, UNWRITTEN, sizeof unwritten);
-    WANT(intaglio_shards_id(shards, SHARDS, &id, &number) == code && number == first);
-    WANT(id.count == unwritten.count && id.hash0 == unwritten.hash0 && id.hash1 == unwritten.hash1);
-}
-
-/* Damages each shard in turn, and those behind it. */
-static void damage_shards(const intaglio_block *shards) {
-    for (size_t first = 0; first < SHARDS; first++) {
-        intaglio_block damaged[SHARDS];
-        uint8_t *bytes = (uint8_t *)malloc(shards[first].len);
-        WANT(bytes);
-        memcpy(bytes, shards[first].at, shards[first].len);
-        memcpy(damaged, shards, sizeof damaged);
-        for (size_t i = first; i < SHARDS; i++) damaged[i].len = i == first ? damaged[i].len - 1 : 0;
-        /* (the text is one byte shorter, or the last section, if there is no text) */
-        refuse_shards(damaged, intaglio_frozen_len(damaged[first].at, damaged[first].len) ? INTAGLIO_TEXT_ENDS : INTAGLIO_TRUNCATED, first);
-        damaged[first].len = 63;
-        refuse_shards(damaged, INTAGLIO_TRUNCATED, first);
-        damaged[first].len = 0;
-        refuse_shards(damaged, INTAGLIO_NOT_FROZEN, first);
-        damaged[first].at = bytes;
-        damaged[first].len = shards[first].len;
-        bytes[8]++;
-        refuse_shards(damaged, INTAGLIO_OTHER_VERSION, first);
+/* The strings of a frozen table are a dictionary in one shard and in several, and a column belongs to it. */
+static void share_out(const uint8_t *table, size_t len) {
+    intaglio_table parts[SHARDS];
+    intaglio_dictionary_id ids[SHARDS], id, found;
+    uint64_t hash0, hash1, other0, other1;
+    uint8_t column[256];
+    size_t size;
+    for (uint32_t shard = 0; shard < SHARDS; shard++) {
+        parts[shard] = some_of(table, len, SHARDS, shard);
+        WANT(intaglio_own_id(parts + shard, ids + shard) == INTAGLIO_DONE && ids[shard].shards == 1 && ids[shard].shard == 0);
+        uint8_t *bytes = write_shard(parts + shard, ids + shard, &size);
+        WANT(intaglio_frozen_id(bytes, size, &found) == INTAGLIO_DONE && intaglio_same_dictionary(ids + shard, &found));
         free(bytes);
+        WANT(intaglio_set_of_shards(ids + shard, 1, &hash0, &hash1) == INTAGLIO_DONE && hash0 == ids[shard].hash0 && hash1 == ids[shard].hash1);
     }
-}
-
-/* The strings of the table in shards are the same dictionary: in one, in three, of which one may be empty, and in those in another order not. */
-static void same_in_shards(const uint8_t *table, size_t len) {
-    intaglio_dictionary_id whole, id;
-    const intaglio_block one = {table, len};
-    size_t strings = intaglio_frozen_len(table, len), half = strings / 2;
-    WANT(intaglio_frozen_id(table, len, &whole) == INTAGLIO_DONE && whole.is_text);
-    id = id_of(&one, 1);
-    WANT(intaglio_same_dictionary(&whole, &id));
-    const intaglio_block shards[SHARDS] = {
-        freeze_some(table, len, 0, half, INTAGLIO_TEXT), freeze_some(table, len, half, half, INTAGLIO_TEXT), freeze_some(table, len, half, strings, INTAGLIO_PACKED_TEXT)};
-    id = id_of(shards, SHARDS);
-    WANT(intaglio_same_dictionary(&whole, &id));
-    damage_shards(shards);
-    const intaglio_block turned[] = {shards[2], shards[0]}, mixed[] = {freeze_some(table, len, 0, half, INTAGLIO_BYTES), shards[2]};
-    id = id_of(turned, 2);
-    WANT(id.count == whole.count && intaglio_same_dictionary(&whole, &id) == (half == 0));
-    /* One shard of bytes makes all of them bytes. */
-    const intaglio_block bytes = freeze_some(table, len, 0, strings, INTAGLIO_BYTES);
-    WANT(intaglio_frozen_id(bytes.at, bytes.len, &whole) == INTAGLIO_DONE && !whole.is_text);
-    id = id_of(mixed, 2);
-    WANT(intaglio_same_dictionary(&whole, &id));
-    id = id_of(NULL, 0);
-    WANT(id.is_text && id.count == 0);
-    for (size_t i = 0; i < SHARDS; i++) free((void *)(uintptr_t)shards[i].at);
-    free((void *)(uintptr_t)mixed[0].at);
-    free((void *)(uintptr_t)bytes.at);
+    WANT(intaglio_set_of_shards(ids, SHARDS, &hash0, &hash1) == INTAGLIO_DONE);
+    WANT(intaglio_set_of_merge(SHARDS, ids, SHARDS, &other0, &other1) == INTAGLIO_DONE && (hash0 != other0 || hash1 != other1));
+    id = ids[0];
+    id.count = 0;
+    id.hash0 = hash0;
+    id.hash1 = hash1;
+    id.shards = SHARDS;
+    for (id.shard = 0; id.shard < SHARDS; id.shard++) {
+        free(write_shard(parts + id.shard, &id, &size));
+        id.count += intaglio_len(parts + id.shard);
+    }
+    id.shard = 0;
+    WANT(id.count == intaglio_frozen_len(table, len) && intaglio_column_write(&id, NULL, 0, column, sizeof column, &size) == INTAGLIO_DONE);
+    WANT(intaglio_column_check(column, size) == INTAGLIO_DONE && intaglio_column_id(column, size, &found) == INTAGLIO_DONE && intaglio_same_dictionary(&id, &found));
+    WANT(intaglio_column_source(column, size, &found) == INTAGLIO_DONE && found.shards == 0 && found.shard == 0 && found.hash0 == 0 && found.count == 0);
+    refuse_shards(parts, id);
+    for (size_t i = 0; i < SHARDS; i++) intaglio_free(parts + i);
 }
 
 /* The codes are made the same bytes. */
@@ -215,7 +198,7 @@ static void write_codes(const uint8_t *bytes, size_t len) {
     size = UNWRITTEN;
     uint32_t none = (uint32_t)id.count;
     WANT(intaglio_column_write(&id, &none, 1, made, len, &size) == INTAGLIO_NO_SYMBOL && size == UNWRITTEN && made[0] == UNWRITTEN);
-    id.count = (UINT64_C(1) << 31) + 1;
+    id.count = UINT64_C(1) << 32;
     WANT(intaglio_column_write(&id, wanted, count, made, len, &size) == INTAGLIO_TOO_MANY && size == UNWRITTEN && made[0] == UNWRITTEN);
     WANT(intaglio_column_check(NULL, 0) == INTAGLIO_NOT_COLUMN && intaglio_column_len(NULL, 0) == 0 && intaglio_column_width(NULL, 0) == 0);
     free(made);
@@ -251,7 +234,7 @@ int main(int argc, char **argv) {
     WANT(intaglio_column_width(bytes, len) == (size_t)atoi(argv[3]));
     same_codes(bytes, len);
     same_dictionary(bytes, len, table, table_len);
-    same_in_shards(table, table_len);
+    share_out(table, table_len);
     write_codes(bytes, len);
     for (size_t cut = 0; cut < len; cut++) {
         /* (an allocation of its own, so that a read behind it is seen) */

@@ -563,7 +563,7 @@ int main(int argc, char **argv) {
     unsigned long long most = argc > 2 ? strtoull(argv[2], NULL, 10) : 1000000;
     state = seed;
     WANT(intaglio_version() == INTAGLIO_VERSION);
-    for (uint32_t code = 0; code <= INTAGLIO_TRAILING_BYTES + 1; code++)
+    for (uint32_t code = 0; code <= INTAGLIO_DAMAGED + 1; code++)
         for (uint32_t other = 0; other < code; other++) WANT(strcmp(intaglio_message(code), intaglio_message(other)) != 0);
     for (size_t i = 0; i < TABLES; i++) {
         const intaglio_table none = INTAGLIO_TABLE_NONE;

@@ -73,7 +73,7 @@ static void compare_opened(const uint8_t *bytes, size_t len) {
     WANT(headless && intaglio_open(&opened, bytes, len) == INTAGLIO_DONE && intaglio_opened_len(&opened) == count);
     WANT(opened.bytes == bytes && opened.len == len && (opened.sections.kind == 1) == intaglio_frozen_is_text(bytes, len));
     memcpy(headless, bytes, len);
-    memset(headless, 7, 64);
+    memset(headless, 7, 128);
     opened.bytes = headless;
     for (size_t i = 0; i < count; i++) {
         const uint8_t *string = text + start_of(i);
@@ -85,7 +85,7 @@ static void compare_opened(const uint8_t *bytes, size_t len) {
     out.len = symbol = 7;
     WANT(!intaglio_opened_get(&opened, (uint32_t)count, &out) && !intaglio_opened_get(&opened, UINT32_MAX, &out) && out.len == 7);
     WANT(!intaglio_opened_find(&opened, (const uint8_t *)"absent\n", 7, &symbol) && symbol == 7);
-    WANT(intaglio_open(&opened, bytes, 63) == INTAGLIO_TRUNCATED && opened.bytes == headless && intaglio_opened_len(&opened) == count);
+    WANT(intaglio_open(&opened, bytes, 127) == INTAGLIO_TRUNCATED && opened.bytes == headless && intaglio_opened_len(&opened) == count);
     free(headless);
 }
 

@@ -82,7 +82,7 @@ static size_t spell(uint32_t kind, uint32_t i, uint8_t *into) {
 
 /* Trusted bytes are opened by their header alone: here no byte behind it can be read. */
 static void open_by_header(const uint8_t *frozen, size_t len, bool is_text, uint32_t kind) {
-    enum { HEADER = 64 };
+    enum { HEADER = 128 };
     size_t page = (size_t)sysconf(_SC_PAGESIZE), size = page + (len / page + 1) * page;
     uint8_t *pages = (uint8_t *)mmap(NULL, size, PROT_READ | PROT_WRITE, MAP_PRIVATE | MAP_ANONYMOUS, -1, 0);
     if (pages == MAP_FAILED) exit(2);

@@ -52,86 +52,50 @@ static bool done(uint32_t code, long before, long nth) {
     return code == INTAGLIO_DONE;
 }
 
-static const char *const words[] = {"5", "6", "7", "8", "9", "10", "11", "12"};
+/* Makes a call until it succeeds. After each time that it failed the table has so many strings. */
+#define EACH(CALL, COUNT) \
+    for (long before = refused; !done(CALL, before, nth); before = refused, holds(&table, COUNT, nth))
 
-static void intern_group(intaglio_table *table, long nth) {
-    uint8_t bytes[64];
-    size_t ends[8], len = 0;
-    uint32_t symbols[8];
-    for (int i = 0; i < 8; i++) {
-        memcpy(bytes + len, words[i], strlen(words[i]));
-        ends[i] = len += strlen(words[i]);
-    }
-    long before = refused;
-    while (!done(intaglio_intern_all(table, bytes, len, ends, 8, symbols, 8), before, nth)) {
-        holds(table, 5, nth);
-        before = refused;
-    }
-    for (uint32_t i = 0; i < 8; i++) WANT(symbols[i] == 5 + i);
-    holds(table, 13, nth);
-}
-
-/* One run, on a table of the kind. A call that failed is made again, and then succeeds. */
+/* One run, on a table of the kind. */
 static void run(uint32_t kind, long nth) {
     intaglio_table table = INTAGLIO_TABLE_NONE;
-    uint32_t symbol;
-    long before = refused;
-    while (!done(intaglio_with_capacity(&table, kind, 2, 1, 2), before, nth)) {
-        WANT(!table.live && intaglio_intern(&table, (const uint8_t *)"a", 1, &symbol) == INTAGLIO_NO_TABLE);
-        before = refused;
-    }
+    uint32_t symbol, symbols[14];
+    uint8_t bytes[64], frozen[1024];
+    size_t ends[8], len = 0, size;
+    EACH(intaglio_with_capacity(&table, kind, 2, 1, 2), 0)
+    WANT(!table.live);
     for (uint32_t i = 0; i < 5; i++) {
         char word[16];
-        size_t len = spell(word, i);
-        before = refused;
-        while (!done(intaglio_intern(&table, (const uint8_t *)word, len, &symbol), before, nth)) {
-            holds(&table, i, nth);
-            before = refused;
-        }
+        EACH(intaglio_intern(&table, (const uint8_t *)word, spell(word, i), &symbol), i) {}
         WANT(symbol == i);
     }
-    intern_group(&table, nth);
-    before = refused;
-    while (!done(intaglio_intern_static(&table, (const uint8_t *)"13", 2, &symbol), before, nth)) {
-        holds(&table, 13, nth);
-        before = refused;
-    }
-    before = refused;
-    while (!done(intaglio_reserve(&table, 100), before, nth)) {
-        holds(&table, 14, nth);
-        before = refused;
-    }
+    for (uint32_t i = 0; i < 8; i++) ends[i] = len += spell((char *)bytes + len, 5 + i);
+    EACH(intaglio_intern_all(&table, bytes, len, ends, 8, symbols, 8), 5) {}
+    for (uint32_t i = 0; i < 8; i++) WANT(symbols[i] == 5 + i);
+    holds(&table, 13, nth);
+    EACH(intaglio_intern_static(&table, (const uint8_t *)"13", 2, &symbol), 13) {}
+    EACH(intaglio_reserve(&table, 100), 14) {}
     WANT(intaglio_capacity(&table) >= 114);
-    before = refused;
     /* If an allocation of a shrink after its first fails, nothing may report it: a list then keeps its memory. */
+    long first = refused;
     uint32_t code = intaglio_shrink_to(&table, 0);
-    WANT(code == INTAGLIO_DONE || (code == INTAGLIO_NO_MEMORY && refused == before + 1));
+    WANT(code == INTAGLIO_DONE || (code == INTAGLIO_NO_MEMORY && refused == first + 1));
     holds(&table, 14, nth);
-    uint8_t frozen[1024];
-    size_t size;
-    before = refused;
-    while (!done(intaglio_freeze(&table, 1, 2, frozen, sizeof frozen, &size), before, nth)) {
-        holds(&table, 14, nth);
-        before = refused;
-    }
+    EACH(intaglio_freeze(&table, 1, 2, frozen, sizeof frozen, &size), 14) {}
     WANT(intaglio_frozen_check(frozen, size) == INTAGLIO_DONE && intaglio_frozen_len(frozen, size) == 14);
-    const intaglio_block shards[] = {{frozen, size}, {frozen, size}};
-    intaglio_dictionary_id id = {false, 7, 7, 7};
-    size_t number = 7;
-    before = refused;
-    while (!done(intaglio_shards_id(shards, 2, &id, &number), before, nth)) {
-        WANT(id.count == 7 && id.hash0 == 7 && id.hash1 == 7 && number == 2);
-        before = refused;
-    }
-    WANT(id.count == 28 && number == 2);
+    intaglio_dictionary_id ids[2];
+    uint64_t hash0 = 7, hash1 = 7;
+    WANT(intaglio_frozen_id(frozen, size, ids) == INTAGLIO_DONE);
+    ids[1] = ids[0];
+    EACH(intaglio_set_of_shards(ids, 2, &hash0, &hash1), 14)
+    WANT(hash0 == 7 && hash1 == 7);
+    uint64_t of_shards = hash0;
+    EACH(intaglio_set_of_merge(2, ids, 2, &hash0, &hash1), 14)
+    WANT(hash0 == of_shards);
+    WANT(hash0 != of_shards && of_shards != 7);
     WANT(intaglio_take_back(&table, 5) == INTAGLIO_DONE);
-    uint32_t map[14];
-    before = refused;
-    while (!done(intaglio_absorb(&table, frozen, size, map, 14), before, nth)) {
-        holds(&table, 5, nth);
-        before = refused;
-    }
-    for (uint32_t i = 0; i < 14; i++) WANT(map[i] == i);
+    EACH(intaglio_absorb(&table, frozen, size, symbols, 14), 5) {}
+    for (uint32_t i = 0; i < 14; i++) WANT(symbols[i] == i);
     holds(&table, 14, nth);
     intaglio_free(&table);
 }

@@ -12,7 +12,7 @@ from pathlib import Path
 from unittest import mock
 
 from intaglio import (
-    MISSING, BytesTable, Column, Frozen, Full, Missing, NoSpace, NotUtf8, PathTable, Shards, SymbolTable, merge, renumber, split,
+    MISSING, BytesTable, Column, Frozen, Full, Missing, NoSpace, NotUtf8, PathTable, SymbolTable, merge, renumber,
 )
 
 try:
@@ -35,8 +35,7 @@ def frozen_of(strings):
 def in_shards(strings, of_strings=frozen_of):
     """The same as a dictionary in one shard, whose order is that of the strings."""
     with tempfile.TemporaryDirectory() as folder:
-        split(of_strings(strings), folder, 1)
-        return Shards(folder)
+        return merge([of_strings(strings)], folder, shards=1)[0]
 
 
 def codes_of(column, symbols):
@@ -121,6 +120,20 @@ class Arrays(unittest.TestCase):
             self.assertEqual(codes.tolist(), out.tolist())
         codes = numpy.frombuffer(words.encode(["be", "no", "to"], missing=MISSING), "i4")
         self.assertEqual(codes.tolist(), [1, -1, 0])
+        words = Frozen.from_bytes(SymbolTable(STRINGS).freeze())
+        self.assertEqual(words.decode(numpy.array([[3, 0], [1, 1]], "u4")), ["é", "to", "be", "be"])
+        out = numpy.full(4, 9, numpy.uint32)
+        self.assertEqual((words.encode_into(["be"], out[2:]), out.tolist()), (1, [9, 9, 1, 9]))
+        with self.assertRaises(ValueError):
+            words.encode_into(["to"], numpy.zeros(6, "u4")[::2])
+
+    def test_other_arrays_are_no_codes(self):
+        words = Frozen.from_bytes(SymbolTable(STRINGS).freeze())
+        for kind in ("i8", "u8", "u2", "i2", "f4", ">u4", ">i4", "S4"):
+            advice = {"u2": "widened", "S4": "encode"}.get(kind, "astype")
+            for call in (words.decode, lambda it: words.encode_into(["to"], it), lambda it: renumber(it, numpy.zeros(3, "u4"))):
+                with self.assertRaisesRegex(TypeError, f"^codes are integers of 4 bytes.*: .*{advice}"):
+                    call(numpy.zeros(3, kind))
 
     def test_lines_of_numpy(self):
         lines = numpy.frombuffer(b"b\na\nb", numpy.uint8)
@@ -136,7 +149,11 @@ class Arrays(unittest.TestCase):
             wanted = codes_of(column, symbols)
             for given in (column, numpy.array(column, object)):
                 self.assertEqual((list(table.encode(given, missing=MISSING)), list(table)), (wanted, [*symbols]))
-                self.assertEqual(list(frozen_of([*symbols]).encode(given, missing=MISSING)), wanted)
+                words, codes = frozen_of([*symbols]), numpy.array(wanted, numpy.uint32)
+                self.assertEqual(list(words.encode(given, missing=MISSING)), wanted)
+                self.assertEqual(words.decode(codes, missing=None), [None if it != it else it for it in column])
+                present = codes[codes != MISSING]
+                self.assertEqual(renumber(present, numpy.arange(10, 300, dtype="u4")).tolist(), (present + 10).tolist())
 
 
 class ArraysInShards(Arrays):

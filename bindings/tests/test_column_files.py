@@ -1,9 +1,7 @@
-"""Column files from Python: beside plain lists, beside checks/formats.py, which is written from docs/COLUMN-FILES.md
+"""Column files from Python: beside plain lists, beside checks/formats.py, which is written from docs/FORMATS.md
 alone, and beside the program, if it is built."""
-import copy
 import itertools
 import os
-import pickle
 import random
 import stat
 import subprocess
@@ -19,7 +17,7 @@ TOP = Path(__file__).resolve().parent.parent.parent
 sys.path.insert(0, str(TOP / "checks"))
 import formats
 import intaglio
-from intaglio import MISSING, BytesTable, Column, Frozen, Shards, SymbolTable, merge, renumber, split
+from intaglio import MISSING, BytesTable, Column, Frozen, SymbolTable, merge, renumber
 
 PROGRAM = TOP / "crates/intaglio_dict/out/intaglio_dict"
 ROUNDS = 200
@@ -70,15 +68,10 @@ class OfColumns(unittest.TestCase):
         return Frozen(self.folder / "dict")
 
     def put(self, strings, count, name="words"):
-        """A folder of these strings in so many shards that another writer wrote, and the strings in its order."""
-        parts, kind = formats.shards_of(encoded(strings), count), kind_of(strings)
-        formats.put(self.folder / name, formats.folder_of(parts, kind))
-        in_order = [*itertools.chain(*parts)]
-        return self.folder / name, [it.decode() for it in in_order] if kind == formats.TEXT else in_order
-
-    def write_of(self, strings, codes):
-        """The bytes of a column of these codes of a dictionary with these strings in this order, by another writer."""
-        return formats.column(formats.id_of_strings(encoded(strings), kind_of(strings)), codes)
+        """A folder of these strings in so many shards that another writer wrote, and what it wrote."""
+        dictionary = formats.dictionary_of(encoded(strings), count, kind_of(strings))
+        formats.put(self.folder / name, dictionary.files())
+        return self.folder / name, dictionary
 
     def write(self, words, codes):
         """A column of these codes that another writer wrote."""
@@ -205,8 +198,8 @@ class OfColumns(unittest.TestCase):
         data = self.write(words, [0, 2, MISSING, 1]).read_bytes()
         faults = {
             "magic": intaglio.NotColumn, "header": intaglio.Truncated, "version": intaglio.OtherVersion, "kind": intaglio.NoKind,
-            "too many": intaglio.TooMany, "width": intaglio.BadWidth, "reserved": intaglio.Reserved,
-            "truncated": intaglio.Truncated, "too long": intaglio.TrailingBytes, "no string": intaglio.NoSymbol,
+            "too many": intaglio.TooMany, "width": intaglio.BadWidth, "source": intaglio.BadShard, "reserved": intaglio.Reserved,
+            "truncated": intaglio.Truncated, "too long": intaglio.TrailingBytes, "damaged": intaglio.Damaged,
         }
         changed = [data[:cut] for cut in range(len(data))]
         changed.append(data + b"\0")
@@ -214,13 +207,10 @@ class OfColumns(unittest.TestCase):
         for bad in changed:
             self.path.write_bytes(bad)
             found = formats.column_faults(bad)
-            if not found:
-                # (the hashes or the kind of another dictionary, or another string's code)
-                continue
             with self.assertRaisesRegex(faults[found[0].split(":")[0]], f"^{self.path}: ") as caught:
                 Column(self.path, words)
             self.assertEqual(caught.exception.filename, str(self.path))
-        self.path.write_bytes(data[:-1] + b"\x03")
+        self.path.write_bytes(formats.sealed(data[:-1] + b"\x03"))
         with self.assertRaisesRegex(intaglio.NoSymbol, f"^{self.path}: code 3 at position 3 is no symbol$"):
             Column(self.path, words)
 
@@ -293,151 +283,93 @@ class OfColumns(unittest.TestCase):
             Column(self.path, SymbolTable(["s0"]))
         with self.assertRaises(FileNotFoundError):
             Column(self.folder / "absent", words)
-        with self.assertRaisesRegex(FileNotFoundError, f"'{self.folder}/shards'$"):
+        with self.assertRaisesRegex(FileNotFoundError, f"'{self.folder}/0.dict'$"):
             Column(self.path, self.folder)
         with open(self.path, "rb") as file:
             self.assertEqual(list(Column(os.dup(file.fileno()), words)), ["s0"])
 
-    # Of dictionaries in shards.
+    # Of dictionaries in shards, and maps.
 
     def test_columns_of_shards_are_read_and_written(self):
         for count, (strings, width) in (*itertools.product(SHARDS, WIDTHS[:3]), (3, WIDTHS[4])):
-            folder, in_order = self.put(texts(strings), count, f"{count} {strings}")
+            folder, dictionary = self.put(texts(strings), count, f"{count} {strings}")
             codes = [0, strings - 1, MISSING, 0, strings // 2]
-            lines = [None if it == MISSING else in_order[it] for it in codes]
-            written = self.write_of(in_order, codes)
+            lines = [None if it == MISSING else dictionary.strings[it].decode() for it in codes]
+            written = formats.column(dictionary.id, codes, shards=count)
             for trusted in (False, True):
-                with Shards(folder, trusted=trusted) as words:
+                with Frozen(folder, trusted=trusted) as words:
                     self.path.write_bytes(written)
-                    with Column(self.path, words, trusted=trusted) as column:
+                    with Column(self.path, folder if trusted else words, trusted=trusted) as column:
                         self.compare(column, lines)
-                        self.assertEqual((column.width, column.widened()), (width, array("I", codes)))
-                        self.assertEqual(repr(column), f"<Column of 5 rows of {strings} strings>")
-                        self.assertIs(column.dictionary, words)
+                        self.assertEqual((column.width, column.widened(), column.source), (width, array("I", codes), None))
+                        self.assertEqual(column.identity, words.identity)
+                        opened = column.dictionary
+                    self.assertEqual((opened is words, repr(opened) == "<Frozen, closed>"), (not trusted, trusted))
                     self.path.unlink()
                     words.write_column(self.path, words.encode(lines, missing=MISSING))
                     self.assertEqual(self.path.read_bytes(), written)
 
-    def test_random_columns_of_shards_are_plain_lists(self):
-        for seed in range(ROUNDS):
-            rng = random.Random(seed)
-            strings = ["", "a", "\u00e9", "b c", "d" * 300] if rng.random() < .7 else [b"", b"a", b"\xff", b"\n"]
-            folder, strings = self.put(strings[: rng.randrange(6)], rng.choice(SHARDS[:3]), str(seed))
-            lines = [rng.choice([*strings, None]) for _ in range(rng.randrange(12))]
-            with Shards(folder) as words:
-                words.write_column(self.path, words.encode(lines, missing=MISSING))
-            codes = [MISSING if it is None else strings.index(it) for it in lines]
-            self.assertEqual(self.path.read_bytes(), self.write_of(strings, codes))
-            with Column(self.path, folder) as column:
-                self.compare(column, lines)
-
-    def test_the_folder_of_shards_may_be_a_path(self):
-        folder, strings = self.put(texts(9), 3)
-        for path in (folder, str(folder), os.fsencode(folder)):
-            self.path.write_bytes(self.write_of(strings, [2, 0]))
-            with Column(self.path, path) as column:
-                self.assertEqual((list(column), column[0:1]), ([strings[2], strings[0]], [strings[2]]))
-                words = column.dictionary
-            self.assertEqual((repr(words), repr(column)), ("<Shards, closed>", "<Column, closed>"))
-        (folder / "shards").write_bytes(b"")
-        with self.assertRaisesRegex(intaglio.NotShards, f"^{folder}/shards: line 1 "):
-            Column(self.path, folder)
-
-    def test_shards_and_a_file_of_the_same_strings_are_one_dictionary(self):
-        folder, strings = self.put(texts(300), 3)
-        one = Frozen.from_bytes(SymbolTable(strings).freeze(keys=(5, 6)))
-        words = Shards(folder)
-        for writer, reader in ((one, words), (words, one), (words, copy.copy(words)), (words, pickle.loads(pickle.dumps(words)))):
-            writer.write_column(self.path, array("I", [299, MISSING, 0]))
-            self.assertEqual(list(Column(self.path, reader)), [strings[299], None, strings[0]])
-            self.assertIs(type(Column(self.path, reader).dictionary), type(reader))
-        # What the strings are opened as is no part of it.
-        as_bytes = Shards(folder, kind=bytes)
-        self.assertEqual(list(Column(self.path, as_bytes)), [strings[299].encode(), None, strings[0].encode()])
-        as_bytes.write_column(self.path, array("I", [1]))
-        self.assertEqual(list(Column(self.path, words)), [strings[1]])
-
-    def test_shards_of_both_kinds_are_a_dictionary_of_bytes(self):
-        both = [formats.shards_of([b"a", b"b", b"c", b"d"], 2)[it] for it in (0, 1)]
-        tables = [formats.freeze(it, kind) for it, kind in zip(both, (formats.TEXT, formats.BYTES))]
-        index = formats.index_of([formats.id_of(it) for it in tables])
-        formats.put(self.folder / "both", {"0.dict": tables[0], "1.dict": tables[1], "shards": index})
-        strings = [*itertools.chain(*both)]
-        with Shards(self.folder / "both") as words:
-            words.write_column(self.path, array("I", [3, 0]))
-            self.assertEqual(self.path.read_bytes(), self.write_of(strings, [3, 0]))
-            self.assertEqual(list(Column(self.path, words)), [strings[3], strings[0]])
-
     def test_other_shards_are_refused_by_both_names(self):
-        folder, strings = self.put(texts(300), 3)
-        self.path.write_bytes(self.write_of(strings, [2, 0]))
-        others = [self.put(texts(300), 4, "other split"), self.put(texts(301), 3, "longer")]
-        others += [self.put(texts(300)[::-1], 3, "turned"), self.put(encoded(texts(300)), 3, "of bytes")]
-        for other, in_order in others:
-            self.assertNotEqual(in_order, strings)
-            for dictionary in (Shards(other), other):
-                for trusted in (False, True):
-                    said = f"{other}{if_grown(300, len(in_order))}$"
-                    with self.assertRaisesRegex(
-                        intaglio.OtherDictionary, f"^{self.path}: a column of another dictionary than {said}"
-                    ) as caught:
-                        Column(self.path, dictionary, trusted=trusted)
-                    self.assertEqual((caught.exception.column, caught.exception.dictionary), (str(self.path), str(other)))
-        self.assertEqual(list(Column(self.path, folder)), [strings[2], strings[0]])
+        folder, dictionary = self.put(texts(300), 3)
+        self.path.write_bytes(formats.column(dictionary.id, [2, 0], shards=3))
+        merge([folder], self.folder / "merged")
+        others = [(texts(300), 4), (texts(301), 3), (texts(300)[::-1], 3), (encoded(texts(300)), 3)]
+        folders = [self.put(*it, f"{number}")[0] for number, it in enumerate(others)]
+        for other in (*folders, self.folder / "merged", folder / "0.dict"):
+            for trusted in (False, True):
+                said = f"^{self.path}: a column of another dictionary than {other}"
+                with self.assertRaisesRegex(intaglio.OtherDictionary, said):
+                    Column(self.path, Frozen(other, trusted=trusted), trusted=trusted)
+        # With its own set in the header, but other numbers of strings and of shards.
+        id = dictionary.id
+        for id, shards in ((id._replace(strings=301), 3), (id, 4), (id._replace(kind=formats.BYTES), 3)):
+            column = formats.column(id, [2, 0], shards=shards)
+            with self.assertRaisesRegex(intaglio.OtherDictionary, f"^the column: a column of another dictionary than {folder}"):
+                Column.from_bytes(column, folder)
+        self.assertEqual(len(Column(self.path, folder)), 2)
 
     def test_columns_of_parts_are_renumbered(self):
-        lines, folders = [["b", "a", None, "c", "a"], ["d", None, "a"]], []
+        lines, parts = [["b", "a", None, "c", "a"], ["d", None, "a"]], []
         for number, part in enumerate(lines):
-            split(Frozen.from_bytes(SymbolTable(filter(None, part)).freeze()), self.folder / f"part {number}", 2)
-            folders.append(self.folder / f"part {number}")
-        parts = [Shards(it) for it in folders]
-        whole, maps = merge(parts, self.folder / "whole", shards=2)
+            words = Frozen.from_bytes(SymbolTable(filter(None, part)).freeze())
+            parts.append(merge([words], self.folder / f"part {number}", shards=2)[0])
+        whole, maps = merge(parts, self.folder / "whole")
         for part, of_part, numbers in zip(parts, lines, maps):
             part.write_column(self.path, part.encode(of_part, missing=MISSING))
-            said = f" than {self.folder / 'whole'}{if_grown(len(part), len(whole))}$"
-            with self.assertRaisesRegex(intaglio.OtherDictionary, said):
+            with self.assertRaisesRegex(intaglio.OtherDictionary, f" than {self.folder / 'whole'}"):
                 Column(self.path, whole)
             with Column(self.path, part) as column:
                 whole.write_column(self.folder / "new", renumber(column.widened(), numbers))
             with Column(self.folder / "new", self.folder / "whole") as column:
                 self.compare(column, of_part)
 
-    def test_what_cannot_be_written_of_shards_leaves_the_file(self):
-        folder, strings = self.put(texts(3), 2)
-        with Shards(folder) as words:
-            words.write_column(self.path, array("I", [0]))
-            before = self.path.read_bytes()
-            for codes, position in (([0, 3], 1), ([MISSING - 1], 0)):
-                said = f"^code {codes[position]} at position {position} is no symbol$"
-                with self.assertRaisesRegex(intaglio.NoSymbol, said):
-                    words.write_column(self.path, array("I", codes))
-            column = Column(self.path, words)
-        self.assertEqual(self.path.read_bytes(), before)
-        with Shards(folder) as closed:
-            pass
-        for read in (
-            lambda: column[0], lambda: column.rows_of("s0"), lambda: Column(self.path, closed),
-            lambda: closed.write_column(self.path, array("I", [0])),
-        ):
-            with self.assertRaisesRegex(ValueError, "^the Shards was closed$"):
-                read()
-
-    def test_trusted_shards_with_other_ends_are_refused_by_name(self):
-        folder, strings = self.put(texts(30), 3)
-        self.path.write_bytes(self.write_of(strings, [0]))
-        for number in range(3):
-            path = folder / f"{number}.dict"
-            data = path.read_bytes()
-            path.write_bytes(data[:-1])
-            for read in (
-                lambda: Column(self.path, Shards(folder, trusted=True)),
-                lambda: Shards(folder, trusted=True).write_column(self.path, array("I", [0])),
-            ):
-                with self.assertRaisesRegex(intaglio.TextEnds, f"^{path}: ") as caught:
+    def test_maps_and_columns_without_a_dictionary(self):
+        part, whole = (formats.dictionary_of(encoded(it), 2, formats.TEXT) for it in (texts(9), texts(20)))
+        formats.put(self.folder / "whole", whole.files())
+        for shard in (0, 1):
+            data = formats.map_of(part, whole, shard)
+            column = Column.from_bytes(data, self.folder / f"whole/{shard}.dict")
+            self.assertEqual(encoded(column), part.shards[shard])
+            self.assertEqual((column.source, column.identity), ((part.name, 2, shard), whole.name))
+            self.assertEqual((column.source.shards, column.to_bytes()), (2, data))
+            for other in (self.folder / "whole", self.folder / f"whole/{1 - shard}.dict"):
+                with self.assertRaises(intaglio.OtherDictionary):
+                    Column.from_bytes(data, other)
+        self.path.write_bytes(data)
+        with Column(self.path) as column:
+            codes = formats.read_column(data)[1]
+            self.assertEqual((column.dictionary, column.widened().tolist(), column.count(None)), (None, codes, 0))
+            self.assertEqual(repr(column), f"<Column of {len(codes)} rows of {len(whole.shards[1])} strings>")
+            for read in (lambda: column[0], lambda: list(column), column.counts, lambda: column.rows_of("s1")):
+                with self.assertRaisesRegex(TypeError, "^the Column was opened without its dictionary$"):
                     read()
-                self.assertEqual((caught.exception.filename, caught.exception.position), (str(path), number))
-            path.write_bytes(data)
-        self.assertEqual(list(Column(self.path, Shards(folder, trusted=True))), [strings[0]])
+        # A map has a string for each row.
+        missing = formats.sealed(data[: formats.COLUMN_HEADER.size] + b"\0\xff" + data[formats.COLUMN_HEADER.size + 2 :])
+        with self.assertRaisesRegex(intaglio.NoSymbol, "^code 4294967295 at position 1 is no symbol$"):
+            Column.from_bytes(missing)
+        for source in ((2, 1, 5, 6, 2), (3, 1, 5, 6, 0), (0, 0, 5, 6, 0)):
+            with self.assertRaises(intaglio.BadShard):
+                Column.from_bytes(formats.column(whole.id, [0], source, shards=2))
 
     @unittest.skipUnless(os.access(PROGRAM, os.X_OK), "intaglio_dict isn't built")
     def test_the_program_writes_the_same_bytes(self):
@@ -446,16 +378,14 @@ class OfColumns(unittest.TestCase):
 
         lines = [None if it % 7 == 0 else f"s{it * it % 300}" for it in range(500)]
         given, name = formats.ended(b"absent" if it is None else it.encode() for it in lines), self.folder / "of_program"
-        for count in SHARDS:
-            self.freeze(texts(300))
-            ran("split", self.folder / "dict", "--shards", count, "-o", self.folder / f"{count}")
-            for dictionary in (Shards(self.folder / f"{count}"), self.freeze(texts(300))):
-                path = self.folder / "dict" if isinstance(dictionary, Frozen) else self.folder / f"{count}"
-                ran("encode", "--missing", path, "--column", name, given=given)
-                dictionary.write_column(self.path, dictionary.encode(lines, missing=MISSING))
-                self.assertEqual(self.path.read_bytes(), name.read_bytes())
-                self.compare(Column(name, path), lines)
-                self.assertEqual(ran("decode", "--missing", "absent", path, self.path), given)
+        self.freeze(texts(300))
+        for path in (self.folder / "dict", *(self.put(texts(300), it, f"{it}")[0] for it in SHARDS)):
+            ran("encode", "--missing", path, "-o", name, given=given)
+            with Frozen(path) as words:
+                words.write_column(self.path, words.encode(lines, missing=MISSING))
+            self.assertEqual(self.path.read_bytes(), name.read_bytes())
+            self.compare(Column(name, path), lines)
+            self.assertEqual(ran("decode", "--missing", "absent", path, self.path), given)
 
 
 if __name__ == "__main__":

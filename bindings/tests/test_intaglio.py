@@ -345,28 +345,8 @@ class EachKind:
         self.assertEqual(len(kind.__new__(kind)), 0)
 
 
-class TextTest(EachKind, unittest.TestCase):
-    kind = SymbolTable
-
-
-class BytesTest(EachKind, unittest.TestCase):
-    kind = BytesTable
-
-
-class CStringTest(EachKind, unittest.TestCase):
-    kind = CStringTable
-
-
-class PathTest(EachKind, unittest.TestCase):
-    kind = PathTable
-
-
-class OsStringTest(EachKind, unittest.TestCase):
-    kind = OsStringTable
-
-
-class ByteStringTest(EachKind, unittest.TestCase):
-    kind = ByteStringTable
+for each in (SymbolTable, BytesTable, CStringTable, PathTable, OsStringTable, ByteStringTable):
+    globals()[f"Test{each.__name__}"] = type(f"Test{each.__name__}", (EachKind, unittest.TestCase), {"kind": each})
 
 
 class OneKind(unittest.TestCase):

@@ -9,10 +9,10 @@ from array import array
 from unittest import mock
 
 from intaglio import (
-    MISSING, BytesTable, CStringTable, Frozen, Full, Missing, NoSymbol, NotUtf8, Shards, Stale, SymbolTable, TextEnds, merge,
-    renumber, split,
+    MISSING, BytesTable, CStringTable, Frozen, Full, Missing, NoSymbol, NotUtf8, Stale, SymbolTable, merge,
+    renumber,
 )
-from intaglio._table import frozen_misplaced, frozen_shards, shards_id, split_map
+from intaglio._table import frozen_misplaced, set_of, share_out
 
 try:
     import _testcapi
@@ -22,6 +22,13 @@ except ImportError:
 # CPython 3.11 may raise SystemError if there is no memory for the frame of a function of Python's that raises.
 OUT_OF_MEMORY = (MemoryError, SystemError)
 MOST = 150
+
+
+def shared_out(data):
+    """How many strings of a frozen table belong to each of three shards."""
+    tables = SymbolTable(), SymbolTable(), SymbolTable()
+    share_out(data, tables)
+    return [*map(len, tables)]
 
 
 class Categorical:
@@ -56,10 +63,10 @@ class Memory(unittest.TestCase):
         codes, lines, out = array("I", range(20)), "\n".join(words).encode(), array("I", bytes(80))
         folder = tempfile.TemporaryDirectory()
         self.addCleanup(folder.cleanup)
-        split(frozen, folder.name, 3)
-        shards = Shards(folder.name)
-        numbers, in_shards, of_each = shards.encode(words), list(shards), frozen_shards(frozen._data, 3)
-        cut = shards._data[0], (*shards._data[1][:2], shards._data[1][2][:-1])
+        shards, _ = merge([frozen], folder.name, shards=3)
+        numbers, in_shards = shards.encode(words), list(shards)
+        ids = [it._id for it in shards._tables]
+        hashes = set_of(ids), set_of(ids, 3)
         for number, (call, wanted) in enumerate(
             (
                 (lambda: frozen.encode([*words]), codes), (lambda: frozen.encode(iter(words)), codes),
@@ -93,10 +100,10 @@ class Memory(unittest.TestCase):
                 (lambda: shards.encode(Categorical(), missing=9), array("I", [numbers[5], numbers[1], 9, numbers[5]])),
                 (lambda: shards.decode(numbers), words), (lambda: shards.get_all(numbers), words),
                 (lambda: shards[:], in_shards), (lambda: shards["w5" in shards], in_shards[1]), (lambda: shards[99], NoSymbol),
-                (lambda: frozen_shards(frozen._data, 3), of_each), (lambda: split_map(of_each, 3), numbers),
-                (lambda: frozen_misplaced(frozen._data, 3, 3), 0), (lambda: frozen_misplaced(shards.tables[1]._data, 3, 1), None),
-                (lambda: list(SymbolTable()._absorb_shard(frozen._data, of_each, 0)), [*range(of_each.count(0))]),
-                (lambda: shards_id(shards._data), shards._identity()), (lambda: shards_id(cut), TextEnds),
+                (lambda: shared_out(frozen._data), [*map(len, shards._tables)]),
+                (lambda: frozen_misplaced(shards._tables[1]._data), None),
+                (lambda: set_of(ids), hashes[0]), (lambda: set_of(ids, 3), hashes[1]), (lambda: table._own_id(), frozen._id),
+                (lambda: table._freeze_alone((0, 0), frozen._id), frozen.to_bytes()),
             )
         ):
             results = list(self.results(call))

@@ -10,10 +10,8 @@ from collections import Counter
 from pathlib import Path
 
 sys.dont_write_bytecode = True
-sys.path.insert(0, str(Path(__file__).resolve().parent.parent.parent / "checks"))
-import formats
 import intaglio
-from intaglio import MISSING, BytesTable, Column, Frozen, Shards, SymbolTable, merge, renumber, split
+from intaglio import MISSING, BytesTable, Column, Frozen, SymbolTable, merge, renumber
 
 try:
     import numpy
@@ -38,8 +36,7 @@ class OddCalls(unittest.TestCase):
         self.table = SymbolTable(WORDS)
         self.table.freeze(self.folder / "dict")
         self.words = Frozen(self.folder / "dict")
-        split(self.words, self.folder / "shards", 2)
-        self.shards = Shards(self.folder / "shards")
+        self.shards, _ = merge([self.words], self.folder / "shards", shards=2)
         self.words.write_column(self.folder / "column", CODES)
         self.column = Column(self.folder / "column", self.folder / "dict")
 
@@ -94,13 +91,13 @@ class OddCalls(unittest.TestCase):
 
     def test_what_is_no_dictionary_and_no_file(self):
         absent = self.folder / "absent/column"
-        said = "a column is read with a Frozen, a Shards or the path of one, not a {}: a table is frozen before$".format
+        said = "a column is read with a Frozen or the path of one, not a {}: a table is frozen before$".format
         self.refused(
             (lambda: Column(self.folder / "column", self.table), TypeError, said("SymbolTable")),
-            (lambda: Column(self.folder / "column", None), TypeError, said("NoneType")),
+            (lambda: Column(self.folder / "column", [self.words]), TypeError, said("list")),
             (lambda: pickle.dumps(self.column), TypeError, "^a Column can't be pickled: send its path and its dictionary, and "),
-            (lambda: merge([self.words, self.shards]), TypeError, r"at position 1: shards are merged by merge\(.., shards=..\)$"),
-            (lambda: merge([self.folder / "shards"]), IsADirectoryError, rf"shards=..\): '{self.folder}/shards'$"),
+            (lambda: merge([self.words, 7]), TypeError, "^each of the tables to merge is a Frozen or a path; at position 1: "),
+            (lambda: merge([self.shards]), TypeError, "^a dictionary in shards is written to a folder, which `out` names$"),
             *((lambda call=call: call(), FileNotFoundError, f"No such file or directory: '{absent}'$") for call in (
                 lambda: self.words.write_column(absent, CODES), lambda: self.shards.write_column(absent, CODES),
                 lambda: self.table.freeze(absent),
@@ -109,16 +106,23 @@ class OddCalls(unittest.TestCase):
 
     def test_what_was_closed_is_named(self):
         opened = {"Column": lambda: Column(self.folder / "column", self.folder / "dict")}
-        opened |= {"Frozen": lambda: copy.copy(self.words), "Shards": lambda: copy.copy(self.shards)}
+        opened |= {"Frozen": lambda: copy.copy(self.words), "shards": lambda: copy.copy(self.shards)}
+        words = (
+            pickle.dumps, lambda it: it[0], lambda it: it[:2], lambda it: "fig" in it, lambda it: it.encode(["fig"]),
+            lambda it: it.decode(array("I", [0])),
+        )
         calls = {
             "Column": (lambda it: it.codes, lambda it: it.to_bytes(), lambda it: it[0], lambda it: it.counts(), lambda it: it[:]),
-            "Frozen": (lambda it: it.to_bytes(), lambda it: SymbolTable().absorb(it), pickle.dumps, list, lambda it: merge([it])),
-            "Shards": (pickle.dumps, lambda it: it[0], lambda it: it.encode(["fig"])),
+            "Frozen": (*words, list, lambda it: it.to_bytes(), lambda it: SymbolTable().absorb(it), lambda it: merge([it])),
+            "shards": (
+                *words, list, lambda it: it.to_bytes(), lambda it: it.get_all([0]), lambda it: merge([it], self.folder / "new"),
+            ),
         }
         for name, of_kind in calls.items():
             for call in (*of_kind, copy.copy, copy.deepcopy):
-                it = self.closed(opened[name]())
-                self.refused((lambda: call(it), ValueError, f"^the {name} was closed$"))
+                it = self.closed(self.closed(opened[name]()))
+                self.refused((lambda: call(it), ValueError, f"^the {type(it).__name__} was closed$"))
+                self.assertEqual(repr(it), f"<{type(it).__name__}, closed>")
 
     def test_what_masks_strings_or_has_columns(self):
         if not numpy:
@@ -132,18 +136,6 @@ class OddCalls(unittest.TestCase):
         deep = [numpy.array([WORDS], object), numpy.array([WORDS]), *([pandas.DataFrame({"a": WORDS})] if pandas else [])]
         said = "^a column of strings has one dimension, and this has 2: pass each of its columns by itself$"
         self.refused(*((lambda it=it: self.table.encode(it), TypeError, said) for it in deep))
-
-    def test_ends_that_decrease(self):
-        data, at = self.words.to_bytes(), formats.Sections(len(WORDS)).ends
-        damaged = data[:at] + b"\x09" + data[at + 1:]
-        (self.folder / "damaged").write_bytes(damaged)
-        for words, name in ((Frozen(self.folder / "damaged", trusted=True), str(self.folder / "damaged")),
-                            (Frozen.from_bytes(damaged, trusted=True), None)):
-            for call in (lambda: words.write_column(self.folder / "new", CODES), lambda: Column(self.folder / "column", words)):
-                with self.assertRaises(intaglio.TextEnds) as caught:
-                    call()
-                self.assertEqual((caught.exception.filename, caught.exception.position), (name, None))
-        self.assertFalse((self.folder / "new").exists())
 
     def test_a_dictionary_that_grew(self):
         self.table.intern("quince")

@@ -1,7 +1,6 @@
-"""Dictionaries in shards from Python: beside plain lists, beside checks/formats.py, which is written from docs/FROZEN.md
+"""Dictionaries in shards from Python: beside plain lists, beside checks/formats.py, which is written from docs/FORMATS.md
 alone, and beside the program, if it is built."""
 import copy
-import errno
 import itertools
 import os
 import pickle
@@ -18,11 +17,10 @@ TOP = Path(__file__).resolve().parent.parent.parent
 sys.path.insert(0, str(TOP / "checks"))
 import formats
 import intaglio
-from intaglio import MISSING, BytesTable, Frozen, Shards, SymbolTable, merge, renumber, split
+from intaglio import MISSING, BytesTable, Frozen, SymbolTable, merge, renumber
 
 PROGRAM = TOP / "crates/intaglio_dict/out/intaglio_dict"
 ROUNDS = 60
-KINDS = {True: (formats.TEXT, SymbolTable), False: (formats.BYTES, BytesTable)}
 WORDS = ["", "a", "b c", "\u00e9", "a string that is longer than the others", *(f"w{it}" for it in range(60))]
 
 
@@ -30,24 +28,13 @@ def encoded(strings):
     return [it.encode() if isinstance(it, str) else it for it in strings]
 
 
-def decoded(strings, is_text):
-    return [it.decode() for it in strings] if is_text else list(strings)
+def dictionary_of(strings, count, is_text=True):
+    """The dictionary that has these strings in so many shards, by the writer in plain Python."""
+    return formats.dictionary_of(encoded(strings), count, int(is_text))
 
 
-def files_of(strings, count, is_text, has_map=True):
-    """The files of a folder that has these strings in so many shards, by the writer in plain Python."""
-    data, kind = encoded(strings), KINDS[is_text][0]
-    if has_map:
-        return formats.split_folder(data, count, kind)
-    return formats.folder_of(formats.shards_of(data, count), kind)
-
-
-def merged_shards(lists, count):
-    """The strings of each merged shard, and for each list the map to all of them."""
-    each = [formats.merged(formats.shards_of(encoded(it), count)[shard] for it in lists) for shard in range(count)]
-    shards = [strings for strings, _ in each]
-    symbols = {it: number for number, it in enumerate(itertools.chain(*shards))}
-    return shards, [[symbols[it] for it in encoded(strings)] for strings in lists]
+def freeze(strings, is_text=True):
+    return Frozen.from_bytes((SymbolTable if is_text else BytesTable)(strings).freeze())
 
 
 class OfShards(unittest.TestCase):
@@ -57,16 +44,16 @@ class OfShards(unittest.TestCase):
         self.at = Path(folder.name)
         self.folder = self.at / "words"
 
-    def put(self, strings, count, is_text=True, has_map=True, folder=None):
-        """A folder of these strings that another writer wrote, and the strings in its order."""
-        formats.put(folder or self.folder, files_of(strings, count, is_text, has_map))
-        return decoded(itertools.chain(*formats.shards_of(encoded(strings), count)), is_text)
+    def put(self, strings, count, is_text=True):
+        """A folder of these strings that another writer wrote. Returns the strings in its order."""
+        dictionary = dictionary_of(strings, count, is_text)
+        formats.put(self.folder, dictionary.files(0, 0))
+        return [it.decode() for it in dictionary.strings] if is_text else dictionary.strings
 
-    def freeze(self, strings, is_text=True):
-        return Frozen.from_bytes(KINDS[is_text][1](strings).freeze())
-
-    def no_file_is_left(self):
-        self.assertEqual([it for it in self.at.rglob(".intaglio.*")], [])
+    def refuses(self, error, said, *calls):
+        for call in calls:
+            with self.assertRaisesRegex(error, said):
+                call()
 
     def compare(self, shards, strings):
         """A dictionary in shards does what the plain list of its strings does."""
@@ -114,297 +101,127 @@ class OfShards(unittest.TestCase):
             shards.get_all([0, -1] if strings else [])
 
     def test_folders_of_another_writer_are_read(self):
-        cases = ((1, True, True), (3, False, False), (3, True, False), (16, True, True), (200, False, True))
-        for count, is_text, has_map in cases:
-            self.folder = self.at / f"{count}{is_text}"
-            strings = self.put(WORDS if is_text else [*encoded(WORDS), b"\xff"], count, is_text, has_map)
+        for count, is_text in ((1, True), (3, False), (16, True), (200, False)):
+            strings = self.put(WORDS if is_text else [*encoded(WORDS), b"\xff"], count, is_text)
             for trusted in (False, True):
-                with Shards(self.folder, trusted=trusted) as shards:
+                with Frozen(os.fsencode(self.folder) if trusted else self.folder, trusted=trusted) as shards:
                     self.compare(shards, strings)
-                    self.assertEqual((shards.is_text, len(shards.tables)), (is_text, count))
-                    self.assertEqual([it for table in shards.tables for it in table], strings)
-                    name = "str" if is_text else "bytes"
-                    self.assertEqual(repr(shards), f"<Shards of {len(strings)} {name} in {count} shards>")
+                    self.assertEqual((shards.shards, shards.identity), (count, formats.read_dictionary(self.folder).name))
+                    kind = "str" if is_text else "bytes"
+                    self.assertEqual(repr(shards), f"<Frozen of {len(strings)} {kind} in {count} shards>")
+                self.refuses(ValueError, "^the Frozen was closed$", lambda: shards[0], lambda: shards.encode(["a"]))
+        # One file, and one shard by itself, which has its own symbols.
+        self.assertEqual((freeze(WORDS).shards, freeze(WORDS).identity), (1, dictionary_of(WORDS, 1).name))
+        with Frozen(self.folder / "7.dict") as shard:
+            self.assertEqual([*shard], formats.read_dictionary(self.folder).shards[7])
+            self.assertEqual((shard.shards, shard.identity), (200, shards.identity))
+            said = f"^{self.folder}/7.dict: shard 7 of 200; name its folder$"
+            self.refuses(ValueError, said, lambda: shard.write_column(self.at / "column", array("I")))
 
-    def test_random_folders_are_plain_lists(self):
+    def test_files_are_shared_out_and_shards_are_merged(self):
         for seed in range(ROUNDS):
-            rng = random.Random(seed)
-            is_text = rng.random() < .6
-            strings = rng.sample(WORDS if is_text else encoded(WORDS), rng.randrange(7))
-            folder = self.at / str(seed)
-            split(self.freeze(strings, is_text), folder, rng.randrange(1, 6))
-            count = len(list(folder.glob("*.dict")))
-            self.assertEqual(formats.files_in(folder), files_of(strings, count, is_text))
-            with Shards(str(folder) if seed % 2 else os.fsencode(folder)) as shards:
-                self.compare(shards, decoded(itertools.chain(*formats.shards_of(encoded(strings), count)), is_text))
+            rng, folder = random.Random(seed), self.at / f"{seed}"
+            is_text, count = rng.random() < .6, rng.randrange(1, 6)
+            words = WORDS if is_text else [*encoded(WORDS), b"\xff"]
+            lists, keys = [rng.sample(words, rng.randrange(9)) for _ in range(rng.randrange(1, 4))], (seed, 5)
+            tables = [freeze(it, is_text) for it in lists]
+            parts = [dictionary_of(it, count, is_text) for it in lists]
+            folder.mkdir()
+            made = [merge([it], folder / f"{number}", shards=count, keys=keys) for number, it in enumerate(tables)]
+            for number, (part, strings, (shards, [numbers])) in enumerate(zip(parts, lists, made)):
+                self.assertEqual(formats.files_in(folder / f"{number}"), part.files(*keys))
+                self.assertEqual(shards.decode(numbers), strings)
+            self.compare(made[0][0], list(made[0][0]))
+            # Shards of several parts, each a Frozen or a path: all in one call, and one by one.
+            given = [rng.choice([shards, folder / f"{number}"]) for number, (shards, _) in enumerate(made)]
+            whole, maps = merge(given, folder / "whole", keys=keys)
+            wanted = formats.merge_of(parts)
+            self.assertEqual((formats.files_in(folder / "whole"), whole.identity), (wanted.files(*keys), wanted.name))
+            for shard in rng.sample(range(count), count):
+                one, of_shard = merge(given, folder / "by shard", shard=shard, keys=keys)
+                for part, numbers in zip(parts, of_shard):
+                    self.assertEqual(encoded(one.decode(numbers)), part.shards[shard])
+            self.assertEqual(formats.files_in(folder / "by shard"), formats.files_in(folder / "whole"))
+            for (shards, [split]), strings, numbers in zip(made, lists, maps):
+                self.assertEqual(whole.decode(numbers), list(shards))
+                self.assertEqual(whole.decode(renumber(split, numbers)), strings)
+            # Files are merged and shared out in one call, and merges nest.
+            out, maps = merge(tables, folder / "out", shards=count, keys=keys)
+            self.assertEqual([out.decode(it) for it in maps], lists)
+            wanted = formats.merge_of([dictionary_of(it, 1, is_text) for it in lists], count)
+            self.assertEqual(formats.files_in(folder / "out"), wanted.files(*keys))
+            again, [numbers, _] = merge([whole, folder / "0"], folder / "again", keys=None)
+            self.assertEqual((again.decode(numbers), list(again)), (list(whole), list(whole)))
 
-    def test_split_writes_what_another_writer_does(self):
-        self.freeze(WORDS).write_column(self.at / "column", array("I", [0]))
-        SymbolTable(WORDS).freeze(self.at / "dict")
-        for table in (self.at / "dict", Frozen(self.at / "dict"), Frozen(self.at / "dict", kind=bytes, trusted=True)):
-            for count in (1, 2, 16, 70):
-                folder = self.at / f"{count}"
-                for _ in range(2):
-                    split(table, folder, count)
-                    self.assertEqual(formats.files_in(folder), files_of(WORDS, count, True))
-        codes = array("I", [3, 0, len(WORDS) - 1])
-        shards, numbers = Shards(self.at / "16"), array("I", (self.at / "16/map").read_bytes())
-        self.assertEqual(shards.decode(renumber(codes, numbers)), [WORDS[it] for it in codes])
-        self.no_file_is_left()
+    def test_a_merge_of_both_kinds_is_of_bytes(self):
+        texts, of_bytes = freeze(["a", "b"]), freeze([b"b", b"\xff"], False)
+        merge([texts], self.at / "texts", shards=2)
+        merge([of_bytes], self.at / "bytes", shards=2)
+        for tables, shards in (([self.at / "texts", self.at / "bytes"], None), ([texts, of_bytes], 2)):
+            whole, maps = merge(tables, self.folder, shards=shards)
+            self.assertEqual((sorted(whole), sorted(whole.decode(maps[0]))), ([b"a", b"b", b"\xff"], [b"a", b"b"]))
+        self.assertEqual(sorted(Frozen(self.at / "texts", kind=bytes)), [b"a", b"b"])
+        self.refuses(intaglio.NotUtf8, f"^{self.at}/bytes/[01].dict: ", lambda: Frozen(self.at / "bytes", kind=str))
 
-    def test_other_keys_give_the_same_index(self):
-        split(self.freeze(WORDS), self.folder, 3)
-        before = formats.files_in(self.folder)
-        for keys in (None, (5, 6)):
-            split(self.freeze(WORDS), self.folder, 3, keys=keys)
-            files = formats.files_in(self.folder)
-            for name in ("shards", "map", "map.index"):
-                self.assertEqual(files[name], before[name])
-            self.assertNotEqual(files["0.dict"], before["0.dict"])
-            self.assertEqual(encoded(Shards(self.folder)), formats.strings_in(self.folder))
-
-    def test_a_folder_with_other_shards_stays(self):
-        split(self.freeze(WORDS), self.folder, 3)
-        before = formats.files_in(self.folder)
-        said = "it has other shards: remove it, or name another folder"
-        for strings, count in ((WORDS, 4), (WORDS[:-1], 3), (WORDS[::-1], 3), (encoded(WORDS), 3)):
-            is_text = strings is not None and isinstance(strings[0], str)
-            for write in (
-                lambda: split(self.freeze(strings, is_text), self.folder, count),
-                lambda: merge([self.freeze(strings, is_text)], self.folder, shards=count),
-            ):
-                with self.assertRaisesRegex(FileExistsError, said) as caught:
-                    write()
-                self.assertEqual((caught.exception.errno, caught.exception.filename), (errno.EEXIST, str(self.folder)))
-                self.assertEqual(formats.files_in(self.folder), before)
-        (self.folder / "shards").write_bytes(b"no index\n")
-        with self.assertRaisesRegex(FileExistsError, said):
-            split(self.freeze(WORDS), self.folder, 3)
-
-    def test_parts_are_merged_shard_by_shard(self):
-        for seed, (count, is_text) in enumerate(itertools.product((1, 3, 16), (True, False))):
-            at, rng = self.at / str(seed), random.Random(seed)
-            at.mkdir()
-            words = WORDS if is_text else encoded(WORDS)
-            lists = [rng.sample(words, rng.randrange(len(words))) for _ in range(4)]
-            tables = [self.freeze(it, is_text) for it in lists]
-            for part, table in enumerate(tables):
-                (at / f"{part}.dict").write_bytes(table.to_bytes())
-                split(table, at / f"{part}.shards", count)
-            shards, maps = merged_shards(lists, count)
-            strings = decoded(itertools.chain(*shards), is_text)
-            for number, parts in enumerate((
-                tables, [at / f"{it}.dict" for it in range(4)], [str(at / f"{it}.shards") for it in range(4)],
-                [tables[0], os.fsencode(at / "1.shards"), at / "2.dict", at / "3.shards"],
-            )):
-                whole, found = merge(iter(parts), at / f"whole{number}", shards=count)
-                wanted = formats.folder_of(shards, KINDS[is_text][0])
-                self.assertEqual(formats.files_in(at / f"whole{number}"), wanted)
-                self.assertEqual([list(it) for it in found], maps)
-                self.assertEqual((list(whole), whole.is_text), (strings, is_text))
-                for table, part in zip(tables, found):
-                    codes = table.encode(list(table)[::-1])
-                    self.assertEqual(whole.decode(renumber(codes, part)), list(table)[::-1])
-                whole.close()
-                # (the same again, over what is there)
-                self.assertEqual([list(it) for it in merge(parts, at / f"whole{number}", shards=count)[1]], maps)
-        self.no_file_is_left()
-
-    def test_merging_nests(self):
-        lists = [WORDS[:9], WORDS[5:20], WORDS[3:40:3], WORDS[::-7]]
-        tables = [self.freeze(it) for it in lists]
-        left, lefts = merge(tables[:2], self.at / "left", shards=4)
-        right, rights = merge(tables[2:], self.at / "right", shards=4)
-        shards, maps = merged_shards(lists, 4)
-        wanted = formats.folder_of(shards, formats.TEXT)
-        for number, halves in enumerate(([left, right], [self.at / "left", self.at / "right"], [left, self.at / "right"])):
-            whole, outer = merge(halves, self.at / f"whole{number}", shards=4)
-            self.assertEqual(formats.files_in(self.at / f"whole{number}"), wanted)
-            inner = [renumber(it, outer[0]) for it in lefts] + [renumber(it, outer[1]) for it in rights]
-            self.assertEqual([list(it) for it in inner], maps)
-            self.assertEqual(whole.decode(renumber(left.encode(lists[1]), outer[0])), lists[1])
-
-    def test_kinds(self):
-        for kinds in ((True, False), (True, True)):
-            tables = [self.freeze(it if is_text else encoded(it), is_text) for it, is_text in zip((WORDS, WORDS[:5]), kinds)]
-            whole, _ = merge(tables, self.at / f"{kinds}", shards=3)
-            self.assertEqual(whole.is_text, all(kinds))
-            for kind, is_text in ((str, True), (bytes, False)):
-                for trusted in (False, True):
-                    shards = Shards(self.at / f"{kinds}", kind=kind, trusted=trusted)
-                    self.assertEqual((shards.is_text, {*map(type, shards)}), (is_text, {kind}))
-                    self.assertEqual({*encoded(shards)}, {*encoded(WORDS)})
-        self.put([b"a", b"\xff", b"c"], 2, False)
-        with self.assertRaisesRegex(intaglio.NotUtf8, rf"^{self.folder}/\d.dict: "):
-            Shards(self.folder, kind=str)
-        with self.assertRaisesRegex(TypeError, "^kind is str, bytes or None, not <class 'int'>$"):
-            Shards(self.folder, kind=int)
-        # A folder of both kinds, as `intaglio_dict join` may write it.
-        files = files_of(["a"], 2, True, False), files_of(["b", "c", "d"], 2, False, False)
-        mixed = [formats.ids_in(it["shards"])[number] for number, it in enumerate(files)]
-        names = {f"{number}.dict": it[f"{number}.dict"] for number, it in enumerate(files)}
-        formats.put(self.at / "mixed", names | {"shards": formats.index_of(mixed)})
-        self.assertEqual({*map(type, Shards(self.at / "mixed"))}, {bytes})
-
-    def test_damaged_indexes_are_refused_by_line(self):
+    def test_folders_that_are_no_dictionary_are_refused_by_name(self):
         self.put(WORDS, 3)
-        path = self.folder / "shards"
-        index = path.read_bytes()
-        lines = index.split(b"\n")
-        for number, data in (
-            (1, b""), (1, b"intaglio shards 2" + index[17:]), (1, index[:20]), (2, lines[0] + b"\n"),
-            (1, index.replace(b"3", b"0", 1)), (3, index.replace(lines[2], lines[2].upper())), (4, index[:-1]),
-            (5, index + lines[1] + b"\n"), (5, index + b"\n"),
-            (2, index.replace(b"text", b"texts", 1)), (4, b"\n".join(lines[:3]) + b"\n"), (1, index.replace(b"\n", b"\r\n")),
+        first, second, third = (self.folder / f"{it}.dict" for it in range(3))
+        good, other = second.read_bytes(), self.at / "other"
+        merge([freeze(WORDS[1:])], other, shards=3)
+        merge([self.folder], self.at / "merged")
+        dictionary = formats.read_dictionary(self.folder)
+        place = dictionary.set, 3, 1
+        misplaced = formats.freeze([*dictionary.shards[1], dictionary.shards[0][0]], formats.TEXT)
+        last = len(dictionary.shards[1])
+        for data, said, error, is_trusted in (
+            (None, "", FileNotFoundError, True),
+            (first.read_bytes(), "shard 0 of 3, not shard 1", intaglio.OtherShard, True),
+            ((other / "1.dict").read_bytes(), f"of another set than {first}; write both again", intaglio.OtherShard, True),
+            ((self.at / "merged/1.dict").read_bytes(), "of another set", intaglio.OtherShard, True),
+            (formats.placed(good, dictionary.set, 4, 1), "of another set", intaglio.OtherShard, True),
+            (formats.placed(formats.freeze(dictionary.shards[1]), *place), "of another set", intaglio.OtherShard, True),
+            (good[:-1], "", intaglio.Truncated, True), (good + b"a", "", intaglio.TrailingBytes, True),
+            (formats.placed(misplaced, *place), f"string {last} belongs to another shard", intaglio.Misplaced, False),
+            (good[:-1] + b"~", "", (intaglio.NotFound, intaglio.OtherIdentity), False),
         ):
-            path.write_bytes(data)
-            for read in (lambda: Shards(self.folder), lambda: merge([self.folder], self.at / "out", shards=3)):
-                with self.assertRaisesRegex(
-                    intaglio.NotShards, f"^{path}: line {number} is not that of an index of shards$"
-                ) as caught:
-                    read()
-                self.assertEqual((caught.exception.filename, isinstance(caught.exception, ValueError)), (str(path), True))
-                self.assertIsNone(caught.exception.code)
-        path.write_bytes(index.replace(b"%016x" % 3, b"%016x" % 2**63))
-        with self.assertRaisesRegex(intaglio.NotShards, ": line 5 is not that of an index of shards$"):
-            Shards(self.folder)
-        path.unlink()
-        with self.assertRaises(FileNotFoundError) as absent:
-            Shards(self.folder)
-        self.assertEqual(absent.exception.filename, str(path))
-        self.assertFalse((self.at / "out").exists())
+            second.unlink() if data is None else second.write_bytes(data)
+            calls = [lambda: Frozen(self.folder), lambda: merge([self.folder], self.at / "out")]
+            calls += [lambda: Frozen(self.folder, trusted=True)] * is_trusted
+            self.refuses(error, f"{second}" if data is None else f"^{second}: {said}", *calls)
+            if not is_trusted:
+                Frozen(self.folder, trusted=True).close()
+        second.write_bytes(good)
+        third.write_bytes(b"")
+        self.refuses(intaglio.NotFrozen, f"^{third}: ", lambda: Frozen(self.folder), lambda: Frozen(self.folder, trusted=True))
+        first.unlink()
+        self.refuses(FileNotFoundError, f"{first}", lambda: Frozen(self.folder), lambda: merge([self.folder], self.at / "out"))
+        one, _ = merge([self.folder], self.at / "one", shard=1)
+        self.assertEqual(encoded(one), dictionary.shards[1])
 
-    def test_damaged_shards_are_refused_by_name(self):
+    def test_each_byte_of_a_shard_is_checked(self):
+        self.put(WORDS[:9], 2)
+        path = self.folder / "1.dict"
+        good = path.read_bytes()
+        # (the second to the fifth four bytes are the keys: with others a string may be found by chance)
+        for place in {*range(len(good))} - {*range(16, 32)}:
+            path.write_bytes(good[:place] + bytes([good[place] ^ 1]) + good[place + 1 :])
+            with self.subTest(place=place):
+                self.refuses(intaglio.Refused, f"^{path}: ", lambda: Frozen(self.folder))
+
+    def test_inputs_are_not_written_over(self):
         self.put(WORDS, 3)
-        shard = self.folder / "1.dict"
-        was = shard.read_bytes()
-        for data, wanted, by_header in (
-            (files_of(WORDS, 5, True)["1.dict"], intaglio.OtherShard, True),
-            ((self.folder / "2.dict").read_bytes(), intaglio.OtherShard, True),
-            (files_of(encoded(WORDS), 3, False)["1.dict"], intaglio.OtherShard, True),
-            (was[:-1] + b"x", intaglio.OtherShard, False), (b"x" * 100, intaglio.NotFrozen, True),
-            (was[:40], intaglio.Truncated, True), (was[:64] + bytes([was[64] ^ 1]) + was[65:], ValueError, False),
-        ):
-            shard.write_bytes(data)
-            for read in (lambda: Shards(self.folder), lambda: merge([self.folder], self.at / "out", shards=3)):
-                with self.assertRaisesRegex(wanted, f"^{shard}: ") as caught:
-                    read()
-                self.assertEqual(caught.exception.filename, str(shard))
-            if by_header:
-                with self.assertRaisesRegex(wanted, f"^{shard}: "):
-                    Shards(self.folder, trusted=True)
-            else:
-                self.assertEqual(len(Shards(self.folder, trusted=True)), len(WORDS))
-        shard.unlink()
-        with self.assertRaises(FileNotFoundError) as absent:
-            Shards(self.folder)
-        self.assertEqual(absent.exception.filename, str(shard))
-        self.assertFalse((self.at / "out/shards").exists())
-
-    def test_each_byte_of_a_folder_is_checked(self):
-        strings = self.put(["a", "bc", "", "d", "\u00e9"], 2)
-        for name in ("0.dict", "1.dict", "shards"):
-            path = self.folder / name
-            data = path.read_bytes()
-            for at in range(len(data)):
-                path.write_bytes(data[:at] + bytes([data[at] ^ 1]) + data[at + 1:])
-                try:
-                    found = list(Shards(self.folder))
-                except ValueError as error:
-                    self.assertTrue(str(error).startswith(str(self.folder)), error)
-                else:
-                    # (other keys or pilots under which the strings are found too)
-                    table = formats.Frozen(data).sections if name != "shards" else None
-                    self.assertTrue(found == strings and table and (16 <= at < 32 or table.pilots <= at < table.tags), (name, at))
-            path.write_bytes(data)
-        self.assertEqual(list(Shards(self.folder)), strings)
-
-    def test_strings_must_be_in_their_shards(self):
-        shards = formats.shards_of(encoded(WORDS), 3)
-        formats.put(self.folder, formats.folder_of([shards[0], shards[2], shards[1]], formats.TEXT))
-        said = f"^{self.folder}/1.dict: string 0 belongs to another shard, or there is another number of shards$"
-        for read in (lambda: Shards(self.folder), lambda: merge([self.folder], self.at / "out", shards=3)):
-            with self.assertRaisesRegex(intaglio.Misplaced, said) as caught:
-                read()
-            self.assertEqual((caught.exception.position, caught.exception.filename), (0, f"{self.folder}/1.dict"))
-        with Shards(self.folder, trusted=True) as trusted:
-            self.assertEqual(encoded(trusted), [*shards[0], *shards[2], *shards[1]])
-            self.assertEqual(trusted.find_all(decoded(shards[2], True)), [None] * len(shards[2]))
-        last = shards[1][-1]
-        moved = [[*shards[0], last], shards[1][:-1], shards[2]]
-        formats.put(self.folder, formats.folder_of(moved, formats.TEXT))
-        with self.assertRaisesRegex(intaglio.Misplaced, f"/0.dict: string {len(shards[0])} belongs to another shard"):
-            Shards(self.folder)
-
-    def test_maps_of_other_parts_are_refused(self):
-        self.put(WORDS, 3)
-        path = self.folder / "map"
-        data = path.read_bytes()
-        numbers = f"it has {len(WORDS) - 1} codes, and the part has {len(WORDS)} strings here"
-        for changed, wanted, said in (
-            (data[:-1], intaglio.NotShards, "not a map: its length is no multiple of 4"),
-            (data[:-4], intaglio.NotShards, f"another part's map: {numbers}"),
-            (data[4:] + data[:4], intaglio.NotShards, "not the map that the index names: it is damaged, or was written again"),
-        ):
-            path.write_bytes(changed)
-            with self.assertRaisesRegex(wanted, f"^{path}: {said}") as caught:
-                merge([self.folder], self.at / "out", shards=3)
-            self.assertEqual(caught.exception.filename, str(path))
-        path.write_bytes(data)
-        with self.assertRaisesRegex(ValueError, f"^{self.folder}: it has 3 shards, and 4 are to be merged$"):
-            merge([self.folder], self.at / "out", shards=4)
-
-    def test_a_map_to_no_string_is_refused(self):
-        # (with its checksum, which says nothing of the codes)
-        self.put(WORDS, 3)
-        path, index = self.folder / "map", self.folder / "map.index"
-        data = path.read_bytes()
-        changed = data[:-4] + b"\xf0\xff\xff\xff"
-        sums = (formats.checksum_of(it).encode() for it in (data, changed))
-        index.write_bytes(index.read_bytes().replace(*sums))
-        path.write_bytes(changed)
-        said = f"^{path}: code 4294967280 at position {len(WORDS) - 1} is no symbol"
-        with self.assertRaisesRegex(intaglio.NoSymbol, said) as caught:
-            merge([self.folder], self.at / "out", shards=3)
-        self.assertEqual(caught.exception.filename, str(path))
-
-    def test_an_index_of_another_map_is_refused(self):
-        self.put(WORDS, 3)
-        path = self.folder / "map.index"
-        data = path.read_bytes()
-        lines = data.split(b"\n")
-        other, no_index = "the map leads to other shards than those of", "not the index of one map"
-        for changed, said in (
-            (b"", no_index), (data[:-1], no_index), (data + b"\n", no_index), (data.replace(b"maps 1", b"maps 2"), no_index),
-            (b"\n".join([lines[0], lines[1], lines[1].rsplit(b" ", 2)[0], b""]), f"{other} {self.folder}"),
-        ):
-            path.write_bytes(changed)
-            with self.assertRaisesRegex(intaglio.NotShards, f"^{path}: {said}") as caught:
-                merge([self.folder], self.at / "out", shards=3)
-            self.assertEqual(caught.exception.filename, str(path))
-        path.unlink()
-        with self.assertRaises(FileNotFoundError) as lacking:
-            merge([self.folder], self.at / "out", shards=3)
-        self.assertEqual(lacking.exception.filename, str(path))
-
-    def test_an_input_is_not_written_over(self):
-        self.put(WORDS, 3)
+        freeze(WORDS).write_column(self.at / "column", array("I"))
         SymbolTable(WORDS).freeze(self.at / "0.dict")
-        words = Frozen(self.at / "0.dict")
-        before = formats.files_in(self.folder), (self.at / "0.dict").read_bytes()
-        path = self.at / "0.dict"
-        for write, name in (
-            (lambda: split(words, self.at, 2), path), (lambda: split(path, self.at, 2), path),
-            (lambda: merge([words], self.at, shards=2), path),
-            (lambda: merge([self.folder], self.folder, shards=3), self.folder),
-            (lambda: merge([Shards(self.folder)], self.folder, shards=3), self.folder),
-        ):
-            with self.assertRaisesRegex(ValueError, f"^{name}: this input is in the folder that is written, "):
-                write()
-        self.assertEqual((formats.files_in(self.folder), (self.at / "0.dict").read_bytes()), before)
+        before, path = (formats.files_in(self.folder), (self.at / "0.dict").read_bytes()), self.at / "0.dict"
+        self.refuses(
+            ValueError, "this input is in the folder that is written, ", lambda: merge([path], self.at, shards=2),
+            lambda: merge([Frozen(path)], self.at, shards=2), lambda: merge([self.folder], self.folder),
+            lambda: merge([Frozen(self.folder)], self.folder, shard=1),
+        )
+        self.assertEqual((formats.files_in(self.folder), path.read_bytes()), before)
 
     def test_copies_and_pickles(self):
-        class Named(Shards):
+        class Named(Frozen):
             pass
 
         strings = self.put(WORDS, 3)
@@ -416,117 +233,62 @@ class OfShards(unittest.TestCase):
                 self.compare(other, encoded(strings) if kind else strings)
                 other.close()
                 self.assertEqual((other.name, repr(other), len(list(shards))), (["words"], "<Named, closed>", len(WORDS)))
-        shards = Shards(self.folder)
-        again = pickle.loads(pickle.dumps(shards))
-        self.compare(again, strings)
+        shards = Frozen(self.folder)
         pickled = pickle.dumps(shards)
+        self.compare(pickle.loads(pickled), strings)
         self.put(WORDS[:-1], 3)
-        with self.assertRaisesRegex(ValueError, f"^{self.folder}: other shards than those that were pickled$"):
-            pickle.loads(pickled)
-        with self.assertRaisesRegex(TypeError, f"^{self.folder}: it has other shards by now"):
-            pickle.dumps(shards)
-        (self.folder / "shards").unlink()
-        with self.assertRaisesRegex(TypeError, "it has other shards by now"):
-            pickle.dumps(shards)
-
-    def test_a_closed_dictionary_raises(self):
-        self.put(WORDS, 3)
-        shards = Shards(self.folder)
-        shards.close()
-        shards.close()
-        self.assertEqual(repr(shards), "<Shards, closed>")
-        for read in (
-            lambda: shards[0], lambda: shards[:], lambda: "a" in shards, lambda: shards.encode(["a"]),
-            lambda: shards.decode(array("I", [0])), lambda: shards.get_all([0]),
-        ):
-            with self.assertRaisesRegex(ValueError, "^the Shards was closed$"):
-                read()
-        with self.assertRaises(ValueError):
-            list(shards)
-
-    def test_a_file_that_is_replaced_is_noticed(self):
-        path = self.at / "part"
-        SymbolTable(WORDS).freeze(path)
-
-        def tables():
-            yield path
-
-        real = intaglio.merging.frozen_shards
-        self.addCleanup(setattr, intaglio.merging, "frozen_shards", real)
-
-        def replacing(data, count):
-            numbers = real(data, count)
-            SymbolTable(WORDS[::-1]).freeze(path)
-            return numbers
-
-        intaglio.merging.frozen_shards = replacing
-        with self.assertRaisesRegex(ValueError, f"^{path}: another file than before"):
-            merge(tables(), self.folder, shards=2)
+        said = f"^{self.folder}: another dictionary than the one that was pickled$"
+        self.refuses(ValueError, said, lambda: pickle.loads(pickled))
+        (self.folder / "0.dict").unlink()
+        self.refuses(FileNotFoundError, "0.dict", lambda: pickle.loads(pickled))
+        self.refuses(TypeError, f"^{self.folder}: it has other shards by now", lambda: pickle.dumps(shards))
 
     def test_long_batches(self):
         strings = [f"s{it}" for it in range(70_000)]
-        split(self.freeze(strings), self.folder, 7)
-        shards, numbers = Shards(self.folder), array("I", (self.folder / "map").read_bytes())
+        shards, [numbers] = merge([freeze(strings)], self.folder, shards=7)
         self.assertEqual((shards.encode(strings), shards.decode(numbers)), (numbers, strings))
         self.assertEqual(shards.find_all(iter([*strings, "no"])), [*numbers, None])
         self.assertEqual(shards.encode_lines("\n".join(strings).encode()), numbers)
-        for shard, table in enumerate(shards.tables):
-            self.assertTrue(all(formats.shard_of(7, it.encode()) == shard for it in table[:20]))
 
     def test_wrong_arguments_raise(self):
         self.put(WORDS, 3)
-        shards, words = Shards(self.folder), self.freeze(WORDS)
+        shards, words, out = Frozen(self.folder), freeze(WORDS), self.at / "out"
         for call in (shards.check_interned, shards.count, shards.index, lambda it: it in shards):
-            for wrong in (b"a", 7):
-                with self.assertRaises(TypeError):
-                    call(wrong)
-        out = self.at / "out"
+            self.refuses(TypeError, "", lambda: call(b"a"), lambda: call(7))
         for count in (0, -1, 2**32):
-            for call in (lambda: split(words, out, count), lambda: merge([words], out, shards=count)):
-                with self.assertRaisesRegex(ValueError, r"^the number of shards is from 1 to 2\*\*32 - 1$"):
-                    call()
-        for call in (
-            lambda: split(words, out, "2"), lambda: split(SymbolTable(WORDS), out, 2), lambda: split(words, 7, 2),
-            lambda: split(words.to_bytes(), out, 2), lambda: Shards(7), lambda: merge([words], shards=2),
-            lambda: merge(shards, out, shards=3), lambda: merge([7], out, shards=2), lambda: merge([shards]),
-            lambda: merge([words.to_bytes()], out, shards=2), lambda: merge([words], shards, shards=3),
-            lambda: SymbolTable().absorb(shards),
-        ):
-            with self.assertRaises(TypeError):
-                call()
+            self.refuses(ValueError, r"^the number of shards is from 1 to ", lambda: merge([words], out, shards=count))
+        for number in (3, -1):
+            self.refuses(ValueError, "^the number of the shard is from 0 to 2, not ", lambda: merge([shards], out, shard=number))
+        self.refuses(ValueError, f"^{self.folder}: 3 shards, and 2 are merged$", lambda: merge([shards], out, shards=2))
+        self.refuses(ValueError, "^<Frozen of 65 str>: 1 shard, and 3 are merged$", lambda: merge([shards, words], out))
+        said = f"^{self.folder}/2.dict: shard 2 of 3; name its folder$"
+        self.refuses(ValueError, said, *(lambda: merge([self.folder / "2.dict"], out, shards=it) for it in (None, 2)))
+        self.refuses(
+            TypeError, "", lambda: merge([words], out, shards="2"), lambda: merge([SymbolTable(WORDS)], out, shards=2),
+            lambda: merge([words], shards=2), lambda: merge([shards]), lambda: merge(shards, out),
+            lambda: merge([words.to_bytes()], out, shards=2), lambda: merge([words], shards),
+            lambda: merge([words], out, shard=0),
+            lambda: SymbolTable().absorb(shards), lambda: Frozen(self.folder, kind=int), shards.to_bytes,
+        )
         self.assertFalse(out.exists())
-        for codes in (array("Q", [0]), b"\0\0\0\0", [0]):
-            with self.assertRaisesRegex(TypeError, "integers of 4 bytes"):
-                shards.write_column(self.at / "column", codes)
-        with self.assertRaises(NotADirectoryError):
-            split(words, self.folder / "0.dict", 2)
-        with self.assertRaises(FileNotFoundError):
-            split(words, self.at / "none/out", 2)
+        self.refuses(NotADirectoryError, "", lambda: merge([words], self.folder / "0.dict", shards=2))
+        self.refuses(FileNotFoundError, "", lambda: merge([words], self.at / "none/out", shards=2))
 
     @unittest.skipUnless(os.access(PROGRAM, os.X_OK), "intaglio_dict isn't built")
     def test_the_program_writes_the_same_bytes(self):
         def ran(*words):
             return subprocess.run([PROGRAM, *map(str, words)], check=True, capture_output=True).stdout
 
-        parts, count = [WORDS[:40], WORDS[20:], [], WORDS[::-3]], 3
-        (self.at / "maps").mkdir()
-        for number, strings in enumerate(parts):
-            SymbolTable(strings).freeze(self.at / f"{number}.part")
-            ran("split", self.at / f"{number}.part", "--shards", count, "-o", self.at / f"{number}.of_program")
-            split(self.at / f"{number}.part", self.at / f"{number}.shards", count)
-            self.assertEqual(*(formats.files_in(self.at / f"{number}.{it}") for it in ("shards", "of_program")))
-        folders = [self.at / f"{it}.shards" for it in range(len(parts))]
-        for shard in range(count):
-            ran("merge", "--shard", shard, "-o", self.at / f"{shard}.merged", "--maps", self.at / f"maps/{shard}", *folders)
-        ran("join", "-o", self.at / "joined", *(self.at / f"{it}.merged" for it in range(count)))
-        whole, maps = merge(folders, self.at / "whole", shards=count)
-        self.assertEqual(formats.files_in(self.at / "whole"), formats.files_in(self.at / "joined"))
-        for number, strings in enumerate(parts):
-            (self.at / "codes").write_bytes(array("I", range(len(strings))))
-            words = ["--into", self.at / "joined", "--maps", self.at / "maps", "--part", number, folders[number]]
-            self.assertEqual(ran("renumber", *words, self.at / "codes"), maps[number].tobytes())
-        ran("check", self.at / "whole")
-        self.assertEqual(ran("list", self.at / "whole"), formats.ended(encoded(whole)))
+        parts = [self.at / f"{it}" for it in range(3)]
+        for part, strings in zip(parts, (WORDS[:40], WORDS[20:], [])):
+            SymbolTable(strings).freeze(f"{part}.dict")
+            ran("merge", f"{part}.dict", "--shards", 3, "-o", f"{part}.of_program")
+            merge([f"{part}.dict"], part, shards=3)
+            self.assertEqual(formats.files_in(part), formats.files_in(f"{part}.of_program"))
+        ran("merge", *parts, "-o", self.at / "of_program")
+        whole, _ = merge(parts, self.folder)
+        self.assertEqual(formats.files_in(self.folder), formats.files_in(self.at / "of_program"))
+        self.assertEqual(ran("list", self.folder), formats.ended(encoded(whole)))
 
 
 if __name__ == "__main__":

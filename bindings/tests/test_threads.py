@@ -11,8 +11,8 @@ import unittest
 from array import array
 
 import intaglio
-from intaglio import MISSING, Frozen, Shards, SymbolTable, merge, renumber, split
-from intaglio._table import frozen_shards, frozen_slice, shards_id
+from intaglio import MISSING, Frozen, SymbolTable, merge, renumber
+from intaglio._table import frozen_slice, share_out
 
 CALLS = 60_000
 THREADS = 3
@@ -118,8 +118,7 @@ class FrozenTables(unittest.TestCase):
         cls.long = Frozen.from_bytes(cls.long_table.freeze(), trusted=True)
         folder = tempfile.TemporaryDirectory()
         cls.addClassCleanup(folder.cleanup)
-        split(cls.table, folder.name, 3)
-        cls.shards = Shards(folder.name)
+        cls.shards, _ = merge([cls.table], folder.name, shards=3)
 
     def calls_meanwhile(self, batch):
         """How many calls another thread makes on the table while a batch runs, and how long the batch and the longest wait of
@@ -174,11 +173,9 @@ class FrozenTables(unittest.TestCase):
             ("get_all", lambda: self.table.get_all(self.numbers)), ("merge", lambda: merge([self.table] * 9)),
             ("encode by shards", lambda: self.shards.encode(self.column)),
             ("decode by shards", lambda: self.shards.decode(self.numbers)),
-            ("to share strings out", lambda: frozen_shards(self.long._data, 7)),
-            ("to compare shards", lambda: shards_id((array("I", [0, LONG]), (self.long._data,)))),
-            ("to intern a shard", lambda: SymbolTable()._absorb_shard(self.long._data, array("I", bytes(4 * LONG)), 0)),
+            ("to share strings out", lambda: share_out(self.long._data, (SymbolTable(), SymbolTable()))),
             ("to intern all for merge", lambda: SymbolTable()._absorb_alone(self.long)),
-            ("to freeze for merge", lambda: self.long_table._freeze_alone((0, 0))),
+            ("to freeze for merge", lambda: self.long_table._freeze_alone((0, 0), self.long._id)),
         ):
             self.assert_lets_run(name, batch)
 

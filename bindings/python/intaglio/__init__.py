@@ -25,8 +25,8 @@ and pickled.
 frozen.write_column(path, codes) writes codes to a file that says which table they belong to, and Column(path, frozen) maps it: a
 read-only sequence of strings, which finds the rows of a string and counts strings by their codes alone.
 
-split writes a frozen table to a folder as a dictionary in shards, which Shards(folder) maps: a read-only sequence of strings too,
-whose shards can be merged each by itself, by merge(.., shards=..). It has write_column too, and a Column may belong to it.
+merge(.., folder, shards=..) writes a dictionary in shards, which Frozen(folder) maps. The same shards of several such
+dictionaries can be merged each by itself.
 
 A call that the library refuses raises a subclass of Refused, named after the reason, and leaves the strings unchanged. `position`
 says which string of several it is about, and `filename` which file. A string that isn't in a Frozen raises Missing, a KeyError.
@@ -41,20 +41,20 @@ from intaglio._table import (
 )
 from intaglio.column import Column
 from intaglio.errors import (
-    REFUSALS, BadEnds, BadWidth, Equal, Full, InnerZero, Misplaced, Missing, MissingZero, NoKind, NoMemory, NoPlaces, NoSpace,
-    NoSymbol, NotColumn, NotFound, NotFrozen, NotShards, NotUtf8, NoTable, OtherDictionary, OtherShard, OtherVersion, Refused,
-    Reserved, Stale, TextEnds, TooLarge, TooLong, TooMany, TrailingBytes, Truncated, Unused,
+    REFUSALS, BadEnds, BadShard, BadWidth, Damaged, Equal, Full, InnerZero, Misplaced, Missing, MissingZero, NoKind, NoMemory,
+    NoPlaces, NoSpace, NoSymbol, NotColumn, NotFound, NotFrozen, NotUtf8, NoTable, OtherDictionary, OtherIdentity,
+    OtherShard, OtherVersion, Refused, Reserved, Stale, TextEnds, TooLarge, TooLong, TooMany, TrailingBytes, Truncated, Unused,
 )
 from intaglio.frozen import Frozen
 from intaglio.merging import merge
-from intaglio.shards import Shards, split
 
 __all__ = [
     "SymbolTable", "BytesTable", "CStringTable", "PathTable", "OsStringTable", "ByteStringTable", "Table", "Frozen", "Column",
-    "Shards", "split", "merge", "renumber", "MISSING", "Missing", "Refused", "NoTable", "Full", "NoMemory", "TooLarge",
+    "merge", "renumber", "MISSING", "Missing", "Refused", "NoTable", "Full", "NoMemory", "TooLarge",
     "Stale", "NotUtf8", "InnerZero", "MissingZero", "BadEnds", "NoSymbol", "NoSpace", "NoKind", "NotFrozen", "OtherVersion",
     "Reserved", "TooMany", "Truncated", "TextEnds", "Unused", "NotFound", "TooLong", "Equal", "NoPlaces", "NotColumn",
-    "BadWidth", "TrailingBytes", "OtherDictionary", "NotShards", "OtherShard", "Misplaced", "REFUSALS", "__version__",
+    "BadWidth", "TrailingBytes", "BadShard", "OtherIdentity", "Damaged", "OtherDictionary", "OtherShard",
+    "Misplaced", "REFUSALS", "__version__",
 ]
 
 Sequence.register(Table)

@@ -5,31 +5,40 @@ import itertools
 import os
 from array import array
 from collections import Counter
+from typing import NamedTuple
 
 from intaglio._table import (
-    MISSING, column_check, column_codes, column_count, column_counts, column_id, column_len, column_rows, column_width,
-    is_missing,
+    MISSING, column_check, column_codes, column_count, column_counts, column_id, column_len, column_rows, column_source,
+    column_width, is_missing,
 )
 from intaglio.errors import OtherDictionary, Refused, name_file
-from intaglio.frozen import Frozen, map_file
+from intaglio.frozen import Frozen, identity_of, map_file
 from intaglio.frozen import refuse_bytes as refuse_table
-from intaglio.shards import Shards
 from intaglio.strings import Mapped
 
 # What a column begins with, and how many bytes its header has.
-MAGIC, HEADER = b"INT\x89COL\n", 64
+MAGIC, HEADER = b"INT\x89COL\n", 128
 # What numbers of each width are to memoryview.
 FORMATS = {1: "B", 2: "H", 4: "I"}
 
 
+class Source(NamedTuple):
+    """The dictionary whose strings are the rows of a map, or its shard with this number."""
+
+    identity: str
+    shards: int
+    shard: int
+
+
 class Column(Mapped):
-    """A read-only column of strings in a file, as write_column of a Frozen or of a Shards writes it. The file is mapped. It is a
-    sequence of its strings, and of None for those that are missing.
+    """A read-only column of strings in a file, as Frozen.write_column writes it. The file is mapped. It is a sequence of its
+    strings, and of None for those that are missing.
 
-    Column(path, dictionary, *, trusted=False)
+    Column(path, dictionary=None, *, trusted=False)
 
-    dictionary: the Frozen or Shards that the column was written with, or the path of its file or folder, or another with the same
-    strings in the same order and the same kind. A column of another dictionary raises OtherDictionary.
+    dictionary: the Frozen that the column was written with, or its path, or another with the same identity. A column of another
+    dictionary raises OtherDictionary. Without a dictionary there are the codes alone, and what takes or returns strings raises
+    TypeError.
 
     trusted: the file is known to be whole, and its codes aren't checked, so that opening takes the same time for each file. In a
     damaged one a code may be that of no string: what returns strings then raises NoSymbol. The file must not be made shorter
@@ -43,41 +52,63 @@ class Column(Mapped):
     >>> list(column), column[-1], column.rows_of("be"), column.counts()
     (['be', 'to', None, 'be'], 'be', array('Q', [0, 3]), Counter({'be': 2, 'to': 1, None: 1}))
 
-    Raises NotColumn, OtherVersion, NoKind, TooMany, BadWidth, Reserved, Truncated, TrailingBytes, NoSymbol, which name the file,
-    OtherDictionary, OSError, and what Frozen and Shards raise.
+    Raises NotColumn, OtherVersion, NoKind, TooMany, BadWidth, BadShard, Reserved, Truncated, TrailingBytes, Damaged,
+    NoSymbol, which name the file, OtherDictionary, OSError, and what Frozen raises.
     """
 
-    _own = ("_data", "_map", "_dictionary", "_opened", "_len", "_width")
+    _own = ("_data", "_map", "_words", "_opened", "_len", "_width")
 
-    def __init__(self, path, dictionary, *, trusted=False):
+    def __init__(self, path, dictionary=None, *, trusted=False):
         refuse_bytes(path)
-        self._data, self._map, _ = map_file(path)
-        self._opened = None
         try:
-            self._check(path, trusted)
-            self._opened = None if isinstance(dictionary, (Frozen, Shards)) else opened(dictionary)
-            self._dictionary = dictionary if self._opened is None else self._opened
-            named, found = column_id(self._data), self._dictionary._identity()
-            if named != found:
-                name = dictionary._name() if self._opened is None else shown(dictionary)
-                raise OtherDictionary(shown(path), name, named[1], found[1])
+            data, mapped = map_file(path)
+            self._open(data, mapped, shown(path), dictionary, trusted)
+        except Refused as error:
+            # (an error of the dictionary names that)
+            if error.filename is None:
+                name_file(error, path if isinstance(path, int) else os.fspath(path))
+            raise
+
+    @classmethod
+    def from_bytes(cls, data, dictionary=None, *, trusted=False):
+        """A column over its bytes in memory, as to_bytes returns them: any buffer, which must not change."""
+        column = cls.__new__(cls)
+        column._open(memoryview(data).cast("B"), None, "the column", dictionary, trusted)
+        return column
+
+    # Takes the bytes and the dictionary, and closes what holds them if they are no column of it.
+    def _open(self, data, mapped, name, dictionary, trusted):
+        self._data, self._map, self._opened = data, mapped, None
+        try:
+            (column_id if trusted else column_check)(data)
+            if dictionary is not None and not isinstance(dictionary, Frozen):
+                self._opened = opened(dictionary)
+            self._words = dictionary if self._opened is None else self._opened
+            named = column_id(data)
+            if self._words is not None and named != self._words._id:
+                other = self._words._name() if self._opened is None else shown(dictionary)
+                raise OtherDictionary(name, other, named[1], len(self._words))
         except BaseException:
             self.close()
             raise
-        self._len, self._width = column_len(self._data), column_width(self._data)
-
-    # Checks the bytes, or the header alone. An error names the file.
-    def _check(self, path, trusted):
-        try:
-            (column_id if trusted else column_check)(self._data)
-        except Refused as error:
-            name_file(error, path if isinstance(path, int) else os.fspath(path))
-            raise
+        self._len, self._width = column_len(data), column_width(data)
 
     @property
     def dictionary(self):
-        """The Frozen or the Shards."""
-        return self._dictionary
+        """The Frozen, or None."""
+        return self._words
+
+    @property
+    def identity(self):
+        """The identity of the dictionary to which the codes belong, as Frozen.identity."""
+        return identity_of(column_id(self._bytes()))
+
+    @property
+    def source(self):
+        """If the column is a map, from where it leads: row i is the string with symbol i of this dictionary, or of this shard of
+        it. Otherwise None."""
+        id = column_source(self._bytes())
+        return Source(identity_of(id), *id[4:]) if id[4] else None
 
     @property
     def width(self):
@@ -105,13 +136,13 @@ class Column(Mapped):
         import pandas
 
         codes = memoryview(self.widened()).cast("B").cast("i")
-        return pandas.Categorical.from_codes(codes, categories=list(self._dictionary))
+        return pandas.Categorical.from_codes(codes, categories=list(self._strings()))
 
     def __array__(self, dtype=None, copy=None):
         """For numpy and pandas an array of objects, with None for missing rows."""
         import numpy
 
-        return numpy.array(self._dictionary.decode(self.widened(), missing=None), dtype or object)
+        return numpy.array(self._strings().decode(self.widened(), missing=None), dtype or object)
 
     def rows_of(self, string, /):
         """An array('Q') of the rows that have a string, or that are missing for None, NaN or pandas.NA, in ascending order. Only
@@ -122,9 +153,10 @@ class Column(Mapped):
     def counts(self):
         """A Counter of how many rows have each string that occurs, in the order of the dictionary, and how many are missing, at
         None. Only codes are counted."""
-        counts, missing = column_counts(self._data, len(self._dictionary))
+        words = self._strings()
+        counts, missing = column_counts(self._data, len(words))
         codes = array("I", itertools.compress(range(len(counts)), counts))
-        counter = Counter(dict(zip(self._dictionary.decode(codes), filter(None, counts))))
+        counter = Counter(dict(zip(words.decode(codes), filter(None, counts))))
         if missing:
             counter[None] = missing
         return counter
@@ -156,18 +188,24 @@ class Column(Mapped):
     def __copy__(self):
         other = super().__copy__()
         if self._opened is not None:
-            other._dictionary = other._opened = copy.copy(self._opened)
+            other._words = other._opened = copy.copy(self._opened)
         return other
 
     def __reduce__(self):
         raise TypeError("a Column can't be pickled: send its path and its dictionary, and open it there")
 
+    # The dictionary, where strings are taken or returned.
+    def _strings(self):
+        if self._words is None:
+            raise TypeError("the Column was opened without its dictionary")
+        return self._words
+
     # The code of a string, or None if the dictionary hasn't got it.
     def _code_of(self, string):
-        return MISSING if is_missing(string) else self._dictionary.check_interned(string)
+        return MISSING if is_missing(string) else self._strings().check_interned(string)
 
     def _run(self, row, count, step):
-        return self._dictionary.decode(column_codes(self._data, row, count, step), missing=None)
+        return self._strings().decode(column_codes(self._data, row, count, step), missing=None)
 
     def _item(self, row):
         if not -self._len <= row < self._len:
@@ -175,7 +213,7 @@ class Column(Mapped):
         return self._run(row % self._len, 1, 1)[0]
 
     def _described(self):
-        return f"{self._len} rows of {len(self._dictionary)} strings"
+        return f"{self._len} rows of {column_id(self._data)[1]} strings"
 
     def __contains__(self, string):
         return self.count(string) > 0
@@ -187,12 +225,12 @@ def shown(path):
 
 
 def opened(path):
-    """The dictionary at a path: a file, or a folder of shards."""
+    """The dictionary at a path."""
     refuse_table(path)
     if not isinstance(path, (str, bytes, int, os.PathLike)):
         name = type(path).__name__
-        raise TypeError(f"a column is read with a Frozen, a Shards or the path of one, not a {name}: a table is frozen before")
-    return Shards(path) if os.path.isdir(path) else Frozen(path)
+        raise TypeError(f"a column is read with a Frozen or the path of one, not a {name}: a table is frozen before")
+    return Frozen(path)
 
 
 def refuse_bytes(path):

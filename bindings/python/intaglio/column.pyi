@@ -1,26 +1,41 @@
 from array import array
 from collections import Counter
-from typing import Any, Generic, TypeVar, overload
+from typing import Any, Generic, NamedTuple, TypeVar, overload
 
 from _typeshed import StrOrBytesPath
 
+from intaglio._table import Readable
 from intaglio.frozen import Frozen
-from intaglio.shards import Shards
 from intaglio.strings import Mapped
 
 _Content = TypeVar("_Content", str, bytes, covariant=True)
 
+class Source(NamedTuple):
+    identity: str
+    shards: int
+    shard: int
+
 class Column(Mapped[_Content | None], Generic[_Content]):
     @overload
-    def __init__(
-        self, path: StrOrBytesPath | int, dictionary: Frozen[_Content] | Shards[_Content], *, trusted: bool = ...
-    ) -> None:
-        ...
+    def __init__(self, path: StrOrBytesPath | int, dictionary: Frozen[_Content], *, trusted: bool = ...) -> None: ...
     # Of a path the file or the folder says what the strings are.
     @overload
-    def __init__(self: Column[Any], path: StrOrBytesPath | int, dictionary: StrOrBytesPath, *, trusted: bool = ...) -> None: ...
+    def __init__(
+        self: Column[Any], path: StrOrBytesPath | int, dictionary: StrOrBytesPath | None = ..., *, trusted: bool = ...
+    ) -> None:
+        ...
+    @overload
+    @classmethod
+    def from_bytes(cls, data: Readable, dictionary: Frozen[_Content], *, trusted: bool = ...) -> Column[_Content]: ...
+    @overload
+    @classmethod
+    def from_bytes(cls, data: Readable, dictionary: StrOrBytesPath | None = ..., *, trusted: bool = ...) -> Column[Any]: ...
     @property
-    def dictionary(self) -> Frozen[_Content] | Shards[_Content]: ...
+    def dictionary(self) -> Frozen[_Content] | None: ...
+    @property
+    def identity(self) -> str: ...
+    @property
+    def source(self) -> Source | None: ...
     @property
     def width(self) -> int: ...
     @property

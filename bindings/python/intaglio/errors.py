@@ -169,17 +169,31 @@ class BadWidth(Refused, ValueError):
 
 
 class TrailingBytes(Refused, ValueError):
-    """There are bytes behind the last row of a column."""
+    """There are bytes behind the strings of a frozen table, or behind the last row of a column."""
 
     code = 26
 
 
-class NotShards(Refused, ValueError):
-    """The index or the map of a folder of shards isn't as it must be."""
+class BadShard(Refused, ValueError):
+    """The number of a shard isn't below the number of shards."""
+
+    code = 27
+
+
+class OtherIdentity(Refused, ValueError):
+    """The identity in the header of a frozen table isn't that of its strings."""
+
+    code = 28
+
+
+class Damaged(Refused, ValueError):
+    """The checksum of a column isn't that of its codes and its header."""
+
+    code = 29
 
 
 class OtherShard(Refused, ValueError):
-    """Not the shard that the index names: it is damaged, or of another split or merge."""
+    """Not the shard that is named, or of another dictionary than the other shards."""
 
 
 class Misplaced(Refused, ValueError):
@@ -241,13 +255,6 @@ def refusal(code: int, position: int | None = None) -> Refused:
     return kind() if position is None else placed(kind, kind.__doc__ or "", position)
 
 
-def of_shard(code: int, number: int) -> Refused:
-    """The error of a code of the library about one of several shards."""
-    error = REFUSALS[code]()
-    error.position = number
-    return error
-
-
 def lone_surrogate(position: int | None = None) -> Refused:
     """The error of a `str` that has no UTF-8."""
     return placed(NotUtf8, "The string isn't valid UTF-8: it contains a lone surrogate.", position)
@@ -296,11 +303,6 @@ def no_codes(given: Any) -> TypeError:
         what, how = f"a {name}", name if name in TO_CODES else "list"
     codes = "codes are integers of 4 bytes in a buffer, such as array('I') or numpy's uint32 and int32"
     return TypeError(f"{codes}, not {what}: {TO_CODES.get(how, AS_CODES)}")
-
-
-def wrong_line(number: int) -> NotShards:
-    """The error of a line of an index, counted from 1."""
-    return NotShards(f"line {number} is not that of an index of shards")
 
 
 def misplaced(symbol: int) -> Misplaced:

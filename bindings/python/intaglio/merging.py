@@ -1,65 +1,66 @@
-"""Merges frozen tables, to one or to a dictionary in shards."""
+"""Merges dictionaries: to one file, or to one in shards, each shard by itself."""
 import contextlib
+import operator
 import os
-import re
 from array import array
+from typing import Any
 
-from intaglio._table import BytesTable, SymbolTable, Table, frozen_shards, renumber, split_map
-from intaglio.errors import NoSymbol, NotShards, name_file
-from intaglio.frozen import HEADER, Frozen, refuse_bytes, replace
-from intaglio.shards import (
-    MAP, MAP_INDEX, MOST, Shards, count_of, map_index_parts, open_shard, read_index, refuse_within, too_many, write_folder,
-)
+from intaglio._table import BytesTable, SymbolTable, Table, renumber, set_of, share_out
+from intaglio.frozen import Frozen, id_at, is_folder, open_shard, refuse_bytes, replace, shard_name
 
-# The index of one map: a dictionary, the checksum of the map, and the shards to which it leads.
-ID, SUM = rb"(?:bytes|text)(?: [0-9a-f]{16}){3}", rb"(?: [0-9a-f]{16}){2}"
-OF_MAP = re.compile(rb"intaglio maps 1 0{15}1\n%s(%s)\n(%s)\n" % (ID, SUM, ID))
-# What is said of shards that are merged to one file.
-IN_SHARDS = "shards are merged by merge(.., shards=..)"
+# How many shards there may be.
+MOST = 2**32 - 1
 
 
 def path_of(table, position):
     """The path of one of the tables that are merged. Raises TypeError if it is none."""
     try:
         refuse_bytes(table)
-        if isinstance(table, Shards):
-            raise TypeError(IN_SHARDS)
         return os.fspath(table)
     except TypeError as error:
         raise TypeError(f"each of the tables to merge is a Frozen or a path; at position {position}: {error}") from None
 
 
-def opened(table, position, trusted):
-    """A Frozen of one of the tables that are merged, which is closed again behind its use if a path was given."""
-    if isinstance(table, Frozen):
-        return contextlib.nullcontext(table)
-    try:
-        return Frozen(path_of(table, position), trusted=trusted)
-    except IsADirectoryError as error:
-        error.strerror = IN_SHARDS
-        raise
+class Part:
+    """One of the dictionaries that are merged: a Frozen, or the path of a file or a folder, which is opened while it is read."""
+
+    frozen: Any
+
+    def __init__(self, position, table, shard):
+        if isinstance(table, Frozen):
+            self.frozen, self.path, self.id, self.is_text = table, table._path, table._id, table.is_text
+            self.is_folder, self.name = bool(table._tables), table._name()
+            return
+        self.frozen, self.path = None, path_of(table, position)
+        self.is_folder, self.name, self.id = is_folder(self.path), os.fsdecode(self.path), id_at(self.path, shard)
+        self.is_text = self.id[0]
+
+    @property
+    def shards(self):
+        return self.id[4]
+
+    # The Frozen of its file, or of the shard with this number. All is checked.
+    def opened(self, number):
+        if self.frozen is not None:
+            return contextlib.nullcontext(self.frozen._tables[number] if self.is_folder else self.frozen)
+        return open_shard(self.path, number, self.id, False) if self.is_folder else Frozen(self.path)
+
+    # Raises ValueError if it isn't in so many shards, in a folder or not.
+    def check(self, is_folder, count):
+        if self.shards > 1 and not self.is_folder:
+            raise ValueError(f"{self.name}: shard {self.id[5]} of {self.shards}; name its folder")
+        if (self.is_folder, self.shards) != (is_folder, count):
+            raise ValueError(f"{self.name}: {self.shards} {'shard' if self.shards == 1 else 'shards'}, and {count} are merged")
 
 
-def is_text_at(position, table):
-    """Whether a frozen table, or that of a path, is of UTF-8 strings."""
-    with opened(table, position, True) as frozen:
-        return frozen.is_text
-
-
-def absorbed(merged, position, table):
-    """The map of a frozen table, or of that of a path, into a table."""
-    with opened(table, position, False) as frozen:
-        return merged._absorb_alone(frozen)
-
-
-def merge(tables, /, out=None, *, keys=(0, 0), shards=None):
-    """Merges frozen tables. Returns a Frozen of all their strings in the order of their first occurrences, and a list with a map
-    for each table: an array('I') with the new symbol of each of its strings, by which renumber turns codes of that table into
+def merge(tables, /, out=None, *, keys=(0, 0), shards=None, shard=None):
+    """Merges dictionaries. Returns a Frozen of all their strings in the order of their first occurrences, and a list with a map
+    for each: an array('I') with the new symbol of each of its strings, by which renumber turns codes of that dictionary into
     codes of the new one.
 
-    The tables are in a list or another iterable, and each is a Frozen or a path. The new one is written to the path `out`, as
-    Table.freeze does, or else held in memory. It is of UTF-8 strings if all are. With keys=None random ones are drawn. Other
-    threads run meanwhile. Raises what Frozen, Table.absorb and Table.freeze raise.
+    The dictionaries are in a list or another iterable, and each is a Frozen or a path. The new one is written to the path `out`,
+    as Table.freeze does, or else held in memory. It is of UTF-8 strings if all are. With keys=None random ones are drawn. Other
+    threads run meanwhile. Raises what Frozen, Table.absorb and Table.freeze raise, and ValueError.
 
     >>> one, two = (Frozen.from_bytes(SymbolTable(words).freeze()) for words in (["to", "be"], ["or", "to"]))
     >>> both, maps = merge([one, two])
@@ -68,186 +69,121 @@ def merge(tables, /, out=None, *, keys=(0, 0), shards=None):
     >>> both.decode(renumber(two.encode(["to", "or"]), maps[1]))
     ['to', 'or']
 
-    With `shards` the new one is a dictionary in so many shards, which is written to the folder `out` and returned as a Shards.
-    Then each table may also be the path of a folder with as many shards, or a Shards. Each shard is merged by itself, and one
-    shard of each folder is held at a time. If a folder has a map, as split writes it, the map that is returned is for codes of
-    the table that was split, and otherwise, as of a Shards, for codes of the folder. Raises what Shards and split raise too.
+    With `shards` the new one is written to the folder `out` in so many shards. `intaglio_dict` writes the same files.
 
     >>> import tempfile
     >>> with tempfile.TemporaryDirectory() as folder:
     ...     both, maps = merge([one, two], f"{folder}/both", shards=2)
     >>> both.decode(renumber(two.encode(["to", "or"]), maps[1]))
     ['to', 'or']
+
+    Dictionaries with the same number of shards are merged shard by shard, each by itself, and one shard of each path is held at a
+    time. With `shard` only that one is merged: then the Frozen is of its file, and a map has the symbols of that shard's strings
+    in the new shard. Of a path no other shard is read. Such calls may be made at the same time, also by several machines. They
+    get the same dictionaries in the same order.
     """
-    if isinstance(tables, (Frozen, Shards, Table, str, bytes, bytearray, memoryview, os.PathLike)):
+    if isinstance(tables, (Frozen, Table, str, bytes, bytearray, memoryview, os.PathLike)):
         raise TypeError(f"a list of tables, not a single {type(tables).__name__}: merge([one, two])")
-    if isinstance(out, (Frozen, Shards, Table)):
+    if isinstance(out, (Frozen, Table)):
         name = type(out).__name__
         raise TypeError(f"out is the path of a new file, not a {name}: the tables are in a list, merge([one, two])")
-    if shards is not None:
-        return merge_shards(list(tables), out, keys, count_of(shards))
-    tables = list(tables)
-    are_texts = [is_text_at(*it) for it in enumerate(tables)]
-    with (SymbolTable if all(are_texts) else BytesTable)() as merged:
-        maps = [absorbed(merged, *it) for it in enumerate(tables)]
-        data = merged._freeze_alone(keys)
+    first = 0 if shard is None else operator.index(shard)
+    parts = [Part(*it, first) for it in enumerate(tables)]
+    are_folders = any(it.is_folder for it in parts)
+    count = next((it.shards for it in parts if it.is_folder), 1)
+    for part in parts:
+        part.check(are_folders, count if shards is None or not are_folders else shards)
+    if not are_folders and shards is None and shard is None:
+        return merge_files(parts, out, keys)
+    if out is None:
+        raise TypeError("a dictionary in shards is written to a folder, which `out` names")
+    folder = os.fsdecode(out)
+    for part in parts:
+        refuse_within(folder, part.path)
+    if not are_folders:
+        return merge_to_shards(parts, folder, keys, number_of(shards, "the number of shards", 1, MOST))
+    numbers = range(count) if shard is None else [number_of(shard, "the number of the shard", 0, count - 1)]
+    maps = merge_shards(parts, folder, keys, numbers)
+    return Frozen(folder if shard is None else shard_name(folder, shard)), maps
+
+
+def number_of(given, what, least, most):
+    """A number of shards or of one. Raises TypeError, and ValueError if it is less or more."""
+    number = operator.index(given)
+    if not least <= number <= most:
+        raise ValueError(f"{what} is from {least} to {most}, not {number}")
+    return number
+
+
+def write_shard(folder, number, data):
+    """Writes a shard to a folder, which is made if it isn't there."""
+    with contextlib.suppress(FileExistsError):
+        os.mkdir(folder)
+    replace(shard_name(folder, number), data)
+
+
+def refuse_within(folder, path):
+    """Raises ValueError for an input in the folder that is written."""
+    if path is None or not os.path.isdir(folder):
+        return
+    where = path if is_folder(path) else os.path.dirname(os.path.realpath(path))
+    if os.path.samefile(where, folder):
+        raise ValueError(f"{os.fsdecode(path)}: this input is in the folder that is written, {folder}")
+
+
+def kind_of(parts):
+    """What the strings of a merge are: those of each part are `str`, or all are `bytes`."""
+    return str if all(it.is_text for it in parts) else bytes
+
+
+def table_for(parts):
+    """A table for the strings of a merge."""
+    return SymbolTable() if kind_of(parts) is str else BytesTable()
+
+
+def absorbed(merged, part, number):
+    """The map of a part, or of its shard with this number, into a table."""
+    with part.opened(number) as table:
+        return merged._absorb_alone(table)
+
+
+def merge_files(parts, out, keys):
+    """Merges files to a file, or to bytes in memory."""
+    with table_for(parts) as merged:
+        maps = [absorbed(merged, it, 0) for it in parts]
+        data = merged._freeze_alone(keys, (False, 0, 0, 0, 1, 0))
     if out is None:
         return Frozen.from_bytes(data, trusted=True), maps
     replace(out, data)
     return Frozen(out), maps
 
 
-# In shards
+def merge_to_shards(parts, folder, keys, count):
+    """Merges files to a folder of so many shards."""
+    with contextlib.ExitStack() as opened:
+        tables = [opened.enter_context(it.opened(0)) for it in parts]
+        made = tuple(opened.enter_context(table_for(parts)) for _ in range(count))
+        for table in tables:
+            share_out(table._data, made)
+        hashes = set_of([it._own_id() for it in made])
+        for number, shard in enumerate(made):
+            write_shard(folder, number, shard._freeze_alone(keys, (False, 0, *hashes, count, number)))
+        whole = Frozen(folder)
+        return whole, [whole.encode(Frozen.from_bytes(it._data, trusted=True, kind=kind_of(parts))) for it in tables]
 
 
-class OfFrozen:
-    """A part that is a frozen table, or the path of one: its strings are shared out."""
-
-    def __init__(self, table, position, count):
-        self.table, self.position = table, position
-        with opened(table, position, False) as frozen:
-            self.is_text, self.path, self.seen = frozen.is_text, frozen._path, self.look_at(frozen)
-            self.numbers = frozen_shards(frozen._data, count)
-        self.map = split_map(self.numbers, count)
-
-    # What tells the file from one that replaced it.
-    def look_at(self, frozen):
-        return frozen._stat, len(frozen._data), bytes(frozen._data[:HEADER])
-
-    def is_text_in(self, shard):
-        return self.is_text
-
-    def absorb(self, merged, shard):
-        with opened(self.table, self.position, True) as frozen:
-            if self.look_at(frozen) != self.seen:
-                raise ValueError(f"{os.fsdecode(self.path)}: another file than before: it was replaced while it was merged")
-            return merged._absorb_shard(frozen._data, self.numbers, shard)
-
-    def finished(self, joined):
-        return renumber(self.map, joined, out=self.map)
-
-
-class OfFolder:
-    """A part that is the path of a folder of shards."""
-
-    def __init__(self, folder, count):
-        index, self.ids = read_index(folder)
-        self.path = folder
-        refuse_count(folder, len(self.ids), count)
-        self.map = read_map(folder, index, self.ids)
-
-    def is_text_in(self, shard):
-        return self.ids[shard][0]
-
-    def absorb(self, merged, shard):
-        with open_shard(self.path, shard, self.ids, False) as table:
-            return merged._absorb_alone(table)
-
-    def finished(self, joined):
-        if self.map is None:
-            return joined
-        try:
-            return renumber(self.map, joined, out=self.map)
-        except NoSymbol as error:
-            name_file(error, os.path.join(self.path, MAP))
-            raise
-
-
-class OfShards:
-    """A part that is a Shards."""
-
-    def __init__(self, shards, count):
-        self.path, self.shards = shards._folder, shards
-        refuse_count(self.path, len(shards.tables), count)
-
-    def is_text_in(self, shard):
-        return self.shards.is_text
-
-    def absorb(self, merged, shard):
-        return merged._absorb_alone(self.shards.tables[shard])
-
-    def finished(self, joined):
-        return joined
-
-
-def refuse_count(folder, found, count):
-    """Raises ValueError for a folder with another number of shards."""
-    if found != count:
-        raise ValueError(f"{folder}: it has {found} shards, and {count} are to be merged")
-
-
-def read_map(folder, index, ids):
-    """The map of a folder with this index, or None if it has none: it has a code for each string of the shards, and its own index
-    names it and these shards."""
-    path, strings = os.path.join(folder, MAP), sum(strings for _, strings, *_ in ids)
-    try:
-        with open(path, "rb") as file:
-            data = file.read()
-    except FileNotFoundError:
-        return None
-    is_cut, codes = len(data) % 4, len(data) // 4
-    if is_cut:
-        raise no_map(path, "not a map: its length is no multiple of 4")
-    if codes != strings:
-        raise no_map(path, f"another part's map: it has {codes} codes, and the part has {strings} strings here")
-    check_map(folder, data, index, ids)
-    return array("I", data)
-
-
-def check_map(folder, data, index, ids):
-    """Checks that a map is the one which its index names, and leads to the shards of a folder with this index."""
-    path = os.path.join(folder, MAP_INDEX)
-    with open(path, "rb") as file:
-        found = OF_MAP.fullmatch(file.read())
-    if not found:
-        raise no_map(path, "not the index of one map")
-    ending, into = map_index_parts(data, index, ids)
-    if found[2] != into:
-        raise no_map(path, f"the map leads to other shards than those of {folder}")
-    if found[1] != ending:
-        raise no_map(os.path.join(folder, MAP), "not the map that the index names: it is damaged, or was written again")
-
-
-def no_map(path, what):
-    """The error of a file that isn't the map of a folder, or its index."""
-    error = NotShards(what)
-    name_file(error, path)
-    return error
-
-
-def part_of(position, table, count):
-    """One of the tables that are merged, in so many shards."""
-    if isinstance(table, Shards):
-        return OfShards(table, count)
-    if not isinstance(table, Frozen) and os.path.isdir(path_of(table, position)):
-        return OfFolder(os.fsdecode(table), count)
-    return OfFrozen(table, position, count)
-
-
-def merged_shards(parts, joined, keys, count, folder):
-    """Yields the bytes of each shard, and adds to `joined` the symbols of its strings, for each part."""
-    start = 0
-    for shard in range(count):
-        with (SymbolTable if all(it.is_text_in(shard) for it in parts) else BytesTable)() as merged:
-            symbols = [it.absorb(merged, shard) for it in parts]
-            if start + len(merged) > MOST:
-                raise too_many(folder)
-            numbers = array("I", range(start, start + len(merged)))
-            for codes, of_part in zip(joined, symbols):
-                codes.extend(renumber(of_part, numbers))
-            start += len(merged)
-            data = merged._freeze_alone(keys)
-        yield data
-
-
-def merge_shards(tables, out, keys, count):
-    """Merges tables to a dictionary in so many shards."""
-    if out is None:
-        raise TypeError("a dictionary in shards is written to a folder, which `out` names")
-    folder = os.fsdecode(out)
-    parts = [part_of(position, it, count) for position, it in enumerate(tables)]
-    for part in parts:
-        refuse_within(folder, part.path)
-    joined = [array("I") for _ in parts]
-    write_folder(folder, count, merged_shards(parts, joined, keys, count, folder))
-    return Shards(folder), [part.finished(codes) for part, codes in zip(parts, joined)]
+def merge_shards(parts, folder, keys, numbers):
+    """Merges the shards with these numbers of folders, and returns the maps: the strings of a shard follow those of the ones
+    before."""
+    count, start, maps = parts[0].shards, 0, [array("I") for _ in parts]
+    hashes = set_of([it.id for it in parts], count)
+    for number in numbers:
+        with table_for(parts) as merged:
+            symbols = [absorbed(merged, it, number) for it in parts]
+            new = array("I", range(start, start + len(merged)))
+            start += len(new)
+            for of_part, of_shard in zip(maps, symbols):
+                of_part.extend(renumber(of_shard, new))
+            data = merged._freeze_alone(keys, (False, 0, *hashes, count, number))
+        write_shard(folder, number, data)
+    return maps

@@ -1,4 +1,4 @@
-"""What frozen tables, dictionaries in shards and columns share."""
+"""What frozen tables and columns share."""
 import contextlib
 import copy
 import itertools
@@ -9,9 +9,9 @@ from typing import Any
 
 from intaglio._table import (
     frozen_decode, frozen_encode, frozen_encode_into, frozen_encode_lines, frozen_find, frozen_find_all, frozen_get,
-    frozen_get_all, frozen_slice, shards_id,
+    frozen_get_all, frozen_slice,
 )
-from intaglio.errors import Refused, no_such_symbol
+from intaglio.errors import no_such_symbol
 
 # What is passed if nothing stands in for a missing string.
 NOTHING = object()
@@ -102,12 +102,11 @@ class Mapped(Sequence):
 
 
 class Strings(Mapped):
-    """A read-only sequence of distinct strings, each at its symbol: those of a Frozen or of a Shards. Its bytes are those of a
-    table, or the starts of shards and the bytes of each."""
+    """A read-only sequence of distinct strings, each at its symbol. Its bytes are those of a table, or the starts of shards and
+    the bytes of each."""
 
-    # Whether the strings are `str`, and what they are to columns, once that was read.
+    # Whether the strings are `str`.
     _is_text: bool
-    _id: Any
 
     @property
     def is_text(self):
@@ -212,18 +211,3 @@ class Strings(Mapped):
 
     def _described(self):
         return f"{self._len} {'str' if self._is_text else 'bytes'}"
-
-    # What the dictionary is to columns: its strings in their order, and whether each file says that they are UTF-8. All strings
-    # are read once.
-    def _identity(self):
-        if self._id is None:
-            try:
-                self._id = shards_id(self._data)
-            except Refused as error:
-                self._name_in(error)
-                raise
-        return self._id
-
-    @abstractmethod
-    def _name_in(self, error):
-        """Puts the name of the file that it is about into an error."""

@@ -15,13 +15,13 @@ static int open_rows(PyObject *const *args, Py_ssize_t count, Py_ssize_t wanted,
     return borrow_column(args[0], view);
 }
 
-/* Raises NoSymbol for the first row whose code is neither a symbol nor MISSING. */
+/* Raises NoSymbol for the first row whose code is neither a symbol nor MISSING, which isn't allowed in a map. */
 static PyObject *no_string_in(const Py_buffer *view) {
-    intaglio_dictionary_id id;
+    intaglio_dictionary_id id, source;
     uint32_t code = MISSING;
-    size_t row = 0;
-    if (intaglio_column_id(view->buf, (size_t)view->len, &id)) return refused(INTAGLIO_NO_SYMBOL);
-    while (intaglio_column_code(view->buf, (size_t)view->len, row, &code) && (code < id.count || code == MISSING)) row++;
+    size_t row = 0, len = (size_t)view->len;
+    if (intaglio_column_id(view->buf, len, &id) || intaglio_column_source(view->buf, len, &source)) return refused(INTAGLIO_NO_SYMBOL);
+    while (intaglio_column_code(view->buf, len, row, &code) && (code < id.count || (code == MISSING && source.shards == 0))) row++;
     return raise_by("no_symbol", "(In)", (unsigned int)code, (Py_ssize_t)row);
 }
 
@@ -40,18 +40,35 @@ static PyObject *column_check(PyObject *Py_UNUSED(module), PyObject *data) {
 
 PyObject *id_or_refused(uint32_t code, const intaglio_dictionary_id *id) {
     if (code) return refused(code);
-    return Py_BuildValue("(NKKK)", PyBool_FromLong(id->is_text), (unsigned long long)id->count, (unsigned long long)id->hash0, (unsigned long long)id->hash1);
+    unsigned long long count = id->count, hash0 = id->hash0, hash1 = id->hash1;
+    return Py_BuildValue("(NKKKII)", PyBool_FromLong(id->is_text), count, hash0, hash1, (unsigned int)id->shards, (unsigned int)id->shard);
 }
 
-PyDoc_STRVAR(column_id_doc, "column_id(data, /)\n--\n\nThe dictionary of a column. Raises what is wrong with the header, or with the number of bytes.");
-static PyObject *column_id(PyObject *Py_UNUSED(module), PyObject *data) {
+int read_id(PyObject *tuple, intaglio_dictionary_id *id) {
+    int is_text;
+    unsigned long long count, hash0, hash1;
+    unsigned int shards, shard;
+    if (!PyTuple_Check(tuple)) return PyErr_SetString(PyExc_TypeError, "a dictionary is a tuple"), -1;
+    if (!PyArg_ParseTuple(tuple, "pKKKII", &is_text, &count, &hash0, &hash1, &shards, &shard)) return -1;
+    *id = (intaglio_dictionary_id){.is_text = is_text, .count = count, .hash0 = hash0, .hash1 = hash1, .shards = shards, .shard = shard};
+    return 0;
+}
+
+/* What a call of the library says of a column. */
+static PyObject *id_by(intaglio_code (*call)(const uint8_t *, size_t, intaglio_dictionary_id *), PyObject *data) {
     Py_buffer view;
     intaglio_dictionary_id id;
     if (borrow_column(data, &view) < 0) return NULL;
-    uint32_t code = intaglio_column_id(view.buf, (size_t)view.len, &id);
+    uint32_t code = call(view.buf, (size_t)view.len, &id);
     PyBuffer_Release(&view);
     return id_or_refused(code, &id);
 }
+
+PyDoc_STRVAR(column_id_doc, "column_id(data, /)\n--\n\nThe dictionary of a column. Raises what is wrong with the header, or with the number of bytes.");
+static PyObject *column_id(PyObject *Py_UNUSED(module), PyObject *data) { return id_by(intaglio_column_id, data); }
+
+PyDoc_STRVAR(column_source_doc, "column_source(data, /)\n--\n\nFrom which dictionary the rows come, which has no shards if they are lines. Raises what column_id raises.");
+static PyObject *column_source(PyObject *Py_UNUSED(module), PyObject *data) { return id_by(intaglio_column_source, data); }
 
 PyDoc_STRVAR(column_len_doc, "column_len(data, /)\n--\n\nHow many rows there are.");
 static PyObject *column_len(PyObject *Py_UNUSED(module), PyObject *data) {
@@ -199,12 +216,10 @@ static PyObject *write_column(const intaglio_dictionary_id *id, const Codes *cod
 
 PyDoc_STRVAR(column_bytes_doc, "column_bytes(id, codes, /)\n--\n\nThe bytes of a column of codes of a dictionary.");
 static PyObject *column_bytes(PyObject *Py_UNUSED(module), PyObject *args) {
-    int is_text;
-    unsigned long long count, hash0, hash1;
-    PyObject *given, *bytes;
+    PyObject *tuple, *given, *bytes;
+    intaglio_dictionary_id id;
     Codes codes;
-    if (!PyArg_ParseTuple(args, "(pKKK)O:column_bytes", &is_text, &count, &hash0, &hash1, &given) || open_codes(&codes, given) < 0) return NULL;
-    const intaglio_dictionary_id id = {.is_text = is_text, .count = count, .hash0 = hash0, .hash1 = hash1};
+    if (!PyArg_ParseTuple(args, "OO:column_bytes", &tuple, &given) || read_id(tuple, &id) < 0 || open_codes(&codes, given) < 0) return NULL;
     bytes = write_column(&id, &codes);
     close_codes(&codes);
     return bytes;
@@ -213,6 +228,7 @@ static PyObject *column_bytes(PyObject *Py_UNUSED(module), PyObject *args) {
 PyMethodDef columns_functions[] = {
     {"column_check", column_check, METH_O, column_check_doc},
     {"column_id", column_id, METH_O, column_id_doc},
+    {"column_source", column_source, METH_O, column_source_doc},
     {"column_len", column_len, METH_O, column_len_doc},
     {"column_width", column_width, METH_O, column_width_doc},
     {"column_codes", FAST(column_codes), METH_FASTCALL, column_codes_doc},

@@ -85,33 +85,12 @@ static PyObject *frozen_check_texts(PyObject *Py_UNUSED(module), PyObject *data)
     return refused_at(INTAGLIO_NOT_UTF8, (Py_ssize_t)i);
 }
 
-PyDoc_STRVAR(frozen_len_doc, "frozen_len(data, /)\n--\n\nHow many strings there are.");
-static PyObject *frozen_len(PyObject *Py_UNUSED(module), PyObject *data) {
-    Py_buffer view;
-    if (borrow_frozen(data, &view) < 0) return NULL;
-    size_t len = intaglio_frozen_len(view.buf, (size_t)view.len);
-    PyBuffer_Release(&view);
-    return PyLong_FromSize_t(len);
-}
-
-PyDoc_STRVAR(frozen_is_text_doc, "frozen_is_text(data, /)\n--\n\nWhether the header says that the strings are UTF-8.");
-static PyObject *frozen_is_text(PyObject *Py_UNUSED(module), PyObject *data) {
-    Py_buffer view;
-    if (borrow_frozen(data, &view) < 0) return NULL;
-    bool is_text = intaglio_frozen_is_text(view.buf, (size_t)view.len);
-    PyBuffer_Release(&view);
-    return PyBool_FromLong(is_text);
-}
-
-PyDoc_STRVAR(frozen_id_doc, "frozen_id(data, /)\n--\n\nWhat the dictionary in the bytes is. Raises what is wrong with the header.");
+PyDoc_STRVAR(frozen_id_doc, "frozen_id(data, /)\n--\n\nWhich dictionary or shard a table is, by its header alone. Raises what is wrong with that.");
 static PyObject *frozen_id(PyObject *Py_UNUSED(module), PyObject *data) {
     Py_buffer view;
     intaglio_dictionary_id id;
-    uint32_t code;
     if (borrow_frozen(data, &view) < 0) return NULL;
-    Py_BEGIN_ALLOW_THREADS
-    code = intaglio_frozen_id(view.buf, (size_t)view.len, &id);
-    Py_END_ALLOW_THREADS
+    uint32_t code = intaglio_frozen_id(view.buf, (size_t)view.len, &id);
     PyBuffer_Release(&view);
     return id_or_refused(code, &id);
 }
@@ -469,8 +448,6 @@ PyMethodDef frozen_functions[] = {
     {"frozen_check", frozen_check, METH_O, frozen_check_doc},
     {"frozen_check_header", frozen_check_header, METH_O, frozen_check_header_doc},
     {"frozen_check_texts", frozen_check_texts, METH_O, frozen_check_texts_doc},
-    {"frozen_len", frozen_len, METH_O, frozen_len_doc},
-    {"frozen_is_text", frozen_is_text, METH_O, frozen_is_text_doc},
     {"frozen_id", frozen_id, METH_O, frozen_id_doc},
     {"frozen_find", FAST(frozen_find), METH_FASTCALL, frozen_find_doc},
     {"frozen_find_all", FAST(frozen_find_all), METH_FASTCALL, frozen_find_all_doc},

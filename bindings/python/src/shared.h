@@ -290,8 +290,9 @@ extern PyMethodDef shards_functions[];
 
 /* Columns: columns.c */
 
-/* What a dictionary is, as a tuple, or null and the exception of an error code. */
+/* What a dictionary or a shard is, as a tuple of the fields, or null and the exception of an error code. */
 PyObject *id_or_refused(uint32_t code, const intaglio_dictionary_id *id);
+int read_id(PyObject *tuple, intaglio_dictionary_id *id);
 extern PyMethodDef columns_functions[];
 
 #endif

@@ -639,14 +639,15 @@ static PyObject *table_close(Table *self, PyObject *Py_UNUSED(none)) {
     Py_RETURN_NONE;
 }
 
-/* The strings as a frozen table, whose hash function has these keys. No other thread may know the table if it `is_alone`: they run meanwhile. */
-static PyObject *freeze(Table *self, const uint64_t keys[2], uint32_t *code, bool is_alone) {
+/* The strings as a frozen table, whose hash function has these keys. If it is to be this shard, no other thread may know the table: they run meanwhile. */
+static PyObject *freeze(Table *self, const uint64_t keys[2], uint32_t *code, const intaglio_dictionary_id *shard) {
     size_t len = 0, size = intaglio_frozen_size(&self->handle);
     PyObject *bytes = PyBytes_FromStringAndSize(NULL, (Py_ssize_t)size);
     *code = INTAGLIO_DONE;
     if (!bytes) return NULL;
-    PyThreadState *state = is_alone ? PyEval_SaveThread() : NULL;
-    *code = intaglio_freeze(&self->handle, keys[0], keys[1], (uint8_t *)PyBytes_AS_STRING(bytes), size, &len);
+    PyThreadState *state = shard ? PyEval_SaveThread() : NULL;
+    const intaglio_dictionary_id single = {.shards = 1};
+    *code = intaglio_freeze_shard(&self->handle, keys[0], keys[1], shard ? shard : &single, (uint8_t *)PyBytes_AS_STRING(bytes), size, &len);
     if (state) PyEval_RestoreThread(state);
     if (*code) Py_CLEAR(bytes);
     else if (len != size) _PyBytes_Resize(&bytes, (Py_ssize_t)len);
@@ -666,7 +667,7 @@ static PyObject *table_freeze(Table *self, PyObject *args, PyObject *named) {
     uint64_t keys[2] = {0, 0};
     uint32_t code = INTAGLIO_DONE;
     if (!PyArg_ParseTupleAndKeywords(args, named, "|O$O:freeze", names, &path, &passed) || (passed && read_keys(passed, keys) < 0)) return NULL;
-    PyObject *bytes = freeze(self, keys, &code, false);
+    PyObject *bytes = freeze(self, keys, &code, NULL);
     if (!bytes) return code ? refused(code) : NULL;
     if (path == Py_None) return bytes;
     PyObject *module = PyImport_ImportModule("intaglio.frozen");
@@ -683,6 +684,10 @@ static PyObject *bytes_of_frozen(PyObject *frozen) {
     int is_one = type ? PyObject_IsInstance(frozen, type) : -1;
     if (is_one == 0) PyErr_Format(PyExc_TypeError, "a Frozen, not %.200s", Py_TYPE(frozen)->tp_name);
     if (is_one == 1) data = PyObject_GetAttrString(frozen, "_data");
+    if (data && PyTuple_Check(data)) {
+        PyErr_SetString(PyExc_TypeError, "a Frozen of one file, and this one has shards");
+        Py_CLEAR(data);
+    }
     Py_XDECREF(type);
     Py_XDECREF(module);
     return data;
@@ -741,55 +746,48 @@ PyDoc_STRVAR(absorb_alone_doc, "_absorb_alone($self, frozen, /)\n--\n\n"
 "As absorb, of a table that no other thread knows: they run meanwhile.");
 static PyObject *table_absorb_alone(Table *self, PyObject *frozen) { return absorb_frozen(self, frozen, true); }
 
-/* Interns the strings of a shard, of frozen bytes that have the number of a shard for each, and stores their symbols and how many they are. Returns a code. */
-static uint32_t absorb_shard(Table *self, const Py_buffer *view, const Codes *numbers, uint32_t shard, uint32_t *symbols, size_t *count) {
+/* Interns each string of frozen bytes in the table of its shard. Returns a code. */
+static uint32_t share_to(PyObject *tables, const Py_buffer *view) {
     intaglio_spelling string;
-    for (size_t i = *count = 0; i < numbers->count; i++) {
-        if (load_code(numbers, i) != shard) continue;
-        if (!intaglio_frozen_get(view->buf, (size_t)view->len, (uint32_t)i, &string)) return INTAGLIO_NO_SYMBOL;
-        uint32_t code = intaglio_intern(&self->handle, string.at, string.len, symbols + *count);
-        if (code) return code;
-        ++*count;
+    uint32_t shards = (uint32_t)PyTuple_GET_SIZE(tables), symbol, code = INTAGLIO_DONE;
+    for (uint32_t i = 0; !code && intaglio_frozen_get(view->buf, (size_t)view->len, i, &string); i++) {
+        Table *table = (Table *)PyTuple_GET_ITEM(tables, (Py_ssize_t)intaglio_shard_of(shards, string.at, string.len));
+        code = intaglio_intern(&table->handle, string.at, string.len, &symbol);
     }
-    return INTAGLIO_DONE;
+    return code;
 }
 
-/* The same, without the lock, as an array, or null and an exception. */
-static PyObject *symbols_of_shard(Table *self, const Py_buffer *view, const Codes *numbers, uint32_t shard) {
-    uint32_t *symbols = PyMem_Malloc((numbers->count + 1) * sizeof *symbols), code;
-    size_t count;
-    if (!symbols) return PyErr_NoMemory();
-    Py_BEGIN_ALLOW_THREADS
-    code = absorb_shard(self, view, numbers, shard, symbols, &count);
-    Py_END_ALLOW_THREADS
-    PyObject *array = code ? refused(code) : array_of(symbols, count);
-    PyMem_Free(symbols);
-    return array;
-}
-
-PyDoc_STRVAR(absorb_shard_doc, "_absorb_shard($self, data, numbers, shard, /)\n--\n\n"
-"Interns the strings of a shard, of a frozen table's bytes, where the numbers are the shards of its strings. Returns their symbols as an\n"
-"array('I'). No other thread may know the table: they run meanwhile. After an error, some of them may be in the table.");
-static PyObject *table_absorb_shard(Table *self, PyObject *args) {
-    PyObject *data, *given, *array = NULL;
-    unsigned int shard;
-    Codes numbers;
+PyDoc_STRVAR(share_out_doc, "share_out(data, tables, /)\n--\n\n"
+"Interns each string of a frozen table's bytes in the table of its shard. The tables are in a tuple, and no other thread may know them: they\n"
+"run meanwhile. After an error, some strings may be in the tables.");
+static PyObject *share_out(PyObject *Py_UNUSED(module), PyObject *args) {
+    PyObject *data, *tables;
     Py_buffer view;
-    if (!PyArg_ParseTuple(args, "OOI:_absorb_shard", &data, &given, &shard) || borrow_frozen(data, &view) < 0) return NULL;
-    if (open_codes(&numbers, given) == 0) {
-        array = symbols_of_shard(self, &view, &numbers, shard);
-        close_codes(&numbers);
-    }
+    uint32_t code;
+    if (!PyArg_ParseTuple(args, "OO!:share_out", &data, &PyTuple_Type, &tables) || borrow_frozen(data, &view) < 0) return NULL;
+    Py_BEGIN_ALLOW_THREADS
+    code = share_to(tables, &view);
+    Py_END_ALLOW_THREADS
     PyBuffer_Release(&view);
-    return array;
+    return done_or_refused(code);
 }
 
-PyDoc_STRVAR(freeze_alone_doc, "_freeze_alone($self, keys, /)\n--\n\n"
-"The bytes of a frozen table, as freeze returns them. No other thread may know the table: they run meanwhile.");
-static PyObject *table_freeze_alone(Table *self, PyObject *passed) {
+PyDoc_STRVAR(own_id_doc, "_own_id($self, /)\n--\n\nWhat the strings are as a dictionary in one file.");
+static PyObject *table_own_id(Table *self, PyObject *Py_UNUSED(none)) {
+    intaglio_dictionary_id id;
+    uint32_t code = intaglio_own_id(&self->handle, &id);
+    return id_or_refused(code, &id);
+}
+
+PyDoc_STRVAR(freeze_alone_doc, "_freeze_alone($self, keys, id, /)\n--\n\n"
+"The bytes of a frozen table that is this shard of this dictionary. No other thread may know the table: they run meanwhile.");
+static PyObject *table_freeze_alone(Table *self, PyObject *args) {
     uint64_t keys[2];
     uint32_t code = INTAGLIO_DONE;
-    PyObject *bytes = read_keys(passed, keys) < 0 ? NULL : freeze(self, keys, &code, true);
+    intaglio_dictionary_id id;
+    PyObject *passed, *tuple;
+    if (!PyArg_ParseTuple(args, "OO:_freeze_alone", &passed, &tuple) || read_keys(passed, keys) < 0 || read_id(tuple, &id) < 0) return NULL;
+    PyObject *bytes = freeze(self, keys, &code, &id);
     return bytes || !code ? bytes : refused(code);
 }
 
@@ -802,11 +800,11 @@ PyDoc_STRVAR(reduce_doc, "__reduce__($self, /)\n--\n\n"
 static PyObject *table_reduce(Table *self, PyObject *Py_UNUSED(none)) {
     uint64_t keys[2] = {0, 0};
     uint32_t code = INTAGLIO_DONE;
-    PyObject *bytes = freeze(self, keys, &code, false), *reduced = NULL;
+    PyObject *bytes = freeze(self, keys, &code, NULL), *reduced = NULL;
     /* Strings that were chosen to collide under these keys. */
     for (int i = 1; code == INTAGLIO_NO_PLACES && i < FREEZINGS; i++) {
         if (read_keys(Py_None, keys) < 0) return NULL;
-        bytes = freeze(self, keys, &code, false);
+        bytes = freeze(self, keys, &code, NULL);
     }
     if (!bytes) return code ? refused(code) : NULL;
     PyObject *module = PyImport_ImportModule("intaglio._table");
@@ -952,8 +950,8 @@ static PyMethodDef methods[] = {
     {"freeze", FAST(table_freeze), METH_VARARGS | METH_KEYWORDS, freeze_doc},
     {"absorb", (PyCFunction)table_absorb, METH_O, absorb_doc},
     {"_absorb_alone", (PyCFunction)table_absorb_alone, METH_O, absorb_alone_doc},
-    {"_absorb_shard", (PyCFunction)table_absorb_shard, METH_VARARGS, absorb_shard_doc},
-    {"_freeze_alone", (PyCFunction)table_freeze_alone, METH_O, freeze_alone_doc},
+    {"_own_id", (PyCFunction)table_own_id, METH_NOARGS, own_id_doc},
+    {"_freeze_alone", (PyCFunction)table_freeze_alone, METH_VARARGS, freeze_alone_doc},
     {"close", (PyCFunction)table_close, METH_NOARGS, close_doc},
     {"__enter__", table_enter, METH_NOARGS, NULL},
     {"__exit__", (PyCFunction)table_exit, METH_VARARGS, NULL},
@@ -1014,6 +1012,7 @@ KIND(bstr, INTAGLIO_BSTR, "ByteStringTable", "A table of bytes that are text by 
 
 static PyMethodDef functions[] = {
     {"thaw", thaw, METH_VARARGS, thaw_doc},
+    {"share_out", share_out, METH_VARARGS, share_out_doc},
     {NULL, NULL, 0, NULL},
 };
 

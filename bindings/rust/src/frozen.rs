@@ -1,6 +1,6 @@
 //! Frozen tables: a symbol table as one block of bytes, such as a mapped file.
 //!
-//! [`Table::freeze`](crate::Table::freeze) makes the bytes, and `docs/FROZEN.md` has the format.
+//! [`Table::freeze`](crate::Table::freeze) makes the bytes, and `docs/FORMATS.md` has the format.
 use core::error::Error;
 use core::fmt;
 
@@ -17,7 +17,7 @@ pub enum FrozenError {
     NoKind,
     /// The bytes don't begin as a frozen table does.
     NotFrozen,
-    /// The version isn't 1.
+    /// The version isn't 2.
     OtherVersion,
     /// A reserved byte of the header isn't 0.
     Reserved,
@@ -31,6 +31,12 @@ pub enum FrozenError {
     Unused,
     /// A string isn't found at its symbol.
     NotFound,
+    /// There are more bytes than the header requires.
+    TrailingBytes,
+    /// The number of the shard isn't below the number of shards.
+    BadShard,
+    /// The identity in the header isn't that of the strings.
+    OtherIdentity,
 }
 
 impl FrozenError {
@@ -48,6 +54,9 @@ impl FrozenError {
             18 => Err(FrozenError::TextEnds),
             19 => Err(FrozenError::Unused),
             20 => Err(FrozenError::NotFound),
+            26 => Err(FrozenError::TrailingBytes),
+            27 => Err(FrozenError::BadShard),
+            28 => Err(FrozenError::OtherIdentity),
             _ => unreachable!("the library answered {code}"),
         }
     }
@@ -66,6 +75,9 @@ impl fmt::Display for FrozenError {
             FrozenError::TextEnds => "the strings of the frozen table don't fill its text",
             FrozenError::Unused => "a place of the frozen table without a string isn't empty",
             FrozenError::NotFound => "a string of the frozen table isn't found at its symbol",
+            FrozenError::TrailingBytes => "there are bytes behind the strings of the frozen table",
+            FrozenError::BadShard => "the number of the shard isn't below the number of shards",
+            FrozenError::OtherIdentity => "the identity isn't that of the strings",
         })
     }
 }

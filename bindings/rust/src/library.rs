@@ -501,7 +501,7 @@ impl<K: Kind> RawTable<K> {
 // The code for a buffer that is too short.
 const NO_SPACE: u32 = 11;
 
-// How many bytes a frozen table has, of so many strings and bytes of text, by docs/FROZEN.md.
+// How many bytes a frozen table has, of so many strings and bytes of text, by docs/FORMATS.md.
 fn frozen_size(count: usize, text: usize) -> usize {
     let (places, groups) = (count + count / 19 + 2, count / 3 + 1);
     64 + 5 * places + 4 * count + 2 * groups + text

@@ -1,4 +1,4 @@
-//! Frozen tables. The bytes were written by `checks/frozen_tables.py`, from `docs/FROZEN.md` alone.
+//! Frozen tables. The bytes were written by `checks/formats.py`, from `docs/FORMATS.md` alone.
 use std::thread;
 
 use intaglio_proved::frozen::{AbsorbError, Frozen, FrozenError};
@@ -6,11 +6,13 @@ use intaglio_proved::{Symbol, SymbolTable, bytes, cstr};
 
 /// The texts "a", "bc" and "", under the keys 1 and 2.
 #[rustfmt::skip]
-const TEXTS: [u8; 108] = [
-    73, 78, 84, 65, 71, 76, 73, 79, 1, 0, 0, 0, 1, 0, 0, 0, 1, 0, 0, 0, 0, 0, 0, 0, 2, 0, 0, 0, 0, 0, 0, 0,
-    3, 0, 0, 0, 0, 0, 0, 0, 0, 0, 0, 0, 0, 0, 0, 0, 0, 0, 0, 0, 0, 0, 0, 0, 0, 0, 0, 0, 0, 0, 0, 0,
-    1, 0, 0, 0, 2, 0, 0, 0, 0, 0, 0, 0, 255, 255, 255, 255, 255, 255, 255, 255, 1, 0, 0, 0, 3, 0, 0, 0, 3, 0, 0, 0,
-    0, 0, 0, 0, 159, 160, 132, 0, 0, 97, 98, 99,
+const TEXTS: [u8; 172] = [
+    73, 78, 84, 65, 71, 76, 73, 79, 2, 0, 0, 0, 1, 0, 0, 0, 1, 0, 0, 0, 0, 0, 0, 0, 2, 0, 0, 0, 0, 0, 0, 0,
+    3, 0, 0, 0, 0, 0, 0, 0, 3, 0, 0, 0, 0, 0, 0, 0, 93, 185, 73, 97, 173, 140, 110, 32, 19, 205, 61, 32, 240, 160, 73, 25,
+    93, 185, 73, 97, 173, 140, 110, 32, 19, 205, 61, 32, 240, 160, 73, 25, 1, 0, 0, 0, 0, 0, 0, 0, 0, 0, 0, 0, 0, 0, 0, 0,
+    0, 0, 0, 0, 0, 0, 0, 0, 0, 0, 0, 0, 0, 0, 0, 0, 0, 0, 0, 0, 0, 0, 0, 0, 0, 0, 0, 0, 0, 0, 0, 0,
+    1, 0, 0, 0, 2, 0, 0, 0, 0, 0, 0, 0, 255, 255, 255, 255, 255, 255, 255, 255, 1, 0, 0, 0, 3, 0, 0, 0,
+    3, 0, 0, 0, 0, 0, 0, 0, 159, 160, 132, 0, 0, 97, 98, 99,
 ];
 
 fn changed(at: usize, to: u8) -> FrozenError {
@@ -54,12 +56,15 @@ fn threads_may_read_at_once() {
 #[test]
 fn damaged_bytes_are_refused_by_name() {
     assert_eq!(changed(0, b'J'), FrozenError::NotFrozen);
-    assert_eq!(changed(8, 2), FrozenError::OtherVersion);
+    assert_eq!(changed(8, 3), FrozenError::OtherVersion);
     assert_eq!(changed(12, 2), FrozenError::NoKind);
-    assert_eq!(changed(63, 1), FrozenError::Reserved);
+    assert_eq!(changed(127, 1), FrozenError::Reserved);
+    assert_eq!(changed(84, 1), FrozenError::BadShard);
+    assert_eq!(changed(64, 1), FrozenError::OtherIdentity);
+    assert_eq!(changed(40, 2), FrozenError::TrailingBytes);
     assert_eq!(changed(39, 1), FrozenError::TooMany);
     assert_eq!(changed(32, 4), FrozenError::Truncated);
-    assert_eq!(changed(92, 2), FrozenError::TextEnds);
+    assert_eq!(changed(156, 2), FrozenError::TextEnds);
     assert_eq!(changed(TEXTS.len() - 3, 0xff), FrozenError::NotFound);
     assert_eq!(Frozen::open(&TEXTS[..TEXTS.len() - 4]).unwrap_err(), FrozenError::Truncated);
     assert_eq!(Frozen::open(b"").unwrap_err(), FrozenError::NotFrozen);

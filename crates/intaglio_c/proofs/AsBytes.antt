@@ -1,11 +1,9 @@
 -- What a change of a table is to the bytes of its contents.
-use Rattle.intaglio_c.proofs.Names.{◌≡◌, ℕ, ◌+◌, ◌<◌, ◌≤◌, inl, inr, Bool, true, false, List, [], ◌∷◌, ◌++◌, map, refl, sym, ap, subst, ◌∙◌, arith, max, ◌↔◌, option_map, slice_get, Option, Some, None, MatchOption, Result, Ok, Err, take-map, length-map, map-append, slice_get-map, State, Table, first, first_of, AddsNew, InternsValue, IsOutOfMemory, IsRefused, Reserves, Shrinks, TakesBack, StaleMark, fault, has_key, key, IsFaultless, Seen, as_bytes, seen_of, position, look_up, unless, IsChangedBy, InternsBy, InternsNew, KeyedState, Kind, Refusal}
+use Rattle.intaglio_c.proofs.Names.{◌≡◌, ℕ, ◌<◌, ◌≤◌, inl, inr, Bool, true, false, List, [], ◌∷◌, ◌++◌, map, refl, sym, ap, subst, ◌∙◌, arith, Option, Some, None, MatchOption, Result, Ok, Err, take-map, length-map, map-append, State, Table, first, first_of, AddsNew, InternsValue, IsOutOfMemory, IsRefused, TakesBack, StaleMark, fault, has_key, key, IsFaultless, Seen, as_bytes, seen_of, position, look_up, unless, IsChangedBy, InternsBy, InternsNew, KeyedState, Kind, Refusal}
 use Rattle.intaglio_content.specs.Key.{Key}
 use Rattle.intaglio_content.specs.Store.{IsMoved, IsPushed}
 use Rattle.intaglio_symbol.specs.declared.error.InternError.{InternError}
 use Rattle.intaglio_symbol.specs.declared.error.InternError.TheVariants.{Overflow, Memory}
-use Rattle.intaglio_symbol.specs.declared.error.RoomError.{RoomError}
-use Rattle.intaglio_symbol.specs.declared.error.RoomError.TheVariants as room_error
 use Rattle.intaglio_c.specs.Answers.{symbol_answer}
 use Rattle.intaglio_c.specs.Handles.{found}
 use Rattle.intaglio_c.proofs.Faults.{untested}

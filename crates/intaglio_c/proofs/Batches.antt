@@ -1,5 +1,5 @@
 -- Batches, one string at a time.
-use Rattle.intaglio_c.proofs.Names.{◌≡◌, ℕ, zero, suc, ◌+◌, ◌-◌, ◌<◌, ◌≤◌, Bool, true, false, cond, inl, inr, List, [], ◌∷◌, ◌++◌, length, map, take, drop, refl, sym, ap, subst, ◌∙◌, le_refl, arith, length-append, append_assoc, append-nil, Option, Some, None, Result, Ok, Err, is_some, unwrap_or, slice_get, option_map, option_and_then, concat, get_or, set, take-append-le, take_all, take_more, take_more_set, take_at, take-append-drop, drop_more, drop_at, map_push, drop-drop, length-drop, slice_get_within, IfOk-at_ok, IfErr-at_err, IsAppended, issued, interned, interned_all, issue_from, State, first, AreCopied, AreFirstCopied, AreStored, ends_from, AreInterned, IsBegun, IsRolledBack, InternsOr, fault, first_fault, key, Seen, look_up, position, unless, IsChangedBy, Interns, InternsBy, Kind, Refusal}
+use Rattle.intaglio_c.proofs.Names.{◌≡◌, ℕ, zero, suc, ◌+◌, ◌-◌, ◌<◌, ◌≤◌, Bool, true, false, cond, inl, inr, List, [], ◌∷◌, ◌++◌, length, map, take, drop, refl, sym, ap, subst, ◌∙◌, le_refl, arith, length-append, append_assoc, append-nil, Option, Some, None, Result, Ok, Err, is_some, unwrap_or, slice_get, concat, get_or, set, take-append-le, take_all, take_more, take_more_set, take_at, take-append-drop, drop_at, map_push, drop-drop, length-drop, slice_get_within, IfOk-at_ok, IfErr-at_err, IsAppended, issued, interned, interned_all, issue_from, State, first, AreCopied, AreFirstCopied, AreStored, ends_from, AreInterned, IsBegun, IsRolledBack, InternsOr, fault, first_fault, key, Seen, position, unless, IsChangedBy, Interns, InternsBy, Kind, Refusal}
 use Rattle.std.proofs.Math.Seq.{take-length}
 use Rattle.std.proofs.lemmas.List.{drop-set-lt}
 use Rattle.std.proofs.lemmas.List.Folds.{concat-append}

@@ -1,5 +1,5 @@
 -- Which bytes a kind doesn't take.
-use Rattle.intaglio_c.proofs.Names.{◌∙◌, Bool, ◌≡◌, ℕ, zero, suc, ◌+◌, ◌-◌, true, false, List, [], ◌∷◌, ◌++◌, length, take, refl, sym, ap, cond, inl, inr, ◌⊎◌, if◌then◌else◌, Option, Some, None, Result, Ok, Err, ◌==◌, IsUtf8, is_some, get_or, none-some, TakesBack, interned, interned_all, State, first, StaleMark, Either, InternsOr, IsRolledBack, broken, earlier, fault, first_fault, has_key, key, utf8_fault, Kind, Refusal, BadEnds, Full, NoMemory, NotUtf8, IsFaultless, Seen, look_up, position, unless, InternsBy}
+use Rattle.intaglio_c.proofs.Names.{◌∙◌, Bool, ◌≡◌, ℕ, zero, suc, true, false, List, [], ◌∷◌, ◌++◌, length, take, refl, sym, ap, cond, inl, inr, ◌⊎◌, if◌then◌else◌, Option, Some, None, Result, Ok, Err, ◌==◌, IsUtf8, is_some, get_or, none-some, TakesBack, interned, interned_all, State, first, StaleMark, Either, InternsOr, IsRolledBack, broken, earlier, fault, first_fault, has_key, key, utf8_fault, Kind, Refusal, BadEnds, Full, NoMemory, NotUtf8, IsFaultless, Seen, look_up, position, unless, InternsBy}
 use Rattle.std.specs.Prelude.{◌≢◌}
 use Rattle.std.specs.Str.{is_utf8}
 use Rattle.std.proofs.lemmas.Bool.{false_from_ne_true}

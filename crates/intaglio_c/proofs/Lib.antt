@@ -6,4 +6,3 @@ pub mod Batches
 pub mod Hashes
 pub mod Pieces
 pub mod Walks
-pub mod Together

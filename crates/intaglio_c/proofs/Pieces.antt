@@ -1,5 +1,5 @@
 -- The strings of a list, and of a batch, by their position.
-use Rattle.intaglio_c.proofs.Names.{◌≡◌, ℕ, zero, suc, ◌+◌, ◌-◌, ◌<◌, ◌≤◌, Bool, true, false, List, [], ◌∷◌, ◌++◌, length, take, drop, refl, sym, ap, ◌∙◌, arith, if◌then◌else◌, nat_lt, Some, slice_get, ◌==◌, get_or, eqb-true, ltb-false, drop_more, take_more, get_or_from_slice_get, slice_get_within, are_ends, is_batch, pieces}
+use Rattle.intaglio_c.proofs.Names.{◌≡◌, ℕ, zero, suc, ◌-◌, ◌<◌, ◌≤◌, Bool, true, false, List, [], ◌∷◌, length, take, drop, refl, ap, arith, if◌then◌else◌, nat_lt, Some, slice_get, get_or, ltb-false, are_ends, pieces}
 
 -- the strings of a batch
 pub pieces_length : (bytes : List ℕ) (start : ℕ) (ends : List ℕ) →

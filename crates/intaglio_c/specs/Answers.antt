@@ -1,6 +1,6 @@
 -- What a code says.
 use Rattle.std.specs.Prelude.{◌≡◌, ℕ, Bool, true, false, Option, Some, None, Result, Ok, Err}
-use Rattle.intaglio_c.specs.Words.{Refusal, NoTable, Full, NoMemory, TooLarge, Stale, NotUtf8, InnerZero, MissingZero, BadEnds, NoSymbol, NoSpace, NoKind, NotFrozen, OtherVersion, Reserved, TooMany, Truncated, TextEnds, Unused, NotFound, TooLong, Equal, NoPlaces, NotColumn, BadWidth, TrailingBytes}
+use Rattle.intaglio_c.specs.Words.{Refusal, NoTable, Full, NoMemory, TooLarge, Stale, NotUtf8, InnerZero, MissingZero, BadEnds, NoSymbol, NoSpace, NoKind, NotFrozen, OtherVersion, Reserved, TooMany, Truncated, TextEnds, Unused, NotFound, TooLong, Equal, NoPlaces, NotColumn, BadWidth, TrailingBytes, BadShard, OtherIdentity, Damaged}
 use Rattle.intaglio_symbol.specs.declared.error.InternError.{InternError}
 use Rattle.intaglio_symbol.specs.declared.error.InternError.TheVariants.{Overflow, Memory}
 use Rattle.intaglio_symbol.specs.declared.error.RoomError.{RoomError}
@@ -35,6 +35,9 @@ refusal_code NoPlaces = 23
 refusal_code NotColumn = 24
 refusal_code BadWidth = 25
 refusal_code TrailingBytes = 26
+refusal_code BadShard = 27
+refusal_code OtherIdentity = 28
+refusal_code Damaged = 29
 
 module _ {X : Type 0} where
   -- the code of a result: 0 if the call succeeded

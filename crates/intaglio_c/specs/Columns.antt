@@ -1,33 +1,34 @@
 -- What C sees of a column, which is its bytes.
 use Rattle.std.specs.Prelude.{◌≡◌, ◌≢◌, ℕ, ◌<◌, ◌≤◌, List, length, Some, MatchResult, Result, Ok, Err}
 use Rattle.intaglio_column_file.specs.Fault.{IsFault}
-use Rattle.intaglio_column_file.specs.Identity.{IsIdOfTable}
 use Rattle.intaglio_column_file.specs.IsColumn.{Describes, HasRows, IsColumn}
-use Rattle.intaglio_column_file.specs.Layout.{codes, strings}
+use Rattle.intaglio_column_file.specs.Layout.{codes, shards, strings}
 use Rattle.intaglio_column_file.specs.Rows.{AreCounts}
-use Rattle.intaglio_column_file.specs.Writing.{IsRefusal, column_of}
+use Rattle.intaglio_column_file.specs.Writing.{IsRefusal, file_of, header_for, lines}
 use Rattle.intaglio_column_file.specs.declared.error.ColumnError.{ColumnError}
 use Rattle.intaglio_column_file.specs.declared.error.ColumnError.TheVariants as fault
 use Rattle.intaglio_column_file.specs.declared.error.ColumnWriteError.{ColumnWriteError}
 use Rattle.intaglio_column_file.specs.declared.error.ColumnWriteError.TheVariants as error
-use Rattle.intaglio_column_file.specs.declared.id.DictionaryId.{DictionaryId}
-use Rattle.intaglio_frozen.specs.IsFrozen.{HasSections}
-use Rattle.intaglio_c.specs.Frozen.{IsRefused}
 use Rattle.intaglio_c.specs.Handles.{filled}
-use Rattle.intaglio_c.specs.Words.{Refusal, NoMemory, BadEnds, NoSymbol, NoSpace, NoKind, OtherVersion, Reserved, TooMany, Truncated, NotColumn, BadWidth, TrailingBytes}
+use Rattle.intaglio_c.specs.declared.reference.Reference.{Reference}
+use Rattle.intaglio_c.specs.Words.{Refusal, NoMemory, BadEnds, NoSymbol, NoSpace, NoKind, OtherVersion, Reserved, TooMany, Truncated, NotColumn, BadWidth, TrailingBytes, BadShard, Damaged}
 
 -- the error for C of what is wrong with bytes
 abbrev pub column_refusal : ColumnError → Refusal
 column_refusal fault.Magic = NotColumn
 column_refusal fault.Header = Truncated
+column_refusal fault.OldVersion = OtherVersion
 column_refusal fault.Version = OtherVersion
 column_refusal fault.Kind = NoKind
 column_refusal fault.TooMany = TooMany
 column_refusal fault.Width = BadWidth
+column_refusal fault.Source = BadShard
 column_refusal fault.Reserved = Reserved
 column_refusal fault.Truncated = Truncated
 column_refusal fault.TooLong = TrailingBytes
+column_refusal fault.Damaged = Damaged
 column_refusal (fault.NoString _) = NoSymbol
+column_refusal (fault.Missing _) = NoSymbol
 
 -- the bytes have a fault, of which this is the error
 abbrev pub IsNoColumn : List ℕ → Refusal → Type 0
@@ -36,17 +37,6 @@ IsNoColumn bs refusal = (what : ColumnError) × (refusal ≡ column_refusal what
 -- bytes are checked: they are a column, or what is wrong with them is returned
 abbrev pub ChecksColumn : List ℕ → Result (Unit {0}) Refusal → Type 0
 ChecksColumn bs result = MatchResult result (λ _. IsColumn bs) (IsNoColumn bs)
-
--- which dictionary a column belongs to is written; or what is wrong with the
--- bytes is returned, and nothing is
-abbrev pub ReadsId : List ℕ → DictionaryId → DictionaryId → Result (Unit {0}) Refusal → Type 0
-ReadsId bs old new (Ok _) = HasRows bs × Describes bs new
-ReadsId bs old new (Err refusal) = (¬ HasRows bs) × IsNoColumn bs refusal × (new ≡ old)
-
--- what a frozen table is, in the same way
-abbrev pub MakesId : List ℕ → DictionaryId → DictionaryId → Result (Unit {0}) Refusal → Type 0
-MakesId bs old new (Ok _) = HasSections bs × IsIdOfTable bs new
-MakesId bs old new (Err refusal) = (¬ HasSections bs) × IsRefused bs refusal × (new ≡ old)
 
 -- counts are written over places, one for each string; or nothing is, since there are more or fewer
 -- places, or the bytes have no rows
@@ -60,10 +50,11 @@ Counts bs places counts gone gone' (Err refusal) = (¬ HasRows bs) × IsNoColumn
 
 -- bytes are the column of these codes; their number is written, and they are copied to the start of a
 -- buffer if it has space for them
-pub record IsColumnWritten (id : DictionaryId) (cs old new : List ℕ) (size : ℕ) (bs : List ℕ) : Type 0 where
-  pub bytes : bs ≡ column_of id cs
+pub record IsColumnWritten (to : Reference) (cs old new : List ℕ) (size : ℕ) (bs : List ℕ) : Type 0 where
+  pub bytes : bs ≡ file_of (header_for to.id to.shards lines cs) cs
   pub column : IsColumn bs
-  pub dictionary : Describes bs id
+  pub dictionary : Describes bs to.id
+  pub shards : shards bs ≡ to.shards
   pub codes : codes bs ≡ cs
   pub len : size ≡ length bs
   pub buffer : new ≡ filled old (Some bs)
@@ -72,13 +63,16 @@ pub record IsColumnWritten (id : DictionaryId) (cs old new : List ℕ) (size : �
 abbrev pub write_refusal : ColumnWriteError → Refusal
 write_refusal error.TooMany = TooMany
 write_refusal (error.NoString _) = NoSymbol
+write_refusal (error.Missing _) = NoSymbol
 write_refusal error.Memory = NoMemory
 
--- codes are made a column, by the result
-abbrev pub WritesColumn : DictionaryId → List ℕ → List ℕ → List ℕ → ℕ → ℕ → Result (Unit {0}) Refusal → Type 0
-WritesColumn id cs buffer buffer' len len' (Ok _) =
-    (bs : List ℕ) × IsColumnWritten id cs buffer buffer' len' bs × (length bs ≤ length buffer)
-WritesColumn id cs buffer buffer' len len' (Err NoSpace) =
-    (bs : List ℕ) × IsColumnWritten id cs buffer buffer' len' bs × (length buffer < length bs)
-WritesColumn id cs buffer buffer' len len' (Err refusal) = (why : ColumnWriteError)
-    × (refusal ≡ write_refusal why) × IsRefusal id.count cs why × (buffer' ≡ buffer) × (len' ≡ len)
+-- codes are made a column of a dictionary, by the result
+abbrev pub WritesColumn : Reference → List ℕ → List ℕ → List ℕ → ℕ → ℕ → Result (Unit {0}) Refusal → Type 0
+WritesColumn to cs buffer buffer' len len' (Ok _) =
+    (bs : List ℕ) × IsColumnWritten to cs buffer buffer' len' bs × (length bs ≤ length buffer)
+WritesColumn to cs buffer buffer' len len' (Err NoSpace) =
+    (bs : List ℕ) × IsColumnWritten to cs buffer buffer' len' bs × (length buffer < length bs)
+WritesColumn to cs buffer buffer' len len' (Err BadShard) =
+    (to.shards ≡ 0) × (buffer' ≡ buffer) × (len' ≡ len)
+WritesColumn to cs buffer buffer' len len' (Err refusal) = (why : ColumnWriteError)
+    × (refusal ≡ write_refusal why) × IsRefusal 0 to.id.count cs why × (buffer' ≡ buffer) × (len' ≡ len)

@@ -1,11 +1,12 @@
 -- What C sees of a frozen table, which is its bytes.
-use Rattle.std.specs.Prelude.{◌≡◌, ◌⊎◌, ⊤, ℕ, ◌<◌, ◌≤◌, true, false, List, [], ◌∷◌, length, slice_get, Option, Some, None, MatchOption, MatchResult, IsErrAnd, Result, Ok, Err, ◌==◌}
-use Rattle.intaglio_c.specs.Words.{State, first, Rule, Refusal, NoTable, NoMemory, NotUtf8, BadEnds, NoSpace, NoKind, NotFrozen, OtherVersion, Reserved, TooMany, Truncated, TextEnds, Unused, NotFound, TooLong, Equal, NoPlaces}
+use Rattle.std.specs.Prelude.{◌≡◌, ◌⊎◌, ℕ, ◌<◌, ◌≤◌, true, false, List, [], ◌∷◌, length, slice_get, Option, Some, None, MatchOption, MatchResult, IsErrAnd, Result, Ok, Err, ◌==◌}
+use Rattle.intaglio_c.specs.Words.{State, first, Rule, Refusal, NoTable, NoMemory, NotUtf8, BadEnds, NoSpace, NoKind, NotFrozen, OtherVersion, Reserved, TooMany, Truncated, TextEnds, Unused, NotFound, TooLong, Equal, NoPlaces, TrailingBytes, BadShard, OtherIdentity}
 use Rattle.intaglio_frozen.specs.Fault.{IsFault}
 use Rattle.intaglio_frozen.specs.Freezing.{HasKeys, IsRefusal, IsTableOf}
 use Rattle.intaglio_frozen.specs.IsFrozen.{HasSections, IsBlock, IsFrozen}
 use Rattle.intaglio_frozen.specs.Layout.{strings}
 use Rattle.intaglio_frozen.specs.Sections.{AreSectionsOf}
+use Rattle.intaglio_frozen.specs.SetId.{IsAt}
 use Rattle.intaglio_frozen.specs.declared.error.FreezeError.{FreezeError}
 use Rattle.intaglio_frozen.specs.declared.error.FreezeError.TheVariants as error
 use Rattle.intaglio_frozen.specs.declared.error.FrozenError.{FrozenError}
@@ -13,6 +14,7 @@ use Rattle.intaglio_frozen.specs.declared.error.FrozenError.TheVariants as fault
 use Rattle.intaglio_frozen.specs.declared.kind.Kind.{Kind as FrozenKind}
 use Rattle.intaglio_frozen.specs.declared.kind.Kind.TheVariants as frozen
 use Rattle.intaglio_frozen.specs.declared.sections.Sections.{Sections}
+use Rattle.intaglio_frozen.specs.declared.set_id.Place.{Place}
 use Rattle.intaglio_c.specs.Batches.{AreAll, Either, FindsBy, InternsOr, IsRolledBack, is_batch, or_absent, pieces}
 use Rattle.intaglio_c.specs.Handles.{filled, table_of}
 use Rattle.intaglio_c.specs.Kinds.{rule_of}
@@ -23,11 +25,15 @@ use Rattle.intaglio_c.specs.declared.kind.Rule.TheVariants as rule
 -- the error for C of what is wrong with bytes
 abbrev pub frozen_refusal : FrozenError → Refusal
 frozen_refusal fault.Magic = NotFrozen
+frozen_refusal fault.OldVersion = OtherVersion
 frozen_refusal fault.Version = OtherVersion
 frozen_refusal fault.Kind = NoKind
 frozen_refusal fault.Reserved = Reserved
 frozen_refusal fault.TooMany = TooMany
+frozen_refusal fault.Shard = BadShard
+frozen_refusal fault.OtherIdentity = OtherIdentity
 frozen_refusal fault.Truncated = Truncated
+frozen_refusal fault.TooLong = TrailingBytes
 frozen_refusal fault.Ends = TextEnds
 frozen_refusal fault.Unused = Unused
 frozen_refusal (fault.NotFound _) = NotFound
@@ -94,29 +100,33 @@ frozen_kind rule.Text = frozen.Text
 frozen_kind rule.CStr = frozen.Bytes
 
 -- bytes are a frozen table of the strings of a table, as C sees them, each at its symbol,
--- under these keys or the next ones
-pub record IsFrozenOf (t : Seen) (keys : ℕ × ℕ) (bs : List ℕ) : Type 0 where
+-- at this place, under these keys or the next ones
+pub record IsFrozenOf (t : Seen) (keys : ℕ × ℕ) (place : Place) (bs : List ℕ) : Type 0 where
   pub table : IsTableOf (frozen_kind (rule_of t.kind)) t.state.contents bs
+  pub placed : IsAt place bs
   pub keyed : HasKeys keys.0 keys.1 bs
 
 -- the number of the bytes is written, and they are copied to the start of a buffer if it has space for them
-pub record IsWrittenTo (t : Seen) (keys : ℕ × ℕ) (old new : List ℕ) (size : ℕ) (bs : List ℕ) : Type 0 where
-  pub bytes : IsFrozenOf t keys bs
+pub record IsWrittenTo (t : Seen) (keys : ℕ × ℕ) (place : Place) (old new : List ℕ) (size : ℕ) (bs : List ℕ)
+    : Type 0 where
+  pub bytes : IsFrozenOf t keys place bs
   pub len : size ≡ length bs
   pub buffer : new ≡ filled old (Some bs)
 
--- a table is frozen under keys, by the result
-abbrev pub Freezes : ℕ × ℕ → List ℕ → List ℕ → ℕ → ℕ → Seen → Result (Unit {0}) Refusal → Type 0
-Freezes keys buffer buffer' len len' t (Ok _) = (bs : List ℕ) × IsWrittenTo t keys buffer buffer' len' bs
-    × (length bs ≤ length buffer)
-Freezes keys buffer buffer' len len' t (Err NoSpace) =
-    (bs : List ℕ) × IsWrittenTo t keys buffer buffer' len' bs × (length buffer < length bs)
-Freezes keys buffer buffer' len len' t (Err refusal) = (error : FreezeError)
+-- a table is frozen under keys at a place, by the result
+abbrev pub Freezes : ℕ × ℕ → Place → List ℕ → List ℕ → ℕ → ℕ → Seen → Result (Unit {0}) Refusal → Type 0
+Freezes keys place buffer buffer' len len' t (Ok _) =
+    (bs : List ℕ) × IsWrittenTo t keys place buffer buffer' len' bs × (length bs ≤ length buffer)
+Freezes keys place buffer buffer' len len' t (Err NoSpace) =
+    (bs : List ℕ) × IsWrittenTo t keys place buffer buffer' len' bs × (length buffer < length bs)
+Freezes keys place buffer buffer' len len' t (Err BadShard) =
+    (place.shards ≤ place.shard) × (buffer' ≡ buffer) × (len' ≡ len)
+Freezes keys place buffer buffer' len len' t (Err refusal) = (error : FreezeError)
     × (refusal ≡ freeze_refusal error) × IsRefusal (frozen_kind (rule_of t.kind)) t.state.contents error
     × (buffer' ≡ buffer) × (len' ≡ len)
 
 -- the same of the table that a handle holds
-abbrev pub FreezesHeld : Handle → ℕ × ℕ → List ℕ → List ℕ → ℕ → ℕ → Result (Unit {0}) Refusal → Type 0
-FreezesHeld handle keys buffer buffer' len len' result =
+abbrev pub FreezesHeld : Handle → ℕ × ℕ → Place → List ℕ → List ℕ → ℕ → ℕ → Result (Unit {0}) Refusal → Type 0
+FreezesHeld handle keys place buffer buffer' len len' result =
     MatchOption (table_of handle) ((result ≡ Err NoTable) × (buffer' ≡ buffer) × (len' ≡ len))
-    (λ t. Freezes keys buffer buffer' len len' t result)
+    (λ t. Freezes keys place buffer buffer' len len' t result)

@@ -1,11 +1,10 @@
 -- What C sees of a handle, and what calls do to it.
-use Rattle.std.specs.Prelude.{◌≡◌, ℕ, ◌+◌, List, [], ◌++◌, length, drop, slice_get, nat_lt, if◌then◌else◌, Option, Some, None, option_map, option_and_then, MatchOption, MatchResult, IsSomeAnd, Result, Ok, Err}
+use Rattle.std.specs.Prelude.{◌≡◌, ℕ, ◌+◌, List, [], ◌++◌, length, drop, slice_get, nat_lt, if◌then◌else◌, Option, Some, None, option_map, option_and_then, MatchOption, IsSomeAnd, Result, Ok, Err}
 use Rattle.intaglio_c.specs.Words.{Empties, State, initial_hasher, Kind, Refusal, NoTable, NoMemory, TooLarge, NoKind}
 use Rattle.std.specs.declared.hash.DefaultHasher.{DefaultHasher}
 use Rattle.intaglio_c.specs.Answers.{answer_code, IsCodeOf, IsWritten}
 use Rattle.intaglio_c.specs.Kinds.{kind_of}
 use Rattle.intaglio_c.specs.Seen.{IsOutside, Seen, most_of, room_of, seen, IsChangedBy, look_up}
-use Rattle.intaglio_c.specs.declared.any_table.AnyTable.{AnyTable}
 use Rattle.intaglio_c.specs.declared.any_table.size.Size.{Size}
 use Rattle.intaglio_c.specs.declared.handle.Handle.{Handle}
 

@@ -1,6 +1,6 @@
 -- How C sees a table: its kind, its contents as their bytes, and its keys.
 use Rattle.std.specs.Prelude.{◌≡◌, ◌⊎◌, ◌<◌, ◌^◌, ℕ, List, map, Option, Some, None, Result, Ok, Err}
-use Rattle.intaglio_c.specs.Words.{State, Table, empty_state, first, KeyedState, Kind, Refusal}
+use Rattle.intaglio_c.specs.Words.{State, empty_state, first, KeyedState, Kind, Refusal}
 use Rattle.intaglio_bytes.specs.BytesContent.{bytes_content_bytes}
 use Rattle.intaglio_path.specs.PathContent.{path_content_bytes}
 use Rattle.intaglio_c.specs.Kinds.{key, fault, first_fault}

@@ -6,4 +6,4 @@ pub use Rattle.intaglio_hash.specs.declared.state.KeyedState.{KeyedState}
 pub use Rattle.intaglio_c.specs.declared.kind.Kind.{Kind}
 pub use Rattle.intaglio_c.specs.declared.kind.Rule.{Rule}
 pub use Rattle.intaglio_c.specs.declared.refusal.Refusal.{Refusal}
-pub use Rattle.intaglio_c.specs.declared.refusal.Refusal.TheVariants.{NoTable, Full, NoMemory, TooLarge, Stale, NotUtf8, InnerZero, MissingZero, BadEnds, NoSymbol, NoSpace, NoKind, NotFrozen, OtherVersion, Reserved, TooMany, Truncated, TextEnds, Unused, NotFound, TooLong, Equal, NoPlaces, NotColumn, BadWidth, TrailingBytes}
+pub use Rattle.intaglio_c.specs.declared.refusal.Refusal.TheVariants.{NoTable, Full, NoMemory, TooLarge, Stale, NotUtf8, InnerZero, MissingZero, BadEnds, NoSymbol, NoSpace, NoKind, NotFrozen, OtherVersion, Reserved, TooMany, Truncated, TextEnds, Unused, NotFound, TooLong, Equal, NoPlaces, NotColumn, BadWidth, TrailingBytes, BadShard, OtherIdentity, Damaged}

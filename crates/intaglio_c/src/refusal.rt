@@ -64,8 +64,15 @@ pub enum Refusal {
     NotColumn = 24,
     /// The width of a column isn't the least that serves its dictionary.
     BadWidth = 25,
-    /// There are bytes behind the last row of a column.
+    /// There are bytes behind the strings of a frozen table, or behind the last row of a column.
     TrailingBytes = 26,
+    /// The number of a shard isn't below the number of shards, or the rows of a column come from a dictionary
+    /// that can't be.
+    BadShard = 27,
+    /// The identity in the header of a frozen table isn't that of its strings.
+    OtherIdentity = 28,
+    /// The checksum of a column isn't that of its codes and its header.
+    Damaged = 29,
 }
 
 impl Refusal {
@@ -102,11 +109,14 @@ impl From<FrozenError> for Refusal {
     fn from(error: FrozenError) -> Refusal {
         match error {
             FrozenError::Magic => Refusal::NotFrozen,
-            FrozenError::Version => Refusal::OtherVersion,
+            FrozenError::OldVersion | FrozenError::Version => Refusal::OtherVersion,
             FrozenError::Kind => Refusal::NoKind,
             FrozenError::Reserved => Refusal::Reserved,
             FrozenError::TooMany => Refusal::TooMany,
+            FrozenError::Shard => Refusal::BadShard,
+            FrozenError::OtherIdentity => Refusal::OtherIdentity,
             FrozenError::Truncated => Refusal::Truncated,
+            FrozenError::TooLong => Refusal::TrailingBytes,
             FrozenError::Ends => Refusal::TextEnds,
             FrozenError::Unused => Refusal::Unused,
             FrozenError::NotFound(_) => Refusal::NotFound,
@@ -122,14 +132,16 @@ impl From<ColumnError> for Refusal {
         match error {
             ColumnError::Magic => Refusal::NotColumn,
             ColumnError::Header => Refusal::Truncated,
-            ColumnError::Version => Refusal::OtherVersion,
+            ColumnError::OldVersion | ColumnError::Version => Refusal::OtherVersion,
             ColumnError::Kind => Refusal::NoKind,
             ColumnError::TooMany => Refusal::TooMany,
             ColumnError::Width => Refusal::BadWidth,
+            ColumnError::Source => Refusal::BadShard,
             ColumnError::Reserved => Refusal::Reserved,
             ColumnError::Truncated => Refusal::Truncated,
             ColumnError::TooLong => Refusal::TrailingBytes,
-            ColumnError::NoString(_) => Refusal::NoSymbol,
+            ColumnError::Damaged => Refusal::Damaged,
+            ColumnError::NoString(_) | ColumnError::Missing(_) => Refusal::NoSymbol,
         }
     }
 }
@@ -140,7 +152,7 @@ impl From<ColumnWriteError> for Refusal {
     fn from(error: ColumnWriteError) -> Refusal {
         match error {
             ColumnWriteError::TooMany => Refusal::TooMany,
-            ColumnWriteError::NoString(_) => Refusal::NoSymbol,
+            ColumnWriteError::NoString(_) | ColumnWriteError::Missing(_) => Refusal::NoSymbol,
             ColumnWriteError::Memory => Refusal::NoMemory,
         }
     }

@@ -1,14 +1,16 @@
 //! Freezing a table.
-ghost use Rattle.std.specs.Prelude.{◌≡◌, IfErr, IfOk};
+ghost use Rattle.std.specs.Prelude.{◌≡◌, ◌<◌, IfErr, IfOk};
 ghost use Rattle.intaglio_frozen.specs.Freezing.{IsRefusal};
 ghost use Rattle.intaglio_c.specs.Frozen.{IsFrozenOf, frozen_kind};
 ghost use Rattle.intaglio_c.specs.Kinds.{rule_of};
+ghost use Rattle.intaglio_c.specs.References.{IsSingle};
 ghost use Rattle.intaglio_c.specs.Seen.{contents_of, seen};
 
 use super::AnyTable;
 use crate::kind::Rule;
+use crate::reference::Reference;
 use intaglio_core::Symbol;
-use intaglio_frozen::{FreezeError, Kind, StringList, freeze};
+use intaglio_frozen::{DictionaryId, FreezeError, Kind, Place, StringList, freeze_at};
 use std::alloc::Global;
 
 impl StringList for AnyTable {
@@ -49,12 +51,30 @@ impl AnyTable {
         }
     }
 
-    // The bytes of a frozen table of the strings.
-    pub(crate) fn freeze(&self, alloc: Global, key0: u64, key1: u64) -> Result<Vec<u8>, FreezeError>
-        ensures frozen { IfOk result (λ bytes. IsFrozenOf (seen self.now) (key0, key1) bytes.items) }
+    // What the dictionary of the strings in one file is.
+    pub(crate) fn reference(&self) -> Reference
+        ensures { IsSingle (seen self.now) result }
+    {
+        let is_text = frozen_kind(self.rule()) == Kind::Text;
+        Reference {
+            id: DictionaryId::of_list(is_text, self),
+            shards: 1,
+            shard: 0,
+        }
+    }
+
+    // The bytes of a frozen table of the strings at a place.
+    pub(crate) fn freeze(
+        &self,
+        alloc: Global,
+        keys: (u64, u64),
+        place: Place,
+    ) -> Result<Vec<u8>, FreezeError>
+        requires { place.shard < place.shards }
+        ensures frozen { IfOk result (λ bytes. IsFrozenOf (seen self.now) keys place bytes.items) }
         ensures err { IfErr result
             (IsRefusal (frozen_kind (rule_of (seen self.now).kind)) (contents_of self.now)) }
     {
-        freeze(alloc, self, frozen_kind(self.rule()), key0, key1)
+        freeze_at(alloc, self, frozen_kind(self.rule()), Some(keys), place)
     }
 }

@@ -1,18 +1,18 @@
 //! Calls on columns, which C passes as their bytes. Each call reads the header of the column again, and reads
 //! nothing outside the bytes.
-ghost use Rattle.std.specs.Prelude.{◌≡◌, ◌-◌, drop, false, length, map, min, slice_get};
+ghost use Rattle.std.specs.Prelude.{◌≡◌, ◌-◌, drop, false, length, min, slice_get};
 ghost use Rattle.intaglio_column_file.specs.IsColumn.{HasRows, IsColumn};
 ghost use Rattle.intaglio_column_file.specs.Layout.{codes, width as width_of};
 ghost use Rattle.intaglio_column_file.specs.Rows.{overlaid, rows_of};
 ghost use Rattle.intaglio_column_file.specs.Width.{bytes_of};
 ghost use Rattle.intaglio_c.specs.Answers.{IsCodeOf, given};
-ghost use Rattle.intaglio_c.specs.Blocks.{MakesIdOfAll};
-ghost use Rattle.intaglio_c.specs.Columns.{ChecksColumn, Counts, MakesId, ReadsId, WritesColumn};
+ghost use Rattle.intaglio_c.specs.Columns.{ChecksColumn, Counts, WritesColumn};
+ghost use Rattle.intaglio_c.specs.References.{ReadsSource, ReadsTarget};
 
-use crate::blocks::{are_texts, count_of, read_blocks};
+use crate::reference::Reference;
 use crate::refusal::{Refusal, code};
 use crate::spelling::fill;
-use intaglio_column_file::{Column, DictionaryId, column_bytes, id_of_table};
+use intaglio_column_file::{Column, DictionaryId, RowSource, sourced_column_bytes};
 use std::alloc::Global;
 
 /// Checks that these bytes are a column, and reads all of them. Fails with what is wrong with them.
@@ -52,72 +52,54 @@ pub extern "C" fn intaglio_column_width(bytes: &[u8]) -> usize
 }
 
 // Reads which dictionary a column belongs to.
-fn column_id(bytes: &[u8], id: &mut DictionaryId) -> Result<(), Refusal>
-    ensures read { ReadsId bytes.now id.old id.new result }
+fn column_id(bytes: &[u8], id: &mut Reference) -> Result<(), Refusal>
+    ensures read { ReadsTarget bytes.now id.old id.new result }
 {
-    let column = Column::open_trusted(bytes)?;
-    *id = column.id();
+    let header = Column::open_trusted(bytes)?.header();
+    *id = Reference {
+        id: header.id,
+        shards: header.shards,
+        shard: header.source.shard,
+    };
     Ok(())
 }
 
-/// Writes which dictionary a column belongs to. Fails with what is wrong with the header, or with how many
-/// bytes there are; then nothing is written.
+/// Writes which dictionary a column belongs to, with the number of its strings, or of those of one shard if the
+/// column is the map of a shard. Fails with what is wrong with the header, or with how many bytes there are;
+/// then nothing is written.
 #[unsafe(no_mangle)]
-pub extern "C" fn intaglio_column_id(bytes: &[u8], id: &mut DictionaryId) -> u32
-    ensures read { IsCodeOf result (ReadsId bytes.now id.old id.new) }
+pub extern "C" fn intaglio_column_id(bytes: &[u8], id: &mut Reference) -> u32
+    ensures read { IsCodeOf result (ReadsTarget bytes.now id.old id.new) }
 {
     code(column_id(bytes, id))
 }
 
-// Makes the id of a frozen table.
-fn frozen_id(bytes: &[u8], id: &mut DictionaryId) -> Result<(), Refusal>
-    ensures made { MakesId bytes.now id.old id.new result }
+// Reads from which dictionary the rows of a column come.
+fn column_source(bytes: &[u8], id: &mut Reference) -> Result<(), Refusal>
+    ensures read { ReadsSource bytes.now id.old id.new result }
 {
-    *id = id_of_table(bytes)?;
+    let header = Column::open_trusted(bytes)?.header();
+    let source = header.source;
+    *id = Reference {
+        id: DictionaryId {
+            is_text: source.is_text,
+            count: header.rows,
+            hash0: source.hash0,
+            hash1: source.hash1,
+        },
+        shards: source.shards,
+        shard: source.shard,
+    };
     Ok(())
 }
 
-/// Writes what the dictionary in the bytes of a frozen table is, and reads its ends and its text. Fails with
-/// what is wrong with the header; then nothing is written.
+/// Writes the dictionary, or the shard of one, whose strings are the rows of a column, which is then a map. For
+/// a column of lines it writes that there are no shards. Fails as [`intaglio_column_id`].
 #[unsafe(no_mangle)]
-pub extern "C" fn intaglio_frozen_id(bytes: &[u8], id: &mut DictionaryId) -> u32
-    ensures made { IsCodeOf result (MakesId bytes.now id.old id.new) }
+pub extern "C" fn intaglio_column_source(bytes: &[u8], id: &mut Reference) -> u32
+    ensures read { IsCodeOf result (ReadsSource bytes.now id.old id.new) }
 {
-    code(frozen_id(bytes, id))
-}
-
-// Makes the id of the dictionary of several frozen tables.
-fn shards_id(
-    alloc: Global,
-    tables: &[&[u8]],
-    id: &mut DictionaryId,
-    number: &mut usize,
-) -> Result<(), Refusal>
-    ensures made { MakesIdOfAll (map (λ t. t.now) tables.now) id.old id.new number.new result }
-{
-    let blocks = read_blocks(alloc, tables, number)?;
-    let count = count_of(&blocks)?;
-    *id = DictionaryId::of_lists(are_texts(tables), count, &blocks);
-    Ok(())
-}
-
-/// Writes what the dictionary is whose shards are these frozen tables: that of all their strings, those
-/// of one table behind those of the tables before it, and of texts if each table is. All ends and all
-/// texts are read. Fails with what is wrong with the header or the ends of a table, and then writes the
-/// number of the first table that has a fault. Fails with `TooMany` if there are 2^32 strings or more
-/// together, and with `NoMemory`. Unless a table has a fault, it writes how many tables there are.
-/// After an error no id is written.
-#[unsafe(no_mangle)]
-pub extern "C" fn intaglio_shards_id(
-    alloc: Global,
-    tables: &[&[u8]],
-    id: &mut DictionaryId,
-    number: &mut usize,
-) -> u32
-    ensures made { IsCodeOf result
-        (MakesIdOfAll (map (λ t. t.now) tables.now) id.old id.new number.new) }
-{
-    code(shards_id(alloc, tables, id, number))
+    code(column_source(bytes, id))
 }
 
 /// Writes the code of a row of a column, if there is that row, and returns whether there is.
@@ -195,14 +177,17 @@ pub extern "C" fn intaglio_column_counts(bytes: &[u8], places: &mut [u64], missi
 // Writes a column of these codes.
 fn write(
     alloc: Global,
-    id: &DictionaryId,
+    id: &Reference,
     codes: &[u32],
     buffer: &mut [u8],
     len: &mut usize,
 ) -> Result<(), Refusal>
     ensures written { WritesColumn id.now codes.now buffer.old buffer.new len.old len.new result }
 {
-    let bytes = column_bytes(alloc, *id, &codes)?;
+    if id.shards == 0 {
+        return Err(Refusal::BadShard);
+    }
+    let bytes = sourced_column_bytes(alloc, id.id, id.shards, RowSource::LINES, &codes)?;
     *len = bytes.len();
     fill(buffer, &bytes);
     if buffer.len() < bytes.len() {
@@ -211,14 +196,14 @@ fn write(
     Ok(())
 }
 
-/// Writes how many bytes a column of these codes under this dictionary has, and copies them to the
-/// start of a buffer that has space for them. Fails with `NoSymbol` for a code that is neither that of
-/// a string nor 2^32 - 1, `TooMany` and `NoMemory`, and nothing is written; and with `NoSpace` if the
-/// buffer is too short, with the number written.
+/// Writes how many bytes a column of lines that have these codes under this dictionary has, and copies them to the
+/// start of a buffer that has space for them. Fails with `BadShard` for a dictionary without shards,
+/// `NoSymbol` for a code that is neither that of a string nor 2^32 - 1, `TooMany` and `NoMemory`, and nothing
+/// is written; and with `NoSpace` if the buffer is too short, with the number written.
 #[unsafe(no_mangle)]
 pub extern "C" fn intaglio_column_write(
     alloc: Global,
-    id: &DictionaryId,
+    id: &Reference,
     codes: &[u32],
     buffer: &mut [u8],
     len: &mut usize,

@@ -8,30 +8,35 @@ ghost use Rattle.intaglio_frozen.specs.Sections.{AreSectionsOf};
 ghost use Rattle.intaglio_c.specs.Answers.{IsCodeOf, given};
 ghost use Rattle.intaglio_c.specs.Frozen.{Absorbs, Checks, FindsEach, FindsEachTrusted, FreezesHeld, ReadsSections, position_in};
 ghost use Rattle.intaglio_c.specs.Handles.{ChangesWithCode, Keeps};
+ghost use Rattle.intaglio_c.specs.References.{IdentifiesHeld, ReadsReference, place_in, single};
 
 use crate::ahead::find_each;
 use crate::batch::{Batch, is_batch};
 use crate::handle::Handle;
+use crate::reference::Reference;
 use crate::refusal::{Refusal, code};
 use crate::spelling::{Spelling, fill};
 use intaglio_core::Symbol;
-use intaglio_frozen::{Frozen, Header, Kind, Sections, TrustedFrozen};
+use intaglio_frozen::{DictionaryId, Frozen, Header, Kind, Place, Sections, TrustedFrozen};
 use std::alloc::Global;
 
-// Writes a frozen table of the contents.
+// Writes a frozen table of the contents at a place.
 fn freeze(
     alloc: Global,
     handle: &mut Handle,
-    key0: u64,
-    key1: u64,
+    keys: (u64, u64),
+    place: Place,
     buffer: &mut [u8],
     len: &mut usize,
 ) -> Result<(), Refusal>
-    ensures frozen { FreezesHeld handle.old (key0, key1) buffer.old buffer.new len.old len.new result }
+    ensures frozen { FreezesHeld handle.old keys place buffer.old buffer.new len.old len.new result }
     ensures kept { Keeps handle.old handle.new }
 {
     let table = table_of!(handle, Err(Refusal::NoTable));
-    let bytes = table.freeze(alloc, key0, key1)?;
+    if place.shard >= place.shards {
+        return Err(Refusal::BadShard);
+    }
+    let bytes = table.freeze(alloc, keys, place)?;
     *len = bytes.len();
     fill(buffer, &bytes);
     if buffer.len() < bytes.len() {
@@ -53,10 +58,77 @@ pub extern "C" fn intaglio_freeze(
     len: &mut usize,
 ) -> u32
     ensures frozen { IsCodeOf result
-        (FreezesHeld handle.old (key0, key1) buffer.old buffer.new len.old len.new) }
+        (FreezesHeld handle.old (key0, key1) single buffer.old buffer.new len.old len.new) }
     ensures kept { Keeps handle.old handle.new }
 {
-    code(freeze(alloc, handle, key0, key1, buffer, len))
+    code(freeze(alloc, handle, (key0, key1), Place::SINGLE, buffer, len))
+}
+
+/// As [`intaglio_freeze`], but the table is this shard of this dictionary. The number of strings and the kind are
+/// those of the contents, whatever `id` says. Fails also with `BadShard` if the number of the shard isn't below
+/// the number of shards.
+#[unsafe(no_mangle)]
+pub extern "C" fn intaglio_freeze_shard(
+    alloc: Global,
+    handle: &mut Handle,
+    key0: u64,
+    key1: u64,
+    id: &Reference,
+    buffer: &mut [u8],
+    len: &mut usize,
+) -> u32
+    ensures frozen { IsCodeOf result
+        (FreezesHeld handle.old (key0, key1) (place_in id.now) buffer.old buffer.new len.old len.new) }
+    ensures kept { Keeps handle.old handle.new }
+{
+    code(freeze(alloc, handle, (key0, key1), id.place(), buffer, len))
+}
+
+// Makes the identity of the contents.
+fn own_id(handle: &mut Handle, id: &mut Reference) -> Result<(), Refusal>
+    ensures made { IdentifiesHeld handle.old id.old id.new result }
+    ensures kept { Keeps handle.old handle.new }
+{
+    let table = table_of!(handle, Err(Refusal::NoTable));
+    *id = table.reference();
+    Ok(())
+}
+
+/// Writes what the dictionary of the contents is, if it is in one file. Fails with `NoTable`; then nothing is
+/// written.
+#[unsafe(no_mangle)]
+pub extern "C" fn intaglio_own_id(handle: &mut Handle, id: &mut Reference) -> u32
+    ensures made { IsCodeOf result (IdentifiesHeld handle.old id.old id.new) }
+    ensures kept { Keeps handle.old handle.new }
+{
+    code(own_id(handle, id))
+}
+
+// Reads what the header of a frozen table says.
+fn frozen_id(bytes: &[u8], id: &mut Reference) -> Result<(), Refusal>
+    ensures read { ReadsReference bytes.now id.old id.new result }
+{
+    let header = Header::read(bytes)?;
+    *id = Reference {
+        id: DictionaryId {
+            is_text: header.id.is_text,
+            count: header.count,
+            hash0: header.place.set.hash0,
+            hash1: header.place.set.hash1,
+        },
+        shards: header.place.shards,
+        shard: header.place.shard,
+    };
+    Ok(())
+}
+
+/// Writes which dictionary a frozen table is, or which shard of one, with the number of its own strings. Only
+/// the header is read. Fails with what is wrong with it; then nothing is written.
+#[unsafe(no_mangle)]
+pub extern "C" fn intaglio_frozen_id(bytes: &[u8], id: &mut Reference) -> u32
+    ensures read { IsCodeOf result (ReadsReference bytes.now id.old id.new) }
+{
+    code(frozen_id(bytes, id))
 }
 
 /// Interns all strings of a frozen table, all or none, in its order, and writes the symbol of each. Fails

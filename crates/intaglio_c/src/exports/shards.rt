@@ -1,11 +1,16 @@
-//! Dictionaries in shards: which shard a string belongs to is known from its bytes alone.
-ghost use Rattle.std.specs.Prelude.{◌≡◌, ◌<◌};
-ghost use Rattle.intaglio_frozen.specs.LookUp.{hash_under};
+//! Dictionaries in shards: which shard a string belongs to, which is known from its bytes alone, and the sets
+//! of shards.
+ghost use Rattle.std.specs.Prelude.{◌≡◌, ◌<◌, map};
+ghost use Rattle.intaglio_frozen.specs.SetId.{set_of_merge, set_of_shards};
 ghost use Rattle.intaglio_merge.specs.Shards.{shard_of};
+ghost use Rattle.intaglio_c.specs.Answers.{IsCodeOf};
+ghost use Rattle.intaglio_c.specs.References.{MakesSet, own_id, set_in};
 
-use intaglio_hash::KeyedHasher;
+use crate::reference::{Reference, ids_of, sets_of};
+use crate::refusal::{Refusal, code};
+use intaglio_frozen::SetId;
 use intaglio_merge::shard_of;
-use std::hash::Hasher;
+use std::alloc::Global;
 
 /// The shard that a string belongs to, of `shards` ones: from 0 to `shards - 1`. If there are none, it is 0.
 #[unsafe(no_mangle)]
@@ -20,12 +25,68 @@ pub extern "C" fn intaglio_shard_of(shards: u32, string: &[u8]) -> u32
     shard_of(string, shards)
 }
 
-/// The hash of bytes under two keys, by SipHash-1-3.
-#[unsafe(no_mangle)]
-pub extern "C" fn intaglio_keyed_hash(key0: u64, key1: u64, bytes: &[u8]) -> u64
-    ensures value { result ≡ hash_under key0 key1 bytes.now }
+// Makes the set of shards that are made together.
+fn set_of_shards(
+    alloc: Global,
+    shards: &[Reference],
+    hash0: &mut u64,
+    hash1: &mut u64,
+) -> Result<(), Refusal>
+    ensures made { MakesSet (set_of_shards (map own_id shards.now)) (hash0.old, hash1.old)
+        (hash0.new, hash1.new) result }
 {
-    let mut hasher = KeyedHasher::with_keys(key0, key1);
-    hasher.write(bytes);
-    hasher.finish()
+    let ids = ids_of(alloc, shards)?;
+    let set = SetId::of_shards(&ids);
+    *hash0 = set.hash0;
+    *hash1 = set.hash1;
+    Ok(())
+}
+
+/// Writes the two hashes of the set of which these dictionaries, each in one file, are the shards. Fails with
+/// `NoMemory`; then nothing is written.
+#[unsafe(no_mangle)]
+pub extern "C" fn intaglio_set_of_shards(
+    alloc: Global,
+    shards: &[Reference],
+    hash0: &mut u64,
+    hash1: &mut u64,
+) -> u32
+    ensures made { IsCodeOf result (MakesSet (set_of_shards (map own_id shards.now))
+        (hash0.old, hash1.old) (hash0.new, hash1.new)) }
+{
+    code(set_of_shards(alloc, shards, hash0, hash1))
+}
+
+// Makes the set of what is merged from parts.
+fn set_of_merge(
+    alloc: Global,
+    shards: u32,
+    parts: &[Reference],
+    hash0: &mut u64,
+    hash1: &mut u64,
+) -> Result<(), Refusal>
+    ensures made { MakesSet (set_of_merge shards (map set_in parts.now)) (hash0.old, hash1.old)
+        (hash0.new, hash1.new) result }
+{
+    let sets = sets_of(alloc, parts)?;
+    let set = SetId::of_merge(shards, &sets);
+    *hash0 = set.hash0;
+    *hash1 = set.hash1;
+    Ok(())
+}
+
+/// Writes the two hashes of the set of so many shards, each of which is merged from those with its number of
+/// these parts, in their order. Fails with `NoMemory`; then nothing is written.
+#[unsafe(no_mangle)]
+pub extern "C" fn intaglio_set_of_merge(
+    alloc: Global,
+    shards: u32,
+    parts: &[Reference],
+    hash0: &mut u64,
+    hash1: &mut u64,
+) -> u32
+    ensures made { IsCodeOf result (MakesSet (set_of_merge shards (map set_in parts.now))
+        (hash0.old, hash1.old) (hash0.new, hash1.new)) }
+{
+    code(set_of_merge(alloc, shards, parts, hash0, hash1))
 }

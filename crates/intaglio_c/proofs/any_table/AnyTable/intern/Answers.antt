@@ -1,5 +1,5 @@
 -- An interning in each store.
-use Rattle.intaglio_c.proofs.Names.{refl, ap, ◌∙◌, rules, Err, ◌≡◌, true, components, bytes_content_bytes, path_content_bytes, seen, packed_bytes}
+use Rattle.intaglio_c.proofs.Names.{refl, ap, ◌∙◌, true, components, bytes_content_bytes, path_content_bytes, seen, packed_bytes}
 use Rattle.intaglio_c.specs.declared.kind.Kind.TheVariants as kind
 use Rattle.intaglio_c.proofs.AsBytes.{interned, pushed}
 use Rattle.intaglio_c.proofs.any_table.AnyTable.intern.Goals as goal

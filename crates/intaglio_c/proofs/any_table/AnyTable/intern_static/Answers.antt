@@ -1,8 +1,8 @@
 -- An interning of static bytes in each store.
-use Rattle.intaglio_c.proofs.Names.{refl, ap, rules, Err, ◌≡◌, components, bytes_content_bytes, path_content_bytes, copies_static, seen, packed_bytes}
+use Rattle.intaglio_c.proofs.Names.{refl, ap, components, bytes_content_bytes, path_content_bytes, copies_static, seen}
 use Rattle.intaglio_content.specs.declared.content_of.ContentOf.TheVariants as content
 use Rattle.intaglio_c.specs.declared.kind.Kind.TheVariants as kind
-use Rattle.intaglio_c.proofs.AsBytes.{interned, moved, pushed}
+use Rattle.intaglio_c.proofs.AsBytes.{interned, moved}
 use Rattle.intaglio_c.proofs.any_table.AnyTable.intern_static.Goals as goal
 
 pub returns-in-Owned : goal.returns-in-Owned

@@ -1,5 +1,5 @@
 -- A string of a batch is where its ends say.
-use Rattle.intaglio_c.proofs.Names.{◌∙◌, ◌-◌, ◌<◌, ◌≤◌, ◌∷◌, ℕ, Some, length, take, drop, sym, ap, arith, get_or}
+use Rattle.intaglio_c.proofs.Names.{◌∙◌, ◌-◌, ◌<◌, ℕ, Some, length, take, drop, sym, ap, arith, get_or}
 use Rattle.intaglio_c.proofs.Pieces.{in_order, piece, pieces_length}
 use Rattle.intaglio_c.proofs.batch.BatchStringList.string.Goals as goal
 

@@ -1,5 +1,5 @@
 -- The column that was made.
-use Rattle.intaglio_c.proofs.Names.{rules}
+use Rattle.intaglio_c.proofs.Names.{rules, sym}
 use Rattle.intaglio_c.proofs.exports.columns.write.Goals as goal
 
 pub returns-then-buffer-len : goal.returns-then-buffer-len
@@ -12,6 +12,7 @@ returns-then-buffer-len c =
           bytes = made.bytes;
           column = made.column;
           dictionary = made.id;
+          shards = sym made.header.shards;
           codes = made.codes;
           len = search rules;
           buffer = search rules;
@@ -30,6 +31,7 @@ returns c =
           bytes = made.bytes;
           column = made.column;
           dictionary = made.id;
+          shards = sym made.header.shards;
           codes = made.codes;
           len = search rules;
           buffer = search rules;

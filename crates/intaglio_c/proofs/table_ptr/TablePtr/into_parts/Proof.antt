@@ -1,5 +1,5 @@
 -- The parts of the box that a pointer was made of.
-use Rattle.intaglio_c.proofs.Walks.{there, ◌≡◌, refl, sym, List, [], ◌∷◌, ◌++◌, Val, ftrue, WpFn, ‵, raw, ◌⊛◌, prop, ◌$◌, ◌∵◌, !, qed, done, move, keep, split, join, fsplit, fjoin, regoal, rewrite, suffices, enter, stop, fld, of_opd, no_more, and_then, returns, alloc_all, pass_all, free_all, look_at, get, get_in, sets, agg, sub, whole, fact, tables, rawptr_Lawful, plain, nothing, heard, Stays, walk_of, says, stay_dropped, ends_at, Goes-blank, proved_at, IsSomeAnd, ⊤, allocator, the_row_laws, ghosts, Option, None, Some, word, word_fits, pair_out, pair_in}
+use Rattle.intaglio_c.proofs.Walks.{there, refl, sym, List, [], ◌∷◌, ◌++◌, Val, ftrue, WpFn, ‵, raw, ◌⊛◌, prop, ◌$◌, ◌∵◌, !, qed, done, move, keep, split, join, fsplit, fjoin, regoal, rewrite, suffices, enter, stop, fld, of_opd, no_more, and_then, returns, alloc_all, pass_all, free_all, look_at, get, get_in, sets, agg, sub, whole, fact, tables, rawptr_Lawful, plain, nothing, heard, Stays, walk_of, says, stay_dropped, ends_at, Goes-blank, proved_at, IsSomeAnd, ⊤, allocator, the_row_laws, ghosts, Option, word, word_fits, pair_out, pair_in}
 use Rattle.intaglio_c.specs.Owned.{ptr_owns}
 use Rattle.intaglio_c.specs.contracts.any_table.AnyTable.{the_row as any_table}
 use Rattle.intaglio_c.specs.contracts.table_ptr.BoxParts.{the_row as parts_of}

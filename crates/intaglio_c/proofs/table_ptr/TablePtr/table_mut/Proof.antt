@@ -1,5 +1,5 @@
 -- The table behind the pointer, which a `&mut` to a `TablePtr` lends. The pointer itself isn't written.
-use Rattle.intaglio_c.proofs.Walks.{there, ◌≡◌, refl, sym, List, [], ◌∷◌, ◌++◌, named, Val, vptr, Fml, GName, ftrue, flft, fsep, ent, sep, id⊢, WpFn, sem, ‵, raw, ◌⊛◌, some, later, prop, at_ret, ◌$◌, ◌∵◌, !, qed, done, move, keep, use1, split, join, await, pick, fsplit, fsplit3, fjoin, fpack, feq_l, regoal, rewrite, suffices, frame, group, whole, sub, look_in, enter, load, stop, fld, of_opd, addr, first, blocks, exec, returns, alloc_all, pass_all, free_all, look_at, get, through, sets, sets_last, env, fact, tables, no, Ptr, lies_at, in_a_block, plain, nothing, heard, opens, Stays, walk_of, says, stay_dropped, Goes-spent_ref, ends_at, the_row_laws, proved_at, IsSomeAnd, ⊤, allocator, ghosts, Option, None, Some, word, pair_out, pair_in}
+use Rattle.intaglio_c.proofs.Walks.{there, refl, sym, List, [], ◌∷◌, ◌++◌, named, Val, vptr, Fml, GName, ftrue, flft, fsep, ent, sep, id⊢, WpFn, sem, ‵, raw, ◌⊛◌, some, later, prop, at_ret, ◌$◌, ◌∵◌, !, qed, done, move, keep, use1, split, join, await, pick, fsplit, fsplit3, fjoin, fpack, feq_l, regoal, rewrite, suffices, frame, group, whole, sub, look_in, enter, load, stop, fld, of_opd, addr, first, blocks, exec, returns, alloc_all, pass_all, free_all, look_at, get, through, sets, sets_last, env, fact, tables, no, Ptr, lies_at, in_a_block, plain, nothing, heard, opens, Stays, walk_of, says, stay_dropped, Goes-spent_ref, ends_at, the_row_laws, proved_at, IsSomeAnd, ⊤, allocator, ghosts, Option, word, pair_out, pair_in}
 use Prim.Native.Nat.{ℕ}
 use mir.Raw.{raw as bare}
 use base.Fraction.{full_share}
