@@ -60,7 +60,7 @@ fn frozen_by_default<L: StringList>(
 fn the_first_keys_that_serve_are_taken(rt: HostRuntime) {
     let table = of_words(&rt, rt.alloc(), UNDER_ONE);
     let bytes = frozen(&rt, rt.alloc(), &table, Kind::Bytes);
-    has(&rt, &bytes, (1, 0), 13_321_550_753_116_863_131);
+    has(&rt, &bytes, (1, 0), 1_153_101_347_055_206_373);
 }
 
 #[test]
@@ -68,7 +68,7 @@ fn keys_are_drawn_from_strings_after_the_first_eight(rt: HostRuntime) {
     let table = of_words(&rt, rt.alloc(), UNDER_EIGHT);
     let bytes = frozen_by_default(&rt, rt.alloc(), &table, Kind::Bytes);
     let keys = (10_087_741_285_488_634_726, 4_955_475_991_202_912_833);
-    has(&rt, &bytes, keys, 2_372_016_649_126_576_846);
+    has(&rt, &bytes, keys, 17_246_542_960_659_430_143);
 }
 
 #[test]

@@ -3,7 +3,10 @@ use super::assertions::{copy_of, holds, same};
 use intaglio::packed::bytes::SymbolTable;
 use intaglio::packed::{Packed, PackedForm};
 use intaglio::{Symbol, TableOver};
-use intaglio_frozen::{Frozen, FrozenError, Kind, StringList, TrustedFrozen, freeze};
+use intaglio_frozen::{
+    DictionaryId, Frozen, FrozenError, Header, Kind, Place, SetId, StringList, TrustedFrozen,
+    freeze, freeze_at,
+};
 use intaglio_hash::FixedState;
 use std::alloc::Global;
 use std::hash::BuildHasher;
@@ -11,16 +14,19 @@ use std::process::Abort;
 
 // The table of `abc`, the empty string and `xy` under the keys 1 and 2, as
 // `checks/formats.py` writes it.
-const TABLE: [u8; 110] = [
-    73, 78, 84, 65, 71, 76, 73, 79, 1, 0, 0, 0, 0, 0, 0, 0, 1, 0, 0, 0, 0, 0, 0, 0, 2, 0, 0, 0, 0,
-    0, 0, 0, 3, 0, 0, 0, 0, 0, 0, 0, 0, 0, 0, 0, 0, 0, 0, 0, 0, 0, 0, 0, 0, 0, 0, 0, 0, 0, 0, 0, 0,
-    0, 0, 0, 0, 0, 0, 0, 2, 0, 0, 0, 1, 0, 0, 0, 255, 255, 255, 255, 255, 255, 255, 255, 3, 0, 0,
-    0, 3, 0, 0, 0, 5, 0, 0, 0, 1, 0, 0, 0, 26, 25, 160, 0, 0, 97, 98, 99, 120, 121,
+const TABLE: [u8; 174] = [
+    73, 78, 84, 65, 71, 76, 73, 79, 2, 0, 0, 0, 0, 0, 0, 0, 1, 0, 0, 0, 0, 0, 0, 0, 2, 0, 0, 0, 0,
+    0, 0, 0, 3, 0, 0, 0, 0, 0, 0, 0, 5, 0, 0, 0, 0, 0, 0, 0, 248, 104, 127, 193, 74, 28, 227, 176,
+    246, 76, 199, 177, 197, 138, 104, 50, 248, 104, 127, 193, 74, 28, 227, 176, 246, 76, 199, 177,
+    197, 138, 104, 50, 1, 0, 0, 0, 0, 0, 0, 0, 0, 0, 0, 0, 0, 0, 0, 0, 0, 0, 0, 0, 0, 0, 0, 0, 0,
+    0, 0, 0, 0, 0, 0, 0, 0, 0, 0, 0, 0, 0, 0, 0, 0, 0, 0, 0, 0, 0, 0, 0, 0, 0, 0, 0, 2, 0, 0, 0, 1,
+    0, 0, 0, 255, 255, 255, 255, 255, 255, 255, 255, 3, 0, 0, 0, 3, 0, 0, 0, 5, 0, 0, 0, 1, 0, 0,
+    0, 26, 25, 160, 0, 0, 97, 98, 99, 120, 121,
 ];
 // Where the end of the first string is.
-const FIRST_END: usize = 84;
-// Where the text begins.
-const TEXT: usize = 105;
+const FIRST_END: usize = 148;
+// Where a byte of the identity is.
+const IDENTITY: usize = 50;
 
 fn trusted<'a>(rt: &impl Abort, bytes: &'a [u8]) -> TrustedFrozen<'a> {
     TrustedFrozen::open(bytes).expect(rt, "no table")
@@ -163,25 +169,113 @@ fn trusted_bytes_with_wrong_ends_are_read_within_the_text(rt: HostRuntime) {
     finds(&rt, &table, &SYMBOLS_LEFT);
 }
 
+// The fault of the first bytes of the table, if they are trusted.
+fn trusted_fault(count: usize) -> Option<FrozenError> {
+    TrustedFrozen::open(&TABLE[..count.min(TABLE.len())]).err()
+}
+
 #[test]
 fn trusted_bytes_have_a_header_and_their_sections(rt: HostRuntime) {
+    same(&rt, trusted_fault(0), Some(FrozenError::Magic));
+    same(&rt, trusted_fault(127), Some(FrozenError::Truncated));
     same(
         &rt,
-        TrustedFrozen::open(b"").err(),
-        Some(FrozenError::Magic),
-    );
-    same(
-        &rt,
-        TrustedFrozen::open(&TABLE[..63]).err(),
+        trusted_fault(TABLE.len() - 1),
         Some(FrozenError::Truncated),
     );
+    same(&rt, trusted_fault(TABLE.len()), None);
+    let mut longer = Vec::with_capacity(rt.alloc(), TABLE.len() + 1).expect(&rt, "memory");
+    longer.extend_from_slice(&TABLE).expect(&rt, "memory");
+    longer.push(0).expect(&rt, "memory");
     same(
         &rt,
-        TrustedFrozen::open(&TABLE[..TEXT - 1]).err(),
-        Some(FrozenError::Truncated),
+        TrustedFrozen::open(&longer).err(),
+        Some(FrozenError::TooLong),
     );
-    let table = trusted(&rt, &TABLE[..TEXT]);
-    same(&rt, table.len(), 3);
-    same(&rt, table.get(Symbol::new(0)), None);
-    same(&rt, table.check_interned(b"abc"), None);
+}
+
+#[test]
+fn another_identity_is_found_by_a_full_opening_alone(rt: HostRuntime) {
+    let mut bytes = TABLE;
+    bytes[IDENTITY] ^= 1;
+    // The set of a single table has the same.
+    bytes[IDENTITY + 16] ^= 1;
+    same(
+        &rt,
+        Frozen::open(&bytes).err(),
+        Some(FrozenError::OtherIdentity),
+    );
+    finds(&rt, &trusted(&rt, &bytes), &SYMBOLS);
+    bytes[IDENTITY] ^= 1;
+    same(
+        &rt,
+        TrustedFrozen::open(&bytes).err(),
+        Some(FrozenError::OtherIdentity),
+    );
+}
+
+// The table of the three strings at a place.
+fn table_at(rt: &impl Abort, alloc: Global, set: SetId, shards: u32, shard: u32) -> Vec<u8> {
+    let strings = [b"abc".as_slice(), b"".as_slice(), b"xy".as_slice()];
+    let place = Place { set, shards, shard };
+    let keys = Some((1, 2));
+    assert!(rt; shard < shards);
+    let bytes = freeze_at(alloc, &strings.as_slice(), Kind::Bytes, keys, place);
+    bytes.expect(rt, "not frozen")
+}
+
+#[test]
+fn a_table_is_frozen_at_its_place(rt: HostRuntime) {
+    let set = SetId { hash0: 3, hash1: 4 };
+    let bytes = table_at(&rt, rt.alloc(), set, 3, 2);
+    let header = Header::read(&bytes).expect(&rt, "no header");
+    let place = Place {
+        set,
+        shards: 3,
+        shard: 2,
+    };
+    holds(&rt, header.place == place);
+    holds(&rt, Frozen::open(&bytes).is_ok());
+    let other = table_at(&rt, rt.alloc(), SetId { hash0: 5, hash1: 6 }, 3, 2);
+    holds(&rt, bytes.get(64..80) != other.get(64..80));
+    same(&rt, bytes.get(..64), other.get(..64));
+    same(&rt, bytes.get(80..), other.get(80..));
+    // The set of a single table is what its strings are.
+    same(
+        &rt,
+        table_at(&rt, rt.alloc(), set, 1, 0).as_slice(),
+        TABLE.as_slice(),
+    );
+}
+
+// Of texts: `abc` and the empty string, and `xy`.
+const IDS: [DictionaryId; 2] = [
+    DictionaryId {
+        is_text: true,
+        count: 2,
+        hash0: 0x9846_1d62_f14c_51c1,
+        hash1: 0x6c07_1142_5dbf_cd12,
+    },
+    DictionaryId {
+        is_text: true,
+        count: 1,
+        hash0: 0x69db_d8cb_a994_3bcb,
+        hash1: 0xc7a0_97aa_a459_b7db,
+    },
+];
+
+// As the SipHash of `checks/formats.py` computes them.
+#[test]
+fn the_set_of_shards_is_what_the_format_says(rt: HostRuntime) {
+    let shards = SetId {
+        hash0: 0x89b1_f894_1f42_7dbc,
+        hash1: 0xbf3e_b348_2575_0069,
+    };
+    holds(&rt, SetId::of_shards(&IDS) == shards);
+    let sets = [shards, SetId { hash0: 1, hash1: 2 }];
+    let merged = SetId {
+        hash0: 0xe96c_2137_3ccd_54a7,
+        hash1: 0xc89e_62c8_42a8_f927,
+    };
+    holds(&rt, SetId::of_merge(2, &sets) == merged);
 }

@@ -1,4 +1,4 @@
-//! What `split` and `Shards` do with strings of a list: each is in its shard,
+//! What `split_with_map` and `Shards` do with strings of a list: each is in its shard,
 //! and is found at its number in all.
 use super::assertions::{holds, same};
 use super::tables::packed_of;
@@ -6,7 +6,7 @@ use intaglio::packed::bytes::{BytesKind, SymbolTable};
 use intaglio_core::Symbol;
 use intaglio_frozen::{Frozen, Kind, StringList, freeze};
 use intaglio_hash::FixedState;
-use intaglio_merge::{Shards, ShardsError, shard_of, split, split_map};
+use intaglio_merge::{Shards, ShardsError, shard_of, split_with_map};
 use std::alloc::Global;
 use std::process::Abort;
 
@@ -35,7 +35,9 @@ fn numbers(rt: &impl Abort, alloc: Global) -> SymbolTable {
 // The frozen tables of the shards of a list.
 fn frozen_shards<L: StringList>(rt: &impl Abort, alloc: Global, list: &L) -> Vec<Vec<u8>> {
     let mut blocks = Vec::new(alloc);
-    for shard in split(alloc, list, COUNT).expect(rt, "memory") {
+    assert!(rt; list.len() == 50);
+    let (shards, _map) = split_with_map(alloc, list, COUNT).expect(rt, "memory");
+    for shard in shards {
         let block = freeze(alloc, &shard, Kind::Bytes, 1, 2).expect(rt, "a frozen table");
         blocks.push(block).expect(rt, "memory");
     }
@@ -90,7 +92,7 @@ fn the_map_of_a_split_leads_to_the_strings(rt: HostRuntime) {
 // Asserts that the map leads to each of the 50 strings of a list.
 fn leads_to_each<L: StringList>(rt: &impl Abort, alloc: Global, shards: &Shards<'_>, list: &L) {
     assert!(rt; list.len() == 50);
-    let map = split_map(alloc, list, COUNT).expect(rt, "memory");
+    let (_shards, map) = split_with_map(alloc, list, COUNT).expect(rt, "memory");
     same(rt, map.len(), 50);
     for i in 0..list.len() {
         let symbol = map.get(i).copied().expect(rt, "a symbol");
