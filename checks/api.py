@@ -4,7 +4,8 @@ and for each promise of docs/PROMISES.md its mutants and tests (evidence.md).
 
     checks/api.py [NAME]    (as ./intaglio doc does)
 
-A call has its signature, the first paragraph of its documentation, what it requires, its errors, and the names of its clauses.
+A library's page goes through its files. A type or a call has its declaration, the first paragraph of its documentation, what it
+requires, its errors, and the names of its clauses, which stand below it in the source.
 Prints where the pages are, or with a NAME one of them: that of a library such as `intaglio`, `files`, `evidence`, or the part of
 `evidence` on one promise, by its name in PROMISES.
 """
@@ -21,212 +22,122 @@ import sources
 from sources import TOP, UNNAMED
 
 FOLDER = TOP / "out/doc"
-WIDTH = 118
-MEANS = (
-    "Each call has its signature, the first paragraph of its documentation, what it requires, its errors, and the names of its"
-    " clauses, which stand below its signature in the source. docs/CALLING.md has calls by task, and the clauses that callers"
-    " rely on."
-)
-# Libraries that are parts of a program, and crates of tests and examples, which no caller needs.
-# (The calls of `intaglio_c` are those of C: bindings/c/intaglio.h documents them.)
-LEFT_OUT = re.compile(
-    r"intaglio_dict_(io|columns|shards)|intaglio_c|test_support|refused_allocations|bench|\w+_tests|example_\w+"
-)
-
-
-def documentation(lines, at):
-    """The lines of documentation above the item at a line, without their marks."""
-    found: list[str] = []
-    while at > 0 and re.match(r"\s*(///|//|#\[)", lines[at - 1]):
-        at -= 1
-        if line := re.match(r"\s*/// ?(.*)", lines[at]):
-            found.insert(0, line[1])
-    return found
-
-
-def paragraphs(lines):
-    """The paragraphs of documentation by their headings: '' for those before the first heading. Examples are left out."""
-    found, heading, is_code = {"": [""]}, "", False
-    for line in lines:
-        if line.startswith("```"):
-            is_code = not is_code
-        elif not is_code:
-            if line.startswith("# "):
-                heading = line[2:]
-                found[heading] = [""]
-            elif not line.strip():
-                found[heading].append("")
-            else:
-                found[heading][-1] += (" " if found[heading][-1] else "") + line.strip()
-    return {name: [it for it in parts if it] for name, parts in found.items()}
-
-
-def plain(text):
-    """A text of documentation, with its links as the names that they lead to."""
-    text = re.sub(r"\[(`[^`]+`)\]\([^)]*\)", r"\1", text)
-    text = re.sub(r"\[([^\]`]+)\]\(crate[^)]*\)", r"\1", text)
-    return re.sub(r"\[(`[^`]+`)\]", r"\1", text)
+# Crates of tests and examples, which no caller needs, and `intaglio_c`, whose calls bindings/c/intaglio.h documents.
+LEFT_OUT = re.compile(r"intaglio_c|test_support|refused_allocations|bench|tests|\w+_tests|example_\w+")
+# Links in documentation, as the names that lead somewhere.
+LINK = re.compile(r"\[(`[^`]+`|[^\]`]+)\](?:\([^)]*\))?")
 
 
 def wrapped(text, first="", rest=""):
-    # (a name in back quotes stays on one line; a signature that is too long for one is cut after its arguments)
-    def whole(found):
-        return re.sub(r" " if len(rest + found[0]) <= WIDTH else r"(?<!,) (?!->)", "\0", found[0])
-
-    kept = re.sub(r"`[^`]+`", whole, text)
-    lines = textwrap.fill(
-        kept, WIDTH, initial_indent=first, subsequent_indent=rest, break_long_words=False, break_on_hyphens=False
-    )
-    return lines.replace("\0", " ")
+    text = LINK.sub(r"\1", text)
+    return textwrap.fill(text, 118, initial_indent=first, subsequent_indent=rest, break_long_words=False, break_on_hyphens=False)
 
 
-def condition(clause):
-    """What a clause says, on one line."""
-    return re.sub(r"\s+", " ", clause.partition("{")[2].rpartition("}")[0]).strip()
+def paragraphs(lines):
+    """The first paragraph of documentation, and those on errors. Examples are left out."""
+    text = re.sub(r"(?ms)^```.*?^```$", "", "\n".join(re.sub(r"^\s*//[/!] ?", "", it) for it in lines))
+    errors = re.findall(r"(?ms)^# Errors$(.*?)(?=^# |\Z)", text)
+    return [it for it in (re.split(r"\n\n|\A# |\n# ", text)[0], *(f"Errors: {it}" for it in errors)) if it.strip()]
+
+
+def above(lines, at):
+    """What the documentation above a line says."""
+    start = at
+    while start and re.match(r"\s*(//|#\[)", lines[start - 1]):
+        start -= 1
+    return paragraphs([it for it in lines[start:at] if it.lstrip().startswith("///")])
 
 
 def signature(function):
+    """The function's owner and its declaration."""
     end = interface.END.search(function.text)
-    return interface.joined(function.text[: end.start()] if end else function.text).removeprefix("pub ")
+    text = interface.joined(function.text[: end.start()] if end else function.text).removeprefix("pub ")
+    owner = f"{function.trait} for {function.owner}" if function.trait not in ("", function.owner) else function.owner
+    return f"`{owner}`: `{text}`" if owner else f"`{text}`"
 
 
-class Call:
-    """A public call: its owner and trait, its signature, what its documentation and its contract say."""
-
-    def __init__(self, every, function):
-        lines = (TOP / function.file).read_text(encoding="utf-8").splitlines()
-        at = next(i for i in range(function.line - 1, len(lines)) if sources.FN.match(lines[i]))
-        said = paragraphs(documentation(lines, at))
-        self.owner, self.trait, self.name = function.owner, function.trait, function.name
-        self.signature = signature(function)
-        self.does = plain(said[""][0]) if said[""] else ""
-        self.errors = " ".join(plain(it) for it in said.get("Errors", []))
-        named = {name: text.split()[0].rstrip("*") for name, text in function.clauses.items()}
-        self.requires = [condition(text) for name, text in function.clauses.items() if named[name] == "requires"]
-        self.clauses = [name for name, word in named.items() if word == "ensures"]
-        own = every.members.get((function.crate, function.owner, function.trait), {})
-        self.clauses += (
-            [name for name in own if name.startswith(function.name) or name.endswith("_gives")] if function.trait else []
-        )
-
-    def page(self):
-        yield wrapped(f"`{self.signature}`", "- ", "  ")
-        if self.does:
-            yield wrapped(self.does, "  ", "  ")
-        if self.requires:
-            yield wrapped("Requires " + "; ".join(f"`{it}`" for it in self.requires) + ".", "  ", "  ")
-        if self.errors:
-            yield wrapped(f"Errors: {self.errors}", "  ", "  ")
-        if self.clauses and self.clauses != [UNNAMED]:
-            yield wrapped("Clauses: " + ", ".join(f"`{it}`" for it in self.clauses if it != UNNAMED) + ".", "  ", "  ")
+def of_contract(every, function):
+    """What a call requires, and the names of its clauses."""
+    named = {name: text.split()[0].rstrip("*") for name, text in function.clauses.items()}
+    for name, text in function.clauses.items():
+        if named[name] == "requires":
+            yield "Requires `" + re.sub(r"\s+", " ", text.partition("{")[2].rpartition("}")[0]).strip() + "`."
+    own = every.members.get((function.crate, function.owner, function.trait), {}) if function.trait else {}
+    clauses = [name for name in named if named[name] == "ensures" and name != UNNAMED]
+    clauses += [name for name in own if name.startswith(function.name) or name.endswith("_gives")]
+    if clauses:
+        yield f"Clauses: {', '.join(f'`{it}`' for it in clauses)}."
 
 
-def module(crate, path):
-    """The public modules in which a file of a crate is, as a prefix of the names in it."""
-    found, at = "", TOP / "crates" / crate / "src"
-    text = (at / "lib.rt").read_text(encoding="utf-8")
-    for part in path.relative_to(at).with_suffix("").parts:
-        if part not in interface.MODULE.findall(text):
-            break
-        found, at = f"{found}{part}::", at / part
-        text = at.with_suffix(".rt").read_text(encoding="utf-8")
-    return found
+def of_file(every, calls, path):
+    """The public types and calls of a file, in the order of the source."""
+    text = path.read_text(encoding="utf-8")
+    lines, found = text.splitlines(), []
+    for it in interface.TYPE.finditer(text):
+        at = text[: it.start()].count("\n")
+        found.append((at, f"`{interface.joined(it[2]).removeprefix('pub ')}`", above(lines, at)))
+    for call in calls:
+        if TOP / call.file == path:
+            found.append((call.line, signature(call), [*above(lines, call.line - 1), *of_contract(every, call)]))
+    for _, head, said in sorted(found, key=lambda it: it[0]):
+        yield wrapped(head, "- ", "  ")
+        yield from (wrapped(it, "  ", "  ") for it in said)
 
 
-def types_of(crate):
-    """The public types, traits and constants of a crate, each with its documentation."""
-    for path in sorted((TOP / "crates" / crate / "src").glob("**/*.rt")):
-        text = path.read_text(encoding="utf-8")
-        lines = text.splitlines()
-        for found in interface.TYPE.finditer(text):
-            start = text[: found.start(2)].count("\n")
-            said = paragraphs(documentation(lines, start - found[1].count("\n")))[""]
-            name = re.findall(r"^pub \w+ (\w+)", found[2])[0]
-            yield name, module(crate, path), interface.joined(found[2]).removeprefix("pub "), plain(said[0]) if said else ""
-
-
-def about(crate):
-    """What the crate's first lines say of it."""
-    return about_file(TOP / "crates" / crate / "src/lib.rt")
-
-
-def about_file(path):
+def about(path):
     """What a file's first lines say of it."""
-    said = paragraphs(re.findall(r"(?m)^//! ?(.*)$", path.read_text(encoding="utf-8")))[""]
-    return plain(said[0]) if said else ""
+    return " ".join(paragraphs(re.findall(r"(?m)^//! ?(.*)$", path.read_text(encoding="utf-8")))[:1])
 
 
-def heading(owner, trait, place):
-    return f"`{trait}` for `{owner}`" if trait not in ("", owner) else f"`{place}{owner}`" if owner else "Functions"
+def sources_of(crate):
+    """The crate's root, and its other files."""
+    files = sorted((TOP / "crates" / crate / "src").glob("**/*.rt"))
+    return sorted(files, key=lambda it: it.name not in ("lib.rt", "main.rt") or it.parent.name != "src")
 
 
 def page_of(every, crate):
-    """The page of a crate: what belongs to no type, then each type with its calls, then the impls of traits."""
-    calls = [Call(every, it) for it in every.functions if it.crate == crate and not it.is_test and every.is_public(it)]
-    yield f"# `{crate}`\n\n{wrapped(about(crate))}\n"
-    groups: dict[tuple[str, str, str], list[Call]] = {("", "", ""): []}
-    declared = {}
-    for name, place, head, said in types_of(crate):
-        declared[name, "", place] = head, said
-        groups[name, "", place] = []
-    for call in calls:
-        trait = call.trait if call.trait != call.owner else ""
-        place = next((it for name, of, it in declared if (name, of) == (call.owner, trait)), "")
-        groups.setdefault((call.owner, trait, place), []).append(call)
-    # (what the crate itself has comes before what its modules have)
-    for key, own in sorted(groups.items(), key=lambda it: bool(it[0][2])):
-        if not own and key not in declared:
-            continue
-        yield f"## {heading(*key)}\n"
-        if key in declared:
-            head, said = declared[key]
-            yield wrapped(f"`{head}`") + "\n"
-            if said:
-                yield wrapped(said) + "\n"
-        if own:
-            yield "\n".join(line for call in own for line in call.page()) + "\n"
+    """The page of a library."""
+    calls = [it for it in every.functions if it.crate == crate and not it.is_test and every.is_public(it)]
+    root = sources_of(crate)[0]
+    yield f"# `{crate}`\n\n{wrapped(about(root))}\n"
+    for path in sources_of(crate):
+        if items := [*of_file(every, calls, path)]:
+            name = "" if path == root else f"## {path.relative_to(root.parent)}\n\n{wrapped(about(path))}\n\n"
+            yield name + "\n".join(items) + "\n"
 
 
 def files():
     """The page of all files: what is in each, crate by crate, as crates.txt has them."""
     yield "# Files\n\nEach file of sources with what its first lines say, from the lowest crate to the highest.\n"
     for crate in re.findall(r"(?m)^(\w+)", (TOP / "crates.txt").read_text(encoding="utf-8")):
-        at = TOP / "crates" / crate / "src"
-        root = next(it for it in (at / "lib.rt", at / "main.rt") if it.is_file())
-        yield f"## `{crate}`\n\n{wrapped(about_file(root))}\n"
-        named = [it for it in sorted(at.glob("**/*.rt")) if it != root]
-        if named:
-            yield "\n".join(wrapped(f"`{it.relative_to(at)}`: {about_file(it)}", "- ", "  ") for it in named) + "\n"
+        root, *others = sources_of(crate)
+        yield f"## `{crate}`\n\n{wrapped(about(root))}\n"
+        yield "\n".join(wrapped(f"`{it.relative_to(root.parent)}`: {about(it)}", "- ", "  ") for it in others) + "\n"
 
 
 def pages():
-    """Each page by its name."""
+    """The parts of each page by its name, and what is said of each promise."""
     every = sources.Sources()
-    crates = [
-        it.name for it in sorted((TOP / "crates").iterdir()) if (it / "src/lib.rt").is_file() and not LEFT_OUT.fullmatch(it.name)
-    ]
-    rows = [wrapped(f"[`{crate}`]({crate}.md): {about(crate)}", "- ", "  ") for crate in crates]
-    calls = {crate: page_of(every, crate) for crate in crates}
-    return {
-        "README": ["# Public calls\n", wrapped(MEANS) + "\n", *rows], "files": files(), "evidence": evidence.page(every), **calls,
-    }
+    every_library = sorted(it.parents[1].name for it in TOP.glob("crates/*/src/lib.rt"))
+    promises = dict(evidence.pages(every))
+    first = {"files": files(), "evidence": [evidence.HEAD, *promises.values()]}
+    return first | {it: page_of(every, it) for it in every_library if not LEFT_OUT.fullmatch(it)}, promises
 
 
 def main():
     parser = arguments.parser(__doc__)
     parser.add_argument("name", metavar="NAME", nargs="?")
-    name, every = parser.parse_args().name, pages()
+    name, (every, promises) = parser.parse_args().name, pages()
+    texts = {page: "\n".join(parts).rstrip() + "\n" for page, parts in every.items()}
     FOLDER.mkdir(parents=True, exist_ok=True)
-    for page, parts in every.items():
-        (FOLDER / f"{page}.md").write_text("\n".join(parts).rstrip() + "\n", encoding="utf-8")
+    for page, text in texts.items():
+        (FOLDER / f"{page}.md").write_text(text, encoding="utf-8")
     if not name:
-        print(f"{FOLDER}: README.md has the libraries, files.md what is in each file, evidence.md the mutants and tests")
-    elif name in every:
-        print((FOLDER / f"{name}.md").read_text(encoding="utf-8"), end="")
-    elif part := evidence.part((FOLDER / "evidence.md").read_text(encoding="utf-8"), name):
-        print(part, end="")
+        print(f"{FOLDER} has the pages {' '.join(texts)}")
+    elif not (found := texts.get(name) or promises.get(name)):
+        sys.exit(f"there is no page and no promise {name}: {' '.join(texts)}")
     else:
-        sys.exit(f"there is no page and no promise {name}: {' '.join(every)}")
+        print(found, end="")
 
 
 if __name__ == "__main__":

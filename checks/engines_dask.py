@@ -1,16 +1,12 @@
 """A Dask cluster of separate processes on this machine, for `engines`, with a worker that is killed while it encodes."""
 import functools
 import os
-import shutil
 import signal
-import subprocess
 
-from engines_daemons import Daemons
-from engines_slurm import free_ports
+import packages
+from engines_daemons import Daemons, free_port
 
 WORKERS = 4
-# One that isn't that of Debian's packages may be first on the PATH.
-PYTHONS = ("python3", "/usr/bin/python3")
 # What a worker is started with that is to be lost: it kills itself when it has encoded a part and begins to encode another.
 KILLED = """import os, signal
 from distributed import WorkerPlugin
@@ -32,18 +28,12 @@ async def dask_setup(worker):
 
 @functools.lru_cache(maxsize=None)
 def python():
-    """The interpreter that has dask.distributed, or nothing."""
-    is_there = (
-        "import sys; from importlib.util import find_spec; sys.exit(not all(map(find_spec, ('dask', 'distributed', 'fsspec'))))"
-    )
-    for name in PYTHONS:
-        if shutil.which(name) and not subprocess.run([name, "-c", is_there], capture_output=True).returncode:
-            return name
-    return None
+    """The interpreter that has dask.distributed and pip, or nothing."""
+    return packages.python("dask", "distributed", "fsspec", "pip")
 
 
 class Dask(Daemons):
-    """A scheduler and four workers of one thread each, which find the Python module in `site`."""
+    """A scheduler and workers of one thread each, which find the Python module in `site`."""
 
     def __init__(self, folder, site):
         folder.mkdir()
@@ -52,27 +42,19 @@ class Dask(Daemons):
         of_dask = {"DASK_CONFIG": str(folder), "DASK_DISTRIBUTED__SCHEDULER__WORK_STEALING": "False"}
         of_python = {"PYTHONPATH": str(site), "PYTHONDONTWRITEBYTECODE": "1", "HOME": str(folder)}
         super().__init__(folder, {**os.environ, **of_python, **of_dask})
-        [port] = free_ports(1)
-        self.python, self.address, self.count = python(), f"tcp://127.0.0.1:{port}", 0
+        self.python, self.port, self.count = python(), free_port(), 0
+        self.address = f"tcp://127.0.0.1:{self.port}"
         (self.folder / "killed.py").write_text(KILLED)
 
-    def __enter__(self):
-        try:
-            port = self.address.rpartition(":")[2]
-            self.start_module("scheduler", "dask_scheduler", "--port", port)
-            # (workers wait for it)
-            for _ in range(WORKERS - 1):
-                self.start_worker()
-        except BaseException:
-            self.__exit__()
-            raise
-        return self
+    def start_all(self):
+        """Starts all but the worker that is to be lost. (Workers wait for the scheduler.)"""
+        self.start_module("scheduler", "dask_scheduler", "--port", self.port)
+        for _ in range(WORKERS - 1):
+            self.start_worker()
 
     def start_module(self, name, module, *flags):
-        return self.start(
-            name, self.python, "-m", f"distributed.cli.{module}", "--host", "127.0.0.1", "--no-dashboard", "--dashboard-address",
-            "127.0.0.1:0", *flags,
-        )
+        here = ("--host", "127.0.0.1", "--no-dashboard", "--dashboard-address", "127.0.0.1:0")
+        self.start(name, self.python, "-m", f"distributed.cli.{module}", *here, *flags)
 
     def start_worker(self, *flags):
         """Starts a worker, and returns its name."""
@@ -90,8 +72,4 @@ class Dask(Daemons):
 
     def lost(self, name):
         """Whether this worker was killed, which then isn't one of the programs that stay."""
-        it = self.running[name]
-        if it.poll() != -signal.SIGKILL:
-            return False
-        del self.running[name]
-        return True
+        return self.running[name].poll() == -signal.SIGKILL and bool(self.running.pop(name))

@@ -1,11 +1,13 @@
 """A Slurm of four nodes on this machine, for `engines`: what starts it, and what is in its queue."""
+import contextlib
 import os
 import pwd
+import re
 import shutil
 import socket
 import subprocess
 
-from engines_daemons import Daemons, Failed, waited
+from engines_daemons import Daemons, Failed, free_port, waited
 
 NODES, CPUS = 4, 8
 PROGRAMS = ("munged", "munge", "slurmctld", "slurmd", "sbatch", "squeue", "scancel", "sinfo")
@@ -47,23 +49,9 @@ def missing():
     try:
         address = socket.gethostbyname(socket.gethostname())
     except OSError:
-        return f"the machine's name, {socket.gethostname()}, leads to no address"
-    return (
-        None
-        if address.startswith("127.")
-        else f"the machine's name, {socket.gethostname()}, leads to {address}, not to 127.0.0.1"
-    )
-
-
-def free_ports(count):
-    """Ports of 127.0.0.1 that nothing listens at."""
-    held = [socket.socket() for _ in range(count)]
-    for it in held:
-        it.bind(("127.0.0.1", 0))
-    ports = [it.getsockname()[1] for it in held]
-    for it in held:
-        it.close()
-    return ports
+        address = "no address"
+    is_here = address.startswith("127.")
+    return None if is_here else f"the machine's name, {socket.gethostname()}, leads to {address}, not to 127.0.0.1"
 
 
 class Slurm(Daemons):
@@ -71,29 +59,18 @@ class Slurm(Daemons):
 
     def __init__(self, folder):
         super().__init__(folder, {**os.environ, "PATH": PATH, "SLURM_CONF": f"{folder}/slurm.conf"})
-        address, (port, *ports) = socket.gethostbyname(socket.gethostname()), free_ports(1 + NODES)
-        self.names = [f"node{number}" for number, _ in enumerate(ports)]
+        address = socket.gethostbyname(socket.gethostname())
+        self.names = [f"node{number}" for number in range(NODES)]
         nodes = (
-            f"NodeName={name} NodeHostname=localhost NodeAddr={address} Port={it} CPUs={CPUS} State=UNKNOWN\n"
-            for name, it in zip(self.names, ports)
+            f"NodeName={name} NodeHostname=localhost NodeAddr={address} Port={free_port()} CPUs={CPUS} State=UNKNOWN\n"
+            for name in self.names
         )
-        text = (
-            CONFIGURATION.replace("ADDRESS", address)
-            .replace("PORT", str(port))
-            .replace("USER", pwd.getpwuid(os.getuid()).pw_name)
-        )
+        values = {"ADDRESS": address, "PORT": str(free_port()), "USER": pwd.getpwuid(os.getuid()).pw_name, "FOLDER": str(folder)}
+        text = re.sub("|".join(values), lambda it: values[it[0]], CONFIGURATION)
         (self.folder / "state").mkdir()
-        (self.folder / "slurm.conf").write_text("".join(nodes) + text.replace("FOLDER", str(folder)))
+        (self.folder / "slurm.conf").write_text("".join(nodes) + text)
         (self.folder / "munge.key").write_bytes(os.urandom(1024))
         (self.folder / "munge.key").chmod(0o600)
-
-    def __enter__(self):
-        try:
-            self.start_all()
-        except BaseException:
-            super().__exit__()
-            raise
-        return self
 
     def start_all(self):
         files = {"key": "munge.key", "socket": "munge.socket", "pid": "munged.pid", "log": "munged.log", "seed": "munged.seed"}
@@ -112,10 +89,8 @@ class Slurm(Daemons):
     def __exit__(self, *how):
         """Cancels all jobs, and ends the daemons when their queue is empty."""
         self.succeeds("scancel", "--full", f"--user={pwd.getpwuid(os.getuid()).pw_name}")
-        try:
+        with contextlib.suppress(Failed):
             waited(lambda: not self.queue(), "the queue is empty", 20)
-        except Failed:
-            pass
         super().__exit__(*how)
 
     def asked(self, *command):

@@ -1,5 +1,5 @@
-"""Readers and writers of all files: frozen tables, columns, plain codes, and folders of shards. They are written from
-docs/FROZEN.md and docs/COLUMN-FILES.md alone: nothing of the library is used.
+"""Readers and writers of all files: dictionaries, which are frozen tables or folders of these, columns, of which maps are some,
+and plain codes. They are written from docs/FORMATS.md alone: nothing of the library is used.
 
     checks/formats.py FILE..      prints what is wrong with each file that is no frozen table, or begins as a column and is none
 """
@@ -20,13 +20,15 @@ import arguments
 BYTES, TEXT = 0, 1
 KINDS = ("bytes", "text")
 MAX_COUNT = 2**31
-TABLE_MAGIC, TABLE_VERSION = b"INTAGLIO", 1
-TABLE_HEADER = struct.Struct("<8sIIQQQ24s")
+TABLE_MAGIC, TABLE_VERSION = b"INTAGLIO", 2
+TABLE_HEADER = struct.Struct("<8sIIQQQQ16s16sII40s")
 NO_SYMBOL, MAX_PILOT = 2**32 - 1, 2**16 - 1
 ATTEMPTS = 8
 WORD = 2**64 - 1
-COLUMN_MAGIC, COLUMN_VERSION = bytes.fromhex("494e5489434f4c0a"), 1
-COLUMN_HEADER = struct.Struct("<8sIIQQQQI12s")
+COLUMN_MAGIC, COLUMN_VERSION = bytes.fromhex("494e5489434f4c0a"), 2
+COLUMN_HEADER = struct.Struct("<8sIIQQQQIIQIIQQI36s")
+# Where its checksum is.
+CHECKSUM = slice(56, 64)
 # The missing code, of four bytes.
 MISSING = 2**32 - 1
 CODES = {1: "B", 2: "H", 4: "I"}
@@ -87,6 +89,23 @@ class Sections:
         self.text = self.tags + self.places
 
 
+class Header(NamedTuple):
+    """What the header of a table says. Its own identity and that of its set have sixteen bytes."""
+
+    magic: bytes
+    version: int
+    kind: int
+    key0: int
+    key1: int
+    strings: int
+    length: int
+    own: bytes
+    set: bytes
+    shards: int
+    shard: int
+    reserved: bytes
+
+
 class Frozen:
     """A table over its bytes. A trusted one is read by its header alone."""
 
@@ -94,7 +113,8 @@ class Frozen:
         if not is_trusted and (faults := table_faults(data)):
             raise Damaged(*faults)
         self.data = data
-        _, _, self.kind, self.key0, self.key1, count, _ = TABLE_HEADER.unpack_from(data)
+        self.header = header = Header._make(TABLE_HEADER.unpack_from(data))
+        self.kind, self.key0, self.key1, count = header.kind, header.key0, header.key1, header.strings
         self.sections = at = Sections(count)
         self.symbols = struct.unpack_from(f"<{at.places}I", data, at.symbols)
         self.ends = struct.unpack_from(f"<{count}I", data, at.ends)
@@ -126,15 +146,18 @@ class Frozen:
 def table_header_faults(data):
     """What is wrong with the header, and whether what follows it can be read."""
     faults = ["magic"] * (data[:8] != TABLE_MAGIC)
+    if len(data) >= 12 and (version := int.from_bytes(data[8:12], "little")) != TABLE_VERSION:
+        faults.append("old version" if version == 1 else "version")
     if len(data) < TABLE_HEADER.size:
         return [*faults, "truncated"], False
-    _, version, kind, _, _, count, reserved = TABLE_HEADER.unpack_from(data)
-    faults += ["version"] * (version != TABLE_VERSION) + ["kind"] * (kind > TEXT) + ["reserved"] * any(reserved)
-    if count > MAX_COUNT:
+    header = Header._make(TABLE_HEADER.unpack_from(data))
+    faults += ["kind"] * (header.kind > TEXT) + ["reserved"] * any(header.reserved) + ["shard"] * (header.shard >= header.shards)
+    faults += ["identity"] * (header.shards == 1 and header.set != header.own)
+    if header.strings > MAX_COUNT:
         return [*faults, "too many"], False
-    if len(data) < Sections(count).text:
-        return [*faults, "truncated"], False
-    return faults, True
+    size = Sections(header.strings).text + header.length
+    faults += ["truncated"] * (len(data) < size) + ["too long"] * (len(data) > size)
+    return faults, len(data) == size
 
 
 def table_faults(data):
@@ -152,7 +175,7 @@ def table_faults(data):
     faults += [f"not found: {symbol}" for symbol, string in enumerate(table) if table.find(string) != symbol]
     if table.kind == TEXT:
         faults += [f"not UTF-8: {symbol}" for symbol, string in enumerate(table) if not is_text(string)]
-    return faults
+    return faults + ["identity"] * (table.header.own != identity_of([*table], table.kind))
 
 
 def is_text(string):
@@ -213,31 +236,39 @@ def freeze(strings, kind=BYTES, key0=None, key1=0):
 
 
 def rebuilt(table):
-    """The bytes of a table, from its kind, keys, strings and pilots alone."""
+    """The bytes of a table, from its kind, keys, strings, pilots and place in its set alone."""
     at = table.sections
     symbols, tags = [NO_SYMBOL] * at.places, bytearray(at.places)
     for symbol, string in enumerate(table):
         number = sip_hash(table.key0, table.key1, string)
         place = scaled(at.places, mixed(number, table.pilots[scaled(at.groups, number)]))
         symbols[place], tags[place] = symbol, number % 256
-    return assembled([*table], table.kind, table.key0, table.key1, symbols, tags, table.pilots)
+    place = {name: getattr(table.header, name) for name in ("set", "shards", "shard")}
+    return assembled([*table], table.kind, table.key0, table.key1, symbols, tags, table.pilots, **place)
 
 
-def assembled(strings, kind, key0, key1, symbols, tags, pilots):
-    """The bytes of all sections."""
+def assembled(strings, kind, key0, key1, symbols, tags, pilots, **place):
+    """The bytes of the header and of all sections, of the only table of a set if no place is given."""
     ends = [*itertools.accumulate(map(len, strings))]
-    header = TABLE_HEADER.pack(TABLE_MAGIC, TABLE_VERSION, kind, key0, key1, len(strings), bytes(24))
+    own = identity_of(strings, kind)
+    length = sum(map(len, strings))
+    header = Header(TABLE_MAGIC, TABLE_VERSION, kind, key0, key1, len(strings), length, own, own, 1, 0, bytes(40))
     numbers = struct.pack(f"<{len(symbols)}I{len(ends)}I{len(pilots)}H", *symbols, *ends, *pilots)
-    return b"".join([header, numbers, tags, *strings])
+    return b"".join([TABLE_HEADER.pack(*header._replace(**place)), numbers, tags, *strings])
 
 
 class Id(NamedTuple):
-    """What a dictionary is."""
+    """What a dictionary is. The hashes are those of its set, and of a dictionary in one file those of its strings."""
 
     kind: int
     strings: int
     hash0: int
     hash1: int
+
+
+def identity_of(strings, kind):
+    """The two hashes in the header of a table of these strings."""
+    return struct.pack("<QQ", *id_of_strings(strings, kind)[2:])
 
 
 def id_of(table):
@@ -247,7 +278,7 @@ def id_of(table):
 
 
 def id_of_strings(strings, kind):
-    """That of a dictionary with these strings in this order, such as the shards of a folder have, one after the other."""
+    """That of a dictionary in one file with these strings in this order, and the own one of a shard with them."""
     ends = (end % 2**32 for end in itertools.accumulate(map(len, strings)))
     hashed = struct.pack(f"<{len(strings)}I", *ends) + b"".join(strings)
     return Id(kind, len(strings), *(sip_hash(kind, key, hashed) for key in (0, 1)))
@@ -261,20 +292,57 @@ def width_for(count):
     return 1 if count <= 255 else 2 if count <= 65_535 else 4
 
 
-def column(dictionary, codes):
-    """The bytes of a column of these codes under the dictionary with this id."""
+class Source(NamedTuple):
+    """From which dictionary the rows of a map come. The default is that of lines."""
+
+    shards: int = 0
+    kind: int = 0
+    hash0: int = 0
+    hash1: int = 0
+    shard: int = 0
+
+
+def source_of(dictionary):
+    """That of a map from the dictionary in one file with this id."""
+    return Source(1, dictionary.kind, dictionary.hash0, dictionary.hash1)
+
+
+def column(dictionary, codes, source=Source(), shards=1):
+    """The bytes of a column of these codes under the dictionary with this id, whose rows come from this source."""
     kind, count, hash0, hash1 = dictionary
     width = width_for(count)
     greatest = 2 ** (8 * width) - 1
-    header = (COLUMN_MAGIC, COLUMN_VERSION, kind, hash0, hash1, count, len(codes), width, bytes(12))
+    to = (COLUMN_MAGIC, COLUMN_VERSION, kind, hash0, hash1, count, len(codes), width, shards)
     narrowed = (greatest if it == MISSING else it for it in codes)
-    return COLUMN_HEADER.pack(*header) + struct.pack(f"<{len(codes)}{CODES[width]}", *narrowed)
+    header = COLUMN_HEADER.pack(*to, 0, *source, bytes(36))
+    return sealed(header + struct.pack(f"<{len(codes)}{CODES[width]}", *narrowed))
+
+
+def column_checksum(data):
+    """The checksum of the codes, and then of the header with zeros in place of the checksum."""
+    header = data[: CHECKSUM.start] + bytes(8) + data[CHECKSUM.stop : COLUMN_HEADER.size]
+    return sip_hash(4, 0, data[COLUMN_HEADER.size :] + header)
+
+
+def sealed(data):
+    """The bytes of a column with their checksum."""
+    return data[: CHECKSUM.start] + column_checksum(data).to_bytes(8, "little") + data[CHECKSUM.stop :]
 
 
 def read_column(data):
     """Of the bytes of a column the id of its dictionary, and the codes."""
-    _, _, kind, hash0, hash1, count, _, width, _ = COLUMN_HEADER.unpack_from(data)
+    _, _, kind, hash0, hash1, count, _, width, *_ = COLUMN_HEADER.unpack_from(data)
     return Id(kind, count, hash0, hash1), widened(data, width)
+
+
+def shards_of_column(data):
+    """How many shards the dictionary of a column has."""
+    return COLUMN_HEADER.unpack_from(data)[8]
+
+
+def read_source(data):
+    """From where the rows of a column come."""
+    return Source(*COLUMN_HEADER.unpack_from(data)[10:15])
 
 
 def widened(data, width):
@@ -290,14 +358,24 @@ def begins_as_column(data):
     return data[:4] == COLUMN_MAGIC[:4]
 
 
+def fits(source, shards):
+    """Whether a column of a dictionary with so many shards can have this source."""
+    if source.shards == 0:
+        return shards > 0 and not any(source)
+    return shards > 0 and source.kind <= TEXT and source.shard < source.shards and source.shards in (1, shards)
+
+
 def column_header_faults(data):
     """What is wrong with the header, and whether what follows it can be read."""
-    faults = ["magic"] * (data[:8] != COLUMN_MAGIC)
+    if len(data) < 12 or data[:8] != COLUMN_MAGIC:
+        return ["magic"], False
+    if (version := int.from_bytes(data[8:12], "little")) != COLUMN_VERSION:
+        return ["old version" if version == 1 else "version"], False
     if len(data) < COLUMN_HEADER.size:
-        return [*faults, "header"], False
-    _, version, kind, _, _, count, rows, width, reserved = COLUMN_HEADER.unpack_from(data)
-    faults += ["version"] * (version != COLUMN_VERSION) + ["kind"] * (kind > TEXT) + ["too many"] * (count > MAX_COUNT)
-    faults += ["width"] * (width != width_for(count)) + ["reserved"] * any(reserved)
+        return ["header"], False
+    _, _, kind, _, _, count, rows, width, shards, _, *_, reserved = COLUMN_HEADER.unpack_from(data)
+    faults = ["kind"] * (kind > TEXT) + ["too many"] * (count > MISSING) + ["width"] * (width != width_for(count))
+    faults += ["source"] * (not fits(read_source(data), shards)) + ["reserved"] * any(reserved)
     end = COLUMN_HEADER.size + width_for(count) * rows
     if len(data) != end:
         faults.append("truncated" if len(data) < end else "too long")
@@ -309,21 +387,24 @@ def column_faults(data):
     faults, is_whole = column_header_faults(data)
     if not is_whole:
         return faults
+    if column_checksum(data) != int.from_bytes(data[CHECKSUM], "little"):
+        faults.append("damaged")
     count = COLUMN_HEADER.unpack_from(data)[5]
-    codes = enumerate(widened(data, width_for(count)))
-    return faults + [f"no string: {row}" for row, code in codes if code >= count and code != MISSING]
+    codes = [*enumerate(widened(data, width_for(count)))]
+    faults += [f"no string: {row}" for row, code in codes if code >= count and code != MISSING]
+    return faults + [f"missing: {row}" for row, code in codes if code == MISSING and read_source(data).shards]
 
 
 # Plain codes, and lines.
 
 
 def packed(codes):
-    """The bytes of codes, or of a map."""
+    """The bytes of plain codes."""
     return struct.pack(f"<{len(codes)}I", *codes)
 
 
 def unpacked(data):
-    """The codes in a file, or the entries of a map."""
+    """The plain codes in a file."""
     if len(data) % 4:
         raise Damaged(len(data) // 4 + 1, "is cut short")
     return [code for (code,) in struct.iter_unpack("<I", data)]
@@ -369,7 +450,7 @@ def merged(dictionaries):
     return [*symbols], maps
 
 
-# Folders of shards.
+# Dictionaries of one shard or several, and maps.
 
 
 def shard_of(count, string):
@@ -384,79 +465,134 @@ def shards_of(strings, count):
     return shards
 
 
-def words_of(id):
-    """What an index says of a dictionary."""
-    return f"{KINDS[id.kind]} {id.strings:016x} {id.hash0:016x} {id.hash1:016x}"
+def hashes_of(tag, *numbers):
+    """The two hashes of numbers of eight bytes, under this key and 0 and 1."""
+    data = struct.pack(f"<{len(numbers)}Q", *numbers)
+    return sip_hash(tag, 0, data), sip_hash(tag, 1, data)
 
 
-def checksum_of(data, separator=" "):
-    """Two hashes of bytes, as the texts beside shards have them: of a map, or of the indexes of parts."""
-    return separator.join(f"{sip_hash(0, key, data):016x}" for key in (0, 1))
+def hashes_in(identity):
+    """The two hashes of an identity of sixteen bytes."""
+    hash0, hash1 = struct.unpack("<QQ", identity)
+    return hash0, hash1
 
 
-def index_of(ids):
-    """The index of shards."""
-    return "".join([f"intaglio shards 1 {len(ids):016x}\n", *(f"{words_of(it)}\n" for it in ids)]).encode()
+def set_of_shards(shards, kind):
+    """The set of a dictionary in shards with these strings, all of which one process made."""
+    ids = [id_of_strings(it, kind) for it in shards]
+    return ids[0][2:] if len(ids) == 1 else hashes_of(2, len(ids), kind, *itertools.chain(*(it[1:] for it in ids)))
 
 
-def ids_in(index):
-    """The shards that an index names, or none if it isn't one."""
-    try:
-        rows = map(str.split, index.decode("latin1").split("\n")[1:-1])
-        ids = [Id(KINDS.index(kind), *(int(it, 16) for it in words)) for kind, *words in rows]
-    except (ValueError, TypeError):
-        return None
-    return ids if index_of(ids) == index else None
+def set_of_merge(count, sets):
+    """That of a dictionary in so many shards, each of which was merged of parts with these sets, in this order."""
+    return hashes_of(3, count, len(sets), *itertools.chain(*sets))
 
 
-def line_of(number, indexes, table):
-    """What is written beside a shard that was merged of parts with these indexes."""
-    (count,) = {len(ids_in(it) or []) for it in indexes}
-    head = f"intaglio shard 1 {number:016x} {count:016x} {checksum_of(b''.join(indexes))} {len(table):016x}\n"
-    return f"{head}{words_of(id_of(table))}\n".encode()
+class Dictionary(NamedTuple):
+    """A dictionary: its kind, its set, and the strings of each shard."""
+
+    kind: int
+    set: tuple[int, int]
+    shards: list[list[bytes]]
+
+    @property
+    def strings(self):
+        """All strings, each at its symbol."""
+        return [*itertools.chain(*self.shards)]
+
+    @property
+    def id(self):
+        return Id(self.kind, len(self.strings), *self.set)
+
+    @property
+    def name(self):
+        """How messages and the names of maps write the set."""
+        return "%016x%016x" % self.set
+
+    def map_name(self, shard=0):
+        """The name of the map of a shard."""
+        return f"{self.name}.{shard}.map"
+
+    def files(self, *keys):
+        """The files of its folder."""
+        tables = enumerate(freeze(it, self.kind, *keys) for it in self.shards)
+        return {f"{shard}.dict": placed(it, self.set, len(self.shards), shard) for shard, it in tables}
+
+    def column(self, lines, source=Source()):
+        """The column of these lines, of which the missing ones are no strings."""
+        return column(self.id, encoded(self.strings, lines), source, len(self.shards))
 
 
-def map_index_of(maps, ids, into):
-    """The index of maps from these dictionaries to that one."""
-    lines = [f"{words_of(id)} {checksum_of(data)}\n" for id, data in zip(ids, maps)]
-    return "".join([f"intaglio maps 1 {len(ids):016x}\n", *lines, f"{words_of(into)}\n"]).encode()
+def placed(table, set, count, shard):
+    """The bytes of a table as those of this shard of a set."""
+    header = Header._make(TABLE_HEADER.unpack_from(table))
+    place = header._replace(set=struct.pack("<QQ", *set), shards=count, shard=shard)
+    return TABLE_HEADER.pack(*place) + table[TABLE_HEADER.size :]
 
 
-def id_of_folder(index):
-    """What the index of a map says of the shards of a folder with this index."""
-    ids = ids_in(index) or []
-    return Id(min(it.kind for it in ids), sum(it.strings for it in ids), *(sip_hash(0, key, index) for key in (0, 1)))
-
-
-def folder_of(shards, kind=BYTES):
-    """The files of a folder of these shards, without a map."""
-    files = {f"{number}.dict": freeze(strings, kind) for number, strings in enumerate(shards)}
-    return files | {"shards": index_of([id_of(it) for it in files.values()])}
-
-
-def split_folder(strings, count, kind=BYTES):
-    """The files of the folder into which a dictionary of these strings is split."""
+def dictionary_of(strings, count=1, kind=BYTES):
+    """The dictionary of these strings in so many shards, as one process makes it."""
     shards = shards_of(strings, count)
-    files, data = folder_of(shards, kind), packed(encoded([*itertools.chain(*shards)], strings))
-    return files | {"map": data, "map.index": map_index_of([data], [id_of_strings(strings, kind)], id_of_folder(files["shards"]))}
+    return Dictionary(kind, set_of_shards(shards, kind), shards)
 
 
-def maps_of(numbers, tables, table):
-    """The files of a folder with the maps of these tables to this one, and their index."""
-    maps = [packed(it) for it in numbers]
-    files = {f"{part}.map": it for part, it in enumerate(maps)}
-    return files | {"index": map_index_of(maps, [id_of(it) for it in tables], id_of(table))}
+def merge_of(parts, count=1):
+    """The dictionary to which parts in shards are merged shard by shard, or parts of one shard each in so many shards."""
+    kind, shards = min(it.kind for it in parts), [merged(each)[0] for each in zip(*(it.shards for it in parts))]
+    if len(shards) == 1:
+        return dictionary_of(shards[0], count, kind)
+    return Dictionary(kind, set_of_merge(len(shards), [it.set for it in parts]), shards)
 
 
-def strings_in(folder):
-    """The strings of a folder, after all checks."""
-    ids = ids_in(Path(folder, "shards").read_bytes())
-    assert ids is not None, folder
-    tables = [Path(folder, f"{number}.dict").read_bytes() for number in range(len(ids))]
-    assert [id_of(it) for it in tables] == ids, folder
-    shards = [[*Frozen(it)] for it in tables]
-    assert all(shard_of(len(ids), it) == number for number, strings in enumerate(shards) for it in strings), folder
-    return [*itertools.chain(*shards)]
+def map_of(part, whole, shard=0):
+    """The map of a shard of a part to the same shard of the merged dictionary, or of a part of one shard to all of it."""
+    strings, count = part.shards[shard], len(part.shards)
+    into = whole.shards[shard] if count > 1 else whole.strings
+    source = Source(count, part.kind, part.set[0], part.set[1], shard)
+    return column(whole.id._replace(strings=len(into)), encoded(into, strings), source, len(whole.shards))
+
+
+def maps_of(parts, whole):
+    """The files of the folder of maps of a merge."""
+    return {part.map_name(it): map_of(part, whole, it) for part in parts for it in range(len(part.shards))}
+
+
+def renumbered_column(data, maps):
+    """The column that these maps, which are all that it needs, in the order of their shards, make of a column."""
+    numbers, count = [], 0
+    for into, codes in map(read_column, maps):
+        numbers += [count + it for it in codes]
+        count += into.strings
+    codes = renumbered(numbers, read_column(data)[1])
+    return column(into._replace(strings=count), codes, read_source(data), shards_of_column(maps[0]))
+
+
+def set_in(header):
+    """What all shards of a dictionary say alike."""
+    return header.kind, header.set, header.shards
+
+
+def shard_at(path, number, first=None):
+    """The table of a shard in a folder, by its number. The first one says what the others must."""
+    table = Frozen(Path(path, f"{number}.dict").read_bytes())
+    if table.header.shard != number or first is not None and set_in(table.header) != set_in(first.header):
+        raise Damaged(number, "is another shard, or of another set")
+    if any(shard_of(table.header.shards, it) != number for it in table):
+        raise Damaged(number, "has a string of another shard")
+    return table
+
+
+def read_dictionary(path):
+    """The dictionary in a file or a folder, after all checks. Raises Damaged, or FileNotFoundError for a shard."""
+    if os.path.isdir(path):
+        first = shard_at(path, 0)
+        tables = [first, *(shard_at(path, it, first) for it in range(1, first.header.shards))]
+    else:
+        first = Frozen(Path(path).read_bytes())
+        tables = [first]
+    if len(tables) != first.header.shards:
+        raise Damaged(first.header.shard, "is one shard of several")
+    return Dictionary(first.kind, hashes_in(first.header.set), [[*it] for it in tables])
 
 
 def files_in(folder):

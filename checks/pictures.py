@@ -9,6 +9,7 @@ that is reached through another arrow. Crates of tests, examples and benchmarks 
 bench. A picture holds the sum of what it was drawn from, which checks/consistency compares with what is there.
 """
 
+import functools
 import hashlib
 import re
 import shutil
@@ -28,31 +29,24 @@ DARK = {
 }
 
 
-def listed():
-    """The crates of crates.txt that are drawn, each with those of them that it names, and whether it is a program."""
-    rows = re.findall(r"(?m)^(\w+)[^:#\n]*:([^#\n]*)", (TOP / "crates.txt").read_text(encoding="utf-8"))
-    names = [name for name, _ in rows if not LEFT_OUT.fullmatch(name)]
-    return {name: [it for it in below.split() if it in names] for name, below in rows if name in names}
-
-
-def reduced(crates):
-    """The same without what is reached through another crate."""
-    reach: dict[str, set[str]] = {}
-    for name, below in crates.items():
-        reach[name] = {*below}.union(*(reach[it] for it in below))
-    return {name: [it for it in below if not any(it in reach[other] for other in below)] for name, below in crates.items()}
-
-
 def graph():
-    crates = listed()
+    """The crates of crates.txt, without what is reached through another crate."""
+    rows = re.findall(r"(?m)^(\w+)[^:#\n]*:([^#\n]*)", (TOP / "crates.txt").read_text(encoding="utf-8"))
+    crates = {name: below.split() for name, below in rows if not LEFT_OUT.fullmatch(name)}
+
+    @functools.lru_cache(maxsize=None)
+    def reached(name):
+        return {name}.union(*map(reached, crates.get(name, ())))
+
     lines = [
         'rankdir=TB; bgcolor=white; nodesep=.25; ranksep=.4; node [shape=box style="filled,rounded" fontname="sans-serif"'
         f' fontsize=11 color="{INK}" fontcolor="{INK}" margin=".12,.06" height=.3]; edge [color="{INK}" arrowsize=.6];'
     ]
-    for name, below in reduced(crates).items():
-        is_program = (TOP / "crates" / name / "src/main.rt").is_file()
-        lines.append(f'{name} [fillcolor="{PROGRAMS if is_program else LIBRARIES}" label="{name.removeprefix("intaglio_")}"];')
-        lines += [f"{name} -> {it};" for it in below]
+    for name, every in crates.items():
+        below = [it for it in every if it in crates]
+        colour = PROGRAMS if (TOP / "crates" / name / "src/main.rt").is_file() else LIBRARIES
+        lines.append(f'{name} [fillcolor="{colour}" label="{name.removeprefix("intaglio_")}"];')
+        lines += [f"{name} -> {it};" for it in below if not any(it in reached(other) for other in below if other != it)]
     return "digraph crates {\n" + "\n".join(lines) + "\n}\n"
 
 

@@ -46,6 +46,15 @@ def run(command, given=b"", **settings):
     return status, wrote, told.decode(errors="replace").splitlines()
 
 
+def unread(command, given=b""):
+    """The status, and what went to standard error, if the output is a pipe that nobody reads."""
+    reader, writer = os.pipe()
+    os.close(reader)
+    ended = subprocess.run(command, input=given, stdout=writer, stderr=subprocess.PIPE, timeout=60)
+    os.close(writer)
+    return ended.returncode, ended.stderr
+
+
 def said(command, text):
     """What a program writes of a fault: the first one the bare text, and the second one its name before it."""
     name = os.path.basename(command[0])
@@ -64,15 +73,10 @@ def called(name, path, folder):
     return link
 
 
-def modes(tool):
-    """The modes that the program takes: other words end in status 2."""
-    return [word for word in MODES if run([tool, word])[0] != 2]
-
-
 def commands(build):
     """What is run of the programs: the command, an input, and what it writes for it."""
     tool, restore = (program(name, build) for name in PROGRAMS)
-    return [([tool, mode], *MODES[mode]) for mode in modes(tool)] + [([restore], *ENCODED)]
+    return [([tool, mode], *MODES[mode]) for mode in MODES] + [([restore], *ENCODED)]
 
 
 def check_built(names):

@@ -3,22 +3,28 @@
 import shlex
 
 import pytest
-from formats import BYTES, MISSING, TEXT, column, ended, files_in, freeze, id_of, packed, put
+from formats import (
+    BYTES, MISSING, TEXT, column, dictionary_of, ended, files_in, freeze, id_of, map_of, packed, put,
+)
 from tool import DONE, ONE_STANDARD_INPUT, UNREAD, WORDS, also_output, said, wrote
 
 LINES, TABLE, NUMBERS = ended(WORDS), freeze(WORDS), ended(b"%d" % it for it in range(20))
 FEW, MERGED = [b"a", b"bb", b""], freeze([b"a", b"b", b"c"])
+ONE, TWO = dictionary_of([b"a", b"b"]), dictionary_of([b"b", b"c", b"a"])
+RENUMBERED = TWO.column([b"b", b"a"])
 FILES = {
-    "words": TABLE, "lines": LINES, "seventh": WORDS[7], "one": freeze([b"a", b"b"]), "two": freeze([b"b", b"c", b"a"]),
-    "codes": packed([1, 0]), "map": packed([1, 2, 0]), "column": column(id_of(freeze(FEW)), [0, 1, 2, 0, MISSING]),
+    "words": TABLE, "lines": LINES, "seventh": WORDS[7], "one": ONE.files()["0.dict"], "two": TWO.files()["0.dict"],
+    "codes": packed([1, 0]), "part": ONE.column([b"b", b"a"]), "column": column(id_of(freeze(FEW)), [0, 1, 2, 0, MISSING]),
     "few": freeze(FEW, BYTES, 5, 6), "other": freeze(FEW, TEXT), "no": b"x" * 100, "text": "é\nb".encode(),
     "wrong": b"a\n\n\xc3\nb\n\xff\n", "damaged": freeze(FEW)[:-1], "cut": bytes.fromhex("494e548957b8b7"),
-    "short": packed([0, 1]) + b"\0",
+    ONE.map_name(): map_of(ONE, TWO), "old": TABLE[:8] + b"\1" + TABLE[9:],
+    "oldcolumn": ONE.column([])[:8] + b"\1" + ONE.column([])[9:],
 }
-NOT_ONE = "not a column; freeze and encode write one with --column"
+NOT_ONE = "not a column; encode writes one, and freeze and merge do"
 OF_OTHER = "column: a column of another dictionary than other; name the one that it was written with"
 NO_LINE_END, BOTH = "the text after --missing has a line end", b"a\nbb\n\na\n"
-LONG_NUMBER, SIZE = "99999999999999999999", len(TABLE)
+LONG_NUMBER, SIZE, WHOLE = "99999999999999999999", len(TABLE), dictionary_of(WORDS)
+LINELESS = "is missing: its line wasn't in the dictionary; --missing TEXT gives it a line"
 
 ROWS = [
     # Standard streams, by the name `-` and without a name.
@@ -27,21 +33,26 @@ ROWS = [
     ("check -", TABLE, DONE), ("check -", b"x", said(1, "standard input: not a frozen table")),
     ("get - 3 0", TABLE, wrote(b"word3\nword0\n")), ("find - lines", TABLE, wrote(NUMBERS)),
     ("find words -", b"word4", wrote(b"4\n")), ("find words - lines", b"word4", wrote(b"4\n" + NUMBERS)),
-    ("encode one -", b"b\na", wrote(packed([1, 0]))),
-    ("decode one codes - codes", packed([1]), wrote(b"b\na\nb\nb\na\n")),
-    ("stat -", TABLE, wrote(b"kind bytes\nstrings 20\nbytes %d\nbytes a string %.1f\nlongest 6\n" % (SIZE, SIZE // 2 / 10))),
+    ("encode --raw one -", b"b\na", wrote(packed([1, 0]))), ("encode one -", b"b\na", wrote(FILES["part"])),
+    ("decode --raw one codes - codes", packed([1]), wrote(b"b\na\nb\nb\na\n")),
+    ("decode one part - part", ONE.column([b"b"]), wrote(b"b\na\nb\nb\na\n")),
+    ("stat -", TABLE, wrote(
+        f"kind bytes\nstrings 20\nbytes {SIZE}\nbytes a string {SIZE // 2 / 10:.1f}\nlongest 6\n".encode()
+        + f"identity {WHOLE.name}\nshards 1\nshard 0\n".encode()
+    )),
     *((it, TABLE, said(2, ONE_STANDARD_INPUT)) for it in (
-        "find -", "find - lines -", "get -", "encode -", "decode - codes -", "renumber -", "merge - one - -o out",
+        "find -", "find - lines -", "get -", "encode -", "decode - part -", "renumber --maps . - --into -",
+        "merge - one - -o out",
     )),
     # Each output is a file of its own.
     *((words, b"", also_output(name, name)) for words, name in (
         ("freeze -o lines lines", "lines"), ("encode one codes -o codes", "codes"), ("encode one codes -o one", "one"),
-        ("renumber map codes -o codes", "codes"), ("renumber map codes -o map", "map"), ("merge one two -o two", "two"),
-        ("freeze -o new --codes codes codes", "codes"),
+        ("renumber --maps . part -o part", "part"), ("merge one two -o two", "two"),
+        ("freeze -o new --column codes codes", "codes"),
     )),
-    ("freeze -o - --codes -", b"a", also_output("standard output", "standard output", "output")),
-    ("freeze -o new --codes new", b"a", also_output("new", "new", "output")),
-    ("freeze -o one --codes ./one", b"a", also_output("./one", "one", "output")),
+    ("freeze -o - --column -", b"a", also_output("standard output", "standard output", "output")),
+    ("freeze -o new --column new", b"a", also_output("new", "new", "output")),
+    ("freeze -o one --column ./one", b"a", also_output("./one", "one", "output")),
     # Statuses of `find`.
     ("find words", LINES, wrote(NUMBERS)), ("find words", b"word2\nabsent\nword1\n", wrote(b"2\n-\n1\n", 1)),
     ("find words", b"", DONE), ("find words - seventh", b"x\n", wrote(b"-\n7\n", 1)),
@@ -73,16 +84,17 @@ ROWS = [
     # Merging, and maps.
     ("merge one two -o -", b"", wrote(MERGED)), ("merge - two -o -", FILES["one"], wrote(MERGED)),
     ("merge one two -o - --keys 5,6", b"", wrote(freeze([b"a", b"b", b"c"], BYTES, 5, 6))),
-    ("renumber short", packed([0]), said(1, "short: not a map: its length is no multiple of 4")),
-    ("renumber /dev/null", b"", DONE), ("renumber map", packed([0, MISSING, 2]), wrote(packed([1, MISSING, 0]))),
+    ("renumber --maps . part", b"", wrote(RENUMBERED)), ("renumber --maps . -", FILES["part"], wrote(RENUMBERED)),
+    ("renumber --maps . --into two part", b"", wrote(RENUMBERED)), ("decode two -", RENUMBERED, wrote(b"b\na\n")),
     # What --verbose and --progress show.
-    ("encode --verbose one", b"b\na", said(0, "2 lines encoded", wrote=packed([1, 0]))),
-    ("decode --verbose one codes codes", b"", said(0, "4 codes decoded", wrote=b"b\na\n" * 2)),
-    ("renumber --verbose map codes", b"", said(0, "2 codes renumbered", wrote=packed([2, 1]))),
+    ("renumber --verbose --maps . part", b"", said(0, "2 codes renumbered", wrote=RENUMBERED)),
+    ("encode --verbose one", b"b\na", said(0, "2 lines encoded", wrote=FILES["part"])),
+    ("encode --raw --verbose one", b"b\na", said(0, "2 lines encoded", wrote=packed([1, 0]))),
+    ("decode --raw --verbose one codes codes", b"", said(0, "4 codes decoded", wrote=b"b\na\n" * 2)),
     ("merge --verbose one two -o -", b"", said(
         0, "2 dictionaries merged", "5 strings merged", "3 distinct strings", wrote=MERGED,
     )),
-    ("decode --progress one codes", b"", said(0, "100 % of 8 bytes read", wrote=b"b\na\n")),
+    ("decode --raw --progress one codes", b"", said(0, "100 % of 8 bytes read", wrote=b"b\na\n")),
     *(("freeze --verbose -o -", b"\n".join(lines), said(
         0, f"{len(lines)} lines frozen", f"{len({*lines})} distinct lines", wrote=freeze([*dict.fromkeys(lines)]),
     )) for lines in ([b"b", b"a", b"b"], [b"b"], [b"b", b"b"])), ("freeze --verbose -o -", b"\n\n", said(
@@ -91,12 +103,15 @@ ROWS = [
     # Columns and plain codes.
     *((f"{it} few codes {row}", b"", said(status, f"codes: {NOT_ONE}"))
       for it, row, status in (("rows", "0", 1), ("count", "", 1), ("match", "a", 2), ("match --count --invert", "a", 2))),
-    ("decode --missing ? few column codes column", b"", wrote(BOTH + b"?\nbb\na\n" + BOTH + b"?\n")),
+    ("decode --missing ? few column column", b"", wrote((BOTH + b"?\n") * 2)),
+    ("decode few column", b"", said(1, f"column: row 4 {LINELESS}")), ("decode few codes", b"", said(1, f"codes: {NOT_ONE}")),
     ("check few column", b"", DONE),
     ("check column few", b"", said(1, "column: a column, and no dictionary before it; name its dictionary first")),
     ("check few other column few", b"", said(1, OF_OTHER)),
+    ("check old", b"", said(1, "old: a dictionary of version 1: freeze its strings again")),
+    ("check one oldcolumn", b"", said(1, "oldcolumn: a column of version 1: encode its lines again")),
     ("check damaged cut column", b"", said(
-        1, "damaged: the strings don't fill the text", f"cut: {NOT_ONE}", OF_OTHER.replace("other;", "damaged;"),
+        1, "damaged: the file is truncated", f"cut: {NOT_ONE}", OF_OTHER.replace("other;", "damaged;"),
     )),
     *((f"rows -- few column 0 '{it}'", b"", said(
         2, f"'{it}' names no rows: a number is needed, or the first and the last, as in 10-20",
@@ -105,14 +120,15 @@ ROWS = [
       for command, row in (("decode", ""), ("rows", "0")) for it in ("\n", "a\nb", "a\n")),
     # Files that aren't there, and folders.
     *((f"{it} absent", b"", said(1, "absent: No such file or directory")) for it in (
-        "list", "check", "get", "stat", "freeze -o out", "encode", "encode one", "decode", "decode one", "renumber",
-        "renumber map", "merge -o -", "count few", "check few",
+        "list", "check", "get", "stat", "freeze -o out", "encode", "encode one", "decode", "decode one",
+        "renumber --maps .", "merge -o -", "count few", "check few",
     )),
     *((it, b"", said(2 if it[0] in "fm" else 1, "absent: No such file or directory")) for it in (
         "find absent", "find --trusted absent", "find words absent", "match few absent a", "rows few absent 0", "get absent 1",
     )),
-    ("find words .", b"", said(2, ".: Is a directory")), ("freeze -o . lines", b"", said(1, ".: not a regular file")),
-    *((f"{it} .", b"", said(1, ".: Is a directory")) for it in ("freeze -o out", "check", "list")),
+    ("find words .", b"", said(2, ".: Is a directory")), ("freeze -o out .", b"", said(1, ".: Is a directory")),
+    ("freeze -o . lines", b"", also_output("lines", "./lines")),
+    *((f"{it} .", b"", said(1 + (it == "find"), "./0.dict: No such file or directory")) for it in ("find", "check", "list")),
 ]
 
 
@@ -140,8 +156,10 @@ def test_closed_pipes(tool, words):
     ("freezes", "freezes"), ("freeze -o a --kind path", "path"), ("freeze -o a --kee", "--kee"), ("get a x1", "x1"), ("", ""),
     ("freeze", "--output"), ("freeze -o a --keys", "--keys"), ("freeze -o a --keys 1,2 --random-keys", "--random-keys"),
     ("list a b1", "b1"), *((it, "DICT") for it in ("find", "stat", "check", "get", "encode", "decode", "merge", "rows", "match")),
-    ("get a -1", "-1"), ("merge a", ""), ("encode a --no", "--no"), ("renumber", ""), ("rows a b", ""), ("match a b", ""),
-    ("count a", ""), ("count a b c", "c"), ("encode a --column b -o c", ""), ("freeze -o a --column b --codes c", ""),
+    ("get a -1", "-1"), ("merge a", ""), ("encode a --no", "--no"), ("renumber", ""), ("renumber a", "--maps"),
+    ("renumber --maps a", ""), ("split a --shards 3 -o b", "split"), ("join a -o b", "join"), ("rows a b", ""), ("match a b", ""),
+    ("count a", ""), ("count a b c", "c"), ("encode a --column b", "--column"), ("freeze -o a --codes b", "--codes"),
+    ("merge a --shard 1 --shards 2 -o b", ""), ("freeze --shard 1 -o a", "--shard"),
     ("'freeze it'", "freeze it"),
 ])
 def test_wrong_arguments(tool, folder, words, named):

@@ -1,17 +1,16 @@
-"""Plain codes and maps: what `intaglio_dict` makes of lines in parts, of lines that are missing, and of wrong codes."""
+"""Plain codes, which `encode --raw` writes and `decode --raw` reads, lines that are missing, and wrong codes."""
 
 import itertools
 import os
-import re
-import shutil
-import subprocess
+import random
 import unicodedata
-from pathlib import Path
 
 import pytest
-from formats import KINDS, MISSING, decoded, encoded, ended, files_in, freeze, lines_of, merged, packed, put, renumbered
+from formats import (
+    KINDS, MISSING, TEXT, decoded, dictionary_of, encoded, ended, freeze, lines_of, packed, put, random_parts,
+)
 from programs import TOP, run
-from tool import DONE, left, read, said, wrote
+from tool import DONE, read, said, wrote
 
 CODED = f"--missing gives such lines the code {MISSING}"
 LINELESS = f"is {MISSING}, that of a line that wasn't in a dictionary; --missing TEXT gives it a line"
@@ -33,59 +32,28 @@ def missing_line(name, place, line):
     return f"{name}: line {place} is not in the dictionary: {shown(line)}; {CODED}"
 
 
-# Columns in parts: each part is frozen and encoded, the dictionaries are merged, the codes renumbered.
-
-
-def check_part(tool, part, lines, kind):
-    """Tries the commands on one part. Returns its strings."""
-    data, strings = ended(lines), [*dict.fromkeys(lines)]
-    table, codes, source, wanted = f"{part}.dict", f"{part}.codes", f"{part}.lines", packed(encoded(strings, lines))
-    put(".", {source: data[: -1 if lines[-1:] not in ([], [b""]) else None]})
-    assert tool("freeze", "--kind", KINDS[kind], "-o", table, "--codes", codes, source) == DONE
-    assert read(table) == freeze(strings, kind) and read(codes) == wanted
-    assert tool("encode", table, source) == wrote(wanted)
-    assert tool("encode", table, "-o", "again", given=data) == DONE and read("again") == wanted
-    assert tool("decode", table, codes) == wrote(data) == tool("decode", table, given=wanted)
-    return strings
-
-
-def check_parts(tool, parts, kind):
-    """Tries the commands on all parts, whose dictionaries are merged. Returns the merged strings."""
-    numbers = range(len(parts))
-    tables, files = [f"{it}.dict" for it in numbers], [f"{it}.new-codes" for it in numbers]
-    lists = [check_part(tool, part, lines, kind) for part, lines in enumerate(parts)]
-    strings, maps = merged(lists)
-    shutil.rmtree("maps", ignore_errors=True)
-    assert tool("merge", *tables, "-o", "whole", "--maps", "maps") == DONE
-    assert read("whole") == freeze(strings, kind)
-    assert files_in("maps") == {f"{part}.map": packed(it) for part, it in enumerate(maps)}
-    for part, lines in enumerate(parts):
-        wanted = packed(renumbered(maps[part], encoded(lists[part], lines)))
-        assert tool("renumber", f"maps/{part}.map", f"{part}.codes", "-o", files[part]) == DONE and read(files[part]) == wanted
-        assert tool("decode", "whole", files[part]) == wrote(ended(lines))
-    assert tool("decode", "whole", *files) == wrote(ended(it for lines in parts for it in lines))
-    assert tool("encode", "whole", *(f"{it}.lines" for it in numbers)) == wrote(b"".join(map(read, files)))
-    check_missing(tool, lists[0], parts[-1] + [b"none of them"])
-    half = (len(parts) + 1) // 2
-    for some, out in ((tables[:half], "half"), (tables[half:], "rest"), (("half", "rest"), "nested")):
-        assert not some or tool("merge", *some, "-o", out) == DONE
-        shutil.copy("half", "rest") if out == "half" else None
-    assert read("nested") == read("whole") and not left() and not left("maps")
-    return strings
-
-
-def check_missing(tool, strings, lines):
-    """Tries the commands on lines and the dictionary of others, which is that of the first part."""
-    put(".", {"others": ended(lines)})
-    wanted = encoded(strings, lines)
-    assert tool("encode", "--missing", "0.dict", "others", "-o", "others.codes") == DONE
-    assert read("others.codes") == packed(wanted)
-    decodes = tool("decode", "--missing", "none", "0.dict", "others.codes")
-    assert decodes == wrote(ended(decoded(strings, wanted, b"none")))
-    place = wanted.index(MISSING)
-    status, written, told = tool("encode", "0.dict", "others")
-    assert (status, told) == said(1, missing_line("others", place + 1, lines[place]))[::2]
-    assert packed(wanted[:place]).startswith(written)
+@pytest.mark.parametrize("count", [1, 3])
+@pytest.mark.parametrize("kind", [0, TEXT], ids=KINDS)
+@pytest.mark.parametrize("size", [0, 1, 300, 100_000])
+def test_plain_codes(tool, size, kind, count):
+    """Lines become codes, and codes the lines that they were, by a dictionary in a file and in shards."""
+    lines, *others = random_parts(random.Random(size), size, kind, 2)
+    whole = dictionary_of(dict.fromkeys(lines), count, kind)
+    strings = whole.strings
+    put("whole", whole.files())
+    put(".", {"lines": ended(lines), "part": ended(lines[: len(lines) // 2])})
+    for table in ["whole"] + ["whole/0.dict"] * (count == 1):
+        codes = packed(encoded(strings, lines))
+        assert tool("encode", "--raw", table, "lines") == wrote(codes) == tool("encode", "--raw", table, given=ended(lines))
+        assert tool("encode", "--raw", table, "lines", "part", "-o", "codes") == DONE
+        assert read("codes") == codes + codes[: len(lines) // 2 * 4]
+        assert tool("decode", "--raw", table, "codes", "-o", "again") == DONE and read("again") == ended(lines) + read("part")
+        assert tool("decode", "--raw", table, given=codes) == wrote(ended(lines))
+        asked = [it for each in others for it in each] + [b"none of them"]
+        numbers = encoded(strings, asked)
+        assert tool("encode", "--raw", "--missing", table, given=ended(asked)) == wrote(packed(numbers))
+        again = wrote(ended(decoded(strings, numbers, b"none")))
+        assert tool("decode", "--raw", "--missing", "none", table, given=packed(numbers)) == again
 
 
 # Missing lines, and wrong codes.
@@ -102,26 +70,27 @@ ODD = [b"\xff'\"\\", b"a\tb", b"\0", "é".encode(), b"a" * 70_000 + b"\n" + b"b"
 def test_missing_lines(tool, data, place):
     strings, lines = [b"a", b"", b"ccc"], lines_of(data)
     put(".", {"table": freeze(strings), "lines": data})
-    wanted = packed(encoded(strings, lines))
-    status, written, told = tool("encode", "table", given=data)
+    wanted, column = packed(encoded(strings, lines)), dictionary_of(strings).column(lines)
+    status, written, told = tool("encode", "--raw", "table", given=data)
     assert (status, told) == said(1, missing_line("standard input", place, lines[place - 1]))[::2]
     assert wanted[: 4 * place - 4].startswith(written)
-    assert tool.refuses(1, missing_line("lines", place, lines[place - 1]), "encode", "table", "lines", "-o", "out")
-    assert tool("encode", "--missing", "table", given=data) == wrote(wanted)
-    again = ended(it if it in strings else b"?" for it in lines)
-    assert tool("decode", "--missing", "?", "table", given=wanted) == wrote(again)
+    for raw in ([], ["--raw"]):
+        assert tool.refuses(1, missing_line("lines", place, lines[place - 1]), "encode", *raw, "table", "lines", "-o", "out")
+    assert tool("encode", "table", given=data) == said(1, missing_line("standard input", place, lines[place - 1]))
+    assert tool("encode", "--raw", "--missing", "table", given=data) == wrote(wanted)
+    assert tool("encode", "--missing", "table", given=data) == wrote(column)
+    again = wrote(ended(it if it in strings else b"?" for it in lines))
+    assert tool("decode", "--raw", "--missing", "?", "table", given=wanted) == again
+    assert tool("decode", "--missing", "?", "table", given=column) == again
     told = said(1, f"standard input: code number {place} {LINELESS}")[::2]
-    assert tool("decode", "table", given=wanted)[::2] == told
+    assert tool("decode", "--raw", "table", given=wanted)[::2] == told
 
 
-@pytest.mark.parametrize("command, what", [
-    ("decode table", "which is no symbol"), ("decode --missing ? table", "which is no symbol"),
-    ("renumber map", "which isn't in the map"),
-])
-def test_wrong_codes(tool, command, what):
-    put(".", {"table": freeze([b"a", b"", b"ccc"]), "map": packed([5, 4, 9])})
+@pytest.mark.parametrize("command", ["decode --raw table", "decode --raw --missing ? table"])
+def test_wrong_codes(tool, command):
+    put(".", {"table": freeze([b"a", b"", b"ccc"])})
     for numbers, place in (([3], 1), ([0, 2, 1, 4], 4), ([2**31], 1), ([0, 2**32 - 2], 2), ([1] * 100_000 + [3], 100_001)):
-        fault = f"code number {place} is {numbers[place - 1]}, {what}"
+        fault = f"code number {place} is {numbers[place - 1]}, which is no symbol"
         assert tool(*command.split(), given=packed(numbers))[::2] == said(1, f"standard input: {fault}")[::2]
         put(".", {"codes": packed(numbers)})
         assert tool.refuses(1, f"codes: {fault}", *command.split(), "codes", "-o", "out")
@@ -130,20 +99,7 @@ def test_wrong_codes(tool, command, what):
         assert tool(*command.split(), given=packed([1] * count) + bytes(cut))[::2] == told[::2]
 
 
-def test_cut_maps(tool):
-    for cut in (1, 2, 3):
-        put(".", {"short": packed([0, 1]) + bytes(cut)})
-        assert tool("renumber", "short", given=packed([0])) == said(1, "short: not a map: its length is no multiple of 4")
-
-
-def test_maps_of_equal_dictionaries(tool):
-    put(".", {"two": freeze([b"b", b"c", b"a"])})
-    for tables in (["two"], ["two", "two"]):
-        assert tool("merge", *tables, "-o", "out", "--maps", "maps") == DONE and read("out") == read("two")
-        assert files_in("maps") == {f"{it}.map": packed([0, 1, 2]) for it in range(len(tables))}
-
-
-# The worked example, and the rules of the page.
+# The worked example.
 
 
 def test_example(tool):
@@ -165,20 +121,3 @@ def test_wrong_parts_of_the_example(tool, folder, parts):
     status, written, told = run([f"{TOP}/examples/columns", "lines", parts], DICT=tool.path, PATH=os.environ["PATH"])
     assert (status, written, told[0]) == (2, b"", f"columns: PARTS is a number from 1 to 999999, and not '{parts}'")
     assert not [*folder.iterdir()]
-
-
-@pytest.mark.skipif(not shutil.which("make"), reason="make isn't there")
-def test_rules_of_the_page(tool):
-    """The rules of docs/COLUMNS.md by `make -j`: what they write is what the reader here has, and after a change of one part
-    too."""
-    rules = re.findall(r"```make\n(.*?)```", Path(TOP, "docs/COLUMNS.md").read_text(encoding="utf-8"), re.S)[0]
-    put(".", {"Makefile": rules.encode()})
-    parts: list[list[bytes]] = [[b"a", b"b", b"a"], [b"c", b"b"], [], [b"", b"a"]]
-    for changes in ({*range(4)}, {1}):
-        if len(changes) == 1:
-            parts[1] = [b"d", b"a", b"d"]
-        put(".", {f"{part}.lines": ended(parts[part]) for part in changes})
-        subprocess.run(["make", "-s", "-j4", f"DICT={tool.path}"], check=True, timeout=60)
-        strings, maps = merged([*dict.fromkeys(it)] for it in parts)
-        codes = [packed(renumbered(numbers, encoded([*dict.fromkeys(it)], it))) for it, numbers in zip(parts, maps)]
-        assert read("whole.dict") == freeze(strings) and [read(f"{it}.whole") for it in range(4)] == codes

@@ -8,7 +8,7 @@ import tempfile
 import pytest
 from formats import (
     BYTES, COLUMN_HEADER, MISSING, TEXT, Damaged, Frozen, begins_as_column, column, column_faults, decoded, encoded,
-    ended, freeze, id_of, packed, put, read_column, rebuilt, renumbered, table_faults, unpacked,
+    ended, freeze, id_of, packed, put, read_column, rebuilt, sealed, shards_of_column, source_of, table_faults, unpacked,
 )
 from hypothesis import given, seed, settings
 from hypothesis import strategies as st
@@ -23,14 +23,18 @@ FAULTS = {
     "an unknown kind": "kind", "a reserved byte isn't zero": "reserved", "too many strings": "too many",
     "the file is truncated": "truncated", "the codes are cut short": "truncated", "the strings don't fill the text": "ends",
     "a place without a string isn't empty": "unused", "another width than that of the number of strings": "width",
-    "there are bytes behind the last row": "too long",
+    "there are bytes behind the last row": "too long", "there are bytes behind the strings": "too long",
+    "a dictionary of version 1: freeze its strings again": "old version", "the identity isn't that of the strings": "identity",
+    "the number of the shard isn't below the number of shards": "shard",
+    "a column of version 1: encode its lines again": "old version", "a source of rows that can't be": "source",
+    "damaged: it has another checksum": "damaged",
 }
 NUMBERED = (
     (r"string (\d+) isn't found at its symbol", "not found"), (r"string (\d+) isn't UTF-8", "not UTF-8"),
-    (r"row (\d+) has a code that is no symbol", "no string"),
+    (r"row (\d+) has a code that is no symbol", "no string"), (r"row (\d+) of a map is missing", "missing"),
 )
 # Where the numbers of a header are.
-FIELDS = (8, 12, 16, 24, 32, 40, 48, 52, 56)
+FIELDS = (8, 12, 16, 24, 32, 40, 48, 52, 56, 64, 72, 80, 84, 88)
 # How many files one run of the program checks, and how many tests share the damaged files.
 BATCH, TURNS = 50, 16
 TURN = pytest.mark.parametrize("turn", range(TURNS))
@@ -41,6 +45,8 @@ COLUMNS = [
     for count, kind in ((0, BYTES), (3, TEXT), (255, BYTES), (300, BYTES))
     for table in [freeze([b"%d" % it for it in range(count)], kind)]
 ]
+# A map, with the table to which it leads.
+COLUMNS.append((COLUMNS[1][0], column(id_of(COLUMNS[1][0]), [2, 0], source_of(id_of(COLUMNS[2][0])))))
 
 
 def fault_of(message):
@@ -117,7 +123,7 @@ def check_columns(tool, table, files):
     for name, data in named.items():
         faults, message = column_faults(data), messages.get(name)
         another = of_another(name, "table")
-        is_other = not faults and read_column(data)[0] != id_of(table)
+        is_other = not faults and (read_column(data)[0], shards_of_column(data)) != (id_of(table), 1)
         if name in names:
             wanted = another.removeprefix(f"{name}: ") if is_other else None
             is_right = message and fault_of(message) in faults if faults else message == wanted
@@ -150,6 +156,7 @@ def test_each_byte_of_a_table(tool, data):
 def test_each_byte_of_a_column(tool, table, data):
     for files in each_byte(data, COLUMN_HEADER.size):
         check_columns(tool, table, files)
+        check_columns(tool, table, [sealed(it) for it in files if len(it) >= COLUMN_HEADER.size])
 
 
 def examples(request, tool, turn, most=None):
@@ -174,13 +181,15 @@ def test_damaged_columns(tool, request, turn):
     @given(st.data())
     def each(data):
         table, whole = data.draw(st.sampled_from(COLUMNS))
-        files = st.lists(damaged(whole, [it for _, it in COLUMNS]), min_size=BATCH, max_size=BATCH)
-        check_columns(tool, table, data.draw(files))
+        files = data.draw(st.lists(damaged(whole, [it for _, it in COLUMNS]), min_size=BATCH, max_size=BATCH))
+        # Half of them get the checksum that they then have.
+        half = [sealed(it) if len(it) >= COLUMN_HEADER.size else it for it in files[BATCH // 2 :]]
+        check_columns(tool, table, files[: BATCH // 2] + half)
 
     each()
 
 
-# Codes and maps.
+# Plain codes.
 
 
 STRINGS = [b"%d" % it for it in range(200)]
@@ -200,28 +209,20 @@ def translated(translate, data):
         return translate(codes[: found.args[0] - 1]), found
 
 
-def test_damaged_codes_and_maps(tool):
-    """What the program writes of random bytes, and the first code at which it stops, are what the reader finds."""
+def test_damaged_codes(tool):
+    """What the program writes of plain codes, and the first one at which it stops, are what the reader finds."""
     put(".", {"table": freeze(STRINGS)})
     codes = st.lists(st.sampled_from([*range(200), MISSING]), max_size=50)
 
     @settings(max_examples=150)
-    @given(st.data(), codes, REPEATED, st.lists(st.integers(0, 2**32 - 1), min_size=150, max_size=200))
-    def each(data, codes, times, numbers):
-        changed = data.draw(damaged(packed(numbers), [b""]) if data.draw(st.booleans()) else st.just(packed(numbers)))
+    @given(st.data(), codes, REPEATED)
+    def each(data, codes, times):
         given_codes = packed(codes * times)
         given_codes = data.draw(damaged(given_codes, [b""])) if data.draw(st.booleans()) else given_codes
-        put(".", {"map": changed})
-        for words, translate in (
-            ("decode table", lambda codes: ended(decoded(STRINGS, codes))),
-            ("decode --missing ? table", lambda codes: ended(decoded(STRINGS, codes, b"?"))),
-            ("renumber map", lambda codes: packed(renumbered(unpacked(changed), codes))),
-        ):
-            status, written, told = tool(*words.split(), given=given_codes)
-            if words[0] == "r" and len(changed) % 4:
-                assert (status, written, told) == said(1, "map: not a map: its length is no multiple of 4")
-                continue
-            wanted, fault = translated(translate, given_codes)
+        for text in (None, b"?"):
+            words = ["decode", "--raw", *([] if text is None else ["--missing", "?"]), "table"]
+            status, written, told = tool(*words, given=given_codes)
+            wanted, fault = translated(lambda codes: ended(decoded(STRINGS, codes, text)), given_codes)
             message = [f"standard input: code number {fault.args[0]} {fault.args[1]}"] if fault else []
             assert (status, told) == said(int(bool(fault)), *message)[::2]
             assert wanted.startswith(written) if fault else wanted == written
@@ -230,7 +231,7 @@ def test_damaged_codes_and_maps(tool):
 
 
 def test_lines_that_are_missing(tool):
-    """`encode` writes codes of lines before the first that isn't in the dictionary, and nothing else."""
+    """`encode --raw` writes codes of lines before the first that isn't in the dictionary, and nothing else."""
     put(".", {"table": freeze(STRINGS)})
 
     @settings(max_examples=150)
@@ -241,10 +242,10 @@ def test_lines_that_are_missing(tool):
             lines[place] = b"none of them"
         codes = encoded(STRINGS, lines)
         if MISSING not in codes:
-            assert tool("encode", "table", given=ended(lines)) == wrote(packed(codes))
+            assert tool("encode", "--raw", "table", given=ended(lines)) == wrote(packed(codes))
             return
         place = codes.index(MISSING)
-        status, written, told = tool("encode", "table", given=ended(lines))
+        status, written, told = tool("encode", "--raw", "table", given=ended(lines))
         assert (status, told) == said(1, missing_line("standard input", place + 1, lines[place]))[::2]
         assert packed(codes[:place]).startswith(written)
 

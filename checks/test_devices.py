@@ -1,17 +1,18 @@
 """What the commands of `intaglio_dict` make of devices and memory that fail, and of closed streams."""
 
-import functools
 import shutil
 from typing import Any, NamedTuple
 
 import pytest
-from formats import MISSING, column, ended, files_in, freeze, id_of, id_of_strings, packed, put, split_folder
+from formats import column, dictionary_of, ended, files_in, freeze, id_of, maps_of, merge_of, packed, put, renumbered_column
 from tool import UNREAD, WAS, WORDS, made, read, said, wrote
 
 LINES = b"b\na\nb\n"
-TWO, THREE = freeze([b"b", b"a"]), freeze([b"b", b"c", b"a"])
-COLUMN, BOTH = column(id_of(TWO), [0, 1, 0]), freeze([b"b", b"a", b"c"])
-STAT = b"column\nkind bytes\nstrings 2\nrows 3\nmissing 0\nwidth 1\nbytes 67\n"
+PARTS = [dictionary_of(it) for it in ([b"b", b"a"], [b"b", b"c", b"a"])]
+TWO, THREE = (it.files()["0.dict"] for it in PARTS)
+BOTH, MAPS, COLUMN = merge_of(PARTS), maps_of(PARTS, merge_of(PARTS)), column(id_of(TWO), [0, 1, 0])
+SHARED = dictionary_of([b"b", b"a"], 2)
+SHARDS = {f"new/{name}": data for name, data in SHARED.files().items()} | {"other": SHARED.column([b"b", b"a", b"b"])}
 
 
 class Command(NamedTuple):
@@ -33,28 +34,24 @@ COMMANDS = [
     Command("check words"),
     Command("freeze -o -", LINES, TWO),
     Command("freeze -o out", LINES, files={"out": TWO}),
-    Command("encode two", b"a\nb", packed([1, 0])),
-    Command("decode two codes", wrote=b"a\nb\n"),
-    Command("renumber map codes", wrote=packed([2, 1])),
-    Command("merge two three -o -", wrote=BOTH),
-    Command("encode two -o out", b"a\nb", files={"out": packed([1, 0])}),
-    Command("decode two codes -o out", files={"out": b"a\nb\n"}),
-    Command("renumber map codes -o out", files={"out": packed([2, 1])}),
-    Command("merge two three -o out --maps new", files={
-        "out": BOTH, "new/0.map": packed([0, 1]), "new/1.map": packed([0, 2, 1]),
-    }),
-    Command("freeze -o out --codes other", LINES, files={"out": TWO, "other": packed([0, 1, 0])}),
-    Command("freeze -o out --codes -", LINES, packed([0, 1, 0]), {"out": TWO}),
+    Command("encode --raw two", b"a\nb", packed([1, 0])),
+    Command("decode --raw two codes", wrote=b"a\nb\n"),
+    Command("merge two three -o -", wrote=BOTH.files()["0.dict"]),
+    Command("encode --raw two -o out", b"a\nb", files={"out": packed([1, 0])}),
+    Command("decode --raw two codes -o out", files={"out": b"a\nb\n"}),
+    Command("merge two three -o out --maps new", files={"out": BOTH.files()["0.dict"]} | {f"new/{it}": MAPS[it] for it in MAPS}),
+    Command("freeze -o out --column other", LINES, files={"out": TWO, "other": COLUMN}),
+    Command("freeze -o out --column -", LINES, COLUMN, {"out": TWO}),
+    Command("freeze --shards 2 -o new --column other", LINES, files=SHARDS),
     Command("decode two column", wrote=LINES),
     Command("rows two column 1-2", wrote=b"a\nb\n"),
     Command("rows --trusted two column 1-2 0", wrote=b"a\nb\nb\n"),
     Command("count two column", wrote=b"2\tb\n1\ta\n"),
     Command("match two column b", wrote=b"0\n2\n", failed=2),
-    Command("stat column", wrote=STAT),
-    Command("encode two lines --column -", wrote=COLUMN),
-    Command("encode two lines --column out", files={"out": COLUMN}),
-    Command("freeze -o out --column other lines", files={"out": TWO, "other": COLUMN}),
-    Command("renumber --column column --dict two --into three twomap -o out", files={"out": column(id_of(THREE), [0, 2, 0])}),
+    Command("encode two lines", wrote=COLUMN),
+    Command("encode two lines -o out", files={"out": COLUMN}),
+    Command("renumber --maps maps column -o out", files={"out": column(BOTH.id, [0, 1, 0])}),
+    Command("renumber --maps maps --into both column", wrote=column(BOTH.id, [0, 1, 0])),
 ]
 EACH = pytest.mark.parametrize("command", [pytest.param(it, id=it.words) for it in COMMANDS])
 
@@ -63,9 +60,10 @@ EACH = pytest.mark.parametrize("command", [pytest.param(it, id=it.words) for it 
 def inputs(folder):
     """The files that the commands read."""
     put(".", {
-        "words": freeze(WORDS), "two": TWO, "three": THREE, "codes": packed([1, 0]), "map": packed([1, 2]), "lines": LINES,
-        "twomap": packed([0, 2]), "column": COLUMN,
+        "words": freeze(WORDS), "two": TWO, "three": THREE, "both": BOTH.files()["0.dict"], "codes": packed([1, 0]),
+        "lines": LINES, "column": COLUMN,
     })
+    put("maps", MAPS)
     put("new", {})
 
 
@@ -120,34 +118,40 @@ def test_closed_inputs(tool, command):
 
 
 @pytest.mark.parametrize("setting", ["REFUSE", "FAIL_READ", "FULL"])
-@pytest.mark.parametrize("words", ["split 0.dict --shards 3", "join 0.merged 1.merged 2.merged"])
-def test_folders_that_fail(tool, words, setting):
-    """After an error the folder has no index."""
-    lists = made()
-    wanted = split_folder(lists[0], 3) if words.startswith("split") else files_in("whole")
+@pytest.mark.parametrize("words", [
+    "merge 0 1 -o new --maps others", "merge --shard 1 0 1 -o new --maps others",
+    "merge two three --shards 2 -o new --maps others",
+])
+def test_merges_that_fail(tool, words, setting):
+    """After an error each file is whole, or isn't there. A shard is written after the maps to it."""
+    one, two, whole = made()
+    parts = PARTS if "two" in words else [one, two]
+    whole = merge_of(PARTS, 2) if "two" in words else whole
+    shards, maps = whole.files(), maps_of(parts, whole)
+    if "--shard 1" in words:
+        shards, maps = {"1.dict": shards["1.dict"]}, {it.map_name(1): maps[it.map_name(1)] for it in parts}
+
+    def is_kept(_):
+        written, others = files_in("new") or {}, files_in("others") or {}
+        ends = [".map"] if parts == PARTS else [f".{it.removesuffix('.dict')}.map" for it in written]
+        needed = {it for it in maps if written and it.endswith(tuple(ends))}
+        return written.items() <= shards.items() and others.items() <= maps.items() and needed <= others.keys()
+
+    def prepare():
+        for folder in ("new", "others"):
+            shutil.rmtree(folder, ignore_errors=True)
+
     tool.failing(
-        setting, [*words.split(), "-o", "target"], b"", prepare=functools.partial(shutil.rmtree, "target", ignore_errors=True),
-        is_whole=lambda: files_in("target") == wanted, is_kept=lambda _: "shards" not in (files_in("target") or {}),
+        setting, words.split(), b"", prepare=prepare, is_kept=is_kept,
+        is_whole=lambda: files_in("new") == shards and files_in("others") == maps,
     )
 
 
 @pytest.mark.parametrize("setting", ["REFUSE", "FAIL_READ", "FULL"])
-def test_merged_shards_that_fail(tool, setting):
-    """The shard stays, and its line is there or isn't."""
-    made()
-    table, line = read("1.merged"), read("1.merged.line")
+def test_renumberings_that_fail(tool, setting):
+    one, _, whole = made()
+    wanted = renumbered_column(read("0.column"), [maps_of([one], whole)[one.map_name(it)] for it in range(3)])
     tool.failing(
-        setting, "merge --shard 1 0 1 -o 1.merged".split(), b"", is_whole=lambda: read("1.merged.line") == line,
-        is_kept=lambda _: read("1.merged") == table and read("1.merged.line") in (line, None),
-    )
-
-
-@pytest.mark.parametrize("setting", ["REFUSE", "FAIL_READ", "FULL"])
-def test_columns_of_shards_that_fail(tool, setting):
-    first, _, joined = made()
-    put(".", {"part": column(id_of(read("0.dict")), [3, MISSING])})
-    wanted = column(id_of_strings(joined, 0), [joined.index(first[3]), MISSING])
-    tool.failing(
-        setting, "renumber --column part --dict 0.dict --into whole --maps maps --part 0 0 -o out".split(), b"",
-        prepare=lambda: put(".", {"out": WAS}), is_whole=lambda: read("out") == wanted, is_kept=lambda _: read("out") == WAS,
+        setting, "renumber --maps maps --into whole 0.column -o out".split(), b"", prepare=lambda: put(".", {"out": WAS}),
+        is_whole=lambda: read("out") == wanted, is_kept=lambda _: read("out") == WAS,
     )

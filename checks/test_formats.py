@@ -1,11 +1,13 @@
-"""formats.py beside the samples of docs/FROZEN.md and docs/COLUMN-FILES.md, and beside itself. No program is run."""
+"""formats.py beside the samples of docs/FORMATS.md, and beside itself. No program is run."""
 
 import re
+import tempfile
 from pathlib import Path
 
 from formats import (
-    MISSING, TEXT, Frozen, Id, column, column_faults, encoded, ended, freeze, id_of, id_of_strings, ids_in, index_of,
-    lines_of, map_index_of, packed, read_column, rebuilt, shard_of, shards_of, sip_hash, split_folder, table_faults, unpacked,
+    MISSING, TEXT, Frozen, column, column_faults, dictionary_of, encoded, ended, files_in, freeze, id_of, id_of_strings, lines_of,
+    maps_of, merge_of, packed, put, read_column, read_dictionary, rebuilt, renumbered_column, shard_of, shards_of, sip_hash,
+    table_faults, unpacked,
 )
 from hypothesis import given
 from hypothesis import strategies as st
@@ -21,18 +23,10 @@ def samples(page):
     return [re.sub(r"(?m) {3}\S.*$", "", it) for it in blocks]
 
 
-def test_samples_of_frozen():
+def test_samples_of_the_page():
     table = freeze([b"rose"], TEXT)
-    assert table[64:] == bytes.fromhex(samples("FROZEN.md")[0]) and sip_hash(0, 0, b"rose") == 0xDBCBC1FE67FCD9A6
-    _, index, line, maps, *_ = (it.encode() for it in samples("FROZEN.md"))
-    assert index_of(ids_in(index)) == index and line.split(b"\n")[1] == index.split(b"\n")[2]
-    assert [len(it.split()) for it in maps.split(b"\n")] == [4, 6, 6, 4, 0]
-
-
-def test_the_sample_of_column_files():
-    (wanted,) = samples("COLUMN-FILES.md")
-    data = column(id_of(freeze([b"rose", b"thorn"], TEXT, 1, 2)), [0, 1, 0, MISSING])
-    assert data == bytes.fromhex(wanted)
+    made = column(id_of(freeze([b"rose", b"thorn"], TEXT, 1, 2)), [0, 1, 0, MISSING])
+    assert [table, made] == [*map(bytes.fromhex, samples("FORMATS.md"))] and sip_hash(0, 0, b"rose") == 0xDBCBC1FE67FCD9A6
 
 
 @given(STRINGS, st.booleans(), KEYS, KEYS)
@@ -57,17 +51,22 @@ def test_shards(strings, count):
     shards = shards_of(strings, count)
     assert sorted(strings) == sorted(it for each in shards for it in each)
     assert all(shard_of(count, it) == number for number, each in enumerate(shards) for it in each)
-    files = split_folder(strings, count)
-    assert ids_in(files["shards"]) == [id_of_strings(it, 0) for it in shards] and ids_in(files["shards"][:-1]) is None
-    assert [it for each in shards for it in each] == [strings[unpacked(files["map"]).index(it)] for it in range(len(strings))]
 
 
-def test_an_index_of_maps():
-    """The last line of the page's sample is the identity of three strings."""
-    maps = samples("FROZEN.md")[3].encode()
-    ids = [Id(0, *(int(it, 16) for it in line.split()[1:4])) for line in maps.split(b"\n")[1:4]]
-    made = map_index_of([b"", b""], ids[:2], ids[2])
-    assert [it.split()[:4] for it in made.split(b"\n")] == [it.split()[:4] for it in maps.split(b"\n")]
+@given(st.lists(STRINGS, min_size=1, max_size=3), st.integers(1, 4), st.integers(1, 4))
+def test_merges(lists, count, more):
+    """What is merged is read again, and a column by its maps has the lines that it had."""
+    parts = [dictionary_of(it, count) for it in lists]
+    whole = merge_of(parts, more if count == 1 else 1)
+    maps = maps_of(parts, whole)
+    assert not any(faults for it in maps.values() if (faults := column_faults(it)))
+    for part in parts:
+        lines = [*part.strings[::-1], None]
+        some = [maps[part.map_name(it)] for it in range(count)]
+        assert renumbered_column(part.column(lines), some) == whole.column(lines)
+    with tempfile.TemporaryDirectory() as folder:
+        put(folder, whole.files())
+        assert (read_dictionary(folder), files_in(folder)) == (whole, whole.files())
 
 
 @given(st.lists(st.binary(max_size=4).filter(lambda it: b"\n" not in it)))

@@ -3,13 +3,18 @@
 import itertools
 import os
 import random
+import re
 import resource
 import subprocess
 import sys
+from pathlib import Path
 
 import hypothesis
 import pytest
-from formats import BYTES, KINDS, MISSING, TEXT, Frozen, encoded, ended, freeze, is_text, lines_of, packed, put, sip_hash
+from formats import (
+    BYTES, KINDS, MISSING, TEXT, Dictionary, Frozen, dictionary_of, encoded, ended, freeze, hashes_in, is_text, lines_of, map_of,
+    packed, put, read_dictionary, sip_hash,
+)
 from hypothesis import strategies as st
 from programs import run
 from tool import DONE, NAME, WORDS, left, read, said, wrote
@@ -55,14 +60,20 @@ def test_the_hash_is_that_of_python():
     assert [sip_hash(0, 0, it) for it in words] == [int(it) % 2**64 for it in hashes]
 
 
-def check_commands(tool, name, strings, kind, size):
-    """What the commands say of a dictionary of these strings, in a file or in a folder of shards."""
+def check_commands(tool, name, whole, shard=None):
+    """What the commands say of a dictionary, in a file or in a folder of shards, or of one shard of it."""
+    strings = whole.strings if shard is None else whole.shards[shard]
+    size = sum(os.path.getsize(it) for it in (Path(name).glob("*.dict") if os.path.isdir(name) else [name]))
     lines, tenths = ended(strings), 10 * size // max(1, len(strings))
-    options: list[list[str]] = [[]] if os.path.isdir(name) else [[], ["--trusted"]]
-    told = f"kind {KINDS[kind]}\nstrings {len(strings)}\nbytes {size}\nbytes a string {tenths // 10}.{tenths % 10}\n"
+    told = f"kind {KINDS[whole.kind]}\nstrings {len(strings)}\nbytes {size}\nbytes a string {tenths // 10}.{tenths % 10}\n"
+    status, written, messages = tool("stat", name)
+    places = [whole.name, str(len(whole.shards)), str(shard or 0)]
+    start = f"{told}longest {max(map(len, strings), default=0)}\n"
+    assert (status, messages, written.decode().startswith(start)) == (0, [], True), written
+    assert re.findall(r"^\w+ (\w+)$", written.decode().removeprefix(start), re.M) == places, written
     assert tool("check", name) == DONE and tool("list", name) == wrote(lines)
-    assert tool("stat", name) == wrote(f"{told}longest {max(map(len, strings), default=0)}\n".encode())
     some = [*range(0, len(strings), max(1, len(strings) // 1000)), len(strings) - 1, 0] if strings else []
+    options: list[list[str]] = [[]] if os.path.isdir(name) else [[], ["--trusted"]]
     for words, given in itertools.product(options, (lines, lines[:-1] + b"x\n\n" + lines + b"absent")):
         codes = encoded(strings, lines_of(given))
         found = wrote(ended(b"-" if it == MISSING else b"%d" % it for it in codes), int(MISSING in codes))
@@ -75,9 +86,8 @@ def check_commands(tool, name, strings, kind, size):
 
 @EACH
 def test_commands(tool, strings):
-    data = table_of(strings, len(strings))
-    put(".", {"whole": data})
-    check_commands(tool, "whole", strings, Frozen(data, True).kind, len(data))
+    put(".", {"whole": table_of(strings, len(strings))})
+    check_commands(tool, "whole", read_dictionary("whole"))
 
 
 @EACH
@@ -144,16 +154,17 @@ def test_chosen_lines(tool):
 def test_blocks(tool, lines, end):
     """Lines that reach over the end of a block are whole."""
     given, distinct = b"\n".join(lines) + end, [*dict.fromkeys(lines)]
-    assert tool("freeze", "-o", "made", "--kind", "text", "--codes", "codes", given=given) == DONE
-    assert read("made") == freeze(distinct, TEXT) and read("codes") == packed(encoded(distinct, lines))
+    assert tool("freeze", "-o", "made", "--kind", "text", "--column", "column", given=given) == DONE
+    whole = dictionary_of(distinct, 1, TEXT)
+    assert {"0.dict": read("made")} == whole.files() and read("column") == whole.column(lines)
     assert tool("freeze", "-o", "-", given=given) == wrote(freeze(distinct))
 
 
 def test_lines_that_repeat_take_no_memory(tool):
     given = b"".join(b"a line that is there a thousand times: %d\n" % (number % 1_000) for number in range(1_000_000))
-    for words in ([], ["--codes", "codes"]):
+    for words in ([], ["--column", "column"]):
         assert tool.shell('ulimit -v 40000; exec "$@"', "freeze", "-o", "made", *words, given=given) == DONE
-    assert os.path.getsize("codes") == 4_000_000
+    assert os.path.getsize("column") == 2_000_128
 
 
 def test_long_lines(tool):
@@ -162,20 +173,25 @@ def test_long_lines(tool):
     line = b"0123456789abcdef" * (100 * 2**16)
     lines, two = line + b"\nb\n", packed([0, 1])
     put(".", {"source": lines})
+    assert tool("freeze", "-o", "long", "source") == DONE
+    # (the hash of so many bytes takes the writer here minutes)
+    whole = Dictionary(BYTES, hashes_in(Frozen(read("long"), True).header.own), [[line, b"b"]])
+    column = whole.column([line, b"b"])
     missing = f"line 1 is not in the dictionary: '{line[1:201].decode()}'..; --missing gives such lines the code {MISSING}"
     for words, given, wanted in (
-        ("freeze -o long --codes codes source", b"", DONE), ("encode long source", b"", wrote(two)),
-        ("encode long", line, wrote(two[:4])), ("encode long", line[1:], said(1, f"standard input: {missing}")),
-        ("find long source", b"", wrote(b"0\n1\n")), ("decode long codes", b"", wrote(lines)),
+        ("freeze -o long --column column source", b"", DONE), ("encode --raw long source", b"", wrote(two)),
+        ("encode long source", b"", wrote(column)), ("encode --raw long", line, wrote(two[:4])),
+        ("encode long", line[1:], said(1, f"standard input: {missing}")), ("find long source", b"", wrote(b"0\n1\n")),
+        ("decode long column", b"", wrote(lines)), ("decode --raw long", two, wrote(lines)),
         ("get long 0", b"", wrote(line + b"\n")), ("list long", b"", wrote(lines)),
-        ("merge long long -o out --maps maps", b"", DONE),
+        ("merge long long -o out --maps maps", b"", DONE), ("freeze --shards 2 -o shards --column column source", b"", DONE),
     ):
         before = sum(resource.getrusage(resource.RUSAGE_CHILDREN)[:2])
         # (a difference of so long lines takes pytest minutes to show)
         is_right = tool(*words.split(), given=given) == wanted
         assert is_right, words
         assert sum(resource.getrusage(resource.RUSAGE_CHILDREN)[:2]) - before < 15, words
-    is_right = read("codes") == two == read("maps/1.map") and read("out") == read("long")
+    is_right = read(f"maps/{whole.map_name()}") == map_of(whole, whole) and read("out") == read("long")
     assert is_right
 
 

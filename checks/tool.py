@@ -3,12 +3,11 @@
 import itertools
 import os
 import re
-import subprocess
 from pathlib import Path
 
 import pytest
-from formats import folder_of, freeze, line_of, maps_of, merged, packed, put, shards_of, split_folder
-from programs import BUILDS, run
+from formats import dictionary_of, maps_of, merge_of, put
+from programs import BUILDS, run, unread
 
 NAME = "intaglio_dict"
 WAS = b"as it was"
@@ -19,6 +18,7 @@ FAILURES = {
     "FULL": "No space left on device",
 }
 ONE_STANDARD_INPUT = "standard input can be only one of the inputs"
+TRUSTED_FOLDER = "--trusted takes a file, and this is a folder of shards"
 # Parameters: the executables of the two compilers.
 OF_PROGRAM = [pytest.param(it, id=it or "first", marks=pytest.mark.program) for it in BUILDS]
 # The status of a program whose output nobody reads.
@@ -75,11 +75,7 @@ class Tool:
 
     def unread(self, *words, given=b""):
         """The status and the messages if nobody reads the output."""
-        reader, writer = os.pipe()
-        os.close(reader)
-        ended = subprocess.run([self.path, *words], input=given, stdout=writer, stderr=subprocess.PIPE, timeout=60)
-        os.close(writer)
-        return ended.returncode, ended.stderr
+        return unread([self.path, *words], given)
 
     def failing(self, setting, words, wanted, given=b"", status=1, *, is_whole, is_kept, prepare=lambda: None):
         """The N-th request for memory, read or write fails, for each N until none does and the output is whole: the program
@@ -101,18 +97,12 @@ class Tool:
 
 
 def made(count=3):
-    """Makes two parts in shards, their merged shards, the joined folder, and the maps, by the writer here. Returns the two
-    lists of strings, and that of the joined folder."""
-    lists = [[b"w%d" % it for it in range(start, start + 30)] for start in (0, 20)]
-    for part, strings in enumerate(lists):
-        put(str(part), split_folder(strings, count))
-        put(".", {f"{part}.dict": freeze(strings)})
-    each = [merged(shards_of(it, count)[shard] for it in lists) for shard in range(count)]
-    put("whole", folder_of([strings for strings, _ in each]))
-    indexes = [read(f"{part}/shards") for part in range(2)]
-    for shard, (strings, numbers) in enumerate(each):
-        table = freeze(strings)
-        put(".", {f"{shard}.merged": table, f"{shard}.merged.line": line_of(shard, indexes, table)})
-        put(f"maps/{shard}", maps_of(numbers, [read(f"{part}/{shard}.dict") for part in range(2)], table))
-    put(".", {"codes": packed([0, 1, 2])})
-    return *lists, [*itertools.chain(*(strings for strings, _ in each))]
+    """Makes two parts in shards with a column each, the dictionary to which they are merged, and the maps, by the writer here.
+    Returns the three dictionaries."""
+    parts = [dictionary_of((b"w%d" % it for it in range(start, start + 30)), count) for start in (0, 20)]
+    whole = merge_of(parts)
+    for name, it in zip(("0", "1", "whole"), (*parts, whole)):
+        put(name, it.files())
+        put(".", {f"{name}.column": it.column([*it.strings[::-3], None])})
+    put("maps", maps_of(parts, whole))
+    return *parts, whole

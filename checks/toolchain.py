@@ -274,16 +274,6 @@ def unreadable(said, texts):
     return next((line for line in said.splitlines() if rt.unread(line, texts) or rt.rtlib.STALE.search(line)), None)
 
 
-class NothingKept:
-    """Stands for what `rt` keeps of earlier runs under a version that keeps nothing."""
-
-    def tried(self, _name):
-        return None
-
-    def is_untouched(self, _crate):
-        return False
-
-
 class Verdicts:
     """What the prover said of edits, in this run and in earlier ones of any checkout on this machine. It is kept where `rt` keeps
     what it said of its own edits, if it does, and as `rt` does under a sum of all that it stands on: the kit, the files of the
@@ -293,7 +283,7 @@ class Verdicts:
     def __init__(self, scripts, is_anew, is_beside_ci):
         every = crates() if keeps_verdicts() else []
         # (the files are looked at here, and again as something is kept)
-        self.kept = load().Kept(every, is_anew) if every else NothingKept()
+        self.kept = load().Kept(every, is_anew) if every else None
         self.stamps: dict[str, str] = {}
         for crate in every:
             load().stamp_of(crate, self.stamps)
@@ -304,11 +294,12 @@ class Verdicts:
 
     def known(self, crate, edit):
         """What was said of an edit, as it was read, in an earlier run, or nothing."""
-        return (self.kept.tried(self.name(crate, edit, self.is_beside_ci)) or (None, None))[1]
+        found = self.kept and self.kept.tried(self.name(crate, edit, self.is_beside_ci))
+        return found[1] if found else None
 
     def keep(self, crate, edit, said):
         """Keeps what was said of it, unless a file of the crate or of those below it was touched since this run began."""
-        if all(map(self.kept.is_untouched, [crate, *crate.below()])):
+        if self.kept and all(map(self.kept.is_untouched, [crate, *crate.below()])):
             for is_of_ci in {False, self.is_beside_ci}:
                 self.kept.keep_tried(self.name(crate, edit, is_of_ci), load().REFUSED, said)
 
@@ -331,15 +322,20 @@ def crate_above(room, name):
     return crate
 
 
-def built_tests(crate):
-    """The status of proving and building the crate's tests, and what was printed."""
+def heard(crate, call):
+    """The status of a call that works on the crate, and what was printed."""
     with tempfile.TemporaryFile("w+", errors="replace") as crate.out:
         try:
-            status = crate.ci(jobs(), True)
+            status = call()
         except SystemExit as stopped:
-            status = stopped.code
+            status = stopped.code or 2
         crate.out.seek(0)
         return status, crate.out.read()
+
+
+def built_tests(crate):
+    """The status of proving and building the crate's tests, and what was printed."""
+    return heard(crate, lambda: crate.ci(jobs(), True))
 
 
 def ran_tests(crate):
@@ -382,20 +378,14 @@ def proved(crate, jobs):
     more = (
         ["--toolchain", f"{rt.KIT}/toolchain", "--backend", "llvm", "-o", f"{made}.o"] if crate.is_program else ["-o", crate.rlib]
     )
-    with tempfile.TemporaryFile("w+", errors="replace") as crate.out:
-        try:
-            status = crate.prove(["build", *words, *more])
-            if not status and crate.is_program:
-                status = crate.link(f"{made}.o", made)
-        except SystemExit as stopped:
-            status = stopped.code or 2
-        if not status and stamp == crate.stamp():
-            Path(kept, "stamp").write_text(stamp, encoding="utf-8")
-            if not crate.is_program and keeps_verdicts():
-                # (as `rt lib` does, so that other checkouts on this machine take it)
-                rt.offer(crate, stamp)
-        crate.out.seek(0)
-        return status, crate.out.read()
+    build = ["build", *words, *more]
+    status, said = heard(crate, lambda: crate.prove(build) or (crate.link(f"{made}.o", made) if crate.is_program else 0))
+    if not status and stamp == crate.stamp():
+        Path(kept, "stamp").write_text(stamp, encoding="utf-8")
+        if not crate.is_program and keeps_verdicts():
+            # (as `rt lib` does, so that other checkouts on this machine take it)
+            rt.offer(crate, stamp)
+    return status, said
 
 
 def built_static(name):
@@ -407,10 +397,8 @@ def built_static(name):
         return ""
     build_missing(crate.below())
     made.parent.mkdir(exist_ok=True)
-    with tempfile.TemporaryFile("w+", errors="replace") as crate.out:
-        status = crate.build_static(jobs())
-        crate.out.seek(0)
-        return crate.out.read() if status else ""
+    status, said = heard(crate, lambda: crate.build_static(jobs()))
+    return said if status else ""
 
 
 def copied_proofs(repository, names):
