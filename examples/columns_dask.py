@@ -4,7 +4,7 @@
 The file is read in blocks of about SIZE (64 MiB), which end at a line's end. Each gets a dictionary and codes, by a worker.
 The dictionaries are merged in a tree, on the workers, and the maps go back to the workers that made the codes. OUT is a new
 folder, which all workers see as they see the file. The one dictionary is written there, and the new codes of each block by its
-worker: `intaglio_dict decode OUT/whole.dict OUT/*.codes` writes the lines of the file. If a worker is lost, Dask runs its
+worker: `intaglio_dict decode --raw OUT/whole.dict OUT/*.codes` writes the lines of the file. If a worker is lost, Dask runs its
 tasks again, on others.
 
 SCHEDULER is the scheduler's address, such as tcp://HOST:8786. This program and each worker need the module `intaglio`,
