@@ -1,14 +1,14 @@
 -- What C sees of a column, which is its bytes.
 use Rattle.std.specs.Prelude.{◌≡◌, ◌≢◌, ℕ, ◌<◌, ◌≤◌, List, length, Some, MatchResult, Result, Ok, Err}
-use Rattle.intaglio_column_file.specs.Fault.{IsFault}
-use Rattle.intaglio_column_file.specs.IsColumn.{Describes, HasRows, IsColumn}
-use Rattle.intaglio_column_file.specs.Layout.{codes, shards, strings}
-use Rattle.intaglio_column_file.specs.Rows.{AreCounts}
-use Rattle.intaglio_column_file.specs.Writing.{IsRefusal, file_of, header_for, lines}
-use Rattle.intaglio_column_file.specs.declared.error.ColumnError.{ColumnError}
-use Rattle.intaglio_column_file.specs.declared.error.ColumnError.TheVariants as fault
-use Rattle.intaglio_column_file.specs.declared.error.ColumnWriteError.{ColumnWriteError}
-use Rattle.intaglio_column_file.specs.declared.error.ColumnWriteError.TheVariants as error
+use Rattle.intaglio_columns.specs.Fault.{IsFault}
+use Rattle.intaglio_columns.specs.IsColumn.{Describes, HasRows, IsColumn}
+use Rattle.intaglio_columns.specs.Layout.{codes, shards, strings}
+use Rattle.intaglio_columns.specs.Rows.{AreCounts}
+use Rattle.intaglio_columns.specs.Writing.{IsRefusal, file_of, header_for, lines}
+use Rattle.intaglio_columns.specs.declared.file.error.ColumnError.{ColumnError}
+use Rattle.intaglio_columns.specs.declared.file.error.ColumnError.TheVariants as fault
+use Rattle.intaglio_columns.specs.declared.file.error.ColumnWriteError.{ColumnWriteError}
+use Rattle.intaglio_columns.specs.declared.file.error.ColumnWriteError.TheVariants as error
 use Rattle.intaglio_c.specs.Handles.{filled}
 use Rattle.intaglio_c.specs.declared.reference.Reference.{Reference}
 use Rattle.intaglio_c.specs.Words.{Refusal, NoMemory, BadEnds, NoSymbol, NoSpace, NoKind, OtherVersion, Reserved, TooMany, Truncated, NotColumn, BadWidth, TrailingBytes, BadShard, Damaged}

@@ -1,7 +1,7 @@
 -- What C sees of the dictionaries that files name.
 use Rattle.std.specs.Prelude.{◌≡◌, Bool, ℕ, List, MatchOption, Result, Ok, Err}
-use Rattle.intaglio_column_file.specs.IsColumn.{Describes, HasRows}
-use Rattle.intaglio_column_file.specs.Layout.{rows, shards as shards_of, source_of}
+use Rattle.intaglio_columns.specs.IsColumn.{Describes, HasRows}
+use Rattle.intaglio_columns.specs.Layout.{rows, shards as shards_of, source_of}
 use Rattle.intaglio_frozen.specs.Id.{IsIdOfStrings}
 use Rattle.intaglio_frozen.specs.Identity.{is_text_number}
 use Rattle.intaglio_frozen.specs.IsFrozen.{HasHeader, number_of}

@@ -2,7 +2,7 @@
 ghost use Rattle.std.specs.Prelude.{◌≡◌, map, IfOk};
 ghost use Rattle.intaglio_c.specs.References.{own_id, place_in, set_in};
 
-use intaglio_column_file::DictionaryId;
+use intaglio_columns::DictionaryId;
 use intaglio_frozen::{Place, SetId};
 use std::alloc::{AllocError, Global};
 

@@ -5,7 +5,7 @@ ghost use Rattle.intaglio_c.specs.Columns.{column_refusal, write_refusal};
 ghost use Rattle.intaglio_c.specs.Frozen.{freeze_refusal, frozen_refusal};
 ghost use Rattle.intaglio_c.specs.declared.refusal.Refusal.TheVariants.{NoMemory};
 
-use intaglio_column_file::{ColumnError, ColumnWriteError};
+use intaglio_columns::{ColumnError, ColumnWriteError};
 use intaglio_core::{InternError, RoomError, StaleMark, Symbol};
 use intaglio_frozen::{FreezeError, FrozenError};
 use std::alloc::AllocError;

@@ -14,10 +14,10 @@ use crate::io::report::Tell;
 use crate::keeping::Keeping;
 use crate::misfit::{no_string, no_symbol};
 use clap::ArgMatches;
-use intaglio_dictionary::codes::PlainCodes;
-use intaglio_dictionary::columns::{decode_column, encode_column};
-use intaglio_dictionary::dictionary::{Dictionary, WholeDictionary};
-use intaglio_dictionary::error::ColumnError;
+use intaglio_columns::codes::PlainCodes;
+use intaglio_columns::columns::{decode_column, encode_column};
+use intaglio_columns::dictionary::{Dictionary, WholeDictionary};
+use intaglio_columns::error::CodesError;
 use std::alloc::Global;
 use std::io::{Read, Write};
 use std::random::RandomSource;
@@ -39,7 +39,7 @@ impl<D: WholeDictionary + Dictionary> Translation<'_, D> {
         alloc: Global,
         input: &mut I,
         output: &mut W,
-    ) -> Result<u64, ColumnError> {
+    ) -> Result<u64, CodesError> {
         match self {
             Translation::Encode(table, missing) => encode_column(
                 alloc, *table, *missing, input, output,
@@ -59,24 +59,24 @@ impl<D: WholeDictionary + Dictionary> Translation<'_, D> {
     }
 
     // Of a line or code that wasn't translated, which is among the bytes that were read last.
-    fn report<R: Tell>(&self, rt: &R, name: &str, fault: ColumnError, read: &[u8]) -> u8 {
+    fn report<R: Tell>(&self, rt: &R, name: &str, fault: CodesError, read: &[u8]) -> u8 {
         match fault {
-            ColumnError::NoSymbol(n) => match self {
+            CodesError::NoSymbol(n) => match self {
                 Translation::Encode(table, _) => no_symbol(rt, name, n, *table, read),
-                Translation::Decode(_, _) => report::failed(rt, name, ColumnError::NoSymbol(n)),
+                Translation::Decode(_, _) => report::failed(rt, name, CodesError::NoSymbol(n)),
             },
-            ColumnError::NoString(n) => match self {
+            CodesError::NoString(n) => match self {
                 Translation::Decode(table, text) => {
                     no_string(rt, name, n, *table, text.is_some(), read)
                 }
-                Translation::Encode(_, _) => report::failed(rt, name, ColumnError::NoString(n)),
+                Translation::Encode(_, _) => report::failed(rt, name, CodesError::NoString(n)),
             },
-            ColumnError::ShortCode(n) => report::failed(
+            CodesError::ShortCode(n) => report::failed(
                 rt,
                 name,
                 format_args!("code number {n} is cut short"),
             ),
-            ColumnError::Stream(error) => report::failed(rt, name, ColumnError::Stream(error)),
+            CodesError::Stream(error) => report::failed(rt, name, CodesError::Stream(error)),
         }
     }
 }
@@ -118,7 +118,7 @@ impl<D: WholeDictionary + Dictionary> Translated<'_, D> {
                 self.count = self.count.saturating_add(count);
                 Ok(())
             }
-            Err(ColumnError::Stream(fault)) => {
+            Err(CodesError::Stream(fault)) => {
                 let (read, written) = (
                     (name_of(input_name), input.input.error),
                     (name, output.error),

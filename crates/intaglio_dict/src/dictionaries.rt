@@ -6,9 +6,8 @@ use crate::io::metered::Meter;
 use crate::io::report;
 use crate::io::report::Tell;
 use clap::ArgMatches;
-use intaglio_column_file::{ColumnHeader, DictionaryId};
-use intaglio_frozen::{Frozen, Header, Kind};
-use intaglio_merge::{Shards, ShardsError};
+use intaglio_columns::{ColumnHeader, DictionaryId};
+use intaglio_frozen::{Frozen, Header, Kind, Shards, ShardsError};
 use std::rt::Files;
 
 /// The bytes of a dictionary, as they were read.

@@ -3,7 +3,7 @@ ghost use Rattle.std.specs.Prelude.{None};
 
 use crate::io::metered::Metered;
 use crate::io::report::Tell;
-use intaglio_dictionary::codes::CODE;
+use intaglio_columns::codes::CODE;
 use std::alloc::AllocError;
 use std::io;
 use std::io::{ErrorKind, Read};

@@ -1,7 +1,7 @@
 //! Makes dictionaries, which are frozen tables in files, looks up the lines of files in them, and translates
 //! columns of lines to codes and back.
 //!
-//! What is asked is read from the arguments, and answered by `intaglio_dictionary`.
+//! What is asked is read from the arguments, and answered by `intaglio_columns`.
 #![tactic(auto)]
 
 mod column_files;

@@ -4,7 +4,7 @@ use crate::io::folders::{make_folder, map_name};
 use crate::io::output::{Bytes, write_to};
 use crate::io::report;
 use crate::io::report::Tell;
-use intaglio_column_file::{ColumnWriteError, RowSource, sourced_column_bytes};
+use intaglio_columns::{ColumnWriteError, RowSource, sourced_column_bytes};
 use intaglio_frozen::{Header, Kind, SetId};
 use intaglio_symbol::Symbol;
 use std::random::RandomSource;

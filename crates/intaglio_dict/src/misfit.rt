@@ -1,7 +1,7 @@
 //! Messages on a line or code that isn't translated.
 use crate::io::report::{Tell, failed};
-use intaglio_dictionary::codes::{CODE, MISSING, PlainCodes};
-use intaglio_dictionary::dictionary::WholeDictionary;
+use intaglio_columns::codes::{CODE, MISSING, PlainCodes};
+use intaglio_columns::dictionary::WholeDictionary;
 use intaglio_symbol::Symbol;
 use std::str;
 

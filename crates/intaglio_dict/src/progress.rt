@@ -1,6 +1,6 @@
 //! How far `freeze` and `merge` are, on standard error.
 use crate::io::report::{Tell, say};
-use intaglio_dictionary::progress::Progress;
+use intaglio_columns::progress::Progress;
 
 /// Shows each stage that is reached, if that is asked for. A line that can't be written is lost.
 #[derive(Drop)]

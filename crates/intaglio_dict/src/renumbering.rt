@@ -1,6 +1,6 @@
 //! The subcommand that renumbers columns by maps.
 ghost use Rattle.std.specs.Prelude.{All, IfOk};
-ghost use Rattle.intaglio_column_file.specs.IsColumn.{IsColumn};
+ghost use Rattle.intaglio_columns.specs.IsColumn.{IsColumn};
 
 use crate::column_files::opening::no_column;
 use crate::dictionaries::{Reference, read_dictionary};
@@ -11,9 +11,9 @@ use crate::io::output::{Bytes, write_to};
 use crate::io::report;
 use crate::io::report::Tell;
 use clap::ArgMatches;
-use intaglio_column_file::{Column, ColumnHeader};
-use intaglio_dictionary::error::RenumberError;
-use intaglio_dictionary::renumbering::renumber_by_maps;
+use intaglio_columns::error::RenumberError;
+use intaglio_columns::renumbering::renumber_by_maps;
+use intaglio_columns::{Column, ColumnHeader};
 use intaglio_frozen::SetId;
 use std::fs;
 use std::io::ErrorKind;

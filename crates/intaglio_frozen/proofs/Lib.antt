@@ -14,3 +14,10 @@ pub mod Distinct
 pub mod Marked
 pub mod Hashed
 pub mod OfStrings
+pub mod Apart
+pub mod Absorbed
+pub mod Filtered
+pub mod Joined
+pub mod Numbered
+pub mod Renumbered
+pub mod Sharded

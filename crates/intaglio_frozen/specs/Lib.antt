@@ -15,3 +15,6 @@ pub mod Stuck
 pub mod Marks
 pub mod Freezing
 pub mod Left
+pub mod Laws
+pub mod Merging
+pub mod Shards

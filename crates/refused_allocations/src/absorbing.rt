@@ -2,7 +2,7 @@
 //!
 //! The prover takes seconds wherever a table of one kind is passed to a call of any
 //! table, so these are of any kind.
-ghost use Rattle.intaglio_merge.specs.Merging.{AreAccepted};
+ghost use Rattle.intaglio_frozen.specs.Merging.{AreAccepted};
 
 use crate::batches::all_interned;
 use crate::checked_table::tell;
@@ -12,9 +12,8 @@ use crate::words::{COUNT, forms_of};
 use intaglio::packed::bytes::BytesKind;
 use intaglio::packed::{Packed, PackedForm};
 use intaglio::{BaseInterner, ContentOf, KindForm, KindOwned, Table, TableOver, Work, bytes};
-use intaglio_frozen::StringList;
+use intaglio_frozen::{FromString, StringList, absorb};
 use intaglio_hash::FixedState;
-use intaglio_merge::{FromString, absorb};
 use std::alloc::Global;
 use test_support::builders::Fold;
 

@@ -1,5 +1,5 @@
 //! Column files of each width, whole and damaged.
-use intaglio_column_file::{
+use intaglio_columns::{
     Column, ColumnError, ColumnHeader, ColumnWriteError, DictionaryId, MISSING, RowSource, Width,
     begins_as_column, column_bytes, header_bytes, sourced_column_bytes,
 };

@@ -1,10 +1,10 @@
 //! Calls on columns, which C passes as their bytes. Each call reads the header of the column again, and reads
 //! nothing outside the bytes.
 ghost use Rattle.std.specs.Prelude.{◌≡◌, ◌-◌, drop, false, length, min, slice_get};
-ghost use Rattle.intaglio_column_file.specs.IsColumn.{HasRows, IsColumn};
-ghost use Rattle.intaglio_column_file.specs.Layout.{codes, width as width_of};
-ghost use Rattle.intaglio_column_file.specs.Rows.{overlaid, rows_of};
-ghost use Rattle.intaglio_column_file.specs.Width.{bytes_of};
+ghost use Rattle.intaglio_columns.specs.IsColumn.{HasRows, IsColumn};
+ghost use Rattle.intaglio_columns.specs.Layout.{codes, width as width_of};
+ghost use Rattle.intaglio_columns.specs.Rows.{overlaid, rows_of};
+ghost use Rattle.intaglio_columns.specs.Width.{bytes_of};
 ghost use Rattle.intaglio_c.specs.Answers.{IsCodeOf, given};
 ghost use Rattle.intaglio_c.specs.Columns.{ChecksColumn, Counts, WritesColumn};
 ghost use Rattle.intaglio_c.specs.References.{ReadsSource, ReadsTarget};
@@ -12,7 +12,7 @@ ghost use Rattle.intaglio_c.specs.References.{ReadsSource, ReadsTarget};
 use crate::reference::Reference;
 use crate::refusal::{Refusal, code};
 use crate::spelling::fill;
-use intaglio_column_file::{Column, DictionaryId, RowSource, sourced_column_bytes};
+use intaglio_columns::{Column, DictionaryId, RowSource, sourced_column_bytes};
 use std::alloc::Global;
 
 /// Checks that these bytes are a column, and reads all of them. Fails with what is wrong with them.

@@ -2,14 +2,13 @@
 //! of shards.
 ghost use Rattle.std.specs.Prelude.{◌≡◌, ◌<◌, map};
 ghost use Rattle.intaglio_frozen.specs.SetId.{set_of_merge, set_of_shards};
-ghost use Rattle.intaglio_merge.specs.Shards.{shard_of};
+ghost use Rattle.intaglio_frozen.specs.Shards.{shard_of};
 ghost use Rattle.intaglio_c.specs.Answers.{IsCodeOf};
 ghost use Rattle.intaglio_c.specs.References.{MakesSet, own_id, set_in};
 
 use crate::reference::{Reference, ids_of, sets_of};
 use crate::refusal::{Refusal, code};
-use intaglio_frozen::SetId;
-use intaglio_merge::shard_of;
+use intaglio_frozen::{SetId, shard_of};
 use std::alloc::Global;
 
 /// The shard that a string belongs to, of `shards` ones: from 0 to `shards - 1`. If there are none, it is 0.

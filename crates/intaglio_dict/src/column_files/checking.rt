@@ -7,7 +7,7 @@ use crate::io::noticing::Noticing;
 use crate::io::output::ended;
 use crate::io::report;
 use crate::io::report::Tell;
-use intaglio_column_file::{Column, MISSING};
+use intaglio_columns::{Column, MISSING};
 use intaglio_lines::error::StreamError;
 use std::io;
 use std::io::Write;

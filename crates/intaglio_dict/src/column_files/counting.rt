@@ -6,10 +6,10 @@ use crate::io::output::OUTPUT;
 use crate::io::report;
 use crate::io::report::Tell;
 use clap::ArgMatches;
-use intaglio_column_file::Column;
-use intaglio_dictionary::counting::write_counts;
-use intaglio_dictionary::dictionary::Dictionary;
-use intaglio_dictionary::error::DictionaryError;
+use intaglio_columns::Column;
+use intaglio_columns::counting::write_counts;
+use intaglio_columns::dictionary::Dictionary;
+use intaglio_columns::error::DictionaryError;
 use std::io;
 use std::rt::Files;
 

@@ -5,10 +5,10 @@ use crate::io::input::name_of;
 use crate::io::noticing::Noticing;
 use crate::io::report;
 use crate::io::report::Tell;
-use intaglio_column_file::{Column, MISSING};
-use intaglio_dictionary::dictionary::Dictionary;
-use intaglio_dictionary::error::RowsError;
-use intaglio_dictionary::rows::{RowRange, write_rows};
+use intaglio_columns::dictionary::Dictionary;
+use intaglio_columns::error::RowsError;
+use intaglio_columns::rows::{RowRange, write_rows};
+use intaglio_columns::{Column, MISSING};
 use std::io::Write;
 
 // How many rows are decoded at a time.

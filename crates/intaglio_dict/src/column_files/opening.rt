@@ -5,8 +5,8 @@ use crate::io::input::{first_input, name_of};
 use crate::io::report;
 use crate::io::report::Tell;
 use clap::ArgMatches;
-use intaglio_column_file::{Column, ColumnError};
-use intaglio_dictionary::dictionary::Dictionary;
+use intaglio_columns::dictionary::Dictionary;
+use intaglio_columns::{Column, ColumnError};
 use intaglio_frozen::TrustedFrozen;
 use std::rt::Files;
 

@@ -1,7 +1,7 @@
 //! What `absorb` does to tables of each kind: the symbols of a list's strings, or
 //! nothing if the table can't hold them.
 ghost use Rattle.intaglio_frozen.specs.IsFrozen.{AreTexts};
-ghost use Rattle.intaglio_merge.specs.Merging.{AreAccepted};
+ghost use Rattle.intaglio_frozen.specs.Merging.{AreAccepted};
 
 use super::assertions::{holds, same};
 use super::tables::packed_of;
@@ -12,9 +12,8 @@ use intaglio::packed::path::PathKind;
 use intaglio::packed::{Packed, PackedForm, StrKind};
 use intaglio::{ContentOf, Table, TableOver};
 use intaglio_core::{BaseInterner, InternError, Symbol, Work};
-use intaglio_frozen::StringList;
+use intaglio_frozen::{FromString, StringList, absorb, are_texts};
 use intaglio_hash::FixedState;
-use intaglio_merge::{FromString, absorb, are_texts};
 use std::alloc::Global;
 use std::process::Abort;
 

@@ -4,9 +4,10 @@ use super::assertions::{holds, same};
 use super::tables::packed_of;
 use intaglio::packed::bytes::{BytesKind, SymbolTable};
 use intaglio_core::Symbol;
-use intaglio_frozen::{Frozen, Kind, StringList, freeze};
+use intaglio_frozen::{
+    Frozen, Kind, Shards, ShardsError, StringList, freeze, shard_of, split_with_map,
+};
 use intaglio_hash::FixedState;
-use intaglio_merge::{Shards, ShardsError, shard_of, split_with_map};
 use std::alloc::Global;
 use std::process::Abort;
 

@@ -1,6 +1,6 @@
 use Rattle.std.proofs.Common.{All, sym, subst}
 use Rattle.std.proofs.lemmas.List.Elements.{All-push}
-use Rattle.intaglio_column_file.specs.IsColumn.{IsColumn}
+use Rattle.intaglio_columns.specs.IsColumn.{IsColumn}
 use Rattle.intaglio_dict.proofs.renumbering.open_maps.Goals as goal
 
 pub loop-number-preserved : goal.loop-number-preserved

@@ -1,8 +1,0 @@
--- The codes so far, over the first places.
-use Rattle.std.proofs.Common.{◌≡◌, drop, take}
-use Rattle.intaglio_column_file.specs.Layout.{codes}
-use Rattle.intaglio_column_file.specs.Rows.{overlaid}
-use Rattle.intaglio_column_file.proofs.column.Column.copy_codes.Given as goal
-
-abbrev pub invariant-loop-i : goal.invariant-loop-i
-invariant-loop-i g l = l.places ≡ overlaid (take l.i (drop l.from (codes l.self))) l.initial.places

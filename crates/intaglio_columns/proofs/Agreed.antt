@@ -1,0 +1,79 @@
+-- A column and maps that meet.
+use Rattle.std.proofs.Common.{◌≡◌, ◌∙◌, ap, refl, ℕ, ◌<◌, Bool, true, false, cond, nat_lt, List, [], get_or, length, map, subst, Some, arith}
+use Rattle.std.specs.List.{slice_get, All}
+use Rattle.std.proofs.lemmas.Bool.Decides.{nat_tests}
+use Rattle.std.proofs.lemmas.Option.{get_or_from_slice_get, slice_get-get_or, slice_get_read, slice_get_within}
+use Rattle.intaglio_columns.specs.declared.file.source.RowSource.{RowSource}
+use Rattle.intaglio_columns.specs.IsColumn.{IsColumn}
+use Rattle.intaglio_columns.specs.Layout.{codes, shards, source_of, strings}
+use Rattle.intaglio_columns.specs.Source.{fits}
+use Rattle.intaglio_columns.specs.Joining.{IsMapColumn}
+use Rattle.intaglio_frozen.specs.Merging.{IsMap, renumber}
+use Rattle.intaglio_frozen.specs.Shards.{joined, joined_map, sum_of}
+use Rattle.intaglio_frozen.proofs.Joined.{maps-join}
+use Rattle.intaglio_columns.proofs.JoinedMaps.{joined-length, joined-rows}
+use Rattle.intaglio_columns.proofs.Kept.{kept}
+use Rattle.intaglio_columns.specs.Renumbering.{KeepsLines, LeadAlike, Meet, joined_codes, source_for}
+
+-- map i leads from where it has to, and as the first one
+abbrev pub LeadsRight : List ℕ → List (List ℕ) → ℕ → Type 0
+LeadsRight column maps i = (m : List ℕ) → slice_get maps i ≡ Some m →
+    (source_of m ≡ source_for column i) × LeadAlike (get_or maps 0 []) m
+
+pub right-at : (column : List ℕ) (maps : List (List ℕ)) (i : ℕ) (m : List ℕ) → slice_get maps i ≡ Some m →
+    source_of m ≡ source_for column i → LeadAlike (get_or maps 0 []) m → LeadsRight column maps i
+right-at column maps i m at from alike = λ other there.
+    let same : m ≡ other = cc in
+    subst (λ t. (source_of t ≡ source_for column i) × LeadAlike (get_or maps 0 []) t) same (from, alike)
+
+-- the first map, if there is one
+pub first-is : (maps : List (List ℕ)) (i : ℕ) (m first : List ℕ) → slice_get maps i ≡ Some m →
+    first ≡ get_or maps 0 first → get_or maps 0 [] ≡ first
+first-is maps i m first at is =
+    let within = slice_get_within maps i m at in
+    get_or_from_slice_get maps 0 first [] (slice_get_read maps (length maps) 0 first refl (omega (arith, within)) is)
+
+-- rows that come from one dictionary, whose map leads to another, can be those of a column of the other
+source-fits : (from into : ℕ) (s t : RowSource) → fits from s ≡ true → fits into t ≡ true →
+    t.shards ≡ from → fits into s ≡ true
+source-fits from into s t old new same = grind (arith, nat_tests)
+
+some-shards : (n : ℕ) (s : RowSource) → fits n s ≡ true → 0 < n
+some-shards n s fit = grind (arith, nat_tests)
+
+some-wanted : (n : ℕ) (b : Bool) → 0 < n → 0 < cond b 1 n
+some-wanted n true some = omega arith
+some-wanted n false some = some
+
+module _ (column : List ℕ) (maps : List (List ℕ)) (is : IsColumn column) (met : Meet column maps)
+    (are : All IsColumn maps) where
+  some : 0 < shards column
+  some = some-shards (shards column) (source_of column) is.checksum.rows.header.source.fits
+
+  pub not-none : 0 < length maps
+  not-none = omega (arith, met.many, some-wanted (shards column) (nat_lt 1 (source_of column).shards) some)
+
+  from-at : (i : ℕ) (d : List ℕ) → i < length maps → (source_of (get_or maps i d)).shards ≡ shards column
+  from-at i d within = ap (λ s. s.shards) (met.from i (get_or maps i d) (slice_get-get_or maps i d within))
+
+  pub are-maps : All IsMapColumn maps
+  are-maps = λ i d within. record {
+    column = are i d within;
+    source = λ none. omega (arith, none, some, from-at i d within);
+  }
+
+  pub fits-first : (first : List ℕ) → first ≡ get_or maps 0 first → fits (shards first) (source_of column) ≡ true
+  fits-first first is-first =
+      let fit = source-fits (shards column) (shards (get_or maps 0 first)) (source_of column)
+      (source_of (get_or maps 0 first)) is.checksum.rows.header.source.fits
+      (are 0 first not-none).checksum.rows.header.source.fits (from-at 0 first not-none) in
+      rw (← is-first) at fit
+
+  -- renumbered by the maps, codes keep their lines
+  pub keeps : KeepsLines maps (codes column) (renumber (joined_codes maps) (codes column))
+  keeps = λ olds news text leads counts.
+      let whole = maps-join olds news (map codes maps) leads in
+      kept (joined olds) (joined news) text (joined_codes maps) (strings column)
+      (subst (λ t. IsMap (joined olds) (joined news) (joined_map 0 t (map codes maps))) counts whole)
+      (omega (arith, joined-length news, ap sum_of counts, met.few)) (joined-rows 0 maps ∙ met.rows)
+      is.checksum.rows.header.source.width.few (codes column) is.codes

@@ -1,0 +1,54 @@
+-- Codes that follow each other, and where they stand.
+use Rattle.std.proofs.Common.{◌≡◌, ◌∙◌, ℕ, zero, suc, ◌+◌, ◌*◌, ◌<◌, List, length, get_or, slice_get, Some, refl, sym, ap, arith}
+use Rattle.std.proofs.lemmas.Option.{get_or_from_slice_get, slice_get-get_or}
+use Rattle.intaglio_columns.specs.Width.{bytes_of}
+use Rattle.intaglio_hash.specs.Push.{number}
+use Rattle.intaglio_columns.specs.Layout.{code_at, codes_at, widened, rows, width, codes}
+use Rattle.intaglio_columns.specs.declared.file.width.Width.{Width}
+
+-- the list of n codes that follow each other in bytes has n items
+pub codes_length : (bs : List ℕ) (w : Width) (at n : ℕ) → length (codes_at bs w at n) ≡ n
+codes_length bs w at zero = refl
+codes_length bs w at (suc n) = ap suc (codes_length bs w (at + bytes_of w) n)
+
+-- of n codes that follow each other in bytes, the one at position i stands i widths behind the first
+pub codes_get : (bs : List ℕ) (w : Width) (at n i : ℕ) → i < n →
+    get_or (codes_at bs w at n) i 0 ≡ code_at bs w (at + bytes_of w * i)
+codes_get bs w at zero i l = absurd (omega arith)
+codes_get bs w at (suc n) zero l = ap (code_at bs w) (omega arith)
+codes_get bs w at (suc n) (suc i) l = codes_get bs w (at + bytes_of w) n i (omega arith)
+    ∙ ap (code_at bs w) (omega arith)
+
+-- all codes of a column
+pub all_length : (bs : List ℕ) → length (codes bs) ≡ rows bs
+unfolding codes
+all_length bs = codes_length bs (width bs) 128 (rows bs)
+
+-- the code of a row stands as many widths behind the header as there are rows before it
+pub all_get : (bs : List ℕ) (i : ℕ) → i < rows bs →
+    slice_get (codes bs) i ≡ Some (code_at bs (width bs) (128 + bytes_of (width bs) * i))
+unfolding codes
+all_get bs i l =
+    let read = codes_get bs (width bs) 128 (rows bs) i l in
+    slice_get-get_or (codes bs) i 0 (omega (arith, l, all_length bs)) ∙ ap Some read
+
+-- a code that was read
+pub read_get : (bs : List ℕ) (w : Width) (row size code : ℕ) → w ≡ width bs → row < rows bs →
+    size ≡ bytes_of w → code ≡ code_at bs w (128 + size * row) → slice_get (codes bs) row ≡ Some code
+read_get bs w row size code ew l es e =
+    let at = ap (λ v. code_at bs v (128 + bytes_of v * row)) (sym ew)
+    ∙ ap (λ s. code_at bs w (128 + s * row)) (sym es) ∙ sym e in
+    all_get bs row l ∙ ap Some at
+
+-- the same, where a row without a code reads as 0
+pub read_or : (bs : List ℕ) (w : Width) (row size : ℕ) → w ≡ width bs → row < rows bs → size ≡ bytes_of w →
+    code_at bs w (128 + size * row) ≡ get_or (codes bs) row 0
+read_or bs w row size ew l es =
+    sym (get_or_from_slice_get (codes bs) row (code_at bs w (128 + size * row)) 0
+    (read_get bs w row size (code_at bs w (128 + size * row)) ew l es refl))
+
+-- the number at a position, once widened, is the code there
+pub code_is : (bs : List ℕ) (w : Width) (at code read : ℕ) → read ≡ number bs at 0 (bytes_of w) →
+    code ≡ widened w read → code ≡ code_at bs w at
+unfolding code_at
+code_is bs w at code read same e = e ∙ ap (widened w) same

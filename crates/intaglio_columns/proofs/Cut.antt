@@ -1,0 +1,132 @@
+-- Where the first piece of bytes ends: a line, or a code of four bytes.
+use Rattle.std.proofs.Common.{◌≡◌, ◌∙◌, sym, ap, refl, subst, ℕ, zero, suc, ◌+◌, ◌-◌, ◌*◌, ◌/◌, ◌%◌, ◌≤◌, Bool, true, false, eqb, eq-eqb, ltb, lt-ltb, le-ltb, not, cond, length-drop, List, [], ◌∷◌, ◌++◌, length, take, drop, get_or, Option, None, Some, option_map, append_assoc, arith}
+use borrow.Author.Tests.{ltb-true, ltb-false}
+use Rattle.std.specs.List.{position, prefix_len, slice_get, AllByRecursion}
+use Rattle.std.proofs.lemmas.List.{length-map, length-take, take-append-drop, take_rest}
+use Rattle.std.proofs.lemmas.List.Folds.{prefix_len-append}
+use Rattle.std.proofs.lemmas.Option.{slice_get-map}
+use Rattle.intaglio_lines.specs.Lines.{lines_of}
+use Rattle.intaglio_lines.specs.Decoded.{IsLine}
+use Rattle.intaglio_lines.proofs.LineCuts.{lines-cut-at, lines-cut-nowhere, position-None, position-Some, whole-cut-at}
+use Rattle.intaglio_lines.proofs.ByLines.{lines_of-are_lines, lines_of-more}
+use Rattle.intaglio_columns.specs.Columns.{code_of, code_pieces, codes_of}
+use Rattle.intaglio_columns.specs.Translation.{StartsWith, last_piece}
+
+-- bytes with a byte 10 begin with the line before the first one and go on behind it, whatever follows them
+pub line-starts : (bytes : List ℕ) (end : ℕ) → position (λ b. eqb b 10) bytes ≡ Some end →
+    StartsWith lines_of bytes (take end bytes ∷ []) (drop (end + 1) bytes)
+line-starts bytes end is more =
+    let rest = drop (end + 1) bytes in
+    let cut : take (length bytes - (end + 1)) rest ≡ rest = take_rest bytes (end + 1) in
+    let lines : AllByRecursion IsLine (take end bytes ∷ lines_of (take (length bytes - (end + 1)) rest)) =
+    subst (AllByRecursion IsLine) (lines-cut-at bytes end is) (lines_of-are_lines bytes) in
+    let whole : bytes ≡ take end bytes ++ 10 ∷ rest =
+    whole-cut-at bytes end is ∙ ap (λ t. take end bytes ++ 10 ∷ t) cut in
+    ap (λ t. lines_of (t ++ more)) whole ∙ ap lines_of (append_assoc (take end bytes) (10 ∷ rest) more)
+    ∙ lines_of-more (take end bytes) (rest ++ more) lines.0
+
+-- bytes without a byte 10 are one line, or none if there are no bytes
+pub line-last : (bytes : List ℕ) → position (λ b. eqb b 10) bytes ≡ None → lines_of bytes ≡ last_piece bytes
+line-last [] is = refl
+line-last (b ∷ bytes) is = lines-cut-nowhere (b ∷ bytes) is (omega arith)
+
+-- a byte 10 behind bytes that have none
+cond-behind : (n m l : ℕ) →
+    cond (ltb (n + m) (n + l)) (Some (n + m)) None ≡ option_map (λ k. n + k) (cond (ltb m l) (Some m) None)
+cond-behind n m l = by-order (ltb m l) refl
+  where
+    by-order : (b : Bool) → ltb m l ≡ b →
+        cond (ltb (n + m) (n + l)) (Some (n + m)) None
+        ≡ option_map (λ k. n + k) (cond (ltb m l) (Some m) None)
+    by-order true is = let more : ltb (n + m) (n + l) ≡ true =
+        lt-ltb (n + m) (n + l) (omega (arith, ltb-true m l is)) in rw (is, more) refl
+    by-order false is = let more : ltb (n + m) (n + l) ≡ false =
+        le-ltb (n + m) (n + l) (omega (arith, ltb-false m l is)) in rw (is, more) refl
+
+-- if the first n bytes have no byte 10, the first one of all is n further on than in the bytes behind those
+pub position-behind : (bytes : List ℕ) (n : ℕ) → n ≤ length bytes →
+    position (λ b. eqb b 10) (take n bytes) ≡ None
+    → position (λ b. eqb b 10) bytes ≡ option_map (λ k. n + k) (position (λ b. eqb b 10) (drop n bytes))
+position-behind bytes n within none =
+    let q : ℕ → Bool = λ b. not (eqb b 10) in
+    let first : prefix_len q (take n bytes) ≡ length (take n bytes) =
+    position-None (λ b. eqb b 10) (take n bytes) none in
+    let long : length (take n bytes) ≡ n = omega (arith, length-take n bytes) in
+    let past : eqb (prefix_len q (take n bytes)) (length (take n bytes)) ≡ true = eq-eqb _ _ first in
+    let all : prefix_len q bytes ≡ n + prefix_len q (drop n bytes) =
+    ap (prefix_len q) (sym (take-append-drop n bytes)) ∙ prefix_len-append q (take n bytes) (drop n bytes)
+    ∙ ap (λ t. cond t (length (take n bytes) + prefix_len q (drop n bytes)) (prefix_len q (take n bytes)))
+    past
+    ∙ ap (λ t. t + prefix_len q (drop n bytes)) long in
+    let size : length bytes ≡ n + length (drop n bytes) = omega (arith, length-drop n bytes) in
+    ap (λ t. cond (ltb t (length bytes)) (Some t) None) all
+    ∙ ap (λ t. cond (ltb (n + prefix_len q (drop n bytes)) t) (Some (n + prefix_len q (drop n bytes))) None)
+    size
+    ∙ cond-behind n (prefix_len q (drop n bytes)) (length (drop n bytes))
+
+-- bytes that are at most one piece have no byte 10
+pub no-end : (bytes : List ℕ) → lines_of bytes ≡ last_piece bytes → position (λ b. eqb b 10) bytes ≡ None
+no-end [] is = refl
+no-end (x ∷ bytes) is = by-end (position (λ b. eqb b 10) (x ∷ bytes)) refl
+  where
+    by-end : (end : Option ℕ) → position (λ b. eqb b 10) (x ∷ bytes) ≡ end →
+        position (λ b. eqb b 10) (x ∷ bytes) ≡ None
+    by-end None at = at
+    by-end (Some end) at =
+        let cut : take end (x ∷ bytes)
+        ∷ lines_of (take (length (x ∷ bytes) - (end + 1)) (drop (end + 1) (x ∷ bytes))) ≡ (x ∷ bytes) ∷ [] =
+        sym (lines-cut-at (x ∷ bytes) end at) ∙ is in
+        let same : take end (x ∷ bytes) ≡ x ∷ bytes = cc in
+        absurd (omega (
+          arith,
+          ap length same,
+          length-take end (x ∷ bytes),
+          (position-Some (λ b. eqb b 10) (x ∷ bytes) end at).1,
+          (position-Some (λ b. eqb b 10) (x ∷ bytes) end at).0,
+        ))
+
+-- 4 * n bytes are cut into n pieces
+pieces-count : (bytes : List ℕ) (n : ℕ) → length bytes ≡ 4 * n → length (code_pieces bytes) ≡ n
+pieces-count [] n long = omega arith
+pieces-count (a ∷ []) n long = absurd (omega arith)
+pieces-count (a ∷ b ∷ []) n long = absurd (omega arith)
+pieces-count (a ∷ b ∷ c ∷ []) n long = absurd (omega arith)
+pieces-count (a ∷ b ∷ c ∷ d ∷ bytes) zero long = absurd (omega arith)
+pieces-count (a ∷ b ∷ c ∷ d ∷ bytes) (suc n) long = omega (arith, pieces-count bytes n (omega arith))
+
+-- four bytes are a code
+pub codes-count : (bytes : List ℕ) → length bytes % 4 ≡ 0 → length bytes ≡ 4 * length (codes_of bytes)
+codes-count bytes whole =
+    let long : length bytes ≡ 4 * (length bytes / 4) = omega (arith, whole) in
+    omega (arith, pieces-count bytes (length bytes / 4) long, length-map (code_pieces bytes) code_of, long)
+
+-- the bytes of the code at a position
+module _ (a b c d : ℕ) (bytes : List ℕ) where
+  behind : (i j : ℕ) → j ≡ suc (suc (suc (suc i))) → get_or (a ∷ b ∷ c ∷ d ∷ bytes) j 0 ≡ get_or bytes i 0
+  behind i j e = rw e refl
+
+-- if there are at least 4 * n + 4 bytes, piece n has the four bytes from 4 * n on
+piece-at : (bytes : List ℕ) (n : ℕ) → 4 * n + 4 ≤ length bytes
+    → slice_get (code_pieces bytes) n
+    ≡ Some (get_or bytes (4 * n) 0 ∷ get_or bytes (4 * n + 1) 0 ∷ get_or bytes (4 * n + 2) 0
+    ∷ get_or bytes (4 * n + 3) 0 ∷ [])
+piece-at [] n within = absurd (omega arith)
+piece-at (a ∷ []) n within = absurd (omega arith)
+piece-at (a ∷ b ∷ []) n within = absurd (omega arith)
+piece-at (a ∷ b ∷ c ∷ []) n within = absurd (omega arith)
+piece-at (a ∷ b ∷ c ∷ d ∷ bytes) zero within = refl
+piece-at (a ∷ b ∷ c ∷ d ∷ bytes) (suc n) within =
+    let rest = piece-at bytes n (omega arith) in
+    let first = behind a b c d bytes (4 * n) (4 * suc n) (omega arith) in
+    let second = behind a b c d bytes (4 * n + 1) (4 * suc n + 1) (omega arith) in
+    let third = behind a b c d bytes (4 * n + 2) (4 * suc n + 2) (omega arith) in
+    let fourth = behind a b c d bytes (4 * n + 3) (4 * suc n + 3) (omega arith) in
+    rw (first, second, third, fourth) rest
+
+-- if there are at least 4 * n + 4 bytes, code n is that of the four bytes from 4 * n on
+pub code-at : (bytes : List ℕ) (n : ℕ) → 4 * n + 4 ≤ length bytes
+    → slice_get (codes_of bytes) n
+    ≡ Some (code_of (get_or bytes (4 * n) 0 ∷ get_or bytes (4 * n + 1) 0 ∷ get_or bytes (4 * n + 2) 0
+    ∷ get_or bytes (4 * n + 3) 0 ∷ []))
+code-at bytes n within = slice_get-map code_of (code_pieces bytes) n
+    ∙ ap (option_map code_of) (piece-at bytes n within)

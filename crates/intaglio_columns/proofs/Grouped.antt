@@ -1,0 +1,72 @@
+-- Groups of lines at the front of bytes.
+use Rattle.std.proofs.Common.{◌≡◌, ◌∙◌, sym, ap, refl, ℕ, zero, suc, ◌+◌, ◌-◌, ◌^◌, ◌<◌, min, Bool, true, false, List, [], ◌∷◌, ◌++◌, length, map, take, drop, drop-cons, get_or, Some, append_assoc, length-append, arith}
+use Rattle.std.specs.List.{slice_get}
+use Rattle.std.proofs.lemmas.List.{get_or-map, length-take, take-append-drop}
+use Rattle.std.proofs.lemmas.List.Elements.{All-nil, All-cons, All-append}
+use Rattle.std.proofs.lemmas.Option.{slice_get_within, get_or_from_slice_get}
+use Rattle.intaglio_columns.specs.Translation.{AllFit, ReportsAmong, ReportsPiece, StartsWith}
+use Rattle.intaglio_columns.specs.declared.translate.TranslateError.{TranslateError}
+use Rattle.intaglio_columns.specs.declared.translate.TranslateError.TheVariants.{Misfit, Stream}
+use Rattle.intaglio_columns.proofs.Listed.{next}
+
+-- some pieces at the front, and one more
+pub starts-more : (pieces : List ℕ → List (List ℕ)) (bytes rest behind : List ℕ) (ps : List (List ℕ))
+    (piece : List ℕ) → StartsWith pieces bytes ps rest → StartsWith pieces rest (piece ∷ []) behind
+    → StartsWith pieces bytes (ps ++ piece ∷ []) behind
+starts-more pieces bytes rest behind ps piece first second more =
+    first more ∙ ap (λ t. ps ++ t) (second more)
+    ∙ sym (append_assoc ps (piece ∷ []) (pieces (behind ++ more)))
+
+module _ (fits : List ℕ → Bool) (xs : List (List ℕ)) (i : ℕ) (x : List ℕ) (at : slice_get xs i ≡ Some x) where
+  -- the pieces so far can be translated, and the next one
+  pub fit-next : AllFit fits (take i xs) → fits x ≡ true → AllFit fits (take (i + 1) xs)
+  fit-next before fit =
+      rw (next xs i x at)
+      (All-append (λ p. fits p ≡ true) (take i xs) (x ∷ []) before
+      (All-cons (λ p. fits p ≡ true) x [] fit (All-nil (λ p. fits p ≡ true))))
+
+  pub all : xs ≡ take i xs ++ x ∷ drop (suc i) xs
+  all =
+      let value = get_or_from_slice_get xs i x x at in
+      sym (take-append-drop i xs) ∙ ap (λ t. take i xs ++ t) (drop-cons xs i x (slice_get_within xs i x at))
+      ∙ ap (λ v. take i xs ++ v ∷ drop (suc i) xs) value
+
+  -- the next one can't, and is the first
+  pub misfit-next : (number position size : ℕ) → AllFit fits (take i xs) → fits x ≡ false →
+      position ≡ min (number + i) (2 ^ 64 - 1) → size ≡ length x
+      → ReportsAmong fits (Misfit position size) xs number
+  misfit-next number position size before unfit place long front more fit counted = record {
+    before = front ++ take i xs;
+    misfit = x;
+    after = drop (suc i) xs ++ more;
+    parts = ap (λ t. front ++ (t ++ more)) all ∙ simp append_assoc;
+    fit = All-append (λ p. fits p ≡ true) front (take i xs) fit before;
+    unfit = unfit;
+    place = omega (
+      arith,
+      place,
+      counted,
+      length-append front (take i xs),
+      length-take i xs,
+      slice_get_within xs i x at,
+    );
+    long = long;
+  }
+
+  pub reports-next : (e : TranslateError) (number here : ℕ) → AllFit fits (take i xs) →
+      here ≡ min (number + i) (2 ^ 64 - 1) → ReportsPiece fits e x here → ReportsAmong fits e xs number
+  reports-next (Misfit position size) number here before place reports =
+      misfit-next number position size before reports.0 (reports.1 ∙ place) reports.2
+  reports-next (Stream failure) number here before place reports = λ front more fit counted. tt
+
+-- an item of a list that is mapped
+module _ {X : Type 0} where
+  pub mapped-at : (f : X → List ℕ) (xs : List X) (i : ℕ) (d : X) → i < length xs →
+      slice_get (map f xs) i ≡ Some (f (get_or xs i d))
+  mapped-at f [] i d lt = absurd (omega arith)
+  mapped-at f (x ∷ xs) zero d lt = refl
+  mapped-at f (x ∷ xs) (suc i) d lt = mapped-at f xs i d (omega arith)
+
+  pub mapped-get : {Y : Type 0} (f : X → Y) (xs : List X) (ys : List Y) (i : ℕ) (d : X) (e : Y) →
+      i < length xs → ys ≡ map f xs → get_or ys i e ≡ f (get_or xs i d)
+  mapped-get f xs ys i d e lt is = ap (λ t. get_or t i e) is ∙ get_or-map f xs i d e lt

@@ -1,0 +1,119 @@
+-- Maps in columns, as one map.
+use Rattle.std.proofs.Common.{◌≡◌, ◌≢◌, ◌∙◌, ◌==◌, sym, ap, refl, ℕ, zero, suc, ◌+◌, ◌<◌, ◌≤◌, Bool, true, false, cond, eq-eqb, List, [], ◌∷◌, ◌++◌, get_or, length, map, take, Some, inl, inr, append_assoc, length-append, arith}
+use Rattle.std.specs.List.{slice_get, All}
+use Rattle.std.proofs.lemmas.Bool.{true≢false}
+use Rattle.std.proofs.lemmas.List.{length-map, map-append}
+use Rattle.std.proofs.lemmas.Option.{slice_get-get_or}
+use Rattle.intaglio_frozen.specs.Shards.{AreWithin, joined, joined_map, sum_of}
+use Rattle.intaglio_frozen.proofs.Joined.{map-push}
+use Rattle.intaglio_columns.proofs.CodesInFile.{all_length}
+use Rattle.intaglio_columns.specs.Layout.{codes, rows, strings}
+use Rattle.intaglio_columns.specs.Rows.{rows_from}
+use Rattle.intaglio_columns.specs.Width.{missing}
+use Rattle.intaglio_columns.specs.Joining.{IsMapColumn}
+use Rattle.intaglio_columns.specs.Renumbering.{joined_codes}
+use Rattle.intaglio_columns.proofs.Listed.{next}
+
+-- one number more was added
+pub added-next : (ns : List ℕ) (i n : ℕ) → slice_get ns i ≡ Some n → (start : ℕ)
+    (before held items : List ℕ)
+    → held ≡ before ++ map (λ k. start + k) (take i ns) → items ≡ held ++ (start + n) ∷ []
+    → items ≡ before ++ map (λ k. start + k) (take (i + 1) ns)
+added-next ns i n at start before held items is more =
+    let plus = λ (k : ℕ). start + k in
+    let longer : map plus (take (i + 1) ns) ≡ map plus (take i ns) ++ (start + n) ∷ [] =
+    ap (map plus) (next ns i n at) ∙ map-append plus (take i ns) (n ∷ []) in
+    more ∙ ap (λ t. t ++ (start + n) ∷ []) is
+    ∙ append_assoc before (map plus (take i ns)) ((start + n) ∷ []) ∙ ap (λ t. before ++ t) (sym longer)
+
+-- no row is listed only if the first isn't
+first-other : (b : Bool) (row : ℕ) (rest : List ℕ) → cond b (row ∷ rest) rest ≡ [] →
+    (b ≡ false) × (rest ≡ [])
+first-other true row rest none = cc
+first-other false row rest none = (refl, none)
+
+-- where no row is missing, no code is the missing one
+none-missing : (row : ℕ) (cs : List ℕ) → rows_from (λ c. c == missing) row cs ≡ [] → (i code : ℕ) →
+    slice_get cs i ≡ Some code → code ≢ missing
+none-missing row [] none i code at = cc
+none-missing row (c ∷ cs) none zero code at = λ e.
+    let same : c ≡ code = cc in
+    true≢false (sym (eq-eqb c missing (same ∙ e)) ∙ (first-other (c == missing) row _ none).0)
+none-missing row (c ∷ cs) none (suc i) code at =
+    none-missing (row + 1) cs (first-other (c == missing) row _ none).1 i code at
+
+-- each number of a map is that of a string
+pub below-at : (bs : List ℕ) → IsMapColumn bs → (i code : ℕ) → slice_get (codes bs) i ≡ Some code →
+    code < strings bs
+below-at bs is i code at =
+    elim (is.column.codes i code at) as (λ _. code < strings bs) [
+      | inl below ↦ below
+      | inr same ↦ absurd (none-missing 0 (codes bs) (is.column.full is.source) i code at same)
+    ]
+
+pub all-within : (maps : List (List ℕ)) → All IsMapColumn maps → AreWithin (map strings maps) (map codes maps)
+all-within [] are = tt
+all-within (m ∷ maps) are = (
+  (λ i d within. below-at m (are 0 m (omega arith)) i (get_or (codes m) i d)
+      (slice_get-get_or (codes m) i d within)),
+  all-within maps (λ i d within. are (suc i) d (omega (arith, within))),
+)
+
+-- one count more
+sum-push : (counts : List ℕ) (count : ℕ) → sum_of (counts ++ count ∷ []) ≡ sum_of counts + count
+sum-push [] count = omega arith
+sum-push (c ∷ counts) count = omega (arith, sum-push counts count)
+
+-- the first of several maps have no more together than all
+sum-front : (count : List ℕ → ℕ) (maps : List (List ℕ)) (i : ℕ) →
+    sum_of (map count (take i maps)) ≤ sum_of (map count maps)
+sum-front count [] zero = omega arith
+sum-front count [] (suc i) = omega arith
+sum-front count (m ∷ maps) zero = omega arith
+sum-front count (m ∷ maps) (suc i) = omega (arith, sum-front count maps i)
+
+module _ (maps : List (List ℕ)) (i : ℕ) (m : List ℕ) (at : slice_get maps i ≡ Some m) where
+  pub sum-next : (count : List ℕ → ℕ) →
+      sum_of (map count (take (i + 1) maps)) ≡ sum_of (map count (take i maps)) + count m
+  sum-next count = ap (λ t. sum_of (map count t)) (next maps i m at)
+      ∙ ap sum_of (map-append count (take i maps) (m ∷ [])) ∙ sum-push (map count (take i maps)) (count m)
+
+  -- one map more has no more than all
+  pub sum-within : (count : List ℕ → ℕ) → sum_of (map count (take i maps)) + count m ≤ sum_of (map count maps)
+  sum-within count = omega (arith, sum-next count, sum-front count maps (i + 1))
+
+  -- one map more was joined
+  pub joined-next : (start : ℕ) (held items : List ℕ) → start ≡ sum_of (map strings (take i maps)) →
+      held ≡ joined_codes (take i maps) → items ≡ held ++ map (λ k. start + k) (codes m)
+      → items ≡ joined_codes (take (i + 1) maps)
+  joined-next start held items is before more =
+      let front = take i maps in
+      let counts = map strings front in
+      let from-zero : start ≡ 0 + sum_of counts = omega (arith, is) in
+      let same : length counts ≡ length (map codes front) =
+      length-map front strings ∙ sym (length-map front codes) in
+      more ∙ ap (λ t. t ++ map (λ k. start + k) (codes m)) before
+      ∙ ap (λ s. joined_codes front ++ map (λ k. s + k) (codes m)) from-zero
+      ∙ sym (map-push 0 counts (map codes front) (strings m) (codes m) same)
+      ∙ ap (λ t. joined_map 0 t (map codes front ++ codes m ∷ [])) (sym (map-append strings front (m ∷ [])))
+      ∙ ap (joined_map 0 (map strings (front ++ m ∷ []))) (sym (map-append codes front (m ∷ [])))
+      ∙ ap joined_codes (sym (next maps i m at))
+
+-- together maps have as many codes as rows
+pub joined-rows : (n : ℕ) (maps : List (List ℕ)) →
+    length (joined_map n (map strings maps) (map codes maps)) ≡ sum_of (map rows maps)
+joined-rows n [] = refl
+joined-rows n (m ∷ maps) =
+    let rest = joined_map (n + strings m) (map strings maps) (map codes maps) in
+    omega (
+      arith,
+      length-append (map (λ k. n + k) (codes m)) rest,
+      length-map (codes m) (λ k. n + k),
+      all_length m,
+      joined-rows (n + strings m) maps,
+    )
+
+-- shards have as many strings as all of them together
+pub joined-length : (lists : List (List (List ℕ))) → length (joined lists) ≡ sum_of (map length lists)
+joined-length [] = refl
+joined-length (ws ∷ lists) = omega (arith, length-append ws (joined lists), joined-length lists)

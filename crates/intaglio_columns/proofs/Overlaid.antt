@@ -1,0 +1,69 @@
+-- A list that is written over places, item by item.
+use Rattle.std.proofs.Common.{◌≡◌, ◌∙◌, ℕ, zero, suc, ◌+◌, ◌<◌, ◌≤◌, inl, inr, List, [], ◌∷◌, ◌++◌, length, take, drop, set, slice_get, Some, refl, sym, ap, arith, length-drop, length-take-le}
+use Rattle.std.proofs.lemmas.Bool.{cases_lt}
+use Rattle.std.proofs.lemmas.List.{get_or-drop}
+use Rattle.std.proofs.lemmas.Option.{slice_get-get_or, slice_get_within, get_or_from_slice_get}
+use Rattle.intaglio_columns.specs.Rows.{overlaid}
+use Rattle.intaglio_columns.proofs.Selected.{next}
+
+-- one more, where there is a place for it
+pub overlaid_more : (ns : List ℕ) (n : ℕ) (places : List ℕ) → length ns < length places →
+    set (overlaid ns places) (length ns) n ≡ overlaid (ns ++ n ∷ []) places
+overlaid_more [] n [] l = absurd (omega (arith, l))
+overlaid_more [] n (place ∷ places) l = refl
+overlaid_more (m ∷ ns) n [] l = absurd (omega (arith, l))
+overlaid_more (m ∷ ns) n (place ∷ places) l = ap (λ t. m ∷ t) (overlaid_more ns n places (omega (arith, l)))
+
+-- and where there is none
+pub overlaid_full : (ns : List ℕ) (n : ℕ) (places : List ℕ) → length places ≤ length ns →
+    overlaid ns places ≡ overlaid (ns ++ n ∷ []) places
+overlaid_full [] n [] l = refl
+overlaid_full [] n (place ∷ places) l = absurd (omega (arith, l))
+overlaid_full (m ∷ ns) n [] l = refl
+overlaid_full (m ∷ ns) n (place ∷ places) l = ap (λ t. m ∷ t) (overlaid_full ns n places (omega (arith, l)))
+
+-- as many as there are places or items
+pub overlaid_all : (ns places : List ℕ) (k : ℕ) → k ≤ length ns → (k < length ns → k ≡ length places) →
+    overlaid (take k ns) places ≡ overlaid ns places
+overlaid_all [] places zero l full = refl
+overlaid_all [] places (suc k) l full = refl
+overlaid_all (n ∷ ns) [] zero l full = refl
+overlaid_all (n ∷ ns) [] (suc k) l full = refl
+overlaid_all (n ∷ ns) (place ∷ places) zero l full = absurd (omega (arith, full (omega arith)))
+overlaid_all (n ∷ ns) (place ∷ places) (suc k) l full =
+    ap (λ t. n ∷ t)
+    (overlaid_all ns places k (omega (arith, l)) (λ m. omega (arith, full (omega (arith, m)))))
+
+-- what is read behind others
+pub read_behind : (cs : List ℕ) (from i c : ℕ) → slice_get cs (from + i) ≡ Some c →
+    slice_get (drop from cs) i ≡ Some c
+read_behind cs from i c at =
+    let within = slice_get_within cs (from + i) c at in
+    slice_get-get_or (drop from cs) i 0 (omega (arith, within, length-drop from cs))
+    ∙ ap Some (get_or-drop from cs i 0 ∙ get_or_from_slice_get cs (from + i) c 0 at)
+
+-- the item at a place of its own
+pub overlaid_next : (ns places now : List ℕ) (i n : ℕ) → now ≡ overlaid (take i ns) places →
+    i < length places → slice_get ns i ≡ Some n → set now i n ≡ overlaid (take (i + 1) ns) places
+overlaid_next ns places now i n e l at =
+    let size : length (take i ns) ≡ i = length-take-le i ns (omega (arith, slice_get_within ns i n at)) in
+    ap (λ t. set t i n) e ∙ ap (λ k. set (overlaid (take i ns) places) k n) (sym size)
+    ∙ overlaid_more (take i ns) n places (omega (arith, size, l))
+    ∙ ap (λ t. overlaid t places) (sym (next ns i n at))
+
+-- a number, if there is a place for it
+pub overlaid_put : (ns places now new : List ℕ) (k n : ℕ) → now ≡ overlaid ns places → k ≡ length ns →
+    length now ≡ length places
+    → (k < length now → new ≡ set now k n) → (length now ≤ k → new ≡ now) →
+    new ≡ overlaid (ns ++ n ∷ []) places
+overlaid_put ns places now new k n e size same there none = elim (cases_lt k (length places)) [
+  | inl l ↦ there (omega (arith, l, same)) ∙ ap (λ t. set t k n) e
+      ∙ ap (λ p. set (overlaid ns places) p n) size ∙ overlaid_more ns n places (omega (arith, size, l))
+  | inr m ↦ none (omega (arith, m, same)) ∙ e ∙ overlaid_full ns n places (omega (arith, m, size))
+]
+
+-- when a list is written over places, there are as many places as before
+pub overlaid_length : (ns places : List ℕ) → length (overlaid ns places) ≡ length places
+overlaid_length [] places = refl
+overlaid_length (n ∷ ns) [] = refl
+overlaid_length (n ∷ ns) (place ∷ places) = ap suc (overlaid_length ns places)

@@ -1,0 +1,107 @@
+-- Lines that are added to others, and lines of selected rows.
+use Rattle.std.proofs.Common.{◌≡◌, ◌∙◌, ℕ, ◌+◌, ◌<◌, inl, inr, Bool, true, List, [], ◌∷◌, ◌++◌, length, map, take, get_or, slice_get, Option, Some, refl, sym, ap, append_assoc, arith}
+use Rattle.std.specs.List.{flat_map}
+use Rattle.std.specs.Io.KnownBytes.{Appends}
+use Rattle.std.proofs.lemmas.List.{append-nil, map-append}
+use Rattle.std.proofs.lemmas.Grind.{flat_map-append}
+use Rattle.std.proofs.lemmas.Bool.{cases_lt}
+use Rattle.std.proofs.lemmas.Option.{get_or_from_slice_get, slice_get-get_or}
+use Rattle.intaglio_columns.specs.Rows.{IsFirstRow, rows_from, rows_past}
+use Rattle.intaglio_columns.proofs.Past.{all_rows_of, more_rows_of}
+use Rattle.intaglio_columns.proofs.Selected.{selected}
+use Rattle.intaglio_lines.specs.Output.{number_line}
+use Rattle.intaglio_lines.proofs.Appended.{Appends-append}
+use Rattle.intaglio_columns.specs.RowLines.{AreRangesBefore, HasRangeFault, IsRangeFault, IsRowsFault}
+use Rattle.intaglio_columns.specs.declared.rows.RowRange.{RowRange}
+use Rattle.intaglio_columns.specs.declared.error.RowsError.{RowsError}
+use Rattle.intaglio_columns.specs.declared.error.RowsError.TheVariants.{NoRow, NoLine, Stream}
+use Rattle.intaglio_columns.proofs.Listed.{flat_map-next}
+use Rattle.std.proofs.KnownBytes.{Appends-nil}
+
+-- one more line of the items of a list, behind those before it
+pub after_next : {X Y : Type 0} (xs : List X) (n : ℕ) (x : X) → slice_get xs n ≡ Some x →
+    (h : Y → List ℕ) (ys zs : List Y) (y : Y) (f : X → List ℕ)
+    → flat_map h ys ≡ flat_map h zs ++ flat_map f (take n xs) → h y ≡ f x →
+    flat_map h (ys ++ y ∷ []) ≡ flat_map h zs ++ flat_map f (take (n + 1) xs)
+after_next xs n x at h ys zs y f before same =
+    flat_map-append h ys (y ∷ []) ∙ ap (λ t. flat_map h ys ++ t) (append-nil (h y))
+    ∙ rw (before, same) (append_assoc (flat_map h zs) (flat_map f (take n xs)) (f x)
+    ∙ ap (λ t. flat_map h zs ++ t) (sym (flat_map-next xs n x at f)))
+
+-- what is made of one selected row more
+pub item_of_row : {X : Type 0} (p : ℕ → Bool) (cs : List ℕ) (i c : ℕ) → slice_get cs i ≡ Some c → p c ≡ true →
+    (f : ℕ → X)
+    → map f (rows_from p 0 (take (i + 1) cs)) ≡ map f (rows_from p 0 (take i cs)) ++ f i ∷ []
+item_of_row p cs i c at e f =
+    ap (map f) (selected p cs i c at e) ∙ map-append f (rows_from p 0 (take i cs)) (i ∷ [])
+
+-- the numbers of the rows before this one that pass were put
+pub record HavePut (p : ℕ → Bool) (cs : List ℕ) (from : ℕ) (old new : Option (List ℕ)) : Type 0 where
+  pub done : List ℕ
+  pub parts : done ++ rows_past p from cs ≡ rows_from p 0 cs
+  pub put : Appends old new (flat_map number_line done)
+
+module _ (p : ℕ → Bool) (cs : List ℕ) (old : Option (List ℕ)) where
+  pub none_put : HavePut p cs 0 old old
+  none_put = record {
+    done = [];
+    parts = refl;
+    put = Appends-nil old;
+  }
+
+  pub row_put : (from row : ℕ) (mid new : Option (List ℕ)) → HavePut p cs from old mid →
+      IsFirstRow p from cs row → Appends mid new (number_line row)
+      → HavePut p cs (row + 1) old new
+  row_put from row mid new before is more =
+      let lines = flat_map-append number_line before.done (row ∷ [])
+      ∙ ap (λ t. flat_map number_line before.done ++ t) (append-nil (number_line row)) in
+      record {
+        done = before.done ++ row ∷ [];
+        parts = more_rows_of p cs before.done (rows_from p 0 cs) from row before.parts is;
+        put = rw lines (Appends-append old mid new _ _ before.put more);
+      }
+
+  pub all_put : (from : ℕ) (new : Option (List ℕ)) → HavePut p cs from old new → rows_past p from cs ≡ [] →
+      Appends old new (flat_map number_line (rows_from p 0 cs))
+  all_put from new before left =
+      rw (← all_rows_of p cs before.done (rows_from p 0 cs) from before.parts left) before.put
+
+-- what stands for a range behind the last one
+abbrev pub no_range : RowRange
+no_range = record { first = 0; last = 0 }
+
+-- the ranges up to this one end at rows that are there, if those before it do, and this one does
+pub ranges-further : (n : ℕ) (cs : List ℕ) (ranges : List RowRange) → AreRangesBefore n cs ranges →
+    (get_or ranges n no_range).last < length cs → AreRangesBefore (n + 1) cs ranges
+ranges-further n cs ranges before this = λ m range l at. elim (cases_lt m n) [
+  | inl below ↦ before m range below at
+  | inr above ↦
+      let same : n ≡ m = omega (arith, l, above) in
+      let here : get_or ranges n no_range ≡ range =
+      rw same (get_or_from_slice_get ranges m range no_range at) in
+      rw here at this
+]
+
+-- the fault of a range, if those before it end at rows that are there
+has-fault : (strings : List (List ℕ)) (IsWhole : Type 0) (text : Option (List ℕ)) (cs : List ℕ)
+    (ranges : List RowRange) (n : ℕ) → n < length ranges → AreRangesBefore n cs ranges → (e : RowsError) →
+    IsRangeFault strings IsWhole text cs (get_or ranges n no_range) e
+    → HasRangeFault strings IsWhole text cs ranges e
+has-fault strings IsWhole text cs ranges n within before e fault = record {
+  number = n;
+  range = get_or ranges n no_range;
+  there = slice_get-get_or ranges n no_range within;
+  before = before;
+  fault = fault;
+}
+
+-- it is that of all ranges
+pub fault-of-range : (strings : List (List ℕ)) (IsWhole : Type 0) (text : Option (List ℕ)) (cs : List ℕ)
+    (ranges : List RowRange) (n : ℕ) → n < length ranges → AreRangesBefore n cs ranges → (e : RowsError) →
+    IsRangeFault strings IsWhole text cs (get_or ranges n no_range) e
+    → IsRowsFault strings IsWhole text cs ranges e
+fault-of-range strings IsWhole text cs ranges n within before (Stream failure) fault = fault
+fault-of-range strings IsWhole text cs ranges n within before (NoRow row) fault =
+    has-fault strings IsWhole text cs ranges n within before (NoRow row) fault
+fault-of-range strings IsWhole text cs ranges n within before (NoLine row) fault =
+    has-fault strings IsWhole text cs ranges n within before (NoLine row) fault

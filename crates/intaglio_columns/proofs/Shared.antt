@@ -1,0 +1,63 @@
+-- Lists that are shared out to shards.
+use Rattle.std.proofs.Common.{◌≡◌, ◌∙◌, sym, ap, refl, ℕ, zero, suc, ◌≤◌, List, [], ◌∷◌, length, length-append, map, take, Some, arith}
+use Rattle.std.proofs.lemmas.List.{length-map, take_all}
+use Rattle.std.proofs.lemmas.Simd.{map-map}
+use Rattle.intaglio_frozen.specs.SetId.{set_of_shards}
+use Rattle.intaglio_frozen.specs.declared.id.DictionaryId.{DictionaryId}
+use Rattle.intaglio_frozen.specs.declared.kind.Kind.{Kind}
+use Rattle.intaglio_frozen.specs.declared.set_id.SetId.{SetId}
+use Rattle.intaglio_interner.specs.State.{State}
+use Rattle.intaglio_lines.specs.Lines.{lines_of}
+use Rattle.intaglio_frozen.specs.Merging.{decode, missing, renumber}
+use Rattle.intaglio_frozen.specs.Shards.{first_shards, joined, shard, shards}
+use Rattle.intaglio_frozen.proofs.Absorbed.{issued-map}
+use Rattle.intaglio_frozen.proofs.Numbered.{few-strings}
+use Rattle.intaglio_frozen.proofs.Renumbered.{renumbered}
+use Rattle.intaglio_columns.specs.Frozen.{distinct_lines}
+use Rattle.intaglio_columns.specs.Sharding.{id_of, set_of, IsShared, KeepsInput}
+
+-- as many shards are made as are asked for
+first-length : (many s : ℕ) (strings : List (List ℕ)) → length (first_shards many strings s) ≡ s
+first-length many zero strings = refl
+first-length many (suc s) strings = omega (
+  arith,
+  first-length many s strings,
+  length-append (first_shards many strings s) (shard many strings s ∷ []),
+)
+
+module _ {X : Type 0} (strings-of : X → List (List ℕ)) (lists : List X) where
+  pub shards-length : (many : ℕ) (strings : List (List ℕ)) → map strings-of lists ≡ shards many strings →
+      length lists ≡ many
+  shards-length many strings split =
+      sym (length-map lists strings-of) ∙ ap length split ∙ first-length many many strings
+
+  -- the identities of all lists give the set
+  pub set-from : (kind : Kind) (ids : List DictionaryId) (n : ℕ) → length lists ≤ n
+      → ids ≡ map (λ ws. id_of kind (strings-of ws)) (take n lists)
+      → set_of_shards ids ≡ set_of kind (map strings-of lists)
+  set-from kind ids n all is =
+      ap set_of_shards (is ∙ ap (map (λ ws. id_of kind (strings-of ws))) (take_all n lists all)
+      ∙ sym (map-map (id_of kind) strings-of lists))
+
+-- codes of lines, by the numbers of their strings among those of all shards, lead to the lines
+pub keeps-input : (kind : Kind) (many : ℕ) (lists : List (List (List ℕ))) (numbers symbols : List ℕ)
+    (set : SetId) (state : State (List ℕ)) (count : ℕ)
+    → IsShared kind many state.contents lists numbers set
+    → KeepsInput many (renumber numbers symbols) state symbols count
+keeps-input kind many lists numbers symbols set state count shared other input done =
+    let codes = renumber numbers symbols in
+    let few : length (joined lists) ≤ missing =
+    omega (
+      arith,
+      ap (λ t. length (joined t)) shared.split,
+      few-strings many state.contents many,
+      shared.few,
+    ) in
+    let kept : decode (joined lists) codes ≡ decode state.contents symbols =
+    renumbered (joined lists) few state.contents numbers symbols shared.map in
+    let same : joined (shards many (distinct_lines input)) ≡ joined lists =
+    ap (λ t. joined (shards many t)) (sym done.held) ∙ ap joined (sym shared.split) in
+    let read : decode state.contents symbols ≡ map Some (lines_of input) =
+    ap (λ t. decode t symbols) done.held ∙ ap (decode (distinct_lines input)) (done.issued refl)
+    ∙ issued-map [] (lines_of input) in
+    ap (λ t. decode t codes) same ∙ kept ∙ read

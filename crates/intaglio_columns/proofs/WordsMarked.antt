@@ -1,0 +1,68 @@
+-- The symbols of words are marked, one word after the other.
+use Rattle.std.proofs.Common.{◌≡◌, ◌∙◌, ℕ, ◌<◌, ◌≤◌, inl, inr, Bool, true, false, List, [], ◌∷◌, ◌++◌, length, get_or, set, slice_get, Contains, Option, Some, sym, ap, arith, length-set, get_or-set_other}
+use Rattle.std.proofs.lemmas.Bool.{cases_eq, false≢true}
+use Rattle.std.proofs.lemmas.Grind.{get_or-set_at}
+use Rattle.std.proofs.lemmas.List.Elements.{Contains-append_left, Contains-push, Contains-push_cases}
+use Rattle.intaglio_columns.specs.Answers.{position_in}
+use Rattle.intaglio_columns.specs.Matching.{AreMarked}
+
+-- the same symbol was found
+pub same_symbol : (a b : ℕ) → Some a ≡ Some b → a ≡ b
+same_symbol a b e = cc
+
+module _ (n : ℕ) (strings : List (List ℕ)) (IsWhole : Type 0) where
+  -- of no words none is
+  pub marked_none : (marks : List Bool) → length marks ≡ n →
+      ((symbol : ℕ) → get_or marks symbol false ≡ false) → AreMarked n strings IsWhole [] marks
+  marked_none marks long none = record {
+    long = long;
+    sound = λ symbol e. absurd (false≢true (sym (none symbol) ∙ e));
+    whole = λ holds symbol word among at small. absurd (omega (arith, among.1));
+  }
+
+  module _ (words : List (List ℕ)) (w : List ℕ) (marks : List Bool)
+      (before : AreMarked n strings IsWhole words marks) where
+    kept : (symbol : ℕ) → get_or marks symbol false ≡ true → (word : List ℕ) × Contains (words ++ w ∷ []) word
+        × (slice_get strings symbol ≡ Some word)
+    kept symbol e = let it = before.sound symbol e in
+        (it.0, Contains-append_left words (w ∷ []) it.0 it.1, it.2)
+
+    -- a word that isn't found, or whose symbol has no place
+    pub marked_absent : (found : Option ℕ) → (IsWhole → found ≡ position_in strings w) →
+        ((symbol : ℕ) → found ≡ Some symbol → n ≤ symbol)
+        → AreMarked n strings IsWhole (words ++ w ∷ []) marks
+    marked_absent found is large = record {
+      long = before.long;
+      sound = kept;
+      whole = λ holds symbol word among at small. elim (Contains-push_cases words w word among) [
+        | inl earlier ↦ before.whole holds symbol word earlier at small
+        | inr same ↦
+            absurd (omega (arith, small, large symbol (is holds ∙ ap (position_in strings) same ∙ at)))
+      ];
+    }
+
+    -- a word that is found
+    pub marked_found : (s : ℕ) → s < n → slice_get strings s ≡ Some w →
+        (IsWhole → Some s ≡ position_in strings w)
+        → AreMarked n strings IsWhole (words ++ w ∷ []) (set marks s true)
+    marked_found s small at is =
+        let there : s < length marks = omega (arith, small, before.long) in
+        let other : (symbol : ℕ) → (symbol ≡ s → ⊥) →
+        get_or (set marks s true) symbol false ≡ get_or marks symbol false =
+        λ symbol ne. get_or-set_other marks s symbol true false ne in
+        record {
+          long = length-set marks s true ∙ before.long;
+          sound = λ symbol e. elim (cases_eq symbol s) [
+            | inl same ↦ (w, Contains-push words w, ap (slice_get strings) same ∙ at)
+            | inr ne ↦ kept symbol (sym (other symbol ne) ∙ e)
+          ];
+          whole = λ holds symbol word among position below. elim (cases_eq symbol s) [
+            | inl same ↦ get_or-set_at marks s symbol true false same there
+            | inr ne ↦ other symbol ne ∙ elim (Contains-push_cases words w word among) [
+              | inl earlier ↦ before.whole holds symbol word earlier position below
+              | inr same ↦
+                  absurd (ne
+                  (sym (same_symbol s symbol (is holds ∙ ap (position_in strings) same ∙ position))))
+            ]
+          ];
+        }

@@ -1,0 +1,14 @@
+use Rattle.std.proofs.Common.{subst, arith}
+use Rattle.intaglio_lines.specs.Lines.{lines_of}
+use Rattle.intaglio_columns.specs.Columns.{has_code}
+use Rattle.intaglio_columns.specs.Translation.{AllFit}
+use Rattle.intaglio_columns.proofs.Coded.{decodes-to-input, if-some}
+use Rattle.intaglio_columns.proofs.columns.encode_column.Goals as goal
+
+pub returns-in-Ok-clause-decodes : goal.returns-in-Ok-clause-decodes
+returns-in-Ok-clause-decodes g c = λ none.
+    let table = g.D.WholeDictionary.strings c.args.table.now in
+    if-some (g.R.Read.remaining c.args.reader.now) _ _
+    (λ input all.
+    decodes-to-input table input (omega (arith, c.count-count.ensures.count, c.count-count.ensures.few))
+    (subst (λ m. AllFit (has_code table m) (lines_of input)) none all)) c.in-Ok.ensures.fit

@@ -1,0 +1,6 @@
+use Rattle.intaglio_columns.proofs.Found.{position-string}
+use Rattle.intaglio_columns.proofs.dictionary.FrozenDictionary.symbol.Goals as goal
+
+pub returns-clause-found : goal.returns-clause-found
+returns-clause-found c =
+    position-string c.args.self.now c.args.string.now c.check_interned.result c.check_interned.ensures.value

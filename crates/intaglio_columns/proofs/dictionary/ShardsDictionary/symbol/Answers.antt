@@ -1,0 +1,8 @@
+use Rattle.intaglio_frozen.specs.Shards.{joined}
+use Rattle.intaglio_columns.proofs.Found.{position-string}
+use Rattle.intaglio_columns.proofs.dictionary.ShardsDictionary.symbol.Goals as goal
+
+pub returns-clause-found : goal.returns-clause-found
+returns-clause-found c =
+    position-string (joined c.args.self.now) c.args.string.now c.check_interned.result
+    c.check_interned.ensures

@@ -1,0 +1,12 @@
+-- No row so far passes.
+use Rattle.std.proofs.Common.{◌≡◌, ◌≤◌}
+use Rattle.intaglio_columns.specs.Layout.{codes}
+use Rattle.intaglio_columns.specs.Rows.{rows_past}
+use Rattle.intaglio_columns.proofs.column.Column.first_among.Given as goal
+
+abbrev pub invariant-loop-row : goal.invariant-loop-row
+invariant-loop-row g l = record {
+  same : rows_past (g.T.CodeTest.passes l.test) l.from (codes l.self) ≡ rows_past (g.T.CodeTest.passes l.test)
+      l.row (codes l.self);
+  order : l.from ≤ l.row;
+}

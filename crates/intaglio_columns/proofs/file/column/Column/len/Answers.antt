@@ -1,0 +1,10 @@
+use Rattle.std.proofs.Common.{◌∙◌, sym}
+use Rattle.intaglio_columns.proofs.CodesInFile.{all_length}
+use Rattle.intaglio_columns.proofs.column.Column.len.Goals as goal
+
+pub returns-clause-length : goal.returns-clause-length
+returns-clause-length c =
+    rw (← c.self.view_is) (c.self.invariant.rows ∙ sym (all_length c.self.inside.bytes.now))
+
+pub returns-clause-few : goal.returns-clause-few
+returns-clause-few c = rw (← c.self.view_is) c.self.invariant.whole.header.source.width.few

@@ -1,0 +1,24 @@
+use Rattle.std.proofs.Common.{◌∙◌, ◌++◌, ap}
+use Rattle.std.specs.List.{flat_map}
+use Rattle.std.proofs.lemmas.List.{take_at}
+use Rattle.intaglio_columns.specs.Writing.{code_bytes, header_of, sealed}
+use Rattle.intaglio_columns.proofs.writing.assemble.Goals as goal
+
+pub returns-clause-bytes : goal.returns-clause-bytes
+returns-clause-bytes g c =
+    let h = c.args.header in
+    let cs = g.L.CodeList.codes c.args.codes.now in
+    let rest = flat_map (code_bytes h.width) cs in
+    let front = c.in_ok-put_header.ensures ∙ ap (λ t. t ++ header_of h) c.in_ok-bytes.ensures.items in
+    let bare = c.deref_mut.ensures.value ∙ c.in_ok-put_codes.ensures.added ∙ ap (λ t. t ++ rest) front in
+    take_at c.seal.new.bytes _ _ (c.seal.ensures.len ∙ c.deref_mut.ensures.len)
+    ∙ c.seal.ensures.sealed ∙ ap sealed bare
+
+pub returns-clause-small : goal.returns-clause-small
+returns-clause-small g c =
+    let h = c.args.header in
+    let cs = g.L.CodeList.codes c.args.codes.now in
+    let rest = flat_map (code_bytes h.width) cs in
+    let front = c.in_ok-put_header.ensures ∙ ap (λ t. t ++ header_of h) c.in_ok-bytes.ensures.items in
+    let bare = c.deref_mut.ensures.value ∙ c.in_ok-put_codes.ensures.added ∙ ap (λ t. t ++ rest) front in
+    rw bare at c.seal.ensures.small

@@ -1,0 +1,30 @@
+use Rattle.std.proofs.Common.{◌∙◌, ◌++◌, take, ap, sym, arith}
+use Rattle.std.specs.List.{flat_map}
+use Rattle.std.proofs.lemmas.Grind.{common_steps}
+use Rattle.std.proofs.lemmas.List.{flat_map_more}
+use Rattle.std.proofs.lemmas.Option.{slice_get_within}
+use Rattle.intaglio_columns.specs.Writing.{code_bytes}
+use Rattle.intaglio_columns.proofs.Selected.{next}
+use Rattle.intaglio_columns.proofs.writing.put_codes.Goals as goal
+
+pub loop-row-preserved : goal.loop-row-preserved
+loop-row-preserved g c =
+    let cs = g.L.CodeList.codes c.args.codes.now in
+    let old = c.args.bytes.now.items in
+    let write = code_bytes c.args.width in
+    let row = c.loop-row.row in
+    let code = c.code-code.result in
+    record {
+      added =
+          c.in_ok-put_code.ensures ∙ ap (λ t. t ++ write code) c.loop-row.invariant.added
+          ∙ flat_map_more write old (take row cs) code
+          ∙ ap (λ t. old ++ flat_map write t) (sym (next cs row code c.code-code.ensures));
+      known = grind (arith, common_steps);
+    }
+
+pub returns-clause-known : goal.returns-clause-known
+returns-clause-known g c =
+    let cs = g.L.CodeList.codes c.args.codes.now in
+    λ row code is.
+    c.loop-row.invariant.known row code
+    (omega (arith, slice_get_within cs row code is, c.len-row-end.ensures, c.loop-row-test.false)) is

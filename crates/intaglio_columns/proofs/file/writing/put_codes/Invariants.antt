@@ -1,0 +1,13 @@
+-- The codes so far were added, and are symbols or missing.
+use Rattle.std.proofs.Common.{◌≡◌, ◌++◌, take}
+use Rattle.std.specs.List.{flat_map}
+use Rattle.intaglio_columns.specs.Codes.{AreCodesBefore}
+use Rattle.intaglio_columns.specs.Writing.{code_bytes}
+use Rattle.intaglio_columns.proofs.writing.put_codes.Given as goal
+
+abbrev pub invariant-loop-row : goal.invariant-loop-row
+invariant-loop-row g l = record {
+  added : l.bytes.items ≡ l.initial.bytes.items ++ flat_map (code_bytes l.width)
+      (take l.row (g.L.CodeList.codes l.codes));
+  known : AreCodesBefore l.row l.strings (g.L.CodeList.codes l.codes);
+}

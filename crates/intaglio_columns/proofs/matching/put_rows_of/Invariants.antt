@@ -1,0 +1,15 @@
+-- The numbers of the rows so far were put.
+use Rattle.std.proofs.Common.{◌-◌, ◌==◌, length}
+use Rattle.std.specs.Io.KnownBytes.{append_known}
+use Rattle.intaglio_columns.specs.Layout.{codes}
+use Rattle.intaglio_columns.proofs.Ranged.{HavePut}
+use Rattle.intaglio_columns.proofs.matching.put_rows_of.Given as goal
+
+abbrev pub invariant-loop-row : goal.invariant-loop-row
+invariant-loop-row g l =
+    HavePut (λ c. c == l.code) (codes l.column) l.from
+    (append_known (g.W.Write.contents l.initial.writer) l.initial.block.items)
+    (append_known (g.W.Write.contents l.writer) l.block.items)
+
+abbrev pub decreases-loop-row : goal.decreases-loop-row
+decreases-loop-row g l = length (codes l.column) - l.from

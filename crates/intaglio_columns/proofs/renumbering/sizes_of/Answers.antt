@@ -1,0 +1,29 @@
+use Rattle.std.proofs.Common.{◌≡◌, arith, refl, rules, Some}
+use Rattle.std.specs.List.{slice_get}
+use Rattle.std.proofs.lemmas.Option.{slice_get_read}
+use Rattle.intaglio_columns.specs.Layout.{rows, strings}
+use Rattle.intaglio_columns.proofs.JoinedMaps.{sum-next}
+use Rattle.intaglio_columns.proofs.renumbering.sizes_of.Goals as goal
+
+pub loop-map-preserved : goal.loop-map-preserved
+loop-map-preserved c =
+    let maps = c.args.maps.now in
+    let i = c.loop-map.map-index in
+    let m = c.map-item.result in
+    let at : slice_get maps i ≡ Some m = slice_get_read maps _ i m refl (search rules) c.map-item.is in
+    record {
+      rows = omega (
+        arith,
+        c.loop-map.invariant.rows,
+        c.header-header.ensures.rows,
+        c.saturating_add-rows.ensures,
+        sum-next maps i m at rows,
+      );
+      strings = omega (
+        arith,
+        c.loop-map.invariant.strings,
+        c.header-header.ensures.id.count,
+        c.saturating_add-strings.ensures,
+        sum-next maps i m at strings,
+      );
+    }

@@ -1,0 +1,66 @@
+use Rattle.std.proofs.lemmas.Result.{err_from_is_err_and}
+use Rattle.intaglio_columns.proofs.Parts.{on-err}
+use Rattle.intaglio_columns.proofs.Translated.{failure-reports, kept-part, none-translated, reads-more}
+use Rattle.intaglio_columns.proofs.translate.translate_whole.Goals as goal
+
+pub loop-init : goal.loop-init
+loop-init g c =
+    let translator = c.args.translator.now in
+    rw c.new-bytes.ensures.items (record {
+      done = none-translated g.T.Translator.pieces (g.T.Translator.fits translator)
+          (g.T.Translator.translated translator) (g.R.Read.remaining c.args.reader.now)
+          (g.W.Write.contents c.args.writer.now)
+          c.args.block.now.items c.requires;
+      last = g.T.Translator.no_pieces;
+    })
+
+pub loop-preserved : goal.loop-preserved
+loop-preserved g c =
+    let translator = c.args.translator.now in
+    record {
+      done = c.in_ok-count.ensures.ok _ _ _
+          (reads-more g.T.Translator.pieces (g.T.Translator.fits translator)
+          (g.T.Translator.translated translator) _ _ _ _ _ _ _ _ c.loop.count c.in_ok-more.ensures.read
+          c.loop.invariant.done);
+      last = c.in_ok-count.ensures.last;
+    }
+
+pub returns-in_err-count-clause-misfit : goal.returns-in_err-count-clause-misfit
+returns-in_err-count-clause-misfit g c =
+    let translator = c.args.translator.now in
+    let passed =
+    err_from_is_err_and c.from_residual-in_err-count.result c.from_residual-in_err-count.ensures.1 in
+    rw (
+      passed.1,
+      passed.2,
+    )
+    (c.in_err-count.ensures.misfit _ _ _
+    (reads-more g.T.Translator.pieces (g.T.Translator.fits translator)
+    (g.T.Translator.translated translator) _ _ _ _ _ _ _ _ c.loop.count c.in_ok-more.ensures.read
+    c.loop.invariant.done))
+
+pub returns-in_err-more-clause-misfit : goal.returns-in_err-more-clause-misfit
+returns-in_err-more-clause-misfit g c =
+    let passed = err_from_is_err_and c.from_residual.result c.from_residual.ensures.1 in
+    rw (passed.1, passed.2) (failure-reports g.T.Translator.pieces (g.T.Translator.fits c.args.translator.now)
+    (g.T.Translator.translated c.args.translator.now) (g.R.Read.remaining c.args.reader.now)
+    c.in_err-more.field-0.0 c.in_err-more.ensures.err)
+
+pub returns-in_err-count-clause-part : goal.returns-in_err-count-clause-part
+returns-in_err-count-clause-part g c =
+    let translator = c.args.translator.now in
+    on-err c.from_residual-in_err-count.result
+    (c.in_err-count.ensures.part _ _ _
+    (reads-more g.T.Translator.pieces (g.T.Translator.fits translator)
+    (g.T.Translator.translated translator) _ _ _ _ _ _ _ _ c.loop.count c.in_ok-more.ensures.read
+    c.loop.invariant.done))
+
+pub returns-in_err-more-clause-part : goal.returns-in_err-more-clause-part
+returns-in_err-more-clause-part g c =
+    on-err c.from_residual.result (kept-part g.T.Translator.pieces (g.T.Translator.fits c.args.translator.now)
+    (g.T.Translator.translated c.args.translator.now) _ _ _ _ _ _ c.loop.count c.loop.invariant.done)
+
+pub returns-clause-part : goal.returns-clause-part
+returns-clause-part g c =
+    kept-part g.T.Translator.pieces (g.T.Translator.fits c.args.translator.now)
+    (g.T.Translator.translated c.args.translator.now) _ _ _ _ _ _ c.loop.count c.loop.invariant.done

@@ -1,0 +1,23 @@
+-- What the contracts of this crate cite.
+pub mod Width
+pub mod Source
+pub mod Layout
+pub mod Codes
+pub mod Rows
+pub mod IsColumn
+pub mod Fault
+pub mod Read
+pub mod Filter
+pub mod Writing
+pub mod Answers
+pub mod Frozen
+pub mod Interning
+pub mod Translation
+pub mod Columns
+pub mod RowLines
+pub mod Matching
+pub mod Counting
+pub mod Joining
+pub mod Renumbering
+pub mod ShardMerging
+pub mod Sharding

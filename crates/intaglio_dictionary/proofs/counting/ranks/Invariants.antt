@@ -1,9 +1,0 @@
--- The ranks of the symbols so far.
-use Rattle.std.proofs.Common.{◌≡◌, ◌==◌, not, map, take}
-use Rattle.intaglio_column_file.specs.Rows.{rows_from}
-use Rattle.intaglio_dictionary.specs.Counting.{rank_of}
-use Rattle.intaglio_dictionary.proofs.counting.ranks.Given as goal
-
-abbrev pub invariant-loop-symbol : goal.invariant-loop-symbol
-invariant-loop-symbol l =
-    l.all.items ≡ map (rank_of l.counts) (rows_from (λ n. not (n == 0)) 0 (take l.symbol l.counts))

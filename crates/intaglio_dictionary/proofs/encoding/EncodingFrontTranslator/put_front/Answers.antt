@@ -1,6 +1,0 @@
-use Rattle.std.proofs.Common.{take}
-use Rattle.intaglio_dictionary.proofs.Cut.{no-end}
-use Rattle.intaglio_dictionary.proofs.encoding.EncodingFrontTranslator.put_front.Goals as goal
-
-pub put_lines-requires-clause-seen : goal.put_lines-requires-clause-seen
-put_lines-requires-clause-seen g c = no-end (take c.args.seen c.args.bytes.now) c.requires.seen

@@ -1,8 +1,0 @@
-use Rattle.std.proofs.Common.{◌≡◌, ◌-◌, get_or, rules}
-use Rattle.intaglio_dictionary.proofs.Interned.{ended-take}
-use Rattle.intaglio_dictionary.proofs.interning.size_of_lines.Goals as goal
-
-pub returns-then-bytes-size-eq10-clause-ended : goal.returns-then-bytes-size-eq10-clause-ended
-returns-then-bytes-size-eq10-clause-ended c =
-    let ten : get_or c.args.bytes.now (c.loop-size.size - 1) 0 ≡ 10 = search rules in
-    ended-take c.args.bytes.now c.loop-size.size (search rules) (search rules) ten

@@ -1,0 +1,119 @@
+-- What stands at the symbols that strings are given, one list after the other.
+use Rattle.std.proofs.Common.{◌≡◌, ◌∙◌, ℕ, ◌<◌, List, [], ◌∷◌, ◌++◌, length, map, take, drop, refl, sym, ap, subst, Some, arith, append-nil, Result, Ok, Err, IfOk, OnOk}
+use Rattle.std.specs.List.{flat_map}
+use Rattle.std.specs.Prelude.{slice_get}
+use Rattle.std.proofs.lemmas.List.{map-append, take-append-drop}
+use Rattle.std.proofs.lemmas.Grind.{flat_map-append}
+use Rattle.intaglio_content.specs.Key.{Key}
+use Rattle.intaglio_symbol.specs.declared.error.InternError.{InternError}
+use Rattle.intaglio_symbol.specs.declared.error.InternError.TheVariants.{Overflow, Memory}
+use Rattle.intaglio_interner.specs.Batch.{IfOverflow}
+use Rattle.intaglio_interner.specs.Issue.{issued, interned, issue_from, interned_all}
+use Rattle.intaglio_interner.proofs.Held.{content-still, interned_all-append, interned_all-longer}
+use Rattle.intaglio_interner.proofs.Laws.{first-key, issued-found, mapped-some}
+use Rattle.intaglio_frozen.specs.Merging.{decode, string_key, union, AreKeys, AreMaps, IsMap}
+
+-- a string stands at its symbol
+issued-there : (held : List (List ℕ)) (w : List ℕ) →
+    slice_get (interned string_key held w) (issued string_key held w) ≡ Some w
+issued-there held w =
+    let new = interned string_key held w in
+    let h = mapped-some string_key (slice_get new (issued string_key held w)) (string_key w)
+    (first-key string_key new (string_key w) (issued string_key held w) (issued-found string_key held w)) in
+    let key : string_key h.0 ≡ string_key w = h.2 in
+    let same : h.0 ≡ w = cc in
+    h.1 ∙ ap Some same
+
+-- a map stays one while strings are interned
+pub map-still : (held more ws : List (List ℕ)) (numbers : List ℕ) → IsMap ws held numbers →
+    IsMap ws (interned_all string_key held more) numbers
+map-still held more [] [] is = refl
+map-still held more [] (n ∷ numbers) is = cc
+map-still held more (w ∷ ws) [] is = cc
+map-still held more (w ∷ ws) (n ∷ numbers) is =
+    let here : slice_get held n ≡ Some w = cc in
+    let rest : decode held numbers ≡ map Some ws = cc in
+    let one : slice_get (interned_all string_key held more) n ≡ Some w =
+    content-still string_key held more n w here in
+    let others = map-still held more ws numbers rest in
+    rw (one, others) refl
+
+-- the symbols that strings are given are their map
+pub issued-map : (held ws : List (List ℕ)) →
+    IsMap ws (interned_all string_key held ws) (issue_from string_key held ws)
+issued-map held [] = refl
+issued-map held (w ∷ ws) =
+    let next = interned string_key held w in
+    let one : slice_get (interned_all string_key next ws) (issued string_key held w) ≡ Some w =
+    content-still string_key next ws (issued string_key held w) w (issued-there held w) in
+    let others = issued-map next ws in
+    rw (one, others) refl
+
+-- the same by keys that are those of strings
+pub issued-map-by : (key : List ℕ → Key) → AreKeys key → (held ws new : List (List ℕ)) (symbols : List ℕ) →
+    symbols ≡ issue_from key held ws → new ≡ interned_all key held ws
+    → IsMap ws new symbols
+issued-map-by key same held ws new symbols given after =
+    let keys : string_key ≡ key = λ i w. sym (same w) i in
+    rw (given, after) (subst (λ (k : List ℕ → Key). IsMap ws (interned_all k held ws) (issue_from k held ws))
+    keys (issued-map held ws))
+
+-- maps stay maps while strings are interned
+pub maps-still : (held more : List (List ℕ)) (lists : List (List (List ℕ))) (maps : List (List ℕ)) →
+    AreMaps lists held maps → AreMaps lists (interned_all string_key held more) maps
+maps-still held more [] [] are = refl
+maps-still held more [] (m ∷ maps) are = cc
+maps-still held more (ws ∷ lists) [] are = cc
+maps-still held more (ws ∷ lists) (m ∷ maps) are =
+    let here : decode held m ≡ map Some ws = cc in
+    let rest : map (decode held) maps ≡ map (map Some) lists = cc in
+    let one : decode (interned_all string_key held more) m ≡ map Some ws = map-still held more ws m here in
+    let others = maps-still held more lists maps rest in
+    rw (one, others) refl
+
+-- what is held after the lists so far and one more, and the maps
+module _ (lists : List (List (List ℕ))) (ws : List (List ℕ)) where
+  pub union-next : union (lists ++ ws ∷ []) ≡ interned_all string_key (union lists) ws
+  union-next =
+      let all = λ (strings : List (List ℕ)). strings in
+      let parts : flat_map all (lists ++ ws ∷ []) ≡ flat_map all lists ++ ws =
+      flat_map-append all lists (ws ∷ []) ∙ ap (λ t. flat_map all lists ++ t) (append-nil ws) in
+      rw parts (interned_all-append string_key [] (flat_map all lists) ws)
+
+  pub maps-next : (maps : List (List ℕ)) (symbols : List ℕ) → AreMaps lists (union lists) maps →
+      IsMap ws (union (lists ++ ws ∷ [])) symbols
+      → AreMaps (lists ++ ws ∷ []) (union (lists ++ ws ∷ [])) (maps ++ symbols ∷ [])
+  maps-next maps symbols are is =
+      let new = union (lists ++ ws ∷ []) in
+      let before : map (decode new) maps ≡ map (map Some) lists =
+      subst (λ (t : List (List ℕ)). AreMaps lists t maps) (sym union-next)
+      (maps-still (union lists) ws lists maps are) in
+      map-append (decode new) maps (symbols ∷ []) ∙ ap (λ t. t ++ decode new symbols ∷ []) before
+      ∙ ap (λ t. map (map Some) lists ++ t ∷ []) is ∙ sym (map-append (map Some) lists (ws ∷ []))
+
+-- what is more than the limit after the first lists is more than it after all
+pub union-over : (limit i : ℕ) (lists : List (List (List ℕ))) → limit < length (union (take i lists)) →
+    limit < length (union lists)
+union-over limit i lists over =
+    let all = λ (strings : List (List ℕ)). strings in
+    let front = take i lists in
+    let back = drop i lists in
+    let whole : front ++ back ≡ lists = take-append-drop i lists in
+    let parts : union (front ++ back) ≡ interned_all string_key (union front) (flat_map all back) =
+    ap (interned_all string_key []) (flat_map-append all front back)
+    ∙ interned_all-append string_key [] (flat_map all front) (flat_map all back) in
+    let longer = interned_all-longer string_key (union front) (flat_map all back) in
+    let same : union lists ≡ interned_all string_key (union front) (flat_map all back) =
+    ap union (sym whole) ∙ parts in
+    omega (arith, over, longer, ap length same)
+
+-- what follows of an overflow
+pub if-overflow : {P Q : Type 0} (e : InternError) → (P → Q) → IfOverflow e P → IfOverflow e Q
+if-overflow (Overflow full) f p = f p
+if-overflow (Memory refused) f p = tt
+
+-- what follows of a value and of what holds beside it
+pub ok-both : {V E Q : Type 0} (P R : V → Type 0) (r : Result V E) → IfOk r P → OnOk r Q →
+    ((v : V) → P v → Q → R v) → IfOk r R
+ok-both P R (Ok v) p q f = f v p q
+ok-both P R (Err e) p q f = tt

@@ -1,0 +1,5 @@
+use Rattle.intaglio_frozen.proofs.from_string.are_texts.Goals as goal
+
+pub returns-in-Err : goal.returns-in-Err
+returns-in-Err g c =
+    (λ is. cc, λ texts. absurd (c.in-Err.ensures.cases.0 (texts c.loop-i.i _ c.string.ensures)))

@@ -1,0 +1,5 @@
+use Rattle.std.proofs.Common.{◌≤◌, ◌^◌}
+use Rattle.intaglio_frozen.proofs.merging.longest.Given as goal
+
+abbrev pub invariant-loop-list : goal.invariant-loop-list
+invariant-loop-list g l = l.most ≤ 2 ^ 32

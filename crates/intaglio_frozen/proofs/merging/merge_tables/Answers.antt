@@ -1,0 +1,82 @@
+use Rattle.std.proofs.Common.{◌≡◌, ◌∙◌, ◌+◌, ◌^◌, ◌<◌, ◌++◌, [], ◌∷◌, ap, length, map, refl, subst, sym, take, rules, arith}
+use Rattle.std.proofs.lemmas.Grind.{take_at_read}
+use Rattle.std.proofs.lemmas.List.{map-append, map-id, take-map}
+use Rattle.std.proofs.lemmas.Result.{err_from_is_err_and}
+use Rattle.intaglio_interner.specs.Batch.{IfOverflow}
+use Rattle.intaglio_interner.specs.Issue.{interned_all}
+use Rattle.intaglio_frozen.specs.Merging.{string_key, union, AreMaps, IsMap}
+use Rattle.intaglio_frozen.proofs.Absorbed.{if-overflow, maps-next, union-next, union-over}
+use Rattle.intaglio_frozen.proofs.merging.merge_tables.Goals as goal
+
+pub loop-i-preserved : goal.loop-i-preserved
+loop-i-preserved g c =
+    let strings = g.L.StringList.strings in
+    let lists = c.args.lists.now in
+    let i = c.loop-i.i in
+    let list = c.index-lists-i.result in
+    let front = map strings (take i lists) in
+    let ws = strings list in
+    let old = c.loop-i.table.state.contents in
+    let new = c.absorb.new.table.state.contents in
+    let symbols = c.in_ok-symbols.symbols.items in
+    let next : map strings (take (i + 1) lists) ≡ front ++ ws ∷ [] =
+    ap (map strings) ((take_at_read lists i list (omega arith)).1
+    ∙ ap (λ t. take i lists ++ t ∷ []) (sym c.index-lists-i.is))
+    ∙ map-append strings (take i lists) (list ∷ []) in
+    let held : map (λ w. w) new ≡ interned_all string_key (map (λ w. w) old) ws =
+    c.in_ok-symbols.ensures.held in
+    let after : new ≡ union (front ++ ws ∷ []) =
+    sym (map-id new) ∙ held ∙ ap (λ t. interned_all string_key t ws) (map-id old ∙ c.loop-i.invariant.union)
+    ∙ sym (union-next front ws) in
+    let same : IsMap ws (map (λ w. w) new) symbols = c.in_ok-symbols.ensures.same (λ w. refl) in
+    let is : IsMap ws (union (front ++ ws ∷ [])) symbols =
+    subst (λ t. IsMap ws t symbols) (map-id new ∙ after) same in
+    let before : AreMaps front (union front) (map (λ m. m.items) c.loop-i.maps.items) =
+    subst (λ t. AreMaps front t (map (λ m. m.items) c.loop-i.maps.items)) c.loop-i.invariant.union
+    c.loop-i.invariant.maps in
+    let items : c.push_reserved.new.self.items ≡ c.loop-i.maps.items ++ c.in_ok-symbols.symbols ∷ [] =
+    search rules in
+    let maps = maps-next front ws (map (λ m. m.items) c.loop-i.maps.items) symbols before is in
+    record {
+      union = after ∙ ap union (sym next);
+      maps = rw (
+        items,
+        next,
+        after,
+        map-append (λ m. m.items) c.loop-i.maps.items (c.in_ok-symbols.symbols ∷ []),
+      ) maps;
+      limit = c.absorb.ensures.table.limit ∙ c.loop-i.invariant.limit;
+      hash = c.absorb.ensures.table.same_hash ∙ c.loop-i.invariant.hash;
+      count = omega (arith, c.push_reserved.ensures.len, c.loop-i.invariant.count);
+      room = search rules;
+    }
+
+pub returns-in_err-symbols-clause-overflow : goal.returns-in_err-symbols-clause-overflow
+returns-in_err-symbols-clause-overflow g c =
+    let strings = g.L.StringList.strings in
+    let lists = c.args.lists.now in
+    let i = c.loop-i.i in
+    let list = c.index-lists-i.result in
+    let front = map strings (take i lists) in
+    let ws = strings list in
+    let old = c.loop-i.table.state.contents in
+    let e = c.in_err-symbols.field-0.0 in
+    let next : take (i + 1) (map strings lists) ≡ front ++ ws ∷ [] =
+    take-map strings (i + 1) lists
+    ∙ ap (map strings) ((take_at_read lists i list (omega arith)).1
+    ∙ ap (λ t. take i lists ++ t ∷ []) (sym c.index-lists-i.is))
+    ∙ map-append strings (take i lists) (list ∷ []) in
+    let held : interned_all string_key (map (λ w. w) old) ws ≡ union (take (i + 1) (map strings lists)) =
+    ap (λ t. interned_all string_key t ws) (map-id old ∙ c.loop-i.invariant.union) ∙ sym (union-next front ws)
+    ∙ ap union (sym next) in
+    let full : IfOverflow e
+    (c.loop-i.table.state.limit < length (interned_all string_key (map (λ w. w) old) ws)) =
+    c.in_err-symbols.ensures.overflow in
+    let more =
+    if-overflow e
+    (λ over.
+    union-over (2 ^ 32) (i + 1) (map strings lists) (rw (held, c.loop-i.invariant.limit) at over))
+    full in
+    let passed =
+    err_from_is_err_and c.from_residual-in_err-symbols.result c.from_residual-in_err-symbols.ensures.1 in
+    rw (passed.1, passed.2) more

@@ -1,0 +1,34 @@
+use Rattle.std.proofs.Common.{◌≡◌, ◌∙◌, ◌++◌, [], ◌∷◌, ap, arith, get_or, length, map, sym}
+use Rattle.std.proofs.lemmas.List.{length-map, map-append}
+use Rattle.std.proofs.lemmas.Option.{slice_get-get_or}
+use Rattle.intaglio_frozen.specs.Shards.{shard_of}
+use Rattle.intaglio_frozen.proofs.Sharded.{next-in, next-out}
+use Rattle.intaglio_frozen.proofs.sharding.strings_of.Goals as goal
+use Rattle.intaglio_frozen.proofs.sharding.strings_of.Goals.{then-shards-i+in_ok-push, else-shards-i}
+
+pub loop-i-preserved : goal.loop-i-preserved
+loop-i-preserved g c =
+    let strings = g.L.StringList.strings c.args.list.now in
+    let i = c.loop-i.i in
+    elim c.if-shards-i.branch [
+      | then-shards-i+in_ok-push w ↦
+          let string = w.string.result in
+          let items : c.if-shards-i.strings.items ≡ c.loop-i.strings.items ++ string ∷ [] =
+          ap (λ t. t.items) w.strings-is ∙ w.in_ok-push.ensures.items in
+          ap (map (λ v. v.now)) items ∙ map-append (λ v. v.now) c.loop-i.strings.items (string ∷ [])
+          ∙ ap (λ t. t ++ string.now ∷ []) c.loop-i.invariant
+          ∙ sym (next-in c.args.count strings c.args.shards.now c.requires i c.args.number string.now
+          w.string.ensures w.if-shards-i.true)
+      | else-shards-i w ↦
+          let string = get_or strings i [] in
+          let there =
+          slice_get-get_or strings i [] (omega (
+            arith,
+            c.loop-i-test.true,
+            ap length c.requires,
+            length-map strings (shard_of c.args.count),
+          )) in
+          ap (λ t. map (λ v. v.now) t.items) w.strings-is ∙ c.loop-i.invariant
+          ∙ sym (next-out c.args.count strings c.args.shards.now c.requires i c.args.number string there
+          w.if-shards-i.false)
+    ]

@@ -1,0 +1,6 @@
+-- The strings so far belong to the shard.
+use Rattle.intaglio_frozen.specs.Shards.{BelongBefore}
+use Rattle.intaglio_frozen.proofs.shards.first_misplaced.Given as goal
+
+abbrev pub invariant-loop-i : goal.invariant-loop-i
+invariant-loop-i l = BelongBefore l.i l.count l.shard l.table

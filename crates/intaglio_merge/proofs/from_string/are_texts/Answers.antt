@@ -1,5 +1,0 @@
-use Rattle.intaglio_merge.proofs.from_string.are_texts.Goals as goal
-
-pub returns-in-Err : goal.returns-in-Err
-returns-in-Err g c =
-    (λ is. cc, λ texts. absurd (c.in-Err.ensures.cases.0 (texts c.loop-i.i _ c.string.ensures)))

@@ -1,8 +1,0 @@
--- The string is looked for in the shards that are left.
-use Rattle.std.proofs.Common.{◌≡◌, drop, slice_get}
-use Rattle.intaglio_merge.specs.Shards.{joined}
-use Rattle.intaglio_merge.proofs.shards.Shards.get.Given as goal
-
-abbrev pub invariant-loop-shard : goal.invariant-loop-shard
-invariant-loop-shard l =
-    slice_get (joined l.self) l.fn.symbol ≡ slice_get (joined (drop l.shard l.self)) l.number

@@ -1,6 +1,0 @@
--- The strings so far belong to the shard.
-use Rattle.intaglio_merge.specs.Shards.{BelongBefore}
-use Rattle.intaglio_merge.proofs.shards.first_misplaced.Given as goal
-
-abbrev pub invariant-loop-i : goal.invariant-loop-i
-invariant-loop-i l = BelongBefore l.i l.count l.shard l.table

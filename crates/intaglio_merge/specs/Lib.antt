@@ -1,4 +1,0 @@
--- What the contracts of this crate cite.
-pub mod Laws
-pub mod Merging
-pub mod Shards
