@@ -287,28 +287,16 @@ INTAGLIO_MUST_USE intaglio_code intaglio_copy_all(const intaglio_table *table, c
  * Errors: NOT_FROZEN, OTHER_VERSION, NO_KIND, RESERVED, TOO_MANY, TRUNCATED, TEXT_ENDS, UNUSED, NOT_FOUND, NOT_UTF8. */
 INTAGLIO_MUST_USE intaglio_code intaglio_frozen_check(const uint8_t *bytes, size_t len);
 
-/* The calls on bytes read the header each time. For many look-ups, open the table once, and make those on intaglio_opened below. */
-
-/* Returns whether a string is in a frozen table. If so, its symbol is stored in *symbol; otherwise *symbol is unchanged. */
-bool intaglio_frozen_find(const uint8_t *bytes, size_t len, const uint8_t *string, size_t string_len, uint32_t *symbol);
-
 /* Looks up a batch, and stores the symbol of each string, or INTAGLIO_ABSENT if it isn't in the frozen table. `symbols_count` must
  * equal `count`. Errors: BAD_ENDS, and those of frozen_check that a header can have. Nothing is then written. */
 INTAGLIO_MUST_USE intaglio_code intaglio_frozen_find_all(const uint8_t *bytes, size_t len, const uint8_t *strings, size_t strings_len, const size_t *ends, size_t count, uint64_t *symbols, size_t symbols_count);
-
-/* Stores the address and the length of a symbol's string in *out. Unless the length is 0, the address leads into `bytes`. Returns false
- * if there is no such symbol; *out is then unchanged. */
-bool intaglio_frozen_get(const uint8_t *bytes, size_t len, uint32_t symbol, intaglio_spelling *out);
-
-/* Returns the number of strings, or 0 if the header is invalid or the bytes are shorter than it requires. */
-size_t intaglio_frozen_len(const uint8_t *bytes, size_t len);
 
 /* Stores where the sections of a frozen table are. Only the header is read, and the length is compared with what it requires.
  * Errors: those of frozen_check that a header or the length can have. *sections is then unchanged. */
 INTAGLIO_MUST_USE intaglio_code intaglio_frozen_sections(const uint8_t *bytes, size_t len, intaglio_sections *sections);
 
-/* As frozen_find and frozen_get, in bytes with these sections, and the header isn't read. If the sections are those of other bytes, or were
- * changed, what is found is unspecified, but nothing outside the bytes is read. */
+/* What opened_find and opened_get below call. The header isn't read. If the sections are those of other bytes, or were changed, what is found
+ * is unspecified, but nothing outside the bytes is read. */
 bool intaglio_frozen_find_in(const uint8_t *bytes, size_t len, const intaglio_sections *sections, const uint8_t *string, size_t string_len, uint32_t *symbol);
 bool intaglio_frozen_get_in(const uint8_t *bytes, size_t len, const intaglio_sections *sections, uint32_t symbol, intaglio_spelling *out);
 
@@ -323,14 +311,34 @@ INTAGLIO_MUST_USE static inline intaglio_code intaglio_open(intaglio_opened *ope
     return code;
 }
 
-/* The same as frozen_find, frozen_get and frozen_len, on an opened frozen table. */
+/* Returns whether a string is in a frozen table. If so, its symbol is stored in *symbol; otherwise *symbol is unchanged. */
 static inline bool intaglio_opened_find(const intaglio_opened *opened, const uint8_t *string, size_t len, uint32_t *symbol) {
     return intaglio_frozen_find_in(opened->bytes, opened->len, &opened->sections, string, len, symbol);
 }
+
+/* Stores the address and the length of a symbol's string in *out. Unless the length is 0, the address leads into the bytes. Returns false
+ * if there is no such symbol; *out is then unchanged. */
 static inline bool intaglio_opened_get(const intaglio_opened *opened, uint32_t symbol, intaglio_spelling *out) {
     return intaglio_frozen_get_in(opened->bytes, opened->len, &opened->sections, symbol, out);
 }
+
+/* Returns the number of strings. */
 static inline size_t intaglio_opened_len(const intaglio_opened *opened) { return opened->sections.count; }
+
+/* The same on bytes, which are opened each time: for one look-up alone. Of bytes that can't be opened, nothing is found, and the number
+ * is 0. */
+static inline bool intaglio_frozen_find(const uint8_t *bytes, size_t len, const uint8_t *string, size_t string_len, uint32_t *symbol) {
+    intaglio_opened opened;
+    return intaglio_open(&opened, bytes, len) == INTAGLIO_DONE && intaglio_opened_find(&opened, string, string_len, symbol);
+}
+static inline bool intaglio_frozen_get(const uint8_t *bytes, size_t len, uint32_t symbol, intaglio_spelling *out) {
+    intaglio_opened opened;
+    return intaglio_open(&opened, bytes, len) == INTAGLIO_DONE && intaglio_opened_get(&opened, symbol, out);
+}
+static inline size_t intaglio_frozen_len(const uint8_t *bytes, size_t len) {
+    intaglio_opened opened;
+    return intaglio_open(&opened, bytes, len) == INTAGLIO_DONE ? intaglio_opened_len(&opened) : 0;
+}
 
 /* Freezes a table: stores the number of bytes in *len, and copies them to the start of the buffer if it has space for all of them. The
  * strings are those of the table, with their symbols; a C string keeps its zero. They are UTF-8 if the kind is text, path, osstr or

@@ -31,6 +31,22 @@ struct RawSpelling {
     len: usize,
 }
 
+// Where the sections of a frozen table are.
+#[repr(C)]
+#[derive(Clone, Copy, Default)]
+struct RawSections {
+    key0: u64,
+    key1: u64,
+    count: usize,
+    starts_at: usize,
+    pilots_at: usize,
+    tags_at: usize,
+    text_at: usize,
+    places: u32,
+    groups: u32,
+    kind: u32,
+}
+
 unsafe extern "C" {
     fn intaglio_with_capacity(table: *mut RawHandle, kind: u32, capacity: usize, key0: u64, key1: u64) -> u32;
     fn intaglio_with_limit(table: *mut RawHandle, kind: u32, limit: usize, key0: u64, key1: u64) -> u32;
@@ -66,7 +82,6 @@ unsafe extern "C" {
     fn intaglio_absorb(table: *mut RawHandle, frozen: *const u8, len: usize, symbols: *mut u32, symbols_count: usize) -> u32;
     fn intaglio_freeze(table: *mut RawHandle, key0: u64, key1: u64, buffer: *mut u8, size: usize, len: *mut usize) -> u32;
     fn intaglio_frozen_check(bytes: *const u8, len: usize) -> u32;
-    fn intaglio_frozen_find(bytes: *const u8, len: usize, string: *const u8, string_len: usize, symbol: *mut u32) -> bool;
     fn intaglio_frozen_find_all(
         bytes: *const u8,
         len: usize,
@@ -77,8 +92,22 @@ unsafe extern "C" {
         symbols: *mut u64,
         symbols_count: usize,
     ) -> u32;
-    fn intaglio_frozen_get(bytes: *const u8, len: usize, symbol: u32, out: *mut RawSpelling) -> bool;
-    fn intaglio_frozen_len(bytes: *const u8, len: usize) -> usize;
+    fn intaglio_frozen_sections(bytes: *const u8, len: usize, sections: *mut RawSections) -> u32;
+    fn intaglio_frozen_find_in(
+        bytes: *const u8,
+        len: usize,
+        sections: *const RawSections,
+        string: *const u8,
+        string_len: usize,
+        symbol: *mut u32,
+    ) -> bool;
+    fn intaglio_frozen_get_in(
+        bytes: *const u8,
+        len: usize,
+        sections: *const RawSections,
+        symbol: u32,
+        out: *mut RawSpelling,
+    ) -> bool;
     fn intaglio_frozen_is_text(bytes: *const u8, len: usize) -> bool;
 }
 
@@ -504,7 +533,7 @@ const NO_SPACE: u32 = 11;
 // How many bytes a frozen table has, of so many strings and bytes of text, by docs/FORMATS.md.
 fn frozen_size(count: usize, text: usize) -> usize {
     let (places, groups) = (count + count / 19 + 2, count / 3 + 1);
-    64 + 5 * places + 4 * count + 2 * groups + text
+    128 + 5 * places + 4 * count + 2 * groups + text
 }
 
 impl<K: Kind> Drop for RawTable<K> {
@@ -514,15 +543,19 @@ impl<K: Kind> Drop for RawTable<K> {
     }
 }
 
-/// The bytes of a frozen table, or any others: each call reads the header again, and nothing outside the bytes.
+/// The bytes of a frozen table, or any others, and where its sections are if the header says it. Nothing outside the bytes is read.
 #[derive(Clone, Copy)]
 pub struct RawFrozen<'a> {
     bytes: &'a [u8],
+    sections: Option<RawSections>,
 }
 
 impl<'a> RawFrozen<'a> {
     pub fn new(bytes: &'a [u8]) -> RawFrozen<'a> {
-        RawFrozen { bytes }
+        let mut sections = RawSections::default();
+        // SAFETY: A slice's pointer isn't null, the library only reads the bytes, and `sections` is its struct.
+        let code = unsafe { intaglio_frozen_sections(bytes.as_ptr(), bytes.len(), &mut sections) };
+        RawFrozen { bytes, sections: (code == 0).then_some(sections) }
     }
 
     pub fn bytes(self) -> &'a [u8] {
@@ -535,10 +568,11 @@ impl<'a> RawFrozen<'a> {
     }
 
     pub fn find(self, string: &[u8]) -> Option<u32> {
-        let mut symbol = 0;
-        // SAFETY: As in `check`. `symbol` is in neither slice.
-        let found =
-            unsafe { intaglio_frozen_find(self.bytes.as_ptr(), self.bytes.len(), string.as_ptr(), string.len(), &mut symbol) };
+        let (bytes, sections, mut symbol) = (self.bytes, self.sections?, 0);
+        // SAFETY: As in `check`. `symbol` is in neither slice, and the sections are those of the bytes.
+        let found = unsafe {
+            intaglio_frozen_find_in(bytes.as_ptr(), bytes.len(), &sections, string.as_ptr(), string.len(), &mut symbol)
+        };
         found.then_some(symbol)
     }
 
@@ -562,9 +596,9 @@ impl<'a> RawFrozen<'a> {
     }
 
     pub fn get(self, symbol: u32) -> Option<&'a [u8]> {
-        let mut out = RawSpelling { at: core::ptr::null(), len: 0 };
-        // SAFETY: As in `check`. `out` is the library's struct.
-        if !unsafe { intaglio_frozen_get(self.bytes.as_ptr(), self.bytes.len(), symbol, &mut out) } {
+        let (sections, mut out) = (self.sections?, RawSpelling { at: core::ptr::null(), len: 0 });
+        // SAFETY: As in `find`. `out` is the library's struct.
+        if !unsafe { intaglio_frozen_get_in(self.bytes.as_ptr(), self.bytes.len(), &sections, symbol, &mut out) } {
             return None;
         }
         if out.len == 0 {
@@ -576,8 +610,7 @@ impl<'a> RawFrozen<'a> {
     }
 
     pub fn len(self) -> usize {
-        // SAFETY: As in `check`.
-        unsafe { intaglio_frozen_len(self.bytes.as_ptr(), self.bytes.len()) }
+        self.sections.map_or(0, |sections| sections.count)
     }
 
     pub fn is_text(self) -> bool {

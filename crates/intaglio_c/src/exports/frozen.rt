@@ -1,5 +1,5 @@
-//! Calls on frozen tables, which C passes as their bytes. Each call reads the header of the table again,
-//! unless it is passed where the sections are, and reads nothing outside the bytes.
+//! Calls on frozen tables, which C passes as their bytes, and most with where their sections are. Nothing
+//! outside the bytes is read.
 ghost use Rattle.std.specs.Prelude.{◌≡◌, ◌↔◌, true, false, length, slice_get, IsTrue, Some};
 ghost use Rattle.std.specs.Option.{option_map};
 ghost use Rattle.intaglio_frozen.specs.IsFrozen.{HasHeader, HasSections, IsFrozen, text_kind};
@@ -155,20 +155,6 @@ pub extern "C" fn intaglio_frozen_check(bytes: &[u8]) -> u32
     }
 }
 
-/// Returns whether a string is found in the bytes of a frozen table, and writes its symbol if it is.
-#[unsafe(no_mangle)]
-pub extern "C" fn intaglio_frozen_find(bytes: &[u8], string: &[u8], symbol: &mut u32) -> bool
-    ensures found { IsTrue result → slice_get (strings bytes.now) symbol.new ≡ Some string.now }
-    ensures frozen { IsFrozen bytes.now
-        → given result symbol.new ≡ position_in (strings bytes.now) string.now }
-    ensures unwritten { result ≡ false → symbol.new ≡ symbol.old }
-{
-    match Sections::read(bytes) {
-        Ok(sections) => intaglio_frozen_find_in(bytes, &sections, string, symbol),
-        Err(_) => false,
-    }
-}
-
 // Looks up a batch of strings.
 fn find_all(bytes: &[u8], batch: &[u8], ends: &[usize], symbols: &mut [u64]) -> Result<(), Refusal>
     ensures found { FindsEachTrusted bytes.now batch.now ends.now symbols.old symbols.new result }
@@ -197,35 +183,6 @@ pub extern "C" fn intaglio_frozen_find_all(
         (FindsEach (strings bytes.now) batch.now ends.now symbols.old symbols.new) }
 {
     code(find_all(bytes, batch, ends, symbols))
-}
-
-/// Writes where a symbol's string is in the bytes of a frozen table, if there
-/// is one, and returns whether there is.
-#[unsafe(no_mangle)]
-pub extern "C" fn intaglio_frozen_get(bytes: &[u8], symbol: u32, out: &mut Spelling) -> bool
-    ensures found { IsTrue result
-        → option_map length (slice_get (strings bytes.now) symbol) ≡ Some out.new.len }
-    ensures frozen { IsFrozen bytes.now
-        → given result out.new.len ≡ option_map length (slice_get (strings bytes.now) symbol) }
-    ensures unwritten { result ≡ false → out.new ≡ out.old }
-{
-    match Sections::read(bytes) {
-        Ok(sections) => intaglio_frozen_get_in(bytes, &sections, symbol, out),
-        Err(_) => false,
-    }
-}
-
-/// The number of strings of a frozen table, or 0 if the bytes have no header or are shorter than it requires.
-#[unsafe(no_mangle)]
-pub extern "C" fn intaglio_frozen_len(bytes: &[u8]) -> usize
-    ensures count { HasSections bytes.now → result ≡ length (strings bytes.now) }
-    ensures none { ¬ HasSections bytes.now → result ≡ 0 }
-    ensures frozen { IsFrozen bytes.now → result ≡ length (strings bytes.now) }
-{
-    match TrustedFrozen::open(bytes) {
-        Ok(table) => table.len(),
-        Err(_) => 0,
-    }
 }
 
 /// Returns whether the kind of a frozen table is text, or false if the bytes have no header.
@@ -259,8 +216,9 @@ pub extern "C" fn intaglio_frozen_sections(bytes: &[u8], sections: &mut Sections
     code(read_sections(bytes, sections))
 }
 
-/// As [`intaglio_frozen_find`], in bytes whose sections were read before: the header isn't read. Nothing
-/// outside the bytes is read, also if these aren't their sections.
+/// Returns whether a string is found in the bytes of a frozen table, of which these are the sections, and writes
+/// its symbol if it is. The header isn't read, and nothing outside the bytes, also if these aren't their
+/// sections.
 #[unsafe(no_mangle)]
 pub extern "C" fn intaglio_frozen_find_in(
     bytes: &[u8],
@@ -283,8 +241,9 @@ pub extern "C" fn intaglio_frozen_find_in(
     }
 }
 
-/// As [`intaglio_frozen_get`], in bytes whose sections were read before: the header isn't read. Nothing
-/// outside the bytes is read, also if these aren't their sections.
+/// Writes where a symbol's string is in the bytes of a frozen table, of which these are the sections, if there
+/// is one, and returns whether there is. The header isn't read, and nothing outside the bytes, also if these
+/// aren't their sections.
 #[unsafe(no_mangle)]
 pub extern "C" fn intaglio_frozen_get_in(
     bytes: &[u8],
