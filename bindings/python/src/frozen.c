@@ -75,8 +75,9 @@ static PyObject *frozen_check_texts(PyObject *Py_UNUSED(module), PyObject *data)
     Py_buffer view;
     intaglio_spelling out;
     if (borrow_frozen(data, &view) < 0) return NULL;
-    size_t len = intaglio_frozen_len(view.buf, (size_t)view.len), i = 0;
-    while (i < len && intaglio_frozen_get(view.buf, (size_t)view.len, (uint32_t)i, &out) && is_utf8(out.at, out.len))
+    intaglio_opened opened = opened_at(view.buf, (size_t)view.len);
+    size_t len = intaglio_opened_len(&opened), i = 0;
+    while (i < len && intaglio_opened_get(&opened, (uint32_t)i, &out) && is_utf8(out.at, out.len))
         if (++i % TURN == 0) give_turn();
     PyBuffer_Release(&view);
     if (i == len) Py_RETURN_NONE;

@@ -271,6 +271,12 @@ typedef struct {
     Py_buffer numbers;
 } Tables;
 
+/* Opens a frozen table, or a table without strings if the bytes are none. */
+static inline intaglio_opened opened_at(const uint8_t *bytes, size_t size) {
+    intaglio_opened opened;
+    return intaglio_open(&opened, bytes, size) ? (intaglio_opened){.bytes = bytes} : opened;
+}
+
 /* Borrows the bytes of a table. */
 int borrow_frozen(PyObject *data, Py_buffer *view);
 /* The same of a frozen table, or of shards: a pair of an array('I') of where they begin and a tuple of their bytes. The struct stays where it is. */

@@ -696,8 +696,8 @@ static PyObject *bytes_of_frozen(PyObject *frozen) {
 /* The symbol in frozen bytes of the first string that the table can't intern after those before it, or -1. The caller drops those. */
 static Py_ssize_t refused_symbol(Table *self, const uint8_t *bytes, size_t size) {
     intaglio_spelling string;
-    size_t count = intaglio_frozen_len(bytes, size);
-    for (size_t i = 0; i < count && intaglio_frozen_get(bytes, size, (uint32_t)i, &string); i++) {
+    intaglio_opened opened = opened_at(bytes, size);
+    for (uint32_t i = 0; intaglio_opened_get(&opened, i, &string); i++) {
         uint32_t symbol;
         if (intaglio_intern(&self->handle, string.at, string.len, &symbol)) return (Py_ssize_t)i;
     }
@@ -749,8 +749,9 @@ static PyObject *table_absorb_alone(Table *self, PyObject *frozen) { return abso
 /* Interns each string of frozen bytes in the table of its shard. Returns a code. */
 static uint32_t share_to(PyObject *tables, const Py_buffer *view) {
     intaglio_spelling string;
+    intaglio_opened opened = opened_at(view->buf, (size_t)view->len);
     uint32_t shards = (uint32_t)PyTuple_GET_SIZE(tables), symbol, code = INTAGLIO_DONE;
-    for (uint32_t i = 0; !code && intaglio_frozen_get(view->buf, (size_t)view->len, i, &string); i++) {
+    for (uint32_t i = 0; !code && intaglio_opened_get(&opened, i, &string); i++) {
         Table *table = (Table *)PyTuple_GET_ITEM(tables, (Py_ssize_t)intaglio_shard_of(shards, string.at, string.len));
         code = intaglio_intern(&table->handle, string.at, string.len, &symbol);
     }
@@ -865,11 +866,12 @@ static int table_init(Table *self, PyObject *args, PyObject *named) {
 
 /* Interns the strings of a frozen table, each at its symbol, into a table without strings. Returns a code. */
 static uint32_t thaw_each(Table *self, const uint8_t *bytes, size_t size) {
-    size_t count = intaglio_frozen_len(bytes, size);
+    intaglio_opened opened = opened_at(bytes, size);
+    size_t count = intaglio_opened_len(&opened);
     for (size_t i = 0; i < count; i++) {
         intaglio_spelling string;
         uint32_t symbol;
-        if (!intaglio_frozen_get(bytes, size, (uint32_t)i, &string)) return INTAGLIO_NO_SYMBOL;
+        if (!intaglio_opened_get(&opened, (uint32_t)i, &string)) return INTAGLIO_NO_SYMBOL;
         uint32_t code = intaglio_intern(&self->handle, string.at, string.len, &symbol);
         if (code) return code;
         if (symbol != i) return INTAGLIO_EQUAL;
