@@ -85,7 +85,9 @@ fn trusted_bytes_are_not_checked() {
 fn a_table_is_frozen_to_the_bytes_of_the_writer_in_python() {
     let mut table = SymbolTable::new();
     table.intern_all(["a", "bc", ""]).unwrap();
-    assert_eq!(table.freeze((1, 2)).unwrap(), TEXTS);
+    let data = table.freeze((1, 2)).unwrap();
+    // The room was right at once, so that nothing was frozen a second time.
+    assert_eq!((&data[..], data.capacity()), (&TEXTS[..], TEXTS.len()));
     assert_eq!(table.strings().collect::<Vec<_>>(), ["a", "bc", ""]);
 }
 
