@@ -2,7 +2,7 @@ use Rattle.std.proofs.Common.{◌∙◌, arith, ap, drop, sym}
 use Rattle.std.specs.Hash.DefaultHasher.{finish, write}
 use Rattle.std.proofs.lemmas.List.{length-take-le, take_rest}
 use Rattle.intaglio_columns.proofs.Checksums.{of_parts}
-use Rattle.intaglio_columns.proofs.checksum.checksum_of.Goals as goal
+use Rattle.intaglio_columns.proofs.file.checksum.checksum_of.Goals as goal
 
 pub slice_bounds-write-end-2 : goal.slice_bounds-write-end-2
 slice_bounds-write-end-2 c = sym (length-take-le 56 c.args.bytes.now (omega (arith, c.requires)))

@@ -1,7 +1,7 @@
 use Rattle.std.proofs.Common.{◌∙◌, ◌++◌, drop, take, ap, refl}
 use Rattle.std.specs.Int.{w64, to_le_bytes}
 use Rattle.intaglio_columns.proofs.Checksums.{put_at_56}
-use Rattle.intaglio_columns.proofs.checksum.seal.Goals as goal
+use Rattle.intaglio_columns.proofs.file.checksum.seal.Goals as goal
 
 pub returns-clause-sealed : goal.returns-clause-sealed
 returns-clause-sealed c =

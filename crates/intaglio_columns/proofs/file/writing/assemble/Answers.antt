@@ -2,7 +2,7 @@ use Rattle.std.proofs.Common.{◌∙◌, ◌++◌, ap}
 use Rattle.std.specs.List.{flat_map}
 use Rattle.std.proofs.lemmas.List.{take_at}
 use Rattle.intaglio_columns.specs.Writing.{code_bytes, header_of, sealed}
-use Rattle.intaglio_columns.proofs.writing.assemble.Goals as goal
+use Rattle.intaglio_columns.proofs.file.writing.assemble.Goals as goal
 
 pub returns-clause-bytes : goal.returns-clause-bytes
 returns-clause-bytes g c =

@@ -3,7 +3,7 @@ use Rattle.std.proofs.Common.{◌≡◌, ◌++◌, take}
 use Rattle.std.specs.List.{flat_map}
 use Rattle.intaglio_columns.specs.Codes.{AreCodesBefore}
 use Rattle.intaglio_columns.specs.Writing.{code_bytes}
-use Rattle.intaglio_columns.proofs.writing.put_codes.Given as goal
+use Rattle.intaglio_columns.proofs.file.writing.put_codes.Given as goal
 
 abbrev pub invariant-loop-row : goal.invariant-loop-row
 invariant-loop-row g l = record {

@@ -1,5 +1,5 @@
 use Rattle.intaglio_columns.proofs.Written.{nine_parts}
-use Rattle.intaglio_columns.proofs.writing.put_start.Goals as goal
+use Rattle.intaglio_columns.proofs.file.writing.put_start.Goals as goal
 
 pub returns : goal.returns
 returns c =

@@ -2,7 +2,7 @@ use Rattle.std.proofs.Common.{◌∙◌, ap}
 use Rattle.intaglio_columns.specs.Writing.{file_of}
 use Rattle.intaglio_columns.proofs.Written.{checksum_same, codes_same, header_same, known_same, same_header, whole_header_same}
 use Rattle.intaglio_columns.specs.declared.file.source.RowSource.{RowSource}
-use Rattle.intaglio_columns.proofs.writing.sourced_column_bytes.Goals as goal
+use Rattle.intaglio_columns.proofs.file.writing.sourced_column_bytes.Goals as goal
 
 pub check_full-requires : goal.check_full-requires
 check_full-requires g c =

@@ -3,7 +3,7 @@ use Rattle.std.proofs.Common.{◌∙◌, ◌==◌, ℕ, ap, refl, arith}
 use Rattle.intaglio_columns.specs.Layout.{widened}
 use Rattle.intaglio_columns.proofs.CodesInFile.{code_is}
 use Rattle.intaglio_columns.proofs.Widths.{same_widened}
-use Rattle.intaglio_columns.proofs.code.Code.is_at.Goals as goal
+use Rattle.intaglio_columns.proofs.file.code.Code.is_at.Goals as goal
 
 pub returns : goal.returns
 returns g c =

@@ -4,7 +4,7 @@ use Rattle.intaglio_columns.specs.Codes.{is_unknown}
 use Rattle.intaglio_columns.specs.Layout.{widened}
 use Rattle.intaglio_columns.proofs.CodesInFile.{code_is}
 use Rattle.intaglio_columns.proofs.Widths.{unknown_above, unknown_below}
-use Rattle.intaglio_columns.proofs.code.Code.is_unknown.Goals as goal
+use Rattle.intaglio_columns.proofs.file.code.Code.is_unknown.Goals as goal
 
 pub returns-then-code-number : goal.returns-then-code-number
 returns-then-code-number g c =

@@ -2,7 +2,7 @@
 use Rattle.std.proofs.Common.{sym, ◌∙◌}
 use Rattle.intaglio_columns.proofs.CodesInFile.{code_is}
 use Rattle.intaglio_columns.proofs.Widths.{widened_greatest, widened_other}
-use Rattle.intaglio_columns.proofs.code.Code.read.Goals as goal
+use Rattle.intaglio_columns.proofs.file.code.Code.read.Goals as goal
 
 pub returns-then-code-greatest : goal.returns-then-code-greatest
 returns-then-code-greatest g c =

@@ -2,7 +2,7 @@ use Rattle.std.proofs.Common.{sym, arith}
 use Rattle.std.proofs.lemmas.Option.{slice_get_past}
 use Rattle.intaglio_columns.specs.Layout.{codes}
 use Rattle.intaglio_columns.proofs.CodesInFile.{all_length}
-use Rattle.intaglio_columns.proofs.column.Column.code.Goals as goal
+use Rattle.intaglio_columns.proofs.file.column.Column.code.Goals as goal
 
 pub returns-then-row-self : goal.returns-then-row-self
 returns-then-row-self c =

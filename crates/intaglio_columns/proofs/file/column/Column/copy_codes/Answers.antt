@@ -1,7 +1,7 @@
 use Rattle.std.proofs.Common.{◌∙◌, drop, arith, length-drop}
 use Rattle.intaglio_columns.specs.Layout.{codes}
 use Rattle.intaglio_columns.proofs.Overlaid.{overlaid_all, overlaid_next, read_behind}
-use Rattle.intaglio_columns.proofs.column.Column.copy_codes.Goals as goal
+use Rattle.intaglio_columns.proofs.file.column.Column.copy_codes.Goals as goal
 
 pub loop-i-preserved : goal.loop-i-preserved
 loop-i-preserved g c =

@@ -2,7 +2,7 @@ use Rattle.std.proofs.Common.{refl, arith}
 use Rattle.intaglio_columns.specs.Layout.{codes}
 use Rattle.intaglio_columns.proofs.CodesInFile.{all_length}
 use Rattle.intaglio_columns.proofs.Past.{counted_more}
-use Rattle.intaglio_columns.proofs.column.Column.count_among.Goals as goal
+use Rattle.intaglio_columns.proofs.file.column.Column.count_among.Goals as goal
 
 pub loop-row-preserved : goal.loop-row-preserved
 loop-row-preserved g c =

@@ -1,7 +1,7 @@
 use Rattle.std.proofs.Common.{arith}
 use Rattle.intaglio_columns.specs.Layout.{codes, strings}
 use Rattle.intaglio_columns.proofs.Counted.{tally_missing, tally_other, tally_string}
-use Rattle.intaglio_columns.proofs.column.Column.count_each.Goals as goal
+use Rattle.intaglio_columns.proofs.file.column.Column.count_each.Goals as goal
 
 pub loop-row-preserved-then-code : goal.loop-row-preserved-then-code
 loop-row-preserved-then-code g c =

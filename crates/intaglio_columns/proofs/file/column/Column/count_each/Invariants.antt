@@ -1,7 +1,7 @@
 -- The counts of the codes so far.
 use Rattle.intaglio_columns.specs.Layout.{codes, strings}
 use Rattle.intaglio_columns.proofs.Counted.{IsTally}
-use Rattle.intaglio_columns.proofs.column.Column.count_each.Given as goal
+use Rattle.intaglio_columns.proofs.file.column.Column.count_each.Given as goal
 
 abbrev pub invariant-loop-row : goal.invariant-loop-row
 invariant-loop-row g l = IsTally (strings l.self) (codes l.self) l.row l.of l.missing

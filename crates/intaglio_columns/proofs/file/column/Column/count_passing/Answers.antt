@@ -1,7 +1,7 @@
 use Rattle.std.proofs.Common.{ap, length, arith}
 use Rattle.intaglio_columns.specs.Layout.{codes}
 use Rattle.intaglio_columns.proofs.Past.{past_end, rows_count}
-use Rattle.intaglio_columns.proofs.column.Column.count_passing.Goals as goal
+use Rattle.intaglio_columns.proofs.file.column.Column.count_passing.Goals as goal
 
 pub returns : goal.returns
 returns g c =

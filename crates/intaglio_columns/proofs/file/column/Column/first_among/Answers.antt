@@ -2,7 +2,7 @@ use Rattle.std.proofs.Common.{◌∙◌, ◌<◌, length, sym, arith}
 use Rattle.intaglio_columns.specs.Layout.{codes}
 use Rattle.intaglio_columns.proofs.CodesInFile.{all_length}
 use Rattle.intaglio_columns.proofs.Past.{past_yes}
-use Rattle.intaglio_columns.proofs.column.Column.first_among.Goals as goal
+use Rattle.intaglio_columns.proofs.file.column.Column.first_among.Goals as goal
 
 pub returns-then-passes : goal.returns-then-passes
 returns-then-passes g c =

@@ -2,7 +2,7 @@
 use Rattle.std.proofs.Common.{◌≡◌, ◌≤◌}
 use Rattle.intaglio_columns.specs.Layout.{codes}
 use Rattle.intaglio_columns.specs.Rows.{rows_past}
-use Rattle.intaglio_columns.proofs.column.Column.first_among.Given as goal
+use Rattle.intaglio_columns.proofs.file.column.Column.first_among.Given as goal
 
 abbrev pub invariant-loop-row : goal.invariant-loop-row
 invariant-loop-row g l = record {

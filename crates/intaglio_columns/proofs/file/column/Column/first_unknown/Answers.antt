@@ -1,7 +1,7 @@
 use Rattle.std.proofs.Common.{◌≡◌, ◌∙◌}
 use Rattle.intaglio_columns.specs.Layout.{codes, strings}
 use Rattle.intaglio_columns.proofs.Unknown.{first_of_unknown}
-use Rattle.intaglio_columns.proofs.column.Column.first_unknown.Goals as goal
+use Rattle.intaglio_columns.proofs.file.column.Column.first_unknown.Goals as goal
 
 pub returns : goal.returns
 returns g c =

@@ -1,6 +1,6 @@
 use Rattle.std.proofs.Common.{◌∙◌, sym}
 use Rattle.intaglio_columns.proofs.CodesInFile.{all_length}
-use Rattle.intaglio_columns.proofs.column.Column.len.Goals as goal
+use Rattle.intaglio_columns.proofs.file.column.Column.len.Goals as goal
 
 pub returns-clause-length : goal.returns-clause-length
 returns-clause-length c =

@@ -1,7 +1,7 @@
 -- A column has no row that is missing though none may be.
 use Rattle.intaglio_columns.specs.Layout.{codes}
 use Rattle.intaglio_columns.proofs.Written.{no_gap}
-use Rattle.intaglio_columns.proofs.column.Column.open.Goals as goal
+use Rattle.intaglio_columns.proofs.file.column.Column.open.Goals as goal
 
 pub returns-in-Some-first_gap-clause-only : goal.returns-in-Some-first_gap-clause-only
 returns-in-Some-first_gap-clause-only c = λ h.

@@ -1,6 +1,6 @@
 use Rattle.std.proofs.Common.{◌∙◌, ap}
 use Rattle.intaglio_columns.proofs.CodesInFile.{read_or}
-use Rattle.intaglio_columns.proofs.column.Column.passes.Goals as goal
+use Rattle.intaglio_columns.proofs.file.column.Column.passes.Goals as goal
 
 pub returns : goal.returns
 returns g c =

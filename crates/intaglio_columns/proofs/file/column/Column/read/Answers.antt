@@ -1,5 +1,5 @@
 use Rattle.intaglio_columns.proofs.CodesInFile.{read_get}
-use Rattle.intaglio_columns.proofs.column.Column.read.Goals as goal
+use Rattle.intaglio_columns.proofs.file.column.Column.read.Goals as goal
 
 pub returns : goal.returns
 returns g c =

@@ -1,7 +1,7 @@
 use Rattle.std.proofs.Common.{◌==◌}
 use Rattle.intaglio_columns.specs.Layout.{codes}
 use Rattle.intaglio_columns.proofs.Placed.{next_placed, none_placed}
-use Rattle.intaglio_columns.proofs.column.Column.rows_into.Goals as goal
+use Rattle.intaglio_columns.proofs.file.column.Column.rows_into.Goals as goal
 
 pub loop-row-init : goal.loop-row-init
 loop-row-init c = none_placed (λ x. x == c.args.code) (codes c.args.self.now) c.args.places.now

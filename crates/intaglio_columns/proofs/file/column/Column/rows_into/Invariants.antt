@@ -2,7 +2,7 @@
 use Rattle.std.proofs.Common.{◌-◌, ◌==◌, length}
 use Rattle.intaglio_columns.specs.Layout.{codes}
 use Rattle.intaglio_columns.proofs.Placed.{ArePlaced}
-use Rattle.intaglio_columns.proofs.column.Column.rows_into.Given as goal
+use Rattle.intaglio_columns.proofs.file.column.Column.rows_into.Given as goal
 
 abbrev pub invariant-loop-row : goal.invariant-loop-row
 invariant-loop-row l = ArePlaced (λ c. c == l.code) (codes l.self) l.initial.places l.from l.places l.count

@@ -2,7 +2,7 @@
 use Rattle.std.proofs.Common.{◌≡◌, ◌-◌, ◌==◌, ◌++◌, length}
 use Rattle.intaglio_columns.specs.Layout.{codes}
 use Rattle.intaglio_columns.specs.Rows.{rows_of, rows_past}
-use Rattle.intaglio_columns.proofs.column.Column.rows_of.Given as goal
+use Rattle.intaglio_columns.proofs.file.column.Column.rows_of.Given as goal
 
 abbrev pub invariant-loop-row : goal.invariant-loop-row
 invariant-loop-row l =

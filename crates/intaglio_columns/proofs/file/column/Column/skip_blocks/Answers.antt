@@ -1,6 +1,6 @@
 use Rattle.std.proofs.Common.{refl, arith}
 use Rattle.intaglio_columns.proofs.CodesInFile.{all_length}
-use Rattle.intaglio_columns.proofs.column.Column.skip_blocks.Goals as goal
+use Rattle.intaglio_columns.proofs.file.column.Column.skip_blocks.Goals as goal
 
 pub loop-row-init : goal.loop-row-init
 loop-row-init g c = record {
