@@ -151,7 +151,7 @@ pub fn encode_column<D: WholeDictionary, R: Read, W: Write>(
         (λ input. DecodesToInput (D.strings table.now) input)) }
 {
     // The number of strings is at most 2^32.
-    let _count = table.count();
+    let _count = table.len();
     match translate(alloc, &Encoding { table, missing }, reader, writer) {
         Ok(count) => Ok(count),
         Err(stopped) => Err(line_error(stopped)),

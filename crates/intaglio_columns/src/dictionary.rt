@@ -20,7 +20,8 @@ pub trait Dictionary {
 
     /// The number of strings.
     fn len(&self) -> usize
-        ensures { result ≡ length (strings self.now) };
+        ensures count { result ≡ length (strings self.now) }
+        ensures few { result ≤ 2 ^ 32 };
 
     /// The string of a symbol. If the dictionary isn't whole, a symbol below `len` may have none.
     fn string(&self, symbol: Symbol) -> Option<&[u8]>
@@ -99,22 +100,28 @@ impl Dictionary for Shards<'_> {
 
 /// A dictionary of which all was checked: a frozen table, or the shards of one dictionary. Each
 /// string and each symbol is found.
-pub trait WholeDictionary {
-    // Its strings, in the order of their symbols.
-    ghost strings: { Self → List (List ℕ) };
-
-    /// The number of strings.
-    fn count(&self) -> usize
-        ensures count { result ≡ length (strings self.now) }
-        ensures few { result ≤ 2 ^ 32 };
+pub trait WholeDictionary: Dictionary {
+    /// For contracts alone: all of it was checked.
+    fn whole(&self)
+        ensures { Self.is_whole self.now };
 
     /// The string of a symbol.
+    #[inline(always)]
     fn string_of(&self, symbol: Symbol) -> Option<&[u8]>
-        ensures { option_copied result ≡ slice_get (strings self.now) symbol };
+        ensures { option_copied result ≡ slice_get (Self.strings self.now) symbol }
+    {
+        self.whole();
+        self.string(symbol)
+    }
 
     /// The symbol of a string, if it is in the dictionary.
+    #[inline(always)]
     fn symbol_of(&self, string: &[u8]) -> Option<Symbol>
-        ensures { result ≡ position_in (strings self.now) string.now };
+        ensures { result ≡ position_in (Self.strings self.now) string.now }
+    {
+        self.whole();
+        self.symbol(string)
+    }
 
     /// The symbol of each string of a batch, where it is in the dictionary.
     ///
@@ -123,26 +130,12 @@ pub trait WholeDictionary {
     /// [`AllocError`] if the allocation of the list fails.
     fn symbols_of(&self, alloc: Global, batch: &[&[u8]]) -> Result<Vec<Option<Symbol>>, AllocError>
         ensures { IfOk result (λ found.
-            found.items ≡ map (λ w. position_in (strings self.now) w.now) batch.now) };
+            found.items ≡ map (λ w. position_in (Self.strings self.now) w.now) batch.now) };
 }
 
 impl WholeDictionary for Frozen<'_> {
-    ghost strings = { λ table. table };
-
     #[inline(always)]
-    fn count(&self) -> usize {
-        Frozen::len(self)
-    }
-
-    #[inline(always)]
-    fn string_of(&self, symbol: Symbol) -> Option<&[u8]> {
-        self.get(symbol)
-    }
-
-    #[inline(always)]
-    fn symbol_of(&self, string: &[u8]) -> Option<Symbol> {
-        self.check_interned(string)
-    }
+    fn whole(&self) {}
 
     #[inline(always)]
     fn symbols_of(
@@ -155,22 +148,8 @@ impl WholeDictionary for Frozen<'_> {
 }
 
 impl WholeDictionary for Shards<'_> {
-    ghost strings = { λ shards. joined shards };
-
     #[inline(always)]
-    fn count(&self) -> usize {
-        Shards::len(self)
-    }
-
-    #[inline(always)]
-    fn string_of(&self, symbol: Symbol) -> Option<&[u8]> {
-        self.get(symbol)
-    }
-
-    #[inline(always)]
-    fn symbol_of(&self, string: &[u8]) -> Option<Symbol> {
-        self.check_interned(string)
-    }
+    fn whole(&self) {}
 
     #[inline(always)]
     fn symbols_of(

@@ -23,11 +23,11 @@ pub fn size_of_strings<D: WholeDictionary>(table: &D) -> Size
     ensures longest { result.longest ≡ longest (D.strings table.now) }
 {
     let mut size = Size {
-        count: table.count() as u64,
+        count: table.len() as u64,
         bytes: 0,
         longest: 0,
     };
-    for number in 0..table.count() {
+    for number in 0..table.len() {
         let string = table.string_of(Symbol::new(number as u32)).unwrap();
         size.bytes = size.bytes.saturating_add(string.len() as u64);
         size.longest = size.longest.max(string.len() as u64);

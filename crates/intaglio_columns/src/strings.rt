@@ -29,7 +29,7 @@ impl<D: WholeDictionary> Output for Listing<'_, D> {
     ghost is_ready = { λ _. Unit {0} };
 
     fn put_all<W: Write>(&self, block: &mut Vec<u8>, writer: &mut W) -> io::Result<()> {
-        for number in 0..self.table.count() {
+        for number in 0..self.table.len() {
             let string = self.table.string_of(Symbol::new(number as u32)).unwrap();
             put_line(string, block, writer)?;
         }

@@ -32,7 +32,7 @@ enum Translation<'a, D> {
     Decode(&'a D, Option<&'a [u8]>),
 }
 
-impl<D: WholeDictionary + Dictionary> Translation<'_, D> {
+impl<D: WholeDictionary> Translation<'_, D> {
     // How many lines or codes were translated.
     fn translate<I: Read, W: Write>(
         &self,
@@ -90,7 +90,7 @@ struct Translated<'a, D> {
     count: u64,
 }
 
-impl<R: Files + Input + Tell + AllocGlobal, D: WholeDictionary + Dictionary> Payload<R>
+impl<R: Files + Input + Tell + AllocGlobal, D: WholeDictionary> Payload<R>
     for Translated<'_, D> {
     fn write<W: Write>(&mut self, rt: &R, name: &str, output: &mut Noticing<W>) -> Result<(), u8> {
         for input in self.names {
@@ -100,7 +100,7 @@ impl<R: Files + Input + Tell + AllocGlobal, D: WholeDictionary + Dictionary> Pay
     }
 }
 
-impl<D: WholeDictionary + Dictionary> Translated<'_, D> {
+impl<D: WholeDictionary> Translated<'_, D> {
     // Translates one input.
     fn add<R: Files + Input + Tell + AllocGlobal, W: Write>(
         &mut self,
@@ -186,7 +186,7 @@ pub fn encode_lines<R: Files + RandomSource + Input + Print + Tell + AllocGlobal
 // Encodes by a dictionary.
 fn encode_with<
     R: Files + RandomSource + Input + Print + Tell + AllocGlobal,
-    D: WholeDictionary + Dictionary,
+    D: WholeDictionary,
 >(rt: &R, found: &ArgMatches<'_>, table: &D, reference: Reference) -> Result<(), u8> {
     let names = found.get_strs("FILE").unwrap_or(STANDARD_INPUT);
     let output = found.get_str("OUT").unwrap_or(STANDARD);
@@ -210,7 +210,7 @@ fn encode_with<
 // Writes the column of lines: how many there are stands in front, so their codes are held.
 fn write_column<
     R: Files + RandomSource + Input + Print + Tell + AllocGlobal,
-    D: WholeDictionary + Dictionary,
+    D: WholeDictionary,
 >(rt: &R, output: &str, reference: Reference, lines: &mut Translated<'_, D>) -> Result<(), u8> {
     let mut codes = Noticing::new(Vec::new(rt.alloc()));
     lines.write(rt, output, &mut codes)?;
@@ -243,7 +243,7 @@ pub fn decode_codes<R: Files + RandomSource + Input + Print + Tell + AllocGlobal
 
 fn decode_with<
     R: Files + RandomSource + Input + Print + Tell + AllocGlobal,
-    D: WholeDictionary + Dictionary,
+    D: WholeDictionary,
 >(
     rt: &R,
     found: &ArgMatches<'_>,

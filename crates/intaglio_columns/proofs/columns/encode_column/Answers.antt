@@ -7,8 +7,8 @@ use Rattle.intaglio_columns.proofs.columns.encode_column.Goals as goal
 
 pub returns-in-Ok-clause-decodes : goal.returns-in-Ok-clause-decodes
 returns-in-Ok-clause-decodes g c = λ none.
-    let table = g.D.WholeDictionary.strings c.args.table.now in
+    let table = g.D.Dictionary.strings c.args.table.now in
     if-some (g.R.Read.remaining c.args.reader.now) _ _
     (λ input all.
-    decodes-to-input table input (omega (arith, c.count-count.ensures.count, c.count-count.ensures.few))
+    decodes-to-input table input (omega (arith, c.len-count.ensures.count, c.len-count.ensures.few))
     (subst (λ m. AllFit (has_code table m) (lines_of input)) none all)) c.in-Ok.ensures.fit

@@ -5,7 +5,7 @@ use Rattle.intaglio_columns.proofs.size.size_of_strings.Goals as goal
 
 pub loop-number-preserved : goal.loop-number-preserved
 loop-number-preserved g c =
-    let table = g.D.WholeDictionary.strings c.args.table.now in
+    let table = g.D.Dictionary.strings c.args.table.now in
     let string = c.unwrap-string.result.now in
     let at = rw c.new.ensures at (sym c.string_of.ensures ∙ ap option_copied c.unwrap-string.ensures) in
     let bytes = fold-next table c.loop-number.number string at (λ b s. b + length s) 0 in

@@ -5,7 +5,7 @@ use Rattle.intaglio_columns.proofs.size.size_of_strings.Given as goal
 
 abbrev pub invariant-loop-number : goal.invariant-loop-number
 invariant-loop-number g l = record {
-  count : l.size.count ≡ length (g.D.WholeDictionary.strings l.table);
-  bytes : l.size.bytes ≡ min (total (take l.number (g.D.WholeDictionary.strings l.table))) (2 ^ 64 - 1);
-  longest : l.size.longest ≡ longest (take l.number (g.D.WholeDictionary.strings l.table));
+  count : l.size.count ≡ length (g.D.Dictionary.strings l.table);
+  bytes : l.size.bytes ≡ min (total (take l.number (g.D.Dictionary.strings l.table))) (2 ^ 64 - 1);
+  longest : l.size.longest ≡ longest (take l.number (g.D.Dictionary.strings l.table));
 }

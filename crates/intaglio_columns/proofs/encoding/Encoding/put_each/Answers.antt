@@ -8,7 +8,7 @@ use Rattle.intaglio_columns.proofs.encoding.Encoding.put_each.Goals as goal
 
 pub loop-i-preserved : goal.loop-i-preserved
 loop-i-preserved g c =
-    let table = g.D.WholeDictionary.strings c.args.self.now.table.now in
+    let table = g.D.Dictionary.strings c.args.self.now.table.now in
     let lines = map (λ line. line.now) c.args.lines.now in
     let at = mapped-at (λ line. line.now) c.args.lines.now c.loop-i.i _ c.loop-i-test.true in
     record {
@@ -28,7 +28,7 @@ put_next-requires g c =
 
 pub returns-in_err-put_next-clause-misfit : goal.returns-in_err-put_next-clause-misfit
 returns-in_err-put_next-clause-misfit g c =
-    let table = g.D.WholeDictionary.strings c.args.self.now.table.now in
+    let table = g.D.Dictionary.strings c.args.self.now.table.now in
     let lines = map (λ line. line.now) c.args.lines.now in
     let at = mapped-at (λ line. line.now) c.args.lines.now c.loop-i.i _ c.loop-i-test.true in
     let passed = err_from_is_err_and c.from_residual.result c.from_residual.ensures.1 in
@@ -41,7 +41,7 @@ returns-in_err-put_next-clause-misfit g c =
 
 pub returns-in_err-put_next-clause-part : goal.returns-in_err-put_next-clause-part
 returns-in_err-put_next-clause-part g c =
-    let table = g.D.WholeDictionary.strings c.args.self.now.table.now in
+    let table = g.D.Dictionary.strings c.args.self.now.table.now in
     let lines = map (λ line. line.now) c.args.lines.now in
     let at = mapped-at (λ line. line.now) c.args.lines.now c.loop-i.i _ c.loop-i-test.true in
     let fits = has_code table c.args.self.now.missing in

@@ -11,7 +11,7 @@ use Rattle.intaglio_columns.proofs.encoding.Encoding.put_lines.Goals as goal
 pub loop-at-preserved : goal.loop-at-preserved
 loop-at-preserved g c =
     let bytes = c.args.bytes.now in
-    let table = g.D.WholeDictionary.strings c.args.self.now.table.now in
+    let table = g.D.Dictionary.strings c.args.self.now.table.now in
     let at = c.loop-at.at in
     let group = c.in_ok-group.group in
     let rest = take (length bytes - at) (drop at bytes) in
@@ -49,7 +49,7 @@ loop-at-preserved g c =
 pub returns-in_err-count-clause-misfit : goal.returns-in_err-count-clause-misfit
 returns-in_err-count-clause-misfit g c =
     let bytes = c.args.bytes.now in
-    let table = g.D.WholeDictionary.strings c.args.self.now.table.now in
+    let table = g.D.Dictionary.strings c.args.self.now.table.now in
     let at = c.loop-at.at in
     let group = c.in_ok-group.group in
     let rest = take (length bytes - at) (drop at bytes) in
@@ -68,7 +68,7 @@ returns-in_err-count-clause-misfit g c =
 
 pub returns-in_err-group-clause-misfit : goal.returns-in_err-group-clause-misfit
 returns-in_err-group-clause-misfit g c =
-    let table = g.D.WholeDictionary.strings c.args.self.now.table.now in
+    let table = g.D.Dictionary.strings c.args.self.now.table.now in
     let passed = err_from_is_err_and c.from_residual.result c.from_residual.ensures.1 in
     rw (passed.1, passed.2) (λ input old left before.
     failure-reports lines_of (has_code table c.args.self.now.missing) (encoded_line table) input
@@ -86,7 +86,7 @@ first_lines-requires-clause-seen g c =
 pub returns-in_err-count-clause-part : goal.returns-in_err-count-clause-part
 returns-in_err-count-clause-part g c =
     let bytes = c.args.bytes.now in
-    let table = g.D.WholeDictionary.strings c.args.self.now.table.now in
+    let table = g.D.Dictionary.strings c.args.self.now.table.now in
     let at = c.loop-at.at in
     let group = c.in_ok-group.group in
     let rest = take (length bytes - at) (drop at bytes) in
@@ -105,6 +105,6 @@ returns-in_err-count-clause-part g c =
 pub returns-in_err-group-clause-part : goal.returns-in_err-group-clause-part
 returns-in_err-group-clause-part g c = on-err c.from_residual.result (λ input old left before.
     kept-part lines_of
-    (has_code (g.D.WholeDictionary.strings c.args.self.now.table.now) c.args.self.now.missing)
-    (encoded_line (g.D.WholeDictionary.strings c.args.self.now.table.now)) input old _ left _ _
+    (has_code (g.D.Dictionary.strings c.args.self.now.table.now) c.args.self.now.missing)
+    (encoded_line (g.D.Dictionary.strings c.args.self.now.table.now)) input old _ left _ _
     c.loop-at.count (c.loop-at.invariant.goes input old left before))

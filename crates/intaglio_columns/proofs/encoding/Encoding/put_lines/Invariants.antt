@@ -8,8 +8,8 @@ use Rattle.intaglio_columns.proofs.encoding.Encoding.put_lines.Given as goal
 abbrev pub invariant-loop-at : goal.invariant-loop-at
 invariant-loop-at g l = record {
   within : l.at ≤ length l.bytes;
-  goes : GoesOn lines_of (has_code (g.D.WholeDictionary.strings l.self.table.now) l.self.missing)
-      (encoded_line (g.D.WholeDictionary.strings l.self.table.now))
+  goes : GoesOn lines_of (has_code (g.D.Dictionary.strings l.self.table.now) l.self.missing)
+      (encoded_line (g.D.Dictionary.strings l.self.table.now))
       (g.W.Write.contents l.initial.writer) l.initial.block.items l.bytes l.fn.number
       (g.W.Write.contents l.writer) l.block.items (drop l.at l.bytes) l.count;
   few : l.skip ≤ length (drop l.at l.bytes);

@@ -7,6 +7,6 @@ use Rattle.intaglio_columns.proofs.strings.ListingOutput.put_all.Goals as goal
 pub loop-number-preserved : goal.loop-number-preserved
 loop-number-preserved g c =
     let at = rw c.new.ensures at (sym c.string_of.ensures ∙ ap option_copied c.unwrap-string.ensures) in
-    appends-next (g.D.WholeDictionary.strings c.args.self.now.table.now) c.loop-number.number
+    appends-next (g.D.Dictionary.strings c.args.self.now.table.now) c.loop-number.number
     c.unwrap-string.result.now at spelling_line _ _ _ _ refl c.loop-number.invariant
     c.in_ok-put_line.ensures.put

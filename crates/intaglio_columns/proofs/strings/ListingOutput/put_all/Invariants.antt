@@ -8,4 +8,4 @@ use Rattle.intaglio_columns.proofs.strings.ListingOutput.put_all.Given as goal
 abbrev pub invariant-loop-number : goal.invariant-loop-number
 invariant-loop-number g l = Appends (append_known (g.W.Write.contents l.initial.writer) l.initial.block.items)
     (append_known (g.W.Write.contents l.writer) l.block.items)
-    (flat_map spelling_line (take l.number (g.D.WholeDictionary.strings l.self.table.now)))
+    (flat_map spelling_line (take l.number (g.D.Dictionary.strings l.self.table.now)))
