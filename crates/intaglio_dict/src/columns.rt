@@ -90,8 +90,7 @@ struct Translated<'a, D> {
     count: u64,
 }
 
-impl<R: Files + Input + Tell + AllocGlobal, D: WholeDictionary> Payload<R>
-    for Translated<'_, D> {
+impl<R: Files + Input + Tell + AllocGlobal, D: WholeDictionary> Payload<R> for Translated<'_, D> {
     fn write<W: Write>(&mut self, rt: &R, name: &str, output: &mut Noticing<W>) -> Result<(), u8> {
         for input in self.names {
             self.add(rt, input, name, output)?;
@@ -184,10 +183,12 @@ pub fn encode_lines<R: Files + RandomSource + Input + Print + Tell + AllocGlobal
 }
 
 // Encodes by a dictionary.
-fn encode_with<
-    R: Files + RandomSource + Input + Print + Tell + AllocGlobal,
-    D: WholeDictionary,
->(rt: &R, found: &ArgMatches<'_>, table: &D, reference: Reference) -> Result<(), u8> {
+fn encode_with<R: Files + RandomSource + Input + Print + Tell + AllocGlobal, D: WholeDictionary>(
+    rt: &R,
+    found: &ArgMatches<'_>,
+    table: &D,
+    reference: Reference,
+) -> Result<(), u8> {
     let names = found.get_strs("FILE").unwrap_or(STANDARD_INPUT);
     let output = found.get_str("OUT").unwrap_or(STANDARD);
     let mut lines = Translated {
@@ -208,10 +209,12 @@ fn encode_with<
 }
 
 // Writes the column of lines: how many there are stands in front, so their codes are held.
-fn write_column<
-    R: Files + RandomSource + Input + Print + Tell + AllocGlobal,
-    D: WholeDictionary,
->(rt: &R, output: &str, reference: Reference, lines: &mut Translated<'_, D>) -> Result<(), u8> {
+fn write_column<R: Files + RandomSource + Input + Print + Tell + AllocGlobal, D: WholeDictionary>(
+    rt: &R,
+    output: &str,
+    reference: Reference,
+    lines: &mut Translated<'_, D>,
+) -> Result<(), u8> {
     let mut codes = Noticing::new(Vec::new(rt.alloc()));
     lines.write(rt, output, &mut codes)?;
     let codes = codes.stream;
@@ -241,10 +244,7 @@ pub fn decode_codes<R: Files + RandomSource + Input + Print + Tell + AllocGlobal
     }
 }
 
-fn decode_with<
-    R: Files + RandomSource + Input + Print + Tell + AllocGlobal,
-    D: WholeDictionary,
->(
+fn decode_with<R: Files + RandomSource + Input + Print + Tell + AllocGlobal, D: WholeDictionary>(
     rt: &R,
     found: &ArgMatches<'_>,
     table: &D,
