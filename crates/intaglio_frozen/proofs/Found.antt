@@ -113,15 +113,6 @@ at-other bs w p tag t et n =
     let m : get_or bs (tags_at bs + p) 0 ≡ tag → ⊥ = rw et at n in
     rw (ne_eqb (get_or bs (tags_at bs + p) 0) tag m) refl
 
--- at a place that has the tag, but whose symbol isn't below the number of strings, nothing is found
-pub at-past : (bs w : List ℕ) (p tag t s : ℕ) → t ≡ tags_at bs → get_or bs (t + p) 0 ≡ tag →
-    s ≡ u32_at bs (128 + 4 * p) → count bs ≤ s → find_at bs p tag w ≡ None
-at-past bs w p tag t s et e es past =
-    let m : get_or bs (tags_at bs + p) 0 ≡ tag = rw et at e in
-    let none : slice_get (strings bs) s ≡ None =
-    slice_get_past (strings bs) s (omega (arith, past, strings_length bs)) in
-    rw (eq-eqb (get_or bs (tags_at bs + p) 0) tag m, ← es, none) refl
-
 -- at a place that has the tag, its symbol is found if its string is the sought one, and else nothing
 pub at-same : (bs w : List ℕ) (p tag t s : ℕ) → t ≡ tags_at bs → get_or bs (t + p) 0 ≡ tag →
     s ≡ u32_at bs (128 + 4 * p) →

@@ -1,7 +1,6 @@
 -- Lemmas on the bytes of a frozen table.
 pub mod Ends
 pub mod Places
-pub mod Opened
 pub mod Found
 pub mod HashedAhead
 pub mod Batched

@@ -9,7 +9,6 @@ pub mod Id
 pub mod SetId
 pub mod Identity
 pub mod Fault
-pub mod Read
 pub mod Sections
 pub mod Stuck
 pub mod Marks

@@ -1,5 +1,5 @@
 -- Where the sections of a frozen table are, as numbers that a caller keeps.
-use Rattle.std.specs.Prelude.{◌≡◌, ◌-◌, ℕ, List}
+use Rattle.std.specs.Prelude.{◌≡◌, ◌+◌, ◌-◌, ◌*◌, ◌<◌, ◌≤◌, ℕ, List}
 use Rattle.intaglio_frozen.specs.Layout.{kind, key0, key1, count, places, groups, ends_at, pilots_at, tags_at, text_at}
 use Rattle.intaglio_frozen.specs.IsFrozen.{HasSections}
 use Rattle.intaglio_frozen.specs.declared.sections.Sections.{Sections}
@@ -17,3 +17,13 @@ pub record AreSectionsOf (bs : List ℕ) (s : Sections) : Type 0 where
   pub places : s.places ≡ places bs
   pub groups : s.groups ≡ groups bs
   pub kind : s.kind ≡ kind bs
+
+-- by these numbers the sections follow each other within n bytes, whatever stands there
+pub record AreWithin (n : ℕ) (s : Sections) : Type 0 where
+  pub count : s.count < s.places
+  pub groups : 0 < s.groups
+  pub starts_at : s.starts_at ≡ 124 + 4 * s.places
+  pub pilots_at : s.pilots_at ≡ s.starts_at + 4 + 4 * s.count
+  pub tags_at : s.tags_at ≡ s.pilots_at + 2 * s.groups
+  pub text_at : s.text_at ≡ s.tags_at + s.places
+  pub all : s.text_at ≤ n

@@ -1,21 +1,26 @@
 //! Bytes whose strings can be read.
 ghost use Rattle.std.specs.Prelude.{◌≡◌, false, ◌↔◌, ◌^◌, ◌<◌, ◌≤◌, IsTrue, length, slice_get, Some, IfOk, IfErr, IsOk};
-ghost use Rattle.intaglio_frozen.specs.Layout.{kind, strings};
+ghost use Rattle.intaglio_frozen.specs.Layout.{kind, ends, strings};
 ghost use Rattle.intaglio_frozen.specs.LookUp.{find, hash};
 ghost use Rattle.intaglio_frozen.specs.IsFrozen.{number_of, HasUnused, IsBlock, AreTexts};
-ghost use Rattle.intaglio_frozen.specs.Checked.{IsHashAt, IsFoundAt, IsNotFoundAt};
+ghost use Rattle.intaglio_frozen.specs.Checked.{IsHashAt, IsFoundAt, IsNotFoundAt, AreCharEnds};
 ghost use Rattle.intaglio_frozen.specs.Fault.{IsFault};
 ghost use Rattle.intaglio_frozen.specs.Identity.{HasId};
 
 use crate::ahead::HashesAhead;
 use crate::error::FrozenError;
+use crate::header::HEADER;
 use crate::iter::FrozenStrings;
 use crate::kind::Kind;
-use crate::layout::Layout;
 use crate::list::StringList;
+use crate::numbers::NO_SYMBOL;
+use crate::reader::Reader;
 use intaglio_content::same_bytes;
+use intaglio_hash::numbers::read_u32;
+use intaglio_records::part;
 use intaglio_symbol::Symbol;
 use std::marker::Model;
+use std::str;
 
 /// Bytes with the header of a frozen table, whose strings fill their text. A contract sees the bytes.
 ///
@@ -33,20 +38,22 @@ use std::marker::Model;
 /// ```
 #[derive(Drop)]
 pub struct Block<'a> {
-    layout: Layout<'a>,
+    reader: Reader<'a>,
 }
 
 impl<'a> Model for Block<'a> {
     ghost use Rattle.std.specs.Prelude.{ℕ, List};
     ghost use Rattle.intaglio_frozen.specs.IsFrozen.{IsBlock};
+    ghost use Rattle.intaglio_frozen.specs.Sections.{AreSectionsOf};
 
     ghost Value = { List ℕ };
 
-    ghost view = { λ b. b.layout };
+    ghost view = { λ b. b.reader.bytes.now };
 
-    ghost invariant = { λ b. IsBlock b.layout };
+    ghost invariant = { λ b. AreSectionsOf b.reader.bytes.now b.reader.sections × IsBlock b.reader.bytes.now };
 }
 
+#[tactic(auto, using(crate::proofs::Places::strings_length))]
 impl<'a> Block<'a> {
     /// Reads the header, and checks that the strings fill the text. Of each string only its end is read.
     ///
@@ -59,11 +66,11 @@ impl<'a> Block<'a> {
         ensures only { IsBlock bytes.now → IsOk result }
         ensures err { IfErr result (IsFault bytes.now) }
     {
-        let layout = Layout::read(bytes)?;
-        if !layout.has_ends() {
+        let reader = Reader::read(bytes)?;
+        if !reader.has_ends() {
             return Err(FrozenError::Ends);
         }
-        Ok(Block { layout })
+        Ok(Block { reader })
     }
 
     // What the strings are.
@@ -71,7 +78,11 @@ impl<'a> Block<'a> {
         ensures value { number_of result ≡ kind self.now }
         ensures block { IsBlock self.now }
     {
-        self.layout.kind()
+        if self.reader.sections.kind == 0 {
+            Kind::Bytes
+        } else {
+            Kind::Text
+        }
     }
 
     // The number of strings.
@@ -80,7 +91,7 @@ impl<'a> Block<'a> {
         ensures count { result ≡ length (strings self.now) }
         ensures few { result ≤ 2 ^ 32 }
     {
-        self.layout.len()
+        self.reader.sections.count
     }
 
     // A string that is there.
@@ -89,35 +100,69 @@ impl<'a> Block<'a> {
         requires { i < length (strings self.now) }
         ensures { slice_get (strings self.now) i ≡ Some result.now }
     {
-        self.layout.string(i)
+        part(
+            self.reader.text,
+            self.reader.start_of(i),
+            self.reader.end_of(i),
+        )
     }
 
     // All strings, in order.
+    #[tactic(auto, unfolding(crate::specs::Layout::strings))]
     pub(crate) fn strings(&self) -> FrozenStrings<'a>
         ensures { result ≡ strings self.now }
     {
-        self.layout.strings()
+        let sections = &self.reader.sections;
+        FrozenStrings::of(
+            self.reader.bytes,
+            self.reader.text,
+            sections.starts_at + 4,
+            sections.count,
+        )
     }
 
     // Whether the places that no string has are empty.
     pub(crate) fn has_unused(&self) -> bool
         ensures { IsTrue result ↔ HasUnused self.now }
     {
-        self.layout.has_unused()
+        let mut used = 0usize;
+        for place in 0..self.reader.sections.places as usize {
+            if read_u32(self.reader.bytes, HEADER + 4 * place) != NO_SYMBOL {
+                used += 1;
+            } else if self.reader.bytes[self.reader.sections.tags_at + place] != 0 {
+                return false;
+            }
+        }
+        used == self.reader.sections.count
     }
 
     // Whether the identity in the header is that of the strings.
     pub(crate) fn has_id(&self) -> bool
         ensures { IsTrue result ↔ HasId self.now }
     {
-        self.layout.has_id()
+        self.reader.has_id()
     }
 
     // Whether all of the text is UTF-8, and each string ends where a character does.
     pub(crate) fn is_text(&self) -> bool
         ensures { IsTrue result → AreTexts (strings self.now) }
     {
-        self.layout.is_text()
+        let Ok(text) = str::from_utf8(self.reader.text) else {
+            return false;
+        };
+        self.has_char_ends(text)
+    }
+
+    // Whether each string ends where a character of this text does.
+    fn has_char_ends(&self, text: &str) -> bool
+        ensures { IsTrue result → AreCharEnds text.now (ends self.now) }
+    {
+        for i in 0..self.reader.sections.count {
+            if !text.is_char_boundary(self.reader.end_of(i)) {
+                return false;
+            }
+        }
+        true
     }
 
     // The hash of a string that is there.
@@ -126,10 +171,11 @@ impl<'a> Block<'a> {
         requires { i < length (strings self.now) }
         ensures { IsHashAt self.now i result }
     {
-        self.layout.hash(self.string(i))
+        self.reader.hash(self.string(i))
     }
 
-    // Whether the string of a symbol is found at it, by the string's hash.
+    // Whether the string of a symbol is found at it, by the string's hash. No string is compared: what has
+    // the symbol in its place is the string itself.
     #[inline(always)]
     pub(crate) fn is_at(&self, hash: u64, i: usize) -> bool
         requires there { i < length (strings self.now) }
@@ -137,7 +183,10 @@ impl<'a> Block<'a> {
         ensures found { IsTrue result → IsFoundAt self.now i }
         ensures not_found { result ≡ false → IsBlock self.now × IsNotFoundAt self.now i }
     {
-        self.layout.is_at(hash, i)
+        match self.reader.symbol(hash) {
+            Some(symbol) => symbol as usize == i,
+            None => false,
+        }
     }
 
     // The hash of a string that is sought.
@@ -145,7 +194,7 @@ impl<'a> Block<'a> {
     pub(crate) fn hash_sought(&self, string: &[u8]) -> u64
         ensures { result ≡ hash self.now string.now }
     {
-        self.layout.hash(string)
+        self.reader.hash(string)
     }
 
     // What a look-up finds.
@@ -162,7 +211,7 @@ impl<'a> Block<'a> {
         requires { hashed ≡ hash self.now string.now }
         ensures { result ≡ find self.now string.now }
     {
-        let symbol = self.layout.candidate(hashed)?;
+        let symbol = self.reader.candidate(hashed)?;
         if same_bytes(self.string(symbol as usize), string) {
             Some(Symbol::new(symbol))
         } else {
@@ -185,7 +234,7 @@ impl<'a> HashesAhead for Block<'a> {
 
     #[inline(always)]
     fn touch(&self, hash: u64) -> u8 {
-        self.layout.touch(hash)
+        self.reader.touch(hash)
     }
 }
 

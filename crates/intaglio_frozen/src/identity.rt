@@ -7,7 +7,7 @@ ghost use Rattle.intaglio_frozen.specs.IsFrozen.{HasSections};
 use crate::error::FrozenError;
 use crate::header::Header;
 use crate::id::DictionaryId;
-use crate::layout::Layout;
+use crate::reader::Reader;
 
 /// What the dictionary in these bytes is. The header is checked, that there are as many bytes as it requires,
 /// and that it has the identity of the strings: each byte of the ends and of the text is read.
@@ -36,7 +36,7 @@ pub fn id_of_table(table: &[u8]) -> Result<DictionaryId, FrozenError>
     ensures err { IfErr result (IsFault table.now) }
 {
     let header = Header::read(table)?;
-    if !Layout::read(table)?.has_id() {
+    if !Reader::read(table)?.has_id() {
         return Err(FrozenError::OtherIdentity);
     }
     Ok(header.id)

@@ -8,8 +8,7 @@ ghost use Rattle.intaglio_frozen.specs.Fault.{IsFault};
 
 use crate::ahead::HashesAhead;
 use crate::error::FrozenError;
-use crate::layout::Layout;
-use intaglio_content::same_bytes;
+use crate::reader::Reader;
 use intaglio_symbol::Symbol;
 use std::marker::Model;
 
@@ -33,17 +32,21 @@ use std::marker::Model;
 /// ```
 #[derive(Drop)]
 pub struct TrustedFrozen<'a> {
-    layout: Layout<'a>,
+    reader: Reader<'a>,
 }
 
 impl<'a> Model for TrustedFrozen<'a> {
     ghost use Rattle.std.specs.Prelude.{ℕ, List};
+    ghost use Rattle.intaglio_frozen.specs.Sections.{AreSectionsOf};
 
     ghost Value = { List ℕ };
 
-    ghost view = { λ f. f.layout };
+    ghost view = { λ f. f.reader.bytes.now };
+
+    ghost invariant = { λ f. AreSectionsOf f.reader.bytes.now f.reader.sections };
 }
 
+#[tactic(auto, using(crate::proofs::Places::strings_length))]
 impl<'a> TrustedFrozen<'a> {
     /// The table of these bytes, after a check of the header and of the length that it requires.
     /// Nothing behind the header is read.
@@ -58,8 +61,8 @@ impl<'a> TrustedFrozen<'a> {
         ensures frozen { IsFrozen bytes.now → IsOk result }
         ensures err { IfErr result (IsFault bytes.now) }
     {
-        let layout = Layout::read(bytes)?;
-        Ok(TrustedFrozen { layout })
+        let reader = Reader::read(bytes)?;
+        Ok(TrustedFrozen { reader })
     }
 
     /// The number of strings.
@@ -68,7 +71,7 @@ impl<'a> TrustedFrozen<'a> {
         ensures count { result ≡ length (strings self.now) }
         ensures few { result ≤ 2 ^ 32 }
     {
-        self.layout.len()
+        self.reader.sections.count
     }
 
     /// The string of a symbol. If the bytes aren't a frozen table, a symbol below `len` may have none.
@@ -77,7 +80,7 @@ impl<'a> TrustedFrozen<'a> {
         ensures found { IfSome result (λ s. slice_get (strings self.now) symbol ≡ Some s.now) }
         ensures frozen { IsFrozen self.now → option_copied result ≡ slice_get (strings self.now) symbol }
     {
-        self.layout.checked_string(symbol.id() as usize)
+        self.reader.string(symbol.id() as usize)
     }
 
     /// The symbol of a string, if it is found. If the bytes aren't a frozen table, a
@@ -98,7 +101,7 @@ impl<'a> TrustedFrozen<'a> {
     pub fn hash(&self, string: &[u8]) -> u64
         ensures { result ≡ hash self.now string.now }
     {
-        self.layout.hash(string)
+        self.reader.hash(string)
     }
 
     /// Reads what a look-up by this hash will read, so that the cache misses of several look-ups
@@ -106,7 +109,7 @@ impl<'a> TrustedFrozen<'a> {
     /// compiler from leaving out the reads.
     #[inline]
     pub fn touch_hashed(&self, hashed: u64) -> u8 {
-        self.layout.touch(hashed)
+        self.reader.touch(hashed)
     }
 
     /// As [`check_interned`](TrustedFrozen::check_interned), by the string's hash.
@@ -117,13 +120,7 @@ impl<'a> TrustedFrozen<'a> {
         ensures frozen { IsFrozen self.now →
             result ≡ first (λ w. w ∷ []) (strings self.now) (string.now ∷ []) }
     {
-        let symbol = self.layout.candidate(hashed)?;
-        let stored = self.layout.checked_string(symbol as usize)?;
-        if same_bytes(stored, string) {
-            Some(Symbol::new(symbol))
-        } else {
-            None
-        }
+        self.reader.check_hashed(hashed, string)
     }
 }
 

@@ -1,7 +1,0 @@
-use Rattle.std.proofs.Common.{ℕ, ◌<◌, get_or}
-use Rattle.std.specs.Str.{IsCharBoundary}
-use Rattle.intaglio_frozen.specs.Layout.{ends}
-use Rattle.intaglio_frozen.proofs.layout.Layout.has_char_ends.Given as goal
-
-abbrev pub invariant-loop-i : goal.invariant-loop-i
-invariant-loop-i l = (k : ℕ) → k < l.i → IsCharBoundary l.text (get_or (ends l.self) k 0)

@@ -1,0 +1,8 @@
+use Rattle.std.proofs.Common.{◌↔◌, ◌+◌, ◌-◌, ◌*◌}
+use Rattle.intaglio_frozen.specs.Strings.{AreEnds}
+use Rattle.intaglio_frozen.specs.Layout.{numbers_at}
+use Rattle.intaglio_frozen.proofs.reader.are_ends.Given as goal
+
+abbrev pub invariant-loop-i : goal.invariant-loop-i
+invariant-loop-i l = AreEnds 0 l.all (numbers_at l.bytes l.at l.count) ↔
+    AreEnds l.before l.all (numbers_at l.bytes (l.at + 4 * l.i) (l.count - l.i))
