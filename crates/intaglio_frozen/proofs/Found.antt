@@ -1,19 +1,14 @@
 -- What look-ups find, where each text is found at its position.
-use Rattle.std.proofs.Common.{◌≡◌, ℕ, zero, suc, ◌+◌, ◌*◌, ◌%◌, ◌<◌, ◌≤◌, ◌==◌, Bool, true, false, cond, List, [], ◌∷◌, length, get_or, slice_get, Option, Some, None, map, refl, sym, ap, ◌∙◌, arith}
+use Rattle.std.proofs.Common.{◌≡◌, ℕ, zero, suc, ◌+◌, ◌*◌, ◌%◌, ◌<◌, ◌==◌, Bool, true, false, cond, List, [], ◌∷◌, length, get_or, slice_get, Option, Some, None, map, refl, sym, ap, ◌∙◌, arith}
 use Rattle.std.proofs.Common.{eq-eqb}
 use Rattle.std.proofs.lemmas.Bool.{ne_eqb}
-use Rattle.std.proofs.lemmas.Bool.Decides.{same_from_decides}
-use Rattle.std.proofs.lemmas.Option.{slice_get_past}
-use Rattle.std.specs.Bool.{Decides}
 use Rattle.std.specs.Str.{bytes_eq}
 use Rattle.std.specs.Cmp.Lexicographic.{bytes_decides}
 use Rattle.intaglio_content.specs.Key.{Key}
 use Rattle.intaglio_interner.specs.State.{first, AreDistinct}
 use Rattle.intaglio_interner.proofs.First.{first-none, first-some}
-use Rattle.intaglio_frozen.proofs.Places.{strings_length}
 use Rattle.intaglio_hash.specs.Numbers.{u32_at}
-use Rattle.intaglio_frozen.specs.Layout.{count, tags_at, strings}
-use Rattle.intaglio_frozen.specs.IsFrozen.{IsFrozen}
+use Rattle.intaglio_frozen.specs.Layout.{tags_at, strings}
 use Rattle.intaglio_frozen.specs.LookUp.{hash, place, if_same, find_at, find, FindsAll}
 
 -- a text's key
@@ -126,12 +121,6 @@ pub same-string : (s : ℕ) (o : Option (List ℕ)) (t w : List ℕ) (b : Bool) 
     if_same o s w ≡ cond b (Some s) None
 same-string s o t w b e eb = rw (e, eb) refl
 
--- the same, of a test that says whether the strings are equal
-pub same-compared : (s : ℕ) (o : Option (List ℕ)) (t w : List ℕ) (b : Bool) → o ≡ Some t → Decides b (t ≡ w) →
-    if_same o s w ≡ cond b (Some s) None
-same-compared s o t w b e d =
-    same-string s o t w b e (same_from_decides (bytes_eq t w) b (bytes_decides t w) d)
-
 -- the string at i is found there if its place has the symbol i
 pub found-same : (bs w : List ℕ) (s i : ℕ) → slice_get (strings bs) i ≡ Some w →
     find bs w ≡ if_same (slice_get (strings bs) s) s w → s ≡ i → find bs w ≡ Some i
@@ -143,11 +132,6 @@ found-same bs w s i at e same =
 pub found-other : (bs w : List ℕ) (s i : ℕ) → find bs w ≡ if_same (slice_get (strings bs) s) s w →
     (s ≡ i → ⊥) → find bs w ≡ Some i → ⊥
 found-other bs w s i e other found = other (same-sound (slice_get (strings bs) s) s i w (sym e ∙ found)).1
-
--- a look-up in a frozen table finds the first position of a string, or none if it has none
-pub frozen-first : (bs w : List ℕ) (r : Option ℕ) → IsFrozen bs → find bs w ≡ r →
-    r ≡ first key (strings bs) (key w)
-frozen-first bs w r frozen e = sym e ∙ find-is-first bs w frozen.found
 
 -- two lists with the same text at each position
 pub same-by-get : (xs ys : List (List ℕ)) (n : ℕ) → n ≡ length xs → n ≡ length ys →

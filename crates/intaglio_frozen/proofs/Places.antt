@@ -6,7 +6,7 @@ use Rattle.std.proofs.lemmas.List.{get_or-drop}
 use Rattle.std.specs.Slice.{IsGetRangeResult}
 use Rattle.intaglio_hash.specs.Push.{number}
 use Rattle.intaglio_frozen.proofs.Ends.{from-length, strings-at, ends-at}
-use Rattle.intaglio_hash.specs.Numbers.{u16_at, u32_at}
+use Rattle.intaglio_hash.specs.Numbers.{u32_at}
 use Rattle.intaglio_frozen.specs.Layout.{numbers_at, count, ends_at, text_at, ends, strings}
 use Rattle.intaglio_frozen.specs.LookUp.{scaled}
 use Rattle.intaglio_frozen.specs.IsFrozen.{IsBlock}
@@ -41,11 +41,6 @@ number-in bs a k j (suc n) =
 pub u32-in : (bs : List ℕ) (a k at : ℕ) → at ≡ a + k → u32_at (drop a bs) k ≡ u32_at bs at
 unfolding u32_at
 u32-in bs a k at e = number-in bs a k 0 4 ∙ ap (λ p. number bs p 0 4) (sym e)
-
--- the number of two bytes at k in the bytes from a on is the one at a + k in all bytes
-pub u16-in : (bs : List ℕ) (a k at : ℕ) → at ≡ a + k → u16_at (drop a bs) k ≡ u16_at bs at
-unfolding u16_at
-u16-in bs a k at e = number-in bs a k 0 2 ∙ ap (λ p. number bs p 0 2) (sym e)
 
 -- where a text ends
 pub end-is : (bs : List ℕ) (i : ℕ) → i < count bs → get_or (ends bs) i 0 ≡ u32_at bs (ends_at bs + 4 * i)

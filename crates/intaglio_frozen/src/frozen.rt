@@ -86,15 +86,6 @@ impl<'a> Frozen<'a> {
         Some(self.block.string(symbol.id() as usize))
     }
 
-    // A string that is there.
-    #[inline(always)]
-    pub(crate) fn string(&self, i: usize) -> &'a [u8]
-        requires { i < length self.now }
-        ensures { slice_get self.now i ≡ Some result.now }
-    {
-        self.block.string(i)
-    }
-
     /// All symbols with their strings, in order.
     ///
     /// ```

@@ -1,4 +1,4 @@
-use Rattle.std.proofs.Common.{◌≡◌, ◌≢◌, ℕ, [], get_or, Option, None, Some, sym, ◌∙◌}
+use Rattle.std.proofs.Common.{◌≡◌, ℕ, [], get_or, Option, None, Some, sym, ◌∙◌}
 use Rattle.std.proofs.lemmas.Bool.{eqb-true, eqb-false}
 use Rattle.std.proofs.lemmas.Option.{slice_get-get_or}
 use Rattle.intaglio_frozen.proofs.Found.{found-same, found-other}
