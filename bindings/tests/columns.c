@@ -2,29 +2,13 @@
  * third argument says. The column must have these codes, and must be what the library makes of them. The table's strings in shards must be the
  * same dictionary. Then cuts the file at each length and changes each byte, and writes the code of each, its rows, the width, and the code of reading its dictionary: no call may read outside the
  * bytes. */
-#define _POSIX_C_SOURCE 200809L
-#include "intaglio.h"
-#include <fcntl.h>
-#include <stdio.h>
-#include <stdlib.h>
-#include <string.h>
-#include <sys/mman.h>
-#include <sys/stat.h>
-#include <unistd.h>
+#include "tests.h"
 
 enum {
     ROWS = 1 << 12,
     SHARDS = 3,
     UNWRITTEN = 7
 };
-
-#define WANT(CONDITION) \
-    do { \
-        if (!(CONDITION)) { \
-            fprintf(stderr, "line %d: %s\n", __LINE__, #CONDITION); \
-            exit(1); \
-        } \
-    } while (0)
 
 static uint32_t wanted[ROWS], codes[ROWS + 2];
 static uint64_t rows[ROWS + 2];
@@ -37,17 +21,6 @@ static void read_codes(void) {
         WANT(count < ROWS);
         wanted[count] = (uint32_t)strtoul(line, NULL, 10);
     }
-}
-
-/* The bytes of a file. */
-static const uint8_t *map(const char *name, size_t *len) {
-    struct stat status;
-    int file = open(name, O_RDONLY);
-    WANT(file >= 0 && fstat(file, &status) == 0);
-    *len = (size_t)status.st_size;
-    void *bytes = mmap(NULL, *len, PROT_READ, MAP_PRIVATE, file, 0);
-    WANT(bytes != MAP_FAILED && close(file) == 0);
-    return (const uint8_t *)bytes;
 }
 
 /* Each code is read by its row, and many from any row on; behind them nothing is written. */
@@ -95,8 +68,7 @@ static void same_dictionary(const uint8_t *bytes, size_t len, const uint8_t *tab
     WANT(intaglio_same_dictionary(&id, &other) && id.count == intaglio_frozen_len(table, table_len) && id.is_text == intaglio_frozen_is_text(table, table_len));
     other.hash1 ^= 1;
     WANT(!intaglio_same_dictionary(&id, &other));
-    uint64_t *counts = (uint64_t *)malloc(sizeof *counts * (size_t)(id.count + 1));
-    WANT(counts);
+    uint64_t *counts = (uint64_t *)block(sizeof *counts * (size_t)(id.count + 1));
     counts[0] = UNWRITTEN;
     WANT(intaglio_column_counts(bytes, len, counts, (size_t)id.count + 1, &missing) == INTAGLIO_BAD_ENDS && counts[0] == UNWRITTEN && missing == UNWRITTEN);
     WANT(intaglio_column_counts(bytes, len, counts, (size_t)id.count - 1, &missing) == INTAGLIO_BAD_ENDS && counts[0] == UNWRITTEN && missing == UNWRITTEN);
@@ -126,9 +98,9 @@ static intaglio_table some_of(const uint8_t *table, size_t len, uint32_t shards,
 /* A shard of a dictionary is written, and its header says which. Returns it, and how many bytes it has. */
 static uint8_t *write_shard(const intaglio_table *part, const intaglio_dictionary_id *id, size_t *len) {
     size_t size = intaglio_frozen_size(part);
-    uint8_t *bytes = (uint8_t *)malloc(size);
+    uint8_t *bytes = (uint8_t *)block(size);
     intaglio_dictionary_id found = *id;
-    WANT(bytes && intaglio_freeze_shard(part, 5, 6, id, bytes, size, len) == INTAGLIO_DONE && *len == size);
+    WANT(intaglio_freeze_shard(part, 5, 6, id, bytes, size, len) == INTAGLIO_DONE && *len == size);
     WANT(intaglio_frozen_check(bytes, size) == INTAGLIO_DONE && intaglio_frozen_id(bytes, size, &found) == INTAGLIO_DONE);
     WANT(found.is_text && found.count == intaglio_len(part) && found.hash0 == id->hash0 && found.hash1 == id->hash1);
     WANT(found.shards == id->shards && found.shard == id->shard);
@@ -188,8 +160,8 @@ static void share_out(const uint8_t *table, size_t len) {
 static void write_codes(const uint8_t *bytes, size_t len) {
     intaglio_dictionary_id id;
     size_t size = UNWRITTEN;
-    uint8_t *made = (uint8_t *)malloc(len + 1);
-    WANT(made && intaglio_column_id(bytes, len, &id) == INTAGLIO_DONE && intaglio_column_size(&id, count) == len);
+    uint8_t *made = (uint8_t *)block(len + 1);
+    WANT(intaglio_column_id(bytes, len, &id) == INTAGLIO_DONE && intaglio_column_size(&id, count) == len);
     memset(made, UNWRITTEN, len + 1);
     WANT(intaglio_column_write(&id, wanted, count, NULL, 0, &size) == INTAGLIO_NO_SPACE && size == len);
     WANT(intaglio_column_write(&id, wanted, count, made, len - 1, &size) == INTAGLIO_NO_SPACE && size == len && made[0] == UNWRITTEN);
@@ -236,21 +208,6 @@ int main(int argc, char **argv) {
     same_dictionary(bytes, len, table, table_len);
     share_out(table, table_len);
     write_codes(bytes, len);
-    for (size_t cut = 0; cut < len; cut++) {
-        /* (an allocation of its own, so that a read behind it is seen) */
-        uint8_t *front = (uint8_t *)malloc(cut ? cut : 1);
-        WANT(front);
-        memcpy(front, bytes, cut);
-        read_any(front, cut);
-        free(front);
-    }
-    for (size_t i = 0; i < len; i++) {
-        uint8_t *changed = (uint8_t *)malloc(len);
-        WANT(changed);
-        memcpy(changed, bytes, len);
-        changed[i]++;
-        read_any(changed, len);
-        free(changed);
-    }
+    damage(bytes, len, read_any);
     return 0;
 }

@@ -7,10 +7,7 @@
  * ends that decrease or are too large, numbers of no kind, handles without a table, strings that aren't valid for the kind. A
  * difference is printed with the seed and the number of the call, and ends the program with status 1.
  * Linked with -Wl,--wrap=malloc,--wrap=realloc,--wrap=free. */
-#include "intaglio.h"
-#include <stdio.h>
-#include <stdlib.h>
-#include <string.h>
+#include "tests.h"
 
 #define TABLES 12
 #define KINDS ((uint32_t)INTAGLIO_PACKED_BYTES + 1)
@@ -20,7 +17,6 @@
 
 static uint64_t seed, state;
 static unsigned long long calls;
-static const char *call = "";
 
 /* The next random number, by splitmix64. */
 static uint64_t next(void) {
@@ -35,13 +31,6 @@ static bool one_of(size_t n) { return below(n) == 0; }
 /* Allocations of the library fail at random in a call that is to fail, and are counted. */
 static bool in_library, may_fail;
 static long failed, live_blocks;
-
-void *__real_malloc(size_t size);
-void *__real_realloc(void *old, size_t size);
-void __real_free(void *old);
-void *__wrap_malloc(size_t size);
-void *__wrap_realloc(void *old, size_t size);
-void __wrap_free(void *old);
 
 static bool fails(void) {
     if (!in_library || !may_fail || !one_of(2)) return false;
@@ -60,31 +49,16 @@ void __wrap_free(void *old) {
     __real_free(old);
 }
 
-static void differs(int line, const char *what) {
-    in_library = false;
-    fprintf(stderr, "seed %llu, call %llu, %s: line %d: %s\n", (unsigned long long)seed, calls, call, line, what);
-    exit(1);
-}
-#define WANT(CONDITION) \
-    do { \
-        if (!(CONDITION)) differs(__LINE__, #CONDITION); \
-    } while (0)
-
 /* A call of the library: allocations may fail in one of eight. */
 #define IN_LIBRARY(CALL) \
     do { \
         failed = 0; \
+        call = #CALL; \
         may_fail = one_of(8); \
         in_library = true; \
         CALL; \
         in_library = false; \
     } while (0)
-
-static void *block(size_t size) {
-    void *made = malloc(size == 0 ? 1 : size);
-    if (made == NULL) exit(2);
-    return made;
-}
 
 /* Bytes in a block of exactly their length, so that a sanitizer sees each access beyond; of no bytes, null in one of two. */
 struct bytes {
@@ -259,15 +233,12 @@ static void make(struct table *t) {
     size_t size = one_of(20) ? ((size_t)1 << 32) + 1 + below(1000) : below(40);
     size_t which = below(5);
     bool is_limit = which < 2;
-    call = "new";
     if (which == 4 && one_of(20)) {
         size = 4096;
         IN_LIBRARY(code = intaglio_new(&t->handle, kind, next(), next()));
     } else if (is_limit) {
-        call = "with_limit";
         IN_LIBRARY(code = intaglio_with_limit(&t->handle, kind, size, next(), next()));
     } else {
-        call = "with_capacity";
         IN_LIBRARY(code = intaglio_with_capacity(&t->handle, kind, size, next(), next()));
     }
     bool is_large = size > (size_t)1 << 32 || (is_limit && size == 0);
@@ -306,7 +277,6 @@ static void intern(struct table *t, bool is_static) {
     struct bytes string = copy_of(made, random_string(t->kind, made));
     uint32_t symbol = 77, code, wanted = code_of(t, string.at, string.len);
     size_t at = t->live ? position(t, string.at, string.len) : 0;
-    call = is_static ? "intern_static" : "intern";
     if (is_static) IN_LIBRARY(code = intaglio_intern_static(&t->handle, string.at, string.len, &symbol));
     else IN_LIBRARY(code = intaglio_intern(&t->handle, string.at, string.len, &symbol));
     may_move(t);
@@ -324,7 +294,6 @@ static void check_interned(struct table *t) {
     struct bytes string = copy_of(made, random_string(t->kind, made));
     uint32_t symbol = 77;
     bool found, is_there = t->live && fault(t->kind, string.at, string.len) == INTAGLIO_DONE && position(t, string.at, string.len) < t->len;
-    call = "check_interned";
     IN_LIBRARY(found = intaglio_check_interned(&t->handle, string.at, string.len, &symbol));
     WANT(failed == 0 && found == is_there && symbol == (is_there ? position(t, string.at, string.len) : 77));
     free(string.at);
@@ -339,7 +308,6 @@ static void copy(struct table *t) {
     memset(before, 0xa5, sizeof before);
     struct bytes buffer = copy_of(before, size);
     bool found;
-    call = "copy";
     IN_LIBRARY(found = intaglio_copy(&t->handle, symbol, buffer.at, size, &len));
     WANT(failed == 0 && found == (symbol < t->len) && len == (found ? real : 12345));
     if (found && real <= size && real != 0) memcpy(before, t->entries[symbol].string.at, real);
@@ -353,7 +321,6 @@ static void resize(struct table *t) {
     if (one_of(2)) {
         bool is_large = t->live && size > t->limit - t->len;
         if (!is_large && size > 100000) return;
-        call = "reserve";
         bool is_enough = t->len + size <= t->capacity;
         IN_LIBRARY(code = intaglio_reserve(&t->handle, size));
         if (!is_enough && t->live && !is_large) may_move(t);
@@ -363,7 +330,6 @@ static void resize(struct table *t) {
         same_sizes(t, is_enough);
         return;
     }
-    call = "shrink_to";
     bool is_small = t->live && size < t->capacity;
     IN_LIBRARY(code = intaglio_shrink_to(&t->handle, size));
     may_move(t);
@@ -377,7 +343,6 @@ static void resize(struct table *t) {
 static void take_back(struct table *t) {
     size_t mark = one_of(10) ? t->len + 1 + below(100) : t->len - below(t->len < 4 ? t->len + 1 : 4);
     uint32_t code;
-    call = "take_back";
     IN_LIBRARY(code = intaglio_take_back(&t->handle, mark));
     WANT(failed == 0);
     same_code(t, code, !t->live ? INTAGLIO_NO_TABLE : (mark > t->len ? INTAGLIO_STALE : INTAGLIO_DONE));
@@ -431,7 +396,6 @@ static void intern_all(struct table *t) {
         right[i] = (uint32_t)position(t, at, len);
         if (right[i] == t->len) new_ones++, add(t, at, len);
     }
-    call = "intern_all";
     IN_LIBRARY(code = intaglio_intern_all(&t->handle, b.bytes.at, b.bytes.len, b.ends, b.count, symbols, count));
     may_move(t);
     if (new_ones == 0) WANT(failed == 0);
@@ -449,7 +413,6 @@ static void check_all(struct table *t) {
     uint64_t *symbols = count == 0 && one_of(2) ? NULL : (uint64_t *)block(count * sizeof *symbols);
     if (count != 0) memset(symbols, 0xa5, count * sizeof *symbols);
     uint32_t wanted = !t->live ? INTAGLIO_NO_TABLE : (!b.is_good || count != b.count ? INTAGLIO_BAD_ENDS : INTAGLIO_DONE), code;
-    call = "check_all";
     IN_LIBRARY(code = intaglio_check_all(&t->handle, b.bytes.at, b.bytes.len, b.ends, b.count, symbols, count));
     WANT(failed == 0);
     same_code(t, code, wanted);
@@ -485,7 +448,6 @@ static void copy_all(struct table *t) {
         else if (t->entries[symbols[written]].string.len > size - at) wanted = INTAGLIO_NO_SPACE;
         else at += t->entries[symbols[written++]].string.len;
     }
-    call = "copy_all";
     IN_LIBRARY(code = intaglio_copy_all(&t->handle, count == 0 ? NULL : symbols, count, size == 0 ? NULL : buffer.at, size, ends_count == 0 ? NULL : ends, ends_count));
     WANT(failed == 0);
     same_code(t, code, wanted);
@@ -504,7 +466,6 @@ static void copy_all(struct table *t) {
 
 static void forget(struct table *t) {
     bool frees = one_of(2);
-    call = frees ? "free" : "clear";
     if (frees) IN_LIBRARY(intaglio_free(&t->handle));
     else IN_LIBRARY(intaglio_clear(&t->handle));
     WANT(failed == 0);
@@ -523,6 +484,7 @@ static void move(struct table *t) {
 }
 
 static void one_call(struct table *t) {
+    snprintf(which, sizeof which, "seed %llu, call %llu, ", (unsigned long long)seed, calls);
     if (t->len > MOST - BATCH || one_of(400)) {
         forget(t);
         return;
@@ -539,10 +501,7 @@ static void one_call(struct table *t) {
         case 4:
         case 5: check_interned(t); break;
         case 6:
-        case 7:
-            call = "get";
-            same_symbol(t, random_symbol(t));
-            break;
+        case 7: same_symbol(t, random_symbol(t)); break;
         case 8: copy(t); break;
         case 9: resize(t); break;
         case 10: take_back(t); break;
@@ -552,7 +511,6 @@ static void one_call(struct table *t) {
         case 14: copy_all(t); break;
         default:
             move(t);
-            call = "get";
             same_table(t);
             break;
     }
@@ -571,7 +529,6 @@ int main(int argc, char **argv) {
         tables[i].entries = (struct entry *)block(MOST * sizeof(struct entry));
     }
     for (calls = 0; calls < most; calls++) one_call(&tables[below(TABLES)]);
-    call = "free";
     for (size_t i = 0; i < TABLES; i++) {
         same_table(&tables[i]);
         IN_LIBRARY(intaglio_free(&tables[i].handle));

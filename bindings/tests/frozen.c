@@ -1,28 +1,12 @@
 /* Reads a frozen table in a file, whose strings come on standard input, each on a line: string i is at symbol i. A table of these strings
  * must be frozen to the same bytes, under the keys 3 and 4. Then cuts the file at each length and changes each byte, and writes the code
  * of each, and the numbers of the strings in it: no call may read outside the bytes. */
-#define _POSIX_C_SOURCE 200809L
-#include "intaglio.h"
-#include <fcntl.h>
-#include <stdio.h>
-#include <stdlib.h>
-#include <string.h>
-#include <sys/mman.h>
-#include <sys/stat.h>
-#include <unistd.h>
+#include "tests.h"
 
 enum {
     LINES = 1 << 16,
     BYTES = 1 << 22
 };
-
-#define WANT(CONDITION) \
-    do { \
-        if (!(CONDITION)) { \
-            fprintf(stderr, "line %d: %s\n", __LINE__, #CONDITION); \
-            exit(1); \
-        } \
-    } while (0)
 
 static uint8_t text[BYTES];
 static size_t ends[LINES];
@@ -50,7 +34,7 @@ static void compare(const uint8_t *bytes, size_t len) {
     for (size_t i = 0; i < count; i++) {
         const uint8_t *string = text + start_of(i);
         size_t size = ends[i] - start_of(i);
-        WANT(intaglio_frozen_get(bytes, len, (uint32_t)i, &out) && out.len == size && memcmp(out.at, string, size) == 0);
+        WANT(intaglio_frozen_get(bytes, len, (uint32_t)i, &out) && is_same(&out, string, size));
         WANT(size == 0 || (out.at >= bytes && out.at + size <= bytes + len));
         WANT(intaglio_frozen_find(bytes, len, string, size, &symbol) && symbol == i);
     }
@@ -69,16 +53,15 @@ static void compare_opened(const uint8_t *bytes, size_t len) {
     intaglio_opened opened;
     uint32_t symbol = 7;
     intaglio_spelling out = {NULL, 7};
-    uint8_t *headless = (uint8_t *)malloc(len);
-    WANT(headless && intaglio_open(&opened, bytes, len) == INTAGLIO_DONE && intaglio_opened_len(&opened) == count);
+    uint8_t *headless = own_copy(bytes, len);
+    WANT(intaglio_open(&opened, bytes, len) == INTAGLIO_DONE && intaglio_opened_len(&opened) == count);
     WANT(opened.bytes == bytes && opened.len == len && (opened.sections.kind == 1) == intaglio_frozen_is_text(bytes, len));
-    memcpy(headless, bytes, len);
     memset(headless, 7, 128);
     opened.bytes = headless;
     for (size_t i = 0; i < count; i++) {
         const uint8_t *string = text + start_of(i);
         size_t size = ends[i] - start_of(i);
-        WANT(intaglio_opened_get(&opened, (uint32_t)i, &out) && out.len == size && memcmp(out.at, string, size) == 0);
+        WANT(intaglio_opened_get(&opened, (uint32_t)i, &out) && is_same(&out, string, size));
         WANT(size == 0 || (out.at >= headless && out.at + size <= headless + len));
         WANT(intaglio_opened_find(&opened, string, size, &symbol) && symbol == i);
     }
@@ -103,9 +86,8 @@ static void use_sections(const uint8_t *bytes, size_t len, const intaglio_sectio
 static void change_sections(const uint8_t *bytes, size_t len) {
     static const uint32_t others[] = {0, 1, 3, 64, 1 << 20, 0x7fffffff, 0x80000000, UINT32_MAX - 7, UINT32_MAX};
     intaglio_sections sections, changed;
-    uint8_t *copy = (uint8_t *)malloc(len);
-    WANT(copy && intaglio_frozen_sections(bytes, len, &sections) == INTAGLIO_DONE);
-    memcpy(copy, bytes, len);
+    uint8_t *copy = own_copy(bytes, len);
+    WANT(intaglio_frozen_sections(bytes, len, &sections) == INTAGLIO_DONE);
     for (size_t at = 0; at + 4 <= sizeof sections; at += 4)
         for (size_t i = 0; i < sizeof others / sizeof others[0]; i++) {
             changed = sections;
@@ -118,9 +100,7 @@ static void change_sections(const uint8_t *bytes, size_t len) {
     }
     free(copy);
     for (size_t cut = 0; cut < len; cut++) {
-        uint8_t *front = (uint8_t *)malloc(cut ? cut : 1);
-        WANT(front);
-        memcpy(front, bytes, cut);
+        uint8_t *front = own_copy(bytes, cut);
         use_sections(front, cut, &sections);
         free(front);
     }
@@ -131,8 +111,8 @@ static void freeze(const uint8_t *bytes, size_t len, uint32_t kind) {
     intaglio_table table = INTAGLIO_TABLE_NONE;
     uint32_t symbol;
     size_t size = 7;
-    uint8_t *made = (uint8_t *)malloc(len + 1);
-    WANT(made && intaglio_freeze(&table, 3, 4, made, len, &size) == INTAGLIO_NO_TABLE && size == 7);
+    uint8_t *made = (uint8_t *)block(len + 1);
+    WANT(intaglio_freeze(&table, 3, 4, made, len, &size) == INTAGLIO_NO_TABLE && size == 7);
     WANT(intaglio_new(&table, kind, 1, 2) == INTAGLIO_DONE);
     for (size_t i = 0; i < count; i++) WANT(intaglio_intern(&table, text + start_of(i), ends[i] - start_of(i), &symbol) == INTAGLIO_DONE && symbol == i);
     memset(made, 7, len + 1);
@@ -146,33 +126,33 @@ static void freeze(const uint8_t *bytes, size_t len, uint32_t kind) {
     free(made);
 }
 
-/* String i of a frozen table is at map[i]. */
-static void is_map(intaglio_table *table, const uint8_t *bytes, size_t len, const uint32_t *map) {
+/* String i of a frozen table is at numbers[i]. */
+static void is_map(intaglio_table *table, const uint8_t *bytes, size_t len, const uint32_t *numbers) {
     intaglio_spelling from, to;
     for (size_t i = 0; i < intaglio_frozen_len(bytes, len); i++)
-        WANT(intaglio_frozen_get(bytes, len, (uint32_t)i, &from) && intaglio_get(table, map[i], &to) && from.len == to.len && memcmp(from.at, to.at, to.len) == 0);
+        WANT(intaglio_frozen_get(bytes, len, (uint32_t)i, &from) && intaglio_get(table, numbers[i], &to) && is_same(&from, to.at, to.len));
 }
 
 /* A table takes in all strings, in their order behind those that it has, or none. */
 static void absorb(const uint8_t *bytes, size_t len, uint32_t kind) {
     intaglio_table table = INTAGLIO_TABLE_NONE;
-    uint32_t *map = (uint32_t *)malloc(sizeof *map * count);
-    WANT(map && intaglio_absorb(&table, bytes, len, map, count) == INTAGLIO_NO_TABLE);
+    uint32_t *numbers = (uint32_t *)block(sizeof *numbers * count);
+    WANT(intaglio_absorb(&table, bytes, len, numbers, count) == INTAGLIO_NO_TABLE);
     WANT(intaglio_with_limit(&table, kind, count, 1, 2) == INTAGLIO_DONE);
-    WANT(intaglio_intern(&table, text + start_of(1), ends[1] - start_of(1), map) == INTAGLIO_DONE && map[0] == 0);
-    WANT(intaglio_absorb(&table, bytes, len, map, count - 1) == INTAGLIO_BAD_ENDS && intaglio_absorb(&table, bytes, len - 1, map, count) != INTAGLIO_DONE);
+    WANT(intaglio_intern(&table, text + start_of(1), ends[1] - start_of(1), numbers) == INTAGLIO_DONE && numbers[0] == 0);
+    WANT(intaglio_absorb(&table, bytes, len, numbers, count - 1) == INTAGLIO_BAD_ENDS && intaglio_absorb(&table, bytes, len - 1, numbers, count) != INTAGLIO_DONE);
     WANT(intaglio_len(&table) == 1);
     for (int again = 0; again < 2; again++) {
-        WANT(intaglio_absorb(&table, bytes, len, map, count) == INTAGLIO_DONE && intaglio_len(&table) == count);
-        for (size_t i = 0; i < count; i++) WANT(map[i] == (i == 0 ? 1 : (i == 1 ? 0 : i)));
-        is_map(&table, bytes, len, map);
+        WANT(intaglio_absorb(&table, bytes, len, numbers, count) == INTAGLIO_DONE && intaglio_len(&table) == count);
+        for (size_t i = 0; i < count; i++) WANT(numbers[i] == (i == 0 ? 1 : (i == 1 ? 0 : i)));
+        is_map(&table, bytes, len, numbers);
     }
     WANT(intaglio_with_limit(&table, kind, count - 1, 1, 2) == INTAGLIO_DONE);
-    WANT(intaglio_absorb(&table, bytes, len, map, count) == INTAGLIO_FULL && intaglio_len(&table) == 0);
+    WANT(intaglio_absorb(&table, bytes, len, numbers, count) == INTAGLIO_FULL && intaglio_len(&table) == 0);
     WANT(intaglio_new(&table, INTAGLIO_CSTR, 1, 2) == INTAGLIO_DONE);
-    WANT(intaglio_absorb(&table, bytes, len, map, count) == INTAGLIO_MISSING_ZERO && intaglio_len(&table) == 0);
+    WANT(intaglio_absorb(&table, bytes, len, numbers, count) == INTAGLIO_MISSING_ZERO && intaglio_len(&table) == 0);
     intaglio_free(&table);
-    free(map);
+    free(numbers);
 }
 
 /* A pointer with a count of 0 may be null. */
@@ -197,13 +177,13 @@ static void pass_null(const uint8_t *bytes, size_t len) {
 static void absorb_any(const uint8_t *bytes, size_t len) {
     intaglio_table table = INTAGLIO_TABLE_NONE;
     size_t held = intaglio_frozen_len(bytes, len);
-    uint32_t *map = (uint32_t *)malloc(sizeof *map * (held + 1));
-    WANT(map && intaglio_with_capacity(&table, INTAGLIO_PACKED_BYTES, 0, 1, 2) == INTAGLIO_DONE);
-    if (intaglio_absorb(&table, bytes, len, map, held) == INTAGLIO_DONE) is_map(&table, bytes, len, map);
+    uint32_t *numbers = (uint32_t *)block(sizeof *numbers * (held + 1));
+    WANT(intaglio_with_capacity(&table, INTAGLIO_PACKED_BYTES, 0, 1, 2) == INTAGLIO_DONE);
+    if (intaglio_absorb(&table, bytes, len, numbers, held) == INTAGLIO_DONE) is_map(&table, bytes, len, numbers);
     else WANT(intaglio_len(&table) == 0);
     WANT(intaglio_frozen_check(bytes, len) != INTAGLIO_DONE || intaglio_len(&table) == held);
     intaglio_free(&table);
-    free(map);
+    free(numbers);
 }
 
 /* The same calls on the opened table give the same, if there is one. */
@@ -244,42 +224,24 @@ static void read_any(const uint8_t *bytes, size_t len) {
         const uint8_t *string = text + start_of(i);
         size_t size = ends[i] - start_of(i);
         if (!intaglio_frozen_find(bytes, len, string, size, &symbol)) continue;
-        WANT(intaglio_frozen_get(bytes, len, symbol, &out) && out.len == size && memcmp(out.at, string, size) == 0);
+        WANT(intaglio_frozen_get(bytes, len, symbol, &out) && is_same(&out, string, size));
     }
     read_any_opened(bytes, len);
 }
 
 int main(int argc, char **argv) {
-    struct stat status;
     WANT(argc == 3);
     read_lines();
-    int file = open(argv[1], O_RDONLY);
-    WANT(file >= 0 && fstat(file, &status) == 0);
-    size_t len = (size_t)status.st_size;
-    const uint8_t *bytes = (const uint8_t *)mmap(NULL, len, PROT_READ, MAP_PRIVATE, file, 0);
-    WANT(bytes != MAP_FAILED && close(file) == 0);
+    size_t len;
+    const uint8_t *bytes = map(argv[1], &len);
+    bool is_text = strcmp(argv[2], "text") == 0;
     compare(bytes, len);
     compare_opened(bytes, len);
     change_sections(bytes, len);
-    WANT(intaglio_frozen_is_text(bytes, len) == (strcmp(argv[2], "text") == 0));
+    WANT(intaglio_frozen_is_text(bytes, len) == is_text);
     pass_null(bytes, len);
-    freeze(bytes, len, strcmp(argv[2], "text") == 0 ? INTAGLIO_TEXT : INTAGLIO_BYTES);
-    absorb(bytes, len, strcmp(argv[2], "text") == 0 ? INTAGLIO_TEXT : INTAGLIO_PACKED_BYTES);
-    for (size_t cut = 0; cut < len; cut++) {
-        /* (an allocation of its own, so that a read behind it is seen) */
-        uint8_t *front = (uint8_t *)malloc(cut ? cut : 1);
-        WANT(front);
-        memcpy(front, bytes, cut);
-        read_any(front, cut);
-        free(front);
-    }
-    for (size_t i = 0; i < len; i++) {
-        uint8_t *changed = (uint8_t *)malloc(len);
-        WANT(changed);
-        memcpy(changed, bytes, len);
-        changed[i]++;
-        read_any(changed, len);
-        free(changed);
-    }
+    freeze(bytes, len, is_text ? INTAGLIO_TEXT : INTAGLIO_BYTES);
+    absorb(bytes, len, is_text ? INTAGLIO_TEXT : INTAGLIO_PACKED_BYTES);
+    damage(bytes, len, read_any);
     return 0;
 }

@@ -5,21 +5,14 @@ import os
 import random
 import stat
 import subprocess
-import sys
-import tempfile
 import unittest
 from array import array
 from collections import Counter
-from pathlib import Path
 
-sys.dont_write_bytecode = True
-TOP = Path(__file__).resolve().parent.parent.parent
-sys.path.insert(0, str(TOP / "checks"))
-import formats
 import intaglio
-from intaglio import MISSING, BytesTable, Column, Frozen, SymbolTable, merge, renumber
+from cases import NO_CODES, PROGRAM, Case, are_texts, encoded, formats, if_built, table_of
+from intaglio import MISSING, Column, Frozen, SymbolTable, merge, renumber
 
-PROGRAM = TOP / "crates/intaglio_dict/out/intaglio_dict"
 ROUNDS = 200
 # Slices whose next step leads behind what 8 bytes count.
 STEPS = tuple((start, None, step) for start in (0, 1, -1) for step in (2**63 - 1, 1 - 2**63, 2**63, 2**70, -(2**70)))
@@ -31,14 +24,6 @@ WIDTHS = ((1, 1), (255, 1), (256, 2), (65_535, 2), (65_536, 4))
 
 def texts(count):
     return [f"s{it}" for it in range(count)]
-
-
-def encoded(strings):
-    return [it.encode() if isinstance(it, str) else it for it in strings]
-
-
-def kind_of(strings):
-    return formats.TEXT if all(isinstance(it, str) for it in strings) else formats.BYTES
 
 
 def if_grown(wanted, found):
@@ -54,22 +39,19 @@ def plain_index(lines, string, *bounds):
         return None
 
 
-class OfColumns(unittest.TestCase):
+class OfColumns(Case):
     def setUp(self):
-        folder = tempfile.TemporaryDirectory()
-        self.addCleanup(folder.cleanup)
-        self.folder = Path(folder.name)
+        super().setUp()
         self.path = self.folder / "column"
 
     def freeze(self, strings):
         """A dictionary of these strings in a file."""
-        table = (SymbolTable if all(isinstance(it, str) for it in strings) else BytesTable)(strings)
-        table.freeze(self.folder / "dict")
+        table_of(strings).freeze(self.folder / "dict")
         return Frozen(self.folder / "dict")
 
     def put(self, strings, count, name="words"):
         """A folder of these strings in so many shards that another writer wrote, and what it wrote."""
-        dictionary = formats.dictionary_of(encoded(strings), count, kind_of(strings))
+        dictionary = formats.dictionary_of(encoded(strings), count, int(are_texts(strings)))
         formats.put(self.folder / name, dictionary.files())
         return self.folder / name, dictionary
 
@@ -83,11 +65,9 @@ class OfColumns(unittest.TestCase):
         self.assertEqual((list(column), len(column), list(reversed(column))), (lines, len(lines), lines[::-1]))
         self.assertEqual([column[it] for it in range(-len(lines), len(lines))], lines + lines)
         for bounds in ((None,), (None, None, -1), (1, -1), (-2, None), (9, 1), (9, 1, -3), (0, 99, 4), *STEPS):
-            part = slice(*bounds)
-            self.assertEqual(column[part], lines[part])
+            self.assertEqual(column[slice(*bounds)], lines[slice(*bounds)])
         for row in (len(lines), -len(lines) - 1, 2**70):
-            with self.assertRaisesRegex(IndexError, f"^no such row: {row}, and the column has {len(lines)}$"):
-                column[row]
+            self.refused(IndexError, f"^no such row: {row}, and the column has {len(lines)}$", lambda: column[row])
         counts = column.counts()
         self.assertEqual(counts, Counter(lines))
         self.assertEqual(set(map(type, counts)), set(map(type, lines)))
@@ -97,8 +77,7 @@ class OfColumns(unittest.TestCase):
             for bounds in ((), (1,), (2, -1), (0, 2), (-3,)):
                 wanted = plain_index(lines, string, *bounds)
                 if wanted is None:
-                    with self.assertRaisesRegex(ValueError, " is not in the column$"):
-                        column.index(string, *bounds)
+                    self.refused(ValueError, " is not in the column$", column.index, string, *bounds)
                 else:
                     self.assertEqual(column.index(string, *bounds), wanted)
 
@@ -133,9 +112,7 @@ class OfColumns(unittest.TestCase):
             strings = ["", "a", "\u00e9", "b c"] if is_text else [b"", b"a", b"\xff", b"\n"]
             strings = strings[: rng.randrange(5)]
             lines = [rng.choice([*strings, None]) for _ in range(rng.randrange(12))]
-            table = (SymbolTable if is_text else BytesTable)(strings)
-            table.freeze(self.folder / "dict")
-            with Frozen(self.folder / "dict") as words:
+            with self.freeze(strings) as words:
                 words.write_column(self.path, words.encode(lines, missing=MISSING))
                 self.assertEqual(formats.column_faults(self.path.read_bytes()), [])
                 with Column(self.path, words) as column:
@@ -149,9 +126,8 @@ class OfColumns(unittest.TestCase):
             for buffer in (array("I", wanted), memoryview(codes)[::2], signed):
                 words.write_column(self.path, buffer)
                 self.assertEqual(list(Column(self.path, words).widened()), wanted)
-            for buffer in (array("Q", wanted), array("H", [0]), b"\0\0\0\0", [0], "0"):
-                with self.assertRaisesRegex(TypeError, "integers of 4 bytes"):
-                    words.write_column(self.path, buffer)
+            for buffer in (*NO_CODES, bytes(72), "0"):
+                self.refused(TypeError, "integers of 4 bytes", words.write_column, self.path, buffer)
 
     def test_a_dictionary_frozen_again_fits(self):
         table = SymbolTable(texts(300))
@@ -168,29 +144,20 @@ class OfColumns(unittest.TestCase):
             self.assertEqual((list(column), column[0:1]), (["s2", "s0"], ["s2"]))
             words = column.dictionary
         self.assertEqual((repr(words), repr(column)), ("<Frozen, closed>", "<Column, closed>"))
-        with self.assertRaises(FileNotFoundError):
-            Column(self.path, self.folder / "absent")
-        with self.assertRaisesRegex(intaglio.NotFrozen, f"^{self.path}: "):
-            Column(self.path, self.path)
+        self.refused(FileNotFoundError, "", Column, self.path, self.folder / "absent")
+        self.refused(intaglio.NotFrozen, f"^{self.path}: ", Column, self.path, self.path)
 
     def test_another_dictionary_is_refused_by_both_names(self):
         words = self.freeze(texts(3))
         words.write_column(self.path, array("I", [2, 0]))
         others = (texts(4), texts(3)[::-1], ["s0", "s1", "s3"], ["s0s1", "", "s2"], [it.encode() for it in texts(3)])
         for strings in others:
-            other = self.freeze(strings)
-            for dictionary in (other, self.folder / "dict"):
-                for trusted in (False, True):
-                    said = f"{self.folder / 'dict'}{if_grown(3, len(strings))}$"
-                    with self.assertRaisesRegex(
-                        intaglio.OtherDictionary, f"^{self.path}: a column of another dictionary than {said}"
-                    ) as caught:
-                        Column(self.path, dictionary, trusted=trusted)
-                    self.assertEqual(
-                        (caught.exception.column, caught.exception.dictionary), (str(self.path), str(self.folder / "dict"))
-                    )
-        with self.assertRaisesRegex(ValueError, " than <Frozen of 1 str>$"):
-            Column(self.path, Frozen.from_bytes(SymbolTable(["s"]).freeze()))
+            other, path = self.freeze(strings), str(self.folder / "dict")
+            said = f"^{self.path}: a column of another dictionary than {path}{if_grown(3, len(strings))}$"
+            for dictionary, trusted in itertools.product((other, path), (False, True)):
+                error = self.refused(intaglio.OtherDictionary, said, lambda: Column(self.path, dictionary, trusted=trusted))
+                self.assertEqual((error.column, error.dictionary), (str(self.path), path))
+        self.refused(ValueError, " than <Frozen of 1 str>$", Column, self.path, Frozen.from_bytes(SymbolTable(["s"]).freeze()))
         self.assertEqual(list(Column(self.path, words)), ["s2", "s0"])
 
     def test_damaged_columns_are_refused_by_name(self):
@@ -206,13 +173,10 @@ class OfColumns(unittest.TestCase):
         changed += [data[:i] + bytes([data[i] ^ bit]) + data[i + 1:] for i in range(len(data)) for bit in (1, 128)]
         for bad in changed:
             self.path.write_bytes(bad)
-            found = formats.column_faults(bad)
-            with self.assertRaisesRegex(faults[found[0].split(":")[0]], f"^{self.path}: ") as caught:
-                Column(self.path, words)
-            self.assertEqual(caught.exception.filename, str(self.path))
+            fault = faults[formats.column_faults(bad)[0].split(":")[0]]
+            self.refused(fault, f"^{self.path}: ", Column, self.path, words, filename=str(self.path))
         self.path.write_bytes(formats.sealed(data[:-1] + b"\x03"))
-        with self.assertRaisesRegex(intaglio.NoSymbol, f"^{self.path}: code 3 at position 3 is no symbol$"):
-            Column(self.path, words)
+        self.refused(intaglio.NoSymbol, f"^{self.path}: code 3 at position 3 is no symbol$", Column, self.path, words)
 
     def test_a_trusted_column_is_read_as_it_is(self):
         words = self.freeze(texts(3))
@@ -220,12 +184,9 @@ class OfColumns(unittest.TestCase):
         self.path.write_bytes(data[:-1] + b"\x03")
         column = Column(self.path, words, trusted=True)
         self.assertEqual((column[:3], column.counts()), (["s0", "s2", None], Counter(["s0", "s2", None])))
-        for read in (lambda: column[3], lambda: list(column)):
-            with self.assertRaises(intaglio.NoSymbol):
-                read()
+        self.refused(intaglio.NoSymbol, "", (lambda: column[3], lambda: list(column)))
         self.path.write_bytes(data[:-1])
-        with self.assertRaises(intaglio.Truncated):
-            Column(self.path, words, trusted=True)
+        self.refused(intaglio.Truncated, "", lambda: Column(self.path, words, trusted=True))
 
     def test_what_cannot_be_written_leaves_the_file(self):
         words = self.freeze(texts(3))
@@ -233,11 +194,8 @@ class OfColumns(unittest.TestCase):
         before = self.path.read_bytes()
         for codes, position in (([0, 3], 1), ([MISSING - 1], 0), ([0, 0, 7, 9], 2)):
             said = f"^code {codes[position]} at position {position} is no symbol$"
-            with self.assertRaisesRegex(intaglio.NoSymbol, said) as caught:
-                words.write_column(self.path, array("I", codes))
-            self.assertEqual(caught.exception.position, position)
-        with self.assertRaises(IsADirectoryError):
-            words.write_column(self.folder, array("I", [0]))
+            self.refused(intaglio.NoSymbol, said, words.write_column, self.path, array("I", codes), position=position)
+        self.refused(IsADirectoryError, "", words.write_column, self.folder, array("I", [0]))
         self.assertEqual((self.path.read_bytes(), sorted(os.listdir(self.folder))), (before, ["column", "dict"]))
 
     def test_a_file_is_replaced_at_once(self):
@@ -259,9 +217,8 @@ class OfColumns(unittest.TestCase):
         self.assertEqual(repr(column), "<Column of 3 rows of 3 strings>")
         column.close()
         self.assertEqual((codes.tolist(), repr(column)), ([0, 1, 255], "<Column, closed>"))
-        for read in (lambda: column[0], column.counts, lambda: column.rows_of("s0"), lambda: column.codes, column.widened):
-            with self.assertRaises(ValueError):
-                read()
+        read = (lambda: column[0], column.counts, lambda: column.rows_of("s0"), lambda: column.codes, column.widened)
+        self.refused(ValueError, "", read)
         column.close()
         self.assertEqual(words[0], "s0")
 
@@ -270,21 +227,13 @@ class OfColumns(unittest.TestCase):
         words.write_column(self.path, array("I", [0]))
         column = Column(self.path, words)
         for wrong in (b"s0", 7):
-            for call in (column.rows_of, column.count, column.index, lambda it: it in column):
-                with self.assertRaises(TypeError):
-                    call(wrong)
+            self.refused(TypeError, "", (column.rows_of, column.count, column.index, lambda it: it in column), wrong)
         for data in (self.path.read_bytes(), bytearray(64), memoryview(b"")):
-            with self.assertRaisesRegex(TypeError, "^a path, not the bytes of a column in a "):
-                Column(data, words)
+            self.refused(TypeError, "^a path, not the bytes of a column in a ", Column, data, words)
         for data in (words.to_bytes(), bytearray(64)):
-            with self.assertRaisesRegex(TypeError, "Frozen.from_bytes"):
-                Column(self.path, data)
-        with self.assertRaises(TypeError):
-            Column(self.path, SymbolTable(["s0"]))
-        with self.assertRaises(FileNotFoundError):
-            Column(self.folder / "absent", words)
-        with self.assertRaisesRegex(FileNotFoundError, f"'{self.folder}/0.dict'$"):
-            Column(self.path, self.folder)
+            self.refused(TypeError, "Frozen.from_bytes", Column, self.path, data)
+        self.refused(FileNotFoundError, "", Column, self.folder / "absent", words)
+        self.refused(FileNotFoundError, f"'{self.folder}/0.dict'$", Column, self.path, self.folder)
         with open(self.path, "rb") as file:
             self.assertEqual(list(Column(os.dup(file.fileno()), words)), ["s0"])
 
@@ -316,16 +265,15 @@ class OfColumns(unittest.TestCase):
         others = [(texts(300), 4), (texts(301), 3), (texts(300)[::-1], 3), (encoded(texts(300)), 3)]
         folders = [self.put(*it, f"{number}")[0] for number, it in enumerate(others)]
         for other in (*folders, self.folder / "merged", folder / "0.dict"):
+            said = f"^{self.path}: a column of another dictionary than {other}"
             for trusted in (False, True):
-                said = f"^{self.path}: a column of another dictionary than {other}"
-                with self.assertRaisesRegex(intaglio.OtherDictionary, said):
-                    Column(self.path, Frozen(other, trusted=trusted), trusted=trusted)
+                words = Frozen(other, trusted=trusted)
+                self.refused(intaglio.OtherDictionary, said, lambda: Column(self.path, words, trusted=trusted))
         # With its own set in the header, but other numbers of strings and of shards.
         id = dictionary.id
         for id, shards in ((id._replace(strings=301), 3), (id, 4), (id._replace(kind=formats.BYTES), 3)):
-            column = formats.column(id, [2, 0], shards=shards)
-            with self.assertRaisesRegex(intaglio.OtherDictionary, f"^the column: a column of another dictionary than {folder}"):
-                Column.from_bytes(column, folder)
+            column, said = formats.column(id, [2, 0], shards=shards), f"^the column: a column of another dictionary than {folder}"
+            self.refused(intaglio.OtherDictionary, said, Column.from_bytes, column, folder)
         self.assertEqual(len(Column(self.path, folder)), 2)
 
     def test_columns_of_parts_are_renumbered(self):
@@ -336,8 +284,7 @@ class OfColumns(unittest.TestCase):
         whole, maps = merge(parts, self.folder / "whole")
         for part, of_part, numbers in zip(parts, lines, maps):
             part.write_column(self.path, part.encode(of_part, missing=MISSING))
-            with self.assertRaisesRegex(intaglio.OtherDictionary, f" than {self.folder / 'whole'}"):
-                Column(self.path, whole)
+            self.refused(intaglio.OtherDictionary, f" than {self.folder / 'whole'}", Column, self.path, whole)
             with Column(self.path, part) as column:
                 whole.write_column(self.folder / "new", renumber(column.widened(), numbers))
             with Column(self.folder / "new", self.folder / "whole") as column:
@@ -353,25 +300,21 @@ class OfColumns(unittest.TestCase):
             self.assertEqual((column.source, column.identity), ((part.name, 2, shard), whole.name))
             self.assertEqual((column.source.shards, column.to_bytes()), (2, data))
             for other in (self.folder / "whole", self.folder / f"whole/{1 - shard}.dict"):
-                with self.assertRaises(intaglio.OtherDictionary):
-                    Column.from_bytes(data, other)
+                self.refused(intaglio.OtherDictionary, "", Column.from_bytes, data, other)
         self.path.write_bytes(data)
         with Column(self.path) as column:
             codes = formats.read_column(data)[1]
             self.assertEqual((column.dictionary, column.widened().tolist(), column.count(None)), (None, codes, 0))
             self.assertEqual(repr(column), f"<Column of {len(codes)} rows of {len(whole.shards[1])} strings>")
-            for read in (lambda: column[0], lambda: list(column), column.counts, lambda: column.rows_of("s1")):
-                with self.assertRaisesRegex(TypeError, "^the Column was opened without its dictionary$"):
-                    read()
+            read = (lambda: column[0], lambda: list(column), column.counts, lambda: column.rows_of("s1"))
+            self.refused(TypeError, "^the Column was opened without its dictionary$", read)
         # A map has a string for each row.
         missing = formats.sealed(data[: formats.COLUMN_HEADER.size] + b"\0\xff" + data[formats.COLUMN_HEADER.size + 2 :])
-        with self.assertRaisesRegex(intaglio.NoSymbol, "^code 4294967295 at position 1 is no symbol$"):
-            Column.from_bytes(missing)
+        self.refused(intaglio.NoSymbol, "^code 4294967295 at position 1 is no symbol$", Column.from_bytes, missing)
         for source in ((2, 1, 5, 6, 2), (3, 1, 5, 6, 0), (0, 0, 5, 6, 0)):
-            with self.assertRaises(intaglio.BadShard):
-                Column.from_bytes(formats.column(whole.id, [0], source, shards=2))
+            self.refused(intaglio.BadShard, "", Column.from_bytes, formats.column(whole.id, [0], source, shards=2))
 
-    @unittest.skipUnless(os.access(PROGRAM, os.X_OK), "intaglio_dict isn't built")
+    @if_built
     def test_the_program_writes_the_same_bytes(self):
         def ran(*words, given=None):
             return subprocess.run([PROGRAM, *map(str, words)], check=True, capture_output=True, input=given).stdout
@@ -389,6 +332,4 @@ class OfColumns(unittest.TestCase):
 
 
 if __name__ == "__main__":
-    if not os.access(PROGRAM, os.X_OK):
-        print("left out: intaglio_dict isn't built")
     unittest.main()

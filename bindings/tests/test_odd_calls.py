@@ -2,49 +2,30 @@
 they are there."""
 import copy
 import pickle
-import sys
-import tempfile
 import unittest
 from array import array
 from collections import Counter
-from pathlib import Path
 
-sys.dont_write_bytecode = True
 import intaglio
+from cases import Case, optional
 from intaglio import MISSING, BytesTable, Column, Frozen, SymbolTable, merge, renumber
 
-try:
-    import numpy
-except ImportError:
-    numpy = None
-try:
-    import pandas
-except ImportError:
-    pandas = None
-
+numpy, pandas = optional("numpy"), optional("pandas")
 WORDS = ["fig", "plum", "pear"]
 ROWS = ["plum", None, "fig", "plum"]
 CODES = array("I", [1, MISSING, 0, 1])
 NOTHING = [None, float("nan"), *([pandas.NA] if pandas else [])]
 
 
-class OddCalls(unittest.TestCase):
+class OddCalls(Case):
     def setUp(self):
-        folder = tempfile.TemporaryDirectory()
-        self.addCleanup(folder.cleanup)
-        self.folder = Path(folder.name)
+        super().setUp()
         self.table = SymbolTable(WORDS)
         self.table.freeze(self.folder / "dict")
         self.words = Frozen(self.folder / "dict")
         self.shards, _ = merge([self.words], self.folder / "shards", shards=2)
         self.words.write_column(self.folder / "column", CODES)
         self.column = Column(self.folder / "column", self.folder / "dict")
-
-    def refused(self, *rows):
-        """Each call raises this error, whose message has these words."""
-        for number, (call, error, words) in enumerate(rows):
-            with self.subTest(number=number), self.assertRaisesRegex(error, words):
-                call()
 
     def closed(self, table):
         table.close()
@@ -58,9 +39,8 @@ class OddCalls(unittest.TestCase):
             lambda it: self.words.encode_into(it, out, missing=7),
         )
         said = r"^a list or another iterable of strings, not a single {}: \[string\] is a list of one$".format
-        of_bytes = (BytesTable, data.encode, data.check_all)
-        self.refused(*((lambda call=call: call("fig"), TypeError, said("str")) for call in calls))
-        self.refused(*((lambda call=call: call(b"fig"), TypeError, said("bytes")) for call in of_bytes))
+        self.refused(TypeError, said("str"), calls, "fig")
+        self.refused(TypeError, said("bytes"), (BytesTable, data.encode, data.check_all), b"fig")
         self.assertEqual((list(self.table), list(data), list(out)), (WORDS, [b"fig"], [0] * 4))
 
     def test_what_holds_no_codes(self):
@@ -85,24 +65,23 @@ class OddCalls(unittest.TestCase):
             lambda it: renumber(CODES, it), lambda it: self.words.write_column(self.folder / "new", it),
         )
         for given, words in rows:
-            said = f"^codes are integers of 4 bytes .*{words}"
-            self.refused(*((lambda call=call: call(given), TypeError, said) for call in calls))
+            self.refused(TypeError, f"^codes are integers of 4 bytes .*{words}", calls, given)
         self.assertFalse((self.folder / "new").exists())
 
     def test_what_is_no_dictionary_and_no_file(self):
         absent = self.folder / "absent/column"
         said = "a column is read with a Frozen or the path of one, not a {}: a table is frozen before$".format
-        self.refused(
-            (lambda: Column(self.folder / "column", self.table), TypeError, said("SymbolTable")),
-            (lambda: Column(self.folder / "column", [self.words]), TypeError, said("list")),
-            (lambda: pickle.dumps(self.column), TypeError, "^a Column can't be pickled: send its path and its dictionary, and "),
-            (lambda: merge([self.words, 7]), TypeError, "^each of the tables to merge is a Frozen or a path; at position 1: "),
-            (lambda: merge([self.shards]), TypeError, "^a dictionary in shards is written to a folder, which `out` names$"),
-            *((lambda call=call: call(), FileNotFoundError, f"No such file or directory: '{absent}'$") for call in (
-                lambda: self.words.write_column(absent, CODES), lambda: self.shards.write_column(absent, CODES),
-                lambda: self.table.freeze(absent),
-            )),
-        )
+        for words, call, *given in (
+            (said("SymbolTable"), Column, self.folder / "column", self.table),
+            (said("list"), Column, self.folder / "column", [self.words]),
+            ("^a Column can't be pickled: send its path and its dictionary, and ", pickle.dumps, self.column),
+            ("^each of the tables to merge is a Frozen or a path; at position 1: ", merge, [self.words, 7]),
+            ("^a dictionary in shards is written to a folder, which `out` names$", merge, [self.shards]),
+        ):
+            self.refused(TypeError, words, call, *given)
+        said = f"No such file or directory: '{absent}'$"
+        self.refused(FileNotFoundError, said, (self.words.write_column, self.shards.write_column), absent, CODES)
+        self.refused(FileNotFoundError, said, self.table.freeze, absent)
 
     def test_what_was_closed_is_named(self):
         opened = {"Column": lambda: Column(self.folder / "column", self.folder / "dict")}
@@ -121,30 +100,29 @@ class OddCalls(unittest.TestCase):
         for name, of_kind in calls.items():
             for call in (*of_kind, copy.copy, copy.deepcopy):
                 it = self.closed(self.closed(opened[name]()))
-                self.refused((lambda: call(it), ValueError, f"^the {type(it).__name__} was closed$"))
+                self.refused(ValueError, f"^the {type(it).__name__} was closed$", call, it)
                 self.assertEqual(repr(it), f"<{type(it).__name__}, closed>")
 
+    @unittest.skipUnless(numpy, "numpy isn't there")
     def test_what_masks_strings_or_has_columns(self):
-        if not numpy:
-            self.skipTest("numpy isn't there")
         for kind in (object, str):
             masked = numpy.ma.array(["plum", "x", "fig", "plum"], mask=[0, 1, 0, 0], dtype=kind)
             for encode in (self.table.encode, self.words.encode, self.shards.encode):
                 self.assertEqual(self.table.decode(self.table.encode(masked, missing=MISSING), missing=None), ROWS)
-                self.refused((lambda: encode(masked), TypeError, "at position 1: missing= gives None, NaN and NA a code$"))
+                self.refused(TypeError, "at position 1: missing= gives None, NaN and NA a code$", encode, masked)
         self.assertEqual(list(self.table), WORDS)
         deep = [numpy.array([WORDS], object), numpy.array([WORDS]), *([pandas.DataFrame({"a": WORDS})] if pandas else [])]
         said = "^a column of strings has one dimension, and this has 2: pass each of its columns by itself$"
-        self.refused(*((lambda it=it: self.table.encode(it), TypeError, said) for it in deep))
+        for it in deep:
+            self.refused(TypeError, said, self.table.encode, it)
 
     def test_a_dictionary_that_grew(self):
         self.table.intern("quince")
         self.table.freeze(self.folder / "dict")
-        said = f"{self.folder}/dict, of 4 strings, not 3: if it grew, freeze the first 3 for it$"
-        with self.assertRaisesRegex(intaglio.OtherDictionary, f"^{self.folder}/column: .* dictionary than {said}") as caught:
-            Column(self.folder / "column", self.folder / "dict")
-        self.assertEqual((caught.exception.named, caught.exception.found), (3, 4))
-        self.assertEqual(str(pickle.loads(pickle.dumps(caught.exception))), str(caught.exception))
+        said = "column: .* dictionary than .*/dict, of 4 strings, not 3: if it grew, freeze the first 3 for it$"
+        paths = self.folder / "column", self.folder / "dict"
+        error = self.refused(intaglio.OtherDictionary, f"^{self.folder}/{said}", Column, *paths, named=3, found=4)
+        self.assertEqual(str(pickle.loads(pickle.dumps(error))), str(error))
         grown = Frozen(self.folder / "dict")
         before = Frozen.from_bytes(SymbolTable(grown[:3]).freeze())
         grown.write_column(self.folder / "column", Column(self.folder / "column", before).widened())
@@ -170,7 +148,7 @@ class OddCalls(unittest.TestCase):
             column = self.column
             self.assertEqual((list(column.rows_of(nothing)), column.count(nothing), column.index(nothing)), ([1], 1, 1))
             self.assertTrue(nothing in column)
-        self.refused((lambda: self.column.rows_of(1.5), TypeError, "^a string, not float$"))
+        self.refused(TypeError, "^a string, not float$", self.column.rows_of, 1.5)
 
     @unittest.skipUnless(pandas, "pandas isn't there")
     def test_columns_of_pandas(self):
@@ -189,6 +167,4 @@ class OddCalls(unittest.TestCase):
 
 
 if __name__ == "__main__":
-    for module, name in ((numpy, "numpy"), (pandas, "pandas")):
-        print(f"{name} {module.__version__}" if module else f"left out: {name} isn't there")
     unittest.main()

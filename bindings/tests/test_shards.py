@@ -6,26 +6,15 @@ import os
 import pickle
 import random
 import subprocess
-import sys
-import tempfile
 import unittest
 from array import array
-from pathlib import Path
 
-sys.dont_write_bytecode = True
-TOP = Path(__file__).resolve().parent.parent.parent
-sys.path.insert(0, str(TOP / "checks"))
-import formats
 import intaglio
+from cases import PROGRAM, Case, encoded, formats, if_built
 from intaglio import MISSING, BytesTable, Frozen, SymbolTable, merge, renumber
 
-PROGRAM = TOP / "crates/intaglio_dict/out/intaglio_dict"
 ROUNDS = 60
 WORDS = ["", "a", "b c", "\u00e9", "a string that is longer than the others", *(f"w{it}" for it in range(60))]
-
-
-def encoded(strings):
-    return [it.encode() if isinstance(it, str) else it for it in strings]
 
 
 def dictionary_of(strings, count, is_text=True):
@@ -37,23 +26,16 @@ def freeze(strings, is_text=True):
     return Frozen.from_bytes((SymbolTable if is_text else BytesTable)(strings).freeze())
 
 
-class OfShards(unittest.TestCase):
+class OfShards(Case):
     def setUp(self):
-        folder = tempfile.TemporaryDirectory()
-        self.addCleanup(folder.cleanup)
-        self.at = Path(folder.name)
-        self.folder = self.at / "words"
+        super().setUp()
+        self.at, self.folder = self.folder, self.folder / "words"
 
     def put(self, strings, count, is_text=True):
         """A folder of these strings that another writer wrote. Returns the strings in its order."""
         dictionary = dictionary_of(strings, count, is_text)
         formats.put(self.folder, dictionary.files(0, 0))
         return [it.decode() for it in dictionary.strings] if is_text else dictionary.strings
-
-    def refuses(self, error, said, *calls):
-        for call in calls:
-            with self.assertRaisesRegex(error, said):
-                call()
 
     def compare(self, shards, strings):
         """A dictionary in shards does what the plain list of its strings does."""
@@ -65,16 +47,14 @@ class OfShards(unittest.TestCase):
         for bounds in ((None,), (None, None, -1), (1, -1), (-2, None), (9, 1), (9, 1, -3), (0, 99, 4), (1, None, 2**63 - 1)):
             self.assertEqual(shards[slice(*bounds)], strings[slice(*bounds)])
         for symbol in (count, -count - 1, 2**70, MISSING):
-            with self.assertRaisesRegex(IndexError, f"^no such symbol: {symbol}, and the table has {count} strings$"):
-                shards[symbol]
+            self.refused(IndexError, f"^no such symbol: {symbol}, and the table has {count} strings$", lambda: shards[symbol])
             self.assertEqual((shards.get(symbol), shards.get(symbol, 7)), (None, 7))
         for string in strings:
             number = numbers[string]
             self.assertEqual((shards.check_interned(string), shards.index(string), shards.get(number)), (number, number, string))
             self.assertTrue(string in shards and shards.count(string) == 1)
         self.assertEqual((shards.check_interned(absent), shards.count(absent), absent in shards), (None, 0, False))
-        with self.assertRaisesRegex(ValueError, "^.*not there' is not in the table$"):
-            shards.index(absent)
+        self.refused(ValueError, "^.*not there' is not in the table$", shards.index, absent)
         self.compare_batches(shards, strings, absent)
 
     def compare_batches(self, shards, strings, absent):
@@ -83,9 +63,9 @@ class OfShards(unittest.TestCase):
         with_missing = array("I", [MISSING if it is None else it for it in codes])
         self.assertEqual((shards.find_all(asked), shards.check_all(iter(asked))), (codes, codes))
         self.assertEqual(shards.encode(asked, missing=MISSING), with_missing)
-        self.assertEqual(shards.encode([None, *asked], missing=7)[:1], array("I", [7]))
-        with self.assertRaisesRegex(intaglio.Missing, f"not there' at position {asked.index(absent)} is not in the table$"):
-            shards.encode(asked)
+        self.assertEqual((shards.encode([None, *asked], missing=7)[0], shards.get_all([])), (7, []))
+        said = f"not there' at position {asked.index(absent)} is not in the table$"
+        self.refused(intaglio.Missing, said, shards.encode, asked)
         out = array("I", bytes(4 * len(asked)))
         self.assertEqual((shards.encode_into(asked, out, missing=MISSING), out), (len(asked), with_missing))
         if strings:
@@ -93,12 +73,12 @@ class OfShards(unittest.TestCase):
         lines = formats.ended(encoded(asked))
         self.assertEqual(shards.encode_lines(lines, missing=MISSING), with_missing)
         self.assertEqual(shards.decode(with_missing, missing=None), [None if it == absent else it for it in asked])
-        with self.assertRaisesRegex(intaglio.NoSymbol, f"^code {len(strings)} at position 0 is no symbol$"):
-            shards.decode(array("I", [len(strings)]))
+        said = f"^code {len(strings)} at position 0 is no symbol$"
+        self.refused(intaglio.NoSymbol, said, shards.decode, array("I", [len(strings)]))
         symbols = [it for it in codes if it is not None]
         self.assertEqual(shards.get_all(symbols), [strings[it] for it in symbols])
-        with self.assertRaisesRegex(intaglio.NoSymbol, "^at position 1: no such symbol: -1,") if strings else self.subTest():
-            shards.get_all([0, -1] if strings else [])
+        if strings:
+            self.refused(intaglio.NoSymbol, "^at position 1: no such symbol: -1,", shards.get_all, [0, -1])
 
     def test_folders_of_another_writer_are_read(self):
         for count, is_text in ((1, True), (3, False), (16, True), (200, False)):
@@ -109,14 +89,14 @@ class OfShards(unittest.TestCase):
                     self.assertEqual((shards.shards, shards.identity), (count, formats.read_dictionary(self.folder).name))
                     kind = "str" if is_text else "bytes"
                     self.assertEqual(repr(shards), f"<Frozen of {len(strings)} {kind} in {count} shards>")
-                self.refuses(ValueError, "^the Frozen was closed$", lambda: shards[0], lambda: shards.encode(["a"]))
+                self.refused(ValueError, "^the Frozen was closed$", (lambda: shards[0], lambda: shards.encode(["a"])))
         # One file, and one shard by itself, which has its own symbols.
         self.assertEqual((freeze(WORDS).shards, freeze(WORDS).identity), (1, dictionary_of(WORDS, 1).name))
         with Frozen(self.folder / "7.dict") as shard:
             self.assertEqual([*shard], formats.read_dictionary(self.folder).shards[7])
             self.assertEqual((shard.shards, shard.identity), (200, shards.identity))
             said = f"^{self.folder}/7.dict: shard 7 of 200; name its folder$"
-            self.refuses(ValueError, said, lambda: shard.write_column(self.at / "column", array("I")))
+            self.refused(ValueError, said, shard.write_column, self.at / "column", array("I"))
 
     def test_files_are_shared_out_and_shards_are_merged(self):
         for seed in range(ROUNDS):
@@ -161,7 +141,7 @@ class OfShards(unittest.TestCase):
             whole, maps = merge(tables, self.folder, shards=shards)
             self.assertEqual((sorted(whole), sorted(whole.decode(maps[0]))), ([b"a", b"b", b"\xff"], [b"a", b"b"]))
         self.assertEqual(sorted(Frozen(self.at / "texts", kind=bytes)), [b"a", b"b"])
-        self.refuses(intaglio.NotUtf8, f"^{self.at}/bytes/[01].dict: ", lambda: Frozen(self.at / "bytes", kind=str))
+        self.refused(intaglio.NotUtf8, f"^{self.at}/bytes/[01].dict: ", lambda: Frozen(self.at / "bytes", kind=str))
 
     def test_folders_that_are_no_dictionary_are_refused_by_name(self):
         self.put(WORDS, 3)
@@ -187,14 +167,14 @@ class OfShards(unittest.TestCase):
             second.unlink() if data is None else second.write_bytes(data)
             calls = [lambda: Frozen(self.folder), lambda: merge([self.folder], self.at / "out")]
             calls += [lambda: Frozen(self.folder, trusted=True)] * is_trusted
-            self.refuses(error, f"{second}" if data is None else f"^{second}: {said}", *calls)
+            self.refused(error, f"{second}" if data is None else f"^{second}: {said}", calls)
             if not is_trusted:
                 Frozen(self.folder, trusted=True).close()
         second.write_bytes(good)
         third.write_bytes(b"")
-        self.refuses(intaglio.NotFrozen, f"^{third}: ", lambda: Frozen(self.folder), lambda: Frozen(self.folder, trusted=True))
+        self.refused(intaglio.NotFrozen, f"^{third}: ", (lambda: Frozen(self.folder), lambda: Frozen(self.folder, trusted=True)))
         first.unlink()
-        self.refuses(FileNotFoundError, f"{first}", lambda: Frozen(self.folder), lambda: merge([self.folder], self.at / "out"))
+        self.refused(FileNotFoundError, f"{first}", (lambda: Frozen(self.folder), lambda: merge([self.folder], self.at / "out")))
         one, _ = merge([self.folder], self.at / "one", shard=1)
         self.assertEqual(encoded(one), dictionary.shards[1])
 
@@ -206,18 +186,17 @@ class OfShards(unittest.TestCase):
         for place in {*range(len(good))} - {*range(16, 32)}:
             path.write_bytes(good[:place] + bytes([good[place] ^ 1]) + good[place + 1 :])
             with self.subTest(place=place):
-                self.refuses(intaglio.Refused, f"^{path}: ", lambda: Frozen(self.folder))
+                self.refused(intaglio.Refused, f"^{path}: ", Frozen, self.folder)
 
     def test_inputs_are_not_written_over(self):
         self.put(WORDS, 3)
         freeze(WORDS).write_column(self.at / "column", array("I"))
         SymbolTable(WORDS).freeze(self.at / "0.dict")
         before, path = (formats.files_in(self.folder), (self.at / "0.dict").read_bytes()), self.at / "0.dict"
-        self.refuses(
-            ValueError, "this input is in the folder that is written, ", lambda: merge([path], self.at, shards=2),
-            lambda: merge([Frozen(path)], self.at, shards=2), lambda: merge([self.folder], self.folder),
-            lambda: merge([Frozen(self.folder)], self.folder, shard=1),
-        )
+        self.refused(ValueError, "this input is in the folder that is written, ", (
+            lambda: merge([path], self.at, shards=2), lambda: merge([Frozen(path)], self.at, shards=2),
+            lambda: merge([self.folder], self.folder), lambda: merge([Frozen(self.folder)], self.folder, shard=1),
+        ))
         self.assertEqual((formats.files_in(self.folder), path.read_bytes()), before)
 
     def test_copies_and_pickles(self):
@@ -238,10 +217,10 @@ class OfShards(unittest.TestCase):
         self.compare(pickle.loads(pickled), strings)
         self.put(WORDS[:-1], 3)
         said = f"^{self.folder}: another dictionary than the one that was pickled$"
-        self.refuses(ValueError, said, lambda: pickle.loads(pickled))
+        self.refused(ValueError, said, pickle.loads, pickled)
         (self.folder / "0.dict").unlink()
-        self.refuses(FileNotFoundError, "0.dict", lambda: pickle.loads(pickled))
-        self.refuses(TypeError, f"^{self.folder}: it has other shards by now", lambda: pickle.dumps(shards))
+        self.refused(FileNotFoundError, "0.dict", pickle.loads, pickled)
+        self.refused(TypeError, f"^{self.folder}: it has other shards by now", pickle.dumps, shards)
 
     def test_long_batches(self):
         strings = [f"s{it}" for it in range(70_000)]
@@ -253,28 +232,28 @@ class OfShards(unittest.TestCase):
     def test_wrong_arguments_raise(self):
         self.put(WORDS, 3)
         shards, words, out = Frozen(self.folder), freeze(WORDS), self.at / "out"
-        for call in (shards.check_interned, shards.count, shards.index, lambda it: it in shards):
-            self.refuses(TypeError, "", lambda: call(b"a"), lambda: call(7))
-        for count in (0, -1, 2**32):
-            self.refuses(ValueError, r"^the number of shards is from 1 to ", lambda: merge([words], out, shards=count))
-        for number in (3, -1):
-            self.refuses(ValueError, "^the number of the shard is from 0 to 2, not ", lambda: merge([shards], out, shard=number))
-        self.refuses(ValueError, f"^{self.folder}: 3 shards, and 2 are merged$", lambda: merge([shards], out, shards=2))
-        self.refuses(ValueError, "^<Frozen of 65 str>: 1 shard, and 3 are merged$", lambda: merge([shards, words], out))
-        said = f"^{self.folder}/2.dict: shard 2 of 3; name its folder$"
-        self.refuses(ValueError, said, *(lambda: merge([self.folder / "2.dict"], out, shards=it) for it in (None, 2)))
-        self.refuses(
-            TypeError, "", lambda: merge([words], out, shards="2"), lambda: merge([SymbolTable(WORDS)], out, shards=2),
-            lambda: merge([words], shards=2), lambda: merge([shards]), lambda: merge(shards, out),
-            lambda: merge([words.to_bytes()], out, shards=2), lambda: merge([words], shards),
-            lambda: merge([words], out, shard=0),
+        for other in (b"a", 7):
+            self.refused(TypeError, "", (shards.check_interned, shards.count, shards.index, shards.__contains__), other)
+        one_shard = self.folder / "2.dict"
+        for error, said, tables, how in (
+            *((ValueError, "^the number of shards is from 1 to ", [words], {"shards": it}) for it in (0, -1, 2**32)),
+            *((ValueError, "^the number of the shard is from 0 to 2, not ", [shards], {"shard": it}) for it in (3, -1)),
+            *((ValueError, f"^{one_shard}: shard 2 of 3; name its folder$", [one_shard], {"shards": it}) for it in (None, 2)),
+            (ValueError, f"^{self.folder}: 3 shards, and 2 are merged$", [shards], {"shards": 2}),
+            (ValueError, "^<Frozen of 65 str>: 1 shard, and 3 are merged$", [shards, words], {}),
+            (TypeError, "", [words], {"shards": "2"}), (TypeError, "", [words], {"shard": 0}),
+            *((TypeError, "", [it], {"shards": 2}) for it in (SymbolTable(WORDS), words.to_bytes())), (TypeError, "", shards, {}),
+            (NotADirectoryError, "", [words], {"out": self.folder / "0.dict", "shards": 2}),
+            (FileNotFoundError, "", [words], {"out": self.at / "none/out", "shards": 2}),
+        ):
+            self.refused(error, said, lambda: merge(tables, **{"out": out} | how))
+        self.refused(TypeError, "", (
+            lambda: merge([words], shards=2), lambda: merge([shards]), lambda: merge([words], shards),
             lambda: SymbolTable().absorb(shards), lambda: Frozen(self.folder, kind=int), shards.to_bytes,
-        )
+        ))
         self.assertFalse(out.exists())
-        self.refuses(NotADirectoryError, "", lambda: merge([words], self.folder / "0.dict", shards=2))
-        self.refuses(FileNotFoundError, "", lambda: merge([words], self.at / "none/out", shards=2))
 
-    @unittest.skipUnless(os.access(PROGRAM, os.X_OK), "intaglio_dict isn't built")
+    @if_built
     def test_the_program_writes_the_same_bytes(self):
         def ran(*words):
             return subprocess.run([PROGRAM, *map(str, words)], check=True, capture_output=True).stdout
@@ -292,6 +271,4 @@ class OfShards(unittest.TestCase):
 
 
 if __name__ == "__main__":
-    if not os.access(PROGRAM, os.X_OK):
-        print("left out: intaglio_dict isn't built")
     unittest.main()

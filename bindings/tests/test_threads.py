@@ -42,11 +42,24 @@ def run(*calls):
     return raised
 
 
-class Threads(unittest.TestCase):
+def begun(call):
+    """A thread that has begun with a call."""
+    started = threading.Event()
+    thread = threading.Thread(target=lambda: (started.set(), call()))
+    thread.start()
+    started.wait()
+    return thread
+
+
+class Switching(unittest.TestCase):
+    interval = 1e-6
+
     def setUp(self):
-        interval = sys.getswitchinterval()
-        self.addCleanup(sys.setswitchinterval, interval)
-        sys.setswitchinterval(1e-6)
+        self.addCleanup(sys.setswitchinterval, sys.getswitchinterval())
+        sys.setswitchinterval(self.interval)
+
+
+class Threads(Switching):
 
     def wrong_answers(self, answer):
         """How often `answer(table, number)` isn't the number of its word, over the calls of all threads on one table."""
@@ -62,15 +75,13 @@ class Threads(unittest.TestCase):
         self.assertEqual(run(*(lambda seed=seed: call(seed) for seed in range(THREADS))), [])
         return wrong
 
-    def test_each_thread_gets_the_symbol_of_its_own_string(self):
-        self.assertEqual(self.wrong_answers(lambda table, number: table.intern(WORDS[number])), [])
-
-    def test_each_thread_finds_its_own_string(self):
-        self.assertEqual(self.wrong_answers(lambda table, number: table.check_interned(WORDS[number])), [])
-
-    def test_each_thread_gets_the_string_of_its_own_symbol(self):
+    def test_each_thread_gets_its_own_symbol_and_string(self):
         numbers = {word: number for number, word in enumerate(WORDS)}
-        self.assertEqual(self.wrong_answers(lambda table, number: numbers[table[number]]), [])
+        for answer in (
+            lambda table, number: table.intern(WORDS[number]), lambda table, number: table.check_interned(WORDS[number]),
+            lambda table, number: numbers[table[number]],
+        ):
+            self.assertEqual(self.wrong_answers(answer), [])
 
     def test_a_string_that_another_thread_drops_is_whole_or_absent(self):
         table, seen = SymbolTable(), set()
@@ -103,8 +114,10 @@ class Threads(unittest.TestCase):
         self.assertEqual(sorted(table), sorted(f"single {seed} {step}" for seed in (1, 2) for step in range(5_000)))
 
 
-class FrozenTables(unittest.TestCase):
+class FrozenTables(Switching):
     """A Frozen is read-only, so its batches let other threads run."""
+
+    interval = 1e-4
 
     @classmethod
     def setUpClass(cls):
@@ -123,10 +136,9 @@ class FrozenTables(unittest.TestCase):
     def calls_meanwhile(self, batch):
         """How many calls another thread makes on the table while a batch runs, and how long the batch and the longest wait of
         that thread are."""
-        done, waits, started = threading.Event(), [], threading.Event()
+        done, waits = threading.Event(), []
 
         def look_up():
-            started.set()
             last = time.perf_counter()
             while not done.is_set():
                 assert self.table.check_interned(self.words[len(waits) % DISTINCT]) == len(waits) % DISTINCT
@@ -134,9 +146,7 @@ class FrozenTables(unittest.TestCase):
                 waits.append(now - last)
                 last = now
 
-        thread = threading.Thread(target=look_up)
-        thread.start()
-        started.wait()
+        thread = begun(look_up)
         start = time.perf_counter()
         result = batch()
         length = time.perf_counter() - start
@@ -157,10 +167,6 @@ class FrozenTables(unittest.TestCase):
                 return
             tries.append((calls, length, wait))
         self.fail((name, tries))
-
-    def setUp(self):
-        self.addCleanup(sys.setswitchinterval, sys.getswitchinterval())
-        sys.setswitchinterval(1e-4)
 
     def test_another_threads_call_does_not_wait_for_a_batch(self):
         out = array("I", bytes(4 * LONG))
@@ -216,8 +222,7 @@ class FrozenTables(unittest.TestCase):
                 except RuntimeError as error:
                     seen.append(str(error))
 
-            thread = threading.Thread(target=encode)
-            thread.start()
+            thread = begun(encode)
             time.sleep(0.05)
             change(column)
             thread.join()
@@ -225,15 +230,8 @@ class FrozenTables(unittest.TestCase):
 
     def test_a_table_that_another_thread_reads_is_not_closed(self):
         for _ in range(20):
-            table, started, codes = Frozen.from_bytes(self.table.to_bytes()), threading.Event(), []
-
-            def encode():
-                started.set()
-                codes.append(table.encode_lines(self.lines))
-
-            thread = threading.Thread(target=encode)
-            thread.start()
-            started.wait()
+            table, codes = Frozen.from_bytes(self.table.to_bytes()), []
+            thread = begun(lambda: codes.append(table.encode_lines(self.lines)))
             time.sleep(0.02)
             try:
                 table.close()
