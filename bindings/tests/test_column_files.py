@@ -10,12 +10,10 @@ from array import array
 from collections import Counter
 
 import intaglio
-from cases import NO_CODES, PROGRAM, Case, are_texts, encoded, formats, if_built, table_of
+from cases import NO_CODES, PROGRAM, SLICES, Case, are_texts, encoded, formats, if_built, table_of
 from intaglio import MISSING, Column, Frozen, SymbolTable, merge, renumber
 
 ROUNDS = 200
-# Slices whose next step leads behind what 8 bytes count.
-STEPS = tuple((start, None, step) for start in (0, 1, -1) for step in (2**63 - 1, 1 - 2**63, 2**63, 2**70, -(2**70)))
 # How many shards dictionaries have.
 SHARDS = (1, 2, 3, 40)
 # How many strings dictionaries have, and the width of their codes.
@@ -64,7 +62,7 @@ class OfColumns(Case):
         """A column does what the plain list of its lines does."""
         self.assertEqual((list(column), len(column), list(reversed(column))), (lines, len(lines), lines[::-1]))
         self.assertEqual([column[it] for it in range(-len(lines), len(lines))], lines + lines)
-        for bounds in ((None,), (None, None, -1), (1, -1), (-2, None), (9, 1), (9, 1, -3), (0, 99, 4), *STEPS):
+        for bounds in SLICES:
             self.assertEqual(column[slice(*bounds)], lines[slice(*bounds)])
         for row in (len(lines), -len(lines) - 1, 2**70):
             self.refused(IndexError, f"^no such row: {row}, and the column has {len(lines)}$", lambda: column[row])

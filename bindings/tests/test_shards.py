@@ -11,7 +11,7 @@ from array import array
 
 import intaglio
 from cases import PROGRAM, Case, encoded, formats, if_built
-from intaglio import MISSING, BytesTable, Frozen, SymbolTable, merge, renumber
+from intaglio import BytesTable, Frozen, SymbolTable, merge, renumber
 
 ROUNDS = 60
 WORDS = ["", "a", "b c", "\u00e9", "a string that is longer than the others", *(f"w{it}" for it in range(60))]
@@ -36,49 +36,6 @@ class OfShards(Case):
         dictionary = dictionary_of(strings, count, is_text)
         formats.put(self.folder, dictionary.files(0, 0))
         return [it.decode() for it in dictionary.strings] if is_text else dictionary.strings
-
-    def compare(self, shards, strings):
-        """A dictionary in shards does what the plain list of its strings does."""
-        count, numbers = len(strings), {it: number for number, it in enumerate(strings)}
-        absent = "not there" if shards.is_text else b"not there"
-        self.assertEqual((list(shards), len(shards), list(reversed(shards))), (strings, count, strings[::-1]))
-        self.assertEqual([shards[it] for it in range(-count, count)], strings + strings)
-        self.assertEqual(list(shards.items()), list(enumerate(strings)))
-        for bounds in ((None,), (None, None, -1), (1, -1), (-2, None), (9, 1), (9, 1, -3), (0, 99, 4), (1, None, 2**63 - 1)):
-            self.assertEqual(shards[slice(*bounds)], strings[slice(*bounds)])
-        for symbol in (count, -count - 1, 2**70, MISSING):
-            self.refused(IndexError, f"^no such symbol: {symbol}, and the table has {count} strings$", lambda: shards[symbol])
-            self.assertEqual((shards.get(symbol), shards.get(symbol, 7)), (None, 7))
-        for string in strings:
-            number = numbers[string]
-            self.assertEqual((shards.check_interned(string), shards.index(string), shards.get(number)), (number, number, string))
-            self.assertTrue(string in shards and shards.count(string) == 1)
-        self.assertEqual((shards.check_interned(absent), shards.count(absent), absent in shards), (None, 0, False))
-        self.refused(ValueError, "^.*not there' is not in the table$", shards.index, absent)
-        self.compare_batches(shards, strings, absent)
-
-    def compare_batches(self, shards, strings, absent):
-        asked = [*strings[::-2], absent, *strings[:3]]
-        codes = [strings.index(it) if it in strings else None for it in asked]
-        with_missing = array("I", [MISSING if it is None else it for it in codes])
-        self.assertEqual((shards.find_all(asked), shards.check_all(iter(asked))), (codes, codes))
-        self.assertEqual(shards.encode(asked, missing=MISSING), with_missing)
-        self.assertEqual((shards.encode([None, *asked], missing=7)[0], shards.get_all([])), (7, []))
-        said = f"not there' at position {asked.index(absent)} is not in the table$"
-        self.refused(intaglio.Missing, said, shards.encode, asked)
-        out = array("I", bytes(4 * len(asked)))
-        self.assertEqual((shards.encode_into(asked, out, missing=MISSING), out), (len(asked), with_missing))
-        if strings:
-            self.assertEqual(shards.encode(tuple(strings)), array("I", range(len(strings))))
-        lines = formats.ended(encoded(asked))
-        self.assertEqual(shards.encode_lines(lines, missing=MISSING), with_missing)
-        self.assertEqual(shards.decode(with_missing, missing=None), [None if it == absent else it for it in asked])
-        said = f"^code {len(strings)} at position 0 is no symbol$"
-        self.refused(intaglio.NoSymbol, said, shards.decode, array("I", [len(strings)]))
-        symbols = [it for it in codes if it is not None]
-        self.assertEqual(shards.get_all(symbols), [strings[it] for it in symbols])
-        if strings:
-            self.refused(intaglio.NoSymbol, "^at position 1: no such symbol: -1,", shards.get_all, [0, -1])
 
     def test_folders_of_another_writer_are_read(self):
         for count, is_text in ((1, True), (3, False), (16, True), (200, False)):
