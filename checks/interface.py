@@ -77,24 +77,19 @@ def of_kinds(crate, texts):
     forms, sought = dict(FORM.findall(text)), PACKABLE.findall(text)
     for content, kind in ALIAS.findall(text):
         kind = kinds.get(kind, kind)
-        for owner, signature in [
-            *calls("intaglio_content", generic),
-            *types(generic.read_text(encoding="utf-8")),
-            ("", "impl Spelled for ContentOf"),
-        ]:
+        of_generic = [*calls("intaglio_content", generic), *types(generic.read_text(encoding="utf-8"))]
+        for owner, signature in [*of_generic, ("", "impl Spelled for ContentOf")]:
             if owner not in ("", "ContentOf", "Spelled for ContentOf"):
                 continue
             for part, of in owned[kind].items():
                 signature = signature.replace(f"K::{part}", of)
-            signature = (
-                signature.replace("&'a self", "&self").replace("K::Form", elided(forms[kind])).replace("<K: KindOwned>", "")
-            )
+            signature = signature.replace("&'a self", "&self").replace("K::Form", elided(forms[kind]))
+            signature = signature.replace("<K: KindOwned>", "")
             yield owner.replace("ContentOf", content), signature.replace("ContentOf", content)
-        yield from (
-            (f"From for {content}", f"fn from(text: {of}) -> {content}") for part, of, _ in made if owned[kind][part] == of
-        )
+        froms = [of for part, of, _ in made if owned[kind][part] == of]
+        yield from ((f"From for {content}", f"fn from(text: {of}) -> {content}") for of in froms)
         for value in [content, *(it for of, it in sought if of == kind)]:
-            for owner, signature in calls("intaglio_content", generic):
+            for owner, signature in of_generic:
                 if owner == "Sought for Q":
                     yield f"Sought for {value}", signature.replace("ContentOf<K>", content)
 

@@ -218,9 +218,8 @@ class Sources:
             return False
         text = root.read_text(encoding="utf-8")
         exported = {word for it in re.findall(r"(?ms)^pub use ([^;]+);", text) for word in re.findall(r"\w+", it)}
-        is_in_module = any(
-            re.match(rf"crates/\w+/src/{it}[./]", function.file) for it in re.findall(r"(?m)^pub mod (\w+);", text)
-        )
+        modules = re.findall(r"(?m)^pub mod (\w+);", text)
+        is_in_module = any(re.match(rf"crates/\w+/src/{it}[./]", function.file) for it in modules)
         is_in_root = not function.owner and function.file.endswith("/src/lib.rt")
         return is_in_root or is_in_module or (function.owner or function.name) in exported
 
