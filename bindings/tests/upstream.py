@@ -47,41 +47,23 @@ fn texts() -> Vec<String> {
     texts
 }
 
-impl Values for String {
-    fn values() -> Vec<String> {
-        texts().into_iter().chain(["\\0".to_owned()]).collect()
-    }
+macro_rules! values {
+    ($($kind:ty => $values:expr;)*) => {$(
+        impl Values for $kind {
+            fn values() -> Vec<Self> {
+                $values
+            }
+        }
+    )*};
 }
 
-impl Values for Vec<u8> {
-    fn values() -> Vec<Vec<u8>> {
-        texts().into_iter().map(String::into_bytes).chain([vec![0], vec![255, 0, 128]]).collect()
-    }
-}
-
-impl Values for CString {
-    fn values() -> Vec<CString> {
-        texts().into_iter().map(|text| CString::new(text).unwrap()).collect()
-    }
-}
-
-impl Values for OsString {
-    fn values() -> Vec<OsString> {
-        use std::os::unix::ffi::OsStringExt;
-        Vec::<u8>::values().into_iter().map(OsString::from_vec).collect()
-    }
-}
-
-impl Values for PathBuf {
-    fn values() -> Vec<PathBuf> {
-        texts().into_iter().map(PathBuf::from).collect()
-    }
-}
-
-impl Values for u32 {
-    fn values() -> Vec<u32> {
-        vec![0, 1, 2, 255, 4096, 1 << 31, u32::MAX - 1, u32::MAX]
-    }
+values! {
+    String => texts().into_iter().chain(["\\0".to_owned()]).collect();
+    Vec<u8> => texts().into_iter().map(String::into_bytes).chain([vec![0], vec![255, 0, 128]]).collect();
+    CString => texts().into_iter().map(|text| CString::new(text).unwrap()).collect();
+    OsString => Vec::<u8>::values().into_iter().map(std::os::unix::ffi::OsStringExt::from_vec).collect();
+    PathBuf => texts().into_iter().map(PathBuf::from).collect();
+    u32 => vec![0, 1, 2, 255, 4096, 1 << 31, u32::MAX - 1, u32::MAX];
 }
 
 #[macro_export]
@@ -103,10 +85,7 @@ pub mod vectors {
     }
 
     pub fn byte_symbols() -> impl Iterator<Item = Vec<u8>> {
-        (0..1_000).map(|number| format!("{number:099}").into_bytes()).map(|mut bytes| {
-            bytes.push(255);
-            bytes
-        })
+        (0..1_000).map(|number| [format!("{number:099}").as_bytes(), &[255]].concat())
     }
 
     pub fn byte_symbols_no_nul() -> impl Iterator<Item = Vec<u8>> {
@@ -179,14 +158,11 @@ def main():
     (folder / "tests").mkdir()
     (folder / "Cargo.toml").write_text(MANIFEST.format(crate.resolve()))
     for file, part in unit_tests(upstream):
-        (folder / "tests" / file.removesuffix(".rs").replace("/", "_")).with_suffix(".rs").write_text(
-            f"#![allow(unused)]\n{part}"
-        )
-    docs = [
-        "\n".join(f"/// {line}".rstrip() for line in ["```", *example.splitlines(), "```"]) + f"\npub mod {name} {{}}\n"
-        for name, example in examples(upstream)
-        if not has_hasher(example)
-    ]
+        (folder / "tests" / file.replace("/", "_")).write_text(f"#![allow(unused)]\n{part}")
+    docs = []
+    for name, example in examples(upstream):
+        lines = (f"/// {line}".rstrip() for line in ["```", *example.splitlines(), "```"])
+        docs += [] if has_hasher(example) else ["\n".join(lines) + f"\npub mod {name} {{}}\n"]
     (folder / "src/lib.rs").write_text("\n".join([STAND_INS, *docs]))
     print(left_out(upstream))
 
