@@ -1,6 +1,7 @@
 """What the tests of the Python module share."""
 import importlib
 import os
+import subprocess
 import sys
 import tempfile
 import unittest
@@ -29,6 +30,10 @@ def optional(name):
         return importlib.import_module(name)
     except ImportError:
         return None
+
+
+def by_program(*words, given=None):
+    return subprocess.run([PROGRAM, *map(str, words)], check=True, capture_output=True, input=given).stdout
 
 
 def encoded(strings):

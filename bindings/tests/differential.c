@@ -66,10 +66,7 @@ struct bytes {
     size_t len;
 };
 static struct bytes copy_of(const uint8_t *at, size_t len) {
-    struct bytes made = {NULL, len};
-    if (len == 0 && one_of(2)) return made;
-    made.at = (uint8_t *)block(len);
-    if (len != 0) memcpy(made.at, at, len);
+    struct bytes made = {len == 0 && one_of(2) ? NULL : own_copy(at, len), len};
     return made;
 }
 
@@ -144,12 +141,8 @@ static void add(struct table *t, const uint8_t *at, size_t len) {
     uint8_t key[2 * LONGEST + 2];
     size_t size = key_of(t->kind, at, len, key);
     struct entry *e = &t->entries[t->len++];
-    e->string.at = (uint8_t *)block(len);
-    e->string.len = len;
-    if (len != 0) memcpy(e->string.at, at, len);
-    e->key.at = (uint8_t *)block(size);
-    e->key.len = size;
-    if (size != 0) memcpy(e->key.at, key, size);
+    e->string = (struct bytes){own_copy(at, len), len};
+    e->key = (struct bytes){own_copy(key, size), size};
     e->seen = NULL;
     if (t->capacity < t->len) t->capacity = t->len;
 }

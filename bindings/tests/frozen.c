@@ -25,22 +25,34 @@ static void read_lines(void) {
 
 static size_t start_of(size_t i) { return i == 0 ? 0 : ends[i - 1]; }
 
-/* Each string is at its symbol, and is found there. */
-static void compare(const uint8_t *bytes, size_t len) {
+/* Reads and looks up in bytes, or in what was opened of them. */
+static bool get(const uint8_t *bytes, size_t len, const intaglio_opened *opened, size_t i, intaglio_spelling *out) {
+    return opened ? intaglio_opened_get(opened, (uint32_t)i, out) : intaglio_frozen_get(bytes, len, (uint32_t)i, out);
+}
+
+static bool find(const uint8_t *bytes, size_t len, const intaglio_opened *opened, const uint8_t *string, size_t size, uint32_t *symbol) {
+    return opened ? intaglio_opened_find(opened, string, size, symbol) : intaglio_frozen_find(bytes, len, string, size, symbol);
+}
+
+/* Each string is at its symbol, and is found there, and others aren't. */
+static void compare_strings(const uint8_t *bytes, size_t len, const intaglio_opened *opened) {
     uint32_t symbol = 7;
     intaglio_spelling out = {NULL, 7};
-    WANT(intaglio_frozen_check(bytes, len) == INTAGLIO_DONE);
-    WANT(intaglio_frozen_len(bytes, len) == count);
     for (size_t i = 0; i < count; i++) {
         const uint8_t *string = text + start_of(i);
         size_t size = ends[i] - start_of(i);
-        WANT(intaglio_frozen_get(bytes, len, (uint32_t)i, &out) && is_same(&out, string, size));
+        WANT(get(bytes, len, opened, i, &out) && is_same(&out, string, size));
         WANT(size == 0 || (out.at >= bytes && out.at + size <= bytes + len));
-        WANT(intaglio_frozen_find(bytes, len, string, size, &symbol) && symbol == i);
+        WANT(find(bytes, len, opened, string, size, &symbol) && symbol == i);
     }
     out.len = symbol = 7;
-    WANT(!intaglio_frozen_get(bytes, len, (uint32_t)count, &out) && out.len == 7);
-    WANT(!intaglio_frozen_find(bytes, len, (const uint8_t *)"absent\n", 7, &symbol) && symbol == 7);
+    WANT(!get(bytes, len, opened, count, &out) && !get(bytes, len, opened, UINT32_MAX, &out) && out.len == 7);
+    WANT(!find(bytes, len, opened, (const uint8_t *)"absent\n", 7, &symbol) && symbol == 7);
+}
+
+static void compare(const uint8_t *bytes, size_t len) {
+    WANT(intaglio_frozen_check(bytes, len) == INTAGLIO_DONE && intaglio_frozen_len(bytes, len) == count);
+    compare_strings(bytes, len, NULL);
     WANT(intaglio_frozen_find_all(bytes, len, text, ends[count - 1], ends, count, symbols, count) == INTAGLIO_DONE);
     for (size_t i = 0; i < count; i++) WANT(symbols[i] == i);
     WANT(intaglio_frozen_find_all(bytes, len, text, 0, ends, count, symbols, count - 1) == INTAGLIO_BAD_ENDS);
@@ -51,23 +63,12 @@ static void compare(const uint8_t *bytes, size_t len) {
 /* The same of an opened table, whose header isn't read again: it can be another's. */
 static void compare_opened(const uint8_t *bytes, size_t len) {
     intaglio_opened opened;
-    uint32_t symbol = 7;
-    intaglio_spelling out = {NULL, 7};
     uint8_t *headless = own_copy(bytes, len);
     WANT(intaglio_open(&opened, bytes, len) == INTAGLIO_DONE && intaglio_opened_len(&opened) == count);
     WANT(opened.bytes == bytes && opened.len == len && (opened.sections.kind == 1) == intaglio_frozen_is_text(bytes, len));
     memset(headless, 7, 128);
     opened.bytes = headless;
-    for (size_t i = 0; i < count; i++) {
-        const uint8_t *string = text + start_of(i);
-        size_t size = ends[i] - start_of(i);
-        WANT(intaglio_opened_get(&opened, (uint32_t)i, &out) && is_same(&out, string, size));
-        WANT(size == 0 || (out.at >= headless && out.at + size <= headless + len));
-        WANT(intaglio_opened_find(&opened, string, size, &symbol) && symbol == i);
-    }
-    out.len = symbol = 7;
-    WANT(!intaglio_opened_get(&opened, (uint32_t)count, &out) && !intaglio_opened_get(&opened, UINT32_MAX, &out) && out.len == 7);
-    WANT(!intaglio_opened_find(&opened, (const uint8_t *)"absent\n", 7, &symbol) && symbol == 7);
+    compare_strings(headless, len, &opened);
     WANT(intaglio_open(&opened, bytes, 127) == INTAGLIO_TRUNCATED && opened.bytes == headless && intaglio_opened_len(&opened) == count);
     free(headless);
 }

@@ -4,13 +4,12 @@ import itertools
 import os
 import random
 import stat
-import subprocess
 import unittest
 from array import array
 from collections import Counter
 
 import intaglio
-from cases import NO_CODES, PROGRAM, SLICES, Case, are_texts, encoded, formats, if_built, table_of
+from cases import NO_CODES, SLICES, Case, are_texts, by_program, encoded, formats, if_built, table_of
 from intaglio import MISSING, Column, Frozen, SymbolTable, merge, renumber
 
 ROUNDS = 200
@@ -47,6 +46,12 @@ class OfColumns(Case):
         table_of(strings).freeze(self.folder / "dict")
         return Frozen(self.folder / "dict")
 
+    def made(self, codes):
+        """Three strings, and a column of these codes."""
+        words = self.freeze(texts(3))
+        words.write_column(self.path, array("I", codes))
+        return words
+
     def put(self, strings, count, name="words"):
         """A folder of these strings in so many shards that another writer wrote, and what it wrote."""
         dictionary = formats.dictionary_of(encoded(strings), count, int(are_texts(strings)))
@@ -79,7 +84,7 @@ class OfColumns(Case):
                 else:
                     self.assertEqual(column.index(string, *bounds), wanted)
 
-    def test_columns_of_another_writer_are_read(self):
+    def test_columns_are_those_of_another_writer(self):
         for count, width in WIDTHS:
             strings = texts(count)
             with self.freeze(strings) as words:
@@ -92,16 +97,10 @@ class OfColumns(Case):
                     self.assertEqual((column.widened(), column.codes.readonly), (array("I", codes), True))
                     self.assertEqual(words.decode(column.widened(), missing=None), lines)
                     self.assertIs(column.dictionary, words)
-
-    def test_columns_are_written_as_another_writer_does(self):
-        for count, _ in WIDTHS:
-            with self.freeze(texts(count)) as words:
-                for codes in ([], [count - 1, MISSING, 0], [0] * 100):
+                for codes in (codes, [], [count - 1, MISSING, 0], [0] * 100):
+                    written = self.write(words, codes).read_bytes()
                     words.write_column(self.path, array("I", codes))
-                    written = self.path.read_bytes()
-                    self.write(words, codes)
-                    self.assertEqual(written, self.path.read_bytes())
-                    self.assertEqual(Column(self.path, words).to_bytes(), written)
+                    self.assertEqual((self.path.read_bytes(), Column(self.path, words).to_bytes()), (written, written))
 
     def test_random_columns_are_plain_lists(self):
         for seed in range(ROUNDS):
@@ -137,7 +136,7 @@ class OfColumns(Case):
         self.assertEqual(list(Column(self.path, as_bytes)), [b"s299", None, b"s0"])
 
     def test_the_dictionary_may_be_a_path(self):
-        self.freeze(texts(3)).write_column(self.path, array("I", [2, 0]))
+        self.made([2, 0])
         with Column(self.path, self.folder / "dict") as column:
             self.assertEqual((list(column), column[0:1]), (["s2", "s0"], ["s2"]))
             words = column.dictionary
@@ -146,8 +145,7 @@ class OfColumns(Case):
         self.refused(intaglio.NotFrozen, f"^{self.path}: ", Column, self.path, self.path)
 
     def test_another_dictionary_is_refused_by_both_names(self):
-        words = self.freeze(texts(3))
-        words.write_column(self.path, array("I", [2, 0]))
+        words = self.made([2, 0])
         others = (texts(4), texts(3)[::-1], ["s0", "s1", "s3"], ["s0s1", "", "s2"], [it.encode() for it in texts(3)])
         for strings in others:
             other, path = self.freeze(strings), str(self.folder / "dict")
@@ -187,8 +185,7 @@ class OfColumns(Case):
         self.refused(intaglio.Truncated, "", lambda: Column(self.path, words, trusted=True))
 
     def test_what_cannot_be_written_leaves_the_file(self):
-        words = self.freeze(texts(3))
-        words.write_column(self.path, array("I", [0]))
+        words = self.made([0])
         before = self.path.read_bytes()
         for codes, position in (([0, 3], 1), ([MISSING - 1], 0), ([0, 0, 7, 9], 2)):
             said = f"^code {codes[position]} at position {position} is no symbol$"
@@ -197,8 +194,7 @@ class OfColumns(Case):
         self.assertEqual((self.path.read_bytes(), sorted(os.listdir(self.folder))), (before, ["column", "dict"]))
 
     def test_a_file_is_replaced_at_once(self):
-        words = self.freeze(texts(3))
-        words.write_column(self.path, array("I", [0, 1]))
+        words = self.made([0, 1])
         self.path.chmod(0o640)
         (self.folder / "link").symlink_to(self.path)
         column = Column(self.path, words)
@@ -208,8 +204,7 @@ class OfColumns(Case):
         self.assertTrue((self.folder / "link").is_symlink())
 
     def test_a_closed_column_raises(self):
-        words = self.freeze(texts(3))
-        words.write_column(self.path, array("I", [0, 1, MISSING]))
+        words = self.made([0, 1, MISSING])
         column = Column(self.path, words)
         codes = column.codes
         self.assertEqual(repr(column), "<Column of 3 rows of 3 strings>")
@@ -221,8 +216,7 @@ class OfColumns(Case):
         self.assertEqual(words[0], "s0")
 
     def test_wrong_arguments_raise(self):
-        words = self.freeze(texts(3))
-        words.write_column(self.path, array("I", [0]))
+        words = self.made([0])
         column = Column(self.path, words)
         for wrong in (b"s0", 7):
             self.refused(TypeError, "", (column.rows_of, column.count, column.index, lambda it: it in column), wrong)
@@ -314,19 +308,16 @@ class OfColumns(Case):
 
     @if_built
     def test_the_program_writes_the_same_bytes(self):
-        def ran(*words, given=None):
-            return subprocess.run([PROGRAM, *map(str, words)], check=True, capture_output=True, input=given).stdout
-
         lines = [None if it % 7 == 0 else f"s{it * it % 300}" for it in range(500)]
         given, name = formats.ended(b"absent" if it is None else it.encode() for it in lines), self.folder / "of_program"
         self.freeze(texts(300))
         for path in (self.folder / "dict", *(self.put(texts(300), it, f"{it}")[0] for it in SHARDS)):
-            ran("encode", "--missing", path, "-o", name, given=given)
+            by_program("encode", "--missing", path, "-o", name, given=given)
             with Frozen(path) as words:
                 words.write_column(self.path, words.encode(lines, missing=MISSING))
             self.assertEqual(self.path.read_bytes(), name.read_bytes())
             self.compare(Column(name, path), lines)
-            self.assertEqual(ran("decode", "--missing", "absent", path, self.path), given)
+            self.assertEqual(by_program("decode", "--missing", "absent", path, self.path), given)
 
 
 if __name__ == "__main__":

@@ -5,12 +5,11 @@ import itertools
 import os
 import pickle
 import random
-import subprocess
 import unittest
 from array import array
 
 import intaglio
-from cases import PROGRAM, Case, encoded, formats, if_built
+from cases import Case, by_program, encoded, formats, if_built
 from intaglio import BytesTable, Frozen, SymbolTable, merge, renumber
 
 ROUNDS = 60
@@ -212,19 +211,16 @@ class OfShards(Case):
 
     @if_built
     def test_the_program_writes_the_same_bytes(self):
-        def ran(*words):
-            return subprocess.run([PROGRAM, *map(str, words)], check=True, capture_output=True).stdout
-
         parts = [self.at / f"{it}" for it in range(3)]
         for part, strings in zip(parts, (WORDS[:40], WORDS[20:], [])):
             SymbolTable(strings).freeze(f"{part}.dict")
-            ran("merge", f"{part}.dict", "--shards", 3, "-o", f"{part}.of_program")
+            by_program("merge", f"{part}.dict", "--shards", 3, "-o", f"{part}.of_program")
             merge([f"{part}.dict"], part, shards=3)
             self.assertEqual(formats.files_in(part), formats.files_in(f"{part}.of_program"))
-        ran("merge", *parts, "-o", self.at / "of_program")
+        by_program("merge", *parts, "-o", self.at / "of_program")
         whole, _ = merge(parts, self.folder)
         self.assertEqual(formats.files_in(self.folder), formats.files_in(self.at / "of_program"))
-        self.assertEqual(ran("list", self.folder), formats.ended(encoded(whole)))
+        self.assertEqual(by_program("list", self.folder), formats.ended(encoded(whole)))
 
 
 if __name__ == "__main__":
