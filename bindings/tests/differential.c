@@ -474,39 +474,23 @@ static void move(struct table *t) {
     memset(&t->handle, 0, sizeof t->handle);
     t->handle = *moved;
     free(moved);
+    same_table(t);
 }
+
+static void intern_copied(struct table *t) { intern(t, false); }
+static void intern_static(struct table *t) { intern(t, true); }
+static void get(struct table *t) { same_symbol(t, random_symbol(t)); }
+
+/* The calls, of which some are drawn more often. */
+static void (*const CALLS[])(struct table *) = {
+    intern_copied, intern_copied, intern_copied, intern_static, check_interned, check_interned, get, get,
+    copy, resize, take_back, intern_all, intern_all, check_all, copy_all, move};
 
 static void one_call(struct table *t) {
     snprintf(which, sizeof which, "seed %llu, call %llu, ", (unsigned long long)seed, calls);
-    if (t->len > MOST - BATCH || one_of(400)) {
-        forget(t);
-        return;
-    }
-    if (one_of(300) || (!t->live && one_of(4))) {
-        make(t);
-        return;
-    }
-    switch (below(16)) {
-        case 0:
-        case 1:
-        case 2: intern(t, false); break;
-        case 3: intern(t, true); break;
-        case 4:
-        case 5: check_interned(t); break;
-        case 6:
-        case 7: same_symbol(t, random_symbol(t)); break;
-        case 8: copy(t); break;
-        case 9: resize(t); break;
-        case 10: take_back(t); break;
-        case 11:
-        case 12: intern_all(t); break;
-        case 13: check_all(t); break;
-        case 14: copy_all(t); break;
-        default:
-            move(t);
-            same_table(t);
-            break;
-    }
+    if (t->len > MOST - BATCH || one_of(400)) forget(t);
+    else if (one_of(300) || (!t->live && one_of(4))) make(t);
+    else CALLS[below(sizeof CALLS / sizeof *CALLS)](t);
 }
 
 int main(int argc, char **argv) {
