@@ -61,10 +61,8 @@ class Slurm(Daemons):
         super().__init__(folder, {**os.environ, "PATH": PATH, "SLURM_CONF": f"{folder}/slurm.conf"})
         address = socket.gethostbyname(socket.gethostname())
         self.names = [f"node{number}" for number in range(NODES)]
-        nodes = (
-            f"NodeName={name} NodeHostname=localhost NodeAddr={address} Port={free_port()} CPUs={CPUS} State=UNKNOWN\n"
-            for name in self.names
-        )
+        node = f"NodeHostname=localhost NodeAddr={address} CPUs={CPUS} State=UNKNOWN"
+        nodes = (f"NodeName={name} Port={free_port()} {node}\n" for name in self.names)
         values = {"ADDRESS": address, "PORT": str(free_port()), "USER": pwd.getpwuid(os.getuid()).pw_name, "FOLDER": str(folder)}
         text = re.sub("|".join(values), lambda it: values[it[0]], CONFIGURATION)
         (self.folder / "state").mkdir()
@@ -82,9 +80,8 @@ class Slurm(Daemons):
         self.wait("slurmctld answers", lambda: self.succeeds("scontrol", "ping"))
         for name in self.names:
             self.start(name, "slurmd", "-D", "-N", name)
-        self.wait(
-            "four nodes are idle", lambda: self.asked("sinfo", "--noheader", "--Node", "--format=%t").split() == ["idle"] * NODES
-        )
+        states = ("sinfo", "--noheader", "--Node", "--format=%t")
+        self.wait("four nodes are idle", lambda: self.asked(*states).split() == ["idle"] * NODES)
 
     def __exit__(self, *how):
         """Cancels all jobs, and ends the daemons when their queue is empty."""

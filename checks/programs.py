@@ -4,6 +4,7 @@ import shutil
 import subprocess
 import sys
 import tempfile
+from concurrent.futures import ThreadPoolExecutor
 
 TOP = os.path.realpath(os.path.join(os.path.dirname(os.path.abspath(__file__)), ".."))
 SOURCE = f"{TOP}/checks/refuse.c"
@@ -84,6 +85,12 @@ def check_built(names):
     missing = [it for it in (program(name, build) for name in names for build in BUILDS) if not os.access(it, os.X_OK)]
     if missing:
         sys.exit(f"not built: {' '.join(missing)}")
+
+
+def side_by_side(call, rows):
+    """What a call gives for each row, as many at a time as there are processors."""
+    with ThreadPoolExecutor(os.cpu_count()) as pool:
+        return zip(rows, pool.map(call, rows))
 
 
 def judge(checks, names):
