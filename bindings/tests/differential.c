@@ -253,17 +253,9 @@ static uint32_t code_of(const struct table *t, const uint8_t *at, size_t len) {
     return position(t, at, len) == t->len && t->len == t->limit ? INTAGLIO_FULL : INTAGLIO_DONE;
 }
 
-/* Strings that were interned without a copy: they stay until the end. */
+/* Strings that were interned without a copy: they stay until the end. There is space for one for each call. */
 static struct bytes *statics;
-static size_t statics_len, statics_size;
-static void keep(struct bytes string) {
-    if (statics_len == statics_size) {
-        statics_size = 2 * statics_size + 64;
-        statics = (struct bytes *)realloc(statics, statics_size * sizeof *statics);
-        if (statics == NULL) exit(2);
-    }
-    statics[statics_len++] = string;
-}
+static size_t statics_len;
 
 static void intern(struct table *t, bool is_static) {
     uint8_t made[LONGEST + 2];
@@ -277,7 +269,7 @@ static void intern(struct table *t, bool is_static) {
     same_code(t, code, wanted);
     WANT(symbol == (code == INTAGLIO_DONE ? at : 77));
     if (code == INTAGLIO_DONE && at == t->len) add(t, string.at, string.len);
-    if (is_static) keep(string);
+    if (is_static) statics[statics_len++] = string;
     else free(string.at);
     same_sizes(t, false);
 }
@@ -497,6 +489,7 @@ int main(int argc, char **argv) {
     seed = argc > 1 ? strtoull(argv[1], NULL, 10) : 1;
     unsigned long long most = argc > 2 ? strtoull(argv[2], NULL, 10) : 1000000;
     state = seed;
+    statics = (struct bytes *)block((size_t)most * sizeof *statics);
     WANT(intaglio_version() == INTAGLIO_VERSION);
     for (uint32_t code = 0; code <= INTAGLIO_DAMAGED + 1; code++)
         for (uint32_t other = 0; other < code; other++) WANT(strcmp(intaglio_message(code), intaglio_message(other)) != 0);

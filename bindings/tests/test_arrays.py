@@ -297,7 +297,3 @@ class Columns(Case):
             frames.append(pandas.DataFrame({"path": column}).dropna().drop_duplicates())
         joined = frames[0].merge(frames[1], on="path")
         self.assertEqual(sorted(joined["path"]), sorted({*left} & {*right} - {None}))
-
-
-if __name__ == "__main__":
-    unittest.main()

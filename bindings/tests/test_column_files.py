@@ -1,10 +1,8 @@
-"""Column files from Python: beside plain lists, beside checks/formats.py, which is written from docs/FORMATS.md
-alone, and beside the program, if it is built."""
+"""Column files from Python, beside plain lists, checks/formats.py, and the program, if it is built."""
 import itertools
 import os
 import random
 import stat
-import unittest
 from array import array
 from collections import Counter
 
@@ -21,11 +19,6 @@ WIDTHS = ((1, 1), (255, 1), (256, 2), (65_535, 2), (65_536, 4))
 
 def texts(count):
     return [f"s{it}" for it in range(count)]
-
-
-def if_grown(wanted, found):
-    """What is said in addition of a dictionary with more strings than that of the column."""
-    return f", of {found} strings, not {wanted}: if it grew, freeze the first {wanted} for it" * (found > wanted)
 
 
 def plain_index(lines, string, *bounds):
@@ -149,7 +142,8 @@ class OfColumns(Case):
         others = (texts(4), texts(3)[::-1], ["s0", "s1", "s3"], ["s0s1", "", "s2"], [it.encode() for it in texts(3)])
         for strings in others:
             other, path = self.freeze(strings), str(self.folder / "dict")
-            said = f"^{self.path}: a column of another dictionary than {path}{if_grown(3, len(strings))}$"
+            grown = ", of 4 strings, not 3: if it grew, freeze the first 3 for it" * (len(strings) > 3)
+            said = f"^{self.path}: a column of another dictionary than {path}{grown}$"
             for dictionary, trusted in itertools.product((other, path), (False, True)):
                 error = self.refused(intaglio.OtherDictionary, said, lambda: Column(self.path, dictionary, trusted=trusted))
                 self.assertEqual((error.column, error.dictionary), (str(self.path), path))
@@ -318,7 +312,3 @@ class OfColumns(Case):
             self.assertEqual(self.path.read_bytes(), name.read_bytes())
             self.compare(Column(name, path), lines)
             self.assertEqual(by_program("decode", "--missing", "absent", path, self.path), given)
-
-
-if __name__ == "__main__":
-    unittest.main()

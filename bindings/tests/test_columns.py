@@ -3,7 +3,6 @@ import os
 import pickle
 import random
 import struct
-import unittest
 from array import array
 
 import intaglio
@@ -33,6 +32,8 @@ class Encoding(Case):
             self.assertEqual((words.encode(column), words.encode(column).typecode), (codes, "I"))
             self.assertEqual((words.encode(iter(column)), words.encode(tuple(column))), (codes, codes))
             self.assertEqual(words.decode(codes), column)
+        first, second, third = words.decode(array("I", [11, 10, 11]))
+        self.assertTrue(first is third and first is not second)
 
     def test_the_first_missing_string_is_named_with_its_position(self):
         words, many = frozen_of(WORDS), ["to"] * 1000
@@ -182,10 +183,6 @@ class Encoding(Case):
         self.assertEqual(words.encode(column), codes_in(strings, column))
         self.assertEqual(words.decode(words.encode(column)), column)
 
-    def test_equal_codes_share_their_string(self):
-        first, second, third = frozen_of(["ab", "cd"]).decode(array("I", [1, 0, 1]))
-        self.assertTrue(first is third and first is not second)
-
     def test_damaged_codes_and_maps(self):
         """What other bytes a file of codes has is told as the reader in Python tells it."""
         chance, words, numbers = random.Random(3), frozen_of([str(it) for it in range(40)]), array("I", range(7, 47))
@@ -274,8 +271,7 @@ class Merging(Case):
 
     def test_what_is_not_merged_leaves_the_file(self):
         one, out = self.folder / "one", self.folder / "out"
-        one.write_bytes(b"INTAGLIO")
-        out.write_bytes(b"as it was")
+        formats.put(self.folder, {"one": b"INTAGLIO", "out": b"as it was"})
         for other, error in ((one, intaglio.Truncated), (self.folder / "no", FileNotFoundError), (7.5, TypeError)):
             self.refused(error, "", merge, [frozen_of(["a"]), other], out)
         self.assertEqual((out.read_bytes(), sorted(os.listdir(self.folder))), (b"as it was", ["one", "out"]))
@@ -328,7 +324,3 @@ class Merging(Case):
                     self.assertEqual(again, codes_in(every, lines))
                     self.assertEqual((whole.decode(again), whole.encode(lines)), (lines, again))
                     self.assertEqual(whole.decode(renumber(array("I", range(len(strings))), numbers)), strings)
-
-
-if __name__ == "__main__":
-    unittest.main()

@@ -5,9 +5,9 @@ import os
 import pickle
 import random
 import stat
-import unittest
 from array import array
 from concurrent.futures import ProcessPoolExecutor
+from operator import methodcaller
 
 import intaglio
 from cases import Case, encoded, formats, frozen_bytes
@@ -17,11 +17,6 @@ from intaglio._table import frozen_find_all, thaw
 TEXTS = ["a", "bc", "", "é"]
 BYTES = [b"a", b"\xff", b""]
 PICKLED = tuple(lambda it, by=by: pickle.loads(pickle.dumps(it, by)) for by in range(6))
-
-
-def codes_of(table, strings):
-    """What another process answers."""
-    return list(table.encode(strings))
 
 
 class OfFrozen(Case):
@@ -62,8 +57,10 @@ class OfFrozen(Case):
             kind(map(of, words)).freeze(str(self.path))
             zero = b"\0" if kind is intaglio.CStringTable else of("")
             self.assertEqual(list(Frozen(self.path)), [of(word) + zero for word in words])
-        intaglio.SymbolTable().freeze(self.path)
-        self.assertEqual(len(Frozen(self.path)), 0)
+        for strings, name in (([], b"empty"), (TEXTS, b"\xff"), (TEXTS, b"n" * 255)):
+            path = os.fsencode(self.folder) + b"/" + name
+            intaglio.SymbolTable(strings).freeze(path)
+            self.assertEqual(list(Frozen(path)), strings)
 
     def test_what_cannot_be_frozen_leaves_the_file(self):
         whole, table = self.write(TEXTS).read_bytes(), intaglio.SymbolTable(["a"])
@@ -85,13 +82,6 @@ class OfFrozen(Case):
         self.refused(OSError, "", table.freeze, beside, filename=str(beside))
         self.refused(IsADirectoryError, "", table.freeze, self.folder)
         self.assertEqual((sorted(os.listdir(self.folder)), beside.is_fifo()), (["frozen", "frozen.new", "target"], True))
-
-    def test_files_of_any_name(self):
-        for name in (b"\xff", b"n" * 255):
-            path = os.fsencode(self.folder) + b"/" + name
-            intaglio.SymbolTable(TEXTS).freeze(path)
-            with Frozen(path) as table:
-                self.assertEqual(list(table), TEXTS)
 
     def test_what_is_no_pickle_of_a_table_is_refused(self):
         texts, data, paths = map(frozen_bytes, (TEXTS, BYTES, ["a/b", "a//b"]))
@@ -174,10 +164,7 @@ class OfFrozen(Case):
             self.assertEqual(list(pickle.loads(pickle.dumps(table))), ["a", "b"])
 
     def test_what_a_subclass_has_is_copied(self):
-        class Named(Frozen):
-            pass
-
-        globals()["Named"], Named.__qualname__ = Named, "Named"
+        globals()["Named"] = Named = type("Named", (Frozen,), {"__module__": __name__})
         table = Named(self.write(TEXTS))
         table.name = ["x"]
         for copied, is_shared in ((copy.copy, True), (copy.deepcopy, False), (PICKLED[-1], False)):
@@ -189,7 +176,7 @@ class OfFrozen(Case):
         for method in ("fork", "spawn"):
             with ProcessPoolExecutor(2, multiprocessing.get_context(method)) as pool:
                 for table in tables:
-                    self.assertEqual(list(pool.map(codes_of, [table] * 4, [TEXTS] * 4)), [[0, 1, 2, 3]] * 4)
+                    self.assertEqual([*pool.map(methodcaller("find_all", TEXTS), [table] * 4)], [[0, 1, 2, 3]] * 4)
                 self.assertEqual(list(pool.submit(copy.copy, tables[1]).result()), TEXTS)
 
     def test_damaged_files_are_refused_by_name(self):
@@ -229,8 +216,7 @@ class OfFrozen(Case):
         self.path.write_bytes(frozen_bytes(BYTES)[:-1] + b"\x00")
         with Frozen(self.path, trusted=True) as table:
             self.assertEqual((table[0], table[1], b"\xff" in table, b"a" in table), (b"a", b"\x00", False, True))
-
-    def test_trusted_texts_that_are_damaged_are_not_decoded(self):
+        # Texts that are damaged aren't decoded.
         whole = frozen_bytes(TEXTS)
         self.path.write_bytes(whole[:-1] + b"\xff")
         with Frozen(self.path, trusted=True) as table:
@@ -246,7 +232,3 @@ class OfFrozen(Case):
         with Frozen(self.path, trusted=True) as table:
             self.assertIsNone(table.get(1))
             self.refused(intaglio.NoSymbol, "", (lambda: list(table), lambda: table.decode(array("I", [1]))))
-
-
-if __name__ == "__main__":
-    unittest.main()

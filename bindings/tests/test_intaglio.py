@@ -5,8 +5,6 @@ import inspect
 import pickle
 import pydoc
 import random
-import re
-import unittest
 import weakref
 from array import array
 from collections.abc import Sequence
@@ -38,10 +36,6 @@ class EachKind:
         self.assertEqual(table.get_all([3, 0, 3]), [of("longer than the rest"), of("x"), of("longer than the rest")])
         self.assertEqual((table.intern_all([]), table.check_all([]), table.get_all([])), ([], [], []))
         self.refused(intaglio.NoSymbol, "", table.get_all, [0, 4])
-
-    def test_many_strings_are_copied_in_parts(self, kind, of):
-        words = [of(f"word {number}" * (number % 9)) for number in range(10_000)]
-        self.assertEqual(list(kind(words)), list(dict.fromkeys(words)))
 
     def test_a_full_table_refuses_what_is_new(self, kind, of):
         table = kind([of("a")], limit=2)
@@ -76,6 +70,7 @@ class EachKind:
         self.refused(intaglio.TooLarge, r"^a number of strings is from 0 to 2\*\*32, not -1$", table.shrink_to, -1)
         for sizes in ({"limit": 0}, {"limit": 2**32 + 1}, {"capacity": 2**32 + 1}, {"capacity": -1}):
             self.refused(intaglio.TooLarge, "", lambda: kind(**sizes))
+        self.refused(TypeError, "", lambda: kind(capacity=1, limit=1))
 
     def test_numbers_that_python_does_not_write_in_digits(self, kind, of):
         table, number, said = kind([of("a")]), 10**5000, "a number of thousands of digits"
@@ -91,6 +86,7 @@ class EachKind:
         self.assertEqual((len(table), of("a") in table, list(table)), (0, False, []))
         self.refused(intaglio.NoTable, "", (table.intern_all, table.check_all), [of("a")])
         self.refused(intaglio.NoTable, "", table.intern, of("a"))
+        self.refused(intaglio.NoTable, "", pickle.dumps, table)
 
     def test_a_copy_has_the_strings_at_their_symbols_and_is_another_table(self, kind, of):
         strings = [of(text) for text in ("b", "a", "é", "", "longer than the rest")]
@@ -107,6 +103,7 @@ class EachKind:
             gc.collect()
             self.assertEqual(other[0], of("b"))
         self.assertEqual(list(pickle.loads(pickle.dumps(kind()))), [])
+        self.assertEqual(pickle.dumps(kind([of("a"), of("b")])), pickle.dumps(kind([of("a"), of("b"), of("a")], keys=(1, 2))))
 
     def test_a_copy_keeps_the_limit_and_what_a_subclass_has(self, kind, of):
         other = copy.copy(kind([of("a")], limit=2))
@@ -116,14 +113,6 @@ class EachKind:
         table.name = "x"
         other = copy.copy(table)
         self.assertEqual((type(other), list(other), other.name), (type(table), [of("a")], "x"))
-
-    def test_equal_tables_have_equal_pickles(self, kind, of):
-        self.assertEqual(pickle.dumps(kind([of("a"), of("b")])), pickle.dumps(kind([of("a"), of("b"), of("a")], keys=(1, 2))))
-
-    def test_a_closed_table_is_not_copied(self, kind, of):
-        table = kind()
-        table.close()
-        self.refused(intaglio.NoTable, "", pickle.dumps, table)
 
     def test_symbols_that_are_none(self, kind, of):
         table = kind([of("a")])
@@ -231,7 +220,9 @@ class EachKind:
         self.refused(ZeroDivisionError, "", table.intern_all, (of("new") if number < 3 else 1 // 0 for number in range(5)))
         self.assertEqual(list(table), [of("a")])
 
-    def test_long_strings(self, kind, of):
+    def test_many_and_long_strings(self, kind, of):
+        words = [of(f"word {number}" * (number % 9)) for number in range(10_000)]
+        self.assertEqual(list(kind(words)), list(dict.fromkeys(words)))
         strings = [of("é" * size) for size in (0, 1, 100, 127, 128, 129, 1_000, 100_000)]
         table = kind(strings)
         self.assertEqual((list(table), [*map(table.get, range(8))], table.get_all(range(8))), (strings, strings, strings))
@@ -285,12 +276,8 @@ class OneKind(Case):
         self.refused(intaglio.InnerZero, "", calls, [b"x", b"y", b"a\0b"], position=2)
         self.assertEqual(list(table), [b"a", b""])
 
-    def test_bytes_may_have_any(self):
-        table = BytesTable([b"\xff\0", bytearray(b"\xff\0")])
-        self.assertEqual(list(table), [b"\xff\0"])
-        self.refused(TypeError, "", table.intern, "a")
-
-    def test_paths_are_equal_by_their_components(self):
+    def test_which_strings_are_equal(self):
+        self.assertEqual(list(BytesTable([b"\xff\0", bytearray(b"\xff\0")])), [b"\xff\0"])
         table = PathTable(["a//b"])
         self.assertEqual((table.intern("a/./b"), table.intern(PurePath("a/b")), table[0]), (0, 0, "a//b"))
 
@@ -321,10 +308,8 @@ class OneKind(Case):
     def test_the_base_is_of_no_kind(self):
         self.refused(TypeError, "", intaglio.Table)
         self.assertEqual(intaglio.Table[str, str].__origin__, intaglio.Table)
-
-    def test_errors_say_what_they_are(self):
         self.refused(intaglio.NoSymbol, "^no such symbol: 0, and the table has 0 strings$", lambda: SymbolTable()[0])
-        self.assertRegex(intaglio.__version__, re.compile(r"^\d+\.\d+\.\d+$"))
+        self.assertRegex(intaglio.__version__, r"^\d+\.\d+\.\d+$")
 
     def test_constructors_show_their_arguments(self):
         for kind in (intaglio.Table, *TEXTS, *DATA):
@@ -342,10 +327,3 @@ class OneKind(Case):
         names = "encode encode_into encode_lines decode get get_all check_interned check_all index count items close"
         for kind in (SymbolTable, intaglio.Frozen):
             self.assertEqual([it for it in names.split() if not callable(getattr(kind, it, None))], [])
-
-    def test_either_a_capacity_or_a_limit(self):
-        self.refused(TypeError, "", lambda: SymbolTable(capacity=1, limit=1))
-
-
-if __name__ == "__main__":
-    unittest.main()

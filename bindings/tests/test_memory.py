@@ -1,6 +1,5 @@
 """The Python module with each allocation of Python's refused in turn: a call then raises MemoryError, or does as it does
-otherwise, and leaves the strings. The library's own allocations are refused in bindings/tests/refused.c. Left out where Python
-has no _testcapi."""
+otherwise, and leaves the strings. (refused.c refuses those of the library.) Left out where Python has no _testcapi."""
 import sys
 import types
 import unittest
@@ -98,7 +97,3 @@ class Memory(Case):
             self.assertEqual([it for it in results if it not in OUT_OF_MEMORY and it != wanted], [], number)
             self.assertIn(wanted, results, number)
             self.assertEqual((list(table), list(frozen), list(shards)), (words, words, in_shards))
-
-
-if __name__ == "__main__":
-    unittest.main()

@@ -1,5 +1,4 @@
-"""Odd calls from Python, a row for each: what each raises says what is wrong, where, and what to do. With numpy and pandas, if
-they are there."""
+"""Odd calls from Python: what each raises says what is wrong, where, and what to do. With numpy and pandas, if they are there."""
 import copy
 import pickle
 import unittest
@@ -26,10 +25,6 @@ class OddCalls(Case):
         self.shards, _ = merge([self.words], self.folder / "shards", shards=2)
         self.words.write_column(self.folder / "column", CODES)
         self.column = Column(self.folder / "column", self.folder / "dict")
-
-    def closed(self, table):
-        table.close()
-        return table
 
     def test_a_single_string_is_no_list(self):
         out, data = array("I", bytes(16)), BytesTable([b"fig"])
@@ -99,7 +94,9 @@ class OddCalls(Case):
         }
         for name, of_kind in calls.items():
             for call in (*of_kind, copy.copy, copy.deepcopy):
-                it = self.closed(self.closed(opened[name]()))
+                it = opened[name]()
+                it.close()
+                it.close()
                 self.refused(ValueError, f"^the {type(it).__name__} was closed$", call, it)
                 self.assertEqual(repr(it), f"<{type(it).__name__}, closed>")
 
@@ -164,7 +161,3 @@ class OddCalls(Case):
                 self.assertEqual((series.tolist(), series.dtype), (lines, object))
             self.assertEqual(column.counts(), Counter(lines))
         self.assertEqual(numpy.asarray(column, str).tolist(), [])
-
-
-if __name__ == "__main__":
-    unittest.main()

@@ -1,11 +1,9 @@
-"""Dictionaries in shards from Python: beside plain lists, beside checks/formats.py, which is written from docs/FORMATS.md
-alone, and beside the program, if it is built."""
+"""Dictionaries in shards from Python, beside plain lists, checks/formats.py, and the program, if it is built."""
 import copy
 import itertools
 import os
 import pickle
 import random
-import unittest
 from array import array
 
 import intaglio
@@ -156,10 +154,7 @@ class OfShards(Case):
         self.assertEqual((formats.files_in(self.folder), path.read_bytes()), before)
 
     def test_copies_and_pickles(self):
-        class Named(Frozen):
-            pass
-
-        strings = self.put(WORDS, 3)
+        Named, strings = type("Named", (Frozen,), {}), self.put(WORDS, 3)
         for trusted, kind in itertools.product((False, True), (None, bytes)):
             shards = Named(self.folder, trusted=trusted, kind=kind)
             shards.name = ["words"]
@@ -221,7 +216,3 @@ class OfShards(Case):
         whole, _ = merge(parts, self.folder)
         self.assertEqual(formats.files_in(self.folder), formats.files_in(self.at / "of_program"))
         self.assertEqual(by_program("list", self.folder), formats.ended(encoded(whole)))
-
-
-if __name__ == "__main__":
-    unittest.main()

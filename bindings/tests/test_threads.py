@@ -1,14 +1,13 @@
 """The Python module with several threads on one table. They change places as often as the interpreter can, so that each call is
-likely to be interrupted wherever it can be.
-
-checks/bindings sets MALLOC_MMAP_THRESHOLD_=65536: the memory of a large string that is dropped then leaves the process, so that
-reading it afterwards is a crash."""
+likely to be interrupted wherever it can be. checks/bindings sets MALLOC_MMAP_THRESHOLD_=65536: the memory of a large string that
+is dropped then leaves the process, so that reading it afterwards is a crash."""
 import sys
 import tempfile
 import threading
 import time
 import unittest
 from array import array
+from concurrent.futures import ThreadPoolExecutor
 
 import intaglio
 from intaglio import MISSING, Frozen, SymbolTable, merge, renumber
@@ -26,20 +25,9 @@ TRIES = 9
 
 def run(*calls):
     """Runs each in a thread of its own, and returns what they raised."""
-    raised = []
-
-    def guarded(call):
-        try:
-            call()
-        except BaseException as error:
-            raised.append(error)
-
-    threads = [threading.Thread(target=guarded, args=(call,)) for call in calls]
-    for thread in threads:
-        thread.start()
-    for thread in threads:
-        thread.join()
-    return raised
+    with ThreadPoolExecutor(len(calls)) as pool:
+        done = [pool.submit(call) for call in calls]
+    return [it.exception() for it in done if it.exception()]
 
 
 def begun(call):
@@ -242,7 +230,3 @@ class FrozenTables(Switching):
                 return
             thread.join()
         self.fail("no batch was met")
-
-
-if __name__ == "__main__":
-    unittest.main()

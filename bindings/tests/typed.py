@@ -16,22 +16,21 @@ def first(strings: Sequence[str]) -> str:
     return strings[0]
 
 
+buffer = array("I", bytes(8))
 with SymbolTable(["a", "b"], capacity=2, keys=(1, 2)) as table:
-    buffer = array("I", bytes(8))
-    assert_type(table.intern("a"), int)
+    for number in (table.intern("a"), table.intern_into(["a", "b"], buffer), table.check_into(["b", "z"], buffer)):
+        assert_type(number, int)
+    for codes in (table.intern_lines(b"a\nb"), table.encode(["a", None, float("nan")], missing=MISSING)):
+        assert_type(codes, array[int])
     assert_type(table.intern_all(text for text in "ab"), list[int])
-    assert_type(table.intern_into(["a", "b"], buffer), int)
-    assert_type(table.intern_lines(b"a\nb"), array[int])
     assert_type(table.check_interned("b"), int | None)
     assert_type(table.check_all(["a", "c"]), list[int | None])
-    assert_type(table.check_into(["b", "z"], buffer), int)
     assert_type(table[-1], str)
-    assert_type(table[0:1], list[str])
+    for part in (table[0:1], table.decode(buffer)):
+        assert_type(part, list[str])
     assert_type(table.get(0), str | None)
     assert_type(table.get(7, 0), str | int)
     assert_type(list(table.items()), list[tuple[int, str]])
-    assert_type(table.encode(["a", None, float("nan")], missing=MISSING), array[int])
-    assert_type(table.decode(buffer), list[str])
     assert_type(table.decode(buffer, missing=None), list[str | None])
     assert_type(table.freeze(keys=(1, 2)), bytes)
     table.freeze(Path("frozen"), keys=(1, 2))
@@ -41,22 +40,22 @@ assert_type(BytesTable([b"a", bytearray(b"b"), memoryview(b"c")])[2], bytes)
 
 frozen = Frozen("frozen", kind=str)
 told: Frozen[str] = Frozen(Path("frozen"))
-assert_type(Frozen.from_bytes(b"", trusted=True, kind=str)[0], str)
 assert_type(list(Frozen("frozen", kind=bytes)), list[bytes])
 of_any_kind: bytes | str = Frozen("frozen")[0]
 assert_type(copy(frozen), Frozen[str])
 assert_type(frozen.find_all(["b", "c"]), list[int | None])
-assert_type(frozen[-1], str)
-assert_type(frozen.encode(["b", "x"], missing=MISSING), array[int])
-assert_type(frozen.encode_into(iter(["b", "a"]), buffer), int)
-assert_type(frozen.encode_lines(memoryview(b"b\na")), array[int])
-assert_type(frozen.decode(buffer), list[str])
-assert_type(frozen.decode(buffer, missing=None), list[str | None])
-assert_type(frozen.get_all([1, 0]), list[str])
-assert_type(SymbolTable().absorb(frozen), array[int])
+for string in (frozen[-1], Frozen.from_bytes(b"", trusted=True, kind=str)[0]):
+    assert_type(string, str)
 merged, maps = merge([Path("frozen"), frozen], "merged", keys=(1, 2))
-assert_type(renumber(buffer, maps[1]), array[int])
-assert_type(renumber(buffer, maps[1], out=buffer), array[int])
+for codes in (
+    frozen.encode(["b", "x"], missing=MISSING), frozen.encode_lines(memoryview(b"b\na")), SymbolTable().absorb(frozen),
+    renumber(buffer, maps[1]), renumber(buffer, maps[1], out=buffer),
+):
+    assert_type(codes, array[int])
+assert_type(frozen.encode_into(iter(["b", "a"]), buffer), int)
+for part in (frozen.decode(buffer), frozen.get_all([1, 0])):
+    assert_type(part, list[str])
+assert_type(frozen.decode(buffer, missing=None), list[str | None])
 assert_type(merged.to_bytes(), bytes)
 frozen.write_column(Path("column"), buffer)
 first(frozen)
@@ -65,12 +64,10 @@ with Column(Path("column"), frozen, trusted=True) as column:
     strings: Sequence[str | None] = column
     words: Frozen[str] | None = column.dictionary
     assert_type(column.source and column.source.shard, int | None)
-    assert_type(column[0], str | None)
-    assert_type(column[1:], list[str | None])
+    assert_type((column[0], column[1:]), tuple[str | None, list[str | None]])
     assert_type(column.rows_of("b"), array[int])
     assert_type(column.counts(), Counter[str | None])
-    assert_type(column.codes, memoryview)
-    assert_type(column.widened()[2], int)
+    assert_type((column.codes, column.widened()[2]), tuple[memoryview, int])
 
 shards, new_maps = merge([frozen, Path("frozen")], "shards", shards=2, keys=None)
 assert_type((shards.shards, shards.identity), tuple[int, str])

@@ -2,10 +2,9 @@
 
     upstream.py UPSTREAM FOLDER CRATE
 
-UPSTREAM is the folder of the Rust crate's sources, FOLDER is written, CRATE is the folder of `intaglio_proved`. The examples are
-those of the documentation and of the README. Left out are the tests of private items, which `intaglio_proved` hasn't, and tests
-and examples with a hasher, since the library has its own: a line says how many. Byte strings are those of `intaglio_proved::bstr`
-in place of the crate `bstr`'s. Properties are tried on fixed values, as quickcheck isn't there.
+UPSTREAM is the folder of the Rust crate's sources, FOLDER is written, CRATE is the folder of `intaglio_proved`. Left out are the
+tests of private items, which that hasn't, and tests and examples with a hasher, since the library has its own: a line says how
+many. Byte strings are those of `intaglio_proved::bstr`. Properties are tried on fixed values, as quickcheck isn't there.
 """
 import re
 import sys

@@ -10,20 +10,16 @@ import sys
 import intaglio
 
 KINDS = {
-    "text": (intaglio.SymbolTable, bytes.decode, str.encode),
-    "bytes": (intaglio.BytesTable, bytes, bytes),
-    "cstr": (intaglio.CStringTable, bytes, bytes),
-    "path": (intaglio.PathTable, bytes.decode, str.encode),
-    "osstr": (intaglio.OsStringTable, bytes.decode, str.encode),
-    "bstr": (intaglio.ByteStringTable, bytes, bytes),
+    "text": intaglio.SymbolTable, "path": intaglio.PathTable, "osstr": intaglio.OsStringTable,
+    "bytes": intaglio.BytesTable, "cstr": intaglio.CStringTable, "bstr": intaglio.ByteStringTable,
 }
 
 
 def main() -> None:
-    kind, decode, encode = KINDS[sys.argv[1]]
-    given = sys.stdin.buffer.read()
-    lines = [decode(line) for line in given.removesuffix(b"\n").split(b"\n")]
-    with kind() as table:
+    is_text = sys.argv[1] in ("text", "path", "osstr")
+    given = sys.stdin.buffer.read().removesuffix(b"\n").split(b"\n")
+    lines = [line.decode() if is_text else line for line in given]
+    with KINDS[sys.argv[1]]() as table:
         if sys.argv[2:] == ["each"]:
             symbols = [table.intern(line) for line in lines]
             assert [table.check_interned(line) for line in lines] == symbols
@@ -35,7 +31,7 @@ def main() -> None:
     out = sys.stdout.buffer
     out.writelines(b"%d\n" % symbol for symbol in symbols)
     out.write(b"\n")
-    out.writelines(encode(content) + b"\n" for content in contents)
+    out.writelines((content.encode() if is_text else content) + b"\n" for content in contents)
 
 
 main()
