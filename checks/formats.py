@@ -1,21 +1,14 @@
 """Readers and writers of all files: dictionaries, which are frozen tables or folders of these, columns, of which maps are some,
 and plain codes. They are written from docs/FORMATS.md alone: nothing of the library is used.
-
-    checks/formats.py FILE..      prints what is wrong with each file that is no frozen table, or begins as a column and is none
 """
 
-import array
 import functools
 import itertools
 import os
 import struct
-import sys
 from itertools import pairwise
 from pathlib import Path
 from typing import NamedTuple
-
-sys.dont_write_bytecode = True
-import arguments
 
 BYTES, TEXT = 0, 1
 KINDS = ("bytes", "text")
@@ -347,9 +340,8 @@ def read_source(data):
 
 def widened(data, width):
     """The codes behind the header, of four bytes."""
-    codes, greatest = array.array(CODES[width], data[COLUMN_HEADER.size :]), 2 ** (8 * width) - 1
-    if sys.byteorder == "big":
-        codes.byteswap()
+    count, greatest = (len(data) - COLUMN_HEADER.size) // width, 2 ** (8 * width) - 1
+    codes = struct.unpack_from(f"<{count}{CODES[width]}", data, COLUMN_HEADER.size)
     return [MISSING if it == greatest else it for it in codes]
 
 
@@ -407,7 +399,7 @@ def unpacked(data):
     """The plain codes in a file."""
     if len(data) % 4:
         raise Damaged(len(data) // 4 + 1, "is cut short")
-    return [code for (code,) in struct.iter_unpack("<I", data)]
+    return [*struct.unpack(f"<{len(data) // 4}I", data)]
 
 
 def lines_of(data):
@@ -441,13 +433,6 @@ def renumbered(numbers, codes):
         if code >= len(numbers) and code != MISSING:
             raise Damaged(place, f"is {code}, which isn't in the map")
     return [code if code == MISSING else numbers[code] for code in codes]
-
-
-def merged(dictionaries):
-    """The distinct strings of several lists in the order of their first occurrences, and a map for each list."""
-    symbols: dict[bytes, int] = {}
-    maps = [[symbols.setdefault(it, len(symbols)) for it in strings] for strings in dictionaries]
-    return [*symbols], maps
 
 
 # Dictionaries of one shard or several, and maps.
@@ -538,7 +523,8 @@ def dictionary_of(strings, count=1, kind=BYTES):
 
 def merge_of(parts, count=1):
     """The dictionary to which parts in shards are merged shard by shard, or parts of one shard each in so many shards."""
-    kind, shards = min(it.kind for it in parts), [merged(each)[0] for each in zip(*(it.shards for it in parts))]
+    kind = min(it.kind for it in parts)
+    shards = [[*dict.fromkeys(itertools.chain(*each))] for each in zip(*(it.shards for it in parts))]
     if len(shards) == 1:
         return dictionary_of(shards[0], count, kind)
     return Dictionary(kind, set_of_merge(len(shards), [it.set for it in parts]), shards)
@@ -567,15 +553,11 @@ def renumbered_column(data, maps):
     return column(into._replace(strings=count), codes, read_source(data), shards_of_column(maps[0]))
 
 
-def set_in(header):
-    """What all shards of a dictionary say alike."""
-    return header.kind, header.set, header.shards
-
-
 def shard_at(path, number, first=None):
     """The table of a shard in a folder, by its number. The first one says what the others must."""
     table = Frozen(Path(path, f"{number}.dict").read_bytes())
-    if table.header.shard != number or first is not None and set_in(table.header) != set_in(first.header):
+    alike = {(it.header.kind, it.header.set, it.header.shards) for it in (table, first) if it is not None}
+    if table.header.shard != number or len(alike) > 1:
         raise Damaged(number, "is another shard, or of another set")
     if any(shard_of(table.header.shards, it) != number for it in table):
         raise Damaged(number, "has a string of another shard")
@@ -616,18 +598,3 @@ def random_parts(chance, size, kind=BYTES, count=10):
     places = [chance.randrange(size + 1) for _ in range(7)]
     cuts = [0, *sorted(chance.choices(places, k=count - 1)), size]
     return [chance.choices(words, k=end - start) for start, end in pairwise(cuts)]
-
-
-def main():
-    parser, status = arguments.parser(__doc__), 0
-    parser.add_argument("files", metavar="FILE", nargs="+")
-    for name in parser.parse_args().files:
-        data = Path(name).read_bytes()
-        if faults := (column_faults if begins_as_column(data) else table_faults)(data):
-            print(f"{name}: {', '.join(faults)}")
-            status = 1
-    sys.exit(status)
-
-
-if __name__ == "__main__":
-    main()

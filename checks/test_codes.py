@@ -56,9 +56,6 @@ def test_plain_codes(tool, size, kind, count):
         assert tool("decode", "--raw", "--missing", "none", table, given=packed(numbers)) == again
 
 
-# Missing lines, and wrong codes.
-
-
 LONG = [b"x" * count for count in (200, 201, 65_536, 200_000)] + [b"\xc3\xa9" * 100, b"\xc3\xa9" * 101]
 ODD = [b"\xff'\"\\", b"a\tb", b"\0", "é".encode(), b"a" * 70_000 + b"\n" + b"b" * 70_000]
 
@@ -97,9 +94,6 @@ def test_wrong_codes(tool, command):
     for cut, count in itertools.product((1, 2, 3), (0, 1, 70_000)):
         told = said(1, f"standard input: code number {count + 1} is cut short")
         assert tool(*command.split(), given=packed([1] * count) + bytes(cut))[::2] == told[::2]
-
-
-# The worked example.
 
 
 def test_example(tool):

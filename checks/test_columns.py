@@ -43,10 +43,6 @@ def with_text(lines, text):
     return ended(text if it is None else it for it in lines)
 
 
-def some_missing(chance, lines):
-    return [it if chance.random() < 0.9 else None for it in lines]
-
-
 def counted(lines, strings, by_symbol):
     """What `count` writes: of missing lines, which are nothing, the number alone."""
     counts = Counter(lines)
@@ -117,7 +113,7 @@ def check_lines(tool, chance, lines, kind, count):
     assert tool("encode", name, "-o", "other", "lines") == DONE and read("other") == wanted
     assert tool("encode", f"{name}-again", given=ended(lines)) == wrote(wanted)
     check_column(tool, chance, name, whole, lines)
-    some = some_missing(chance, lines)
+    some = [it if chance.random() < 0.9 else None for it in lines]
     data, wanted = with_text(some, b"none of them"), whole.column(some)
     assert tool("encode", "--missing", name, given=data) == wrote(wanted)
     assert tool("encode", "--missing", name, "-o", "column", given=data) == DONE and read("column") == wanted
@@ -163,11 +159,7 @@ def test_any_parts(tool):
     each()
 
 
-# Columns with another dictionary, and wrong arguments.
-
-
 FEW = [b"a", b"bb", b""]
-
 OTHERS = {
     "another string": freeze([b"a", b"bc", b""]), "another order": freeze([b"bb", b"a", b""]), "another kind": freeze(FEW, TEXT),
     "a string more": freeze([*FEW, b"d"]), "a string less": freeze(FEW[:2]), "other ends": freeze([b"ab", b"b", b""]),

@@ -189,9 +189,6 @@ def test_damaged_columns(tool, request, turn):
     each()
 
 
-# Plain codes.
-
-
 STRINGS = [b"%d" % it for it in range(200)]
 REPEATED = st.sampled_from((1, 400, 800))
 

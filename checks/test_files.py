@@ -34,8 +34,8 @@ class Writer(NamedTuple):
     """How tables are frozen to a path: by the program, or as the Python module does."""
 
     command: list[str]
-    # What is given of strings, the option by which something is said meanwhile, what messages begin with, and which file they
-    # name if the new one can't be made or written.
+    # What is given of strings, the option by which something is said meanwhile, what messages begin with, and the file that they
+    # name if the new one can't be written.
     given: Callable
     noise: str
     start: str
@@ -92,21 +92,22 @@ def as_link(path):
     os.symlink("target", path)
 
 
-PLANTED: dict[str, Callable] = {"a file": as_file, "a link": as_link, "a folder": os.mkdir, "a pipe": os.mkfifo}
+# What is planted, and what says that it is as it was.
+PLANTED: dict[str, tuple[Callable, Callable]] = {
+    "a file": (as_file, lambda it: not it.is_symlink() and read(it) == WAS),
+    "a link": (as_link, lambda it: it.is_symlink() and read(it) == WAS),
+    "a folder": (os.mkdir, lambda it: it.is_dir() and not os.listdir(it)), "a pipe": (os.mkfifo, Path.is_fifo),
+}
 
 
 def is_planted(path, what):
-    """Whether what was planted is as it was."""
-    mode = os.lstat(path).st_mode
-    if what in ("a file", "a link"):
-        return (stat.S_ISREG if what == "a file" else stat.S_ISLNK)(mode) and read(path) == WAS
-    return stat.S_ISFIFO(mode) if what == "a pipe" else stat.S_ISDIR(mode) and not os.listdir(path)
+    return PLANTED[what][1](Path(path))
 
 
 @pytest.mark.parametrize("what", PLANTED)
 def test_files_of_others(writer, what):
     """What is at the name of the path with .new is somebody else's: it is neither written to, nor removed, nor waited for."""
-    PLANTED[what]("dict.new")
+    PLANTED[what][0]("dict.new")
     assert frozen_to(writer, "dict") == DONE and has("dict") and is_planted("dict.new", what)
 
 
@@ -115,7 +116,7 @@ def test_drawn_names_that_are_taken(program, library):
     settings = {"LD_PRELOAD": library, "SAME_RANDOM": "1"}
     taken = {what: f".intaglio.{number:016x}.new" for number, what in enumerate(PLANTED)}
     for what, name in taken.items():
-        PLANTED[what](name)
+        PLANTED[what][0](name)
     assert frozen_to(program, "dict", **settings) == DONE and has("dict")
     assert all(is_planted(name, what) for what, name in taken.items())
     os.remove("dict")
@@ -129,17 +130,16 @@ def test_drawn_names_that_are_taken(program, library):
 # The file itself.
 
 
-@pytest.mark.parametrize("mode", [0o600, 0o640, 0o444, 0o755])
-def test_modes_are_kept(writer, mode):
-    as_file("dict")
-    os.chmod("dict", mode)
-    assert frozen_to(writer, "dict") == DONE and has("dict") and mode_of("dict") == mode
-
-
-@pytest.mark.parametrize("mask", [0o022, 0o077])
-def test_masks(writer, mask):
-    assert frozen_to(writer, "dict", before=lambda: os.umask(mask)) == DONE and has("dict")
-    assert mode_of("dict") == 0o666 & ~mask
+def test_modes(writer):
+    """That of a new file is by the mask, and that of an old one stays."""
+    for mask in (0o022, 0o077):
+        assert frozen_to(writer, f"dict{mask}", before=lambda: os.umask(mask)) == DONE and has(f"dict{mask}")
+        assert mode_of(f"dict{mask}") == 0o666 & ~mask
+    for mode in (0o600, 0o640, 0o444, 0o755):
+        as_file("dict")
+        os.chmod("dict", mode)
+        assert frozen_to(writer, "dict") == DONE and has("dict") and mode_of("dict") == mode
+        os.remove("dict")
 
 
 def limit_files(action):

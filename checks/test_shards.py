@@ -14,7 +14,7 @@ from typing import Any
 import pytest
 from formats import (
     CHECKSUM, KINDS, TEXT, Damaged, Dictionary, column, dictionary_of, ended, files_in, freeze, map_of, maps_of, merge_of, placed,
-    put, random_parts, read_column, read_dictionary, read_source, renumbered_column, shards_of_column,
+    put, random_parts, read_column, read_dictionary, read_source, shards_of_column,
 )
 from programs import TOP
 from test_tables import check_commands
@@ -263,7 +263,7 @@ def with_fewer_rows(data):
     return column(into, codes[:-1], read_source(data), shards_of_column(data))
 
 
-# What becomes of the map of shard 1 of the first part, and what is said. {} is the name of a map, up to its number.
+# What becomes of files, or of the map of shard 1 of the first part, and what is said. {} is the name of a map, up to its number.
 CHANGED_MAPS = [
     (lambda *_: None, "{}1.map: no such file; the dictionary of 0.column wasn't merged"),
     (lambda *_: b"x" * 200, "{}1.map: not a column.*"),
@@ -274,9 +274,11 @@ CHANGED_MAPS = [
     (lambda one, two, whole: one.column(one.strings), f"{{}}1.map: {ELSEWHERE}"),
     (lambda one, two, _: map_of(one, merge_of([two, one]), 1), "{}1.map: a map of another merge than {}0.map"),
     (lambda one, two, whole: map_of(one, dictionary_of(whole.strings, 3), 1), "{}1.map: a map of another merge than {}0.map"),
+    (lambda one, two, whole: with_fewer_rows(map_of(one, whole, 1)), "0.column: the maps are those of another number of strings"),
+    (lambda *_: {"0.column": with_other_codes(read("0.column"))}, f"0.column: {CHANGED}"),
     (
-        lambda one, two, whole: with_fewer_rows(map_of(one, whole, 1)),
-        "0.column: the maps are those of another number of strings",
+        lambda one, two, whole: {f"maps/{name}": of_many(it) for name, it in maps_of([one], whole).items()},
+        "0.column: too many strings",
     ),
 ]
 
@@ -284,28 +286,13 @@ CHANGED_MAPS = [
 @pytest.mark.parametrize("change, message", CHANGED_MAPS)
 def test_changed_maps(tool, change, message):
     one, two, whole = made()
+    column, wanted = read("0.column"), whole.column([*one.strings[::-3], None])
     name, data = f"maps/{one.map_name(1)}", change(one, two, whole)
-    put(".", {name: data}) if data else os.remove(name)
+    put(".", data if isinstance(data, dict) else {name: data}) if data else os.remove(name)
     assert not refused(tool, 1, message.replace("{}", name[: -len("1.map")]), *RENUMBER)
     put("maps", maps_of([one], whole))
-    assert tool(*RENUMBER) == DONE and read("out") == read_whole(one, whole)
-
-
-def read_whole(one, whole):
-    """The column of the first part that `made` makes, renumbered."""
-    return renumbered_column(read("0.column"), [map_of(one, whole, it) for it in range(3)])
-
-
-def test_a_damaged_column(tool):
-    made()
-    put(".", {"0.column": with_other_codes(read("0.column"))})
-    assert not refused(tool, 1, f"0.column: {CHANGED}", *RENUMBER)
-
-
-def test_maps_to_too_many_strings(tool):
-    one, _, whole = made()
-    put("maps", {name: of_many(it) for name, it in maps_of([one], whole).items()})
-    assert not refused(tool, 1, "0.column: too many strings", *RENUMBER)
+    put(".", {"0.column": column})
+    assert tool(*RENUMBER) == DONE and read("out") == wanted
 
 
 def test_maps_of_another_merge(tool):

@@ -20,10 +20,7 @@ from programs import run
 from tool import DONE, NAME, WORDS, left, read, said, wrote
 
 LISTS: dict[str, list[bytes]] = {
-    "no string": [],
-    "an empty string": [b""],
-    "one string": [b"a"],
-    "two strings, of which one begins the other": [b"ab", b"a"],
+    "no string": [], "an empty string": [b""], "one string": [b"a"], "two strings, of which one begins the other": [b"ab", b"a"],
     "digits, and an empty string": [b"%d" % number for number in range(9)] + [b""],
     "bytes that are no text": [b"\xff", b"\x80\xff", b"\0", b"\0\0"],
     "texts": [it.encode() for it in ("é", "漢字", "😀", "\u2028", "a b")],
@@ -206,9 +203,6 @@ def test_trusted_and_damaged(tool, section, following):
     found = [(line, int(it)) for line, it in zip(WORDS, lines_of(written), strict=True) if it != b"-"]
     assert (status, told) == (int(len(found) < 20), [])
     assert all(tool("get", "--trusted", "damaged", str(it)) == wrote(line + b"\n") for line, it in found)
-
-
-# What is shown.
 
 
 def test_progress(tool):

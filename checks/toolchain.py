@@ -1,9 +1,6 @@
-"""All that the scripts here take from the toolchain's own `rt`, which promises none of it: names of its module, and sentences of
-its prover.
-
-It was written for the `rt version`s below. Under another one `load` stops with a line that says so: see then that each name and
-each sentence still stands, and add to the line. `rt` of the first proves all anew each time and keeps no verdicts; that of the
-second does (`keeps_verdicts`).
+"""All that the scripts here take from the toolchain's own `rt`, which promises none of it: names of its module, and sentences
+of its prover. `load` stops under other versions than those below: see then that each of these still stands, and add to the line.
+The first version proves all anew each time; the second keeps verdicts (`keeps_verdicts`).
 """
 
 import functools
@@ -26,7 +23,6 @@ TOP = Path(__file__).resolve().parent.parent
 VERSIONS = ("rattle-kit-13b logic dac8208d650f15bf", "rattle-kit-13f logic dac8208d650f15bf")
 # The variable of the environment that says to a check that others run beside it.
 BESIDE = "INTAGLIO_BESIDE"
-# What `checks/build --measure` measured.
 SECONDS = TOP / "checks/seconds.txt"
 # How the names of the folders begin in which edits are tried.
 SCRATCH = "mutants-"
@@ -75,10 +71,8 @@ def load():
     """The toolchain's `rt`, as a module. What stands below a crate is read as statements, as under `rt ci`."""
     found = shutil.which("rt") or sys.exit("there is no rt on the PATH")
     if version() not in VERSIONS:
-        sys.exit(
-            f"checks/toolchain.py was written for {' and '.join(map(repr, VERSIONS))}, and rt version says '{version()}': see"
-            " that what it names still stands"
-        )
+        known = " and ".join(map(repr, VERSIONS))
+        sys.exit(f"checks/toolchain.py was written for {known}, and not for '{version()}': see that what it names still stands")
     path = os.path.realpath(found)
     sys.path.insert(0, os.path.dirname(path))
     loader = importlib.machinery.SourceFileLoader("rt", path)
@@ -100,9 +94,7 @@ def keeps_verdicts():
 
 
 def over_kept(verdict):
-    """The pattern of a verdict's last line, where that may end in KEPT_WORK. `rt lib` builds a library with what earlier checks
-    kept, and the last line of all that is proved over it says so. A run of these scripts takes that library as it takes the
-    others that earlier runs left, and `rt ci` takes none."""
+    """The pattern of a verdict's last line, where that may end in KEPT_WORK, as it does over a library that `rt lib` made."""
     ends = r"\n\Z"
     if not verdict.pattern.endswith(ends):
         sys.exit("checks/toolchain.py: the pattern of rt's last line doesn't end as it did")
@@ -176,19 +168,13 @@ def jobs():
     return ["--jobs", "1" if BESIDE in os.environ else str(processors())]
 
 
-def free():
-    """The free memory in bytes."""
-    return load().free()
-
-
 def provers_outside(name):
     """How many provers are at work on this machine, but for those in folders whose names begin so."""
     count = 0
     for process in Path("/proc").glob("[0-9]*"):
         try:
-            if (process / "comm").read_text(errors="replace") == "rattle\n" and not Path(
-                os.readlink(process / "cwd")
-            ).name.startswith(name):
+            is_prover = (process / "comm").read_text(errors="replace") == "rattle\n"
+            if is_prover and not Path(os.readlink(process / "cwd")).name.startswith(name):
                 states = [it.read_text(errors="replace").rpartition(")")[2].split()[0] for it in process.glob("task/*/stat")]
                 count += not {*states}.isdisjoint("RD")
         except OSError:
@@ -198,8 +184,7 @@ def provers_outside(name):
 
 def checked(crate, texts, functions, are_spoilt, kept, stubs):
     """What a check of these functions prints, of a copy of the crate with these texts in place of its own, over what `kept`
-    holds. `functions` has for each the one whose proof it takes, which is another one for a copy. If they are spoilt, their
-    answers have one more, which can't be read. If there are stubs, which are functions too, no other function has a proof."""
+    holds. `functions` has for each the one whose proof it takes. If there are stubs, no other function has a proof."""
     rt, only = load(), [word for function in functions for word in ("--only", function)]
     words = [rt.rtlib.RATTLE, "check", *crate.words(["--jobs", "1", *only], keeps=False), "--incremental", kept]
     with tempfile.TemporaryDirectory(prefix=SCRATCH) as room:
@@ -208,17 +193,15 @@ def checked(crate, texts, functions, are_spoilt, kept, stubs):
                 shutil.copytree(Path(crate.folder, part), Path(room, part))
         for path, text in texts.items():
             Path(room, path).write_text(text, encoding="utf-8")
+        proofs = Path(room, "proofs")
         for function, whose in functions.items():
-            take_proof(Path(room, "proofs"), function, whose)
+            take_proof(proofs, function, whose)
         if stubs:
-            drop_proofs(
-                Path(room, "proofs"), *({Path(room, "proofs", *it.split("::")) for it in them} for them in (functions, stubs))
-            )
+            drop_proofs(proofs, *({proofs.joinpath(*it.split("::")) for it in them} for them in (functions, stubs)))
         for function in functions:
-            leave_to_the_prover(Path(room, "proofs", *function.split("::")), are_spoilt)
-        ran = subprocess.run(
-            [*rt.rtlib.guarded(), *words], cwd=room, stdin=subprocess.DEVNULL, capture_output=True, errors="replace"
-        )
+            leave_to_the_prover(proofs.joinpath(*function.split("::")), are_spoilt)
+        how: dict[str, Any] = {"cwd": room, "stdin": subprocess.DEVNULL, "capture_output": True, "errors": "replace"}
+        ran = subprocess.run([*rt.rtlib.guarded(), *words], **how)
         return ran.stdout + ran.stderr
 
 
@@ -251,9 +234,8 @@ def drop_proofs(proofs, but, stubs):
 
 def leave_to_the_prover(proof, is_spoilt):
     """Gives a function that has no file of a proof one with no answers: all goals are left to the prover, as without the file. If
-    it is to be spoilt, adds an answer that can't be read. The function can't be proved then, and each other goal is closed or
-    stays open as without it; but the prover doesn't write an answer to start from for each that stays open, with what is known
-    there, which takes a sixth of a check."""
+    it is to be spoilt, adds an answer that can't be read: the prover then writes no answers to start from for the goals that stay
+    open, which takes a sixth of a check."""
     answers = proof / "Answers.antt"
     if not any(it.is_file() for it in (answers, proof / "Proof.antt")):
         proof.mkdir(parents=True, exist_ok=True)
@@ -276,9 +258,8 @@ def unreadable(said, texts):
 
 class Verdicts:
     """What the prover said of edits, in this run and in earlier ones of any checkout on this machine. It is kept where `rt` keeps
-    what it said of its own edits, if it does, and as `rt` does under a sum of all that it stands on: the kit, the files of the
-    crate and of those below it, the edit and the scripts. So it is never out of date. What was said over the libraries of an `rt
-    ci` is said of all, and no other counts for a run beside an `rt ci`."""
+    what it said of its own edits, under a sum of all that it stands on: the kit, the files of the crate and of those below it,
+    the edit and the scripts. For a run beside an `rt ci` only what was said over the libraries of one counts."""
 
     def __init__(self, scripts, is_anew, is_beside_ci):
         every = crates() if keeps_verdicts() else []
@@ -361,10 +342,8 @@ def is_proved(crate):
     library is then taken."""
     if not crate.is_program:
         return crate.is_built() or keeps_verdicts() and load().take_rlib(crate)
-    return (
-        os.path.exists(f"{crate.folder}/out/{crate.name}")
-        and load().rtlib.text_of(f"{crate.folder}/out/rlib/stamp") == crate.stamp()
-    )
+    is_there = os.path.exists(f"{crate.folder}/out/{crate.name}")
+    return is_there and load().rtlib.text_of(f"{crate.folder}/out/rlib/stamp") == crate.stamp()
 
 
 def proved(crate, jobs):
@@ -375,10 +354,8 @@ def proved(crate, jobs):
     shutil.rmtree(kept, ignore_errors=True)
     os.makedirs(kept)
     words = crate.words(["--jobs", str(jobs)], keeps=False)
-    more = (
-        ["--toolchain", f"{rt.KIT}/toolchain", "--backend", "llvm", "-o", f"{made}.o"] if crate.is_program else ["-o", crate.rlib]
-    )
-    build = ["build", *words, *more]
+    of_program = ["--toolchain", f"{rt.KIT}/toolchain", "--backend", "llvm", "-o", f"{made}.o"]
+    build = ["build", *words, *(of_program if crate.is_program else ["-o", crate.rlib])]
     status, said = heard(crate, lambda: crate.prove(build) or (crate.link(f"{made}.o", made) if crate.is_program else 0))
     if not status and stamp == crate.stamp():
         Path(kept, "stamp").write_text(stamp, encoding="utf-8")
@@ -443,14 +420,6 @@ def seconds_of(crate):
     return round(functions_of(crate) * known.get(crate.name, statistics.median(known.values())))
 
 
-def keep_seconds(took):
-    """Writes the seconds of a processor that these crates took, for each of their functions, into SECONDS."""
-    known = measured() | {it.name: seconds / functions_of(it) for it, seconds in took.items() if functions_of(it)}
-    rows = [f"{it.name} {known[it.name]:.2f}\n" for it in crates() if it.name in known]
-    head = "# The seconds of a processor in which one job proves a function of each crate: checks/build --measure writes them.\n"
-    SECONDS.write_text(head + "".join(rows), encoding="utf-8")
-
-
 def chains_through(crates):
     """How long the longest chain through each crate is, in seconds, in which each waits for the one before it. The crates come
     lowest first."""
@@ -459,9 +428,8 @@ def chains_through(crates):
     for crate in crates:
         below[crate.name] = seconds_of(crate) + max((below.get(it.name, 0) for it in crate.below()), default=0)
     for crate in reversed(crates):
-        behind[crate.name] = max(
-            (seconds_of(it) + behind[it.name] for it in crates if crate.name in {under.name for under in it.below()}), default=0
-        )
+        above = [it for it in crates if crate.name in {under.name for under in it.below()}]
+        behind[crate.name] = max((seconds_of(it) + behind[it.name] for it in above), default=0)
     return {it.name: below[it.name] + behind[it.name] for it in crates}
 
 
