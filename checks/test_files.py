@@ -196,15 +196,12 @@ def test_irregular_files(writer, name, kind):
     assert os.stat("there").st_mode == was and sorted(os.listdir()) == ["link", "there"] and os.path.islink("link")
 
 
-@pytest.mark.parametrize("name", ["n" * 255, "é" * 127 + "n", "d.new", ".dict"])
-def test_names(writer, name):
+def test_names(writer, folder):
     """Names of up to 255 bytes, in the working folder too."""
-    for path in (name, os.path.abspath(name)):
-        assert frozen_to(writer, path) == DONE and has(path)
-        os.remove(path)
-
-
-def test_odd_names(writer, folder):
+    for name in ("n" * 255, "é" * 127 + "n", "d.new", ".dict"):
+        for path in (name, os.path.abspath(name)):
+            assert frozen_to(writer, path) == DONE and has(path)
+            os.remove(path)
     long = f"{folder}/{'n' * 256}"
     assert frozen_to(writer, long) == writer.said(long, os.strerror(errno.ENAMETOOLONG))
     other = os.fsencode(folder) + b"/\xff"

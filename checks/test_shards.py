@@ -134,19 +134,13 @@ def test_nested_merges(tool, count):
         assert tool("merge", "a", "b", "c", "-o", "flat") == DONE and files_in("flat") == outer.files()
 
 
-def test_equal_parts(tool):
-    """Equal parts have one set, and one map."""
-    one, *_ = made()
-    put("same", one.files(5, 6))
-    assert tool("merge", "0", "same", "0", "-o", "new", "--maps", "others") == DONE
-    whole = merge_of([one] * 3)
-    assert files_in("new") == whole.files() and files_in("others") == maps_of([one], whole)
-
-
 def test_folders_that_are_written_again(tool):
-    """Shards of another set are replaced."""
+    """Shards of another set are replaced. Equal parts have one set, and one map."""
     one, two, whole = made()
-    other = merge_of([two, one])
+    other, same = merge_of([two, one]), merge_of([one] * 3)
+    put("same", one.files(5, 6))
+    assert tool("merge", "0", "same", "0", "-o", "whole", "--maps", "others") == DONE
+    assert files_in("whole") == same.files() and files_in("others") == maps_of([one], same)
     assert tool("merge", "1", "0", "-o", "whole") == DONE and files_in("whole") == other.files()
     for shard, told in ((0, OF_ANOTHER_SET), (1, OF_ANOTHER_SET.replace("1", "2")), (2, None)):
         assert tool("merge", "--shard", str(shard), "0", "1", "-o", "whole") == DONE
@@ -389,31 +383,31 @@ class History:
         status, _, told = self.tool(*words, **failing)
         assert status in (0, 1, 2) and bool(told) == bool(status), (words, status, told)
 
+    def make(self, column, lines, *words):
+        """Runs a command that makes a column of lines, unless it is killed or fails."""
+        before = read(column)
+        self.run(*words)
+        # (the old column is that of the same dictionary if nothing of it changes, and then of the same lines)
+        if read(column) != before:
+            self.lines[column] = lines
+
     def count(self):
         return str(self.chance.choice([self.counts[0]] * 3 + self.counts))
 
     def freeze(self):
         part, lines = self.chance.choice("abc"), self.chance.choices(self.words, k=self.chance.randrange(8))
-        before = read(f"{part}.column")
         put(".", {"lines": ended(lines)})
-        kind = self.chance.choice(("text", "text", "bytes"))
-        self.run("freeze", "--kind", kind, "--shards", self.count(), "-o", part, "--column", f"{part}.column", "lines")
-        # (the old column is that of the same dictionary if nothing of it changes, and then of the same lines)
-        if read(f"{part}.column") != before:
-            self.lines[f"{part}.column"] = lines
+        words = ["freeze", "--kind", self.chance.choice(("text", "text", "bytes")), "--shards", self.count(), "-o", part, "lines"]
+        self.make(f"{part}.column", lines, *words, "--column", f"{part}.column")
 
     def merge(self):
         out = self.chance.choice("gvw")
         parts, maps = self.chance.choices(sorted({*"abcgvw"} - {out}), k=self.chance.randrange(1, 4)), ["--maps", self.maps(0.85)]
-        count = int(self.count())
-        how = self.chance.random()
-        if how < 0.2:
-            self.run("merge", *parts, "--shards", str(count), "-o", out, *maps)
-        elif how < 0.4:
-            self.run("merge", *parts, "-o", out, *maps)
-        else:
-            for shard in [self.chance.randrange(count)] if how < 0.5 else range(count):
-                self.run("merge", "--shard", str(shard), *parts, "-o", out, *maps)
+        count, how = int(self.count()), self.chance.random()
+        shards = [self.chance.randrange(count)] if how < 0.5 else range(count)
+        of_whole = [["--shards", str(count)]] if how < 0.2 else [[]]
+        for words in of_whole if how < 0.4 else (["--shard", str(it)] for it in shards):
+            self.run("merge", *words, *parts, "-o", out, *maps)
 
     def maps(self, share):
         return "maps" if self.chance.random() < share else "other"
@@ -440,10 +434,7 @@ class History:
 
     def renumber(self):
         path, new = self.some("*.column"), self.chance.choice("abc") + self.chance.choice("12") + ".column"
-        before, lines = read(new), self.lines.get(path)
-        self.run("renumber", "--maps", self.maps(0.75), path, "-o", new)
-        if read(new) != before:
-            self.lines[new] = lines
+        self.make(new, self.lines.get(path), "renumber", "--maps", self.maps(0.75), path, "-o", new)
 
     def decode(self):
         path, folder = self.some("*.column"), self.chance.choice("abcgvw")
