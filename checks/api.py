@@ -23,7 +23,7 @@ from sources import TOP, UNNAMED
 
 FOLDER = TOP / "out/doc"
 # Crates of tests and examples, which no caller needs, and `intaglio_c`, whose calls bindings/c/intaglio.h documents.
-LEFT_OUT = re.compile(r"intaglio_c|refused_allocations|bench|tests|example_\w+")
+LEFT_OUT = re.compile(r"intaglio_c|test_support|refused_allocations|bench|tests|\w+_tests|example_\w+")
 # Links in documentation, as the names that lead somewhere.
 LINK = re.compile(r"\[(`[^`]+`|[^\]`]+)\](?:\([^)]*\))?")
 

@@ -20,7 +20,7 @@ sys.dont_write_bytecode = True
 import arguments
 from sources import TOP
 
-LEFT_OUT = re.compile(r"tests|refused_allocations|bench|example_\w+")
+LEFT_OUT = re.compile(r"test_support|\w+_tests|refused_allocations|bench|example_\w+")
 # Colours that are read on white, in grey too, and what they are in the dark, with those of docs/interning.dot.
 PROGRAMS, LIBRARIES, INK = "#ffffff", "#e8eef7", "#223344"
 DARK = {

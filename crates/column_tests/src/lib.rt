@@ -1,0 +1,5 @@
+//! Tests of column files.
+#![tactic(auto)]
+
+#[cfg(test)]
+mod tests;

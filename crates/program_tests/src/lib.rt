@@ -1,0 +1,5 @@
+//! Tests of encoding and decoding.
+#![tactic(auto)]
+
+#[cfg(test)]
+mod tests;

@@ -1,5 +1,0 @@
-//! Tests of encoding and decoding.
-
-mod decoding;
-mod encoding;
-mod fakes;
