@@ -32,7 +32,7 @@ class Encoding(Case):
             self.assertEqual((words.encode(column), words.encode(column).typecode), (codes, "I"))
             self.assertEqual((words.encode(iter(column)), words.encode(tuple(column))), (codes, codes))
             self.assertEqual(words.decode(codes), column)
-        first, second, third = words.decode(array("I", [11, 10, 11]))
+        first, second, third = frozen_of(["ab", "cd"]).decode(array("I", [1, 0, 1]))
         self.assertTrue(first is third and first is not second)
 
     def test_the_first_missing_string_is_named_with_its_position(self):
