@@ -543,7 +543,7 @@ impl<K: Kind> Drop for RawTable<K> {
     }
 }
 
-/// The bytes of a frozen table, or any others, and where its sections are, if the header says it. It reads nothing else.
+/// The bytes of a frozen table, or any others, and where its sections are, if the header says it. Nothing outside is read.
 #[derive(Clone, Copy)]
 pub struct RawFrozen<'a> {
     bytes: &'a [u8],
