@@ -21,3 +21,13 @@ impl From<AllocError> for Fault {
         Fault::Making
     }
 }
+
+/// A runtime to which calls are told.
+pub trait Told: Eprint + AllocGlobal {}
+
+impl<R: Eprint + AllocGlobal> Told for R {}
+
+/// Prints a call, or a failure for memory that it reported.
+pub fn tell(rt: &impl Told, what: &str, number: u32) {
+    let _ = eprintln!(rt; "{what} {number}");
+}

@@ -3,69 +3,37 @@
 //!
 //! It prints each call to standard error before it makes it, and each failure for memory that a call reports,
 //! so that a harness that refuses requests for memory sees which call reported which. Without arguments it
-//! makes all runs; with a table's name and a run's, that one; with `rows` in place of a table's name, the
-//! rows whose texts are given, or with `absorb` tables that absorb another one.
+//! makes all runs; with a table's name and a run's, that one; with `absorb` in place of a table's name, tables
+//! that absorb another one.
 #![tactic(auto)]
 
 mod absorbing;
-mod batches;
-mod change;
-mod checked_table;
-mod constructors;
-mod contents;
+mod asks;
+mod course;
 mod fault;
-mod form_calls;
-mod form_runs;
-mod kinds;
-mod outcome;
-mod rows;
+mod results;
 mod runs;
-mod stores;
 mod words;
 
 use absorbing::absorb_each;
-use checked_table::CallStyle;
-use constructors::make_all;
-use fault::Fault;
-use form_runs::{watch_forms, watch_quiet};
+use course::{left_by, watch_equal};
+use fault::{Fault, Told};
 use intaglio::packed::{Packed, PackedForm};
-use intaglio::{ContentOf, KindForm};
-use intaglio_bytes::b_str::BStrKind;
-use intaglio_bytes::bytes::BytesKind;
-use intaglio_cstr::CStrKind;
-use intaglio_path::PathKind;
-use intaglio_text::StrKind;
-use intaglio_text::osstr::OsStrKind;
-use kinds::{Stored, StoredKind};
-use rows::{intern_first, without_memory};
-use runs::{Calls, watch};
+use intaglio::{ContentOf, KindForm, Table};
+use runs::{RUNS, Run};
 use std::env;
 use std::process::ExitCode;
 use std::rt::Env;
-use test_support::contents::KindOfSpelling;
-use words::OfDigits;
+use tests::support::builders::Fold;
+use tests::support::kinds::{
+    BStrKind, BytesKind, CStrKind, OfEnded, OsStrKind, PathKind, StrKind, TestKind,
+};
 
-const TABLES: [&str; 6] = ["text", "osstr", "path", "bytes", "bstr", "cstr"];
+const OWNED: &str = "text osstr path bytes bstr cstr";
 
-const RUNS: [&str; 7] = [
-    "calls",
-    "cut",
-    "replies",
-    "cut_replies",
-    "making",
-    "forms",
-    "no_memory",
-];
+const OWNED_RUNS: &str = "calls cut replies cut_replies making forms no_memory first room equal";
 
-const PACKED: [&str; 5] = [
-    "packed_text",
-    "packed_osstr",
-    "packed_path",
-    "packed_bytes",
-    "packed_bstr",
-];
-
-const PACKED_RUNS: [&str; 2] = ["forms", "no_memory"];
+const PACKED: &str = "packed_text packed_osstr packed_path packed_bytes packed_bstr";
 
 fn main(rt: HostRuntime) -> ExitCode {
     match asked(&rt) {
@@ -81,7 +49,7 @@ fn main(rt: HostRuntime) -> ExitCode {
 }
 
 // The run that the arguments name, or all runs.
-fn asked<R: Env + Eprint + AllocGlobal>(rt: &R) -> Result<(), Fault> {
+fn asked<R: Env + Told>(rt: &R) -> Result<(), Fault> {
     let Ok(mut words) = env::args(rt) else {
         return Err(Fault::Making);
     };
@@ -95,106 +63,78 @@ fn asked<R: Env + Eprint + AllocGlobal>(rt: &R) -> Result<(), Fault> {
     }
 }
 
-fn all(rt: &(impl Eprint + AllocGlobal)) -> Result<(), Fault> {
-    for i in 0..42usize {
-        one(rt, TABLES[i / 7], RUNS[i % 7])?;
+fn all(rt: &impl Told) -> Result<(), Fault> {
+    each(rt, OWNED, OWNED_RUNS)?;
+    each(rt, PACKED, "forms quiet")?;
+    one(rt, "text", "known")?;
+    absorb_each(rt)
+}
+
+fn each(rt: &impl Told, tables: &str, runs: &str) -> Result<(), Fault> {
+    for table in tables.split(' ') {
+        for run in runs.split(' ') {
+            one(rt, table, run)?;
+        }
     }
-    for i in 0..10usize {
-        one(rt, PACKED[i / 2], PACKED_RUNS[i % 2])?;
-    }
-    one(rt, "rows", "calls")?;
-    one(rt, "rows", "absorb")?;
-    one(rt, "rows", "no_memory")
+    Ok(())
 }
 
 // One run on one table.
-fn one(rt: &(impl Eprint + AllocGlobal), table: &str, run: &str) -> Result<(), Fault> {
-    if run == "forms" {
-        return forms(rt, table);
-    }
+fn one(rt: &impl Told, table: &str, run: &str) -> Result<(), Fault> {
     match table {
-        "text" => on_kind::<StrKind>(rt, run),
-        "osstr" => on_kind::<OsStrKind>(rt, run),
-        "path" => on_kind::<PathKind>(rt, run),
-        "bytes" => on_kind::<BytesKind>(rt, run),
-        "bstr" => on_kind::<BStrKind>(rt, run),
-        "cstr" => on_kind::<CStrKind>(rt, run),
-        "rows" => row(rt, run),
-        _ => one_packed(rt, table, run),
-    }
-}
-
-// Calls by borrowed forms on one table.
-fn forms(rt: &(impl Eprint + AllocGlobal), table: &str) -> Result<(), Fault> {
-    match table {
-        "text" => forms_of_kind::<StrKind>(rt),
-        "osstr" => forms_of_kind::<OsStrKind>(rt),
-        "path" => forms_of_kind::<PathKind>(rt),
-        "bytes" => forms_of_kind::<BytesKind>(rt),
-        "bstr" => forms_of_kind::<BStrKind>(rt),
-        "cstr" => forms_of_kind::<CStrKind>(rt),
-        _ => one_packed(rt, table, "forms"),
-    }
-}
-
-// One run on one table in one buffer.
-fn one_packed(rt: &(impl Eprint + AllocGlobal), table: &str, run: &str) -> Result<(), Fault> {
-    match table {
+        "text" if run == "known" => known(rt),
+        "text" => on_owned::<StrKind>(rt, run),
+        "osstr" => on_owned::<OsStrKind>(rt, run),
+        "path" => on_owned::<PathKind>(rt, run),
+        "bytes" => on_owned::<BytesKind>(rt, run),
+        "bstr" => on_owned::<BStrKind>(rt, run),
+        "cstr" => on_owned::<CStrKind>(rt, run),
         "packed_text" => on_packed::<StrKind>(rt, run),
         "packed_osstr" => on_packed::<OsStrKind>(rt, run),
         "packed_path" => on_packed::<PathKind>(rt, run),
         "packed_bytes" => on_packed::<BytesKind>(rt, run),
         "packed_bstr" => on_packed::<BStrKind>(rt, run),
-        _ => Err(Fault::Words),
-    }
-}
-
-// The rows whose texts are given.
-fn row(rt: &(impl Eprint + AllocGlobal), run: &str) -> Result<(), Fault> {
-    match run {
-        "calls" => intern_first::<StrKind>(rt),
         "absorb" => absorb_each(rt),
-        "no_memory" => without_memory(rt),
         _ => Err(Fault::Words),
     }
 }
 
-// Calls by borrowed forms on a table of owned contents.
-fn forms_of_kind<'q, K: KindForm<'q> + KindOfSpelling>(
-    rt: &(impl Eprint + AllocGlobal),
-) -> Result<(), Fault>
-where
-    K::Form: OfDigits,
-{
-    watch_forms::<Vec<ContentOf<K>>>(rt)
+fn run_of(name: &str) -> Result<Run<'static>, Fault> {
+    let run = RUNS.iter().find(|run| run.0 == name);
+    run.copied().ok_or(Fault::Words)
 }
 
-fn on_packed<'q, K: PackedForm<'q> + KindOfSpelling>(
-    rt: &(impl Eprint + AllocGlobal),
-    run: &str,
-) -> Result<(), Fault>
-where
-    K::Form: OfDigits,
-{
-    match run {
-        "forms" => watch_forms::<Packed<K>>(rt),
-        "no_memory" => watch_quiet::<Packed<K>>(rt),
-        _ => Err(Fault::Words),
+fn on_owned<'q, K: TestKind + KindForm<'q, Form: OfEnded>>(
+    rt: &impl Told,
+    name: &str,
+) -> Result<(), Fault> {
+    if name == "equal" {
+        return watch_equal::<Vec<ContentOf<K>>>(rt, run_of(name)?);
     }
+    let _table = left_on::<K>(rt, name)?;
+    Ok(())
 }
 
-fn on_kind<K: StoredKind>(rt: &(impl Eprint + AllocGlobal), run: &str) -> Result<(), Fault> {
-    on::<ContentOf<K>>(rt, run)
+fn left_on<'q, K: TestKind + KindForm<'q, Form: OfEnded>>(
+    rt: &impl Told,
+    name: &str,
+) -> Result<Table<ContentOf<K>, Fold>, Fault> {
+    left_by::<Vec<ContentOf<K>>>(rt, run_of(name)?)
 }
 
-fn on<C: Stored>(rt: &(impl Eprint + AllocGlobal), run: &str) -> Result<(), Fault> {
-    match run {
-        "calls" => watch::<C>(rt, CallStyle::Own, Calls::Plain),
-        "cut" => watch::<C>(rt, CallStyle::Own, Calls::Cut),
-        "replies" => watch::<C>(rt, CallStyle::Replies, Calls::Plain),
-        "cut_replies" => watch::<C>(rt, CallStyle::Replies, Calls::Cut),
-        "making" => make_all::<C>(rt),
-        "no_memory" => watch::<C>(rt, CallStyle::Own, Calls::NoMemory),
-        _ => Err(Fault::Words),
+fn on_packed<'q, K: TestKind + PackedForm<'q, Form: OfEnded>>(
+    rt: &impl Told,
+    name: &str,
+) -> Result<(), Fault> {
+    let _table = left_by::<Packed<K>>(rt, run_of(name)?)?;
+    Ok(())
+}
+
+// A word that a table of texts holds is got without memory.
+fn known(rt: &impl Told) -> Result<(), Fault> {
+    let table = left_on::<StrKind>(rt, "known")?;
+    match table.get_interned("abc") {
+        Some((symbol, "abc")) if symbol.is(0) => Ok(()),
+        _ => Err(Fault::State(0)),
     }
 }

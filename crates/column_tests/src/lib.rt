@@ -1,5 +1,0 @@
-//! Tests of column files.
-#![tactic(auto)]
-
-#[cfg(test)]
-mod tests;

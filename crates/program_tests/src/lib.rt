@@ -1,5 +1,0 @@
-//! Tests of encoding and decoding.
-#![tactic(auto)]
-
-#[cfg(test)]
-mod tests;

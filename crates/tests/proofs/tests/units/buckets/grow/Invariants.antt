@@ -1,0 +1,8 @@
+use Rattle.std.proofs.Common.{◌≡◌, ◌≤◌, length}
+use Rattle.tests.proofs.tests.units.buckets.grow.Given as goal
+
+abbrev pub invariant-loop-number : goal.invariant-loop-number
+invariant-loop-number g l = record {
+  placed : length l.index.hashes ≡ l.number;
+  room : l.to ≤ l.index.room;
+}

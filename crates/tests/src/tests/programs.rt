@@ -1,0 +1,5 @@
+//! Tests of encoding and decoding.
+
+mod decoding;
+mod encoding;
+mod fakes;

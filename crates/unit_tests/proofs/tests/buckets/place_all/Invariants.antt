@@ -1,5 +1,0 @@
-use Rattle.std.proofs.Common.{◌≡◌, length}
-use Rattle.unit_tests.proofs.tests.buckets.place_all.Given as goal
-
-abbrev pub invariant-loop-hash : goal.invariant-loop-hash
-invariant-loop-hash g l = length l.index.hashes ≡ l.count

@@ -1,6 +1,0 @@
-use Rattle.intaglio_records.specs.Index.{IsOver}
-use Rattle.intaglio_records.specs.Records.{record_room_of}
-use Rattle.unit_tests.proofs.tests.records.add_long.Given as goal
-
-abbrev pub invariant-loop-length : goal.invariant-loop-length
-invariant-loop-length g l = IsOver l.records.list (record_room_of l.records) l.index

@@ -1,6 +1,0 @@
-use Rattle.intaglio_records.specs.Index.{IsOver}
-use Rattle.intaglio_records.specs.Records.{record_room_of}
-use Rattle.unit_tests.proofs.tests.records.add_numbers.Given as goal
-
-abbrev pub invariant-loop-number : goal.invariant-loop-number
-invariant-loop-number g l = IsOver l.records.list (record_room_of l.records) l.index
