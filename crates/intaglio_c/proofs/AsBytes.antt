@@ -1,12 +1,15 @@
 -- What a change of a table is to the bytes of its contents.
-use Rattle.intaglio_c.proofs.Names.{◌≡◌, ℕ, ◌<◌, ◌≤◌, inl, inr, Bool, true, false, List, [], ◌∷◌, ◌++◌, map, refl, sym, ap, subst, ◌∙◌, arith, Option, Some, None, MatchOption, Result, Ok, Err, take-map, length-map, map-append, State, Table, first, first_of, AddsNew, InternsValue, IsOutOfMemory, IsRefused, TakesBack, StaleMark, fault, has_key, key, IsFaultless, Seen, as_bytes, seen_of, position, look_up, unless, IsChangedBy, InternsBy, InternsNew, KeyedState, Kind, Refusal}
+use Rattle.std.specs.Prelude.{◌≡◌, ◌<◌, ◌∷◌, ◌++◌}
+use Rattle.intaglio_c.proofs.Names.{ℕ, inl, inr, Bool, true, false, List, [], map, refl, sym, ap, subst, ◌∙◌, arith, Option, Some, None, MatchOption, Result, Ok, Err, take-map, length-map, map-append, State, Table, first, first_of, AddsNew, InternsValue, IsOutOfMemory, IsRefused, fault, HasKey, key, IsFaultless, Seen, as_bytes, seen_of, position, look_up, unless, IsChangedBy, InternsBy, InternsNew, KeyedState, Kind, Refusal}
 use Rattle.intaglio_content.specs.Key.{Key}
 use Rattle.intaglio_content.specs.Store.{IsMoved, IsPushed}
 use Rattle.intaglio_symbol.specs.declared.error.InternError.{InternError}
 use Rattle.intaglio_symbol.specs.declared.error.InternError.TheVariants.{Overflow, Memory}
-use Rattle.intaglio_c.specs.Answers.{symbol_answer}
-use Rattle.intaglio_c.specs.Handles.{found}
+use Rattle.intaglio_c.specs.Handles.{symbol_answer, found}
 use Rattle.intaglio_c.proofs.Faults.{untested}
+
+-- what the bytes of the first contents are
+pub ruleset first_bytes = (length-map, take-map)
 
 -- a table whose state alone changed, as it is seen
 pub changed : {C : Type 0} (old : Seen) (kind : Kind) (bytes : C → List ℕ) (s s' : State C)
@@ -18,25 +21,10 @@ changed old kind bytes s s' h h' Step is same step =
     (record { kind = refl; hasher = same; step = step })
 
 module _ {C : Type 0} (bytes : C → List ℕ) where
-  -- a rollback
-  pub taken_back : (old new : State C) (n : ℕ) (result : Result (Unit {0}) StaleMark) →
-      TakesBack old n result new → TakesBack (as_bytes bytes old) n result (as_bytes bytes new)
-  taken_back old new n (Ok done) cut =
-      let count = length-map old.contents bytes in let left = length-map new.contents bytes in record {
-        within = subst (λ (m : ℕ). n ≤ m) (sym count) cut.within;
-        all = λ e. ap (as_bytes bytes) (cut.all (e ∙ count));
-        contents = ap (map bytes) cut.contents ∙ sym (take-map bytes n old.contents);
-        spare = omega (arith, count, left, cut.spare);
-        buckets = cut.buckets;
-        limit = cut.limit;
-      }
-  taken_back old new n (Err stale) kept =
-      (subst (λ (m : ℕ). m < n) (sym (length-map old.contents bytes)) kept.0, ap (as_bytes bytes) kept.1)
-
   -- an interning of what isn't stored
   refused : (old new : State C) → IsRefused old new → IsRefused (as_bytes bytes old) (as_bytes bytes new)
   refused old new refusal = record {
-    below_limit = subst (λ (m : ℕ). m < old.limit) (sym (length-map old.contents bytes)) refusal.below_limit;
+    below_limit = omega (arith, length-map old.contents bytes, refusal.below_limit);
     no_room = refusal.no_room;
     contents = ap (map bytes) refusal.contents;
     spare = refusal.spare;
@@ -47,13 +35,10 @@ module _ {C : Type 0} (bytes : C → List ℕ) where
   out_of_memory : (copies : Bool) (old new : State C) → IsOutOfMemory copies old new →
       IsOutOfMemory copies (as_bytes bytes old) (as_bytes bytes new)
   out_of_memory false old new refusal = refused old new refusal
-  out_of_memory true old new (inl before) =
-      inl (record {
-        below_limit =
-            subst (λ (m : ℕ). m < old.limit) (sym (length-map old.contents bytes)) before.below_limit;
-        same =
-            ap (as_bytes bytes) before.same;
-      })
+  out_of_memory true old new (inl before) = inl (record {
+    below_limit = omega (arith, length-map old.contents bytes, before.below_limit);
+    same = ap (as_bytes bytes) before.same;
+  })
   out_of_memory true old new (inr refusal) = inr (refused old new refusal)
 
   -- a list becomes one whose bytes are those before, with these behind them
@@ -63,15 +48,14 @@ module _ {C : Type 0} (bytes : C → List ℕ) where
   added : (adds : List C → List C → Type 0) (copies : Bool) (old new : State C) (b : List ℕ)
       (result : Result ℕ InternError) → Adds adds old.contents b → AddsNew adds copies old result new
       → InternsNew copies b (as_bytes bytes old) (symbol_answer result) (as_bytes bytes new)
-  added adds copies old new b (Ok symbol) grows taken =
-      let count = length-map old.contents bytes in record {
-        below_limit = subst (λ (m : ℕ). m < old.limit) (sym count) taken.below_limit;
-        position = taken.position ∙ sym count;
-        contents = grows new.contents taken.contents;
-        spare = taken.spare;
-        growth = λ grown. (count ∙ (taken.growth grown).0, (taken.growth grown).1);
-        limit = taken.limit;
-      }
+  added adds copies old new b (Ok symbol) grows taken = let count = length-map old.contents bytes in record {
+    below_limit = subst (λ (m : ℕ). m < old.limit) (sym count) taken.below_limit;
+    position = taken.position ∙ sym count;
+    contents = grows new.contents taken.contents;
+    spare = taken.spare;
+    growth = λ grown. (count ∙ (taken.growth grown).0, (taken.growth grown).1);
+    limit = taken.limit;
+  }
   added adds copies old new b (Err (Overflow full)) grows kept =
       (length-map old.contents bytes ∙ kept.0, ap (as_bytes bytes) kept.1)
   added adds copies old new b (Err (Memory e)) grows failed = out_of_memory copies old new failed
@@ -109,12 +93,12 @@ module _ {C : Type 0} (kind : Kind) (bytes : C → List ℕ) (content_key : C �
 
   -- a look-up
   pub finds : (old : Seen) (held : State C) (h : KeyedState) (b : List ℕ) (sought : Key) (result : Option ℕ) →
-      old ≡ seen_of kind bytes held h → has_key old.kind b ≡ true → sought ≡ key kind b →
+      old ≡ seen_of kind bytes held h → HasKey kind b → sought ≡ key kind b →
       result ≡ first content_key held.contents sought
       → IsFaultless old → result ≡ found (look_up old b)
   finds old held h b sought result is some spelled answer faultless =
       answer ∙ place held.contents b sought spelled ∙ sym (ap (λ (x : Seen). position x b) is)
-      ∙ untested old b faultless some
+      ∙ untested old b faultless (subst (λ (x : Seen). HasKey x.kind b) (sym is) some)
 
   -- an interning
   pub interned : (copies : Kind → Bool) (adds : List C → List C → Type 0) (old : Seen) (held : State C)
@@ -128,11 +112,9 @@ module _ {C : Type 0} (kind : Kind) (bytes : C → List ℕ) (content_key : C �
   interned copies adds old held h t' b k result answer is hasher allowed spelled grows step answered =
       let s = as_bytes bytes held in let s' = as_bytes bytes t'.state in let given = symbol_answer result in
       let looked_up = by_look_up bytes adds (copies kind) (first content_key held.contents k) held t'.state b
-      result grows step in
-      let placed =
+      result grows step in let placed =
       subst (λ (o : Option ℕ). InternsBy (copies kind) b s (Ok o) given s')
-      (place held.contents b k spelled) looked_up in
-      let tested =
+      (place held.contents b k spelled) looked_up in let tested =
       subst (λ (f : Option Refusal).
       InternsBy (copies kind) b s (unless f (position (seen_of kind bytes held h) b)) given s')
       (sym (subst (λ (x : Seen). fault x.kind b ≡ None) is allowed)) placed in

@@ -1,5 +1,6 @@
 -- Batches, one string at a time.
-use Rattle.intaglio_c.proofs.Names.{◌≡◌, ℕ, zero, suc, ◌+◌, ◌-◌, ◌<◌, ◌≤◌, Bool, true, false, cond, inl, inr, List, [], ◌∷◌, ◌++◌, length, map, take, drop, refl, sym, ap, subst, ◌∙◌, le_refl, arith, length-append, append_assoc, append-nil, Option, Some, None, Result, Ok, Err, is_some, unwrap_or, slice_get, concat, get_or, set, take-append-le, take_all, take_more, take_more_set, take_at, take-append-drop, drop_at, map_push, drop-drop, length-drop, slice_get_within, IfOk-at_ok, IfErr-at_err, IsAppended, issued, interned, interned_all, issue_from, State, first, AreCopied, AreFirstCopied, AreStored, ends_from, AreInterned, IsBegun, IsRolledBack, InternsOr, fault, first_fault, key, Seen, position, unless, IsChangedBy, Interns, InternsBy, Kind, Refusal}
+use Rattle.std.specs.Prelude.{◌≡◌, ◌+◌, ◌-◌, ◌<◌, ◌≤◌, ◌∷◌, ◌++◌}
+use Rattle.intaglio_c.proofs.Names.{ℕ, zero, suc, Bool, true, false, cond, inl, inr, List, [], length, map, take, drop, refl, sym, ap, subst, ◌∙◌, le_refl, arith, length-append, append_assoc, append-nil, Option, Some, None, Result, Ok, Err, is_some, unwrap_or, slice_get, concat, get_or, set, take-append-le, take_all, take_more, take_more_set, take_at, take-append-drop, drop_at, map_push, drop-drop, length-drop, slice_get_within, IfOk-at_ok, IfErr-at_err, IsAppended, issued, interned, interned_all, issue_from, State, first, AreCopied, AreFirstCopied, AreStored, ends_from, AreInterned, IsBegun, IsRolledBack, InternsOr, fault, first_fault, key, Seen, position, unless, IsChangedBy, Interns, InternsBy, Kind, Refusal}
 use Rattle.std.proofs.Math.Seq.{take-length}
 use Rattle.std.proofs.lemmas.List.{drop-set-lt}
 use Rattle.std.proofs.lemmas.List.Folds.{concat-append}
@@ -22,11 +23,10 @@ taken-capacity s s' string symbol taken = by_room s.spare refl
     by_room zero e = omega (arith, count, e)
     by_room (suc n) e = omega (arith, count, (taken.spare (omega (arith, e))).0)
 
--- if the state stays the same, the capacity isn't lower
-same-capacity : (s s' : State (List ℕ)) → s' ≡ s → length s.contents + s.spare ≤ length s'.contents + s'.spare
-same-capacity s s' same =
-    subst (λ (x : State (List ℕ)). length s.contents + s.spare ≤ length x.contents + x.spare) (sym same)
-    (le_refl _)
+-- if the state stays the same, all of this does
+unchanged : (s s' : State (List ℕ)) → s' ≡ s → IsRolledBack s s'
+unchanged s s' same =
+    subst (IsRolledBack s) (sym same) (record { contents = refl; capacity = le_refl _; limit = refl })
 
 -- one interning of a batch
 accepted-by : (fault : Option Refusal) (o : Option ℕ) (s s' : State (List ℕ)) (string : List ℕ) (symbol : ℕ) →
@@ -36,36 +36,20 @@ accepted-by : (fault : Option Refusal) (o : Option ℕ) (s s' : State (List ℕ)
     × (length s.contents + s.spare ≤ length s'.contents + s'.spare) × (s'.limit ≡ s.limit)
 accepted-by None None s s' string symbol taken =
     (refl, taken.position, taken.contents, taken-capacity s s' string symbol taken, taken.limit)
-accepted-by None (Some i) s s' string symbol known = (
-  refl,
-  IfOk-at_ok (λ n. symbol ≡ n) known.0 refl,
-  ap (λ (x : State (List ℕ)). x.contents) known.1,
-  same-capacity s s' known.1,
-  ap (λ (x : State (List ℕ)). x.limit) known.1,
-)
+accepted-by None (Some i) s s' string symbol known = let kept = unchanged s s' known.1 in
+    (refl, IfOk-at_ok (λ n. symbol ≡ n) known.0 refl, kept.contents, kept.capacity, kept.limit)
 accepted-by (Some r) o s s' string symbol refused = absurd (IfErr-at_err (λ _. ⊥) refused.0 tt)
-
--- one that fails
-unchanged : (s s' : State (List ℕ)) → s' ≡ s → IsRolledBack s s'
-unchanged s s' same = record {
-  contents = ap (λ (x : State (List ℕ)). x.contents) same;
-  capacity =
-      same-capacity s s' same;
-  limit = ap (λ (x : State (List ℕ)). x.limit) same;
-}
 
 -- if interning a string by a copy fails, the strings and the limit stay, and the capacity isn't lower
 kept-by : (f : Option Refusal) (o : Option ℕ) (s s' : State (List ℕ)) (string : List ℕ) (r : Refusal) →
     InternsBy true string s (unless f o) (Err r) s' → IsRolledBack s s'
 kept-by None None s s' string refusal.Full full = unchanged s s' full.1
 kept-by None None s s' string refusal.NoMemory (inl kept) = unchanged s s' kept.same
-kept-by None None s s' string refusal.NoMemory (inr kept) =
-    record {
-      contents = kept.contents;
-      capacity = omega (arith, ap length kept.contents, kept.spare);
-      limit =
-          kept.limit;
-    }
+kept-by None None s s' string refusal.NoMemory (inr kept) = record {
+  contents = kept.contents;
+  capacity = omega (arith, ap length kept.contents, kept.spare);
+  limit = kept.limit;
+}
 kept-by None None s s' string _ never = absurd never
 kept-by None (Some i) s s' string r known = unchanged s s' known.1
 kept-by (Some f) o s s' string r refused = unchanged s s' refused.1
@@ -87,8 +71,7 @@ front kind n held (string ∷ strings) within =
 -- after strings are interned, a state with these contents and no less capacity begins with what was held
 begun : (t : Seen) (strings : List (List ℕ)) (symbols : List ℕ) (s s' : State (List ℕ)) →
     AreInterned t strings symbols s → IsRolledBack s s' → IsBegun t.state s'
-begun t strings symbols s s' all kept =
-    let held = t.state.contents in
+begun t strings symbols s s' all kept = let held = t.state.contents in
     let are : s'.contents ≡ interned_all (key t.kind) held strings = kept.contents ∙ all.contents in record {
       within = omega (arith, ap length are, interned_all-longer (key t.kind) held strings);
       contents = ap (take (length held)) kept.contents ∙ all.kept;
@@ -201,15 +184,14 @@ module _ (contents : List (List ℕ)) (old : List ℕ) where
     pub written : ends ≡ ends_from 0 done
 
   size : (symbols new ends : List ℕ) (start : ℕ) → IsCopied symbols new start ends → length new ≡ length old
-  size symbols new ends start at =
-      omega (
-        arith,
-        ap length at.buffer,
-        length-append (concat at.done) (drop start old),
-        at.place,
-        length-drop start old,
-        at.within,
-      )
+  size symbols new ends start at = omega (
+    arith,
+    ap length at.buffer,
+    length-append (concat at.done) (drop start old),
+    at.place,
+    length-drop start old,
+    at.within,
+  )
 
   -- one string more is stored
   stored_more : (symbols new ends : List ℕ) (start i : ℕ) (string : List ℕ) → i < length symbols →
@@ -249,8 +231,7 @@ module _ (contents : List (List ℕ)) (old : List ℕ) where
   pub too_short : (symbols new ends : List ℕ) (start : ℕ) (string : List ℕ) →
       (at : IsCopied symbols new start ends) → length new - start < length string
       → length old < length (concat at.done) + length string
-  too_short symbols new ends start string at less =
-      omega (arith, less, size _ _ _ _ at, at.place, at.within)
+  too_short symbols new ends start string at less = omega (arith, less, size _ _ _ _ at, at.place, at.within)
 
   pub copied_more : (symbols new ends written : List ℕ) (start i : ℕ) (string : List ℕ) → i < length symbols →
       i < length ends → IsCopied (take i symbols) new start (take i ends) →
@@ -259,8 +240,7 @@ module _ (contents : List (List ℕ)) (old : List ℕ) where
       → IsCopied (take (i + 1) symbols) (put_mid start (start + length string - start) new written)
       (start + length string) (take (i + 1) (set ends i (start + length string)))
   copied_more symbols new ends written start i string inside inside' at there fits same =
-      let end = start + length string in let rest = drop end old in
-      let more = concat_more at.done string in
+      let end = start + length string in let rest = drop end old in let more = concat_more at.done string in
       let front : take start new ≡ concat at.done = ap (take start) at.buffer
       ∙ take_at (concat at.done) (drop start old) start (omega (arith, at.place)) in
       let left : drop start new ≡ drop start old = ap (drop start) at.buffer

@@ -1,8 +1,7 @@
 -- Which bytes a kind doesn't take.
-use Rattle.intaglio_c.proofs.Names.{◌∙◌, Bool, ◌≡◌, ℕ, zero, suc, true, false, List, [], ◌∷◌, ◌++◌, length, take, refl, sym, ap, cond, inl, inr, ◌⊎◌, if◌then◌else◌, Option, Some, None, Result, Ok, Err, ◌==◌, IsUtf8, is_some, get_or, none-some, TakesBack, interned, interned_all, State, first, StaleMark, Either, InternsOr, IsRolledBack, broken, earlier, fault, first_fault, has_key, key, utf8_fault, Kind, Refusal, BadEnds, Full, NoMemory, NotUtf8, IsFaultless, Seen, look_up, position, unless, InternsBy}
-use Rattle.std.specs.Prelude.{◌≢◌}
+use Rattle.intaglio_c.proofs.Names.{◌∙◌, Bool, ℕ, zero, suc, true, false, List, [], length, take, refl, sym, ap, cond, inl, inr, Option, Some, None, Result, Ok, Err, IsUtf8, is_some, get_or, none-some, TakesBack, interned, interned_all, State, first, StaleMark, Either, InternsOr, IsRolledBack, broken, earlier, fault, first_fault, HasKey, key, utf8_fault, Kind, Refusal, BadEnds, Full, NoMemory, NotUtf8, IsFaultless, AnyTable, fault_in, seen, Seen, look_up, position, unless, InternsBy}
+use Rattle.std.specs.Prelude.{◌≡◌, ◌∷◌, ◌++◌, ◌⊎◌, if◌then◌else◌, ◌==◌, ◌≢◌}
 use Rattle.std.specs.Str.{is_utf8}
-use Rattle.std.proofs.lemmas.Bool.{false_from_ne_true}
 use Rattle.std.proofs.lemmas.Str.{IsUtf8-from_is_utf8, is_utf8-from_IsUtf8}
 use Rattle.intaglio_frozen.specs.Layout.{strings}
 use Rattle.intaglio_interner.proofs.First.{key_eq-unequal}
@@ -26,18 +25,15 @@ bad-text bs bad = elim (is_utf8 bs) as (λ b. is_utf8 bs ≡ b → utf8_fault bs
   | false ↦ λ e. ap utf8_fault_by e
 ] refl
 
+pub ruleset texts = (good-text, bad-text)
+
 -- bytes without a fault as a text are UTF-8
 pub is_text : (bs : List ℕ) → utf8_fault bs ≡ None → IsUtf8 bs
-is_text bs none =
-    elim (is_utf8 bs) as (λ b. is_utf8 bs ≡ b → IsUtf8 bs) [
-      | true ↦ λ e. IsUtf8-from_is_utf8 bs e
-      | false ↦
-          λ e. absurd (none-some NotUtf8 (sym none ∙ ap utf8_fault_by e))
-    ] refl
-
--- the test for UTF-8 is false for bytes that aren't UTF-8
-pub no-text : (bs : List ℕ) → ¬ (IsUtf8 bs) → is_utf8 bs ≡ false
-no-text bs bad = false_from_ne_true (is_utf8 bs) (λ e. bad (IsUtf8-from_is_utf8 bs e))
+is_text bs none = elim (is_utf8 bs) as (λ b. is_utf8 bs ≡ b → IsUtf8 bs) [
+  | true ↦ λ e. IsUtf8-from_is_utf8 bs e
+  | false ↦
+      λ e. absurd (none-some NotUtf8 (sym none ∙ ap utf8_fault_by e))
+] refl
 
 -- lists of strings
 earlier-assoc : (a b c : Option Refusal) → earlier (earlier a b) c ≡ earlier a (earlier b c)
@@ -73,8 +69,7 @@ first-ones k (suc n) (x ∷ xs) none = let both = neither (fault k x) (first_fau
 pub all-interned : (k : Kind) (xs strings : List (List ℕ)) → first_fault k xs ≡ None →
     first_fault k strings ≡ None → first_fault k (interned_all (key k) xs strings) ≡ None
 all-interned k xs [] none more = none
-all-interned k xs (s ∷ strings) none more =
-    let both = neither (fault k s) (first_fault k strings) more in
+all-interned k xs (s ∷ strings) none more = let both = neither (fault k s) (first_fault k strings) more in
     all-interned k (interned (key k) xs s) strings (by_known (is_some (first (key k) xs (key k s))) both.0)
     both.1
   where
@@ -95,6 +90,10 @@ after None None true b s s' (Err NoMemory) (inr kept) = inl kept.contents
 after None None copies b s s' (Err _) never = absurd never
 after None (Some i) copies b s s' result known = inl (ap (λ (x : State (List ℕ)). x.contents) known.1)
 after (Some r) o copies b s s' result refused = inl (ap (λ (x : State (List ℕ)). x.contents) refused.1)
+
+-- so it is with the strings of a table that a handle holds
+pub held : {o : Option AnyTable} {x : AnyTable} → o ≡ Some x → fault_in o ≡ None → IsFaultless (seen x)
+held is none = ap fault_in (sym is) ∙ none
 
 -- a table that changes, all of whose strings are what its kind takes
 module _ (t t' : Seen) (same_kind : t'.kind ≡ t.kind) (faultless : IsFaultless t) where
@@ -143,27 +142,24 @@ module _ (t t' : Seen) (same_kind : t'.kind ≡ t.kind) (faultless : IsFaultless
 
 -- bytes that a kind doesn't take have no key, or not that of a string which it takes
 other-key : (k : Kind) (x b : List ℕ) (r : Refusal) → fault k x ≡ None → fault k b ≡ Some r →
-    has_key k b ≡ true → key k x ≢ key k b
+    HasKey k b → key k x ≢ key k b
 other-key (Owned rule) x b r good bad some same =
     none-some r (sym good ∙ ap (λ (ks : List (List ℕ)). broken rule (get_or ks 0 [])) same ∙ bad)
-other-key Path x b r good bad some same = none-some r (sym (ap utf8_fault_by some) ∙ bad)
+other-key Path x b r good bad some same = none-some r (sym some ∙ bad)
 other-key (Packed rule) x b r good bad some same =
     none-some r (sym good ∙ ap (λ (ks : List (List ℕ)). broken rule (get_or ks 0 [])) same ∙ bad)
 
 -- so a table doesn't have them
 not-there : (k : Kind) (xs : List (List ℕ)) (b : List ℕ) (r : Refusal) → first_fault k xs ≡ None →
-    fault k b ≡ Some r → has_key k b ≡ true → first (key k) xs (key k b) ≡ None
+    fault k b ≡ Some r → HasKey k b → first (key k) xs (key k b) ≡ None
 not-there k [] b r none bad some = refl
-not-there k (x ∷ xs) b r none bad some =
-    let both = neither (fault k x) (first_fault k xs) none in
-    rw (
-      key_eq-unequal (key k x) (key k b) (other-key k x b r both.0 bad some),
-      not-there k xs b r both.1 bad some,
-    ) refl
+not-there k (x ∷ xs) b r none bad some = let both = neither (fault k x) (first_fault k xs) none in rw (
+  key_eq-unequal (key k x) (key k b) (other-key k x b r both.0 bad some),
+  not-there k xs b r both.1 bad some,
+) refl
 
 -- what a look-up finds without a test
-pub untested : (t : Seen) (b : List ℕ) → IsFaultless t → has_key t.kind b ≡ true →
-    position t b ≡ found (look_up t b)
+pub untested : (t : Seen) (b : List ℕ) → IsFaultless t → HasKey t.kind b → position t b ≡ found (look_up t b)
 untested t b faultless some = by_fault (fault t.kind b) refl
   where
     by_fault : (f : Option Refusal) → fault t.kind b ≡ f → position t b ≡ found (unless f (position t b))

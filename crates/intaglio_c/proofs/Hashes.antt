@@ -1,5 +1,6 @@
 -- Hashes of strings by a table's keys.
-use Rattle.intaglio_c.proofs.Names.{◌≡◌, ℕ, List, sym, subst, AreFirst, IsHash, Seen, Kind, KeyedState}
+use Rattle.std.specs.Prelude.{◌≡◌}
+use Rattle.intaglio_c.proofs.Names.{ℕ, List, sym, subst, AreFirst, IsHash, Seen, Kind, KeyedState}
 
 -- a table whose state alone changed hashes as before
 pub moved : (t t' : Seen) (strings : List (List ℕ)) (ns : List ℕ) → t'.kind ≡ t.kind → t'.hasher ≡ t.hasher →

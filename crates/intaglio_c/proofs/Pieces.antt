@@ -1,5 +1,6 @@
 -- The strings of a list, and of a batch, by their position.
-use Rattle.intaglio_c.proofs.Names.{◌≡◌, ℕ, zero, suc, ◌-◌, ◌<◌, ◌≤◌, Bool, true, false, List, [], ◌∷◌, length, take, drop, refl, ap, arith, if◌then◌else◌, nat_lt, Some, slice_get, get_or, ltb-false, are_ends, pieces}
+use Rattle.std.specs.Prelude.{◌≡◌, ◌-◌, ◌<◌, ◌≤◌, ◌∷◌, if◌then◌else◌}
+use Rattle.intaglio_c.proofs.Names.{ℕ, zero, suc, Bool, true, false, List, [], length, take, drop, refl, ap, arith, nat_lt, Some, slice_get, get_or, ltb-false, are_ends, pieces}
 
 -- the strings of a batch
 pub pieces_length : (bytes : List ℕ) (start : ℕ) (ends : List ℕ) →
@@ -34,3 +35,5 @@ in_order size start (end ∷ ends) (suc i) good inside =
     let first =
     ascends size start end (are_ends size end ends) (nat_lt end start) (nat_lt size end) refl refl good in
     in_order size end ends i first.2 (omega (arith, inside))
+
+pub ruleset pieces_steps = (pieces_length, piece, in_order)

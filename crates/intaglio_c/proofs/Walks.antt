@@ -67,8 +67,7 @@ module _ (Z : RattleType) where
   -- a pointer and an allocator have the types of the fields
   pub word_fits : {M : Type 1} {𝓤 : Ura M} (𝓛 : Logic 𝓤) (p : Ptr) (h : Val) → Fits h →
       T (has_tys (tcons ty_ptr (tcons (layout Z) tnil)) (vcons (ptr_val p) (vcons h vnil))) × WT (word p h)
-  word_fits 𝓛 p h fits =
-      as_fields (ty_ptr ∷ layout Z ∷ []) (ptr_val p ∷ h ∷ [])
+  word_fits 𝓛 p h fits = as_fields (ty_ptr ∷ layout Z ∷ []) (ptr_val p ∷ h ∷ [])
       (((rawptr_Lawful 𝓛).typed p (ptr_val p ∷ []) refl).0, (fits, tt))
 
 module _ {M : Type 1} {𝓤 : Ura M} {𝓛 : Logic 𝓤} {K : Type 0} {Γ : List (Item 𝓤)} {G : Goal 𝓤 𝓛.H} where
@@ -76,8 +75,7 @@ module _ {M : Type 1} {𝓤 : Ura M} {𝓛 : Logic 𝓤} {K : Type 0} {Γ : List
   pub pair_out : K → (Z : RattleType) (laws : Laws Z) (p : Ptr) (a : Z.Denot) (vs : List Val)
       → ((h : Val) → vs ≡ word p h ∷ [] → Fits Z h → Seq K 𝓛 (‵ (Z.own_val a (h ∷ [])) ∷ Γ) G)
       → Seq K 𝓛 (‵ (pair_owns Z p a vs) ∷ Γ) G
-  pair_out t Z laws p a vs k =
-      fpick t (λ parts.
+  pair_out t Z laws p a vs k = fpick t (λ parts.
       fsplit t $ feq_l t (λ whole. fsplit t $ feq_l t (λ first. fsplit t $ move t (1 ∷ []) $ drop t $
       peeks t Z (Is Z) (shows 𝓛 Z) a parts.1.0 (λ is.
       one_value (layout Z) (λ us. parts.1.0 ≡ us → Seq K 𝓛 (‵ (Z.own_val a parts.1.0) ∷ Γ) G) parts.1.0
@@ -90,8 +88,7 @@ module _ {M : Type 1} {𝓤 : Ura M} {𝓛 : Logic 𝓤} {K : Type 0} {Γ : List
       Step K 𝓛 (‵ (pair_owns Z p a (word p h ∷ [])) ∷ Γ) G (‵ (Z.own_val a (h ∷ [])) ∷ Γ) G
   pair_in t Z p a h = step (λ s.
       nothing t $ move t (1 ∷ 0 ∷ []) $ fjoin t $ feq_i t (List Val) (ptr_val p ∷ []) (ptr_val p ∷ []) refl
-      $ fjoin t $
-      feq_i t (List Val) (word p h ∷ []) (word p h ∷ []) refl $ fjoin t $
+      $ fjoin t $ feq_i t (List Val) (word p h ∷ []) (word p h ∷ []) refl $ fjoin t $
       fpack t (Valss (RawPtr ∷ Z ∷ [])) (within (pair Z) (p, (a, tt)) (word p h ∷ [])) (
         ptr_val p ∷ [],
         (h ∷ [], tt),

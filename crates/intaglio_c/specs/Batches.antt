@@ -1,15 +1,10 @@
 -- Batches, as C passes them, many strings in one list of bytes with the end of
 -- each; and what becomes of them.
-use Rattle.std.specs.Prelude.{◌≡◌, ℕ, ◌+◌, ◌-◌, ◌^◌, ◌<◌, ◌≤◌, ◌==◌, Bool, true, false, if◌then◌else◌, nat_lt, List, [], ◌∷◌, ◌++◌, length, map, take, drop, slice_get, get_or, Option, Some, None, MatchOption, Result, Ok, Err}
-use Rattle.intaglio_frozen.specs.Ahead.{AreFirst}
-use Rattle.intaglio_c.specs.Words.{State, Refusal, NoTable, BadEnds, NoSymbol, NoSpace}
-use Rattle.std.specs.List.{concat}
-use Rattle.intaglio_interner.specs.Issue.{issue_from, interned_all}
+use Rattle.std.specs.Prelude.{◌≡◌, ◌+◌, ◌-◌, ◌^◌, ◌<◌, ◌≤◌, ◌==◌, if◌then◌else◌, ◌∷◌, ◌++◌}
+use Rattle.intaglio_c.specs.Words.{ℕ, Bool, true, false, nat_lt, List, [], length, map, take, drop, slice_get, get_or, Option, Some, None, MatchOption, Result, Ok, Err, AreFirst, State, Refusal, NoTable, BadEnds, NoSymbol, NoSpace, concat, issue_from, interned_all}
 use Rattle.intaglio_interner.specs.Lookup.{FindsEach}
 use Rattle.intaglio_c.specs.Handles.{found, table_of}
-use Rattle.intaglio_c.specs.Kinds.{first_fault, key}
-use Rattle.intaglio_c.specs.Seen.{Seen, look_up}
-use Rattle.intaglio_c.specs.Steps.{Interns}
+use Rattle.intaglio_c.specs.Seen.{first_fault, key, Seen, look_up, Interns}
 use Rattle.intaglio_c.specs.declared.handle.Handle.{Handle}
 
 -- the first if the condition is true, and otherwise the second
@@ -36,10 +31,11 @@ is_batch bytes ends places = if places == length ends then are_ends (length byte
 abbrev pub AreAll : (List ℕ → ℕ → Type 0) → List (List ℕ) → List ℕ → Type 0
 AreAll P strings ns = (length ns ≡ length strings) × AreFirst P strings ns
 
--- a batch is looked up: what is written for each string is what f says
-abbrev pub FindsBy : (List ℕ → ℕ) → List ℕ → List ℕ → List ℕ → List ℕ → Result (Unit {0}) Refusal → Type 0
-FindsBy f batch ends places symbols result =
-    Either (is_batch batch ends (length places)) ((result ≡ Ok tt) × (symbols ≡ map f (pieces batch 0 ends)))
+-- a batch is looked up: P holds of each string and the number that is written for it
+abbrev pub FindsBy : (List ℕ → ℕ → Type 0) → List ℕ → List ℕ → List ℕ → List ℕ → Result (Unit {0}) Refusal
+    → Type 0
+FindsBy P batch ends places symbols result =
+    Either (is_batch batch ends (length places)) ((result ≡ Ok tt) × AreAll P (pieces batch 0 ends) symbols)
     ((result ≡ Err BadEnds) × (symbols ≡ places))
 
 -- all strings are interned, in order: each is found at its symbol, behind what was there
@@ -88,8 +84,7 @@ InternsOr Left strings symbols t (Err refusal) s' = StopsAt t strings refusal ×
 -- a batch is interned, all or none
 abbrev pub InternsAll : List ℕ → List ℕ → List ℕ → List ℕ → Seen → Result (Unit {0}) Refusal →
     State (List ℕ) → Type 0
-InternsAll bytes ends places symbols t result s' =
-    Either (is_batch bytes ends (length places))
+InternsAll bytes ends places symbols t result s' = Either (is_batch bytes ends (length places))
     (InternsOr IsRolledBack (pieces bytes 0 ends) symbols t result s') ((result ≡ Err BadEnds)
     × (s' ≡ t.state))
 
@@ -98,11 +93,14 @@ abbrev pub or_absent : Option ℕ → ℕ
 or_absent None = 2 ^ 64 - 1
 or_absent (Some symbol) = symbol
 
+abbrev pub IsNumberIn : Seen → List ℕ → ℕ → Type 0
+IsNumberIn t string n = n ≡ or_absent (found (look_up t string))
+
 -- a batch is looked up
 abbrev pub FindsAll : List ℕ → List ℕ → List ℕ → List ℕ → Handle → Result (Unit {0}) Refusal → Type 0
 FindsAll bytes ends places symbols handle result =
     MatchOption (table_of handle) ((result ≡ Err NoTable) × (symbols ≡ places))
-    (λ t. FindsBy (λ string. or_absent (found (look_up t string))) bytes ends places symbols result)
+    (λ t. FindsBy (IsNumberIn t) bytes ends places symbols result)
 
 -- these are the strings of symbols
 abbrev pub AreStored : List (List ℕ) → List ℕ → List (List ℕ) → Type 0

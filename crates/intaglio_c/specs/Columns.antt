@@ -1,17 +1,12 @@
 -- What C sees of a column, which is its bytes.
-use Rattle.std.specs.Prelude.{◌≡◌, ◌≢◌, ℕ, ◌<◌, ◌≤◌, List, length, Some, MatchResult, Result, Ok, Err}
+use Rattle.std.specs.Prelude.{◌≡◌, ◌⊎◌, ◌≢◌}
+use Rattle.intaglio_c.specs.Words.{ℕ, List, length, MatchResult, Result, Ok, Err, Describes, HasRows, IsColumn, codes, AreCounts, file_of, header_for, lines, ColumnError, ColumnWriteError, Reference, Refusal, NoMemory, BadEnds, NoSymbol, NoKind, OtherVersion, Reserved, TooMany, Truncated, NotColumn, BadWidth, TrailingBytes, BadShard, Damaged}
 use Rattle.intaglio_columns.specs.Fault.{IsFault}
-use Rattle.intaglio_columns.specs.IsColumn.{Describes, HasRows, IsColumn}
-use Rattle.intaglio_columns.specs.Layout.{codes, shards, strings}
-use Rattle.intaglio_columns.specs.Rows.{AreCounts}
-use Rattle.intaglio_columns.specs.Writing.{IsRefusal, file_of, header_for, lines}
-use Rattle.intaglio_columns.specs.declared.file.error.ColumnError.{ColumnError}
+use Rattle.intaglio_columns.specs.Layout.{shards, strings}
+use Rattle.intaglio_columns.specs.Writing.{IsRefusal}
 use Rattle.intaglio_columns.specs.declared.file.error.ColumnError.TheVariants as fault
-use Rattle.intaglio_columns.specs.declared.file.error.ColumnWriteError.{ColumnWriteError}
 use Rattle.intaglio_columns.specs.declared.file.error.ColumnWriteError.TheVariants as error
-use Rattle.intaglio_c.specs.Handles.{filled}
-use Rattle.intaglio_c.specs.declared.reference.Reference.{Reference}
-use Rattle.intaglio_c.specs.Words.{Refusal, NoMemory, BadEnds, NoSymbol, NoSpace, NoKind, OtherVersion, Reserved, TooMany, Truncated, NotColumn, BadWidth, TrailingBytes, BadShard, Damaged}
+use Rattle.intaglio_c.specs.Handles.{GivesMade}
 
 -- the error for C of what is wrong with bytes
 abbrev pub column_refusal : ColumnError → Refusal
@@ -48,16 +43,13 @@ Counts bs places counts gone gone' (Err BadEnds) =
 Counts bs places counts gone gone' (Err refusal) = (¬ HasRows bs) × IsNoColumn bs refusal × (counts ≡ places)
     × (gone' ≡ gone)
 
--- bytes are the column of these codes; their number is written, and they are copied to the start of a
--- buffer if it has space for them
-pub record IsColumnWritten (to : Reference) (cs old new : List ℕ) (size : ℕ) (bs : List ℕ) : Type 0 where
+-- bytes are the column of these codes
+pub record IsColumnOf (to : Reference) (cs bs : List ℕ) : Type 0 where
   pub bytes : bs ≡ file_of (header_for to.id to.shards lines cs) cs
   pub column : IsColumn bs
   pub dictionary : Describes bs to.id
-  pub shards : shards bs ≡ to.shards
+  pub shards : to.shards ≡ shards bs
   pub codes : codes bs ≡ cs
-  pub len : size ≡ length bs
-  pub buffer : new ≡ filled old (Some bs)
 
 -- the error for C of why codes weren't made a column
 abbrev pub write_refusal : ColumnWriteError → Refusal
@@ -66,13 +58,11 @@ write_refusal (error.NoString _) = NoSymbol
 write_refusal (error.Missing _) = NoSymbol
 write_refusal error.Memory = NoMemory
 
--- codes are made a column of a dictionary, by the result
+-- why codes aren't made a column
+abbrev pub CannotWrite : Reference → List ℕ → Refusal → Type 0
+CannotWrite to cs refusal = ((refusal ≡ BadShard) × (to.shards ≡ 0))
+    ⊎ ((why : ColumnWriteError) × (refusal ≡ write_refusal why) × IsRefusal 0 to.id.count cs why)
+
+-- codes are made a column of a dictionary
 abbrev pub WritesColumn : Reference → List ℕ → List ℕ → List ℕ → ℕ → ℕ → Result (Unit {0}) Refusal → Type 0
-WritesColumn to cs buffer buffer' len len' (Ok _) =
-    (bs : List ℕ) × IsColumnWritten to cs buffer buffer' len' bs × (length bs ≤ length buffer)
-WritesColumn to cs buffer buffer' len len' (Err NoSpace) =
-    (bs : List ℕ) × IsColumnWritten to cs buffer buffer' len' bs × (length buffer < length bs)
-WritesColumn to cs buffer buffer' len len' (Err BadShard) =
-    (to.shards ≡ 0) × (buffer' ≡ buffer) × (len' ≡ len)
-WritesColumn to cs buffer buffer' len len' (Err refusal) = (why : ColumnWriteError)
-    × (refusal ≡ write_refusal why) × IsRefusal 0 to.id.count cs why × (buffer' ≡ buffer) × (len' ≡ len)
+WritesColumn to cs = GivesMade (IsColumnOf to cs) (CannotWrite to cs)

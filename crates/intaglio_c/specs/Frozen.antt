@@ -1,26 +1,18 @@
--- What C sees of a frozen table, which is its bytes.
-use Rattle.std.specs.Prelude.{◌≡◌, ◌⊎◌, ℕ, ◌<◌, ◌≤◌, true, false, List, [], ◌∷◌, length, slice_get, Option, Some, None, MatchOption, MatchResult, IsErrAnd, Result, Ok, Err, ◌==◌}
-use Rattle.intaglio_c.specs.Words.{State, first, Rule, Refusal, NoTable, NoMemory, NotUtf8, BadEnds, NoSpace, NoKind, NotFrozen, OtherVersion, Reserved, TooMany, Truncated, TextEnds, Unused, NotFound, TooLong, Equal, NoPlaces, TrailingBytes, BadShard, OtherIdentity}
+-- What C sees of a frozen table, which is its bytes, and of the dictionaries that files name.
+use Rattle.std.specs.Prelude.{◌≡◌, ◌⊎◌, ◌≤◌, ◌∷◌, ◌==◌}
+use Rattle.intaglio_c.specs.Words.{ℕ, List, [], length, slice_get, Option, Some, None, MatchOption, MatchResult, IsErrAnd, Result, Ok, Err, State, first, Rule, Refusal, NoTable, NoMemory, NotUtf8, BadEnds, NoKind, NotFrozen, OtherVersion, Reserved, TooMany, Truncated, TextEnds, Unused, NotFound, TooLong, Equal, NoPlaces, TrailingBytes, BadShard, OtherIdentity, HasKeys, IsTableOf, HasSections, IsBlock, IsFrozen, AreSectionsOf, IsAt, FreezeError, FrozenError, FrozenKind, Sections, Place, Bool, Describes, HasRows, rows, shards_of, source_of, IsIdOfStrings, is_text_number, HasHeader, number_of, kind, set0, set1, shard, DictionaryId, SetId, Reference}
 use Rattle.intaglio_frozen.specs.Fault.{IsFault}
-use Rattle.intaglio_frozen.specs.Freezing.{HasKeys, IsRefusal, IsTableOf}
-use Rattle.intaglio_frozen.specs.IsFrozen.{HasSections, IsBlock, IsFrozen}
-use Rattle.intaglio_frozen.specs.Layout.{strings}
-use Rattle.intaglio_frozen.specs.Sections.{AreSectionsOf}
-use Rattle.intaglio_frozen.specs.SetId.{IsAt}
-use Rattle.intaglio_frozen.specs.declared.error.FreezeError.{FreezeError}
+use Rattle.intaglio_frozen.specs.Freezing.{IsRefusal}
+use Rattle.intaglio_frozen.specs.Layout.{strings, count, shards}
 use Rattle.intaglio_frozen.specs.declared.error.FreezeError.TheVariants as error
-use Rattle.intaglio_frozen.specs.declared.error.FrozenError.{FrozenError}
 use Rattle.intaglio_frozen.specs.declared.error.FrozenError.TheVariants as fault
-use Rattle.intaglio_frozen.specs.declared.kind.Kind.{Kind as FrozenKind}
 use Rattle.intaglio_frozen.specs.declared.kind.Kind.TheVariants as frozen
-use Rattle.intaglio_frozen.specs.declared.sections.Sections.{Sections}
-use Rattle.intaglio_frozen.specs.declared.set_id.Place.{Place}
-use Rattle.intaglio_c.specs.Batches.{AreAll, Either, FindsBy, InternsOr, IsRolledBack, is_batch, or_absent, pieces}
-use Rattle.intaglio_c.specs.Handles.{filled, table_of}
-use Rattle.intaglio_c.specs.Kinds.{rule_of}
-use Rattle.intaglio_c.specs.Seen.{Seen}
+use Rattle.intaglio_c.specs.Batches.{Either, FindsBy, InternsOr, IsRolledBack, or_absent}
+use Rattle.intaglio_c.specs.Handles.{GivesMade, table_of}
+use Rattle.intaglio_c.specs.Seen.{rule_of, Seen}
 use Rattle.intaglio_c.specs.declared.handle.Handle.{Handle}
 use Rattle.intaglio_c.specs.declared.kind.Rule.TheVariants as rule
+use Rattle.intaglio_c.specs.Columns.{IsNoColumn}
 
 -- the error for C of what is wrong with bytes
 abbrev pub frozen_refusal : FrozenError → Refusal
@@ -56,31 +48,22 @@ ReadsSections bs old new (Err refusal) = (¬ HasSections bs) × IsRefused bs ref
 abbrev pub position_in : List (List ℕ) → List ℕ → Option ℕ
 position_in list w = first (λ s. s ∷ []) list (w ∷ [])
 
--- a batch is looked up in a list of strings
-abbrev pub FindsEach : List (List ℕ) → List ℕ → List ℕ → List ℕ → List ℕ → Result (Unit {0}) Refusal → Type 0
-FindsEach list = FindsBy (λ w. or_absent (position_in list w))
-
--- what is written for a string that is looked up in bytes that may be no frozen table: that it isn't
--- found, or a symbol that has it
-abbrev pub IsEqualOrAbsent : List (List ℕ) → List ℕ → ℕ → Type 0
-IsEqualOrAbsent list w n = (n ≡ or_absent None) ⊎ (slice_get list n ≡ Some w)
+-- what may be written for a string that is looked up in bytes: that it isn't found, or a symbol that has it;
+-- and what is, if they are a frozen table
+pub record MayBeIn (bs w : List ℕ) (n : ℕ) : Type 0 where
+  pub equal : (n ≡ or_absent None) ⊎ (slice_get (strings bs) n ≡ Some w)
+  pub exact : IsFrozen bs → n ≡ or_absent (position_in (strings bs) w)
 
 -- a batch is looked up in bytes with the sections of a frozen table, and otherwise nothing is written
 abbrev pub FindsEachTrusted : List ℕ → List ℕ → List ℕ → List ℕ → List ℕ → Result (Unit {0}) Refusal → Type 0
-FindsEachTrusted bs batch ends places symbols (Ok _) = HasSections bs
-    × (is_batch batch ends (length places) ≡ true)
-    × AreAll (IsEqualOrAbsent (strings bs)) (pieces batch 0 ends) symbols
-FindsEachTrusted bs batch ends places symbols (Err BadEnds) =
-    HasSections bs × (is_batch batch ends (length places) ≡ false) × (symbols ≡ places)
-FindsEachTrusted bs batch ends places symbols (Err refusal) =
-    (¬ HasSections bs) × IsRefused bs refusal × (symbols ≡ places)
+FindsEachTrusted bs batch ends places symbols result =
+    (HasSections bs × FindsBy (MayBeIn bs) batch ends places symbols result)
+    ⊎ ((¬ HasSections bs) × IsErrAnd result (IsRefused bs) × (symbols ≡ places))
 
 -- all strings of a frozen table are interned, all or none, as are those of any bytes with its header whose
 -- strings fill their text; other bytes are refused
 abbrev pub Absorbs : List ℕ → List ℕ → List ℕ → Seen → Result (Unit {0}) Refusal → State (List ℕ) → Type 0
-Absorbs bs places symbols t result s' =
-    (IsBlock bs
-    × Either (length places == length (strings bs))
+Absorbs bs places symbols t result s' = (IsBlock bs × Either (length places == length (strings bs))
     (InternsOr IsRolledBack (strings bs) symbols t result s') ((result ≡ Err BadEnds) × (s' ≡ t.state)))
     ⊎ ((¬ IsBlock bs) × IsErrAnd result (IsRefused bs) × (s' ≡ t.state))
 
@@ -106,27 +89,92 @@ pub record IsFrozenOf (t : Seen) (keys : ℕ × ℕ) (place : Place) (bs : List 
   pub placed : IsAt place bs
   pub keyed : HasKeys keys.0 keys.1 bs
 
--- the number of the bytes is written, and they are copied to the start of a buffer if it has space for them
-pub record IsWrittenTo (t : Seen) (keys : ℕ × ℕ) (place : Place) (old new : List ℕ) (size : ℕ) (bs : List ℕ)
-    : Type 0 where
-  pub bytes : IsFrozenOf t keys place bs
-  pub len : size ≡ length bs
-  pub buffer : new ≡ filled old (Some bs)
+-- why a table isn't frozen at a place
+abbrev pub CannotFreeze : Seen → Place → Refusal → Type 0
+CannotFreeze t place refusal = ((refusal ≡ BadShard) × (place.shards ≤ place.shard))
+    ⊎ ((error : FreezeError) × (refusal ≡ freeze_refusal error)
+    × IsRefusal (frozen_kind (rule_of t.kind)) t.state.contents error)
 
--- a table is frozen under keys at a place, by the result
-abbrev pub Freezes : ℕ × ℕ → Place → List ℕ → List ℕ → ℕ → ℕ → Seen → Result (Unit {0}) Refusal → Type 0
-Freezes keys place buffer buffer' len len' t (Ok _) =
-    (bs : List ℕ) × IsWrittenTo t keys place buffer buffer' len' bs × (length bs ≤ length buffer)
-Freezes keys place buffer buffer' len len' t (Err NoSpace) =
-    (bs : List ℕ) × IsWrittenTo t keys place buffer buffer' len' bs × (length buffer < length bs)
-Freezes keys place buffer buffer' len len' t (Err BadShard) =
-    (place.shards ≤ place.shard) × (buffer' ≡ buffer) × (len' ≡ len)
-Freezes keys place buffer buffer' len len' t (Err refusal) = (error : FreezeError)
-    × (refusal ≡ freeze_refusal error) × IsRefusal (frozen_kind (rule_of t.kind)) t.state.contents error
-    × (buffer' ≡ buffer) × (len' ≡ len)
-
--- the same of the table that a handle holds
+-- the table that a handle holds is frozen under keys at a place
 abbrev pub FreezesHeld : Handle → ℕ × ℕ → Place → List ℕ → List ℕ → ℕ → ℕ → Result (Unit {0}) Refusal → Type 0
 FreezesHeld handle keys place buffer buffer' len len' result =
-    MatchOption (table_of handle) ((result ≡ Err NoTable) × (buffer' ≡ buffer) × (len' ≡ len))
-    (λ t. Freezes keys place buffer buffer' len len' t result)
+    MatchOption (table_of handle) ((result ≡ Err NoTable) × (buffer' ≡ buffer) × (len' ≡ len)) (λ t.
+    GivesMade (IsFrozenOf t keys place) (CannotFreeze t place) buffer buffer' len len' result)
+
+-- what a frozen table says: which shard of which set it is, and how many strings it has
+abbrev pub reference_in : List ℕ → Reference
+reference_in bs = record {
+  id = record { is_text = is_text_number (kind bs); count = count bs; hash0 = set0 bs; hash1 = set1 bs };
+  shards = shards bs;
+  shard = shard bs;
+}
+
+-- it is written; or what is wrong with the header is returned, and nothing is written
+abbrev pub ReadsReference : List ℕ → Reference → Reference → Result (Unit {0}) Refusal → Type 0
+ReadsReference bs old new (Ok _) = HasHeader bs × (new ≡ reference_in bs)
+ReadsReference bs old new (Err refusal) = (¬ HasHeader bs) × IsRefused bs refusal × (new ≡ old)
+
+-- what a column says of the dictionary to which its codes lead: in the map of a shard, it is the shard with
+-- the same number
+pub record IsTargetOf (bs : List ℕ) (to : Reference) : Type 0 where
+  pub id : Describes bs to.id
+  pub shards : to.shards ≡ shards_of bs
+  pub shard : to.shard ≡ (source_of bs).shard
+
+-- what it says of the dictionary, or the shard, whose strings are its rows: no shards if they are lines
+abbrev pub source_in : List ℕ → Reference
+source_in bs = record {
+  id = record {
+    is_text = (source_of bs).is_text;
+    count = rows bs;
+    hash0 = (source_of bs).hash0;
+    hash1 = (source_of bs).hash1;
+  };
+  shards = (source_of bs).shards;
+  shard = (source_of bs).shard;
+}
+
+-- one of these is written; or what is wrong with the bytes is returned, and nothing is written
+abbrev pub ReadsTarget : List ℕ → Reference → Reference → Result (Unit {0}) Refusal → Type 0
+ReadsTarget bs old new (Ok _) = HasRows bs × IsTargetOf bs new
+ReadsTarget bs old new (Err refusal) = (¬ HasRows bs) × IsNoColumn bs refusal × (new ≡ old)
+
+abbrev pub ReadsSource : List ℕ → Reference → Reference → Result (Unit {0}) Refusal → Type 0
+ReadsSource bs old new (Ok _) = HasRows bs × (new ≡ source_in bs)
+ReadsSource bs old new (Err refusal) = (¬ HasRows bs) × IsNoColumn bs refusal × (new ≡ old)
+
+-- the set of a dictionary
+abbrev pub set_in : Reference → SetId
+set_in r = record { hash0 = r.id.hash0; hash1 = r.id.hash1 }
+
+-- the place of a shard
+abbrev pub place_in : Reference → Place
+place_in r = record { set = set_in r; shards = r.shards; shard = r.shard }
+
+-- what the strings of a single table are
+abbrev pub own_id : Reference → DictionaryId
+own_id r = r.id
+
+-- the hashes of a set that was made are written; or there is no memory, and nothing is
+abbrev pub MakesSet : SetId → ℕ × ℕ → ℕ × ℕ → Result (Unit {0}) Refusal → Type 0
+MakesSet made old new (Ok _) = (new.0 ≡ made.hash0) × (new.1 ≡ made.hash1)
+MakesSet made old new (Err refusal) = (refusal ≡ NoMemory) × (new.0 ≡ old.0) × (new.1 ≡ old.1)
+
+-- the place of a table in a file of its own
+abbrev pub single : Place
+single = record { set = record { hash0 = 0; hash1 = 0 }; shards = 1; shard = 0 }
+
+-- whether the strings of a table are texts in a frozen table
+abbrev pub are_texts : Seen → Bool
+are_texts t = is_text_number (number_of (frozen_kind (rule_of t.kind)))
+
+-- what the dictionary of a table's strings in one file is
+pub record IsSingle (t : Seen) (r : Reference) : Type 0 where
+  pub id : IsIdOfStrings (are_texts t) t.state.contents r.id
+  pub shards : r.shards ≡ 1
+  pub shard : r.shard ≡ 0
+
+-- it is written of the table that a handle holds
+abbrev pub IdentifiesHeld : Handle → Reference → Reference → Result (Unit {0}) Refusal → Type 0
+IdentifiesHeld handle old new result = MatchOption (table_of handle) ((result ≡ Err NoTable) × (new ≡ old))
+    (λ t. (result ≡ Ok tt) × IsSingle t new)

@@ -1,12 +1,82 @@
--- What C sees of a handle, and what calls do to it.
-use Rattle.std.specs.Prelude.{◌≡◌, ℕ, ◌+◌, List, [], ◌++◌, length, drop, slice_get, nat_lt, if◌then◌else◌, Option, Some, None, option_map, option_and_then, MatchOption, IsSomeAnd, Result, Ok, Err}
-use Rattle.intaglio_c.specs.Words.{Empties, State, initial_hasher, Kind, Refusal, NoTable, NoMemory, TooLarge, NoKind}
-use Rattle.std.specs.declared.hash.DefaultHasher.{DefaultHasher}
-use Rattle.intaglio_c.specs.Answers.{answer_code, IsCodeOf, IsWritten}
-use Rattle.intaglio_c.specs.Kinds.{kind_of}
-use Rattle.intaglio_c.specs.Seen.{IsOutside, Seen, most_of, room_of, seen, IsChangedBy, look_up}
-use Rattle.intaglio_c.specs.declared.any_table.size.Size.{Size}
+-- What a code says, what C sees of a handle, and what calls do to it.
+use Rattle.std.specs.Prelude.{◌≡◌, ◌⊎◌, ◌<◌, ◌≤◌, ◌+◌, ◌++◌, if◌then◌else◌}
+use Rattle.intaglio_c.specs.Words.{ℕ, Bool, true, false, Option, Some, None, Result, Ok, Err, Refusal, NoTable, Full, NoMemory, TooLarge, Stale, NotUtf8, InnerZero, MissingZero, BadEnds, NoSymbol, NoSpace, NoKind, NotFrozen, OtherVersion, Reserved, TooMany, Truncated, TextEnds, Unused, NotFound, TooLong, Equal, NoPlaces, NotColumn, BadWidth, TrailingBytes, BadShard, OtherIdentity, Damaged, InternError, Overflow, Memory, RoomError, StaleMark, IsErrAnd, List, [], length, drop, slice_get, nat_lt, option_map, option_and_then, MatchOption, IsSomeAnd, Empties, State, initial_hasher, Kind, DefaultHasher, Size}
+use Rattle.intaglio_symbol.specs.declared.error.RoomError.TheVariants as room_error
+use Rattle.intaglio_c.specs.Seen.{kind_of, IsOutside, Seen, most_of, room_of, seen, IsChangedBy, look_up}
 use Rattle.intaglio_c.specs.declared.handle.Handle.{Handle}
+
+-- the code of an error
+abbrev pub refusal_code : Refusal → ℕ
+refusal_code NoTable = 1
+refusal_code Full = 2
+refusal_code NoMemory = 3
+refusal_code TooLarge = 4
+refusal_code Stale = 5
+refusal_code NotUtf8 = 6
+refusal_code InnerZero = 7
+refusal_code MissingZero = 8
+refusal_code BadEnds = 9
+refusal_code NoSymbol = 10
+refusal_code NoSpace = 11
+refusal_code NoKind = 12
+refusal_code NotFrozen = 13
+refusal_code OtherVersion = 14
+refusal_code Reserved = 15
+refusal_code TooMany = 16
+refusal_code Truncated = 17
+refusal_code TextEnds = 18
+refusal_code Unused = 19
+refusal_code NotFound = 20
+refusal_code TooLong = 21
+refusal_code Equal = 22
+refusal_code NoPlaces = 23
+refusal_code NotColumn = 24
+refusal_code BadWidth = 25
+refusal_code TrailingBytes = 26
+refusal_code BadShard = 27
+refusal_code OtherIdentity = 28
+refusal_code Damaged = 29
+
+module _ {X : Type 0} where
+  -- the code of a result: 0 if the call succeeded
+  abbrev pub answer_code : Result X Refusal → ℕ
+  answer_code (Ok _) = 0
+  answer_code (Err refusal) = refusal_code refusal
+
+  -- the code is that of a result of which P holds
+  abbrev pub IsCodeOf : ℕ → (Result X Refusal → Type 0) → Type 0
+  IsCodeOf code P = (answer : Result X Refusal) × (code ≡ answer_code answer) × P answer
+
+-- a symbol that is returned is written; otherwise what was there stays
+abbrev pub IsWritten : Result ℕ Refusal → ℕ → ℕ → Type 0
+IsWritten (Ok symbol) before after = after ≡ symbol
+IsWritten (Err _) before after = after ≡ before
+
+-- a value, if it is given
+abbrev pub given : {X : Type 0} → Bool → X → Option X
+given true x = Some x
+given false x = None
+
+-- the error for C of an error of a constructor, a reservation or a shrink
+abbrev pub room_refusal : RoomError → Refusal
+room_refusal room_error.CapacityOverflow = TooLarge
+room_refusal (room_error.Memory _) = NoMemory
+
+-- the result for C of a constructor, a reservation or a shrink
+abbrev pub room_answer : Result (Unit {0}) RoomError → Result (Unit {0}) Refusal
+room_answer (Ok done) = Ok done
+room_answer (Err error) = Err (room_refusal error)
+
+-- the result for C of a rollback
+abbrev pub mark_answer : Result (Unit {0}) StaleMark → Result (Unit {0}) Refusal
+mark_answer (Ok done) = Ok done
+mark_answer (Err _) = Err Stale
+
+-- the result for C of an interning
+abbrev pub symbol_answer : Result ℕ InternError → Result ℕ Refusal
+symbol_answer (Ok symbol) = Ok symbol
+symbol_answer (Err (Overflow _)) = Err Full
+symbol_answer (Err (Memory _)) = Err NoMemory
 
 -- the table that a handle holds, if it holds one
 abbrev pub table_of : Handle → Option Seen
@@ -23,8 +93,7 @@ HoldsNone handle = handle.ptr.table ≡ None
 -- a call may change the state of the table; without a table it returns `NoTable`
 abbrev pub Changes : {X : Type 0} → Handle → Handle → Result X Refusal →
     (Seen → Result X Refusal → State (List ℕ) → Type 0) → Type 0
-Changes old new result Step =
-    MatchOption (table_of old) ((result ≡ Err NoTable) × HoldsNone new) (λ before.
+Changes old new result Step = MatchOption (table_of old) ((result ≡ Err NoTable) × HoldsNone new) (λ before.
     IsSomeAnd (table_of new) (λ after. IsChangedBy before after (λ _ s'. Step before result s')))
 
 -- the same from C, which gets the code of the result
@@ -40,8 +109,7 @@ ChangesWithSymbol old new code before after Step = (answer : Result ℕ Refusal)
 
 -- the table, if there is one, is cleared
 abbrev pub Clears : Handle → Handle → Type 0
-Clears old new =
-    MatchOption (table_of old) (HoldsNone new) (λ before.
+Clears old new = MatchOption (table_of old) (HoldsNone new) (λ before.
     IsSomeAnd (table_of new) (λ after. IsChangedBy before after Empties))
 
 -- a new table, whose builder makes this hasher
@@ -61,8 +129,7 @@ Makes (Some kind) new (Err _) IsTooLarge IsMade = ⊥
 
 -- a table of this size is made
 abbrev pub MakesSized : ℕ → Size → DefaultHasher → Handle → Result (Unit {0}) Refusal → Type 0
-MakesSized kind size hasher new result =
-    Makes (kind_of kind) new result (IsOutside size) (λ which t.
+MakesSized kind size hasher new result = Makes (kind_of kind) new result (IsOutside size) (λ which t.
     IsNew t which (room_of size) (most_of size) hasher)
 
 -- what a look-up found
@@ -83,6 +150,19 @@ abbrev pub filled : List ℕ → Option (List ℕ) → List ℕ
 filled buffer None = buffer
 filled buffer (Some bytes) =
     if nat_lt (length buffer) (length bytes) then buffer else bytes ++ drop (length bytes) buffer
+
+-- the number of these bytes is written, and they are copied to the start of a buffer; or it is too short
+abbrev pub Gives : List ℕ → List ℕ → List ℕ → ℕ → Result (Unit {0}) Refusal → Type 0
+Gives bs old new size (Ok _) = (size ≡ length bs) × (new ≡ filled old (Some bs)) × (length bs ≤ length old)
+Gives bs old new size (Err NoSpace) =
+    (size ≡ length bs) × (new ≡ filled old (Some bs)) × (length old < length bs)
+Gives bs old new size (Err _) = ⊥
+
+-- bytes of which Made holds are given; or there is a reason why there are none, and nothing is written
+abbrev pub GivesMade : (List ℕ → Type 0) → (Refusal → Type 0) → List ℕ → List ℕ → ℕ → ℕ →
+    Result (Unit {0}) Refusal → Type 0
+GivesMade Made Why old new size size' result = ((bs : List ℕ) × Made bs × Gives bs old new size' result)
+    ⊎ (IsErrAnd result Why × (new ≡ old) × (size' ≡ size))
 
 -- the number of contents, and the capacity
 abbrev pub count : Option Seen → ℕ

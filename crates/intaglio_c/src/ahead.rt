@@ -1,6 +1,6 @@
 //! Look-ups of strings in groups, hashed ahead.
-ghost use Rattle.std.specs.Prelude.{◌≡◌, ℕ, List, length, map};
-ghost use Rattle.intaglio_c.specs.Batches.{AreAll, or_absent};
+ghost use Rattle.std.specs.Prelude.{◌≡◌, ℕ, List, length, ⊤};
+ghost use Rattle.intaglio_c.specs.Cited.{AreAll, MayBeIn};
 
 use intaglio_core::GROUP;
 use intaglio_frozen::ahead::{HashesAhead, look_ahead};
@@ -8,26 +8,24 @@ use intaglio_frozen::{StringList, TrustedFrozen};
 
 /// What strings are looked up in.
 pub(crate) trait LookUps: HashesAhead {
+    // What a look-up rests on.
+    ghost is_sound: { Self → Type 0 };
+
     // Whether a number may be written for a string.
     ghost may_be: { Self → List ℕ → ℕ → Type 0 };
 
-    // Whether the number of each string is fixed, and what it then is.
-    ghost is_exact: { Self → Type 0 };
-
-    ghost number: { Self → List ℕ → ℕ };
-
     // The number that is written for a string, by its hash.
     fn find_number(&self, hash: u64, bytes: &[u8]) -> u64
-        requires { Self.is_hash self.now bytes.now hash }
-        ensures found { may_be self.now bytes.now result }
-        ensures exact { is_exact self.now → result ≡ number self.now bytes.now };
+        requires sound { is_sound self.now }
+        requires hash { Self.is_hash self.now bytes.now hash }
+        ensures { may_be self.now bytes.now result };
 }
 
 // Looks up strings, and writes the number of each.
 pub(crate) fn find_each<T: LookUps, L: StringList>(table: &T, list: &L, symbols: &mut [u64])
+    requires sound { T.is_sound table.now }
     requires places { length symbols.old ≡ length (L.strings list.now) }
     ensures found { AreAll (T.may_be table.now) (L.strings list.now) symbols.new }
-    ensures exact { T.is_exact table.now → symbols.new ≡ map (T.number table.now) (L.strings list.now) }
 {
     let mut hashes = [0u64; GROUP];
     let mut used = GROUP;
@@ -39,15 +37,9 @@ pub(crate) fn find_each<T: LookUps, L: StringList>(table: &T, list: &L, symbols:
 }
 
 impl LookUps for TrustedFrozen<'_> {
-    ghost use Rattle.intaglio_frozen.specs.IsFrozen.{IsFrozen};
-    ghost use Rattle.intaglio_frozen.specs.Layout.{strings};
-    ghost use Rattle.intaglio_c.specs.Frozen.{IsEqualOrAbsent, position_in};
+    ghost is_sound = { λ bytes. ⊤ };
 
-    ghost may_be = { λ bytes. IsEqualOrAbsent (strings bytes) };
-
-    ghost is_exact = { λ bytes. IsFrozen bytes };
-
-    ghost number = { λ bytes string. or_absent (position_in (strings bytes) string) };
+    ghost may_be = { λ bytes. MayBeIn bytes };
 
     #[inline(always)]
     fn find_number(&self, hash: u64, bytes: &[u8]) -> u64 {

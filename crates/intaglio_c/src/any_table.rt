@@ -6,6 +6,17 @@ use intaglio_hash::KeyedState;
 use intaglio_packed::Packed;
 use intaglio_path::PathContent;
 
+// The same expression for the table of each kind.
+macro_rules! on_table {
+    ($any:expr, $table:ident => $call:expr) => {
+        match $any {
+            AnyTable::Owned(_, $table) => $call,
+            AnyTable::Path($table) => $call,
+            AnyTable::Packed(_, $table) => $call,
+        }
+    };
+}
+
 mod batches;
 mod bytes;
 pub(crate) mod freeze;

@@ -1,6 +1,6 @@
 //! Batches, as C passes them: many strings in one list of bytes, with the end of each.
-ghost use Rattle.std.specs.Prelude.{◌≡◌, ◌-◌, ◌≤◌, ◌∷◌, true, length, take, drop, get_or};
-ghost use Rattle.intaglio_c.specs.Batches.{are_ends, is_batch, pieces};
+ghost use Rattle.std.specs.Prelude.{◌≡◌, ◌-◌, ◌≤◌, ◌∷◌, true, length, get_or};
+ghost use Rattle.intaglio_c.specs.Cited.{are_ends, is_batch, pieces};
 
 use intaglio_frozen::StringList;
 use intaglio_records::part;
@@ -51,7 +51,7 @@ fn start_of(ends: &[usize], i: usize) -> usize
     ends[i - 1]
 }
 
-#[tactic(auto, using(crate::proofs::Pieces::pieces_length))]
+#[tactic(auto, using(crate::proofs::Pieces::pieces_steps))]
 impl StringList for Batch<'_> {
     ghost strings = { λ batch. pieces batch.bytes.now 0 batch.ends.now };
 

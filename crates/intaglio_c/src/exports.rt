@@ -2,14 +2,40 @@
 //! also has names for each. A frozen table has no handle, and neither has a column: they are their bytes.
 ghost use Rattle.std.specs.Prelude.{◌≡◌};
 
-// The table of a handle, lent. Without a table the call returns at once.
+// The table of a handle, lent. Without a table the call returns at once: `NoTable`, or what is given.
 macro_rules! table_of {
+    ($handle:ident) => {
+        table_of!($handle, code(failed(Refusal::NoTable)))
+    };
     ($handle:ident, $without:expr) => {{
         if !$handle.live {
             return $without;
         }
         $handle.ptr.table_mut()
     }};
+}
+
+// The value of a result. The code of an error is returned at once.
+macro_rules! or_code {
+    ($result:expr) => {
+        match $result {
+            Ok(value) => value,
+            Err(error) => return code(failed(Refusal::from(error))),
+        }
+    };
+}
+
+// Writes a part of what was found, if something was, and returns whether it was.
+macro_rules! write_found {
+    ($found:expr, $part:ident => $place:ident = $value:expr) => {
+        match $found {
+            Some($part) => {
+                *$place = $value;
+                true
+            }
+            None => false,
+        }
+    };
 }
 
 mod columns;

@@ -1,7 +1,6 @@
 //! A handle of a table, as C holds it.
 ghost use Rattle.std.specs.Prelude.{◌≡◌, is_some};
-ghost use Rattle.std.specs.Option.{option_map};
-ghost use Rattle.std.specs.declared.option.Option.TheVariants.{None, Some};
+ghost use Rattle.std.specs.declared.option.Option.TheVariants.{None};
 ghost use Rattle.intaglio_c.specs.Seen.{fault_in};
 
 use crate::any_table::AnyTable;
@@ -30,17 +29,6 @@ impl Handle {
         Handle {
             live: false,
             ptr: TablePtr::none(alloc),
-        }
-    }
-
-    fn into_table(self) -> Option<Box<AnyTable>>
-        ensures table { option_map (λ boxed. boxed.value) result ≡ self.ptr.table }
-    {
-        let Handle { live, ptr } = self;
-        if live {
-            Some(ptr.into_parts().into_box())
-        } else {
-            None
         }
     }
 }
@@ -77,6 +65,9 @@ impl Handle {
 
 impl Drop for Handle {
     fn drop(self) {
-        drop(self.into_table());
+        let Handle { live, ptr } = self;
+        if live {
+            drop(ptr.into_parts().into_box());
+        }
     }
 }

@@ -1,7 +1,6 @@
 //! The kinds of tables, and what each wants of the bytes that come in.
 ghost use Rattle.std.specs.Prelude.{◌≡◌, IfOk, IfErr, None, Some};
-ghost use Rattle.std.specs.Str.{is_utf8};
-ghost use Rattle.intaglio_c.specs.Kinds.{broken, kind_of, utf8_fault, zero_fault};
+ghost use Rattle.intaglio_c.specs.Cited.{broken, kind_of, utf8_fault, zero_fault};
 
 use crate::refusal::Refusal;
 use intaglio_cstr::{CStr, CStrError};
@@ -48,6 +47,7 @@ impl Kind {
 }
 
 // The text with these bytes.
+#[tactic(auto, using(crate::proofs::Faults::texts))]
 #[inline(always)]
 pub(crate) fn text_of(bytes: &[u8]) -> Result<&str, Refusal>
     ensures ok { IfOk result (λ text. text.now ≡ bytes.now) }
@@ -57,17 +57,6 @@ pub(crate) fn text_of(bytes: &[u8]) -> Result<&str, Refusal>
     match str::from_utf8(bytes) {
         Ok(text) => Ok(text),
         Err(_) => Err(Refusal::NotUtf8),
-    }
-}
-
-// Whether these bytes are a text.
-#[inline(always)]
-pub(crate) fn is_text(bytes: &[u8]) -> bool
-    ensures text { result ≡ is_utf8 bytes.now }
-{
-    match str::from_utf8(bytes) {
-        Ok(_) => true,
-        Err(_) => false,
     }
 }
 

@@ -1,9 +1,6 @@
 //! Errors and their codes, and results as C gets them.
-ghost use Rattle.std.specs.Prelude.{◌≡◌};
-ghost use Rattle.intaglio_c.specs.Answers.{answer_code, mark_answer, refusal_code, room_answer, room_refusal, symbol_answer, IsWritten};
-ghost use Rattle.intaglio_c.specs.Columns.{column_refusal, write_refusal};
-ghost use Rattle.intaglio_c.specs.Frozen.{freeze_refusal, frozen_refusal};
-ghost use Rattle.intaglio_c.specs.declared.refusal.Refusal.TheVariants.{NoMemory};
+ghost use Rattle.std.specs.Prelude.{◌≡◌, Ok, Err};
+ghost use Rattle.intaglio_c.specs.Cited.{answer_code, mark_answer, refusal_code, room_answer, room_refusal, symbol_answer, IsWritten, column_refusal, write_refusal, freeze_refusal, frozen_refusal, NoMemory};
 
 use intaglio_columns::{ColumnError, ColumnWriteError};
 use intaglio_core::{InternError, RoomError, StaleMark, Symbol};
@@ -171,6 +168,19 @@ impl From<FreezeError> for Refusal {
             FreezeError::Memory => Refusal::NoMemory,
         }
     }
+}
+
+// The results of a call that failed and of one that succeeded. Contracts speak of them as of any result.
+pub(crate) fn failed<X>(refusal: Refusal) -> Result<X, Refusal>
+    ensures { result ≡ Err refusal }
+{
+    Err(refusal)
+}
+
+pub(crate) fn done() -> Result<(), Refusal>
+    ensures { result ≡ Ok tt }
+{
+    Ok(())
 }
 
 // The code of a result: 0 if the call succeeded.

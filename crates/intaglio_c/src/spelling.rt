@@ -1,7 +1,8 @@
 //! How C gets a content's bytes: their place, or a copy.
 ghost use Rattle.std.specs.Prelude.{◌≡◌, Some, length};
-ghost use Rattle.intaglio_c.specs.Handles.{filled};
+ghost use Rattle.intaglio_c.specs.Cited.{Gives, filled};
 
+use crate::refusal::Refusal;
 use std::ptr::from_ref;
 
 // What the pointer of no bytes leads to. C may pass it on, since it isn't null.
@@ -36,4 +37,16 @@ pub(crate) fn fill(buffer: &mut [u8], bytes: &[u8])
         return;
     }
     buffer[..bytes.len()].copy_from_slice(bytes);
+}
+
+// Writes how many bytes there are, and copies them to the start of a buffer that has space for them.
+pub(crate) fn give(bytes: &[u8], buffer: &mut [u8], len: &mut usize) -> Result<(), Refusal>
+    ensures given { Gives bytes.now buffer.old buffer.new len.new result }
+{
+    *len = bytes.len();
+    fill(buffer, bytes);
+    if buffer.len() < bytes.len() {
+        return Err(Refusal::NoSpace);
+    }
+    Ok(())
 }

@@ -1,8 +1,6 @@
 //! Batches of strings.
 ghost use Rattle.std.specs.Prelude.{◌≡◌, length};
-ghost use Rattle.intaglio_c.specs.Batches.{CopiesEach, InternsAll, InternsOr, IsBegun, IsRolledBack};
-ghost use Rattle.intaglio_c.specs.Frozen.{Absorbs};
-ghost use Rattle.intaglio_c.specs.Seen.{TakesStep, contents_of, seen};
+ghost use Rattle.intaglio_c.specs.Cited.{CopiesEach, InternsAll, InternsOr, IsBegun, IsRolledBack, Absorbs, TakesStep, contents_of};
 
 use super::AnyTable;
 use crate::batch::{Batch, is_batch};
@@ -22,7 +20,7 @@ impl AnyTable {
         let mut used = GROUP;
         for i in 0..symbols.len() {
             used = look_ahead(&*self, list, i, &mut hashes, used);
-            match self.intern(Some(hashes[used]), list.string(i)) {
+            match self.intern(hashes[used], list.string(i)) {
                 Ok(symbol) => symbols[i] = symbol.id(),
                 Err(refusal) => return Err(refusal),
             }

@@ -1,16 +1,10 @@
 //! Strings as their bytes.
-ghost use Rattle.std.specs.Prelude.{◌≡◌, ⊤, true, [], ◌∷◌, None, Some, IfOk, IfErr, IfSome, slice_get};
-ghost use Rattle.std.specs.Option.{option_map};
-ghost use Rattle.intaglio_path.specs.Components.{components};
-ghost use Rattle.intaglio_c.specs.Batches.{or_absent};
-ghost use Rattle.intaglio_c.specs.Handles.{found};
-ghost use Rattle.intaglio_c.specs.Kinds.{IsHash, fault, has_key, keyed_hash, utf8_fault};
-ghost use Rattle.intaglio_c.specs.Seen.{IsFaultless, TakesStep, contents_of, look_up, seen};
-ghost use Rattle.intaglio_c.specs.Steps.{Interns, InternsStatic};
+ghost use Rattle.std.specs.Prelude.{◌≡◌, [], ◌∷◌, None, Some, IfOk, IfErr, slice_get, option_map};
+ghost use Rattle.intaglio_c.specs.Cited.{components, IsNumberIn, or_absent, found, IsHash, fault, keyed_hash, utf8_fault, IsFaultless, TakesStep, contents_of, look_up, seen, Interns, InternsStatic};
 
 use super::AnyTable;
 use crate::ahead::LookUps;
-use crate::kind::{is_text, text_of};
+use crate::kind::text_of;
 use crate::refusal::{Refusal, symbol_answer};
 use intaglio_bytes::bytes::BytesContent;
 use intaglio_core::{BaseInterner, Sought, Symbol, Work};
@@ -56,33 +50,6 @@ impl AnyTable {
         }
     }
 
-    // Whether the bytes have a key of the table's kind. Only those of a path need a test.
-    #[inline(always)]
-    fn has_key(&self, bytes: &[u8]) -> bool
-        ensures key { result ≡ has_key (seen self.now).kind bytes.now }
-    {
-        match self {
-            AnyTable::Path(_) => is_text(bytes),
-            _ => true,
-        }
-    }
-
-    // The known hash of bytes that have a key, or what it is. A path isn't tested again.
-    #[inline(always)]
-    fn hash_or(&self, known: Option<u64>, bytes: &[u8]) -> u64
-        requires known { IfSome known (IsHash (seen self.now).kind (seen self.now).hasher bytes.now) }
-        requires key { has_key (seen self.now).kind bytes.now ≡ true }
-        ensures hash { IsHash (seen self.now).kind (seen self.now).hasher bytes.now result }
-    {
-        if let Some(hash) = known {
-            return hash;
-        }
-        match self {
-            AnyTable::Path(table) => hash_path(table.hasher(), text_in(bytes)),
-            _ => self.hash(bytes),
-        }
-    }
-
     // Checks that the bytes are what the table takes.
     #[inline(always)]
     fn check(&self, bytes: &[u8]) -> Result<(), Refusal>
@@ -92,42 +59,38 @@ impl AnyTable {
         self.rule().check(bytes)
     }
 
-    // The symbol of the string that is equal to these bytes, whose hash may be known, if
-    // there is one. The bytes aren't tested: a table has only strings that its kind takes,
-    // so it has none that is equal to others.
+    // The symbol of the string that is equal to these bytes, by their hash, if there is one. Only those of a
+    // path are tested: a table has only strings that its kind takes, so it has none that is equal to others.
     #[inline(always)]
-    pub(crate) fn find(&self, known: Option<u64>, bytes: &[u8]) -> Option<Symbol>
-        requires known { IfSome known (IsHash (seen self.now).kind (seen self.now).hasher bytes.now) }
+    pub(crate) fn find(&self, hash: u64, bytes: &[u8]) -> Option<Symbol>
+        requires hash { IsHash (seen self.now).kind (seen self.now).hasher bytes.now hash }
         ensures found { IsFaultless (seen self.now) → result ≡ found (look_up (seen self.now) bytes.now) }
     {
-        if !self.has_key(bytes) {
-            return None;
-        }
-        let hash = self.hash_or(known, bytes);
         let work = &mut Work::new();
         match self {
             AnyTable::Owned(_, table) => table.search_hashed(hash, &bytes, work),
-            AnyTable::Path(table) => table.search_hashed(hash, &Path::new(text_in(bytes)), work),
+            AnyTable::Path(table) => match text_of(bytes) {
+                Ok(text) => table.search_hashed(hash, &Path::new(text), work),
+                Err(_) => None,
+            },
             AnyTable::Packed(_, table) => table.search_hashed(hash, &bytes, work),
         }
     }
 
-    // Interns these bytes, whose hash may be known. They are copied if they are new.
+    // Interns these bytes by their hash. They are copied if they are new.
     #[inline(always)]
-    pub(crate) fn intern(&mut self, known: Option<u64>, bytes: &[u8]) -> Result<Symbol, Refusal>
-        requires known { IfSome known (IsHash (seen self.old).kind (seen self.old).hasher bytes.now) }
+    pub(crate) fn intern(&mut self, hash: u64, bytes: &[u8]) -> Result<Symbol, Refusal>
+        requires hash { IsHash (seen self.old).kind (seen self.old).hasher bytes.now hash }
         ensures step { TakesStep self.old self.new result (Interns bytes.now) }
     {
         self.check(bytes)?;
-        let hash = self.hash_or(known, bytes);
         let work = &mut Work::new();
         match self {
             AnyTable::Owned(_, table) => symbol_answer(table.intern_hashed(hash, bytes, work)),
-            AnyTable::Path(table) => symbol_answer(table.intern_hashed(
-                hash,
-                Path::new(text_in(bytes)),
-                work,
-            )),
+            AnyTable::Path(table) => {
+                let path = Path::new(text_in(bytes));
+                symbol_answer(table.intern_hashed(hash, path, work))
+            }
             AnyTable::Packed(_, table) => symbol_answer(table.intern_hashed(hash, bytes, work)),
         }
     }
@@ -179,24 +142,18 @@ impl HashesAhead for AnyTable {
 
     #[inline(always)]
     fn touch(&self, hash: u64) -> u8 {
-        match self {
-            AnyTable::Owned(_, table) => table.touch_hashed(hash),
-            AnyTable::Path(table) => table.touch_hashed(hash),
-            AnyTable::Packed(_, table) => table.touch_hashed(hash),
-        }
+        on_table!(self, table => table.touch_hashed(hash))
     }
 }
 
 impl LookUps for AnyTable {
-    ghost may_be = { λ table bytes n. ⊤ };
-
     // A table that has a string which its kind doesn't take may find it.
-    ghost is_exact = { λ table. IsFaultless (seen table) };
+    ghost is_sound = { λ table. IsFaultless (seen table) };
 
-    ghost number = { λ table bytes. or_absent (found (look_up (seen table) bytes)) };
+    ghost may_be = { λ table. IsNumberIn (seen table) };
 
     #[inline(always)]
     fn find_number(&self, hash: u64, bytes: &[u8]) -> u64 {
-        or_absent(self.find(Some(hash), bytes))
+        or_absent(self.find(hash, bytes))
     }
 }

@@ -1,17 +1,11 @@
-//! Freezing a table.
-ghost use Rattle.std.specs.Prelude.{◌≡◌, ◌<◌, IfErr, IfOk};
-ghost use Rattle.intaglio_frozen.specs.Freezing.{IsRefusal};
-ghost use Rattle.intaglio_c.specs.Frozen.{IsFrozenOf, frozen_kind};
-ghost use Rattle.intaglio_c.specs.Kinds.{rule_of};
-ghost use Rattle.intaglio_c.specs.References.{IsSingle};
-ghost use Rattle.intaglio_c.specs.Seen.{contents_of, seen};
+//! A table as a list of strings that can be frozen.
+ghost use Rattle.std.specs.Prelude.{◌≡◌};
+ghost use Rattle.intaglio_c.specs.Cited.{frozen_kind, rule_of, contents_of, seen};
 
 use super::AnyTable;
 use crate::kind::Rule;
-use crate::reference::Reference;
 use intaglio_core::Symbol;
-use intaglio_frozen::{DictionaryId, FreezeError, Kind, Place, StringList, freeze_at};
-use std::alloc::Global;
+use intaglio_frozen::{Kind, StringList};
 
 impl StringList for AnyTable {
     ghost strings = { λ table. contents_of table };
@@ -30,7 +24,7 @@ impl StringList for AnyTable {
 }
 
 // What strings of a rule are in a frozen table.
-fn frozen_kind(rule: Rule) -> Kind
+pub(crate) fn frozen_kind(rule: Rule) -> Kind
     ensures kind { result ≡ frozen_kind rule }
 {
     match rule {
@@ -41,7 +35,7 @@ fn frozen_kind(rule: Rule) -> Kind
 
 impl AnyTable {
     // What the strings are.
-    pub(super) fn rule(&self) -> Rule
+    pub(crate) fn rule(&self) -> Rule
         ensures { result ≡ rule_of (seen self.now).kind }
     {
         match self {
@@ -49,32 +43,5 @@ impl AnyTable {
             AnyTable::Path(_) => Rule::Text,
             AnyTable::Packed(rule, _) => *rule,
         }
-    }
-
-    // What the dictionary of the strings in one file is.
-    pub(crate) fn reference(&self) -> Reference
-        ensures { IsSingle (seen self.now) result }
-    {
-        let is_text = frozen_kind(self.rule()) == Kind::Text;
-        Reference {
-            id: DictionaryId::of_list(is_text, self),
-            shards: 1,
-            shard: 0,
-        }
-    }
-
-    // The bytes of a frozen table of the strings at a place.
-    pub(crate) fn freeze(
-        &self,
-        alloc: Global,
-        keys: (u64, u64),
-        place: Place,
-    ) -> Result<Vec<u8>, FreezeError>
-        requires { place.shard < place.shards }
-        ensures frozen { IfOk result (λ bytes. IsFrozenOf (seen self.now) keys place bytes.items) }
-        ensures err { IfErr result
-            (IsRefusal (frozen_kind (rule_of (seen self.now).kind)) (contents_of self.now)) }
-    {
-        freeze_at(alloc, self, frozen_kind(self.rule()), Some(keys), place)
     }
 }

@@ -1,9 +1,7 @@
 //! Constructors, length and capacity: the calls that are the same for each kind.
 ghost use Rattle.std.specs.Prelude.{◌≡◌, ◌↔◌, Err, IfOk, ◌+◌, ◌≤◌, ◌^◌, length};
-ghost use Rattle.intaglio_interner.specs.State.{empty_table};
-ghost use Rattle.intaglio_symbol.specs.declared.error.RoomError.TheVariants.{CapacityOverflow};
-ghost use Rattle.intaglio_c.specs.Seen.{IsOutside, most_of, new_table, room_of, seen, IsChanged, contents_of};
-ghost use Rattle.intaglio_interner.specs.Change.{Empties, Reserves, Shrinks, TakesBack};
+ghost use Rattle.intaglio_c.specs.Cited.{empty_table, CapacityOverflow, IsOutside, most_of, new_table, room_of, seen, IsChanged, contents_of, Empties};
+ghost use Rattle.intaglio_interner.specs.Change.{Reserves, Shrinks, TakesBack};
 
 use super::AnyTable;
 use crate::kind::Kind;
@@ -35,17 +33,6 @@ fn table_of<L: Indexed + Drop>(
     }
 }
 
-// The same expression for the table of each kind.
-macro_rules! on_table {
-    ($any:expr, $table:ident => $call:expr) => {
-        match $any {
-            AnyTable::Owned(_, $table) => $call,
-            AnyTable::Path($table) => $call,
-            AnyTable::Packed(_, $table) => $call,
-        }
-    };
-}
-
 impl AnyTable {
     // A table of this size.
     pub(crate) fn of_size(
@@ -54,8 +41,7 @@ impl AnyTable {
         size: Size,
         keys: KeyedState,
     ) -> Result<Self, RoomError>
-        ensures made { IfOk result
-            (λ table. seen table ≡ new_table kind (room_of size) (most_of size) keys) }
+        ensures made { IfOk result (λ table. seen table ≡ new_table kind (room_of size) (most_of size) keys) }
         ensures overflow { (result ≡ Err CapacityOverflow) ↔ IsOutside size }
     {
         match kind {
@@ -96,6 +82,7 @@ impl AnyTable {
         on_table!(self, table => table.clear())
     }
 
+    #[tactic(auto, using(crate::proofs::AsBytes::first_bytes))]
     pub(crate) fn take_back(&mut self, mark: Mark) -> Result<(), StaleMark>
         ensures step { IsChanged self.old self.new (λ s s'. TakesBack s mark result s') }
     {

@@ -1,19 +1,23 @@
 //! Calls on columns, which C passes as their bytes. Each call reads the header of the column again, and reads
 //! nothing outside the bytes.
 ghost use Rattle.std.specs.Prelude.{◌≡◌, ◌-◌, drop, false, length, min, slice_get};
-ghost use Rattle.intaglio_columns.specs.IsColumn.{HasRows, IsColumn};
-ghost use Rattle.intaglio_columns.specs.Layout.{codes, width as width_of};
-ghost use Rattle.intaglio_columns.specs.Rows.{overlaid, rows_of};
-ghost use Rattle.intaglio_columns.specs.Width.{bytes_of};
-ghost use Rattle.intaglio_c.specs.Answers.{IsCodeOf, given};
-ghost use Rattle.intaglio_c.specs.Columns.{ChecksColumn, Counts, WritesColumn};
-ghost use Rattle.intaglio_c.specs.References.{ReadsSource, ReadsTarget};
+ghost use Rattle.intaglio_c.specs.Cited.{HasRows, IsColumn, codes, width_of, overlaid, rows_of, bytes_of, IsCodeOf, given, ChecksColumn, Counts, WritesColumn, ReadsSource, ReadsTarget};
 
 use crate::reference::Reference;
-use crate::refusal::{Refusal, code};
-use crate::spelling::fill;
+use crate::refusal::{Refusal, code, done, failed};
+use crate::spelling::give;
 use intaglio_columns::{Column, DictionaryId, RowSource, sourced_column_bytes};
 use std::alloc::Global;
+
+// The column of these bytes. If they have no rows, the call returns at once.
+macro_rules! column_of {
+    ($bytes:ident, $without:expr) => {
+        match Column::open_trusted($bytes) {
+            Ok(column) => column,
+            Err(_) => return $without,
+        }
+    };
+}
 
 /// Checks that these bytes are a column, and reads all of them. Fails with what is wrong with them.
 #[unsafe(no_mangle)]
@@ -21,10 +25,8 @@ pub extern "C" fn intaglio_column_check(bytes: &[u8]) -> u32
     ensures checked { IsCodeOf result (ChecksColumn bytes.now) }
     ensures only { IsColumn bytes.now → result ≡ 0 }
 {
-    match Column::open(bytes) {
-        Ok(_) => code(Ok(())),
-        Err(fault) => code(Err(Refusal::from(fault))),
-    }
+    let _column = or_code!(Column::open(bytes));
+    code(done())
 }
 
 /// The number of rows of a column, or 0 if the bytes have no header, or are shorter or longer than it says.
@@ -33,10 +35,7 @@ pub extern "C" fn intaglio_column_len(bytes: &[u8]) -> usize
     ensures rows { HasRows bytes.now → result ≡ length (codes bytes.now) }
     ensures none { ¬ HasRows bytes.now → result ≡ 0 }
 {
-    match Column::open_trusted(bytes) {
-        Ok(column) => column.len(),
-        Err(_) => 0,
-    }
+    column_of!(bytes, 0).len()
 }
 
 /// How many bytes a code of a column has, or 0 as [`intaglio_column_len`].
@@ -45,23 +44,7 @@ pub extern "C" fn intaglio_column_width(bytes: &[u8]) -> usize
     ensures width { HasRows bytes.now → result ≡ bytes_of (width_of bytes.now) }
     ensures none { ¬ HasRows bytes.now → result ≡ 0 }
 {
-    match Column::open_trusted(bytes) {
-        Ok(column) => column.width().bytes(),
-        Err(_) => 0,
-    }
-}
-
-// Reads which dictionary a column belongs to.
-fn column_id(bytes: &[u8], id: &mut Reference) -> Result<(), Refusal>
-    ensures read { ReadsTarget bytes.now id.old id.new result }
-{
-    let header = Column::open_trusted(bytes)?.header();
-    *id = Reference {
-        id: header.id,
-        shards: header.shards,
-        shard: header.source.shard,
-    };
-    Ok(())
+    column_of!(bytes, 0).width().bytes()
 }
 
 /// Writes which dictionary a column belongs to, with the number of its strings, or of those of one shard if the
@@ -71,14 +54,22 @@ fn column_id(bytes: &[u8], id: &mut Reference) -> Result<(), Refusal>
 pub extern "C" fn intaglio_column_id(bytes: &[u8], id: &mut Reference) -> u32
     ensures read { IsCodeOf result (ReadsTarget bytes.now id.old id.new) }
 {
-    code(column_id(bytes, id))
+    let header = or_code!(Column::open_trusted(bytes)).header();
+    *id = Reference {
+        id: header.id,
+        shards: header.shards,
+        shard: header.source.shard,
+    };
+    code(done())
 }
 
-// Reads from which dictionary the rows of a column come.
-fn column_source(bytes: &[u8], id: &mut Reference) -> Result<(), Refusal>
-    ensures read { ReadsSource bytes.now id.old id.new result }
+/// Writes the dictionary, or the shard of one, whose strings are the rows of a column, which is then a map. For
+/// a column of lines it writes that there are no shards. Fails as [`intaglio_column_id`].
+#[unsafe(no_mangle)]
+pub extern "C" fn intaglio_column_source(bytes: &[u8], id: &mut Reference) -> u32
+    ensures read { IsCodeOf result (ReadsSource bytes.now id.old id.new) }
 {
-    let header = Column::open_trusted(bytes)?.header();
+    let header = or_code!(Column::open_trusted(bytes)).header();
     let source = header.source;
     *id = Reference {
         id: DictionaryId {
@@ -90,16 +81,7 @@ fn column_source(bytes: &[u8], id: &mut Reference) -> Result<(), Refusal>
         shards: source.shards,
         shard: source.shard,
     };
-    Ok(())
-}
-
-/// Writes the dictionary, or the shard of one, whose strings are the rows of a column, which is then a map. For
-/// a column of lines it writes that there are no shards. Fails as [`intaglio_column_id`].
-#[unsafe(no_mangle)]
-pub extern "C" fn intaglio_column_source(bytes: &[u8], id: &mut Reference) -> u32
-    ensures read { IsCodeOf result (ReadsSource bytes.now id.old id.new) }
-{
-    code(column_source(bytes, id))
+    code(done())
 }
 
 /// Writes the code of a row of a column, if there is that row, and returns whether there is.
@@ -109,16 +91,7 @@ pub extern "C" fn intaglio_column_code(bytes: &[u8], row: usize, found: &mut u32
     ensures none { ¬ HasRows bytes.now → result ≡ false }
     ensures unwritten { result ≡ false → found.new ≡ found.old }
 {
-    let Ok(column) = Column::open_trusted(bytes) else {
-        return false;
-    };
-    match column.code(row) {
-        Some(code) => {
-            *found = code;
-            true
-        }
-        None => false,
-    }
+    write_found!(column_of!(bytes, false).code(row), code => found = code)
 }
 
 /// Writes the codes of the rows of a column from one on, as many as there are places and
@@ -130,10 +103,7 @@ pub extern "C" fn intaglio_column_codes(bytes: &[u8], from: usize, places: &mut 
     ensures none { ¬ HasRows bytes.now → result ≡ 0 }
     ensures unwritten { ¬ HasRows bytes.now → places.new ≡ places.old }
 {
-    match Column::open_trusted(bytes) {
-        Ok(column) => column.codes_into(from, places),
-        Err(_) => 0,
-    }
+    column_of!(bytes, 0).codes_into(from, places)
 }
 
 /// Writes the rows of a column that have this code, in ascending order, as far as there are places.
@@ -145,22 +115,7 @@ pub extern "C" fn intaglio_column_rows(bytes: &[u8], code: u32, places: &mut [u6
     ensures none { ¬ HasRows bytes.now → result ≡ 0 }
     ensures unwritten { ¬ HasRows bytes.now → places.new ≡ places.old }
 {
-    match Column::open_trusted(bytes) {
-        Ok(column) => column.rows_into(code, places),
-        Err(_) => 0,
-    }
-}
-
-// Counts how often each string occurs in a column.
-fn counts(bytes: &[u8], places: &mut [u64], missing: &mut u64) -> Result<(), Refusal>
-    ensures counted { Counts bytes.now places.old places.new missing.old missing.new result }
-{
-    let column = Column::open_trusted(bytes)?;
-    if places.len() as u64 != column.id().count {
-        return Err(Refusal::BadEnds);
-    }
-    *missing = column.counts_into(places);
-    Ok(())
+    column_of!(bytes, 0).rows_into(code, places)
 }
 
 /// Writes how often each string of the dictionary occurs in a column, and how many rows are missing. Fails
@@ -168,32 +123,14 @@ fn counts(bytes: &[u8], places: &mut [u64], missing: &mut u64) -> Result<(), Ref
 /// many bytes there are; then nothing is written.
 #[unsafe(no_mangle)]
 pub extern "C" fn intaglio_column_counts(bytes: &[u8], places: &mut [u64], missing: &mut u64) -> u32
-    ensures counted { IsCodeOf result
-        (Counts bytes.now places.old places.new missing.old missing.new) }
+    ensures counted { IsCodeOf result (Counts bytes.now places.old places.new missing.old missing.new) }
 {
-    code(counts(bytes, places, missing))
-}
-
-// Writes a column of these codes.
-fn write(
-    alloc: Global,
-    id: &Reference,
-    codes: &[u32],
-    buffer: &mut [u8],
-    len: &mut usize,
-) -> Result<(), Refusal>
-    ensures written { WritesColumn id.now codes.now buffer.old buffer.new len.old len.new result }
-{
-    if id.shards == 0 {
-        return Err(Refusal::BadShard);
+    let column = or_code!(Column::open_trusted(bytes));
+    if places.len() as u64 != column.id().count {
+        return code(failed(Refusal::BadEnds));
     }
-    let bytes = sourced_column_bytes(alloc, id.id, id.shards, RowSource::LINES, &codes)?;
-    *len = bytes.len();
-    fill(buffer, &bytes);
-    if buffer.len() < bytes.len() {
-        return Err(Refusal::NoSpace);
-    }
-    Ok(())
+    *missing = column.counts_into(places);
+    code(done())
 }
 
 /// Writes how many bytes a column of lines that have these codes under this dictionary has, and copies them to the
@@ -208,8 +145,11 @@ pub extern "C" fn intaglio_column_write(
     buffer: &mut [u8],
     len: &mut usize,
 ) -> u32
-    ensures written { IsCodeOf result
-        (WritesColumn id.now codes.now buffer.old buffer.new len.old len.new) }
+    ensures written { IsCodeOf result (WritesColumn id.now codes.now buffer.old buffer.new len.old len.new) }
 {
-    code(write(alloc, id, codes, buffer, len))
+    if id.shards == 0 {
+        return code(failed(Refusal::BadShard));
+    }
+    let bytes = or_code!(sourced_column_bytes(alloc, id.id, id.shards, RowSource::LINES, &codes));
+    code(give(&bytes, buffer, len))
 }

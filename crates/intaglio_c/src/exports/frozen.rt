@@ -1,23 +1,20 @@
 //! Calls on frozen tables, which C passes as their bytes, and most with where their sections are. Nothing
 //! outside the bytes is read.
-ghost use Rattle.std.specs.Prelude.{◌≡◌, ◌↔◌, true, false, length, slice_get, IsTrue, Some};
-ghost use Rattle.std.specs.Option.{option_map};
-ghost use Rattle.intaglio_frozen.specs.IsFrozen.{HasHeader, HasSections, IsFrozen, text_kind};
-ghost use Rattle.intaglio_frozen.specs.Layout.{kind, strings};
-ghost use Rattle.intaglio_frozen.specs.Sections.{AreSectionsOf};
-ghost use Rattle.intaglio_c.specs.Answers.{IsCodeOf, given};
-ghost use Rattle.intaglio_c.specs.Frozen.{Absorbs, Checks, FindsEach, FindsEachTrusted, FreezesHeld, ReadsSections, position_in};
-ghost use Rattle.intaglio_c.specs.Handles.{ChangesWithCode, Keeps};
-ghost use Rattle.intaglio_c.specs.References.{IdentifiesHeld, ReadsReference, place_in, single};
+ghost use Rattle.std.specs.Prelude.{◌≡◌, ◌↔◌, false, length, slice_get, IsTrue, Some, option_map};
+ghost use Rattle.intaglio_c.specs.Cited.{HasHeader, HasSections, IsFrozen, text_kind, kind, AreSectionsOf, IsCodeOf, given, Absorbs, Checks, FindsEachTrusted, FreezesHeld, ReadsSections, position_in, ChangesWithCode, Keeps, IdentifiesHeld, ReadsReference, place_in, single};
+ghost use Rattle.intaglio_frozen.specs.Layout.{strings};
 
 use crate::ahead::find_each;
+use crate::any_table::freeze::frozen_kind;
 use crate::batch::{Batch, is_batch};
 use crate::handle::Handle;
 use crate::reference::Reference;
-use crate::refusal::{Refusal, code};
-use crate::spelling::{Spelling, fill};
+use crate::refusal::{Refusal, code, done, failed};
+use crate::spelling::{Spelling, give};
 use intaglio_core::Symbol;
-use intaglio_frozen::{DictionaryId, Frozen, Header, Kind, Place, Sections, TrustedFrozen};
+use intaglio_frozen::{
+    DictionaryId, Frozen, Header, Kind, Place, Sections, TrustedFrozen, freeze_at,
+};
 use std::alloc::Global;
 
 // Writes a frozen table of the contents at a place.
@@ -36,13 +33,9 @@ fn freeze(
     if place.shard >= place.shards {
         return Err(Refusal::BadShard);
     }
-    let bytes = table.freeze(alloc, keys, place)?;
-    *len = bytes.len();
-    fill(buffer, &bytes);
-    if buffer.len() < bytes.len() {
-        return Err(Refusal::NoSpace);
-    }
-    Ok(())
+    let kind = frozen_kind(table.rule());
+    let bytes = freeze_at(alloc, &*table, kind, Some(keys), place)?;
+    give(&bytes, buffer, len)
 }
 
 /// Writes how many bytes a frozen table of the contents has, under these keys or one of the seven pairs after
@@ -84,16 +77,6 @@ pub extern "C" fn intaglio_freeze_shard(
     code(freeze(alloc, handle, (key0, key1), id.place(), buffer, len))
 }
 
-// Makes the identity of the contents.
-fn own_id(handle: &mut Handle, id: &mut Reference) -> Result<(), Refusal>
-    ensures made { IdentifiesHeld handle.old id.old id.new result }
-    ensures kept { Keeps handle.old handle.new }
-{
-    let table = table_of!(handle, Err(Refusal::NoTable));
-    *id = table.reference();
-    Ok(())
-}
-
 /// Writes what the dictionary of the contents is, if it is in one file. Fails with `NoTable`; then nothing is
 /// written.
 #[unsafe(no_mangle)]
@@ -101,14 +84,23 @@ pub extern "C" fn intaglio_own_id(handle: &mut Handle, id: &mut Reference) -> u3
     ensures made { IsCodeOf result (IdentifiesHeld handle.old id.old id.new) }
     ensures kept { Keeps handle.old handle.new }
 {
-    code(own_id(handle, id))
+    let table = table_of!(handle);
+    let is_text = frozen_kind(table.rule()) == Kind::Text;
+    *id = Reference {
+        id: DictionaryId::of_list(is_text, &*table),
+        shards: 1,
+        shard: 0,
+    };
+    code(done())
 }
 
-// Reads what the header of a frozen table says.
-fn frozen_id(bytes: &[u8], id: &mut Reference) -> Result<(), Refusal>
-    ensures read { ReadsReference bytes.now id.old id.new result }
+/// Writes which dictionary a frozen table is, or which shard of one, with the number of its own strings. Only
+/// the header is read. Fails with what is wrong with it; then nothing is written.
+#[unsafe(no_mangle)]
+pub extern "C" fn intaglio_frozen_id(bytes: &[u8], id: &mut Reference) -> u32
+    ensures read { IsCodeOf result (ReadsReference bytes.now id.old id.new) }
 {
-    let header = Header::read(bytes)?;
+    let header = or_code!(Header::read(bytes));
     *id = Reference {
         id: DictionaryId {
             is_text: header.id.is_text,
@@ -119,16 +111,7 @@ fn frozen_id(bytes: &[u8], id: &mut Reference) -> Result<(), Refusal>
         shards: header.place.shards,
         shard: header.place.shard,
     };
-    Ok(())
-}
-
-/// Writes which dictionary a frozen table is, or which shard of one, with the number of its own strings. Only
-/// the header is read. Fails with what is wrong with it; then nothing is written.
-#[unsafe(no_mangle)]
-pub extern "C" fn intaglio_frozen_id(bytes: &[u8], id: &mut Reference) -> u32
-    ensures read { IsCodeOf result (ReadsReference bytes.now id.old id.new) }
-{
-    code(frozen_id(bytes, id))
+    code(done())
 }
 
 /// Interns all strings of a frozen table, all or none, in its order, and writes the symbol of each. Fails
@@ -136,11 +119,9 @@ pub extern "C" fn intaglio_frozen_id(bytes: &[u8], id: &mut Reference) -> u32
 /// of each string, and the errors of interning one; then the contents are unchanged.
 #[unsafe(no_mangle)]
 pub extern "C" fn intaglio_absorb(handle: &mut Handle, bytes: &[u8], symbols: &mut [u32]) -> u32
-    ensures step { ChangesWithCode handle.old handle.new result
-        (Absorbs bytes.now symbols.old symbols.new) }
+    ensures step { ChangesWithCode handle.old handle.new result (Absorbs bytes.now symbols.old symbols.new) }
 {
-    let table = table_of!(handle, code(Err(Refusal::NoTable)));
-    code(table.absorb(bytes, symbols))
+    code(table_of!(handle).absorb(bytes, symbols))
 }
 
 /// Checks that these bytes are a frozen table, and reads all of them. Fails with what is wrong with them.
@@ -149,24 +130,8 @@ pub extern "C" fn intaglio_frozen_check(bytes: &[u8]) -> u32
     ensures checked { IsCodeOf result (Checks bytes.now) }
     ensures only { IsFrozen bytes.now → result ≡ 0 }
 {
-    match Frozen::open(bytes) {
-        Ok(_) => code(Ok(())),
-        Err(fault) => code(Err(Refusal::from(fault))),
-    }
-}
-
-// Looks up a batch of strings.
-fn find_all(bytes: &[u8], batch: &[u8], ends: &[usize], symbols: &mut [u64]) -> Result<(), Refusal>
-    ensures found { FindsEachTrusted bytes.now batch.now ends.now symbols.old symbols.new result }
-    ensures frozen { IsFrozen bytes.now
-        → FindsEach (strings bytes.now) batch.now ends.now symbols.old symbols.new result }
-{
-    let table = TrustedFrozen::open(bytes)?;
-    if !is_batch(batch, ends, symbols.len()) {
-        return Err(Refusal::BadEnds);
-    }
-    find_each(&table, &Batch { bytes: batch, ends }, symbols);
-    Ok(())
+    let _table = or_code!(Frozen::open(bytes));
+    code(done())
 }
 
 /// Looks up a batch of strings in the bytes of a frozen table, and writes the symbol of each, or 2^64 - 1 if
@@ -179,10 +144,13 @@ pub extern "C" fn intaglio_frozen_find_all(
     symbols: &mut [u64],
 ) -> u32
     ensures found { IsCodeOf result (FindsEachTrusted bytes.now batch.now ends.now symbols.old symbols.new) }
-    ensures frozen { IsFrozen bytes.now → IsCodeOf result
-        (FindsEach (strings bytes.now) batch.now ends.now symbols.old symbols.new) }
 {
-    code(find_all(bytes, batch, ends, symbols))
+    let table = or_code!(TrustedFrozen::open(bytes));
+    if !is_batch(batch, ends, symbols.len()) {
+        return code(failed(Refusal::BadEnds));
+    }
+    find_each(&table, &Batch { bytes: batch, ends }, symbols);
+    code(done())
 }
 
 /// Returns whether the kind of a frozen table is text, or false if the bytes have no header.
@@ -197,14 +165,6 @@ pub extern "C" fn intaglio_frozen_is_text(bytes: &[u8]) -> bool
     }
 }
 
-// Reads where the sections of a frozen table are.
-fn read_sections(bytes: &[u8], sections: &mut Sections) -> Result<(), Refusal>
-    ensures read { ReadsSections bytes.now sections.old sections.new result }
-{
-    *sections = Sections::read(bytes)?;
-    Ok(())
-}
-
 /// Writes what the header of a frozen table says, and where its sections are, for the two calls below.
 /// Nothing behind the header is read. Fails with what is wrong with the header, or with how many bytes
 /// there are; then nothing is written.
@@ -213,7 +173,8 @@ pub extern "C" fn intaglio_frozen_sections(bytes: &[u8], sections: &mut Sections
     ensures read { IsCodeOf result (ReadsSections bytes.now sections.old sections.new) }
     ensures only { HasSections bytes.now → result ≡ 0 }
 {
-    code(read_sections(bytes, sections))
+    *sections = or_code!(Sections::read(bytes));
+    code(done())
 }
 
 /// Returns whether a string is found in the bytes of a frozen table, of which these are the sections, and writes
@@ -232,13 +193,7 @@ pub extern "C" fn intaglio_frozen_find_in(
         → given result symbol.new ≡ position_in (strings bytes.now) string.now }
     ensures unwritten { result ≡ false → symbol.new ≡ symbol.old }
 {
-    match sections.check_interned(bytes, string) {
-        Some(known) => {
-            *symbol = known.id();
-            true
-        }
-        None => false,
-    }
+    write_found!(sections.check_interned(bytes, string), known => symbol = known.id())
 }
 
 /// Writes where a symbol's string is in the bytes of a frozen table, of which these are the sections, if there
@@ -257,11 +212,5 @@ pub extern "C" fn intaglio_frozen_get_in(
         → given result out.new.len ≡ option_map length (slice_get (strings bytes.now) symbol) }
     ensures unwritten { result ≡ false → out.new ≡ out.old }
 {
-    match sections.get(bytes, Symbol::new(symbol)) {
-        Some(string) => {
-            *out = Spelling::of(string);
-            true
-        }
-        None => false,
-    }
+    write_found!(sections.get(bytes, Symbol::new(symbol)), string => out = Spelling::of(string))
 }

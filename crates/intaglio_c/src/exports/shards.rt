@@ -1,13 +1,10 @@
 //! Dictionaries in shards: which shard a string belongs to, which is known from its bytes alone, and the sets
 //! of shards.
 ghost use Rattle.std.specs.Prelude.{◌≡◌, ◌<◌, map};
-ghost use Rattle.intaglio_frozen.specs.SetId.{set_of_merge, set_of_shards};
-ghost use Rattle.intaglio_frozen.specs.Shards.{shard_of};
-ghost use Rattle.intaglio_c.specs.Answers.{IsCodeOf};
-ghost use Rattle.intaglio_c.specs.References.{MakesSet, own_id, set_in};
+ghost use Rattle.intaglio_c.specs.Cited.{set_of_merge, set_of_shards, shard_of, IsCodeOf, MakesSet, own_id, set_in};
 
 use crate::reference::{Reference, ids_of, sets_of};
-use crate::refusal::{Refusal, code};
+use crate::refusal::{Refusal, code, done, failed};
 use intaglio_frozen::{SetId, shard_of};
 use std::alloc::Global;
 
@@ -24,23 +21,6 @@ pub extern "C" fn intaglio_shard_of(shards: u32, string: &[u8]) -> u32
     shard_of(string, shards)
 }
 
-// Makes the set of shards that are made together.
-fn set_of_shards(
-    alloc: Global,
-    shards: &[Reference],
-    hash0: &mut u64,
-    hash1: &mut u64,
-) -> Result<(), Refusal>
-    ensures made { MakesSet (set_of_shards (map own_id shards.now)) (hash0.old, hash1.old)
-        (hash0.new, hash1.new) result }
-{
-    let ids = ids_of(alloc, shards)?;
-    let set = SetId::of_shards(&ids);
-    *hash0 = set.hash0;
-    *hash1 = set.hash1;
-    Ok(())
-}
-
 /// Writes the two hashes of the set of which these dictionaries, each in one file, are the shards. Fails with
 /// `NoMemory`; then nothing is written.
 #[unsafe(no_mangle)]
@@ -53,25 +33,10 @@ pub extern "C" fn intaglio_set_of_shards(
     ensures made { IsCodeOf result (MakesSet (set_of_shards (map own_id shards.now))
         (hash0.old, hash1.old) (hash0.new, hash1.new)) }
 {
-    code(set_of_shards(alloc, shards, hash0, hash1))
-}
-
-// Makes the set of what is merged from parts.
-fn set_of_merge(
-    alloc: Global,
-    shards: u32,
-    parts: &[Reference],
-    hash0: &mut u64,
-    hash1: &mut u64,
-) -> Result<(), Refusal>
-    ensures made { MakesSet (set_of_merge shards (map set_in parts.now)) (hash0.old, hash1.old)
-        (hash0.new, hash1.new) result }
-{
-    let sets = sets_of(alloc, parts)?;
-    let set = SetId::of_merge(shards, &sets);
+    let set = SetId::of_shards(&or_code!(ids_of(alloc, shards)));
     *hash0 = set.hash0;
     *hash1 = set.hash1;
-    Ok(())
+    code(done())
 }
 
 /// Writes the two hashes of the set of so many shards, each of which is merged from those with its number of
@@ -87,5 +52,8 @@ pub extern "C" fn intaglio_set_of_merge(
     ensures made { IsCodeOf result (MakesSet (set_of_merge shards (map set_in parts.now))
         (hash0.old, hash1.old) (hash0.new, hash1.new)) }
 {
-    code(set_of_merge(alloc, shards, parts, hash0, hash1))
+    let set = SetId::of_merge(shards, &or_code!(sets_of(alloc, parts)));
+    *hash0 = set.hash0;
+    *hash1 = set.hash1;
+    code(done())
 }

@@ -1,17 +1,14 @@
 //! Interning, looking up and reading strings, one or a batch.
-ghost use Rattle.std.specs.Prelude.{◌≡◌, false, length};
-ghost use Rattle.std.specs.Option.{option_map};
-ghost use Rattle.intaglio_c.specs.Answers.{given, IsCodeOf};
-ghost use Rattle.intaglio_c.specs.Handles.{ChangesWithSymbol, Keeps, filled, known, stored, ChangesWithCode};
-ghost use Rattle.intaglio_c.specs.Steps.{Interns, InternsStatic};
-ghost use Rattle.intaglio_c.specs.Batches.{CopiesAll, FindsAll, InternsAll};
+ghost use Rattle.std.specs.Prelude.{◌≡◌, false, length, option_map};
+ghost use Rattle.intaglio_c.specs.Cited.{given, IsCodeOf, ChangesWithSymbol, Keeps, filled, known, stored, ChangesWithCode, Interns, InternsStatic, CopiesAll, FindsAll, InternsAll};
 
 use crate::ahead::find_each;
 use crate::batch::{Batch, is_batch};
 use crate::handle::Handle;
-use crate::refusal::{Refusal, code, symbol_code};
+use crate::refusal::{Refusal, code, done, failed, symbol_code};
 use crate::spelling::{Spelling, fill};
 use intaglio_core::Symbol;
+use intaglio_frozen::ahead::HashesAhead;
 
 /// Interns these bytes, which are copied if they are new, and writes their symbol. Fails with `NoTable`,
 /// `Full`, `NoMemory`, and the errors for bytes that the kind doesn't take; then nothing changes.
@@ -19,8 +16,9 @@ use intaglio_core::Symbol;
 pub extern "C" fn intaglio_intern(handle: &mut Handle, bytes: &[u8], symbol: &mut u32) -> u32
     ensures step { ChangesWithSymbol handle.old handle.new result symbol.old symbol.new (Interns bytes.now) }
 {
-    let table = table_of!(handle, symbol_code(Err(Refusal::NoTable), symbol));
-    symbol_code(table.intern(None, bytes), symbol)
+    let table = table_of!(handle, symbol_code(failed(Refusal::NoTable), symbol));
+    let hash = table.hash(bytes);
+    symbol_code(table.intern(hash, bytes), symbol)
 }
 
 /// Interns these bytes, which must never change, and writes their symbol. They aren't copied, unless the
@@ -34,7 +32,7 @@ pub extern "C" fn intaglio_intern_static(
     ensures step { ChangesWithSymbol handle.old handle.new result symbol.old symbol.new
         (InternsStatic bytes.now) }
 {
-    let table = table_of!(handle, symbol_code(Err(Refusal::NoTable), symbol));
+    let table = table_of!(handle, symbol_code(failed(Refusal::NoTable), symbol));
     symbol_code(table.intern_static(bytes), symbol)
 }
 
@@ -50,7 +48,7 @@ pub extern "C" fn intaglio_check_interned(
     ensures kept { Keeps handle.old handle.new }
 {
     let table = table_of!(handle, false);
-    match table.find(None, bytes) {
+    match table.find(table.hash(bytes), bytes) {
         Some(known) => {
             *symbol = known.id();
             true
@@ -67,13 +65,7 @@ pub extern "C" fn intaglio_get(handle: &mut Handle, symbol: u32, out: &mut Spell
     ensures kept { Keeps handle.old handle.new }
 {
     let table = table_of!(handle, false);
-    match table.bytes_at(Symbol::new(symbol)) {
-        Some(bytes) => {
-            *out = Spelling::of(bytes);
-            true
-        }
-        None => false,
-    }
+    write_found!(table.bytes_at(Symbol::new(symbol)), bytes => out = Spelling::of(bytes))
 }
 
 /// Writes how many bytes a symbol has, and copies them to the start of a buffer that has space for them.
@@ -112,26 +104,7 @@ pub extern "C" fn intaglio_intern_all(
     ensures step { ChangesWithCode handle.old handle.new result
         (InternsAll bytes.now ends.now symbols.old symbols.new) }
 {
-    let table = table_of!(handle, code(Err(Refusal::NoTable)));
-    code(table.intern_all(bytes, ends, symbols))
-}
-
-// Looks up a batch.
-fn find_all(
-    handle: &mut Handle,
-    bytes: &[u8],
-    ends: &[usize],
-    symbols: &mut [u64],
-) -> Result<(), Refusal>
-    ensures found { FindsAll bytes.now ends.now symbols.old symbols.new handle.old result }
-    ensures kept { Keeps handle.old handle.new }
-{
-    let table = table_of!(handle, Err(Refusal::NoTable));
-    if !is_batch(bytes, ends, symbols.len()) {
-        return Err(Refusal::BadEnds);
-    }
-    find_each(&*table, &Batch { bytes, ends }, symbols);
-    Ok(())
+    code(table_of!(handle).intern_all(bytes, ends, symbols))
 }
 
 /// Looks up a batch of strings, and writes the symbol of each, or 2^64 - 1 if it has none.
@@ -146,24 +119,12 @@ pub extern "C" fn intaglio_check_all(
     ensures found { IsCodeOf result (FindsAll bytes.now ends.now symbols.old symbols.new handle.old) }
     ensures kept { Keeps handle.old handle.new }
 {
-    code(find_all(handle, bytes, ends, symbols))
-}
-
-// Copies the bytes of many symbols.
-fn copy_all(
-    handle: &mut Handle,
-    symbols: &[u32],
-    buffer: &mut [u8],
-    ends: &mut [usize],
-) -> Result<(), Refusal>
-    ensures copied { CopiesAll symbols.now buffer.old ends.old buffer.new ends.new handle.old result }
-    ensures kept { Keeps handle.old handle.new }
-{
-    let table = table_of!(handle, Err(Refusal::NoTable));
-    if ends.len() != symbols.len() {
-        return Err(Refusal::BadEnds);
+    let table = table_of!(handle);
+    if !is_batch(bytes, ends, symbols.len()) {
+        return code(failed(Refusal::BadEnds));
     }
-    table.copy_each(symbols, buffer, ends)
+    find_each(&*table, &Batch { bytes, ends }, symbols);
+    code(done())
 }
 
 /// Copies the bytes of many symbols to the start of a buffer, and writes the end of each.
@@ -181,5 +142,9 @@ pub extern "C" fn intaglio_copy_all(
         (CopiesAll symbols.now buffer.old ends.old buffer.new ends.new handle.old) }
     ensures kept { Keeps handle.old handle.new }
 {
-    code(copy_all(handle, symbols, buffer, ends))
+    let table = table_of!(handle);
+    if ends.len() != symbols.len() {
+        return code(failed(Refusal::BadEnds));
+    }
+    code(table.copy_each(symbols, buffer, ends))
 }

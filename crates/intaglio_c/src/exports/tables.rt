@@ -1,14 +1,10 @@
 //! Making and freeing tables; length and capacity, and the calls that change them.
-ghost use Rattle.std.specs.Hash.DefaultHasher.{with_keys};
 ghost use Rattle.std.specs.Prelude.{◌≡◌};
-ghost use Rattle.intaglio_c.specs.Answers.{IsCodeOf};
-ghost use Rattle.intaglio_c.specs.Handles.{ChangesWithCode, Clears, HoldsNone, Keeps, MakesSized, capacity, count, table_of};
-ghost use Rattle.intaglio_c.specs.declared.any_table.size.Size.TheVariants.{Capacity, Limit};
-ghost use Rattle.intaglio_c.specs.Steps.{Reserves, Shrinks, TakesBack};
+ghost use Rattle.intaglio_c.specs.Cited.{with_keys, IsCodeOf, ChangesWithCode, Clears, HoldsNone, Keeps, MakesSized, capacity, count, table_of, Capacity, Limit, Reserves, Shrinks, TakesBack};
 
 use crate::any_table::size::Size;
 use crate::handle::Handle;
-use crate::refusal::{Refusal, code, mark_answer, room_answer};
+use crate::refusal::{Refusal, code, failed, mark_answer, room_answer};
 use intaglio_core::Mark;
 use intaglio_hash::KeyedState;
 use std::alloc::Global;
@@ -98,8 +94,7 @@ pub extern "C" fn intaglio_capacity(handle: &mut Handle) -> usize
 pub extern "C" fn intaglio_reserve(handle: &mut Handle, additional: usize) -> u32
     ensures step { ChangesWithCode handle.old handle.new result (Reserves additional) }
 {
-    let table = table_of!(handle, code(Err(Refusal::NoTable)));
-    code(room_answer(table.reserve(additional)))
+    code(room_answer(table_of!(handle).reserve(additional)))
 }
 
 /// Shrinks the capacity to `min_capacity`, or to the number of contents if that is greater.
@@ -108,8 +103,7 @@ pub extern "C" fn intaglio_reserve(handle: &mut Handle, additional: usize) -> u3
 pub extern "C" fn intaglio_shrink_to(handle: &mut Handle, min_capacity: usize) -> u32
     ensures step { ChangesWithCode handle.old handle.new result (Shrinks min_capacity) }
 {
-    let table = table_of!(handle, code(Err(Refusal::NoTable)));
-    code(room_answer(table.shrink_to(min_capacity)))
+    code(room_answer(table_of!(handle).shrink_to(min_capacity)))
 }
 
 /// Drops all contents.
@@ -117,8 +111,7 @@ pub extern "C" fn intaglio_shrink_to(handle: &mut Handle, min_capacity: usize) -
 pub extern "C" fn intaglio_clear(handle: &mut Handle)
     ensures step { Clears handle.old handle.new }
 {
-    let table = table_of!(handle, ());
-    table.clear();
+    table_of!(handle, ()).clear();
 }
 
 /// Drops all contents but the first ones, as many as the mark says.
@@ -127,6 +120,5 @@ pub extern "C" fn intaglio_clear(handle: &mut Handle)
 pub extern "C" fn intaglio_take_back(handle: &mut Handle, mark: usize) -> u32
     ensures step { ChangesWithCode handle.old handle.new result (TakesBack mark) }
 {
-    let table = table_of!(handle, code(Err(Refusal::NoTable)));
-    code(mark_answer(table.take_back(Mark::new(mark))))
+    code(mark_answer(table_of!(handle).take_back(Mark::new(mark))))
 }

@@ -1,18 +1,19 @@
 -- Each turn looks up one string more.
-use Rattle.intaglio_c.proofs.Names.{rules, ◌<◌, ◌∙◌, length, inr, arith}
-use Rattle.intaglio_frozen.proofs.HashedAhead.{all_first, all_mapped, first, mapped, more}
+use Rattle.std.specs.Prelude.{◌<◌}
+use Rattle.intaglio_c.proofs.Names.{rules, ◌∙◌, length, inr, arith}
+use Rattle.intaglio_frozen.proofs.HashedAhead.{all_first, first, more}
 use Rattle.intaglio_c.proofs.ahead.find_each.Goals as goal
 
 pub find_number-requires : goal.find_number-requires
-find_number-requires g c =
-    (first (g.T.HashesAhead.is_hash c.args.table.now) (g.L.StringList.strings c.args.list.now)
-    c.look_ahead-used.new.hashes c.loop-i.i c.look_ahead-used.result c.string.result.now c.string.ensures
-    c.look_ahead-used.ensures.some
-    c.look_ahead-used.ensures.left).0
+find_number-requires g c = record {
+  sound = c.requires.sound;
+  hash = (first (g.T.HashesAhead.is_hash c.args.table.now) (g.L.StringList.strings c.args.list.now)
+      c.look_ahead-used.new.hashes c.loop-i.i c.look_ahead-used.result c.string.result.now c.string.ensures
+      c.look_ahead-used.ensures.some c.look_ahead-used.ensures.left).0;
+}
 
 pub loop-i-preserved : goal.loop-i-preserved
-loop-i-preserved g c =
-    let strings = g.L.StringList.strings c.args.list.now in
+loop-i-preserved g c = let strings = g.L.StringList.strings c.args.list.now in
     let inside : c.loop-i.i < length c.loop-i.symbols =
     omega (arith, c.loop-i-test.true, c.loop-i.invariant.places) in record {
       places = search rules;
@@ -21,22 +22,15 @@ loop-i-preserved g c =
           c.look_ahead-used.result c.string.result.now c.string.ensures c.look_ahead-used.ensures.some
           c.look_ahead-used.ensures.left).1;
       written = more (g.T.LookUps.may_be c.args.table.now) strings c.loop-i.symbols c.loop-i.i
-          c.find_number.result c.string.result.now c.string.ensures inside c.find_number.ensures.found
+          c.find_number.result c.string.result.now c.string.ensures inside c.find_number.ensures
           c.loop-i.invariant.written;
-      exact = λ exact. mapped (g.T.LookUps.number c.args.table.now) strings c.loop-i.symbols c.loop-i.i
-          c.find_number.result c.string.result.now c.string.ensures inside (c.find_number.ensures.exact exact)
-          (c.loop-i.invariant.exact exact);
     }
 
 pub returns : goal.returns
-returns g c =
-    let strings = g.L.StringList.strings c.args.list.now in record {
-      found = (
-        c.loop-i.invariant.places,
-        all_first (g.T.LookUps.may_be c.args.table.now) strings c.loop-i.symbols c.loop-i.i
-            (inr (omega (arith, c.loop-i-test.false, c.loop-i.invariant.places))) c.loop-i.invariant.written,
-      );
-      exact = λ exact. all_mapped (g.T.LookUps.number c.args.table.now) strings c.loop-i.symbols c.loop-i.i
-          (omega (arith, c.loop-i-test.false, c.loop-i.invariant.places)) c.loop-i.invariant.places
-          (c.loop-i.invariant.exact exact);
-    }
+returns g c = let strings = g.L.StringList.strings c.args.list.now in record {
+  found = (
+    c.loop-i.invariant.places,
+    all_first (g.T.LookUps.may_be c.args.table.now) strings c.loop-i.symbols c.loop-i.i
+        (inr (omega (arith, c.loop-i-test.false, c.loop-i.invariant.places))) c.loop-i.invariant.written,
+  );
+}

@@ -1,4 +1,5 @@
-use Rattle.intaglio_c.proofs.Names.{◌≡◌, length, map, take, drop, AreFirst}
+use Rattle.std.specs.Prelude.{◌≡◌}
+use Rattle.intaglio_c.proofs.Names.{length, take, drop, AreFirst}
 use Rattle.intaglio_frozen.proofs.HashedAhead.{Continues}
 use Rattle.intaglio_c.proofs.ahead.find_each.Given as goal
 
@@ -10,6 +11,4 @@ invariant-loop-i g l = record {
       (drop l.used l.hashes);
   written : Continues (g.T.LookUps.may_be l.table) (g.L.StringList.strings l.list)
       (drop l.i (g.L.StringList.strings l.list)) (take l.i l.symbols);
-  exact : g.T.LookUps.is_exact l.table →
-      take l.i l.symbols ≡ map (g.T.LookUps.number l.table) (take l.i (g.L.StringList.strings l.list));
 }

@@ -1,4 +1,5 @@
-use Rattle.intaglio_c.proofs.Names.{◌≡◌, drop, are_ends}
+use Rattle.std.specs.Prelude.{◌≡◌}
+use Rattle.intaglio_c.proofs.Names.{drop, are_ends}
 use Rattle.intaglio_c.proofs.batch.are_ends.Given as goal
 
 abbrev pub invariant-loop-end : goal.invariant-loop-end

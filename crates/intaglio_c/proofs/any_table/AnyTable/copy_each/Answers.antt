@@ -4,17 +4,16 @@ use Rattle.intaglio_c.proofs.Batches.{all_copied, copied_more, first_copied, res
 use Rattle.intaglio_c.proofs.any_table.AnyTable.copy_each.Goals as goal
 
 pub returns-in_default : goal.returns-in_default
-returns-in_default c =
-    record {
-      copied = (
-        c.loop-i.i,
-        c.loop-i-test.true,
-        ap (slice_get (seen c.args.self.now).state.contents) (sym c.new.ensures)
-            ∙ sym c.in_default.ensures.bytes,
-        first_copied _ _ c.args.symbols.now _ _ c.args.ends.now _ _ c.loop-i.invariant.copied
-            c.loop-i.invariant.rest,
-      );
-    }
+returns-in_default c = record {
+  copied = (
+    c.loop-i.i,
+    c.loop-i-test.true,
+    ap (slice_get (seen c.args.self.now).state.contents) (sym c.new.ensures)
+        ∙ sym c.in_default.ensures.bytes,
+    first_copied _ _ c.args.symbols.now _ _ c.args.ends.now _ _ c.loop-i.invariant.copied
+        c.loop-i.invariant.rest,
+  );
+}
 
 pub returns-then-buffer-start : goal.returns-then-buffer-start
 returns-then-buffer-start c = record {
@@ -41,9 +40,7 @@ loop-i-preserved c = record {
 }
 
 pub returns : goal.returns
-returns c =
-    record {
-      copied =
-          all_copied _ _ c.args.symbols.now _ c.loop-i.ends c.loop-i.start c.loop-i.i c.loop-i-test.false
-          c.loop-i.invariant.places c.loop-i.invariant.copied;
-    }
+returns c = record {
+  copied = all_copied _ _ c.args.symbols.now _ c.loop-i.ends c.loop-i.start c.loop-i.i c.loop-i-test.false
+      c.loop-i.invariant.places c.loop-i.invariant.copied;
+}

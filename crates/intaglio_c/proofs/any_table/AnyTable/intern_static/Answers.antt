@@ -6,22 +6,20 @@ use Rattle.intaglio_c.proofs.AsBytes.{interned, moved}
 use Rattle.intaglio_c.proofs.any_table.AnyTable.intern_static.Goals as goal
 
 pub returns-in-Owned : goal.returns-in-Owned
-returns-in-Owned c =
-    record {
-      step = interned (kind.Owned c.in-Owned.field-0) bytes_content_bytes _ (λ _. refl) copies_static _ _
-          _ _ c.intern.new.self c.args.bytes.now _ _ _ (ap seen c.in-Owned.is) c.intern.ensures.hasher
-          c.in_ok-check.ensures.faultless refl
-          (moved bytes_content_bytes (content.Borrowed c.args.bytes) _ _ refl) c.intern.ensures.step
-          c.symbol_answer.ensures.answer;
-    }
+returns-in-Owned c = record {
+  step = interned (kind.Owned c.in-Owned.field-0) bytes_content_bytes _ (λ _. refl) copies_static _ _
+      _ _ c.intern.new.self c.args.bytes.now _ _ _ (ap seen c.in-Owned.is) c.intern.ensures.hasher
+      c.in_ok-check.ensures.faultless refl
+      (moved bytes_content_bytes (content.Borrowed c.args.bytes) _ _ refl) c.intern.ensures.step
+      c.symbol_answer.ensures.answer;
+}
 
 pub returns-in-Path : goal.returns-in-Path
-returns-in-Path c =
-    record {
-      step =
-          interned kind.Path path_content_bytes _ (λ _. refl) copies_static _ _ _ _ c.intern-in-Path.new.self
-          c.args.bytes.now _ _ _ (ap seen c.in-Path.is) c.intern-in-Path.ensures.hasher
-          c.in_ok-check.ensures.faultless (ap components c.text_in.ensures.text)
-          (moved path_content_bytes (content.Borrowed c.text_in.result) _ _ c.text_in.ensures.text)
-          c.intern-in-Path.ensures.step c.symbol_answer-in-Path.ensures.answer;
-    }
+returns-in-Path c = record {
+  step =
+      interned kind.Path path_content_bytes _ (λ _. refl) copies_static _ _ _ _ c.intern-in-Path.new.self
+      c.args.bytes.now _ _ _ (ap seen c.in-Path.is) c.intern-in-Path.ensures.hasher
+      c.in_ok-check.ensures.faultless (ap components c.text_in.ensures.text)
+      (moved path_content_bytes (content.Borrowed c.text_in.result) _ _ c.text_in.ensures.text)
+      c.intern-in-Path.ensures.step c.symbol_answer-in-Path.ensures.answer;
+}

@@ -1,5 +1,6 @@
 -- The callee makes a box again of its pointer and its allocator, and of what the box owned.
-use Rattle.intaglio_c.proofs.Walks.{IsT, ◌≡◌, refl, sym, ap, subst, List, [], ◌∷◌, ◌++◌, inst_fn, a_type, dcons, dnil, Val, has_ty, WT, ftrue, flft, id⊢, emp, WpFn, ‵, raw, ◌⊛◌, some, later, prop, at_ret, ◌$◌, ◌∵◌, !, qed, done, move, keep, drop, split, join, fsplit, fjoin, regoal, rewrite, suffices, pick, await, use0, use1, feq_i, enter, stop, fld, of_opd, no_more, and_then, first, blocks, exec, returns, alloc_all, pass_all, free_all, look_at, get, get_in, sets, lands_last, env, sub, whole, ◌⊑◌, fact, fact_i, tables, no, param, bounded, layout, param_laws, rawptr_Lawful, ptr_val, plain, nothing, only, heard, calls_at_last, Lasts, lasts, triple_of, framed, Stays, walk_of, says, stay_dropped, ends_at, Goes-blank, proved_at, box_of, word_fits, pair_out, pair_in}
+use Rattle.std.specs.Prelude.{◌≡◌, ◌∷◌, ◌++◌}
+use Rattle.intaglio_c.proofs.Walks.{IsT, refl, sym, ap, subst, List, [], inst_fn, a_type, dcons, dnil, Val, has_ty, WT, ftrue, flft, id⊢, emp, WpFn, ‵, raw, ◌⊛◌, some, later, prop, at_ret, ◌$◌, ◌∵◌, !, qed, done, move, keep, drop, split, join, fsplit, fjoin, regoal, rewrite, suffices, pick, await, use0, use1, feq_i, enter, stop, fld, of_opd, no_more, and_then, first, blocks, exec, returns, alloc_all, pass_all, free_all, look_at, get, get_in, sets, lands_last, env, sub, whole, ◌⊑◌, fact, fact_i, tables, no, param, bounded, layout, param_laws, rawptr_Lawful, ptr_val, plain, nothing, only, heard, calls_at_last, Lasts, lasts, triple_of, framed, Stays, walk_of, says, stay_dropped, ends_at, Goes-blank, proved_at, box_of, word_fits, pair_out, pair_in}
 use Rattle.std.below.core.proofs.alloc.Shapes.{after}
 use Rattle.std.specs.contracts.boxed.Box.from_raw as callee
 use Rattle.std.proofs.boxed.Box.from_raw.Met as callee_met
@@ -42,8 +43,7 @@ into_box_spec 𝓤 𝓛 𝓜 𝓡 wired T A T-laws A-laws g d dd allocates frees
     (1 ∷ 0 ∷ []) $ join ! $ move ! (2 ∷ 0 ∷ []) $ join ! $
     -- what the callee requires
     move ! (1 ∷ []) $ use0 𝓛 (raw (fact 𝓤 A-lives)) (fact_i 𝓤 A-lives (emp 𝓤) outlives') $ join ! $ use0 𝓛
-    (raw (fact 𝓤 T-lives)) (fact_i 𝓤 T-lives (emp 𝓤) outlives) $ join ! $
-    move ! (1 ∷ 0 ∷ []) $ join ! $
+    (raw (fact 𝓤 T-lives)) (fact_i 𝓤 T-lives (emp 𝓤) outlives) $ join ! $ move ! (1 ∷ 0 ∷ []) $ join ! $
     let z : C.Ghost = ((κs, qs, tt, (s.alloc, (s.ptr, tt)), (h ∷ [], (ptr_val s.ptr ∷ [], tt))), s.value) in
     use1 𝓛 (raw (C.pre z)) (id⊢ 𝓤 _) $
     calls_at_last ! (framed 𝓤 𝓛.H 𝓜 𝓣) C met z (and_then ! (get ! refl) (and_then ! (get ! refl) (no_more !)))
@@ -52,8 +52,7 @@ into_box_spec 𝓤 𝓛 𝓜 𝓡 wired T A T-laws A-laws g d dd allocates frees
     (some (λ (r : box.Denot).
     (alive ⊛ ‵ (box.own_val r (u ∷ []))) ⊛ some (λ (ws : Lasts (callee.ended T A g d dd) κs z.0.3).
     ‵ (lasts (callee.ended T A g d dd) κs z.0.3 ws) ⊛
-    (raw (fact 𝓤 (r.value ≡ s.value)) ⊛ raw (fact 𝓤 (r.alloc ≡ s.alloc))))))) (id⊢ 𝓤 _) $
-    await ! tt $ pick !
+    (raw (fact 𝓤 (r.value ≡ s.value)) ⊛ raw (fact 𝓤 (r.alloc ≡ s.alloc))))))) (id⊢ 𝓤 _) $ await ! tt $ pick !
     (λ r. split ! $ move ! (1 ∷ []) $ pick !
     (λ ws. split ! $ drop ! $ split ! $ heard ! (r.value ≡ s.value) (λ same. drop ! $
     split ! $ move ! (1 ∷ []) $ fsplit ! $
@@ -65,7 +64,6 @@ into_box_spec 𝓤 𝓛 𝓜 𝓡 wired T A T-laws A-laws g d dd allocates frees
     let good : IsT (has_ty (layout box) u) × WT u =
     subst (λ (v : Val). IsT (has_ty (layout box) v) × WT v) (sym (ap only is')) typed' in
     lands_last ! refl good $ exec ! 𝓣.C 𝓣.Λ (env fn.locals l) (after 3 fn.body) (at_ret _ (W.post y)) $
-    sets ! (of_opd ! (get ! refl)) refl good $
-    returns ! (look_at ! 0 refl) $ free_all ! refl $
+    sets ! (of_opd ! (get ! refl)) refl good $ returns ! (look_at ! 0 refl) $ free_all ! refl $
     suffices ! _ (ends_at 𝓛 E stayed c y u r ((tt, (tt, tt)), tt) (tt, tt)) $ says ! same $
     nothing ! $ nothing ! $ join ! $ move ! (2 ∷ 0 ∷ 1 ∷ []) $ done !))))))))))

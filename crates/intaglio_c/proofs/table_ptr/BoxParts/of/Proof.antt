@@ -1,5 +1,6 @@
 -- A box is taken apart: the callee hands out its pointer and its allocator, and what the box owned.
-use Rattle.intaglio_c.proofs.Walks.{◌≡◌, refl, sym, ap, List, [], ◌∷◌, ◌++◌, inst_fn, a_type, dcons, dnil, Val, ftrue, flft, id⊢, emp, WpFn, ‵, raw, ◌⊛◌, some, later, prop, ◌$◌, ◌∵◌, !, qed, done, move, keep, drop, split, join, fsplit, fjoin, regoal, rewrite, suffices, pick, await, use0, use1, enter, stop, fld, of_opd, no_more, and_then, returns, alloc_all, pass_all, free_all, look_at, get, get_in, sets, lands_as, agg, sub, whole, ◌⊑◌, fact, fact_i, tables, no, param, bounded, param_laws, Ptr, RawPtr, rawptr_Lawful, plain, nothing, only, heard, calls_at, Lasts, lasts, triple_of, framed, Stays, walk_of, says, stay_dropped, ends_at, Goes-blank, proved_at, box_of, word, word_fits, pair_out, pair_in}
+use Rattle.std.specs.Prelude.{◌≡◌, ◌∷◌, ◌++◌}
+use Rattle.intaglio_c.proofs.Walks.{refl, sym, ap, List, [], inst_fn, a_type, dcons, dnil, Val, ftrue, flft, id⊢, emp, WpFn, ‵, raw, ◌⊛◌, some, later, prop, ◌$◌, ◌∵◌, !, qed, done, move, keep, drop, split, join, fsplit, fjoin, regoal, rewrite, suffices, pick, await, use0, use1, enter, stop, fld, of_opd, no_more, and_then, returns, alloc_all, pass_all, free_all, look_at, get, get_in, sets, lands_as, agg, sub, whole, ◌⊑◌, fact, fact_i, tables, no, param, bounded, param_laws, Ptr, RawPtr, rawptr_Lawful, plain, nothing, only, heard, calls_at, Lasts, lasts, triple_of, framed, Stays, walk_of, says, stay_dropped, ends_at, Goes-blank, proved_at, box_of, word, word_fits, pair_out, pair_in}
 use denote.Struct.Tuple.{Tuple}
 use Rattle.std.specs.Box.Ownership.{box_owns}
 use Rattle.std.specs.contracts.boxed.Box.into_raw_with_allocator as callee
@@ -39,8 +40,7 @@ of_spec 𝓤 𝓛 𝓜 𝓡 wired T A T-laws A-laws g d dd dx allocates frees dr
     sets ! (of_opd ! (get ! refl)) refl typed $
     nothing ! $ move ! (1 ∷ 0 ∷ []) $ join ! $ move ! (1 ∷ 0 ∷ []) $ join ! $
     nothing ! $ use0 𝓛 (raw (fact 𝓤 A-lives)) (fact_i 𝓤 A-lives (emp 𝓤) outlives') $ join ! $ use0 𝓛
-    (raw (fact 𝓤 T-lives)) (fact_i 𝓤 T-lives (emp 𝓤) outlives) $ join ! $
-    move ! (1 ∷ 0 ∷ []) $ join ! $
+    (raw (fact 𝓤 T-lives)) (fact_i 𝓤 T-lives (emp 𝓤) outlives) $ join ! $ move ! (1 ∷ 0 ∷ []) $ join ! $
     let z : C.Ghost = ((κs, qs, tt, (b, tt), (word b.ptr h ∷ [], tt)), tt) in
     use1 𝓛 (raw (C.pre z)) (id⊢ 𝓤 _) $
     calls_at ! (framed 𝓤 𝓛.H 𝓜 𝓣) C met z (and_then ! (get ! refl) (no_more !)) (λ u.
@@ -50,8 +50,7 @@ of_spec 𝓤 𝓛 𝓜 𝓡 wired T A T-laws A-laws g d dd dx allocates frees dr
     (λ (ws : Lasts (callee.ended T A g d dd dx) κs z.0.3).
     ‵ (lasts (callee.ended T A g d dd dx) κs z.0.3 ws) ⊛
     (raw (fact 𝓤 (r.1 ≡ b.alloc)) ⊛ ‵ (box_owns (g.dealloc_token b.alloc) value r.0 b.value))))))
-    (id⊢ 𝓤 _) $
-    await ! tt $ pick !
+    (id⊢ 𝓤 _) $ await ! tt $ pick !
     (λ r. split ! $ move ! (1 ∷ []) $ pick !
     (λ ws. split ! $ drop ! $ split ! $ heard ! (r.1 ≡ b.alloc) (λ same.
     move ! (1 ∷ []) $ split ! $ move ! (1 ∷ []) $
@@ -64,8 +63,7 @@ of_spec 𝓤 𝓛 𝓜 𝓡 wired T A T-laws A-laws g d dd dx allocates frees dr
     sets ! (of_opd ! (get_in ! (fld ! refl (stop !)) (sub ! 1 refl (whole !)))) refl fits' $
     sets ! (of_opd ! (get ! refl)) refl fits' $
     sets ! (agg ! (and_then ! (get ! refl) (and_then ! (get ! refl) (no_more !)))) refl typed' $
-    returns ! (look_at ! 0 refl) $ free_all ! refl $
-    pair_in ! allocator r.0 r.1 h' $ move ! (2 ∷ []) $
+    returns ! (look_at ! 0 refl) $ free_all ! refl $ pair_in ! allocator r.0 r.1 h' $ move ! (2 ∷ []) $
     rewrite ! 0 (λ (a : A.Denot). ‵ (box_owns (g.dealloc_token a) value r.0 b.value)) (sym same) refl $
     move ! (1 ∷ 0 ∷ []) $ fjoin ! $
     -- [the result; the tokens]

@@ -1,5 +1,6 @@
 -- A null pointer owns nothing.
-use Rattle.intaglio_c.proofs.Walks.{refl, [], ◌∷◌, lit<, ftrue, ‵, ◌⊛◌, ◌$◌, ◌∵◌, !, qed, done, move, keep, split, join, fjoin, suffices, enter, of_opd, lit, no_more, and_then, returns, alloc_all, pass_all, free_all, look_at, get, sets, agg, yes, null_ptr, plain, nothing, Stays, walk_of, says, stay_dropped, Goes-dropped, ends_at, proved, allocator, lowers, None, word, pair_in}
+use Rattle.std.specs.Prelude.{◌∷◌}
+use Rattle.intaglio_c.proofs.Walks.{refl, [], lit<, ftrue, ‵, ◌⊛◌, ◌$◌, ◌∵◌, !, qed, done, move, keep, split, join, fjoin, suffices, enter, of_opd, lit, no_more, and_then, returns, alloc_all, pass_all, free_all, look_at, get, sets, agg, yes, null_ptr, plain, nothing, Stays, walk_of, says, stay_dropped, Goes-dropped, ends_at, proved, allocator, lowers, None, word, pair_in}
 use Rattle.intaglio_c.specs.contracts.table_ptr.TablePtr.{the_row as table_ptr}
 use Rattle.intaglio_c.specs.contracts.table_ptr.TablePtr.none as f
 use Rattle.intaglio_c.proofs.table_ptr.TablePtr.none.Statement.{statement}
@@ -9,8 +10,7 @@ abbrev stayed : Stays f.ended.signature.params f.ended.kept
 stayed = (stay_dropped _ yes, tt)
 
 pub none_spec : {M : Type 1} → statement M
-none_spec 𝓤 𝓛 𝓜 𝓡 wired =
-    let c = f.clauses 𝓛 𝓜.mem 𝓡.returns in let W = walk_of 𝓛 f.ended stayed c in
+none_spec 𝓤 𝓛 𝓜 𝓡 wired = let c = f.clauses 𝓛 𝓜.mem 𝓡.returns in let W = walk_of 𝓛 f.ended stayed c in
     proved 𝓛 f.ended stayed c 𝓜 𝓡 (Goes-dropped 𝓛 0 (plain (λ _. allocator)) yes (λ κs x w. refl), tt)
     f.Key.name code.function (code.unfolded 𝓤 𝓛.H 𝓜 𝓡 wired)
     (λ κs. ((λ a. lowers.lowered a ∷ []), tt)) (λ κs. (lowers.val_is, tt)) (λ κs qs bounds args g are.
@@ -25,10 +25,8 @@ none_spec 𝓤 𝓛 𝓜 𝓡 wired =
     sets ! (agg ! (and_then ! (get ! refl) (and_then ! (get ! refl) (no_more !)))) refl (
       tt,
       (record { fits = lit< tt }, (((tt, tt), tt), tt)),
-    ) $
-    returns ! (look_at ! 0 refl) $ free_all ! refl $
+    ) $ returns ! (look_at ! 0 refl) $ free_all ! refl $
     pair_in ! allocator null_ptr a h $ nothing ! $ move ! (1 ∷ 0 ∷ []) $ fjoin ! $
     -- [the result]
     suffices ! _ (ends_at 𝓛 f.ended stayed c y (word null_ptr h) nothing_held (tt, tt) (tt, tt)) $
-    says ! refl $
-    nothing ! $ nothing ! $ join ! $ nothing ! $ done !))
+    says ! refl $ nothing ! $ nothing ! $ join ! $ nothing ! $ done !))

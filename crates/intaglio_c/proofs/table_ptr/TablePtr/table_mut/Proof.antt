@@ -1,5 +1,6 @@
 -- The table behind the pointer, which a `&mut` to a `TablePtr` lends. The pointer itself isn't written.
-use Rattle.intaglio_c.proofs.Walks.{there, refl, sym, List, [], ◌∷◌, ◌++◌, named, Val, vptr, Fml, GName, ftrue, flft, fsep, ent, sep, id⊢, WpFn, sem, ‵, raw, ◌⊛◌, some, later, prop, at_ret, ◌$◌, ◌∵◌, !, qed, done, move, keep, use1, split, join, await, pick, fsplit, fsplit3, fjoin, fpack, feq_l, regoal, rewrite, suffices, frame, group, whole, sub, look_in, enter, load, stop, fld, of_opd, addr, first, blocks, exec, returns, alloc_all, pass_all, free_all, look_at, get, through, sets, sets_last, env, fact, tables, no, Ptr, lies_at, in_a_block, plain, nothing, heard, opens, Stays, walk_of, says, stay_dropped, Goes-spent_ref, ends_at, the_row_laws, proved_at, IsSomeAnd, ⊤, allocator, ghosts, Option, word, pair_out, pair_in}
+use Rattle.std.specs.Prelude.{◌∷◌, ◌++◌}
+use Rattle.intaglio_c.proofs.Walks.{there, refl, sym, List, [], named, Val, vptr, Fml, GName, ftrue, flft, fsep, ent, sep, id⊢, WpFn, sem, ‵, raw, ◌⊛◌, some, later, prop, at_ret, ◌$◌, ◌∵◌, !, qed, done, move, keep, use1, split, join, await, pick, fsplit, fsplit3, fjoin, fpack, feq_l, regoal, rewrite, suffices, frame, group, whole, sub, look_in, enter, load, stop, fld, of_opd, addr, first, blocks, exec, returns, alloc_all, pass_all, free_all, look_at, get, through, sets, sets_last, env, fact, tables, no, Ptr, lies_at, in_a_block, plain, nothing, heard, opens, Stays, walk_of, says, stay_dropped, Goes-spent_ref, ends_at, the_row_laws, proved_at, IsSomeAnd, ⊤, allocator, ghosts, Option, word, pair_out, pair_in}
 use Prim.Native.Nat.{ℕ}
 use mir.Raw.{raw as bare}
 use base.Fraction.{full_share}
@@ -20,8 +21,7 @@ stayed = (stay_dropped _ no, tt)
 
 -- all of a `TablePtr` at a place but its table
 abbrev Rest : table_ptr.Denot → Val → ℕ → ℕ → Fml
-Rest d h b o =
-    fsep (fsep (ghosts.dealloc_token d.alloc (bare (lone any_table.mir)) d.ptr)
+Rest d h b o = fsep (fsep (ghosts.dealloc_token d.alloc (bare (lone any_table.mir)) d.ptr)
     (allocator.own_val d.alloc (h ∷ []))) (cell_at full_share table_ptr.mir (word d.ptr h ∷ []) b o)
 
 pub table_mut_spec : {M : Type 1} → statement M
@@ -51,8 +51,7 @@ table_mut_spec 𝓤 𝓛 𝓜 𝓡 wired =
     rewrite ! 3 (λ (p : Ptr). ‵ (cell_at full_share table_ptr.mir (word p h ∷ []) b o)) e refl $
     first ! $ blocks ! $
     sets ! (of_opd ! (load ! (through ! refl (fld ! refl (stop !))) (look_in ! 3 (sub ! 0 refl (whole !)))))
-    refl (tt, tt) $
-    sets ! (of_opd ! (get ! refl)) refl (tt, tt) $
+    refl (tt, tt) $ sets ! (of_opd ! (get ! refl)) refl (tt, tt) $
     sets_last ! (addr ! (through ! refl (stop !))) refl (tt, tt) $
     exec ! 𝓣.C 𝓣.Λ (env code.Mir.locals l) (after 1 (code.function).body) (at_ret _ (W.post y)) $
     sets ! (of_opd ! (get ! refl)) refl (tt, tt) $
@@ -64,16 +63,13 @@ table_mut_spec 𝓤 𝓛 𝓜 𝓡 wired =
     (qed 𝓛 (‵ (part_at any_table full_share w at_b at_o) ∷ ‵ (Rest d h b o) ∷ []) ∵ move ! (1 ∷ []) $ fsplit !
     $ fsplit ! $ move ! (3 ∷ 0 ∷ []) $
     rewrite ! 0 (λ (p : Ptr). ‵ (lies_at any_table full_share p w)) (sym e) refl $ fjoin ! $ move !
-    (1 ∷ 0 ∷ []) $
-    pair_in ! allocator d.ptr d.alloc h $ fjoin ! $ move ! (1 ∷ 0 ∷ []) $ fjoin ! $
+    (1 ∷ 0 ∷ []) $ pair_in ! allocator d.ptr d.alloc h $ fjoin ! $ move ! (1 ∷ 0 ∷ []) $ fjoin ! $
     fpack ! (List Val) (λ (ws : List Val).
     fsep (cell_at full_share table_ptr.mir ws b o) (table_ptr.own_val (with_table d w) ws))
-    (word d.ptr h ∷ []) $ done !) in
-    let Left : GName →
+    (word d.ptr h ∷ []) $ done !) in let Left : GName →
     Fml = λ γ'.
     (MutRef (named 0) κ any_table).own_val (record { ref_ptr = (at_b, at_o); ghost_name = γ'; now = x })
-    (vptr at_b at_o ∷ []) in
-    use1 𝓛 (later
+    (vptr at_b at_o ∷ []) in use1 𝓛 (later
     (some (λ (γ' : GName).
     ‵ (Left γ') ⊛ (‵ (flft κ q) ⊛ ‵ (follows table_ptr any_table γ γ' (with_table d))))))
     (lends_Part 𝓛 table_ptr any_table (with_table d) (named 0) κ q b o at_b at_o γ (sem 𝓛 (Rest d h b o)) back
