@@ -1,19 +1,39 @@
 //! What is measured. Each operation returns a sum that shows what it found.
-ghost use Rattle.std.specs.Prelude.{◌≡◌};
+ghost use Rattle.std.specs.Iterator.{IsFinite};
+ghost use Rattle.std.specs.Prelude.{◌≡◌, ◌<◌, ◌^◌};
 
+use crate::measure::Sum;
 use crate::table::{Searched, WordTable};
-use intaglio::{InternError, Symbol};
+use intaglio::{StrContent, Symbol};
 use std::alloc::{AllocError, Global};
+use std::hash::BuildHasher;
 
 /// How many words a batch has.
 const BATCH: usize = 64;
 
+// What a symbol adds to a sum: its number, plus 1. None adds nothing.
+fn number_of(found: Option<Symbol>) -> u64 {
+    match found {
+        Some(symbol) => symbol.id() as u64 + 1,
+        None => 0,
+    }
+}
+
+// What the symbols of a batch add to a sum.
+fn numbers_of(symbols: Vec<Symbol>) -> u64 {
+    let mut sum = 0u64;
+    for symbol in symbols {
+        sum = sum.wrapping_add(number_of(Some(symbol)));
+    }
+    sum
+}
+
 /// Hashes the words, and adds up their hashes.
 #[inline(never)]
-pub fn hash<T: WordTable>(table: &T, words: &[String]) -> u64 {
+pub fn hash<S: BuildHasher>(builder: &S, words: &[String]) -> u64 {
     let mut sum = 0u64;
     for word in words {
-        sum = sum.wrapping_add(table.hash(word.as_str()));
+        sum = sum.wrapping_add(builder.hash_one(word.as_str()));
     }
     sum
 }
@@ -23,22 +43,30 @@ pub fn hash<T: WordTable>(table: &T, words: &[String]) -> u64 {
 pub fn intern<T: WordTable>(table: &mut T, words: Vec<String>) -> u64 {
     let mut sum = 0u64;
     for word in words {
-        if let Ok(symbol) = table.intern_word(word) {
-            sum = sum.wrapping_add(symbol.id() as u64 + 1);
-        }
+        sum = sum.wrapping_add(number_of(table.intern_word(word).ok()));
     }
     sum
 }
 
+/// The words as contents.
+pub fn contents_of(alloc: Global, words: Vec<String>) -> Result<Vec<StrContent>, AllocError> {
+    words.into_iter().map(StrContent::from).collect(alloc)
+}
+
+/// The contents as forms.
+pub fn forms(alloc: Global, words: &[StrContent]) -> Result<Vec<&str>, AllocError> {
+    words.iter().map(|word| word.form()).collect(alloc)
+}
+
 /// The words in batches.
-pub fn batches_of<T: WordTable>(
+pub fn batches_of(
     alloc: Global,
-    words: Vec<String>,
-) -> Result<Vec<Vec<T::Word>>, AllocError> {
+    words: Vec<StrContent>,
+) -> Result<Vec<Vec<StrContent>>, AllocError> {
     let mut batches = Vec::new(alloc);
     let mut batch = Vec::with_capacity(alloc, BATCH)?;
     for word in words {
-        batch.push(T::word_of(word))?;
+        batch.push(word)?;
         if batch.len() == BATCH {
             batches.push(batch)?;
             batch = Vec::with_capacity(alloc, BATCH)?;
@@ -53,23 +81,11 @@ pub fn batches_of<T: WordTable>(
 pub fn intern_batches<T: WordTable>(
     alloc: Global,
     table: &mut T,
-    batches: Vec<Vec<T::Word>>,
-) -> Result<u64, InternError> {
+    batches: Vec<Vec<StrContent>>,
+) -> Sum {
     let mut sum = 0u64;
     for batch in batches {
-        sum = sum.wrapping_add(intern_batch(alloc, table, batch)?);
-    }
-    Ok(sum)
-}
-
-fn intern_batch<T: WordTable>(
-    alloc: Global,
-    table: &mut T,
-    batch: Vec<T::Word>,
-) -> Result<u64, InternError> {
-    let mut sum = 0u64;
-    for symbol in table.intern_words(alloc, batch)? {
-        sum = sum.wrapping_add(symbol.id() as u64 + 1);
+        sum = sum.wrapping_add(numbers_of(table.intern_words(alloc, batch)?));
     }
     Ok(sum)
 }
@@ -79,37 +95,28 @@ fn intern_batch<T: WordTable>(
 pub fn get_or_intern<T: WordTable>(table: &mut T, words: &[String]) -> u64 {
     let mut sum = 0u64;
     for word in words {
-        if let Ok(symbol) = table.intern_form(word.as_str()) {
-            sum = sum.wrapping_add(symbol.id() as u64 + 1);
-        }
+        sum = sum.wrapping_add(number_of(table.intern_form(word.as_str()).ok()));
     }
     sum
 }
 
 /// The same in batches.
 #[inline(never)]
-pub fn get_or_intern_batches<T: WordTable>(
-    table: &mut T,
-    words: &[&str],
-) -> Result<u64, InternError> {
+pub fn get_or_intern_batches<T: WordTable>(table: &mut T, words: &[&str]) -> Sum {
     let mut sum = 0u64;
     for batch in words.chunks(BATCH) {
-        for symbol in table.intern_forms(batch)? {
-            sum = sum.wrapping_add(symbol.id() as u64 + 1);
-        }
+        sum = sum.wrapping_add(numbers_of(table.intern_forms(batch)?));
     }
     Ok(sum)
 }
 
 /// Looks up the words in batches, and adds up the numbers of the symbols found, plus 1 for each.
 #[inline(never)]
-pub fn look_up_batches<T: WordTable>(table: &T, words: &[&str]) -> Result<u64, AllocError> {
+pub fn look_up_batches<T: WordTable>(table: &T, words: &[&str]) -> Sum {
     let mut sum = 0u64;
     for batch in words.chunks(BATCH) {
         for found in table.find_all(batch)? {
-            if let Some(symbol) = found {
-                sum = sum.wrapping_add(symbol.id() as u64 + 1);
-            }
+            sum = sum.wrapping_add(number_of(found));
         }
     }
     Ok(sum)
@@ -120,9 +127,7 @@ pub fn look_up_batches<T: WordTable>(table: &T, words: &[&str]) -> Result<u64, A
 pub fn look_up<T: Searched>(table: &T, words: &[String]) -> u64 {
     let mut sum = 0u64;
     for word in words {
-        if let Some(symbol) = table.find(word.as_str()) {
-            sum = sum.wrapping_add(symbol.id() as u64 + 1);
-        }
+        sum = sum.wrapping_add(number_of(table.find(word.as_str())));
     }
     sum
 }
@@ -144,10 +149,8 @@ pub fn get<T: Searched>(table: &T, numbers: &[u32]) -> u64 {
 pub fn read<T: Searched>(table: &T, numbers: &[u32]) -> u64 {
     let mut sum = 0u64;
     for number in numbers {
-        if let Some(bytes) = table.bytes(Symbol::new(*number)) {
-            if let Some(byte) = bytes.first() {
-                sum = sum.wrapping_add(*byte as u64);
-            }
+        if let Some([byte, ..]) = table.bytes(Symbol::new(*number)) {
+            sum = sum.wrapping_add(*byte as u64);
         }
     }
     sum
@@ -157,6 +160,19 @@ pub fn read<T: Searched>(table: &T, numbers: &[u32]) -> u64 {
 #[inline(never)]
 pub fn iterate<T: WordTable>(table: &T) -> u64 {
     table.sum()
+}
+
+/// The numbers of symbols and the lengths of their texts, added up.
+#[inline(always)]
+pub fn sum_of<'a, Pairs: Iterator<Item = (Symbol, &'a str)> + Drop>(pairs: Pairs) -> u64
+    requires { Pairs.Iterator.can_next pairs × IsFinite (Pairs.Iterator.remaining pairs) }
+{
+    let mut sum = 0u64;
+    for (symbol, text) in pairs {
+        sum = sum.wrapping_add(symbol.id() as u64);
+        sum = sum.wrapping_add(text.len() as u64);
+    }
+    sum
 }
 
 /// Drops all texts, and returns how many are left.

@@ -77,44 +77,34 @@ impl<'a> Plan<'a> {
         let [_, task, calls, hashing, capacity, size, turns] = arguments else {
             return None;
         };
+        let (source, size) = match size.as_str() {
+            "-" => (Source::Listed(lines), u32::try_from(lines.len() / 2).ok()?),
+            _ => (Source::Generated, size.as_str().parse().ok()?),
+        };
         Some(Plan {
             task: task_of(task)?,
             calls: calls_of(calls)?,
             place: place_of(calls),
             hashing: hashing_of(hashing)?,
             capacity: capacity.as_str().parse().ok()?,
-            source: source_of(size, lines),
-            size: size_of(size, lines)?,
+            source,
+            size,
             turns: turns.as_str().parse().ok()?,
         })
     }
 }
 
-fn source_of<'a>(word: &str, lines: &'a [String]) -> Source<'a> {
-    match word {
-        "-" => Source::Listed(lines),
-        _ => Source::Generated,
-    }
-}
-
-fn size_of(word: &str, lines: &[String]) -> Option<u32> {
-    match word {
-        "-" => u32::try_from(lines.len() / 2).ok(),
-        _ => word.parse().ok(),
-    }
-}
-
 fn task_of(word: &str) -> Option<Task> {
-    match word {
-        "check" => Some(Task::Check),
-        "time" => Some(Task::Time),
-        "hold" => Some(Task::Hold),
-        "hash" => Some(Task::Hash),
-        "copy" => Some(Task::Copy),
-        "frozen" => Some(Task::Frozen),
-        "words" => Some(Task::Words),
-        _ => None,
-    }
+    Some(match word {
+        "check" => Task::Check,
+        "time" => Task::Time,
+        "hold" => Task::Hold,
+        "hash" => Task::Hash,
+        "copy" => Task::Copy,
+        "frozen" => Task::Frozen,
+        "words" => Task::Words,
+        _ => return None,
+    })
 }
 
 fn calls_of(word: &str) -> Option<Calls> {
@@ -127,9 +117,10 @@ fn calls_of(word: &str) -> Option<Calls> {
 }
 
 fn place_of(word: &str) -> Place {
-    match word {
-        "packed" | "packed_batch" | "packed_both" => Place::Packed,
-        _ => Place::Owned,
+    if word.starts_with("packed") {
+        Place::Packed
+    } else {
+        Place::Owned
     }
 }
 

@@ -1,57 +1,44 @@
 -- What is decoded is encoded as before, where the symbols are issued in order and no two spellings are equal.
-use Rattle.std.proofs.Common.{◌≡◌, ◌≢◌, ◌∙◌, sym, ap, refl, subst, inl, inr, ℕ, ◌+◌, ◌<◌, ◌≤◌, max, List, [], ◌∷◌, length, map, take, get_or, Option, Some, None, length-append, arith}
+use Rattle.std.proofs.Common.{◌≡◌, ◌∙◌, sym, ap, refl, subst, inl, inr, ℕ, ◌+◌, ◌<◌, ◌≤◌, max, List, [], ◌∷◌, length, map, take, get_or, Option, Some, None, length-append, arith}
 use Rattle.std.specs.List.{All, AllByRecursion}
-use Rattle.std.proofs.lemmas.List.{length-map, map-append, length-take-le, get_or-map, get_or-take, take_more, take_all}
-use Rattle.std.proofs.lemmas.List.Elements.{recursion_from_All}
+use Rattle.std.proofs.lemmas.List.{length-map, map-append, length-take-le, get_or-map, take_more, take_all}
+use Rattle.std.proofs.lemmas.List.Elements.{All-map, recursion_from_All}
+use Rattle.std.proofs.lemmas.List.Folds.{flat_map-map}
 use Rattle.std.proofs.lemmas.Bool.{cases_order}
 use Rattle.intaglio_content.specs.Key.{Key}
-use Rattle.intaglio_interner.specs.State.{first, Distinct}
+use Rattle.intaglio_interner.specs.State.{State, first, Distinct}
 use Rattle.intaglio_interner.specs.Issue.{issued, interned, issue_from, issue, interned_all}
-use Rattle.intaglio_interner.proofs.First.{first-none, first-some, some-below}
+use Rattle.intaglio_interner.specs.Lookup.{KeepsBelow}
+use Rattle.intaglio_interner.proofs.First.{first-some, some-below}
+use Rattle.intaglio_interner.proofs.Laws.{cut-keeps}
 use Rattle.intaglio_core.proofs.Kept.{distinct-push}
 use Rattle.intaglio_lines.specs.Lines.{lines_of}
-use Rattle.intaglio_lines.specs.Output.{output_of}
+use Rattle.intaglio_lines.specs.Output.{output_of, spelling_line}
 use Rattle.intaglio_lines.specs.Encoded.{encoded_by}
 use Rattle.intaglio_lines.specs.Decoded.{IsLine, Holds, decoded}
 use Rattle.intaglio_decode.specs.Laws.{AreInOrder}
 use Rattle.intaglio_lines.proofs.ByLines.{lines_of-flat_map}
-use Rattle.intaglio_decode.proofs.FirstEqual.{decoded-map}
+
+-- a state with these contents
+abbrev holding : List (List ℕ) → State (List ℕ)
+holding contents = record { contents = contents; spare = 0; buckets = 0; limit = 0 }
 
 module _ (key : List ℕ → Key) (spellings : List (List ℕ)) (distinct : Distinct key spellings) where
   abbrev spelling_at : ℕ → List ℕ
   spelling_at n = get_or spellings n []
 
-  -- the keys of the spellings in front of one
-  key-at : (next i : ℕ) → i < next → next ≤ length spellings →
-      get_or (map key (take next spellings)) i [] ≡ key (spelling_at i)
-  key-at next i below within =
-      let count : length (take next spellings) ≡ next = length-take-le next spellings within in
-      get_or-map key (take next spellings) i [] [] (omega (arith, count))
-      ∙ ap key (get_or-take next spellings i [] below)
+  -- each spelling is found at its number
+  found-at : (n : ℕ) → n < length spellings → first key spellings (key (spelling_at n)) ≡ Some n
+  found-at n within =
+      let count = length-map spellings key in
+      let at = get_or-map key spellings n [] [] within in
+      first-some (map key spellings) (key (spelling_at n)) n (omega (arith, count)) at
+      (λ j lt same. distinct j n [] lt (omega (arith, count)) (same ∙ sym at))
 
-  apart : (i j : ℕ) → i < j → j < length spellings → key (spelling_at i) ≢ key (spelling_at j)
-  apart i j below within same =
-      distinct i j [] below (omega (arith, length-map spellings key))
-      (get_or-map key spellings i [] [] (omega arith) ∙ same
-      ∙ sym (get_or-map key spellings j [] [] (omega arith)))
-
-  -- a spelling in front is found at its number
-  first-before : (next n : ℕ) → n < next → next ≤ length spellings →
-      first key (take next spellings) (key (spelling_at n)) ≡ Some n
-  first-before next n below within =
-      let count : length (take next spellings) ≡ next = length-take-le next spellings within in
-      first-some (map key (take next spellings)) (key (spelling_at n)) n
-      (omega (arith, count, length-map (take next spellings) key)) (key-at next n below within)
-      (λ j lt same. apart j n lt (omega arith) (sym (key-at next j (omega arith) within) ∙ same))
-
-  -- the next one isn't found
-  first-next : (next : ℕ) → next < length spellings →
-      first key (take next spellings) (key (spelling_at next)) ≡ None
-  first-next next within =
-      let count : length (take next spellings) ≡ next = length-take-le next spellings (omega arith) in
-      first-none (map key (take next spellings)) (key (spelling_at next))
-      (λ j lt same. let before : j < next = omega (arith, lt, count, length-map (take next spellings) key) in
-      apart j next before within (sym (key-at next j before (omega arith)) ∙ same))
+  -- and among the first ones, if it is one of these
+  front : (next : ℕ) → next ≤ length spellings →
+      KeepsBelow key (holding spellings) next (holding (take next spellings))
+  front next within = cut-keeps key (holding spellings) next (holding (take next spellings)) within refl
 
   -- what stands behind the symbols issued so far
   record Goes (next : ℕ) (symbols : List ℕ) : Type 0 where
@@ -61,29 +48,26 @@ module _ (key : List ℕ → Key) (spellings : List (List ℕ)) (distinct : Dist
   goes-before : (next n : ℕ) (symbols : List ℕ) → n < next → next ≤ length spellings → Goes next symbols →
       Goes next (n ∷ symbols)
   goes-before next n symbols below within go =
-      let front : List (List ℕ) = take next spellings in
-      let rest : List (List ℕ) = map spelling_at symbols in
-      let at = first-before next n below within in
-      let stays : interned key front (spelling_at n) ≡ front = rw at refl in
-      let given : issued key front (spelling_at n) ≡ n = rw at refl in
+      let at : first key (take next spellings) (key (spelling_at n)) ≡ Some n =
+      (front next within).found (key (spelling_at n)) n below (found-at n (omega arith)) in
+      let stays : interned key (take next spellings) (spelling_at n) ≡ take next spellings = rw at refl in
       record {
-        same = ap (λ t. t ∷ issue_from key (interned key front (spelling_at n)) rest) given
-            ∙ ap (λ t. n ∷ issue_from key t rest) stays ∙ ap (λ t. n ∷ t) go.same;
-        held = ap (λ t. interned_all key t rest) stays ∙ go.held;
+        same = rw at (ap (λ t. n ∷ t) go.same);
+        held = ap (λ t. interned_all key t (map spelling_at symbols)) stays ∙ go.held;
       }
 
   goes-next : (next : ℕ) (symbols : List ℕ) → next < length spellings → Goes (next + 1) symbols →
       Goes next (next ∷ symbols)
   goes-next next symbols within go =
-      let front : List (List ℕ) = take next spellings in
-      let rest : List (List ℕ) = map spelling_at symbols in
-      let at = first-next next within in
-      let adds : interned key front (spelling_at next) ≡ take (next + 1) spellings =
+      let at : first key (take next spellings) (key (spelling_at next)) ≡ None =
+      (front next (omega arith)).dropped (key (spelling_at next)) next (omega arith) (found-at next within) in
+      let adds : interned key (take next spellings) (spelling_at next) ≡ take (next + 1) spellings =
       rw at (sym (take_more spellings next [] within)) in
-      let given : issued key front (spelling_at next) ≡ next =
+      let given : issued key (take next spellings) (spelling_at next) ≡ next =
       rw at (length-take-le next spellings (omega arith)) in
+      let rest : List (List ℕ) = map spelling_at symbols in
       record {
-        same = ap (λ t. t ∷ issue_from key (interned key front (spelling_at next)) rest) given
+        same = ap (λ t. t ∷ issue_from key (interned key (take next spellings) (spelling_at next)) rest) given
             ∙ ap (λ t. next ∷ issue_from key t rest) adds ∙ ap (λ t. next ∷ t) go.same;
         held = ap (λ t. interned_all key t rest) adds ∙ go.held;
       }
@@ -106,20 +90,17 @@ module _ (key : List ℕ → Key) (spellings : List (List ℕ)) (distinct : Dist
         ]
       ]
 
-  spelled-lines : (symbols : List ℕ) → All IsLine spellings →
-      AllByRecursion (λ symbol. symbol < length spellings) symbols →
-      AllByRecursion IsLine (map spelling_at symbols)
-  spelled-lines [] lines known = tt
-  spelled-lines (n ∷ symbols) lines known = (lines n [] known.0, spelled-lines symbols lines known.1)
-
   pub encodes-decoded : (symbols bytes : List ℕ) → Holds symbols spellings bytes →
       AreInOrder 0 symbols (length spellings)
       → encoded_by key (decoded symbols spellings) ≡ bytes
   encodes-decoded symbols bytes holds order =
       let known = recursion_from_All (λ symbol. symbol < length spellings) symbols holds.known in
+      let spelled : All IsLine (map spelling_at symbols) =
+      All-map IsLine spelling_at symbols (λ i d lt. holds.lines (get_or symbols i d) [] (holds.known i d lt)) in
       let lines : lines_of (decoded symbols spellings) ≡ map spelling_at symbols =
-      ap lines_of (decoded-map symbols spellings)
-      ∙ lines_of-flat_map (map spelling_at symbols) (spelled-lines symbols holds.lines known) in
+      ap lines_of (sym (flat_map-map spelling_line spelling_at symbols))
+      ∙ lines_of-flat_map (map spelling_at symbols)
+      (recursion_from_All IsLine (map spelling_at symbols) spelled) in
       let go = goes 0 symbols (omega arith) known order in
       ap (λ t. output_of (issue key t) (interned_all key [] t)) lines
       ∙ ap (λ t. output_of t (interned_all key [] (map spelling_at symbols))) go.same

@@ -2,5 +2,4 @@ mod AllLaws
 pub mod Digits
 mod FirstEqual
 mod InOrder
-mod Input
 pub mod Symbols

@@ -1,15 +1,18 @@
 -- The lines of symbols, one by one.
-use Rattle.std.proofs.Common.{◌≡◌, ◌∙◌, sym, ap, refl, ℕ, suc, ◌+◌, ◌-◌, ◌^◌, ◌<◌, ◌≤◌, min, one-add, true, false, cond, eqb, List, [], ◌∷◌, ◌++◌, length, get_or, map, Option, Some, None, append_assoc, subst, arith}
+use Rattle.std.proofs.Common.{◌≡◌, ◌∙◌, sym, ap, refl, ℕ, suc, ◌+◌, ◌-◌, ◌^◌, ◌<◌, ◌≤◌, min, one-add, true, false, cond, eqb, List, [], ◌∷◌, ◌++◌, length, get_or, map, Option, Some, None, append_assoc, subst, Bor, arith}
 use Rattle.std.specs.Option.{option_or}
 use Rattle.std.specs.List.{before_first, list_any}
 use Rattle.std.specs.Str.Parse.{digits_value}
+use Rattle.std.proofs.lemmas.List.{length-map}
 use Rattle.intaglio_lines.specs.Lines.{lines_of}
 use Rattle.intaglio_lines.specs.Output.{spelling_line}
 use Rattle.intaglio_lines.specs.Decoded.{Holds, decoded, is_ended}
-use Rattle.intaglio_lines.specs.Fault.{Fault, is_blank, is_number, symbol_lines, spellings_of, spelling_count, line_fault, first_fault, fault_of, AreKnown}
+use Rattle.intaglio_lines.specs.Fault.{Fault, is_blank, is_number, symbol_lines, spellings_of, line_fault, first_fault, AreKnown}
 use Rattle.intaglio_lines.proofs.Reading.{holds-read}
+use Rattle.intaglio_decode.specs.Parts.{spellings_in}
 use Rattle.intaglio_decode.specs.RestoreError.{Reports}
 use Rattle.intaglio_decode.specs.declared.error.RestoreError.{RestoreError}
+use Rattle.intaglio_decode.specs.declared.parts.Parts.{Parts}
 use Rattle.intaglio_decode.specs.declared.error.RestoreError.TheVariants.{NotANumber, NoString, NoEmptyLine, NotEnded, Stream}
 
 -- where the first line isn't empty, it is the first of the symbols
@@ -62,6 +65,15 @@ module _ (bytes line after : List ℕ) (lines : lines_of bytes ≡ line ∷ line
       ((is_number line ≡ true) × (digits_value 10 line < count)) × AreKnown count (symbol_lines after)
   known-more count known = subst (AreKnown count) (symbol_lines-more bytes line after lines written) known
 
+  -- so the number that is read of the first one is its number, and below the count
+  pub first-known : (count : ℕ) (read : Option ℕ) → count < 2 ^ 64 → AreKnown count (symbol_lines bytes) →
+      read ≡ cond (is_number line) (Some (min (digits_value 10 line) (2 ^ 64 - 1))) None
+      → (read ≡ Some (digits_value 10 line)) × (digits_value 10 line < count)
+  first-known count read few known gives =
+      let is = (known-more count known).0 in
+      let whole : min (digits_value 10 line) (2 ^ 64 - 1) ≡ digits_value 10 line = omega (arith, is.1) in
+      (rw (is.0, whole) at gives, is.1)
+
   -- what the symbols stand for begins with what the first one stands for
   pub decoded-more : (spellings : List (List ℕ)) (done : List ℕ)
       → (done ++ spelling_line (get_or spellings (digits_value 10 line) []))
@@ -73,29 +85,17 @@ module _ (bytes line after : List ℕ) (lines : lines_of bytes ≡ line ∷ line
       ∙ ap (λ t. done ++ decoded (map (digits_value 10) t) spellings)
       (sym (symbol_lines-more bytes line after lines written))
 
--- the number that a known line says
-pub number-known : (line : List ℕ) (result : Option ℕ) →
-    result ≡ cond (is_number line) (Some (min (digits_value 10 line) (2 ^ 64 - 1))) None
-    → is_number line ≡ true → result ≡ Some (min (digits_value 10 line) (2 ^ 64 - 1))
-number-known line result gives is = rw is at gives
+-- there are fewer spellings than 2 ^ 64
+pub few-spellings : (parts : Parts) → length (spellings_in parts) < 2 ^ 64
+few-spellings parts =
+    omega (arith, length-map parts.spellings.items (λ (s : Bor (List ℕ)). s.now), parts.spellings.ok.0)
 
--- what is wrong with nothing isn't wrong
-pub no-fault-read : (bytes : List ℕ) → list_any is_blank (lines_of bytes) ≡ true →
-    first_fault (Some (length (spellings_of bytes))) 1 (symbol_lines bytes) ≡ None
-    → is_ended bytes ≡ true → fault_of bytes ≡ None
-no-fault-read bytes any first ended =
-    let count : spelling_count bytes ≡ Some (length (spellings_of bytes)) = rw any refl in
-    let front : first_fault (spelling_count bytes) 1 (symbol_lines bytes) ≡ None =
-    ap (λ t. first_fault t 1 (symbol_lines bytes)) count ∙ first in
-    rw (front, ended, any) refl
-
--- and is read whole
+-- what has an empty line, no fault in front of it, and an ended last line has no fault, and is read whole
 pub holds-parts : (bytes : List ℕ) (spellings : List (List ℕ)) → length bytes < 2 ^ 64 →
     list_any is_blank (lines_of bytes) ≡ true → spellings ≡ spellings_of bytes
     → first_fault (Some (length spellings)) 1 (symbol_lines bytes) ≡ None → is_ended bytes ≡ true →
     Holds (map (digits_value 10) (symbol_lines bytes)) spellings bytes
 holds-parts bytes spellings few any same first ended =
-    subst (λ t. Holds (map (digits_value 10) (symbol_lines bytes)) t bytes) (sym same)
-    (holds-read bytes few
-    (no-fault-read bytes any (ap (λ t. first_fault (Some (length t)) 1 (symbol_lines bytes)) (sym same)
-    ∙ first) ended))
+    let none : first_fault (Some (length (spellings_of bytes))) 1 (symbol_lines bytes) ≡ None =
+    ap (λ t. first_fault (Some (length t)) 1 (symbol_lines bytes)) (sym same) ∙ first in
+    rw same (holds-read bytes few (rw (any, none, ended) refl))

@@ -114,7 +114,7 @@ impl<R: Files + RandomSource + Input + Print + Tell + AllocGlobal> Merging<'_, '
 
     // Merges dictionaries in files to a file.
     fn merge_files(&mut self, rt: &R, meter: &mut Meter) -> Result<(), u8> {
-        let parts = read_files(rt, self.names, meter)?;
+        let parts = read_parts(rt, self.names, None, meter)?;
         let tables = tables_of(rt, &parts.names, &parts.files)?;
         let (builder, kind) = (random_builder(rt)?, common_kind(&parts.files));
         match merge(
@@ -141,7 +141,7 @@ impl<R: Files + RandomSource + Input + Print + Tell + AllocGlobal> Merging<'_, '
         shard: u32,
         before: Option<&[Header]>,
     ) -> Result<Vec<Header>, u8> {
-        let parts = read_parts(rt, self.names, shard)?;
+        let parts = read_parts(rt, self.names, Some(shard), &mut Meter::silent())?;
         let found = sets_of(rt, &parts)?;
         if let Some(before) = before {
             self.check_sets(rt, shard, before, &parts.headers)?;
@@ -246,7 +246,7 @@ impl<R: Files + RandomSource + Input + Print + Tell + AllocGlobal> Merging<'_, '
     fn share_out(&mut self, rt: &R, shards: u32, meter: &mut Meter) -> Result<(), u8>
         requires { 0 < shards }
     {
-        let parts = read_files(rt, self.names, meter)?;
+        let parts = read_parts(rt, self.names, None, meter)?;
         let tables = tables_of(rt, &parts.names, &parts.files)?;
         let (builder, kind) = (random_builder(rt)?, common_kind(&parts.files));
         let merged = match merged_tables(rt.alloc(), &tables, builder) {
@@ -297,45 +297,44 @@ fn sets_of<R: Tell + AllocGlobal>(rt: &R, parts: &Parts) -> Result<Vec<SetId>, u
     Ok(sets)
 }
 
-// The dictionaries in these files, none of which is a shard of several.
-fn read_files<R: Files + Input + Tell + AllocGlobal>(
+// These dictionaries, in a file each, or else the shard with this number of each: of a folder, or a file.
+fn read_parts<R: Files + Input + Tell + AllocGlobal>(
     rt: &R,
     names: &[&str],
+    shard: Option<u32>,
     meter: &mut Meter,
 ) -> Result<Parts, u8> {
     let mut parts = Parts::new(rt);
     for name in names {
-        if is_folder(rt, name) {
-            let (header, bytes) = read_shard(rt, name, 0)?;
-            parts.add_single(rt, name, header, bytes)?;
+        let (header, bytes) = if is_folder(rt, name) {
+            read_shard(rt, name, shard.unwrap_or(0))?
         } else {
             let bytes = whole(rt, name, meter)?;
-            let header = header_of(rt, name, &bytes)?;
-            parts.add_single(rt, name, header, bytes)?;
+            (header_of(rt, name, &bytes)?, bytes)
+        };
+        match shard {
+            Some(number) => check_number(rt, name_of(name), &header, number)?,
+            None => check_single(rt, name_of(name), &header)?,
         }
+        parts.add(rt, name, header, bytes)?;
     }
     Ok(parts)
 }
 
-// The shard with this number of each of these dictionaries, which are folders, or files of this shard.
-fn read_parts<R: Files + Input + Tell + AllocGlobal>(
-    rt: &R,
-    names: &[&str],
-    shard: u32,
-) -> Result<Parts, u8> {
-    let mut parts = Parts::new(rt);
-    for name in names {
-        let (header, bytes) = if is_folder(rt, name) {
-            read_shard(rt, name, shard)?
-        } else {
-            let bytes = whole(rt, name, &mut Meter::silent())?;
-            let header = header_of(rt, name, &bytes)?;
-            check_number(rt, name_of(name), &header, shard)?;
-            (header, bytes)
-        };
-        parts.add_shard(rt, name, header, bytes)?;
+// Refuses a shard of several.
+fn check_single<R: Tell>(rt: &R, name: &str, header: &Header) -> Result<(), u8> {
+    let (shards, shard) = (header.place.shards, header.place.shard);
+    if shards == 1 {
+        return Ok(());
     }
-    Ok(parts)
+    Err(report::failed(
+        rt,
+        name,
+        format_args!(
+            "shard {shard} of {shards}; merge it by --shard, \
+             or name folders of as many shards each, without --shards"
+        ),
+    ))
 }
 
 impl Parts {
@@ -348,27 +347,8 @@ impl Parts {
         }
     }
 
-    // Adds a dictionary that is no shard of several.
-    fn add_single<R: Tell + AllocGlobal>(
-        &mut self,
-        rt: &R,
-        name: &str,
-        header: Header,
-        bytes: Vec<u8>,
-    ) -> Result<(), u8> {
-        let (shards, shard) = (header.place.shards, header.place.shard);
-        if shards != 1 {
-            return Err(report::failed(
-                rt,
-                name_of(name),
-                format_args!("shard {shard} of {shards}; name folders of shards, or give --shard"),
-            ));
-        }
-        self.add(rt, name, header, bytes)
-    }
-
-    // Adds a shard of as many as the first one is of.
-    fn add_shard<R: Tell + AllocGlobal>(
+    // Adds one, of as many shards as the first.
+    fn add<R: Tell + AllocGlobal>(
         &mut self,
         rt: &R,
         name: &str,
@@ -386,16 +366,6 @@ impl Parts {
                 ));
             }
         }
-        self.add(rt, name, header, bytes)
-    }
-
-    fn add<R: Tell + AllocGlobal>(
-        &mut self,
-        rt: &R,
-        name: &str,
-        header: Header,
-        bytes: Vec<u8>,
-    ) -> Result<(), u8> {
         let Ok(name) = String::from_str(rt.alloc(), name) else {
             return Err(report::out_of_memory(rt));
         };

@@ -200,7 +200,7 @@ fn list_all<R: Print + Tell + AllocGlobal, D: WholeDictionary>(rt: &R, table: &D
     ended(rt, answer, output.error)
 }
 
-// Writes what a dictionary has, whose first file has these bytes.
+// Writes what a dictionary has, whose first file has these bytes, of so many in all its files.
 fn stat<R: Print + Tell + AllocGlobal, D: WholeDictionary>(
     rt: &R,
     table: &D,
@@ -211,7 +211,8 @@ fn stat<R: Print + Tell + AllocGlobal, D: WholeDictionary>(
     match header_of(rt, name, first) {
         Ok(header) => {
             let mut output = Noticing::new(io::writer(rt));
-            let answer = write_stat(&mut output, table, &header, length);
+            let is_shard = header.place.shards > 1 && first.len() as u64 == length;
+            let answer = write_stat(&mut output, table, &header, length, is_shard);
             ended(rt, answer, output.error)
         }
         Err(status) => status,
@@ -223,6 +224,7 @@ fn write_stat<W: Write, D: WholeDictionary>(
     table: &D,
     header: &Header,
     length: u64,
+    is_shard: bool,
 ) -> Result<(), StreamError> {
     let size = size_of_strings(table);
     let tenths = length.saturating_mul(10) / size.count.max(1);
@@ -230,7 +232,7 @@ fn write_stat<W: Write, D: WholeDictionary>(
     let written = writeln!(
         output,
         "kind {}\nstrings {}\nbytes {}\nbytes a string {}.{}\nlongest {}\n\
-         identity {:016x}{:016x}\nshards {}\nshard {}",
+         identity {:016x}{:016x}\nshards {}",
         name_of_kind(header.kind == Kind::Text),
         size.count,
         length,
@@ -239,13 +241,12 @@ fn write_stat<W: Write, D: WholeDictionary>(
         size.longest,
         place.set.hash0,
         place.set.hash1,
-        place.shards,
-        place.shard
+        place.shards
     );
-    match written {
-        Ok(()) => Ok(()),
-        Err(_) => Err(StreamError::Write),
+    if written.is_err() || is_shard && writeln!(output, "shard {}", place.shard).is_err() {
+        return Err(StreamError::Write);
     }
+    Ok(())
 }
 
 /// What freeze calls a kind.
