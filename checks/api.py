@@ -12,7 +12,6 @@ Prints where the pages are, or with a NAME one of them: that of a library such a
 
 import re
 import sys
-import textwrap
 
 sys.dont_write_bytecode = True
 import arguments
@@ -23,14 +22,13 @@ from sources import TOP, UNNAMED
 
 FOLDER = TOP / "out/doc"
 # Crates of tests and examples, which no caller needs, and `intaglio_c`, whose calls bindings/c/intaglio.h documents.
-LEFT_OUT = re.compile(r"intaglio_c|test_support|refused_allocations|bench|tests|\w+_tests|example_\w+")
+LEFT_OUT = re.compile(r"intaglio_c|refused_allocations|bench|tests|example_\w+")
 # Links in documentation, as the names that lead somewhere.
 LINK = re.compile(r"\[(`[^`]+`|[^\]`]+)\](?:\([^)]*\))?")
 
 
 def wrapped(text, first="", rest=""):
-    text = LINK.sub(r"\1", text)
-    return textwrap.fill(text, 118, initial_indent=first, subsequent_indent=rest, break_long_words=False, break_on_hyphens=False)
+    return evidence.wrapped(LINK.sub(r"\1", text), first, rest)
 
 
 def paragraphs(lines):
@@ -48,22 +46,14 @@ def above(lines, at):
     return paragraphs([it for it in lines[start:at] if it.lstrip().startswith("///")])
 
 
-def signature(function):
-    """The function's owner and its declaration."""
-    end = interface.END.search(function.text)
-    text = interface.joined(function.text[: end.start()] if end else function.text).removeprefix("pub ")
-    owner = f"{function.trait} for {function.owner}" if function.trait not in ("", function.owner) else function.owner
-    return f"`{owner}`: `{text}`" if owner else f"`{text}`"
-
-
 def of_contract(every, function):
     """What a call requires, and the names of its clauses."""
-    named = {name: text.split()[0].rstrip("*") for name, text in function.clauses.items()}
-    for name, text in function.clauses.items():
-        if named[name] == "requires":
-            yield "Requires `" + re.sub(r"\s+", " ", text.partition("{")[2].rpartition("}")[0]).strip() + "`."
+    kinds = {name: text.split()[0].rstrip("*") for name, text in function.clauses.items()}
+    for name in (it for it in kinds if kinds[it] == "requires"):
+        condition = function.clauses[name].partition("{")[2].rpartition("}")[0]
+        yield f"Requires `{' '.join(condition.split())}`."
     own = every.members.get((function.crate, function.owner, function.trait), {}) if function.trait else {}
-    clauses = [name for name in named if named[name] == "ensures" and name != UNNAMED]
+    clauses = [name for name in kinds if kinds[name] == "ensures" and name != UNNAMED]
     clauses += [name for name in own if name.startswith(function.name) or name.endswith("_gives")]
     if clauses:
         yield f"Clauses: {', '.join(f'`{it}`' for it in clauses)}."
@@ -71,14 +61,15 @@ def of_contract(every, function):
 
 def of_file(every, calls, path):
     """The public types and calls of a file, in the order of the source."""
-    text = path.read_text(encoding="utf-8")
+    text = sources.text_of(path)
     lines, found = text.splitlines(), []
     for it in interface.TYPE.finditer(text):
         at = text[: it.start()].count("\n")
         found.append((at, f"`{interface.joined(it[2]).removeprefix('pub ')}`", above(lines, at)))
-    for call in calls:
-        if TOP / call.file == path:
-            found.append((call.line, signature(call), [*above(lines, call.line - 1), *of_contract(every, call)]))
+    for call in (it for it in calls if TOP / it.file == path):
+        owner, declared = interface.signature(call)
+        head = f"`{owner}`: " * bool(owner) + f"`{declared.removeprefix('pub ')}`"
+        found.append((call.line, head, [*above(lines, call.line - 1), *of_contract(every, call)]))
     for _, head, said in sorted(found, key=lambda it: it[0]):
         yield wrapped(head, "- ", "  ")
         yield from (wrapped(it, "  ", "  ") for it in said)
@@ -86,7 +77,7 @@ def of_file(every, calls, path):
 
 def about(path):
     """What a file's first lines say of it."""
-    return " ".join(paragraphs(re.findall(r"(?m)^//! ?(.*)$", path.read_text(encoding="utf-8")))[:1])
+    return " ".join(paragraphs(re.findall(r"(?m)^//! ?(.*)$", sources.text_of(path)))[:1])
 
 
 def sources_of(crate):
@@ -109,7 +100,7 @@ def page_of(every, crate):
 def files():
     """The page of all files: what is in each, crate by crate, as crates.txt has them."""
     yield "# Files\n\nEach file of sources with what its first lines say, from the lowest crate to the highest.\n"
-    for crate in re.findall(r"(?m)^(\w+)", (TOP / "crates.txt").read_text(encoding="utf-8")):
+    for crate in sources.rows_of_crates():
         root, *others = sources_of(crate)
         yield f"## `{crate}`\n\n{wrapped(about(root))}\n"
         yield "\n".join(wrapped(f"`{it.relative_to(root.parent)}`: {about(it)}", "- ", "  ") for it in others) + "\n"

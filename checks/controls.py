@@ -71,7 +71,7 @@ def stated(text, whole, own):
 def source(crate, path):
     """The functions of a source, each with its header; its types, traits and constants with their names, and its impls, each with
     type, trait and the words from the trait to its bounds; and the names of all these."""
-    whole = rest = path.read_text(encoding="utf-8")
+    whole = rest = sources.text_of(path)
     functions, found = sources.functions_in(crate, path)[0], []
     for it in functions:
         rest = rest.replace(it.text, "", 1)
@@ -86,8 +86,8 @@ def source(crate, path):
             found += [(name, name, frozenset(), item) for name in NAMED.findall(line)[:1]]
     own, heads = {owner for owner, *_ in found}, []
     for it in functions:
-        lines, indent = it.text.split("\n"), " " * (len(it.text) - len(it.text.lstrip(" ")))
-        end = len(lines) if CONSTANT.match(it.text) else sources.clauses_from(lines, 0, indent)[1] + 1
+        lines = it.text.split("\n")
+        end = len(lines) if CONSTANT.match(it.text) else len(sources.header_of(lines))
         heads.append((it, stated("\n".join(lines[:end]), whole, own)))
     return heads, [(*it, stated(item, whole, own)) for *it, item in found], own
 
@@ -95,7 +95,7 @@ def source(crate, path):
 @functools.lru_cache(maxsize=None)
 def specs(path):
     """The definitions of a file of specs by their names, each with what the file's modules are given."""
-    whole = path.read_text(encoding="utf-8")
+    whole = sources.text_of(path)
     given, own = " ".join(re.findall(r"(?ms)^ *module .*? where$", whole)), sources.definitions_in(path)
     return [(it, stated(own[it] + given, whole, own)) for it in own if "." not in it and it not in ("use", "mod")]
 
@@ -110,7 +110,7 @@ def with_lemmas(crate, texts):
                 file, path = path / f"{part}.antt", path / part
                 if file not in found and file.is_file():
                     found.add(file)
-                    texts.append(file.read_text(encoding="utf-8"))
+                    texts.append(sources.text_of(file))
     return texts
 
 
@@ -158,12 +158,12 @@ class Index:
     def sum_of(self, edit):
         """The checksum of all that an edit rests on."""
         folder, path = TOP / "crates" / edit.crate, edit.function.split("::")
-        whole, (heads, _, own) = (folder / edit.file).read_text(encoding="utf-8"), source(edit.crate, folder / edit.file)
-        found = [it for it, _ in heads if it.name == path[-1] and ["", *path][-2].startswith(it.owner)]
+        whole, own = sources.text_of(folder / edit.file), source(edit.crate, folder / edit.file)[2]
+        found = [it for it in sources.named_by(edit.crate, edit.function) if it.file == f"crates/{edit.crate}/{edit.file}"]
         turned = [it.text for it in found] if found and not sources.is_of_type(edit) else [whole]
         edited = [edit.function, *sum(edit.pairs, ()), *(f":{it.owner} :{it.trait}" for it in found), *TACTIC.findall(whole)]
         texts = [" ".join(edited), *turned]
-        proof = [it.read_text(encoding="utf-8") for it in sorted((folder / "proofs").joinpath(*path).glob("*.antt"))]
+        proof = [sources.text_of(it) for it in sorted((folder / "proofs").joinpath(*path).glob("*.antt"))]
         proofs = {stated(it, it, ()) for it in with_lemmas(edit.crate, [*texts, *proof])[len(texts) :]}
         said = {stated(it, whole, own) for it in texts}
         words = {word for it in said for word in it.words}
@@ -179,25 +179,24 @@ class Accepted:
     """The controls that controls.txt has, which were accepted. One of ten is tried again, by a seed."""
 
     def __init__(self, is_anew, seed):
-        lines = TABLE.read_text(encoding="utf-8").splitlines() if TABLE.is_file() else []
+        lines = sources.text_of(TABLE).splitlines() if TABLE.is_file() else []
         self.sums, self.is_anew, self.seed = dict(it.split() for it in lines), is_anew, seed
         self.now: dict[str, str] = {}
         self.again: list[str] = []
 
     def left_out(self, crate, edits):
         """Those of a crate's edits that needn't be tried."""
-        index, edits = Index(crate), [it for it in edits if it.kind == sources.CONTROL]
-        self.now |= {name_of(it): index.sum_of(it) for it in edits}
-        same = [it for it in edits if not self.is_anew and self.now[name_of(it)] == self.sums.get(name_of(it))]
-        again = [it for it in same if random.Random(f"{self.seed} {name_of(it)}").random() < 0.1]
-        self.again += map(name_of, again)
-        return [it for it in same if it not in again]
+        index, edits = Index(crate), {name_of(it): it for it in edits if it.kind == sources.CONTROL}
+        self.now |= {name: index.sum_of(it) for name, it in edits.items()}
+        same = [name for name in edits if not self.is_anew and self.now[name] == self.sums.get(name)]
+        again = [name for name in same if random.Random(f"{self.seed} {name}").random() < 0.1]
+        self.again += again
+        return [edits[name] for name in same if name not in again]
 
     def write(self, edits, accepted):
         """Writes controls.txt, now that of these edits these were accepted. What was refused, and what isn't there, goes."""
-        tried = {name_of(it) for it in edits}
         there = {name_of(it) for folder in (TOP / "crates").iterdir() for it in sources.edits_in(folder.name)}
-        sums = {name: it for name, it in self.sums.items() if name in there - tried}
+        sums = {name: it for name, it in self.sums.items() if name in there - {*map(name_of, edits)}}
         sums |= {name_of(it): self.now[name_of(it)] for it in accepted if it.kind == sources.CONTROL}
         TABLE.write_text("".join(f"{name} {sums[name]}\n" for name in sorted(sums)), encoding="utf-8")
 

@@ -36,7 +36,7 @@ class Evidence(NamedTuple):
 
 def blocks():
     """The blocks of evidence.txt."""
-    for promise, *names in BLOCK.findall(re.sub(r"(?m)^#.*\n", "", TABLE.read_text(encoding="utf-8"))):
+    for promise, *names in BLOCK.findall(re.sub(r"(?m)^#.*\n", "", sources.text_of(TABLE))):
         mutants, tests = map(str.split, names)
         yield Evidence(promise, [it.removesuffix("!") for it in mutants], tests, {it[:-1] for it in mutants if it.endswith("!")})
 
@@ -46,35 +46,33 @@ def cited(cell):
     return re.findall(r"`([\w-]+)`", cell)
 
 
-def mutants_of(every):
-    return [it for it in every.edits if it.kind == sources.MUTANT]
-
-
 def named(every, name):
     """What CRATE/NAME or NAME is of these, or nothing if there are none or several."""
     found = [it for it in every if name in (it.name, f"{it.crate}/{it.name}")]
     return found[0] if len(found) == 1 else None
 
 
+def wrapped(text, first="- ", rest="  "):
+    return textwrap.fill(text, 118, initial_indent=first, subsequent_indent=rest, break_long_words=False, break_on_hyphens=False)
+
+
 def pages(every):
     """What is printed of each promise, by its name."""
-    mutants, tests = mutants_of(every), every.tests()
+    tests = every.tests()
     for block in blocks():
+        edits = {name: it for name in block.mutants if (it := named(every.mutants, name))}
         lines = [
             f"`{name}` edits `{it.function}` of `{it.crate}`, and {', '.join(it.clauses)} refuses it: {it.promise}."
             + " It stays." * (name in block.kept)
-            for name in block.mutants
-            for it in [named(mutants, name)]
-            if it
+            for name, it in edits.items()
         ]
-        lines += [f"test `{name}` in {it.file if it else name}" for name in block.tests for it in [named(tests, name)]]
-        wrapped = (textwrap.fill(it, 118, initial_indent="- ", subsequent_indent="  ", break_on_hyphens=False) for it in lines)
-        yield block.promise, f"## {block.promise}\n\n" + "\n".join(wrapped) + "\n"
+        lines += [f"test `{name}` in {it.file if (it := named(tests, name)) else name}" for name in block.tests]
+        yield block.promise, f"## {block.promise}\n\n" + "\n".join(map(wrapped, lines)) + "\n"
 
 
 def wrong(every, names):
     """What is wrong with evidence.txt, if the rows of PROMISES.md name these blocks."""
-    own, mutants = [*blocks()], mutants_of(every)
+    own = [*blocks()]
     count = collections.Counter(it.promise for it in own)
     yield from (f"docs/PROMISES.md: checks/evidence.txt has no block of {it}" for it in sorted(names - {*count}))
     yield from (f"checks/evidence.txt: docs/PROMISES.md has no row of {it}" for it in sorted({*count} - names))
@@ -82,8 +80,9 @@ def wrong(every, names):
     for it in own:
         if not (it.mutants or it.tests):
             yield f"checks/evidence.txt: {it.promise} has no mutant and no test"
-        yield from (f"checks/evidence.txt: no or several mutants are {name}" for name in it.mutants if not named(mutants, name))
+        lost = (name for name in it.mutants if not named(every.mutants, name))
+        yield from (f"checks/evidence.txt: no or several mutants are {name}" for name in lost)
     of_promises = {name for it in own if it.promise in names for name in it.mutants}
-    for mutant in mutants:
+    for mutant in every.mutants:
         if not {mutant.name, f"{mutant.crate}/{mutant.name}"} & of_promises:
             yield f"{mutant.path}: it belongs to no promise in checks/evidence.txt"

@@ -12,18 +12,17 @@ from typing import NamedTuple
 
 BYTES, TEXT = 0, 1
 KINDS = ("bytes", "text")
-MAX_COUNT = 2**31
-TABLE_MAGIC, TABLE_VERSION = b"INTAGLIO", 2
-TABLE_HEADER = struct.Struct("<8sIIQQQQ16s16sII40s")
-NO_SYMBOL, MAX_PILOT = 2**32 - 1, 2**16 - 1
+MAX_COUNT, NO_SYMBOL, MAX_PILOT = 2**31, 2**32 - 1, 2**16 - 1
 ATTEMPTS = 8
 WORD = 2**64 - 1
+TABLE_HEADER = struct.Struct("<8sIIQQQQ16s16sII40s")
 COLUMN_MAGIC, COLUMN_VERSION = bytes.fromhex("494e5489434f4c0a"), 2
-COLUMN_HEADER = struct.Struct("<8sIIQQQQIIQIIQQI36s")
+COLUMN_HEADER = struct.Struct("<8sII16sQQIIQII16sI36s")
 # Where its checksum is.
 CHECKSUM = slice(56, 64)
 # The missing code, of four bytes.
 MISSING = 2**32 - 1
+LINELESS = f"is {MISSING}, that of a line that wasn't in a dictionary; --missing TEXT gives it a line"
 CODES = {1: "B", 2: "H", 4: "I"}
 # The keys of the hash that gives a string its shard.
 SHARD_KEYS = tuple(int.from_bytes(it, "big") for it in (b"shards.0", b"shards.1"))
@@ -59,7 +58,37 @@ def sip_hash(key0, key1, string):
     return a ^ b ^ c ^ d
 
 
+def numbers(*given):
+    return struct.pack(f"<{len(given)}Q", *given)
+
+
+def identity(tag, data):
+    """The two hashes of bytes under the keys tag and 0, and tag and 1, in sixteen bytes."""
+    return numbers(sip_hash(tag, 0, data), sip_hash(tag, 1, data))
+
+
 # Frozen tables.
+
+
+class Header(NamedTuple):
+    """What the header of a table says."""
+
+    magic: bytes = b"INTAGLIO"
+    version: int = 2
+    kind: int = BYTES
+    key0: int = 0
+    key1: int = 0
+    strings: int = 0
+    length: int = 0
+    own: bytes = b""
+    set: bytes = b""
+    shards: int = 1
+    shard: int = 0
+    reserved: bytes = b""
+
+
+def header_of(table):
+    return Header._make(TABLE_HEADER.unpack_from(table))
 
 
 def scaled(many, number):
@@ -75,28 +104,12 @@ class Sections:
 
     def __init__(self, count):
         self.places, self.groups = count + count // 19 + 2, count // 3 + 1
-        self.symbols = TABLE_HEADER.size
-        self.ends = self.symbols + 4 * self.places
-        self.pilots = self.ends + 4 * count
-        self.tags = self.pilots + 2 * self.groups
-        self.text = self.tags + self.places
+        sizes = TABLE_HEADER.size, 4 * self.places, 4 * count, 2 * self.groups, self.places
+        self.symbols, self.ends, self.pilots, self.tags, self.text = itertools.accumulate(sizes)
 
-
-class Header(NamedTuple):
-    """What the header of a table says. Its own identity and that of its set have sixteen bytes."""
-
-    magic: bytes
-    version: int
-    kind: int
-    key0: int
-    key1: int
-    strings: int
-    length: int
-    own: bytes
-    set: bytes
-    shards: int
-    shard: int
-    reserved: bytes
+    def place(self, number, pilots):
+        """That of a hash."""
+        return scaled(self.places, mixed(number, pilots[scaled(self.groups, number)]))
 
 
 class Frozen:
@@ -105,13 +118,11 @@ class Frozen:
     def __init__(self, data, is_trusted=False):
         if not is_trusted and (faults := table_faults(data)):
             raise Damaged(*faults)
-        self.data = data
-        self.header = header = Header._make(TABLE_HEADER.unpack_from(data))
+        self.header = header = header_of(data)
         self.kind, self.key0, self.key1, count = header.kind, header.key0, header.key1, header.strings
         self.sections = at = Sections(count)
-        self.symbols = struct.unpack_from(f"<{at.places}I", data, at.symbols)
-        self.ends = struct.unpack_from(f"<{count}I", data, at.ends)
-        self.pilots = struct.unpack_from(f"<{at.groups}H", data, at.pilots)
+        found = struct.unpack_from(f"<{at.places}I{count}I{at.groups}H", data, at.symbols)
+        self.symbols, self.ends, self.pilots = found[: at.places], found[at.places : -at.groups], found[-at.groups :]
         self.tags, self.text = data[at.tags : at.text], data[at.text :]
 
     def __len__(self):
@@ -129,21 +140,24 @@ class Frozen:
     def find(self, string):
         """The symbol of a string, or nothing."""
         number = sip_hash(self.key0, self.key1, string)
-        pilot = self.pilots[scaled(self.sections.groups, number)]
-        place = scaled(self.sections.places, mixed(number, pilot))
+        place = self.sections.place(number, self.pilots)
         symbol = self.symbols[place]
         is_there = self.tags[place] == number % 256 and symbol < len(self) and self[symbol] == string
         return symbol if is_there else None
 
 
+def version_faults(data, known):
+    """What is wrong with the version, which stands behind the magic."""
+    version = int.from_bytes(data[8:12], "little")
+    return [] if version == known else ["old version" if version == 1 else "version"]
+
+
 def table_header_faults(data):
     """What is wrong with the header, and whether what follows it can be read."""
-    faults = ["magic"] * (data[:8] != TABLE_MAGIC)
-    if len(data) >= 12 and (version := int.from_bytes(data[8:12], "little")) != TABLE_VERSION:
-        faults.append("old version" if version == 1 else "version")
+    faults = ["magic"] * (data[:8] != Header().magic) + (version_faults(data, Header().version) if len(data) >= 12 else [])
     if len(data) < TABLE_HEADER.size:
         return [*faults, "truncated"], False
-    header = Header._make(TABLE_HEADER.unpack_from(data))
+    header = header_of(data)
     faults += ["kind"] * (header.kind > TEXT) + ["reserved"] * any(header.reserved) + ["shard"] * (header.shard >= header.shards)
     faults += ["identity"] * (header.shards == 1 and header.set != header.own)
     if header.strings > MAX_COUNT:
@@ -168,52 +182,41 @@ def table_faults(data):
     faults += [f"not found: {symbol}" for symbol, string in enumerate(table) if table.find(string) != symbol]
     if table.kind == TEXT:
         faults += [f"not UTF-8: {symbol}" for symbol, string in enumerate(table) if not is_text(string)]
-    return faults + ["identity"] * (table.header.own != identity_of([*table], table.kind))
+    return faults + ["identity"] * (table.header.own != id_of_strings([*table], table.kind).identity)
 
 
 def is_text(string):
     try:
-        string.decode()
+        return string.decode() is not None
     except UnicodeDecodeError:
         return False
-    return True
 
 
-def pilot_of(hashes, taken, places):
-    """The least pilot under which the hashes have places of their own that aren't taken, and these places."""
-    for pilot in range(MAX_PILOT + 1):
-        found = [scaled(places, mixed(number, pilot)) for number in hashes]
-        if len({*found}) == len(found) and taken.isdisjoint(found):
-            return pilot, found
-    return None
-
-
-def places_of(hashes):
-    """The symbols and the tags of the places and the pilots of the groups, or nothing if there is no place for a hash.
-
-    Groups with more hashes come first."""
+def pilots_of(hashes):
+    """For each group the least pilot that gives its hashes places of their own, or nothing if there is none for a group. Groups
+    with more hashes come first."""
     at = Sections(len(hashes))
-    members: dict[int, list[int]] = {}
-    for symbol, number in enumerate(hashes):
-        members.setdefault(scaled(at.groups, number), []).append(symbol)
-    symbols, tags, pilots = [NO_SYMBOL] * at.places, bytearray(at.places), [0] * at.groups
-    taken: set[int] = set()
-    for group in sorted(members, key=lambda it: (-len(members[it]), it)):
-        numbers = [hashes[symbol] for symbol in members[group]]
-        if not (found := pilot_of(numbers, taken, at.places)):
+    members: list[list[int]] = [[] for _ in range(at.groups)]
+    for number in hashes:
+        members[scaled(at.groups, number)].append(number)
+    pilots, taken = [0] * at.groups, set[int]()
+    for group in sorted(range(at.groups), key=lambda it: -len(members[it])):
+        for pilot in range(MAX_PILOT + 1):
+            places = {scaled(at.places, mixed(number, pilot)) for number in members[group]}
+            if len(places) == len(members[group]) and taken.isdisjoint(places):
+                break
+        else:
             return None
-        pilots[group] = found[0]
-        taken.update(found[1])
-        for place, symbol, number in zip(found[1], members[group], numbers):
-            symbols[place], tags[place] = symbol, number % 256
-    return symbols, tags, pilots
+        pilots[group] = pilot
+        taken |= places
+    return pilots
 
 
 def default_keys(strings):
     """The keys if none are given, which are tried with the seven pairs after them: 0 and 0, and two hashes of all strings, each
     after its length in eight bytes."""
     yield 0, 0
-    hashed = b"".join(struct.pack("<Q", len(it)) + it for it in strings)
+    hashed = b"".join(numbers(len(it)) + it for it in strings)
     key0 = sip_hash(0, 0, hashed)
     yield key0, sip_hash(key0, 0, hashed)
 
@@ -223,45 +226,37 @@ def freeze(strings, kind=BYTES, key0=None, key1=0):
     given, they are the default ones."""
     for first, second in default_keys(strings) if key0 is None else [(key0, key1)]:
         for tried in [first + attempt & WORD for attempt in range(ATTEMPTS)]:
-            if found := places_of([sip_hash(tried, second, it) for it in strings]):
-                return assembled(strings, kind, tried, second, *found)
+            if pilots := pilots_of([sip_hash(tried, second, it) for it in strings]):
+                return assembled(strings, pilots, Header(kind=kind, key0=tried, key1=second))
     return None
 
 
 def rebuilt(table):
     """The bytes of a table, from its kind, keys, strings, pilots and place in its set alone."""
-    at = table.sections
+    stay = {name: getattr(table.header, name) for name in ("kind", "key0", "key1", "set", "shards", "shard")}
+    return assembled([*table], table.pilots, Header(**stay))
+
+
+def assembled(strings, pilots, header):
+    """The bytes of a table whose header has the kind, the keys and the place in a set, or no set for the only table of one."""
+    at, ends = Sections(len(strings)), [*itertools.accumulate(map(len, strings))]
     symbols, tags = [NO_SYMBOL] * at.places, bytearray(at.places)
-    for symbol, string in enumerate(table):
-        number = sip_hash(table.key0, table.key1, string)
-        place = scaled(at.places, mixed(number, table.pilots[scaled(at.groups, number)]))
+    for symbol, string in enumerate(strings):
+        number = sip_hash(header.key0, header.key1, string)
+        place = at.place(number, pilots)
         symbols[place], tags[place] = symbol, number % 256
-    place = {name: getattr(table.header, name) for name in ("set", "shards", "shard")}
-    return assembled([*table], table.kind, table.key0, table.key1, symbols, tags, table.pilots, **place)
-
-
-def assembled(strings, kind, key0, key1, symbols, tags, pilots, **place):
-    """The bytes of the header and of all sections, of the only table of a set if no place is given."""
-    ends = [*itertools.accumulate(map(len, strings))]
-    own = identity_of(strings, kind)
-    length = sum(map(len, strings))
-    header = Header(TABLE_MAGIC, TABLE_VERSION, kind, key0, key1, len(strings), length, own, own, 1, 0, bytes(40))
-    numbers = struct.pack(f"<{len(symbols)}I{len(ends)}I{len(pilots)}H", *symbols, *ends, *pilots)
-    return b"".join([TABLE_HEADER.pack(*header._replace(**place)), numbers, tags, *strings])
+    own = id_of_strings(strings, header.kind).identity
+    header = header._replace(strings=len(strings), length=ends[-1] if ends else 0, own=own, set=header.set or own)
+    sections = struct.pack(f"<{at.places}I{len(ends)}I{at.groups}H", *symbols, *ends, *pilots)
+    return b"".join([TABLE_HEADER.pack(*header), sections, tags, *strings])
 
 
 class Id(NamedTuple):
-    """What a dictionary is. The hashes are those of its set, and of a dictionary in one file those of its strings."""
+    """What a dictionary is. The identity is that of its set."""
 
     kind: int
     strings: int
-    hash0: int
-    hash1: int
-
-
-def identity_of(strings, kind):
-    """The two hashes in the header of a table of these strings."""
-    return struct.pack("<QQ", *id_of_strings(strings, kind)[2:])
+    identity: bytes
 
 
 def id_of(table):
@@ -273,8 +268,7 @@ def id_of(table):
 def id_of_strings(strings, kind):
     """That of a dictionary in one file with these strings in this order, and the own one of a shard with them."""
     ends = (end % 2**32 for end in itertools.accumulate(map(len, strings)))
-    hashed = struct.pack(f"<{len(strings)}I", *ends) + b"".join(strings)
-    return Id(kind, len(strings), *(sip_hash(kind, key, hashed) for key in (0, 1)))
+    return Id(kind, len(strings), identity(kind, struct.pack(f"<{len(strings)}I", *ends) + b"".join(strings)))
 
 
 # Columns.
@@ -290,52 +284,49 @@ class Source(NamedTuple):
 
     shards: int = 0
     kind: int = 0
-    hash0: int = 0
-    hash1: int = 0
+    identity: bytes = bytes(16)
     shard: int = 0
 
 
-def source_of(dictionary):
-    """That of a map from the dictionary in one file with this id."""
-    return Source(1, dictionary.kind, dictionary.hash0, dictionary.hash1)
+class Column(NamedTuple):
+    """A column: its dictionary, its codes, from where its rows come, and how many shards the dictionary has."""
+
+    id: Id
+    codes: list[int]
+    source: Source = Source()
+    shards: int = 1
 
 
-def column(dictionary, codes, source=Source(), shards=1):
-    """The bytes of a column of these codes under the dictionary with this id, whose rows come from this source."""
-    kind, count, hash0, hash1 = dictionary
-    width = width_for(count)
-    greatest = 2 ** (8 * width) - 1
-    to = (COLUMN_MAGIC, COLUMN_VERSION, kind, hash0, hash1, count, len(codes), width, shards)
-    narrowed = (greatest if it == MISSING else it for it in codes)
-    header = COLUMN_HEADER.pack(*to, 0, *source, bytes(36))
-    return sealed(header + struct.pack(f"<{len(codes)}{CODES[width]}", *narrowed))
+def column(*given, **named):
+    """The bytes of a column, with what `Column` has."""
+    of, codes, source, shards = Column(*given, **named)
+    width = width_for(of.strings)
+    to = (COLUMN_MAGIC, COLUMN_VERSION, of.kind, of.identity, of.strings, len(codes), width, shards)
+    narrowed = (2 ** (8 * width) - 1 if it == MISSING else it for it in codes)
+    return sealed(COLUMN_HEADER.pack(*to, 0, *source, b"") + struct.pack(f"<{len(codes)}{CODES[width]}", *narrowed))
+
+
+def header_of_column(data):
+    """The dictionary of a column, how many rows of which width it has, its shards and its source, and what is reserved."""
+    _, _, kind, its_identity, strings, rows, width, shards, _, *source, reserved = COLUMN_HEADER.unpack_from(data)
+    return Id(kind, strings, its_identity), rows, width, shards, Source(*source), reserved
+
+
+def read_column(data):
+    """The column in these bytes."""
+    of, _, width, shards, source, _ = header_of_column(data)
+    return Column(of, widened(data, width), source, shards)
 
 
 def column_checksum(data):
     """The checksum of the codes, and then of the header with zeros in place of the checksum."""
     header = data[: CHECKSUM.start] + bytes(8) + data[CHECKSUM.stop : COLUMN_HEADER.size]
-    return sip_hash(4, 0, data[COLUMN_HEADER.size :] + header)
+    return numbers(sip_hash(4, 0, data[COLUMN_HEADER.size :] + header))
 
 
 def sealed(data):
     """The bytes of a column with their checksum."""
-    return data[: CHECKSUM.start] + column_checksum(data).to_bytes(8, "little") + data[CHECKSUM.stop :]
-
-
-def read_column(data):
-    """Of the bytes of a column the id of its dictionary, and the codes."""
-    _, _, kind, hash0, hash1, count, _, width, *_ = COLUMN_HEADER.unpack_from(data)
-    return Id(kind, count, hash0, hash1), widened(data, width)
-
-
-def shards_of_column(data):
-    """How many shards the dictionary of a column has."""
-    return COLUMN_HEADER.unpack_from(data)[8]
-
-
-def read_source(data):
-    """From where the rows of a column come."""
-    return Source(*COLUMN_HEADER.unpack_from(data)[10:15])
+    return data[: CHECKSUM.start] + column_checksum(data) + data[CHECKSUM.stop :]
 
 
 def widened(data, width):
@@ -350,27 +341,18 @@ def begins_as_column(data):
     return data[:4] == COLUMN_MAGIC[:4]
 
 
-def fits(source, shards):
-    """Whether a column of a dictionary with so many shards can have this source."""
-    if source.shards == 0:
-        return shards > 0 and not any(source)
-    return shards > 0 and source.kind <= TEXT and source.shard < source.shards and source.shards in (1, shards)
-
-
 def column_header_faults(data):
     """What is wrong with the header, and whether what follows it can be read."""
     if len(data) < 12 or data[:8] != COLUMN_MAGIC:
         return ["magic"], False
-    if (version := int.from_bytes(data[8:12], "little")) != COLUMN_VERSION:
-        return ["old version" if version == 1 else "version"], False
-    if len(data) < COLUMN_HEADER.size:
-        return ["header"], False
-    _, _, kind, _, _, count, rows, width, shards, _, *_, reserved = COLUMN_HEADER.unpack_from(data)
-    faults = ["kind"] * (kind > TEXT) + ["too many"] * (count > MISSING) + ["width"] * (width != width_for(count))
-    faults += ["source"] * (not fits(read_source(data), shards)) + ["reserved"] * any(reserved)
-    end = COLUMN_HEADER.size + width_for(count) * rows
-    if len(data) != end:
-        faults.append("truncated" if len(data) < end else "too long")
+    if faults := version_faults(data, COLUMN_VERSION) or ["header"] * (len(data) < COLUMN_HEADER.size):
+        return faults, False
+    of, rows, width, shards, source, reserved = header_of_column(data)
+    faults = ["kind"] * (of.kind > TEXT) + ["too many"] * (of.strings > MISSING) + ["width"] * (width != width_for(of.strings))
+    is_of_map = source.kind <= TEXT and source.shard < source.shards and source.shards in (1, shards)
+    faults += ["source"] * (not shards or not is_of_map and source != Source()) + ["reserved"] * any(reserved)
+    end = COLUMN_HEADER.size + width_for(of.strings) * rows
+    faults += ["truncated"] * (len(data) < end) + ["too long"] * (len(data) > end)
     return faults, len(data) == end
 
 
@@ -379,12 +361,11 @@ def column_faults(data):
     faults, is_whole = column_header_faults(data)
     if not is_whole:
         return faults
-    if column_checksum(data) != int.from_bytes(data[CHECKSUM], "little"):
-        faults.append("damaged")
-    count = COLUMN_HEADER.unpack_from(data)[5]
-    codes = [*enumerate(widened(data, width_for(count)))]
-    faults += [f"no string: {row}" for row, code in codes if code >= count and code != MISSING]
-    return faults + [f"missing: {row}" for row, code in codes if code == MISSING and read_source(data).shards]
+    of, _, _, _, source, _ = header_of_column(data)
+    codes = [*enumerate(widened(data, width_for(of.strings)))]
+    faults += ["damaged"] * (column_checksum(data) != data[CHECKSUM])
+    faults += [f"no string: {row}" for row, code in codes if code >= of.strings and code != MISSING]
+    return faults + [f"missing: {row}" for row, code in codes if code == MISSING and source.shards]
 
 
 # Plain codes, and lines.
@@ -417,22 +398,24 @@ def encoded(strings, lines):
     return [symbols.get(it, MISSING) for it in lines]
 
 
-def decoded(strings, codes, missing=None):
-    """The lines of codes; the missing ones are this text, if there is one."""
+def translated(codes, values, missing, fault):
+    """The value of each code, and of missing ones this one, if there is one."""
     for place, code in enumerate(codes, 1):
         if code == MISSING and missing is None:
-            raise Damaged(place, f"is {code}, that of a line that wasn't in a dictionary; --missing TEXT gives it a line")
-        if code >= len(strings) and code != MISSING:
-            raise Damaged(place, f"is {code}, which is no symbol")
-    return [missing if it == MISSING else strings[it] for it in codes]
+            raise Damaged(place, LINELESS)
+        if code >= len(values) and code != MISSING:
+            raise Damaged(place, f"is {code}, which {fault}")
+    return [missing if it == MISSING else values[it] for it in codes]
 
 
-def renumbered(numbers, codes):
+def decoded(strings, codes, missing=None):
+    """The lines of codes."""
+    return translated(codes, strings, missing, "is no symbol")
+
+
+def renumbered(into, codes):
     """The codes under a map; missing ones stay so."""
-    for place, code in enumerate(codes, 1):
-        if code >= len(numbers) and code != MISSING:
-            raise Damaged(place, f"is {code}, which isn't in the map")
-    return [code if code == MISSING else numbers[code] for code in codes]
+    return translated(codes, into, MISSING, "isn't in the map")
 
 
 # Dictionaries of one shard or several, and maps.
@@ -442,42 +425,11 @@ def shard_of(count, string):
     return scaled(count, sip_hash(*SHARD_KEYS, string))
 
 
-def shards_of(strings, count):
-    """The strings of each shard, in their order."""
-    shards: list[list[bytes]] = [[] for _ in range(count)]
-    for string in strings:
-        shards[shard_of(count, string)].append(string)
-    return shards
-
-
-def hashes_of(tag, *numbers):
-    """The two hashes of numbers of eight bytes, under this key and 0 and 1."""
-    data = struct.pack(f"<{len(numbers)}Q", *numbers)
-    return sip_hash(tag, 0, data), sip_hash(tag, 1, data)
-
-
-def hashes_in(identity):
-    """The two hashes of an identity of sixteen bytes."""
-    hash0, hash1 = struct.unpack("<QQ", identity)
-    return hash0, hash1
-
-
-def set_of_shards(shards, kind):
-    """The set of a dictionary in shards with these strings, all of which one process made."""
-    ids = [id_of_strings(it, kind) for it in shards]
-    return ids[0][2:] if len(ids) == 1 else hashes_of(2, len(ids), kind, *itertools.chain(*(it[1:] for it in ids)))
-
-
-def set_of_merge(count, sets):
-    """That of a dictionary in so many shards, each of which was merged of parts with these sets, in this order."""
-    return hashes_of(3, count, len(sets), *itertools.chain(*sets))
-
-
 class Dictionary(NamedTuple):
-    """A dictionary: its kind, its set, and the strings of each shard."""
+    """A dictionary: its kind, the identity of its set, and the strings of each shard."""
 
     kind: int
-    set: tuple[int, int]
+    set: bytes
     shards: list[list[bytes]]
 
     @property
@@ -487,12 +439,12 @@ class Dictionary(NamedTuple):
 
     @property
     def id(self):
-        return Id(self.kind, len(self.strings), *self.set)
+        return Id(self.kind, len(self.strings), self.set)
 
     @property
     def name(self):
         """How messages and the names of maps write the set."""
-        return "%016x%016x" % self.set
+        return "%016x%016x" % struct.unpack("<QQ", self.set)
 
     def map_name(self, shard=0):
         """The name of the map of a shard."""
@@ -510,15 +462,18 @@ class Dictionary(NamedTuple):
 
 def placed(table, set, count, shard):
     """The bytes of a table as those of this shard of a set."""
-    header = Header._make(TABLE_HEADER.unpack_from(table))
-    place = header._replace(set=struct.pack("<QQ", *set), shards=count, shard=shard)
-    return TABLE_HEADER.pack(*place) + table[TABLE_HEADER.size :]
+    header = header_of(table)._replace(set=set, shards=count, shard=shard)
+    return TABLE_HEADER.pack(*header) + table[TABLE_HEADER.size :]
 
 
 def dictionary_of(strings, count=1, kind=BYTES):
     """The dictionary of these strings in so many shards, as one process makes it."""
-    shards = shards_of(strings, count)
-    return Dictionary(kind, set_of_shards(shards, kind), shards)
+    shards: list[list[bytes]] = [[] for _ in range(count)]
+    for string in strings:
+        shards[shard_of(count, string)].append(string)
+    ids = [id_of_strings(it, kind) for it in shards]
+    of_all = identity(2, numbers(count, kind) + b"".join(numbers(it.strings) + it.identity for it in ids))
+    return Dictionary(kind, of_all if count > 1 else ids[0].identity, shards)
 
 
 def merge_of(parts, count=1):
@@ -527,15 +482,19 @@ def merge_of(parts, count=1):
     shards = [[*dict.fromkeys(itertools.chain(*each))] for each in zip(*(it.shards for it in parts))]
     if len(shards) == 1:
         return dictionary_of(shards[0], count, kind)
-    return Dictionary(kind, set_of_merge(len(shards), [it.set for it in parts]), shards)
+    return Dictionary(kind, identity(3, numbers(len(shards), len(parts)) + b"".join(it.set for it in parts)), shards)
+
+
+def source_of(part, shard=0):
+    """That of a map from this shard of a dictionary."""
+    return Source(len(part.shards), part.kind, part.set, shard)
 
 
 def map_of(part, whole, shard=0):
     """The map of a shard of a part to the same shard of the merged dictionary, or of a part of one shard to all of it."""
-    strings, count = part.shards[shard], len(part.shards)
-    into = whole.shards[shard] if count > 1 else whole.strings
-    source = Source(count, part.kind, part.set[0], part.set[1], shard)
-    return column(whole.id._replace(strings=len(into)), encoded(into, strings), source, len(whole.shards))
+    into = whole.shards[shard] if len(part.shards) > 1 else whole.strings
+    codes = encoded(into, part.shards[shard])
+    return column(whole.id._replace(strings=len(into)), codes, source_of(part, shard), len(whole.shards))
 
 
 def maps_of(parts, whole):
@@ -543,38 +502,19 @@ def maps_of(parts, whole):
     return {part.map_name(it): map_of(part, whole, it) for part in parts for it in range(len(part.shards))}
 
 
-def renumbered_column(data, maps):
-    """The column that these maps, which are all that it needs, in the order of their shards, make of a column."""
-    numbers, count = [], 0
-    for into, codes in map(read_column, maps):
-        numbers += [count + it for it in codes]
-        count += into.strings
-    codes = renumbered(numbers, read_column(data)[1])
-    return column(into._replace(strings=count), codes, read_source(data), shards_of_column(maps[0]))
-
-
-def shard_at(path, number, first=None):
-    """The table of a shard in a folder, by its number. The first one says what the others must."""
-    table = Frozen(Path(path, f"{number}.dict").read_bytes())
-    alike = {(it.header.kind, it.header.set, it.header.shards) for it in (table, first) if it is not None}
-    if table.header.shard != number or len(alike) > 1:
-        raise Damaged(number, "is another shard, or of another set")
-    if any(shard_of(table.header.shards, it) != number for it in table):
-        raise Damaged(number, "has a string of another shard")
-    return table
-
-
 def read_dictionary(path):
     """The dictionary in a file or a folder, after all checks. Raises Damaged, or FileNotFoundError for a shard."""
-    if os.path.isdir(path):
-        first = shard_at(path, 0)
-        tables = [first, *(shard_at(path, it, first) for it in range(1, first.header.shards))]
-    else:
-        first = Frozen(Path(path).read_bytes())
-        tables = [first]
-    if len(tables) != first.header.shards:
-        raise Damaged(first.header.shard, "is one shard of several")
-    return Dictionary(first.kind, hashes_in(first.header.set), [[*it] for it in tables])
+    path = Path(path)
+    tables = [Frozen((path / "0.dict" if path.is_dir() else path).read_bytes())]
+    first = tables[0].header
+    if path.is_dir():
+        tables += (Frozen((path / f"{it}.dict").read_bytes()) for it in range(1, first.shards))
+    for number, table in enumerate(tables):
+        if (table.kind, *table.header[8:11]) != (first.kind, first.set, len(tables), number):
+            raise Damaged(number, "is another shard, or of another set, or one of several")
+        if any(shard_of(first.shards, it) != number for it in table):
+            raise Damaged(number, "has a string of another shard")
+    return Dictionary(first.kind, first.set, [[*it] for it in tables])
 
 
 def files_in(folder):

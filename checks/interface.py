@@ -1,18 +1,18 @@
-"""The interface that stays: the calls, types and re-exports of `interface.txt`, held against those of the sources.
-
-A line of it is a crate's name, or below that an item of the crate, as `items` writes it: OWNER | SIGNATURE.
-"""
+"""The interface that stays: the calls, types and re-exports of `interface.txt`, held against those of the sources."""
 
 import re
 
-from sources import TOP, functions_in
+from sources import TOP, functions_in, owner_of
 
 LISTED = TOP / "checks/interface.txt"
+# A list in a row: one of its words stands for it.
+LIST = re.compile(r"[^\s/(),<>;|=]+(?:/[^\s/(),<>;|=]+)+")
 # What ends a function's signature, and what stands in a type's declaration besides it.
 END = re.compile(r"(?m)^\s*(?:where|requires|ensures)\b|\s*//|\s*\{\s*\}?$|;\s*$")
 TYPE = re.compile(r"(?m)^((?:#\[.*\]\n)*)(pub (?:struct|enum|trait|type|const) [^{;(]*)(\([^)]*\);|[{;])")
 DERIVED = re.compile(r"#\[derive\(([^)]*)\)\]")
-MARKED = re.compile(r"(?m)^(impl\b[^{;]* for [^{;]*?)(?:\s+where\b[^{]*)?\s\{")
+# The header of an impl of a trait, and its lines.
+IMPL = re.compile(r"(?m)^(impl\b[^{;]* for [^{;]*?)(?:\s+where\b[^{]*)?\s\{((?:\n(?: .*)?)*)")
 EXPORTED = re.compile(r"(?ms)^pub use ([^;]+);")
 MODULE = re.compile(r"(?m)^pub mod (\w+);")
 
@@ -23,14 +23,11 @@ def joined(text):
     return re.sub(r",? ([)>}])", r"\1", re.sub(r"([(<]) ", r"\1", text)) if "{" not in text else re.sub(r",? \}", " }", text)
 
 
-def calls(crate, path):
-    """The functions of a file that are public or belong to a trait."""
-    for it in functions_in(crate, path)[0]:
-        is_public = it.text.lstrip().startswith("pub ") and not it.text.lstrip().startswith("pub(")
-        if is_public or it.trait:
-            end = END.search(it.text)
-            owner = it.owner if it.trait in ("", it.owner) else f"{it.trait} for {it.owner}"
-            yield owner, joined(it.text[: end.start()] if end else it.text)
+def signature(function):
+    """The type or the impl of a function, and its declaration."""
+    owner = function.owner if function.trait in ("", function.owner) else f"{function.trait} for {function.owner}"
+    end = END.search(function.text)
+    return owner, joined(function.text[: end.start()] if end else function.text)
 
 
 def types(text):
@@ -44,91 +41,52 @@ def types(text):
         yield "", head + (f" derives {', '.join(derived)}" if derived else "")
 
 
+def impls(text):
+    """The headers of impls of traits, and the types that belong to these."""
+    for header, body in IMPL.findall(text):
+        owner, trait = owner_of(header)
+        yield "", joined(header)
+        yield from ((f"{trait} for {owner}", it) for it in re.findall(r"(?m)^ {4}(type \w+ = .*);", body))
+
+
 def exports(module, text):
-    """The public modules of a module, and the names that it re-exports."""
+    """The public modules of a module, and the names that it has: those that it re-exports, and of a module also its types."""
     yield from ((module, f"pub mod {it}") for it in MODULE.findall(text))
-    for it in EXPORTED.findall(text):
-        names = re.search(r"\{(.*)\}", it, re.S)
-        for name in (names[1] if names else it.split("::")[-1]).split(","):
-            if name.strip():
-                yield module, f"pub use {name.strip()}"
-
-
-# An alias of contents, what a kind's contents are made of, and the forms and values that are looked up among them.
-ALIAS = re.compile(r"(?m)^pub type (\w+) = ContentOf<(\w+)>;")
-KIND_ALIAS = re.compile(r"(?m)^pub type (\w+) = (\w+)<\w+>;")
-OWNED = re.compile(r"(?m)^impl(?:<\w+>)? KindOwned for (\w+)(?:<\w+>)? \{\n    type Static = (.*);\n\n    type Owned = (.*);")
-FORM = re.compile(r"(?m)^impl<'a(?:, \w+)?> KindForm<'a> for (\w+)(?:<\w+>)? \{\n    type Form = (.*);")
-PACKABLE = re.compile(r"(?m)^impl(?:<[^>]*>)? Packable<(\w+)(?:<\w+>)?> for (\w+)")
-
-
-def elided(form):
-    """A type that is borrowed from `self`, as a signature has it."""
-    return re.sub(r"<'a>", "<'_>", form).replace("&'a ", "&")
-
-
-def of_kinds(crate, texts):
-    """What the generic declarations of `ContentOf` say of each alias of contents that a crate has, with the types of its kind in
-    their places."""
-    generic, text = TOP / "crates/intaglio_content/src/content_of.rt", "\n".join(texts)
-    made = re.findall(r"impl<K: KindOwned<(\w+) = (.*)>> From<(.*)> for ContentOf<K>", generic.read_text(encoding="utf-8"))
-    kinds = {name: of for name, of in KIND_ALIAS.findall(text)}
-    owned = {kind: {"Static": static, "Owned": own} for kind, static, own in OWNED.findall(text)}
-    forms, sought = dict(FORM.findall(text)), PACKABLE.findall(text)
-    for content, kind in ALIAS.findall(text):
-        kind = kinds.get(kind, kind)
-        of_generic = [*calls("intaglio_content", generic), *types(generic.read_text(encoding="utf-8"))]
-        for owner, signature in [*of_generic, ("", "impl Spelled for ContentOf")]:
-            if owner not in ("", "ContentOf", "Spelled for ContentOf"):
-                continue
-            for part, of in owned[kind].items():
-                signature = signature.replace(f"K::{part}", of)
-            signature = signature.replace("&'a self", "&self").replace("K::Form", elided(forms[kind]))
-            signature = signature.replace("<K: KindOwned>", "")
-            yield owner.replace("ContentOf", content), signature.replace("ContentOf", content)
-        froms = [of for part, of, _ in made if owned[kind][part] == of]
-        yield from ((f"From for {content}", f"fn from(text: {of}) -> {content}") for of in froms)
-        for value in [content, *(it for of, it in sought if of == kind)]:
-            for owner, signature in of_generic:
-                if owner == "Sought for Q":
-                    yield f"Sought for {value}", signature.replace("ContentOf<K>", content)
+    names = [it for used in EXPORTED.findall(text) for it in re.sub(r"(?s).*\{|\}|.*::(?!\{)", "", used).split(",")]
+    names += re.findall(r"(?m)^pub (?:type|struct|enum|trait) (\w+)", text) if module else []
+    yield from ((module, f"pub use {it.strip()}") for it in names if it.strip())
 
 
 def items(crate):
-    """What a crate declares, as (OWNER, SIGNATURE): also the impls of traits, by their headers, and what a content of a kind has
-    by its generic type."""
-    paths = sorted((TOP / "crates" / crate / "src").glob("**/*.rt"))
-    yield from of_kinds(crate, [it.read_text(encoding="utf-8") for it in paths])
-    for path in paths:
+    """What a crate declares, as (OWNER, SIGNATURE)."""
+    for path in sorted((TOP / "crates" / crate / "src").glob("**/*.rt")):
         text = path.read_text(encoding="utf-8")
-        module = "" if path.stem == "lib" else path.stem
-        # (a type that a module declares is had there as one that it re-exports)
-        yield from ((module, f"pub use {it}") for it in re.findall(r"(?m)^pub (?:type|struct|enum|trait) (\w+)", text) if module)
-        yield from calls(crate, path)
+        yield from (signature(it) for it in functions_in(crate, path)[0] if it.trait or re.match(r" *pub (?!\()", it.text))
         yield from types(text)
-        yield from (("", joined(it)) for it in MARKED.findall(text))
-        yield from exports(module, text)
+        yield from impls(text)
+        yield from exports("" if path.stem == "lib" else path.stem, text)
+
+
+def varied(row):
+    """The rows that one stands for: one for each word of a list, which is the same in all places of the same list."""
+    found = LIST.search(row)
+    return [it for word in found[0].split("/") for it in varied(row.replace(found[0], word))] if found else [row]
 
 
 def listed():
-    """The lines of `interface.txt`: each item with its crate and the number of its line."""
-    crate = ""
-    for number, line in enumerate(LISTED.read_text(encoding="utf-8").splitlines(), 1):
-        if line.startswith("#") or not line.strip():
-            continue
-        if not line.startswith(" "):
-            crate = line.strip()
-        else:
-            owner, _, signature = line.partition("|")
-            yield number, crate, owner.strip(), signature.strip()
+    """The items of `interface.txt`, each with its crate."""
+    crate, text = "", re.sub(r"(?m)^#.*\n", "", LISTED.read_text(encoding="utf-8"))
+    for line in re.sub(r"\n {8}", " ", re.sub(r"/\n {8}", "/", text)).splitlines():
+        crate = crate if line.startswith(" ") else line
+        owner, _, signatures = line.strip().rpartition(" | ")
+        for row in signatures.split("; ") if line.startswith(" ") else ():
+            yield from ((crate, *one.split(" | ")) for one in varied(f"{owner} | {row}"))
 
 
 def wrong():
     """What is listed, and isn't there as listed."""
-    declared = {}
-    for number, crate, owner, signature in listed():
-        if crate not in declared:
-            declared[crate] = {*items(crate)}
-        if (owner, signature) not in declared[crate]:
-            name = f"{owner}: {signature}" if owner else signature
-            yield f"checks/interface.txt:{number}: {crate} doesn't have {name}"
+    every = [*listed()]
+    declared = {crate: {*items(crate)} for crate in {crate for crate, *_ in every}}
+    for crate, owner, text in every:
+        if (owner, text) not in declared[crate]:
+            yield f"checks/interface.txt: {crate} doesn't have {f'{owner}: ' * bool(owner)}{text}"

@@ -9,7 +9,6 @@ that is reached through another arrow. Crates of tests, examples and benchmarks 
 bench. A picture holds the sum of what it was drawn from, which checks/consistency compares with what is there.
 """
 
-import functools
 import hashlib
 import re
 import shutil
@@ -18,9 +17,9 @@ import sys
 
 sys.dont_write_bytecode = True
 import arguments
-from sources import TOP
+from sources import TOP, rows_of_crates, text_of, with_those_below
 
-LEFT_OUT = re.compile(r"test_support|\w+_tests|refused_allocations|bench|example_\w+")
+LEFT_OUT = re.compile(r"tests|refused_allocations|bench|example_\w+")
 # Colours that are read on white, in grey too, and what they are in the dark, with those of docs/interning.dot.
 PROGRAMS, LIBRARIES, INK = "#ffffff", "#e8eef7", "#223344"
 DARK = {
@@ -31,13 +30,7 @@ DARK = {
 
 def graph():
     """The crates of crates.txt, without what is reached through another crate."""
-    rows = re.findall(r"(?m)^(\w+)[^:#\n]*:([^#\n]*)", (TOP / "crates.txt").read_text(encoding="utf-8"))
-    crates = {name: below.split() for name, below in rows if not LEFT_OUT.fullmatch(name)}
-
-    @functools.lru_cache(maxsize=None)
-    def reached(name):
-        return {name}.union(*map(reached, crates.get(name, ())))
-
+    crates = {name: below for name, (below, _) in rows_of_crates().items() if not LEFT_OUT.fullmatch(name)}
     lines = [
         'rankdir=TB; bgcolor=white; nodesep=.25; ranksep=.4; node [shape=box style="filled,rounded" fontname="sans-serif"'
         f' fontsize=11 color="{INK}" fontcolor="{INK}" margin=".12,.06" height=.3]; edge [color="{INK}" arrowsize=.6];'
@@ -46,25 +39,24 @@ def graph():
         below = [it for it in every if it in crates]
         colour = PROGRAMS if (TOP / "crates" / name / "src/main.rt").is_file() else LIBRARIES
         lines.append(f'{name} [fillcolor="{colour}" label="{name.removeprefix("intaglio_")}"];')
-        lines += [f"{name} -> {it};" for it in below if not any(it in reached(other) for other in below if other != it)]
+        through = {it: set().union(*(with_those_below(other, crates) for other in below if other != it)) for it in below}
+        lines += [f"{name} -> {it};" for it in below if it not in through[it]]
     return "digraph crates {\n" + "\n".join(lines) + "\n}\n"
 
 
 def sources_of():
     """Each picture with the graph that it is drawn from."""
-    return {
-        TOP / "docs/crates.svg": graph(),
-        TOP / "docs/interning.svg": (TOP / "docs/interning.dot").read_text(encoding="utf-8"),
-    }
+    return {TOP / "docs/crates.svg": graph(), TOP / "docs/interning.svg": text_of(TOP / "docs/interning.dot")}
 
 
 def in_the_dark(svg, colours):
     """The text of a picture with other colours where the reader's screen is dark. Its background is its own, so that it can be
     read on any page."""
-    rules = []
-    for light, dark in colours.items():
-        for part in ("fill", "stroke"):
-            rules.append(f'[{part}="{light}"], [style*="{part}: {light}"] {{ {part}: {dark} !important }}')
+    rules = [
+        f'[{part}="{light}"], [style*="{part}: {light}"] {{ {part}: {dark} !important }}'
+        for light, dark in colours.items()
+        for part in ("fill", "stroke")
+    ]
     style = "<style>@media (prefers-color-scheme: dark) {\n" + "\n".join(rules) + "\n}</style>"
     return re.sub(r"(<svg[^>]*>)", lambda it: f"{it[1]}\n{style}", svg, count=1)
 
@@ -76,9 +68,9 @@ def mark(text):
 def wrong():
     """What is wrong with the pictures that are there."""
     for path, text in sources_of().items():
-        if not path.is_file() or mark(text) not in path.read_text(encoding="utf-8"):
+        if not path.is_file() or mark(text) not in text_of(path):
             yield f"{path.relative_to(TOP)}: isn't drawn from its source as that is: run checks/pictures.py"
-    if mark_of_bench() not in (TOP / "bench/choice.svg").read_text(encoding="utf-8"):
+    if mark_of_bench() not in text_of(TOP / "bench/choice.svg"):
         yield "bench/choice.svg: isn't drawn from bench/figures.txt as that is: run bench/plot.py"
 
 

@@ -21,14 +21,8 @@ int snprintf(char *, size_t, const char *, ...);
 long syscall(long, ...);
 int *__errno_location(void);
 
-enum {
-    ENOMEM = 12,
-    EIO = 5,
-    ENOSPC = 28,
-    READ = 0,
-    WRITE = 1,
-    GETRANDOM = 318
-};
+static const int ENOMEM = 12, EIO = 5, ENOSPC = 28;
+static const long READ = 0, WRITE = 1, GETRANDOM = 318;
 
 static long requests, reads, writes, stores, draws;
 

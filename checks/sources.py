@@ -3,10 +3,12 @@
 It reads files as `rt fmt` lays them out, and nothing else.
 """
 
+import collections
 import functools
 import re
 from collections import namedtuple
 from dataclasses import dataclass
+from itertools import groupby
 from pathlib import Path
 
 TOP = Path(__file__).resolve().parent.parent
@@ -41,6 +43,21 @@ Edit = namedtuple("Edit", "crate kind name path function clauses promise beside 
 MUTANT, CONTROL = "mutant", "control"
 
 
+def text_of(path):
+    return path.read_text(encoding="utf-8")
+
+
+def rows_of_crates():
+    """The crates of crates.txt by their names, each with those that its line lists, and with the line's comment."""
+    rows = re.findall(r"(?m)^(\w+)[^:#\n]*:?([^#\n]*)(.*)", text_of(TOP / "crates.txt"))
+    return {name: (listed.split(), comment) for name, listed, comment in rows}
+
+
+def with_those_below(name, below):
+    """A crate's name with those of all crates that it stands on, by what each lists."""
+    return {name}.union(*(with_those_below(it, below) for it in below.get(name, ()) if it in below))
+
+
 def named(text):
     """The last name of a path or type, without its arguments."""
     return re.sub(r"<.*|\s.*", "", re.sub(r"^&+('\w+ )?(mut |dyn )?", "", text.strip())).split("::")[-1]
@@ -61,55 +78,49 @@ def owner_of(header):
     return named(owner.partition(" where ")[0]), named(trait)
 
 
-def clauses_from(lines, at, indent):
-    """The clauses of the function whose header begins at a line, by their names, and the line at which its header ends."""
-    clauses, name, depth = {}, None, 0
+def header_of(lines, at=0):
+    """The lines of the header of a function that begins at a line, each with the beginning of the clause that it belongs to, or
+    nothing."""
+    header: list[tuple[str, re.Match | None]] = []
+    clause, depth = None, 0
     while True:
-        row = lines[at].rstrip()
-        clause = CLAUSE.fullmatch(row) if not depth else None
-        if clause:
-            clauses[name := clause[2] or (UNNAMED if clause[1] == "ensures" else clause[1])] = ""
-        if clause or depth:
-            clauses[name] += row + "\n"
-            depth += row.count("{") - row.count("}")
-        if not depth and (row.endswith(";") or not clause and (row == indent + "{" or row.endswith(("{", "{}")))):
-            return clauses, at
-        at += 1
+        row = lines[at + len(header)].rstrip()
+        clause = clause if depth else CLAUSE.fullmatch(row)
+        header.append((row, clause))
+        depth += row.count("{") - row.count("}") if clause else 0
+        if not depth and (row.endswith(";") or not clause and row.endswith(("{", "{}"))):
+            return header
+
+
+def name_of(clause):
+    return clause[2] or (UNNAMED if clause[1] == "ensures" else clause[1])
 
 
 def with_ensures(text, names):
     """The text of a function with those of its `ensures` alone that have one of these names. The prover names goals by their
     clauses if there are several: so the shortest other one stays with a single one, and all stay if one has no name or there is
     one alone."""
-    lines, depth = text.splitlines(keepends=True), 0
-    parts: list[tuple[str, list[str]]] = []
-    head, indent = next((i, found[1]) for i, it in enumerate(lines) if (found := FN.match(it)))
-    end = clauses_from(lines, head, indent)[1]
-    for line in lines[head + 1 : end]:
-        if not depth:
-            found = CLAUSE.fullmatch(line.rstrip())
-            parts.append((found[2] or UNNAMED if found and line.split()[0] == "ensures" else "", []))
-        parts[-1][1].append(line)
-        depth += line.count("{") - line.count("}")
-    ensured = {name: sum(map(len, rows)) for name, rows in parts if name}
+    lines = text.split("\n")
+    head = next(i for i, it in enumerate(lines) if FN.match(it))
+    header = [(row, name_of(it) if it and it[0].split()[0] == "ensures" else None) for row, it in header_of(lines, head)]
+    ensured = collections.Counter(name for row, name in header for _ in range(len(row) + 1) if name)
+    stay = {None, *names}
     if UNNAMED in ensured or len(ensured) == 1:
         return text
-    stay = {"", *names}
     if len(ensured.keys() & stay) == 1:
-        stay |= {*sorted(ensured.keys() - stay, key=ensured.__getitem__)[:1]}
-    return "".join([*lines[: head + 1], *(row for name, rows in parts if name in stay for row in rows), *lines[end:]])
+        stay |= {*sorted(ensured.keys() - stay, key=lambda it: (ensured[it], it))[:1]}
+    return "\n".join([*lines[:head], *(row for row, name in header if name in stay), *lines[head + len(header) :]])
 
 
+@functools.lru_cache(maxsize=None)
 def functions_in(crate, path):
     """The functions of a file, the ghost members of its impls by owner and trait, and the types that it declares."""
-    lines = path.read_text(encoding="utf-8").splitlines()
+    lines = text_of(path).splitlines()
     functions: list[Function] = []
-    members: dict[tuple[str, str], dict[str, str]] = {}
-    types: set[str] = set()
+    members: dict[tuple[str, str], dict[str, str]] = collections.defaultdict(dict)
     at, owner, trait = 0, "", ""
     while at < len(lines):
         line = lines[at]
-        types |= {it[1] for it in [TYPE.match(line)] if it}
         if OWNER.match(line):
             header = line
             while not re.search(r"[{;]\s*\}?$", header) and at + 1 < len(lines):
@@ -119,23 +130,31 @@ def functions_in(crate, path):
         elif line == "}":
             owner = trait = ""
         elif found := MEMBER.match(line):
-            members.setdefault((owner, trait), {})[found[1]] = line
+            members[owner, trait][found[1]] = line
         elif found := FN.match(line):
-            start, (clauses, at) = at, clauses_from(lines, at, found[1])
-            if lines[at].rstrip().endswith("{"):
-                at = next(i for i in range(at, len(lines)) if lines[i].rstrip() == found[1] + "}")
-            is_test = bool(re.search(r"#\[test\]\s*(#\[[^\n]*\]\s*)*$", "\n".join(lines[max(0, start - 4) : start])))
-            place = crate, str(path.relative_to(TOP)), start + 1
-            functions.append(Function(*place, owner, trait, found[2], clauses, is_test, "\n".join(lines[start : at + 1])))
+            functions.append(function_at((crate, str(path.relative_to(TOP)), at + 1, owner, trait), lines, found))
+            at += functions[-1].text.count("\n")
         at += 1
-    return functions, members, types
+    return functions, members, {it[1] for it in map(TYPE.match, lines) if it}
+
+
+def function_at(place: tuple[str, str, int, str, str], lines, found):
+    """The function whose first line is `found`, at a place: its crate, file and line, and the type and trait of its impl."""
+    at = place[2] - 1
+    header = header_of(lines, at)
+    clauses = {name_of(it): "".join(f"{row}\n" for row, _ in rows) for it, rows in groupby(header, lambda row: row[1]) if it}
+    end = at + len(header) - 1
+    if lines[end].rstrip().endswith("{"):
+        end = next(i for i in range(end, len(lines)) if lines[i].rstrip() == found[1] + "}")
+    is_test = bool(re.search(r"#\[test\]\s*(#\[[^\n]*\]\s*)*$", "\n".join(lines[max(0, at - 4) : at])))
+    return Function(*place, found[2], clauses, is_test, "\n".join(lines[at : end + 1]))
 
 
 def definitions_in(path):
     """The definitions of a file of specs, each with its text, and the fields of its records as RECORD.FIELD."""
     found: dict[str, str] = {}
     name = None
-    for line in path.read_text(encoding="utf-8").splitlines():
+    for line in text_of(path).splitlines():
         if head := DEFINED.match(line):
             name = head[1]
             found.setdefault(name, "")
@@ -147,15 +166,24 @@ def definitions_in(path):
 
 
 @functools.lru_cache(maxsize=None)
-def functions_of(crate):
-    return [it for path in sorted((TOP / "crates" / crate).glob("src/**/*.rt")) for it in functions_in(crate, path)[0]]
+def files_of(crate):
+    return sorted((TOP / "crates" / crate).glob("src/**/*.rt"))
+
+
+def functions_of(crate, name):
+    """The functions of a crate that have this name."""
+    return [it for file in files_of(crate) for it in functions_in(crate, file)[0] if it.name == name]
+
+
+def named_by(crate, path):
+    """The functions of a crate that the path in a line `fn:` may name."""
+    owner, name = ["", *path.split("::")][-2:]
+    return [it for it in functions_of(crate, name) if owner.startswith(it.owner)]
 
 
 def file_of(crate, function, pairs):
     """The file of the function in which the texts of an edit stand, if there is one such."""
-    path, texts = ["", *function.split("::")], [old for old, _ in pairs]
-    every = [it for it in functions_of(crate) if it.name == path[-1] and path[-2].startswith(it.owner)]
-    found = {it.file for it in every if all(old in it.text for old in texts)}
+    found = {it.file for it in named_by(crate, function) if all(old in it.text for old, _ in pairs)}
     return found.pop().split("/", 2)[2] if len(found) == 1 else "src/lib.rt"
 
 
@@ -176,7 +204,7 @@ def edit_of(crate, path, text):
 def edits_in(crate):
     """A crate's mutants and controls: the blocks of its file of mutants."""
     path = TOP / "crates" / crate / "mutants.txt"
-    text = re.sub(r"(?m)^#.*\n", "", path.read_text(encoding="utf-8")) if path.is_file() else ""
+    text = re.sub(r"(?m)^#.*\n", "", text_of(path)) if path.is_file() else ""
     return [edit_of(crate, path, it) for it in re.split(r"\n{2,}", text.strip()) if it]
 
 
@@ -191,7 +219,7 @@ class Sources:
 
     def __init__(self):
         self.functions: list[Function] = []
-        self.members: dict[tuple[str, str, str], dict[str, str]] = {}
+        self.members: dict[tuple[str, str, str], dict[str, str]] = collections.defaultdict(dict)
         self.types: set[str] = set()
         self.definitions: dict[str, str] = {}
         self.edits: list[Edit] = []
@@ -201,10 +229,11 @@ class Sources:
                 self.functions += functions
                 self.types |= types
                 for (owner, trait), own in members.items():
-                    self.members.setdefault((folder.name, owner, trait), {}).update(own)
+                    self.members[folder.name, owner, trait].update(own)
             for path in sorted(folder.glob("specs/**/*.antt")):
                 self.definitions.update(definitions_in(path))
             self.edits += edits_in(folder.name)
+        self.mutants = [it for it in self.edits if it.kind == MUTANT]
 
     def tests(self):
         return [it for it in self.functions if it.is_test]
@@ -216,11 +245,10 @@ class Sources:
         is_method = function.owner and function.owner == function.trait
         if not root.is_file() or not (is_method or function.text.lstrip().startswith("pub ")):
             return False
-        text = root.read_text(encoding="utf-8")
+        text = text_of(root)
         exported = {word for it in re.findall(r"(?ms)^pub use ([^;]+);", text) for word in re.findall(r"\w+", it)}
-        modules = re.findall(r"(?m)^pub mod (\w+);", text)
-        is_in_module = any(re.match(rf"crates/\w+/src/{it}[./]", function.file) for it in modules)
         is_in_root = not function.owner and function.file.endswith("/src/lib.rt")
+        is_in_module = re.split("[/.]", function.file)[3] in re.findall(r"(?m)^pub mod (\w+);", text)
         return is_in_root or is_in_module or (function.owner or function.name) in exported
 
     def clauses_of(self, function):
@@ -234,10 +262,10 @@ class Sources:
 
     def reached_from(self, text):
         """The names of the definitions that a text cites, and of those that they cite."""
-        found, left = set(), [text]
+        found: set[str] = set()
+        left = [text]
         while left:
-            for word in re.findall(r"[A-Za-z_][\w-]*", left.pop()):
-                if word in self.definitions and word not in found:
-                    found.add(word)
-                    left.append(self.definitions[word])
+            new = ({*re.findall(r"[A-Za-z_][\w-]*", left.pop())} & self.definitions.keys()) - found
+            found |= new
+            left += [self.definitions[it] for it in new]
         return found

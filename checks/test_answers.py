@@ -38,21 +38,12 @@ ROWS = [
     ("decode one part - part", ONE.column([b"b"]), wrote(b"b\na\nb\nb\na\n")),
     ("stat -", TABLE, wrote(
         f"kind bytes\nstrings 20\nbytes {SIZE}\nbytes a string {SIZE // 2 / 10:.1f}\nlongest 6\n".encode()
-        + f"identity {WHOLE.name}\nshards 1\nshard 0\n".encode()
+        + f"identity {WHOLE.name}\nshards 1\n".encode()
     )),
     *((it, TABLE, said(2, ONE_STANDARD_INPUT)) for it in (
         "find -", "find - lines -", "get -", "encode -", "decode - part -", "renumber --maps . - --into -",
         "merge - one - -o out",
     )),
-    # Each output is a file of its own.
-    *((words, b"", also_output(name, name)) for words, name in (
-        ("freeze -o lines lines", "lines"), ("encode one codes -o codes", "codes"), ("encode one codes -o one", "one"),
-        ("renumber --maps . part -o part", "part"), ("merge one two -o two", "two"),
-        ("freeze -o new --column codes codes", "codes"),
-    )),
-    ("freeze -o - --column -", b"a", also_output("standard output", "standard output", "output")),
-    ("freeze -o new --column new", b"a", also_output("new", "new", "output")),
-    ("freeze -o one --column ./one", b"a", also_output("./one", "one", "output")),
     # Statuses of `find`.
     ("find words", LINES, wrote(NUMBERS)), ("find words", b"word2\nabsent\nword1\n", wrote(b"2\n-\n1\n", 1)),
     ("find words", b"", DONE), ("find words - seventh", b"x\n", wrote(b"-\n7\n", 1)),
@@ -136,13 +127,6 @@ ROWS = [
 def test_answers(tool, words, given, wanted):
     put(".", FILES)
     assert tool(*shlex.split(words), given=given) == wanted
-    assert files_in(".") == FILES
-
-
-def test_redirected_files(tool):
-    put(".", FILES)
-    assert tool.shell('exec "$@" < lines', "freeze", "-o", "lines") == also_output("standard input", "lines")
-    assert tool.shell('exec "$@" >> lines', "freeze", "-o", "-", "lines") == also_output("lines", "standard output")
     assert files_in(".") == FILES
 
 

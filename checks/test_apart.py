@@ -2,12 +2,13 @@
 nothing is changed. Folders that are written have no input (test_shards.py).
 
 The runs are generated. For each command, each pair of an output and an input or another output is one file, which each of the two
-names in each way that it can: by a path, a symbolic or hard link, a dangling link, or as a standard stream.
+names in each way that it can: by a path, a symbolic or hard link, a dangling link, or as a standard stream. Standard input is two
+inputs, and a name is empty.
 """
 
+import contextlib
 import itertools
 import os
-import re
 import stat
 import subprocess
 from pathlib import Path
@@ -15,7 +16,7 @@ from typing import Any, NamedTuple
 
 import pytest
 from formats import dictionary_of, ended, maps_of, packed, put
-from tool import NAME, ONE_STANDARD_INPUT, WAS, WORDS, said
+from tool import ONE_STANDARD_INPUT, WAS, WORDS, also_output, said
 
 WHOLE = dictionary_of(WORDS)
 # What is in the inputs, so that each command would end with status 0. Other words aren't the names of files.
@@ -27,26 +28,24 @@ CONTENTS = {
 NUMBERS = {"3": b"3\n0\n"}
 
 
-class Command(NamedTuple):
-    """A command: its words, what its inputs are, behind their options, its outputs, and whether the last input is standard input
-    if it isn't named."""
+class Command:
+    """A command: its words, what its inputs are, behind their options, its outputs, of which one with ! isn't standard output if
+    it isn't named, and whether the last input is standard input if it isn't named."""
 
-    words: str
-    inputs: list[str]
-    outputs: list[str]
-    reads_standard: bool
+    def __init__(self, words, inputs, outputs, reads_standard=True):
+        self.words, self.inputs, self.outputs, self.reads_standard = words, inputs.split(", "), outputs.split(), reads_standard
 
 
-ROWS: tuple[tuple[Any, ...], ...] = (
-    ("freeze", "lines", "-o! --column"), ("freeze", "lines, lines", "-o!", False), ("find", "dict, lines", "stdout"),
-    ("get", "dict, 3", "stdout"), ("list", "dict", "stdout", False), ("check", "dict, column", "stdout", False),
-    ("stat", "dict", "stdout", False), ("encode", "dict, lines", "-o"), ("encode --raw", "dict, lines, lines", "-o", False),
-    ("decode", "dict, column", "-o"), ("decode --raw", "dict, codes", "-o"), ("rows", "dict, column, 0", "stdout", False),
-    ("count", "dict, column", "stdout", False), ("match --invert", "dict, column, word0", "stdout", False),
-    ("renumber --maps maps", "column, --into dict", "-o", False),
-    ("merge", "dict, dict", "-o!", False),
-)
-COMMANDS = [Command(words, inputs.split(", "), outputs.split(), not named) for words, inputs, outputs, *named in ROWS]
+COMMANDS = [
+    Command("freeze", "lines", "-o! --column"), Command("freeze", "lines, lines", "-o!", False),
+    Command("find", "dict, lines", "stdout"), Command("get", "dict, 3", "stdout"), Command("list", "dict", "stdout", False),
+    Command("check", "dict, column", "stdout", False), Command("stat", "dict", "stdout", False),
+    Command("encode", "dict, lines", "-o"), Command("encode --raw", "dict, lines, lines", "-o", False),
+    Command("decode", "dict, column", "-o"), Command("decode --raw", "dict, codes", "-o"),
+    Command("rows", "dict, column, 0", "stdout", False), Command("count", "dict, column", "stdout", False),
+    Command("match --invert", "dict, column, word0", "stdout", False),
+    Command("renumber --maps maps", "column, --into dict", "-o", False), Command("merge", "dict, dict", "-o!", False),
+]
 EACH = pytest.mark.parametrize("command", [pytest.param(it, id=f"{it.words} {' '.join(it.inputs)}") for it in COMMANDS])
 # How a file is named: from the folder that the program runs in, with what makes a link to the file.
 NAMES = ("file", "folder/.././file", "folder/link", "link")
@@ -110,17 +109,13 @@ def ended_as(tool, command, given={}, messages=None):
     """How the program ends, what it wrote and said, and whether all is as it was when it began. Messages may go to a file."""
     words = words_of(command, given)
     streams: dict[str, Any] = {"stdin": subprocess.DEVNULL, "stdout": subprocess.PIPE, "stderr": subprocess.PIPE}
-    opened: dict[str, Any] = {}
-    for way in given.values():
-        if way.mode:
-            stream = "stdin" if way.mode == "rb" else "stdout"
-            opened[stream] = opened.get(stream) or open("file", way.mode)
-    if messages:
-        opened["stderr"] = open(messages, "ab")
-    before = [*seen()]
-    ran = subprocess.run([tool.path, *words], timeout=60, **streams | opened)
-    for it in opened.values():
-        it.close()
+    with contextlib.ExitStack() as opened:
+        for way in filter(lambda it: it.mode, given.values()):
+            streams["stdin" if way.mode == "rb" else "stdout"] = opened.enter_context(open("file", way.mode))
+        if messages:
+            streams["stderr"] = opened.enter_context(open(messages, "ab"))
+        before = [*seen()]
+        ran = subprocess.run([tool.path, *words], timeout=60, **streams)
     told = (ran.stderr or b"").decode(errors="replace").splitlines()
     return ran.returncode, ran.stdout or b"", told, before == [*seen()]
 
@@ -134,12 +129,21 @@ def links(folder):
     os.symlink("folder/link", "link")
 
 
+def shown(way, standard):
+    """How messages name it."""
+    return way.words[-1] if way.words and way.words[-1] != "-" else f"standard {standard}"
+
+
+# Each of these yields what is given, what is in the file, and how the program ends.
+
+
 def inputs_and_outputs(command):
     """Each pair of an input and an output that are one file, in each two ways."""
     for (number, what), (at, output) in itertools.product(enumerate(command.inputs), enumerate(command.outputs)):
         for read_by, written in itertools.product(ways_of_input(command, number), ways_of_output(output, True)):
             called = f"input {number} {read_by.called}, {output} {written.called}"
-            yield called, {("output", at): written, ("input", number): read_by}, (CONTENTS | NUMBERS)[what]
+            wanted = also_output(shown(read_by, "input"), shown(written, "output"))
+            yield called, {("output", at): written, ("input", number): read_by}, (CONTENTS | NUMBERS)[what], wanted
 
 
 def two_outputs(command):
@@ -148,24 +152,36 @@ def two_outputs(command):
     for ((at, one), (to, other)), content in itertools.product(pairs, (WAS, None)):
         for first, second in itertools.product(*(ways_of_output(it, content is not None) for it in (one, other))):
             called = f"{one} {first.called}, {other} {second.called}{'' if content else ', not there'}"
-            yield called, {("output", at): first, ("output", to): second}, content
+            wanted = also_output(shown(second, "output"), shown(first, "output"), "output")
+            yield called, {("output", at): first, ("output", to): second}, content, wanted
 
 
-@pytest.mark.parametrize("command, given, content", [
+def two_inputs(command):
+    """Each two inputs that are both standard input."""
+    standard = Way("", ("-",), "rb")
+    for pair in itertools.combinations([it for it, what in enumerate(command.inputs) if what in CONTENTS | NUMBERS], 2):
+        ways = standard, Way("") if "3" in (command.inputs[it] for it in pair) else standard
+        yield f"standard input twice: {pair}", dict(zip((("input", it) for it in pair), ways)), WAS, said(2, ONE_STANDARD_INPUT)
+
+
+def empty_names(command):
+    inputs = {("input", number): ("",) for number, what in enumerate(command.inputs) if what in CONTENTS}
+    outputs = {("output", at): (it.rstrip("!"), "") for at, it in enumerate(command.outputs) if it.startswith("-")}
+    for at, words in (inputs | outputs).items():
+        yield f"{at[0]} {at[1]} empty", {at: Way("", words)}, None, said(2, f"the name of an {at[0]} is empty")
+
+
+@pytest.mark.parametrize("command, given, content, wanted", [
     pytest.param(command, *case, id=f"{number} {command.words}: {called}")
-    for number, command in enumerate(COMMANDS) for called, *case in (*inputs_and_outputs(command), *two_outputs(command))
+    for number, command in enumerate(COMMANDS)
+    for cases in (inputs_and_outputs, two_outputs, two_inputs, empty_names) for called, *case in cases(command)
 ])
-def test_one_file_is_two(tool, command, given, content):
-    """The program says that one file is two, with status 2, and nothing else happens."""
+def test_refused_names(tool, command, given, content, wanted):
+    """The program says why, and nothing else happens."""
     if content is not None:
         Path("file").write_bytes(content)
         os.link("file", "hard")
-    status, written, told, is_same = ended_as(tool, command, given)
-    is_said = re.fullmatch(f"{NAME}: .+: this (in|out)put is also the output .+; nothing was written", "\n".join(told))
-    assert (status, written, bool(is_said), is_same) == (2, b"", True, True)
-
-
-# Messages, standard input, and empty names.
+    assert ended_as(tool, command, given) == (*wanted, True)
 
 
 @EACH
@@ -188,22 +204,3 @@ def test_files_that_are_apart(tool, command):
         if command.inputs[one] == command.inputs[other]:
             Path("file").write_bytes(CONTENTS[command.inputs[one]])
             assert ended_as(tool, command, {("input", one): Way("", ("file",)), ("input", other): Way("", ("link",))})[0] == 0
-
-
-@EACH
-def test_standard_input_is_one_input(tool, command):
-    Path("file").write_bytes(WAS)
-    standard, unnamed = Way("", ("-",), "rb"), Way("")
-    for pair in itertools.combinations([it for it, what in enumerate(command.inputs) if what in CONTENTS | NUMBERS], 2):
-        is_typed = "3" in (command.inputs[it] for it in pair)
-        given = dict(zip((("input", it) for it in pair), (standard, unnamed if is_typed else standard)))
-        assert ended_as(tool, command, given) == (*said(2, ONE_STANDARD_INPUT), True)
-
-
-@EACH
-def test_empty_names(tool, command):
-    inputs = {("input", number): ("",) for number, what in enumerate(command.inputs) if what in CONTENTS}
-    outputs = {("output", at): (it.rstrip("!"), "") for at, it in enumerate(command.outputs) if it.startswith("-")}
-    for at, words in (inputs | outputs).items():
-        told = said(2, f"the name of an {at[0]} is empty")
-        assert ended_as(tool, command, {at: Way("", words)}) == (*told, True)

@@ -7,16 +7,15 @@ import tempfile
 
 import pytest
 from formats import (
-    BYTES, COLUMN_HEADER, MISSING, TEXT, Damaged, Frozen, begins_as_column, column, column_faults, decoded, encoded,
-    ended, freeze, id_of, packed, put, read_column, rebuilt, sealed, shards_of_column, source_of, table_faults, unpacked,
+    BYTES, COLUMN_HEADER, MISSING, TEXT, Damaged, Frozen, begins_as_column, column, column_faults, decoded, dictionary_of, ended,
+    freeze, id_of, packed, put, read_column, rebuilt, sealed, source_of, table_faults, unpacked,
 )
 from hypothesis import given, seed, settings
 from hypothesis import strategies as st
 from test_answers import NOT_ONE
-from test_codes import missing_line
 from test_columns import commands, of_another, trusted
 from test_tables import LISTS, table_of
-from tool import NAME, said, wrote
+from tool import NAME, said
 
 FAULTS = {
     "not a frozen table": "magic", NOT_ONE: "magic", "the header is cut short": "header", "another version": "version",
@@ -37,16 +36,15 @@ NUMBERED = (
 FIELDS = (8, 12, 16, 24, 32, 40, 48, 52, 56, 64, 72, 80, 84, 88)
 # How many files one run of the program checks, and how many tests share the damaged files.
 BATCH, TURNS = 50, 16
-TURN = pytest.mark.parametrize("turn", range(TURNS))
 SMALL = [table_of(strings, seed) for strings in LISTS.values() for seed in (0, 1)]
-# Columns of each width, with the tables that they are of.
+# Columns of each width, and a map, each with the table that it is of.
+COUNTS: dict[int, int] = {0: BYTES, 3: TEXT, 255: BYTES, 300: BYTES}
+DICTIONARIES = [dictionary_of([b"%d" % it for it in range(count)], 1, kind) for count, kind in COUNTS.items()]
 COLUMNS = [
-    (table, column(id_of(table), [*range(0, count, max(1, count // 7)), MISSING, MISSING]))
-    for count, kind in ((0, BYTES), (3, TEXT), (255, BYTES), (300, BYTES))
-    for table in [freeze([b"%d" % it for it in range(count)], kind)]
+    (it.files()["0.dict"], column(it.id, [*range(0, len(it.strings), max(1, len(it.strings) // 7)), MISSING, MISSING]))
+    for it in DICTIONARIES
 ]
-# A map, with the table to which it leads.
-COLUMNS.append((COLUMNS[1][0], column(id_of(COLUMNS[1][0]), [2, 0], source_of(id_of(COLUMNS[2][0])))))
+COLUMNS.append((COLUMNS[1][0], column(DICTIONARIES[1].id, [2, 0], source_of(DICTIONARIES[2]))))
 
 
 def fault_of(message):
@@ -123,7 +121,7 @@ def check_columns(tool, table, files):
     for name, data in named.items():
         faults, message = column_faults(data), messages.get(name)
         another = of_another(name, "table")
-        is_other = not faults and (read_column(data)[0], shards_of_column(data)) != (id_of(table), 1)
+        is_other = not faults and (read_column(data).id, read_column(data).shards) != (id_of(table), 1)
         if name in names:
             wanted = another.removeprefix(f"{name}: ") if is_other else None
             is_right = message and fault_of(message) in faults if faults else message == wanted
@@ -159,38 +157,35 @@ def test_each_byte_of_a_column(tool, table, data):
         check_columns(tool, table, [sealed(it) for it in files if len(it) >= COLUMN_HEADER.size])
 
 
-def examples(request, tool, turn, most=None):
-    """The settings under which a test makes its share of the damaged files: the second build a tenth."""
-    count = min(request.config.getoption("count"), most or 10**9) // (10 if "by-rattle" in tool.path else 1)
-    return lambda test: seed(turn)(settings(max_examples=max(1, count // TURNS // BATCH))(test))
+@st.composite
+def damaged_columns(draw):
+    """A table, and a batch of damaged columns, of which half get the checksum that they then have."""
+    table, whole = draw(st.sampled_from(COLUMNS))
+    files = draw(st.lists(damaged(whole, [it for _, it in COLUMNS]), min_size=BATCH, max_size=BATCH))
+    return table, [sealed(it) if at >= BATCH // 2 and len(it) >= COLUMN_HEADER.size else it for at, it in enumerate(files)]
 
 
-@TURN
-def test_damaged_tables(tool, request, turn):
-    @examples(request, tool, turn)
-    @given(st.lists(st.sampled_from(SMALL).flatmap(lambda it: damaged(it, SMALL)), min_size=BATCH, max_size=BATCH))
-    def each(files):
-        check_tables(tool, files)
-
-    each()
+DAMAGED_TABLES = st.lists(st.sampled_from(SMALL).flatmap(lambda it: damaged(it, SMALL)), min_size=BATCH, max_size=BATCH)
 
 
-@TURN
-def test_damaged_columns(tool, request, turn):
-    @examples(request, tool, turn, 10_000)
-    @given(st.data())
-    def each(data):
-        table, whole = data.draw(st.sampled_from(COLUMNS))
-        files = data.draw(st.lists(damaged(whole, [it for _, it in COLUMNS]), min_size=BATCH, max_size=BATCH))
-        # Half of them get the checksum that they then have.
-        half = [sealed(it) if len(it) >= COLUMN_HEADER.size else it for it in files[BATCH // 2 :]]
-        check_columns(tool, table, files[: BATCH // 2] + half)
+@pytest.mark.parametrize("turn", range(TURNS))
+@pytest.mark.parametrize("check, most, files", [
+    (check_tables, 10**9, st.tuples(DAMAGED_TABLES)), (check_columns, 10_000, damaged_columns()),
+], ids=["tables", "columns"])
+def test_damaged(tool, request, check, most, files, turn):
+    """Each turn makes its share of the damaged files, and the second build a tenth of them."""
+    count = min(request.config.getoption("count"), most) // (10 if "by-rattle" in tool.path else 1)
+
+    @seed(turn)
+    @settings(max_examples=max(1, count // TURNS // BATCH))
+    @given(files)
+    def each(given_files):
+        check(tool, *given_files)
 
     each()
 
 
 STRINGS = [b"%d" % it for it in range(200)]
-REPEATED = st.sampled_from((1, 400, 800))
 
 
 def translated(translate, data):
@@ -212,38 +207,18 @@ def test_damaged_codes(tool):
     codes = st.lists(st.sampled_from([*range(200), MISSING]), max_size=50)
 
     @settings(max_examples=150)
-    @given(st.data(), codes, REPEATED)
+    @given(st.data(), codes, st.sampled_from((1, 400, 800, 3000)))
     def each(data, codes, times):
         given_codes = packed(codes * times)
         given_codes = data.draw(damaged(given_codes, [b""])) if data.draw(st.booleans()) else given_codes
+        put(".", {"codes": given_codes})
         for text in (None, b"?"):
             words = ["decode", "--raw", *([] if text is None else ["--missing", "?"]), "table"]
             status, written, told = tool(*words, given=given_codes)
             wanted, fault = translated(lambda codes: ended(decoded(STRINGS, codes, text)), given_codes)
-            message = [f"standard input: code number {fault.args[0]} {fault.args[1]}"] if fault else []
-            assert (status, told) == said(int(bool(fault)), *message)[::2]
+            message = [f": code number {fault.args[0]} {fault.args[1]}"] if fault else []
+            assert (status, told) == said(int(bool(fault)), *(f"standard input{it}" for it in message))[::2]
             assert wanted.startswith(written) if fault else wanted == written
-
-    each()
-
-
-def test_lines_that_are_missing(tool):
-    """`encode --raw` writes codes of lines before the first that isn't in the dictionary, and nothing else."""
-    put(".", {"table": freeze(STRINGS)})
-
-    @settings(max_examples=150)
-    @given(st.lists(st.sampled_from(STRINGS), min_size=1, max_size=50), REPEATED, st.data())
-    def each(lines, times, data):
-        lines = lines * times
-        for place in data.draw(st.lists(st.integers(0, len(lines) - 1), max_size=2)):
-            lines[place] = b"none of them"
-        codes = encoded(STRINGS, lines)
-        if MISSING not in codes:
-            assert tool("encode", "--raw", "table", given=ended(lines)) == wrote(packed(codes))
-            return
-        place = codes.index(MISSING)
-        status, written, told = tool("encode", "--raw", "table", given=ended(lines))
-        assert (status, told) == said(1, missing_line("standard input", place + 1, lines[place]))[::2]
-        assert packed(codes[:place]).startswith(written)
+            assert not fault or tool.refuses(1, f"codes{message[0]}", *words, "codes", "-o", "out")
 
     each()

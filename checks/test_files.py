@@ -1,9 +1,6 @@
 """How `intaglio_dict freeze` and the `freeze` of the Python module replace a file: what they leave in its folder, and what they
-don't touch.
-
-Each case is tried with both, in processes of their own. The Python module's `freeze` makes the bytes by the library, and writes
-them by its function `replace`, which frozen_replace.py runs without the library. bindings/tests/test_frozen.py has the whole
-`freeze`.
+don't touch. Each case is tried with both, in processes of their own. The module's `freeze` writes what the library makes by its
+function `replace`, which frozen_replace.py runs without the library. bindings/tests/test_frozen.py has the whole `freeze`.
 """
 
 import errno
@@ -31,11 +28,10 @@ DONE = (0, "")
 
 
 class Writer(NamedTuple):
-    """How tables are frozen to a path: by the program, or as the Python module does."""
+    """How tables are frozen to a path, by the program or as the Python module does: the command, what is given of strings, the
+    option by which something is said meanwhile, what messages begin with, and the file that they name for the new one."""
 
     command: list[str]
-    # What is given of strings, the option by which something is said meanwhile, what messages begin with, and the file that they
-    # name if the new one can't be written.
     given: Callable
     noise: str
     start: str
@@ -80,9 +76,6 @@ def mode_of(path):
     return stat.S_IMODE(os.stat(path).st_mode)
 
 
-# Others' files.
-
-
 def as_file(path):
     Path(path).write_bytes(WAS)
 
@@ -92,7 +85,7 @@ def as_link(path):
     os.symlink("target", path)
 
 
-# What is planted, and what says that it is as it was.
+# What is planted that is somebody else's, and what says that it is as it was.
 PLANTED: dict[str, tuple[Callable, Callable]] = {
     "a file": (as_file, lambda it: not it.is_symlink() and read(it) == WAS),
     "a link": (as_link, lambda it: it.is_symlink() and read(it) == WAS),
@@ -100,45 +93,46 @@ PLANTED: dict[str, tuple[Callable, Callable]] = {
 }
 
 
-def is_planted(path, what):
-    return PLANTED[what][1](Path(path))
+def plant(names):
+    for what, name in names.items():
+        PLANTED[what][0](name)
+
+
+def are_planted(names):
+    return all(PLANTED[what][1](Path(name)) for what, name in names.items())
 
 
 @pytest.mark.parametrize("what", PLANTED)
 def test_files_of_others(writer, what):
     """What is at the name of the path with .new is somebody else's: it is neither written to, nor removed, nor waited for."""
-    PLANTED[what][0]("dict.new")
-    assert frozen_to(writer, "dict") == DONE and has("dict") and is_planted("dict.new", what)
+    plant({what: "dict.new"})
+    assert frozen_to(writer, "dict") == DONE and has("dict") and are_planted({what: "dict.new"})
 
 
 def test_drawn_names_that_are_taken(program, library):
     """All is left as it was, and the next is drawn, until there is none."""
     settings = {"LD_PRELOAD": library, "SAME_RANDOM": "1"}
-    taken = {what: f".intaglio.{number:016x}.new" for number, what in enumerate(PLANTED)}
-    for what, name in taken.items():
-        PLANTED[what][0](name)
-    assert frozen_to(program, "dict", **settings) == DONE and has("dict")
-    assert all(is_planted(name, what) for what, name in taken.items())
+    drawn = [f".intaglio.{number:016x}.new" for number in range(1000)]
+    taken = dict(zip(PLANTED, drawn))
+    plant(taken)
+    assert frozen_to(program, "dict", **settings) == DONE and has("dict") and are_planted(taken)
     os.remove("dict")
-    for number in range(len(taken), 1000):
-        as_file(f".intaglio.{number:016x}.new")
+    for name in drawn[len(taken) :]:
+        as_file(name)
     listed = sorted(os.listdir())
     assert frozen_to(program, "dict", **settings) == program.said("dict", "no name is free beside it")
     assert sorted(os.listdir()) == listed
 
 
-# The file itself.
-
-
-def test_modes(writer):
+@pytest.mark.parametrize("mode", [None, 0o600, 0o640, 0o444, 0o755])
+def test_modes(writer, mode):
     """That of a new file is by the mask, and that of an old one stays."""
     for mask in (0o022, 0o077):
-        assert frozen_to(writer, f"dict{mask}", before=lambda: os.umask(mask)) == DONE and has(f"dict{mask}")
-        assert mode_of(f"dict{mask}") == 0o666 & ~mask
-    for mode in (0o600, 0o640, 0o444, 0o755):
-        as_file("dict")
-        os.chmod("dict", mode)
-        assert frozen_to(writer, "dict") == DONE and has("dict") and mode_of("dict") == mode
+        if mode:
+            as_file("dict")
+            os.chmod("dict", mode)
+        assert frozen_to(writer, "dict", before=lambda: os.umask(mask)) == DONE and has("dict")
+        assert mode_of("dict") == (mode or 0o666 & ~mask)
         os.remove("dict")
 
 
@@ -240,9 +234,6 @@ def test_closed_streams(writer, streams):
         assert done.returncode == 1 and sorted(os.listdir()) == ["dict", "given"]
 
 
-# Several processes.
-
-
 @pytest.mark.parametrize("names", [
     ["module"], *(pytest.param(it, marks=pytest.mark.program) for it in ([BUILDS[0]], [BUILDS[1]], [BUILDS[0], "module"])),
 ])
@@ -252,21 +243,20 @@ def test_several_processes(request, names, count):
     whole, and that of a process that ended with status 0, and nothing else is left."""
     writers = [writer_of(request, it) for it in names * (count // len(names))]
     lists = [[b"%d %d" % (it, number) for number in range(1500 + 400 * it)] for it in range(len(writers))]
-    wanted = [*map(freeze, lists)]
+    tables = [*map(freeze, lists)]
     for turn in range(request.config.getoption("rounds")):
         failing = turn // 2 % len(writers) if turn % 2 else None
-        before = [(lambda: limit_files(signal.SIG_IGN)) if it == failing else None for it in range(len(writers))]
         pipes: dict[str, Any] = dict.fromkeys(("stdin", "stdout", "stderr"), subprocess.PIPE)
-        started = zip(writers, before)
-        running: list[Any] = [subprocess.Popen([*it.command, "dict"], preexec_fn=how, **pipes) for it, how in started]
+        running: list[Any] = []
+        for number, it in enumerate(writers):
+            before = (lambda: limit_files(signal.SIG_IGN)) if number == failing else None
+            running.append(subprocess.Popen([*it.command, "dict"], preexec_fn=before, **pipes))
         for it, writer, strings in zip(running, writers, lists):
             it.stdin.write(writer.given(strings))
         for it in running:
             it.stdin.close()
-        statuses = [it.wait(20) for it in running]
-        assert statuses == [int(it == failing) for it in range(len(writers))], turn
-        right = [table for status, table in zip(statuses, wanted, strict=True) if status == 0]
-        is_right = read("dict") in right and os.listdir() == ["dict"]
+        assert [it.wait(20) for it in running] == [int(it == failing) for it in range(len(writers))], turn
+        is_right = read("dict") in [it for number, it in enumerate(tables) if number != failing] and os.listdir() == ["dict"]
         assert is_right, turn
         if turn % 3 == 0:
             os.remove("dict")

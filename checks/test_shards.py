@@ -14,18 +14,19 @@ from typing import Any
 import pytest
 from formats import (
     CHECKSUM, KINDS, TEXT, Damaged, Dictionary, column, dictionary_of, ended, files_in, freeze, map_of, maps_of, merge_of, placed,
-    put, random_parts, read_column, read_dictionary, read_source, shards_of_column,
+    put, read_column, read_dictionary,
 )
-from programs import TOP
 from test_tables import check_commands
 from tool import DONE, NAME, TRUSTED_FOLDER, WAS, left, made, read, said, wrote
 
 NO_FILE, CUT = "No such file or directory", "the file is truncated"
+NOT_WHOLE = "0: shard 0 of 3; merge it by --shard, or name folders of as many shards each, without --shards"
 OF_ANOTHER_SET = "whole/1.dict: of another set than whole/0.dict; write both again"
 IDENTITY, NOT_FOUND = "the identity isn't that of the strings", r"string \d+ isn't found at its symbol"
 MISPLACED = "string 0 belongs to another shard, or there is another number of shards"
 CHANGED = "damaged: it has another checksum"
 ELSEWHERE = "leads from another dictionary than that in its name"
+OTHER_SET = bytes(range(16))
 
 
 def files_of(path):
@@ -44,8 +45,7 @@ def refused(tool, status, message, *words):
     ended_as, written, told = tool(*words)
     is_said = re.fullmatch(f"{NAME}: {message}", "\n".join(told))
     assert is_said and (ended_as, written) == (status, b""), (words, ended_as, written, told, message)
-    after = all_files()
-    return {it for it in before.keys() | after.keys() if before.get(it) != after.get(it)}
+    return {path for path, _ in before.items() ^ all_files().items()}
 
 
 # Parts that are frozen, merged and renumbered.
@@ -62,22 +62,17 @@ def check_freeze(tool, part, lines, kind, count):
 
 
 def check_merge(tool, parts, count):
-    """Merges dictionaries, those in shards in two ways. Returns the merged one."""
+    """Merges dictionaries to `whole`, those in shards one shard after the other, and once more all at once: to the same, or if
+    they are files to shards. Returns the merged one."""
     names, whole = [*map(str, range(len(parts)))], merge_of(parts)
-    maps = maps_of(parts, whole)
-    if count is None:
-        assert tool("merge", *names, "-o", "whole", "--maps", "maps") == DONE
-        shared = merge_of(parts, 3)
-        assert tool("merge", *names, "--shards", "3", "-o", "again", "--maps", "others") == DONE
-        assert read_dictionary("again") == shared and files_in("again") == shared.files()
-        assert files_in("others") == maps_of(parts, shared)
-    else:
-        for shard in reversed(range(count)):
-            some = [f"{it}/{shard}.dict" if shard % 2 else it for it in names]
-            assert tool("merge", "--shard", str(shard), *some, "-o", "whole", "--maps", "maps") == DONE
-        assert tool("merge", *names, "-o", "again", "--maps", "others") == DONE
-        assert files_in("again") == whole.files() and files_in("others") == maps
-    assert files_of("whole") == whole.files() and files_in("maps") == maps and read_dictionary("whole") == whole
+    again, shards = (whole, []) if count else (merge_of(parts, 3), ["--shards", "3"])
+    for shard in reversed(range(count or 0)):
+        some = [f"{it}/{shard}.dict" if shard % 2 else it for it in names]
+        assert tool("merge", "--shard", str(shard), *some, "-o", "whole", "--maps", "maps") == DONE
+    assert count or tool("merge", *names, "-o", "whole", "--maps", "maps") == DONE
+    assert tool("merge", *names, *shards, "-o", "again", "--maps", "others") == DONE
+    for name, maps, wanted in (("whole", "maps", whole), ("again", "others", again)):
+        assert files_of(name) == wanted.files() and files_in(maps) == maps_of(parts, wanted) and read_dictionary(name) == wanted
     return whole
 
 
@@ -98,15 +93,6 @@ def check_parts(tool, parts, kind, count):
         assert tool(command, "--trusted", "whole", given=b"0\n") == said(2, f"whole: {TRUSTED_FOLDER}")
     assert not any(left(it) for it in (".", "maps", *(it for it in ("whole", *names) if os.path.isdir(it))))
     return whole
-
-
-@pytest.mark.parametrize("kind", [0, TEXT], ids=KINDS)
-@pytest.mark.parametrize("count", [None, 1, 2, 7])
-@pytest.mark.parametrize("size", [0, 1, 30, 3_000])
-def test_parts(tool, size, count, kind):
-    chance = random.Random(size)
-    for many in (1, 2, 5):
-        check_parts(tool, random_parts(chance, size, kind, many), kind, count)
 
 
 @pytest.mark.parametrize("count", [1, 4])
@@ -146,31 +132,8 @@ def test_folders_that_are_written_again(tool):
         assert tool("merge", "--shard", str(shard), "0", "1", "-o", "whole") == DONE
         assert tool("check", "whole") == (said(1, told) if told else DONE)
     assert files_in("whole") == whole.files()
-
-
-def recipes(language):
-    return re.findall(rf"^```{language}\n(.*?)^```", Path(TOP, "docs/COLUMNS.md").read_text(encoding="utf-8"), re.M | re.S)
-
-
-def test_the_session_of_the_page(tool):
-    """The three steps with which docs/COLUMNS.md begins, at whose end are the lines of two parts."""
-    session = recipes("sh")[0].replace("./intaglio dict", f"'{tool.path}'")
-    ran = subprocess.run(["/bin/sh", "-ec", session], capture_output=True, timeout=60)
-    assert (ran.returncode, ran.stdout) == (0, read("0.lines") + read("1.lines")) and read_dictionary("whole").shards[2:]
-
-
-@pytest.mark.skipif(not shutil.which("make"), reason="make isn't there")
-@pytest.mark.parametrize("rules", recipes("make"), ids=itertools.count())
-def test_rules_of_the_page(tool, rules):
-    """The rules of docs/COLUMNS.md by `make -j`: what comes back is the lines, and after a change of one part too."""
-    parts: list[list[bytes]] = [[b"a", b"b", b"a"], [b"c", b"b", b""], [], [b"d", b"a"]]
-    put(".", {f"{part}.lines": ended(lines) for part, lines in enumerate(parts)} | {"Makefile": rules.encode()})
-    for parts[1] in (parts[1], [b"e", b"a", b"e"]):
-        put(".", {"1.lines": ended(parts[1])})
-        subprocess.run(["make", "-s", "-j4", f"DICT={tool.path}"], check=True, timeout=60)
-        whole = "whole" if os.path.exists("whole") else "whole.dict"
-        assert tool("decode", whole, *(f"{it}.whole" for it in range(4))) == wrote(ended(itertools.chain(*parts)))
-        time.sleep(0.1)
+    # (one shard alone is a table with symbols of its own, and has no column)
+    check_commands(tool, "whole/2.dict", whole, 2)
 
 
 # Files that are damaged, or don't belong together. Messages are patterns.
@@ -222,14 +185,14 @@ def test_each_byte_of_a_header(tool):
         status, written, told = tool("check", "whole")
         assert (status, written, told[0].startswith(f"{NAME}: whole/1.dict: ")) == (1, b"", True), (at, told)
     # That of the first one isn't the number that the others have.
-    put("whole", made()[2].files() | {"0.dict": placed(read("whole/0.dict"), (1, 2), 4, 0)})
+    put("whole", made()[2].files() | {"0.dict": placed(read("whole/0.dict"), OTHER_SET, 4, 0)})
     assert not refused(tool, 1, OF_ANOTHER_SET, "check", "whole")
 
 
 def test_a_damaged_set(tool):
     """One shard of a part says that it is of another set: it is merged, and the folder of what is written is refused."""
     one, _, whole = made()
-    put("0", {"1.dict": placed(read("0/1.dict"), (1, 2), 3, 1)})
+    put("0", {"1.dict": placed(read("0/1.dict"), OTHER_SET, 3, 1)})
     assert tool("merge", "--shard", "1", "0", "1", "-o", "whole", "--maps", "maps") == DONE
     assert not refused(tool, 1, OF_ANOTHER_SET, "list", "whole")
     assert refused(tool, 1, OF_ANOTHER_SET.replace("whole", "0"), "merge", "0", "1", "-o", "new") == {"new/0.dict"}
@@ -241,20 +204,20 @@ RENUMBER = "renumber --maps maps 0.column -o out".split()
 
 def of_many(data):
     """A map that leads to as many strings as a dictionary can have."""
-    into, codes = read_column(data)
-    return column(into._replace(strings=2**31), codes, read_source(data), shards_of_column(data))
+    it = read_column(data)
+    return column(*it._replace(id=it.id._replace(strings=2**31)))
 
 
 def with_other_codes(data):
     """A column with another first code, and the old checksum."""
-    into, codes = read_column(data)
-    changed = column(into, [codes[0] + 1, *codes[1:]], read_source(data), shards_of_column(data))
+    it = read_column(data)
+    changed = column(*it._replace(codes=[it.codes[0] + 1, *it.codes[1:]]))
     return changed[: CHECKSUM.start] + data[CHECKSUM] + changed[CHECKSUM.stop :]
 
 
 def with_fewer_rows(data):
-    into, codes = read_column(data)
-    return column(into, codes[:-1], read_source(data), shards_of_column(data))
+    it = read_column(data)
+    return column(*it._replace(codes=it.codes[:-1]))
 
 
 # What becomes of files, or of the map of shard 1 of the first part, and what is said. {} is the name of a map, up to its number.
@@ -291,69 +254,58 @@ def test_changed_maps(tool, change, message):
 
 def test_maps_of_another_merge(tool):
     """If all maps are those of another merge, the column is one of its dictionary, and says so."""
-    one, two, whole = made()
+    one, two, _ = made()
     other = merge_of([two, one])
-    assert tool("merge", "1", "0", "-o", "other", "--maps", "maps") == DONE
-    assert files_in("maps") == maps_of([two, one], other)
+    assert tool("merge", "1", "0", "-o", "other", "--maps", "maps") == DONE and files_in("maps") == maps_of([two, one], other)
     assert not refused(tool, 1, "maps: its maps lead to another dictionary than whole", *RENUMBER, "--into", "whole")
     assert tool(*RENUMBER, "--into", "other") == DONE and read("out") == other.column([*one.strings[::-3], None])
-    assert tool("decode", "whole", "out")[::2] == said(
+    assert tool("decode", "whole", "out") == said(
         1, "out: a column of another dictionary than whole; name the one that it was written with"
-    )[::2]
+    )
 
 
-def test_one_shard_alone(tool):
-    """It is a table with symbols of its own, and has no column."""
-    *_, whole = made()
-    check_commands(tool, "whole/2.dict", whole, 2)
-    put(".", {"2.lines": ended(whole.shards[2])})
-    for words in (
+# Commands, the status, and what is said. Nothing is written.
+REFUSED = [
+    *((words, 1, "whole/2.dict: shard 2 of 3; name its folder") for words in (
         "decode whole/2.dict whole.column", "rows whole/2.dict whole.column 0", "rows --trusted whole/2.dict whole.column 0",
         "encode whole/2.dict 2.lines -o out",
-    ):
-        assert not refused(tool, 1, "whole/2.dict: shard 2 of 3; name its folder", *words.split())
+    )),
+    ("merge five 0 -o new", 1, "0: shard 0 of 3, and five has 5 shards"),
+    ("merge --shard 1 0 five -o new", 1, "five: shard 1 of 5, and 0 has 3 shards"),
+    ("merge 0 plain -o new", 1, "plain: shard 0 of 1, and 0 has 3 shards"),
+    ("merge 0/1.dict 1/2.dict -o new --shard 1", 1, "1/2.dict: shard 2 of 3, not shard 1"),
+    *((words, 1, NOT_WHOLE) for words in (
+        "merge plain 0 -o new", "merge 0 1 --shards 3 -o new",
+    )),
+    ("merge --shard 3 0 1 -o new", 1, f"0/3.dict: {NO_FILE}"), ("merge 0 absent -o new", 1, f"absent: {NO_FILE}"),
+    ("merge --shard 1 0 . -o new", 1, f"\\./1\\.dict: {NO_FILE}"),
+    ("renumber --maps maps absent -o out", 1, f"absent: {NO_FILE}"),
+    ("renumber --maps absent 0.column -o out", 1, "absent/.*: no such file; the dictionary of 0.column wasn't merged"),
+    ("renumber --maps maps 0/0.dict -o out", 1, "0/0.dict: not a column.*"),
+    *((f"merge --shard {it} 0 1 -o new", 2, f"--shard '{re.escape(it)}': the number of a shard is needed, counted from 0")
+      for it in ("x", "1x", "1.", "0x1")),
+    *((f"{command} --shards {it} -o new", 2, f"--shards '{re.escape(it)}': a number from 1 to 4294967295 is needed")
+      for it in ("0", "x", "4294967296", "1.5", "03x") for command in ("merge plain", "freeze")),
+    # Inputs in folders that are written, each of which is named.
+    *((words, 2, f".*{re.escape(name)}.*") for words, name in (
+        ("merge 0 1 -o 1", "1"), ("merge --shard 1 0 1 -o 0", "0"), ("merge --shard 1 0/1.dict 1 -o 0", "0/1.dict"),
+        ("merge 0 1 -o new --maps 1", "1"), ("freeze --shards 3 -o 0 0/lines", "0/lines"), ("merge link 1 -o 0", "link"),
+        ("merge plain 0/0.dict -o new --maps 0", "0/0.dict"), ("merge --shards 2 0/0.dict -o 0", "0/0.dict"),
+        ("renumber --maps maps 0.column -o 0.column", "0.column"), ("renumber --maps maps 0.column -o maps/MAP", "maps/MAP"),
+        ("renumber --maps maps 0.column --into whole -o whole/0.dict", "whole/0.dict"),
+        ("encode whole lines -o whole/0.dict", "whole/0.dict"), ("decode whole whole.column -o whole/1.dict", "whole/1.dict"),
+    )),
+]
 
 
-@pytest.mark.parametrize("words, message, status", [
-    ("merge five 0 -o new", "0: shard 0 of 3, and five has 5 shards", 1),
-    ("merge --shard 1 0 five -o new", "five: shard 1 of 5, and 0 has 3 shards", 1),
-    ("merge 0 plain -o new", "plain: shard 0 of 1, and 0 has 3 shards", 1),
-    ("merge plain 0 -o new", "0: shard 0 of 3; name folders of shards, or give --shard", 1),
-    ("merge 0/1.dict 1/2.dict -o new --shard 1", "1/2.dict: shard 2 of 3, not shard 1", 1),
-    ("merge --shard 3 0 1 -o new", f"0/3.dict: {NO_FILE}", 1),
-    *((f"merge --shard {it} 0 1 -o new", f"--shard '{it}': the number of a shard is needed, counted from 0", 2)
-      for it in ("x", "1x", "1\\.", "0x1")),
-    *((f"{command} --shards {it} -o new", f"--shards '{it}': a number from 1 to 4294967295 is needed", 2)
-      for it in ("0", "x", "4294967296", "1\\.5", "03x") for command in ("merge plain", "freeze")),
-    ("merge 0 1 --shards 3 -o new", "0: shard 0 of 3; name folders of shards, or give --shard", 1),
-    ("merge 0 absent -o new", f"absent: {NO_FILE}", 1),
-    ("merge --shard 1 0 . -o new", f"\\./1\\.dict: {NO_FILE}", 1),
-    ("renumber --maps maps absent -o out", f"absent: {NO_FILE}", 1),
-    ("renumber --maps absent 0.column -o out", "absent/.*: no such file; the dictionary of 0.column wasn't merged", 1),
-    ("renumber --maps maps 0/0.dict -o out", "0/0.dict: not a column.*", 1),
-])
-def test_wrong_words(tool, words, message, status):
-    one, *_ = made()
+@pytest.mark.parametrize("words, status, message", REFUSED)
+def test_refusals(tool, words, status, message):
+    one, _, whole = made()
     put("five", dictionary_of(one.strings, 5).files())
-    put(".", {"plain": freeze(one.strings)})
-    assert not refused(tool, status, message, *words.replace("\\", "").split()) and not os.path.exists("new")
-
-
-@pytest.mark.parametrize("words, name", [
-    ("merge 0 1 -o 1", "1"), ("merge --shard 1 0 1 -o 0", "0"), ("merge --shard 1 0/1.dict 1 -o 0", "0/1.dict"),
-    ("merge 0 1 -o new --maps 1", "1"), ("freeze --shards 3 -o 0 0/lines", "0/lines"), ("merge link 1 -o 0", "link"),
-    ("merge plain 0/0.dict -o new --maps 0", "0/0.dict"), ("merge --shards 2 0/0.dict -o 0", "0/0.dict"),
-    ("renumber --maps maps 0.column -o 0.column", "0.column"), ("renumber --maps maps 0.column -o maps/{}", "maps/{}"),
-    ("renumber --maps maps 0.column --into whole -o whole/0.dict", "whole/0.dict"),
-    ("encode whole lines -o whole/0.dict", "whole/0.dict"),
-    ("decode whole whole.column -o whole/1.dict", "whole/1.dict"),
-])
-def test_inputs_in_folders_that_are_written(tool, words, name):
-    one, *_ = made()
-    put(".", {"plain": freeze(one.strings), "0/lines": b"a\n", "lines": b"w1\n"})
+    put(".", {"plain": freeze(one.strings), "0/lines": b"a\n", "lines": b"w1\n", "2.lines": ended(whole.shards[2])})
     os.symlink("0", "link")
-    words, name = words.replace("{}", one.map_name(1)), name.replace("{}", one.map_name(1))
-    assert not refused(tool, 2, f".*{re.escape(name)}.*", *words.split()) and not os.path.exists("new")
+    words, message = (it.replace("MAP", one.map_name(1)) for it in (words, message))
+    assert not refused(tool, status, message, *words.split()) and not os.path.exists("new")
 
 
 # Histories: random steps on shared folders, some of which are killed. Whatever opens gives the lines.

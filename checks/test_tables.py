@@ -12,11 +12,11 @@ from pathlib import Path
 import hypothesis
 import pytest
 from formats import (
-    BYTES, KINDS, MISSING, TEXT, Dictionary, Frozen, dictionary_of, encoded, ended, freeze, hashes_in, is_text, lines_of, map_of,
-    packed, put, read_dictionary, sip_hash,
+    BYTES, KINDS, MISSING, TEXT, Dictionary, Frozen, column, dictionary_of, encoded, ended, freeze, id_of, is_text, lines_of,
+    map_of, packed, put, read_dictionary, sip_hash,
 )
 from hypothesis import strategies as st
-from programs import run
+from programs import TOP, run
 from tool import DONE, NAME, WORDS, left, read, said, wrote
 
 LISTS: dict[str, list[bytes]] = {
@@ -47,6 +47,14 @@ def table_of(strings, seed):
     return freeze(strings, kind, keys.randrange(2**64), keys.randrange(2**64))
 
 
+def test_samples_of_the_page():
+    """The files that docs/FORMATS.md shows, where what stands behind three spaces in a line says what is there."""
+    page = Path(TOP, "docs/FORMATS.md").read_text(encoding="utf-8")
+    samples = [re.sub(r"(?m) {3}\S.*$", "", it) for it in re.findall(r"^```text\n(.*?)^```", page, re.M | re.S)]
+    made = column(id_of(freeze([b"rose", b"thorn"], TEXT, 1, 2)), [0, 1, 0, MISSING])
+    assert [freeze([b"rose"], TEXT), made] == [*map(bytes.fromhex, samples)] and sip_hash(0, 0, b"rose") == 0xDBCBC1FE67FCD9A6
+
+
 def test_the_hash_is_that_of_python():
     """Python's own hash of bytes is SipHash-1-3 too, where its seed is 0."""
     words = [bytes(range(length)) for length in range(1, 40)]
@@ -64,7 +72,7 @@ def check_commands(tool, name, whole, shard=None):
     lines, tenths = ended(strings), 10 * size // max(1, len(strings))
     told = f"kind {KINDS[whole.kind]}\nstrings {len(strings)}\nbytes {size}\nbytes a string {tenths // 10}.{tenths % 10}\n"
     status, written, messages = tool("stat", name)
-    places = [whole.name, str(len(whole.shards)), str(shard or 0)]
+    places = [whole.name, str(len(whole.shards)), *([] if shard is None else [str(shard)])]
     start = f"{told}longest {max(map(len, strings), default=0)}\n"
     assert (status, messages, written.decode().startswith(start)) == (0, [], True), written
     assert re.findall(r"^\w+ (\w+)$", written.decode().removeprefix(start), re.M) == places, written
@@ -169,7 +177,7 @@ def test_long_lines(tool):
     put(".", {"source": lines})
     assert tool("freeze", "-o", "long", "source") == DONE
     # (the hash of so many bytes takes the writer here minutes)
-    whole = Dictionary(BYTES, hashes_in(Frozen(read("long"), True).header.own), [[line, b"b"]])
+    whole = Dictionary(BYTES, Frozen(read("long"), True).header.own, [[line, b"b"]])
     column = whole.column([line, b"b"])
     missing = f"line 1 is not in the dictionary: '{line[1:201].decode()}'..; --missing gives such lines the code {MISSING}"
     for words, given, wanted in (

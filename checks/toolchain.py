@@ -1,6 +1,5 @@
 """All that the scripts here take from the toolchain's own `rt`, which promises none of it: names of its module, and sentences
-of its prover. `load` stops under other versions than those below: see then that each of these still stands, and add to the line.
-The first version proves all anew each time; the second keeps verdicts (`keeps_verdicts`).
+of its prover. `load` stops under another version than the one below: see then that each of these still stands, and edit the line.
 """
 
 import functools
@@ -20,7 +19,7 @@ from typing import Any
 
 sys.dont_write_bytecode = True
 TOP = Path(__file__).resolve().parent.parent
-VERSIONS = ("rattle-kit-13b logic dac8208d650f15bf", "rattle-kit-13f logic dac8208d650f15bf")
+VERSION = "rattle-kit-13f logic dac8208d650f15bf"
 # The variable of the environment that says to a check that others run beside it.
 BESIDE = "INTAGLIO_BESIDE"
 SECONDS = TOP / "checks/seconds.txt"
@@ -35,8 +34,8 @@ ALL_PASSED = re.compile(r"^\d+ passed, 0 failed$", re.M)
 # What the prover says of a function, `fn CRATE::PATH: WORDS`, after the notes on its open goals.
 FUNCTION = re.compile(r"^fn (\S+): (.*)$")
 PROVED = re.compile(r"^proved\b")
-# The last line's word on libraries that were built with what earlier checks kept.
-KEPT_WORK = "incremental=trusted"
+# How rt's pattern of the last line ends, and that line's word on libraries that were built with what earlier checks kept.
+ENDS, KEPT_WORK = r"\n\Z", "incremental=trusted"
 # The function's own goals may all be closed: it can't be told, or is told, while a function that it calls isn't proved.
 CALLS_UNPROVED = re.compile(
     r"^(not proved; |no proof: )(it calls|the borrow checker's part in its proof is not made yet: a call of)"
@@ -70,9 +69,8 @@ def version():
 def load():
     """The toolchain's `rt`, as a module. What stands below a crate is read as statements, as under `rt ci`."""
     found = shutil.which("rt") or sys.exit("there is no rt on the PATH")
-    if version() not in VERSIONS:
-        known = " and ".join(map(repr, VERSIONS))
-        sys.exit(f"checks/toolchain.py was written for {known}, and not for '{version()}': see that what it names still stands")
+    if version() != VERSION:
+        sys.exit(f"checks/toolchain.py is for '{VERSION}', and not for '{version()}': see that what it names still stands")
     path = os.path.realpath(found)
     sys.path.insert(0, os.path.dirname(path))
     loader = importlib.machinery.SourceFileLoader("rt", path)
@@ -88,17 +86,11 @@ def load():
     return module
 
 
-def keeps_verdicts():
-    """Whether this version of `rt` keeps what it proved for later runs on this machine, of other checkouts too."""
-    return hasattr(load(), "Kept")
-
-
 def over_kept(verdict):
     """The pattern of a verdict's last line, where that may end in KEPT_WORK, as it does over a library that `rt lib` made."""
-    ends = r"\n\Z"
-    if not verdict.pattern.endswith(ends):
+    if not verdict.pattern.endswith(ENDS):
         sys.exit("checks/toolchain.py: the pattern of rt's last line doesn't end as it did")
-    return re.compile(verdict.pattern.removesuffix(ends) + f"(?: {KEPT_WORK})?{ends}", verdict.flags)
+    return re.compile(verdict.pattern.removesuffix(ENDS) + f"(?: {KEPT_WORK})?{ENDS}", verdict.flags)
 
 
 def crates(top=TOP):
@@ -150,17 +142,6 @@ def build_missing(libraries):
 
 def processors():
     return load().processors()
-
-
-def with_one_job_each():
-    """The environment of an `rt ci` that proves as many crates side by side as there are processors, each by one job. Several
-    jobs of a check copy the prover, which takes a third to a half more of processors in all."""
-    return {**os.environ, "RT_JOBS": str(processors())}
-
-
-def beside_others():
-    """The environment of a check beside which others run, so that one job makes its proofs."""
-    return {**os.environ, BESIDE: "1"}
 
 
 def jobs():
@@ -262,11 +243,10 @@ class Verdicts:
     the edit and the scripts. For a run beside an `rt ci` only what was said over the libraries of one counts."""
 
     def __init__(self, scripts, is_anew, is_beside_ci):
-        every = crates() if keeps_verdicts() else []
-        # (the files are looked at here, and again as something is kept)
-        self.kept = load().Kept(every, is_anew) if every else None
         self.stamps: dict[str, str] = {}
-        for crate in every:
+        # (the files are looked at here, and again as something is kept)
+        self.kept = load().Kept(crates(), is_anew)
+        for crate in crates():
             load().stamp_of(crate, self.stamps)
         self.scripts, self.is_beside_ci = [load().rtlib.sum_of(it) for it in scripts], is_beside_ci
 
@@ -275,12 +255,12 @@ class Verdicts:
 
     def known(self, crate, edit):
         """What was said of an edit, as it was read, in an earlier run, or nothing."""
-        found = self.kept and self.kept.tried(self.name(crate, edit, self.is_beside_ci))
+        found = self.kept.tried(self.name(crate, edit, self.is_beside_ci))
         return found[1] if found else None
 
     def keep(self, crate, edit, said):
         """Keeps what was said of it, unless a file of the crate or of those below it was touched since this run began."""
-        if self.kept and all(map(self.kept.is_untouched, [crate, *crate.below()])):
+        if all(map(self.kept.is_untouched, [crate, *crate.below()])):
             for is_of_ci in {False, self.is_beside_ci}:
                 self.kept.keep_tried(self.name(crate, edit, is_of_ci), load().REFUSED, said)
 
@@ -341,7 +321,7 @@ def is_proved(crate):
     """Whether the crate was proved as it is now, with what stands below it: here, or in another checkout on this machine, whose
     library is then taken."""
     if not crate.is_program:
-        return crate.is_built() or keeps_verdicts() and load().take_rlib(crate)
+        return crate.is_built() or load().take_rlib(crate)
     is_there = os.path.exists(f"{crate.folder}/out/{crate.name}")
     return is_there and load().rtlib.text_of(f"{crate.folder}/out/rlib/stamp") == crate.stamp()
 
@@ -359,7 +339,7 @@ def proved(crate, jobs):
     status, said = heard(crate, lambda: crate.prove(build) or (crate.link(f"{made}.o", made) if crate.is_program else 0))
     if not status and stamp == crate.stamp():
         Path(kept, "stamp").write_text(stamp, encoding="utf-8")
-        if not crate.is_program and keeps_verdicts():
+        if not crate.is_program:
             # (as `rt lib` does, so that other checkouts on this machine take it)
             rt.offer(crate, stamp)
     return status, said
@@ -401,23 +381,14 @@ def without_good_news(said):
 
 
 @functools.lru_cache(maxsize=None)
-def functions_of(crate):
-    """How many functions the crate's source has, without its tests."""
-    files = (Path(it) for it in load().rtlib.files_of(crate.folder) if it.endswith(".rt"))
-    return sum(len(re.findall(rb"\bfn \w", it.read_bytes())) for it in files if not {"tests", "tests.rt"} & {*it.parts})
-
-
-@functools.lru_cache(maxsize=None)
-def measured():
-    """The seconds that a function of each crate took to be proved, as SECONDS has them."""
-    rows = (line.split() for line in SECONDS.read_text(encoding="utf-8").splitlines() if not line.startswith("#"))
-    return {name: float(seconds) for name, seconds in rows}
-
-
 def seconds_of(crate):
-    """About how many seconds of a processor the crate's proof takes by one job. One that wasn't measured is like the others."""
-    known = measured()
-    return round(functions_of(crate) * known.get(crate.name, statistics.median(known.values())))
+    """About how many seconds of a processor the crate's proof takes by one job: for each of its functions, without its tests, as
+    many as SECONDS has for the crate. One that wasn't measured is like the others."""
+    rows = (line.split() for line in SECONDS.read_text(encoding="utf-8").splitlines() if not line.startswith("#"))
+    known = {name: float(seconds) for name, seconds in rows}
+    files = (Path(it) for it in load().rtlib.files_of(crate.folder) if it.endswith(".rt"))
+    count = sum(len(re.findall(rb"\bfn \w", it.read_bytes())) for it in files if not {"tests", "tests.rt"} & {*it.parts})
+    return round(count * known.get(crate.name, statistics.median(known.values())))
 
 
 def chains_through(crates):
@@ -428,23 +399,15 @@ def chains_through(crates):
     for crate in crates:
         below[crate.name] = seconds_of(crate) + max((below.get(it.name, 0) for it in crate.below()), default=0)
     for crate in reversed(crates):
-        above = [it for it in crates if crate.name in {under.name for under in it.below()}]
+        above = [it for it in crates if crate in it.below()]
         behind[crate.name] = max((seconds_of(it) + behind[it.name] for it in above), default=0)
     return {it.name: below[it.name] + behind[it.name] for it in crates}
 
 
-def beside(call, *given):
-    """What a call gives that runs on what nothing else uses of the processors: in a thread of its own, whose priority is lower,
-    as is that of what it starts."""
-    with ThreadPoolExecutor(1, initializer=os.nice, initargs=(10,)) as pool:
-        return pool.submit(call, *given).result()
-
-
 # A crate that one job proves in this many seconds is proved as soon by one as by several, which each read all libraries.
 FEW = 60
-# The shares of the longest chain from which on a chain would soon be the longest, if its crates had one job each, and if they had
-# what others leave.
-NEARLY, LONG = 0.88, 0.8
+# The share of the longest chain from which on a chain would soon be the longest, if its crates had one job each.
+NEARLY = 0.88
 # What provers hold of the memory that `rt` plans for them: what each counts as its own, and its share of what several read. (For
 # each further job `rt` plans .6 more.)
 HELD_OF_NEED = 0.5
@@ -453,18 +416,16 @@ HELD_OF_NEED = 0.5
 def in_lanes(crates, prove):
     """Proves these crates side by side, by `prove` of a crate and its jobs, each once those of them below it are proved, and
     returns whether all are. Those of the longest chain have a job for each processor, since all waits for them, those of a chain
-    nearly as long two, and small ones one; those of short chains run on what these leave."""
+    nearly as long two, and small ones one."""
     rt, through, most = load(), chains_through(crates), min(4, processors())
     longest = max(through.values(), default=0)
 
     def task(crate):
         waits, length = [(it.name, "proof") for it in crate.below() if it.name in through], through[crate.name]
-        is_small = seconds_of(crate) <= FEW
-        least = 1 if is_small or length < NEARLY * longest else most if length == longest else min(2, most)
+        least = 1 if length < NEARLY * longest else most if length == longest else min(2, most)
 
         def call(given, jobs):
-            how = prove if length > LONG * longest else functools.partial(beside, prove)
-            return all(given[it] for it in waits) and how(crate, 1 if is_small else max(jobs, least))
+            return all(given[it] for it in waits) and prove(crate, 1 if seconds_of(crate) <= FEW else max(jobs, least))
 
         return waits, seconds_of(crate), HELD_OF_NEED * rt.need(crate), call
 

@@ -297,7 +297,7 @@ class OfColumns(Case):
         # A map has a string for each row.
         missing = formats.sealed(data[: formats.COLUMN_HEADER.size] + b"\0\xff" + data[formats.COLUMN_HEADER.size + 2 :])
         self.refused(intaglio.NoSymbol, "^code 4294967295 at position 1 is no symbol$", Column.from_bytes, missing)
-        for source in ((2, 1, 5, 6, 2), (3, 1, 5, 6, 0), (0, 0, 5, 6, 0)):
+        for source in ((2, 1, b"x" * 16, 2), (3, 1, b"x" * 16, 0), (0, 0, b"x" * 16, 0)):
             self.refused(intaglio.BadShard, "", Column.from_bytes, formats.column(whole.id, [0], source, shards=2))
 
     @if_built
