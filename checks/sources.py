@@ -187,8 +187,8 @@ def file_of(crate, function, pairs):
     return found.pop().split("/", 2)[2] if len(found) == 1 else "src/lib.rt"
 
 
-def edit_of(crate, path, text):
-    """The edit that a block of a file of mutants describes. A line `file:` has its file, if that can't be told without."""
+def edit_of(crate, path, function, text):
+    """The edit of a function that a block of a file of mutants describes. A line `file:` has its file, if that can't be told without."""
 
     def line(word):
         return (re.search(rf"^{word}: (.*)$", text, re.M) or ["", ""])[1]
@@ -197,15 +197,20 @@ def edit_of(crate, path, text):
     found = re.fullmatch(r"([\w, ]+): (.+)", line("promise"))
     clauses = tuple(found[1].split(", ")) if found else ()
     pairs = tuple(re.findall(r"^old: (.*)\nnew: ?(.*)$", text, re.M))
-    return Edit(crate, kind, name, f"{path.relative_to(TOP)}: {name}", line("fn"), clauses, found[2] if found else "",
-                tuple(line("beside").split()), line("file") or file_of(crate, line("fn"), pairs), pairs)
+    return Edit(crate, kind, name, f"{path.relative_to(TOP)}: {name}", function, clauses, found[2] if found else "",
+                tuple(line("beside").split()), line("file") or file_of(crate, function, pairs), pairs)
 
 
 def edits_in(crate):
-    """A crate's mutants and controls: the blocks of its file of mutants."""
+    """A crate's mutants and controls: the blocks of its file of mutants. A line `fn:` is for the blocks behind it too."""
     path = TOP / "crates" / crate / "mutants.txt"
     text = re.sub(r"(?m)^#.*\n", "", text_of(path)) if path.is_file() else ""
-    return [edit_of(crate, path, it) for it in re.split(r"\n{2,}", text.strip()) if it]
+    function, edits = "", []
+    for block in re.split(r"\n{2,}", text.strip()) if path.is_file() else []:
+        if found := re.match(r"fn: (.*)\n", block):
+            function, block = found[1], block[found.end() :]
+        edits.append(edit_of(crate, path, function, block))
+    return edits
 
 
 def is_of_type(edit):
