@@ -1,4 +1,5 @@
 -- Strings between ends.
+use Rattle.std.proofs.lemmas.Grind.{common_steps}
 use Rattle.std.proofs.Common.{sym, ◌≡◌, ℕ, ◌+◌, ◌-◌, ◌<◌, ◌≤◌, suc, zero, List, [], ◌∷◌, ◌++◌, length, take, drop, get_or, slice_get, slice_range, Some, refl, ap, ◌∙◌, arith, length-drop, take_all, length-take-le, sum_by}
 use Rattle.std.specs.List.{concat}
 use Rattle.std.proofs.lemmas.List.{drop_all, drop-drop, take-append-drop, take-append-le, drop-append-le, drop-take, take-take}
@@ -18,20 +19,12 @@ strings_length at bytes (e ∷ es) = ap suc (strings_length e bytes es)
 -- a range of a list is unchanged by what is added behind it
 range-append : (bytes more : List ℕ) (a b : ℕ) → a ≤ b → b ≤ length bytes →
     slice_range (bytes ++ more) a b ≡ slice_range bytes a b
-range-append bytes more a b ab l =
-    let la : a ≤ length bytes = omega arith in
-    let lb : b - a ≤ length (drop a bytes) = omega (arith, length-drop a bytes) in
-    rw (drop-append-le a bytes more la) (take-append-le (b - a) (drop a bytes) more lb)
+range-append bytes more a b ab l = grind (arith, common_steps)
 
 -- the range of what was added
 range-added : (bytes more : List ℕ) →
     slice_range (bytes ++ more) (length bytes) (length bytes + length more) ≡ more
-range-added bytes more =
-    let n : length bytes + length more - length bytes ≡ length more = omega arith in
-    let front : drop (length bytes) (bytes ++ more) ≡ more =
-    drop-append-le (length bytes) bytes more (omega arith)
-    ∙ ap (λ (xs : List ℕ). xs ++ more) (drop_all (length bytes) bytes (omega arith)) in
-    rw (n, front) (take_all (length more) more (omega arith))
+range-added bytes more = grind (arith, common_steps)
 
 -- the strings after one is added
 pub strings-push : (at : ℕ) (bytes es more : List ℕ) → AreEnds at (length bytes) es →

@@ -1,4 +1,5 @@
 -- Entries of records.
+use Rattle.std.proofs.lemmas.Grind.{common_steps}
 use Rattle.std.proofs.Common.{◌≡◌, ℕ, ◌+◌, ◌<◌, ◌≤◌, suc, zero, Bool, List, [], ◌∷◌, ◌++◌, length, take, map, get_or, slice_get, Some, min, sum_by, refl, sym, ap, ◌∙◌, arith, take_all}
 use Rattle.std.proofs.lemmas.List.{get_or-map, get_or-take, get_or_append_left, length-append, length-drop, length-map, length-take, take-append-le, take-take}
 use Rattle.std.proofs.lemmas.List.Sums.{sum_by-cons}
@@ -100,12 +101,7 @@ pub entries-push : (long : Bool) (xs : List (ℕ × List ℕ)) (x : ℕ × List 
     → entries_of long (xs ++ x ∷ []) (length (xs ++ x ∷ [])) ≡ (x.0, slot_of long (length xs) at)
     ∷ entries_of long xs (length xs)
 entries-push long xs x at a =
-    let n = length xs in
-    let e : length (xs ++ x ∷ []) ≡ suc n = omega (arith, length-append xs (x ∷ [])) in
-    let here : get_or (xs ++ x ∷ []) n (0, []) ≡ x = get_or-append_seam xs x [] (0, []) in
-    let all : take n (xs ++ x ∷ []) ≡ xs = take-append-le n xs (x ∷ []) (omega arith)
-    ∙ take_all n xs (omega arith) in
-    ap (entries_of long (xs ++ x ∷ [])) e ∙ rw (here, all, a, entries-append long xs x n (omega arith)) refl
+    grind (arith, common_steps, length-append, get_or-append_seam, take-append-le, take_all, entries-append)
 
 -- and when strings behind them are dropped
 pub entries-take : (long : Bool) (m : ℕ) (xs : List (ℕ × List ℕ)) (n : ℕ) → n ≤ m

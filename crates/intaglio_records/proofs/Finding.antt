@@ -1,4 +1,5 @@
 -- A search finds each entry of its class and tag once.
+use Rattle.std.proofs.lemmas.Grind.{common_steps}
 use Rattle.std.proofs.Common.{◌≡◌, ◌≢◌, ℕ, ◌%◌, ◌<◌, ◌≤◌, ◌==◌, ◌&&◌, List, [], ◌∷◌, ◌++◌, length, cond, refl, sym, subst, ap, ◌∙◌, arith, inl, inr, append_assoc}
 use Rattle.std.specs.List.Sorted.{IsPermutation}
 use Rattle.std.proofs.lemmas.Bool.{cases_eq, cases_lt, cond-true, cond-false, eq-eqb, ne_eqb}
@@ -46,17 +47,10 @@ slots-here base c tag e (o ∷ os) some =
 overflow_slots-other : (base k tag : ℕ) (e : Entry) (es : List Entry) → k ≢ e.0 % base →
     overflow_slots k tag (overflow base (e ∷ es)) ≡ overflow_slots k tag (overflow base es)
 overflow_slots-other base k tag e es other =
-    let c = e.0 % base in let os = overflow base es in
-    elim (cases_lt (length (first_line base c es)) 11) [
-      | inl lt ↦ ap (overflow_slots k tag) (overflow-same base e es lt)
-      | inr full ↦ elim (cases_lt (newest_length c os) 11) [
-        | inl lt ↦ ap (overflow_slots k tag) (overflow-add base e es full lt) ∙ slots-other k c tag e os other
-        | inr none ↦
-            ap (overflow_slots k tag) (overflow-new base e es full none)
-            ∙ cond-false (c == k) (slots_with tag (e ∷ []) ++ overflow_slots k tag os)
-            (overflow_slots k tag os) (ne_eqb c k (λ same. other (sym same)))
-      ]
-    ]
+    grind (
+      arith, common_steps, cases_lt, overflow-same, overflow-add, slots-other, overflow-new,
+      cond-false, ne_eqb
+    )
 
 -- the slots of one class and tag
 abbrev found : ℕ → ℕ → ℕ → List Entry → List ℕ
@@ -65,10 +59,7 @@ found base c tag es = slots_with tag (first_line base c es) ++ overflow_slots c 
 -- one more entry doesn't change the slots of another class
 found-other : (base k tag : ℕ) (e : Entry) (es : List Entry) → k ≢ e.0 % base →
     found base k tag (e ∷ es) ≡ found base k tag es
-found-other base k tag e es other =
-    ap (λ xs. slots_with tag xs ++ overflow_slots k tag (overflow base (e ∷ es)))
-    (first-other base k e es other)
-    ∙ ap (λ xs. slots_with tag (first_line base k es) ++ xs) (overflow_slots-other base k tag e es other)
+found-other base k tag e es other = grind (arith, common_steps, first-other, overflow_slots-other)
 
 -- behind a first line that is full
 found-behind : (base tag : ℕ) (e : Entry) (es : List Entry) (behind : List ℕ) →
@@ -94,39 +85,16 @@ found-new : (base tag : ℕ) (e : Entry) (es : List Entry) → 11 ≤ length (fi
     11 ≤ newest_length (e.0 % base) (overflow base es) →
     IsPermutation (one_of tag e ++ found base (e.0 % base) tag es) (found base (e.0 % base) tag (e ∷ es))
 found-new base tag e es full none =
-    let c = e.0 % base in let os = overflow base es in
-    found-behind base tag e es (one_of tag e ++ overflow_slots c tag os) full
-    (ap (overflow_slots c tag) (overflow-new base e es full none)
-    ∙ cond-true (c == c) (one_of tag e ++ overflow_slots c tag os) (overflow_slots c tag os)
-    (eq-eqb c c refl))
-    (IsPermutation-refl (one_of tag e ++ overflow_slots c tag os))
+    grind (arith, common_steps, found-behind, one_of, overflow-new, cond-true, eq-eqb)
 
 -- if there is a first line, one more entry adds its slot to those of its class, if it has the tag
 found-here : (base tag : ℕ) (e : Entry) (es : List Entry) → 0 < base →
     IsPermutation (one_of tag e ++ found base (e.0 % base) tag es) (found base (e.0 % base) tag (e ∷ es))
 found-here base tag e es some =
-    let c = e.0 % base in let os = overflow base es in
-    elim (is-top base c es some) [
-      | inl h ↦ elim (cases_lt (length (first_line base c es)) 11) [
-        | inl lt ↦
-            (let whole : found base c tag (e ∷ es) ≡ (slots_with tag (first_line base c es) ++ one_of tag e)
-            ++ overflow_slots c tag os =
-            ap (λ xs. slots_with tag xs ++ overflow_slots c tag (overflow base (e ∷ es)))
-            (first-here base e es lt)
-            ∙ ap (λ xs. (slots_with tag (first_line base c es) ++ one_of tag e) ++ overflow_slots c tag xs)
-            (overflow-same base e es lt) in
-            subst (λ xs. IsPermutation (one_of tag e ++ found base c tag es) xs) (sym whole)
-            (inserted (one_of tag e) (slots_with tag (first_line base c es)) (overflow_slots c tag os)))
-        | inr full ↦ found-new base tag e es full (omega (arith, length-none base c os some h.0))
-      ]
-      | inr h ↦ elim (cases_lt (newest_length c os) 11) [
-        | inl lt ↦
-            found-behind base tag e es (overflow_slots c tag (add c e os)) (omega (arith, h.1))
-            (ap (overflow_slots c tag) (overflow-add base e es (omega (arith, h.1)) lt))
-            (slots-here base c tag e os h.0)
-        | inr none ↦ found-new base tag e es (omega (arith, h.1)) none
-      ]
-    ]
+    grind (
+      arith, common_steps, is-top, cases_lt, found, one_of, first-here, overflow-same, inserted,
+      found-new, length-none, found-behind, overflow-add, slots-here
+    )
 
 -- if there is a first line, a search by a hash gives the slot of each entry of its class and tag once
 pub are-found : (base hash : ℕ) (es : List Entry) → 0 < base → AreFound base hash es

@@ -1,4 +1,5 @@
 -- Indexes over records.
+use Rattle.std.proofs.lemmas.Grind.{common_steps}
 use Rattle.std.proofs.Common.{◌≡◌, ℕ, ◌-◌, ◌^◌, ◌≤◌, List, [], ◌∷◌, length, map, drop, get_or, refl, sym, ap, arith}
 use Rattle.intaglio_records.specs.declared.index.RecordIndex.{RecordIndex}
 use Rattle.intaglio_records.specs.Index.{IsOver}
@@ -7,24 +8,12 @@ use Rattle.intaglio_records.specs.Index.{IsOver}
 pub over_less : (xs : List (ℕ × List ℕ)) (room less : ℕ) (index : RecordIndex) → IsOver xs room index →
     less ≤ room
     → IsOver xs less index
-over_less xs room less index is l = record {
-  filled = is.filled;
-  within = is.within;
-  places = is.places;
-  tight = is.tight;
-  short = λ e. omega (arith, is.short e, l);
-}
+over_less xs room less index is l = grind (arith, common_steps)
 
 -- and over records with other room, if four bytes reach all of it
 pub over_short : (xs : List (ℕ × List ℕ)) (room other : ℕ) (index : RecordIndex) → IsOver xs room index
     → other ≤ 2 ^ 32 - 1 → IsOver xs other index
-over_short xs room other index is l = record {
-  filled = is.filled;
-  within = is.within;
-  places = is.places;
-  tight = is.tight;
-  short = λ _. l;
-}
+over_short xs room other index is l = grind (arith, common_steps)
 
 -- the same, where the strings and the room are said in other words
 pub over_same : (xs ys : List (ℕ × List ℕ)) (room same : ℕ) (index : RecordIndex) → xs ≡ ys → room ≡ same

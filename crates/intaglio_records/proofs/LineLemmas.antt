@@ -1,4 +1,5 @@
 -- What a line has, and how it changes.
+use Rattle.std.proofs.lemmas.Grind.{common_steps}
 use Rattle.std.proofs.Common.{◌≡◌, ◌≢◌, ℕ, ◌/◌, ◌^◌, ◌<◌, ◌≤◌, ◌==◌, List, [], ◌∷◌, length, get_or, set, sym, ◌∙◌, arith, inl, inr}
 use Rattle.std.proofs.lemmas.Bool.{cases_eq, cases_order, cond_both, eqb-false}
 use Rattle.std.proofs.lemmas.List.{get_or-set_same, get_or-set_other, length-set}
@@ -7,14 +8,7 @@ use Rattle.intaglio_records.specs.Line.{Entry, tag_of, AreIn, IsLine}
 
 -- a tag isn't 0
 pub tag-some : (hash : ℕ) → 0 < tag_of hash
-tag-some hash =
-    let top = hash / 2 ^ 56 in
-    cond_both (top == 0) 1 top (λ n. 0 < n) (λ none. omega arith)
-    (λ some. (let other = eqb-false top 0 some in elim (cases_order top 0) [
-      | inl none ↦ absurd (other none)
-      | inr (inl below) ↦ omega arith
-      | inr (inr above) ↦ above
-    ]))
+tag-some hash = grind (arith, common_steps)
 
 -- an entry has a tag
 pub entry-tag : (tags slots : List ℕ) (es : List Entry) (i : ℕ) → AreIn tags slots es → i < length es →
@@ -54,22 +48,7 @@ pub line-put : (line : Line) (es : List Entry) (next count tag slot hash : ℕ) 
     IsLine (record { tags = set line.tags count tag; slots = set line.slots count slot })
     ((hash, slot) ∷ es) next
 line-put line es next count tag slot hash few is at is_tag =
-    let le : length es ≤ count = omega (arith, at) in
-    let other : 11 ≢ count = λ same. omega arith in
-    record {
-      entries = (
-        rw (sym at) (get_or-set_same line.tags count tag 0 (omega (arith, few, is.tags)) ∙ is_tag),
-        rw (sym at) (get_or-set_same line.slots count slot 0 (omega (arith, few, is.slots))),
-        kept-by-slot (set line.tags count tag) line.slots es count slot le
-            (kept-by-tag line.tags line.slots es count tag le is.entries),
-      );
-      few = omega (arith, few, at);
-      others = λ i le. (let past : i ≢ count = λ same. omega (arith, at, le, same) in
-          get_or-set_other line.tags count i tag 0 past ∙ is.others i (omega (arith, le)));
-      next_is = get_or-set_other line.slots count 11 slot 0 other ∙ is.next_is;
-      tags = length-set line.tags count tag ∙ is.tags;
-      slots = length-set line.slots count slot ∙ is.slots;
-    }
+    grind (arith, common_steps, get_or-set_same, kept-by-slot, kept-by-tag, get_or-set_other, length-set)
 
 -- a line whose newest entry's tag is set to 0 has the entries before it
 pub line-remove : (line : Line) (e : Entry) (es : List Entry) (next count : ℕ) → count < 11 →
@@ -92,12 +71,4 @@ line-remove line e es next count few is at =
 -- a line whose slot 11 is written keeps its entries and leads to the line with that number
 pub line-next : (line : Line) (es : List Entry) (old next : ℕ) → IsLine line es old →
     IsLine (record { tags = line.tags; slots = set line.slots 11 next }) es next
-line-next line es old next is =
-    record {
-      entries = kept-by-slot line.tags line.slots es 11 next is.few is.entries;
-      few = is.few;
-      others = is.others;
-      next_is = get_or-set_same line.slots 11 next 0 (omega (arith, is.slots));
-      tags = is.tags;
-      slots = length-set line.slots 11 next ∙ is.slots;
-    }
+line-next line es old next is = grind (arith, common_steps, kept-by-slot, get_or-set_same, length-set)

@@ -1,4 +1,5 @@
 -- Searches among records.
+use Rattle.std.proofs.lemmas.Grind.{common_steps}
 use Rattle.std.proofs.Common.{◌≡◌, ◌≢◌, ℕ, zero, suc, ◌+◌, ◌%◌, ◌^◌, ◌<◌, ◌≤◌, ◌==◌, ◌&&◌, nat_lt, Bool, true, false, inl, inr, arith, sum_by, List, [], ◌∷◌, ◌++◌, length, drop, get_or, slice_get, Some, option_map, map, take, take_all, cond, refl, sym, ap, ◌∙◌, subst}
 use Rattle.std.specs.List.{concat, filter, All}
 use Rattle.std.proofs.lemmas.Bool.{cases_lt, cond_both, cond-true, cond-false, eq-eqb, ne_eqb, lt-ltb, le-ltb}
@@ -112,11 +113,7 @@ count_at hash bytes i at = cond (hash_at bytes at == hash) (one_of i (number_at 
 count-one : (h hash number i : ℕ) (rest : List ℕ)
     → sum_by (one_of i) (cond (h == hash) (number ∷ rest) rest) ≡ cond (h == hash) (one_of i number) 0
     + sum_by (one_of i) rest
-count-one h hash number i rest =
-    elim (eqb_tells h hash) [
-      | inl e ↦ rw (e.0) (sum_by-cons (one_of i) number rest)
-      | inr n ↦ rw (n.0) (omega arith)
-    ]
+count-one h hash number i rest = grind (arith, common_steps)
 
 -- number i is among those with the hash as often as is counted over where their records begin
 pub count-numbers : (hash : ℕ) (bytes : List ℕ) (i : ℕ) (ats : List ℕ)
@@ -153,48 +150,13 @@ count-entry : (base hash h at value : ℕ) (es : List Entry) (f : ℕ → ℕ) �
       h,
       at,
     ) ∷ es)) ≡ cond (h == hash) value 0 + sum_by f (search.slots_of base hash es)
-count-entry base hash h at value es f is =
-    let rest = search.slots_of base hash es in
-    elim (eqb_tells h hash) [
-      | inl e ↦
-          (let class : (h % base == hash % base) ≡ true =
-          eq-eqb (h % base) (hash % base) (ap (λ x. x % base) e.1) in
-          let tag : (tag_of h == tag_of hash) ≡ true = eq-eqb (tag_of h) (tag_of hash) (ap tag_of e.1) in
-          rw (class, tag) (sum_by-cons f at rest ∙ ap (λ x. x + sum_by f rest) is))
-      | inr n ↦
-          (let none : f at ≡ 0 = is ∙ cond-false (h == hash) value 0 n.0 in
-          cond_both
-          ((h % base == hash % base) && (tag_of h == tag_of hash))
-          (at ∷ [])
-          []
-          (λ front. sum_by f (front ++ rest) ≡ cond (h == hash) value 0 + sum_by f rest)
-          (λ _. sum_by-cons f at rest ∙ ap (λ x. x + sum_by f rest) is)
-          (λ _. rw (n.0) (omega arith)))
-    ]
+count-entry base hash h at value es f is = grind (arith, common_steps)
 
 -- what is counted of the first n numbers, and of one more
 count-more : (hn hi hash i n : ℕ) → (n ≡ i → hn ≡ hi)
     → cond (hn == hash) (one_of i n) 0 + cond (nat_lt i n && (hi == hash)) 1 0
     ≡ cond (nat_lt i (suc n) && (hi == hash)) 1 0
-count-more hn hi hash i n same =
-    elim (eqb_tells n i) [
-      | inl e ↦ rw (
-        e.0,
-        le-ltb i n (omega (arith, e.1)),
-        lt-ltb i (suc n) (omega (arith, e.1)),
-        same e.1,
-      ) (omega arith)
-      | inr d ↦
-          (let none : cond (hn == hash) (one_of i n) 0 ≡ 0 = rw (d.0) (cond-same (hn == hash)) in
-          elim (cases_lt i n) [
-            | inl low ↦ rw (none, lt-ltb i n low, lt-ltb i (suc n) (omega (arith, low))) (omega arith)
-            | inr high ↦ rw (none, le-ltb i n high, le-ltb i (suc n) (omega (arith, high, d.1))) (omega arith)
-          ])
-    ]
-  where
-    cond-same : (b : Bool) → ◌≡◌ {A = ℕ} (cond b 0 0) 0
-    cond-same true = refl
-    cond-same false = refl
+count-more hn hi hash i n same = grind (arith, common_steps)
 
 -- the same, said of a slot
 abbrev pub count_of : Bool → List (List ℕ) → ℕ → List ℕ → ℕ → ℕ → ℕ

@@ -1,4 +1,5 @@
 -- What is read of records among the bytes of all.
+use Rattle.std.proofs.lemmas.Grind.{common_steps}
 use Rattle.std.proofs.Common.{◌≡◌, ℕ, ◌+◌, ◌-◌, ◌%◌, ◌^◌, ◌<◌, ◌≤◌, suc, zero, List, [], ◌∷◌, ◌++◌, length, min, take, drop, get_or, slice_range, sum_by, refl, sym, ap, ◌∙◌, arith, take_all}
 use Rattle.std.specs.List.{concat}
 use Rattle.std.proofs.lemmas.List.{drop-append-le, drop-drop, drop_all, get_or_append_left, get_or-drop, length-append, length-drop, take-append-le}
@@ -40,27 +41,12 @@ byte-at rs i k l within =
 -- its hash
 pub hash-there : (rs : List (List ℕ)) (i : ℕ) → i < length rs → 13 ≤ length (get_or rs i [])
     → hash_at (concat rs) (position rs i) ≡ hash_at (get_or rs i []) 0
-hash-there rs i l long =
-    let b = λ (k : ℕ) (low : k < 13). byte-at rs i k l (omega (arith, low, long)) in
-    let first : get_or (concat rs) (position rs i) 0 ≡ get_or (get_or rs i []) 0 0 =
-    ap (λ n. get_or (concat rs) n 0) (omega arith) ∙ b 0 (omega arith) in
-    rw (
-      first,
-      b 1 (omega arith),
-      b 2 (omega arith),
-      b 3 (omega arith),
-      b 4 (omega arith),
-      b 5 (omega arith),
-      b 6 (omega arith),
-      b 7 (omega arith),
-    ) refl
+hash-there rs i l long = grind (arith, common_steps, byte-at)
 
 -- its number
 pub number-there : (rs : List (List ℕ)) (i : ℕ) → i < length rs → 13 ≤ length (get_or rs i [])
     → number_at (concat rs) (position rs i) ≡ number_at (get_or rs i []) 0
-number-there rs i l long =
-    let b = λ (k : ℕ) (low : k < 13). byte-at rs i k l (omega (arith, low, long)) in
-    rw (b 8 (omega arith), b 9 (omega arith), b 10 (omega arith), b 11 (omega arith)) refl
+number-there rs i l long = grind (arith, common_steps, byte-at)
 
 -- and its string
 pub string-there : (rs : List (List ℕ)) (i start n : ℕ) → i < length rs → start ≡ position rs i + 13

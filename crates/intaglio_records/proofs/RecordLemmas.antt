@@ -1,4 +1,5 @@
 -- Lists of records.
+use Rattle.std.proofs.lemmas.Grind.{common_steps}
 use Rattle.std.proofs.Common.{◌≡◌, ℕ, ◌+◌, ◌-◌, ◌*◌, ◌%◌, ◌^◌, ◌<◌, ◌≤◌, suc, zero, List, [], ◌∷◌, ◌++◌, length, take, drop, map, get_or, slice_get, Some, option_map, min, sum_by, refl, sym, ap, ◌∙◌, subst, arith, inl, inr}
 use Rattle.std.specs.Prelude.{OnOk, OnErr, Result, Ok, Err, ◌⊎◌}
 use Rattle.std.proofs.lemmas.Bool.{cases_lt}
@@ -79,11 +80,7 @@ made-hash hash number n string small = from_le_bytes-to_le_bytes_8 hash small
 -- a header in front of its string makes a record
 pub record-made : (hash number : ℕ) (string : List ℕ)
     → IsRecord number (header_of hash (number % 2 ^ 32) (length string) ++ string)
-record-made hash number string = record {
-  long = omega arith;
-  number_is = from_le_bytes-to_le_bytes_4 (number % 2 ^ 32) (omega arith);
-  length_is = ap (λ n. min n 255) (omega arith);
-}
+record-made hash number string = grind (arith, common_steps)
 
 -- one more record behind the others
 pub records-push : (rs : List (List ℕ)) (r : List ℕ) → AreRecords rs → IsRecord (length rs) r
@@ -98,10 +95,7 @@ records-push rs r h is i l = elim (cases_lt i (length rs)) [
 
 -- the first n records
 pub records-take : (n : ℕ) (rs : List (List ℕ)) → AreRecords rs → AreRecords (take n rs)
-records-take n rs h i l =
-    let few = length-take n rs in
-    let low : i < n = omega (arith, l, few) in
-    subst (λ x. IsRecord i x) (sym (get_or-take n rs i [] low)) (h i (omega (arith, l, few)))
+records-take n rs h i l = grind (arith, common_steps)
 
 -- the string of a record that is there
 pub get-string : (rs : List (List ℕ)) (i : ℕ) (r : List ℕ) → slice_get rs i ≡ Some r

@@ -1,4 +1,5 @@
 -- The newest entry less.
+use Rattle.std.proofs.lemmas.Grind.{common_steps}
 use Rattle.std.proofs.Common.{◌≡◌, ◌≢◌, ℕ, suc, ◌+◌, ◌%◌, ◌<◌, ◌≤◌, ◌==◌, List, [], ◌∷◌, length, get_or, set, take, refl, sym, subst, ap, ◌∙◌, arith, inl, inr, mod-lt}
 use Rattle.std.proofs.lemmas.Bool.{cases_eq, cases_lt, cond-true, cond-false, eq-eqb, ne_eqb}
 use Rattle.std.proofs.lemmas.Bool.Decides.{eqb_tells}
@@ -89,28 +90,13 @@ pub data IsIn (base : ℕ) (e : Entry) (es : List Entry) : Type 0 where
 
 -- if there is a first line, an entry goes to that of its class, to its newest overflow line, or to a new one
 pub is-in : (base : ℕ) (e : Entry) (es : List Entry) → 0 < base → IsIn base e es
-is-in base e es some =
-    let c = e.0 % base in let os = overflow base es in
-    elim (is-top base c es some) [
-      | inl h ↦ elim (cases_lt (length (first_line base c es)) 11) [
-        | inl lt ↦ in_first lt (ap (newest base c) (overflow-same base e es lt) ∙ h.0)
-        | inr full ↦ in_new full (omega (arith, length-none base c os some h.0))
-      ]
-      | inr h ↦ elim (cases_lt (newest_length c os) 11) [
-        | inl lt ↦ in_newest (omega (arith, h.1)) lt h.0
-        | inr none ↦ in_new (omega (arith, h.1)) none
-      ]
-    ]
+is-in base e es some = grind (arith, common_steps, is-top, cases_lt, overflow-same, length-none)
 
 -- a new overflow line that an entry makes is then the newest of its class, and behind all lines
 pub newest-new : (base : ℕ) (e : Entry) (es : List Entry) → 11 ≤ length (first_line base (e.0 % base) es) →
     11 ≤ newest_length (e.0 % base) (overflow base es) →
     newest base (e.0 % base) (overflow base (e ∷ es)) ≡ base + length (overflow base es)
-newest-new base e es full none =
-    let c = e.0 % base in
-    ap (newest base c) (overflow-new base e es full none)
-    ∙ cond-true (c == c) (base + length (overflow base es)) (newest base c (overflow base es))
-    (eq-eqb c c refl)
+newest-new base e es full none = grind (arith, common_steps)
 
 -- an entry that fits the newest overflow line of its class, but not the first line, leaves that the newest
 pub newest-more : (base : ℕ) (e : Entry) (es : List Entry) → 11 ≤ length (first_line base (e.0 % base) es) →

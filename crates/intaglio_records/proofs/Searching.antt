@@ -1,4 +1,5 @@
 -- What a search gives, and what it has still to give.
+use Rattle.std.proofs.lemmas.Grind.{common_steps}
 use Rattle.std.proofs.Common.{◌≡◌, ◌≢◌, ℕ, zero, suc, ◌+◌, ◌<◌, ◌≤◌, ◌==◌, List, [], ◌∷◌, ◌++◌, length, get_or, cond, refl, sym, subst, ap, ◌∙◌, arith, inl, inr}
 use Rattle.std.specs.Int.{bit_at}
 use Rattle.std.proofs.lemmas.Bool.{cases_eq, cases_lt, cond-true, cond-false, ne_eqb}
@@ -47,11 +48,7 @@ picked-first bits fewer slots p (suc n) lt here below gone others =
 -- a bit that says whether two tags are equal picks a slot exactly if they are
 pick-same : (g t bit : ℕ) (front : List ℕ) (slot : ℕ) → bit ≡ cond (g == t) 1 0 →
     front ++ cond (bit == 1) (slot ∷ []) [] ≡ front ++ cond (g == t) (slot ∷ []) []
-pick-same g t bit front slot is =
-    elim (eqb_tells g t) [
-      | inl h ↦ (let one : bit ≡ 1 = is ∙ cond-true (g == t) 1 0 h.0 in rw (one, h.0) refl)
-      | inr h ↦ (let none : bit ≡ 0 = is ∙ cond-false (g == t) 1 0 h.0 in rw (none, h.0) refl)
-    ]
+pick-same g t bit front slot is = grind (arith, common_steps)
 
 -- the bits of a tag pick the slots of the entries with it
 pub picked-fresh : (bits tag : ℕ) (tags slots : List ℕ) (es : List Entry) → AreIn tags slots es →
@@ -70,17 +67,7 @@ picked-fresh bits tag tags slots (e ∷ es) are is =
 pub bits-within : (line : Line) (es : List Entry) (next bits tag : ℕ) → IsLine line es next → 0 < tag →
     ((i : ℕ) → i < 16 → bit_at bits i ≡ cond (get_or line.tags i 0 == tag) 1 0) →
     ((i : ℕ) → 16 ≤ i → bit_at bits i ≡ 0) → (i : ℕ) → bit_at bits i ≡ 1 → i < length es
-bits-within line es next bits tag is some low high i set =
-    elim (cases_lt i (length es)) [
-      | inl lt ↦ lt
-      | inr le ↦ absurd (elim (cases_lt i 16) [
-        | inl lt ↦
-            (let none : bit_at bits i ≡ 0 = low i lt ∙ ap (λ g. cond (g == tag) 1 0) (is.others i le)
-            ∙ cond-false (0 == tag) 1 0 (ne_eqb 0 tag (λ e. omega (arith, some, e))) in
-            omega (arith, none, set))
-        | inr above ↦ omega (arith, high i above, set)
-      ])
-    ]
+bits-within line es next bits tag is some low high i set = grind (arith, common_steps)
 
 -- the next line of a chain
 pub next-line : (base c tag : ℕ) (lines : List Line) (os : List Overflow) → AreBehind base lines os →

@@ -1,4 +1,5 @@
 -- How many overflow lines there are: every eleventh entry of a class makes one.
+use Rattle.std.proofs.lemmas.Grind.{common_steps}
 use Rattle.std.proofs.Common.{◌≡◌, ◌≢◌, ◌⊎◌, ℕ, zero, suc, ◌+◌, ◌*◌, ◌%◌, ◌<◌, ◌≤◌, ◌==◌, List, [], ◌∷◌, length, cond, refl, sym, subst, ap, ◌∙◌, arith, inl, inr, mod-lt}
 use Rattle.std.proofs.lemmas.Bool.{cases_eq, cases_lt, lt-ltb, le-ltb, cond-true, cond-false, eq-eqb, ne_eqb}
 use Rattle.std.proofs.lemmas.Bool.Decides.{eqb_tells}
@@ -20,16 +21,7 @@ first-here base e es lt =
 -- if the first line of its class is full, an entry changes no first line
 pub first-full : (base : ℕ) (e : Entry) (es : List Entry) → 11 ≤ length (first_line base (e.0 % base) es) →
     (k : ℕ) → first_line base k (e ∷ es) ≡ first_line base k es
-first-full base e es full k =
-    elim (cases_eq k (e.0 % base)) [
-      | inl same ↦
-          subst (λ n. first_line base n (e ∷ es) ≡ first_line base n es) (sym same)
-          (rw (
-            eq-eqb (e.0 % base) (e.0 % base) refl,
-            le-ltb (length (first_line base (e.0 % base) es)) 11 full,
-          ) refl)
-      | inr other ↦ first-other base k e es other
-    ]
+first-full base e es full k = grind (arith, common_steps)
 
 -- if the first line of its class isn't full, an entry changes no overflow line
 pub overflow-same : (base : ℕ) (e : Entry) (es : List Entry) → length (first_line base (e.0 % base) es) < 11 →
@@ -40,19 +32,13 @@ overflow-same base e es lt = rw (lt-ltb (length (first_line base (e.0 % base) es
 pub overflow-add : (base : ℕ) (e : Entry) (es : List Entry) → 11 ≤ length (first_line base (e.0 % base) es) →
     newest_length (e.0 % base) (overflow base es) < 11 →
     overflow base (e ∷ es) ≡ add (e.0 % base) e (overflow base es)
-overflow-add base e es full lt = rw (
-  le-ltb (length (first_line base (e.0 % base) es)) 11 full,
-  lt-ltb (newest_length (e.0 % base) (overflow base es)) 11 lt,
-) refl
+overflow-add base e es full lt = grind (arith, common_steps)
 
 -- an entry that fits neither the first nor the newest overflow line of its class makes a new overflow line
 pub overflow-new : (base : ℕ) (e : Entry) (es : List Entry) → 11 ≤ length (first_line base (e.0 % base) es) →
     11 ≤ newest_length (e.0 % base) (overflow base es) →
     overflow base (e ∷ es) ≡ (e.0 % base, e ∷ []) ∷ overflow base es
-overflow-new base e es full none = rw (
-  le-ltb (length (first_line base (e.0 % base) es)) 11 full,
-  le-ltb (newest_length (e.0 % base) (overflow base es)) 11 none,
-) refl
+overflow-new base e es full none = grind (arith, common_steps)
 
 -- the newest overflow line of a class
 length-other : (k c : ℕ) (e : Entry) (os : List Overflow) → k ≢ c →
@@ -88,30 +74,19 @@ length-none base c (o ∷ os) some none =
 newest-other : (base k : ℕ) (e : Entry) (es : List Entry) → k ≢ e.0 % base →
     newest base k (overflow base (e ∷ es)) ≡ newest base k (overflow base es)
 newest-other base k e es other =
-    let c = e.0 % base in let os = overflow base es in
-    elim (cases_lt (length (first_line base c es)) 11) [
-      | inl lt ↦ ap (newest base k) (overflow-same base e es lt)
-      | inr full ↦ elim (cases_lt (newest_length c os) 11) [
-        | inl lt ↦ ap (newest base k) (overflow-add base e es full lt) ∙ newest-add base k c e os
-        | inr none ↦ ap (newest base k) (overflow-new base e es full none)
-            ∙ cond-false (c == k) (base + length os) (newest base k os)
-            (ne_eqb c k (λ same. other (sym same)))
-      ]
-    ]
+    grind (
+      arith, common_steps, cases_lt, overflow-same, overflow-add, newest-add, overflow-new,
+      cond-false, ne_eqb
+    )
 
 -- one more entry doesn't change how many entries the newest overflow line of another class has
 newest_length-other : (base k : ℕ) (e : Entry) (es : List Entry) → k ≢ e.0 % base →
     newest_length k (overflow base (e ∷ es)) ≡ newest_length k (overflow base es)
 newest_length-other base k e es other =
-    let c = e.0 % base in let os = overflow base es in
-    elim (cases_lt (length (first_line base c es)) 11) [
-      | inl lt ↦ ap (newest_length k) (overflow-same base e es lt)
-      | inr full ↦ elim (cases_lt (newest_length c os) 11) [
-        | inl lt ↦ ap (newest_length k) (overflow-add base e es full lt) ∙ length-other k c e os other
-        | inr none ↦ ap (newest_length k) (overflow-new base e es full none)
-            ∙ cond-false (c == k) 1 (newest_length k os) (ne_eqb c k (λ same. other (sym same)))
-      ]
-    ]
+    grind (
+      arith, common_steps, cases_lt, overflow-same, overflow-add, length-other, overflow-new,
+      cond-false, ne_eqb
+    )
 
 -- how many entries the line has that takes the next entry of a class, or that is full
 abbrev pub top : ℕ → ℕ → List Entry → ℕ
@@ -160,48 +135,16 @@ new-top : (base : ℕ) (e : Entry) (es : List Entry) → 0 < base →
     11 ≤ length (first_line base (e.0 % base) es) → 11 ≤ newest_length (e.0 % base) (overflow base es) →
     top base (e.0 % base) es ≡ 11 →
     length (first_line base (e.0 % base) es) ≡ 11 → IsTop base (e.0 % base) (e ∷ es)
-new-top base e es some full none at whole =
-    let c = e.0 % base in let os = overflow base es in
-    let added = overflow-new base e es full none in
-    let number : newest base c (overflow base (e ∷ es)) ≡ base + length os = ap (newest base c) added
-    ∙ cond-true (c == c) (base + length os) (newest base c os) (eq-eqb c c refl) in
-    inr (
-      omega (arith, some, number),
-      ap length (first-full base e es full c) ∙ whole,
-      ap (newest_length c) added ∙ cond-true (c == c) 1 (newest_length c os) (eq-eqb c c refl)
-          ∙ sym (top-full base e es at),
-    )
+new-top base e es some full none at whole = grind (arith, common_steps)
 
 -- an entry of the class itself
 top-here : (base : ℕ) (e : Entry) (es : List Entry) → 0 < base → IsTop base (e.0 % base) es →
     IsTop base (e.0 % base) (e ∷ es)
 top-here base e es some old =
-    let c = e.0 % base in let os = overflow base es in
-    let few = top-few base c es in
-    elim old [
-      | inl h ↦ elim (cases_lt (length (first_line base c es)) 11) [
-        | inl lt ↦ inl (
-          ap (newest base c) (overflow-same base e es lt) ∙ h.0,
-          ap length (first-here base e es lt) ∙ ap suc h.1
-              ∙ sym (top-more base e es (λ full. omega (arith, full, h.1, lt))),
-        )
-        | inr full ↦
-            (let whole : length (first_line base c es) ≡ 11 = omega (arith, full, few, h.1) in
-            new-top base e es some full (omega (arith, length-none base c os some h.0))
-            (omega (arith, h.1, whole)) whole)
-      ]
-      | inr h ↦ elim (cases_lt (newest_length c os) 11) [
-        | inl lt ↦
-            (let added = overflow-add base e es (omega (arith, h.1)) lt in
-            inr (
-              rw added (rw (newest-add base c c e os) h.0),
-              ap length (first-full base e es (omega (arith, h.1)) c) ∙ h.1,
-              ap (newest_length c) added ∙ length-here base c e os h.0 ∙ ap suc h.2
-                  ∙ sym (top-more base e es (λ full. omega (arith, full, h.2, lt))),
-            ))
-        | inr full ↦ new-top base e es some (omega (arith, h.1)) full (omega (arith, full, few, h.2)) h.1
-      ]
-    ]
+    grind (
+      arith, common_steps, top-few, cases_lt, overflow-same, first-here, top-more, new-top,
+      length-none, overflow-add, newest-add, first-full, length-here
+    )
 
 -- if there is a first line, the top line of a class is its newest overflow line, or its first if it has none
 pub is-top : (base c : ℕ) (es : List Entry) → 0 < base → IsTop base c es

@@ -1,3 +1,4 @@
+use Rattle.std.proofs.lemmas.Grind.{common_steps}
 use Rattle.std.proofs.Common.{◌<◌, ◌∷◌, length, arith, ap, ◌∙◌, sym, subst}
 use Rattle.std.proofs.lemmas.List.Sums.{sum_by-take-le}
 use Rattle.intaglio_records.specs.Chains.{IsFilled}
@@ -9,34 +10,10 @@ pub slot_for-requires-clause-few : goal.slot_for-requires-clause-few
 slot_for-requires-clause-few c = omega (arith, c.loop-i-test.true, c.requires.enough, c.requires.few)
 
 pub slot_for-requires-clause-small : goal.slot_for-requires-clause-small
-slot_for-requires-clause-small c short =
-    omega (
-      arith,
-      c.requires.small short,
-      c.start.ensures,
-      sum_by-take-le length c.args.records.now.list c.loop-i.i,
-    )
+slot_for-requires-clause-small c short = grind (arith, common_steps)
 
 pub place-requires : goal.place-requires
-place-requires c =
-    let es = entries c.args.is_long c.args.records.now.list c.loop-i.i in
-    let few : c.loop-i.i < c.args.places = omega (
-      arith,
-      c.loop-i-test.true,
-      c.requires.enough,
-    ) in
-    record {
-      free = (
-        es,
-        c.loop-i.invariant.filled,
-        omega (
-          arith,
-          length-entries c.args.is_long c.args.records.now.list c.loop-i.i,
-          c.loop-i.invariant.places,
-          few,
-        ),
-      );
-    }
+place-requires c = grind (arith, common_steps, length-entries)
 
 pub loop-i-preserved : goal.loop-i-preserved
 loop-i-preserved c =

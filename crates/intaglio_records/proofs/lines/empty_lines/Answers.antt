@@ -1,3 +1,4 @@
+use Rattle.std.proofs.lemmas.Grind.{common_steps}
 use Rattle.std.proofs.Common.{◌≡◌, [], ◌∷◌, length, ap, ◌∙◌, arith, inl, inr}
 use Rattle.std.proofs.lemmas.Bool.{cases_lt}
 use Rattle.std.proofs.lemmas.List.{length-append, get_or_append_left}
@@ -26,11 +27,4 @@ loop-i-preserved c =
     }
 
 pub push_reserved-requires : goal.push_reserved-requires
-push_reserved-requires c = omega (
-  arith,
-  c.loop-i.lines.ok.0,
-  c.loop-i.invariant.lines.size,
-  c.loop-i.invariant.room,
-  c.loop-i-test.true,
-  c.requires,
-)
+push_reserved-requires c = grind (arith, common_steps)

@@ -1,3 +1,4 @@
+use Rattle.std.proofs.lemmas.Grind.{common_steps}
 use Rattle.std.proofs.Common.{◌≡◌, ◌+◌, [], length, drop, slice_range, get_or, arith, ap, ◌∙◌}
 use Rattle.intaglio_records.proofs.Reading.{there, string-there}
 use Rattle.intaglio_records.proofs.matches.string_at.Goals as goal
@@ -39,19 +40,7 @@ long_string-requires-clause-there c =
     omega (arith, t, c.bytes-bytes.type_inv, t.number, c.read_number.ensures, c.requires.begins.1)
 
 pub returns-then-length-eq-LONG : goal.returns-then-length-eq-LONG
-returns-then-length-eq-LONG c i l e =
-    let rs = c.args.records.now.list in
-    let t = there rs c.bytes-bytes.result.now c.args.at i c.bytes-bytes.ensures c.requires.each
-    c.requires.few l e in
-    let number : c.read_number.result ≡ i = c.read_number.ensures ∙ t.number in
-    c.long_string.ensures ∙ ap (λ k. drop 13 (get_or rs k [])) number
+returns-then-length-eq-LONG c i l e = grind (arith, common_steps, there)
 
 pub returns : goal.returns
-returns c i l e =
-    let rs = c.args.records.now.list in
-    let bytes = c.bytes-bytes.result.now in
-    let t = there rs bytes c.args.at i c.bytes-bytes.ensures c.requires.each c.requires.few l e in
-    let n = get_or bytes (c.args.at + 12) 0 in
-    let size : n + 13 ≡ length (get_or rs i []) = omega (arith, t, c.if-length-eq-LONG.false) in
-    c.part.ensures ∙ ap (λ bs. slice_range bs (c.args.at + 13) (c.args.at + 13 + n)) c.bytes-bytes.ensures
-    ∙ string-there rs i (c.args.at + 13) n l (omega (arith, e)) size
+returns c i l e = grind (arith, common_steps, there, slice_range, string-there)

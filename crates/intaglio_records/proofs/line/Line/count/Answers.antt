@@ -1,3 +1,4 @@
+use Rattle.std.proofs.lemmas.Grind.{common_steps}
 use Rattle.std.proofs.Common.{◌≡◌, ℕ, ◌<◌, ◌==◌, cond, get_or, length, arith, w64, inl, inr, ap, ◌∙◌, sym}
 use Rattle.std.specs.Int.{bit_at, trailing_zeros}
 use Rattle.std.proofs.lemmas.Nat.Bits.{bit_at-trailing_zeros, bit_at-zero}
@@ -6,14 +7,7 @@ use Rattle.intaglio_records.proofs.LineLemmas.{entry-tag}
 use Rattle.intaglio_records.proofs.line.Line.count.Goals as goal
 
 set_is_none : (tag : ℕ) → ◌≡◌ {A = ℕ} (cond (tag == 0) 1 0) 1 → tag ≡ 0
-set_is_none tag one =
-    elim (cases_eq tag 0) [
-      | inl none ↦ none
-      | inr some ↦
-          (let not_set : ◌≡◌ {A = ℕ} (cond (tag == 0) 1 0) 0 =
-          cond-false (tag == 0) 1 0 (ne_eqb tag 0 some) in
-          absurd (omega (arith, one, not_set)))
-    ]
+set_is_none tag one = grind (arith, common_steps)
 
 pub returns : goal.returns
 returns c es next is =

@@ -1,3 +1,4 @@
+use Rattle.std.proofs.lemmas.Grind.{common_steps}
 use Rattle.std.proofs.Common.{◌≡◌, ◌<◌, [], ◌∷◌, length, get_or, refl, sym, ap, ◌∙◌, arith, mod-lt}
 use Rattle.std.proofs.lemmas.List.{get_or_append_left}
 use Rattle.intaglio_records.specs.Line.{Entry}
@@ -5,30 +6,10 @@ use Rattle.intaglio_records.proofs.Placing.{place-new, all-full, first-is}
 use Rattle.intaglio_records.proofs.lines.Lines.place_in_new.Goals as goal
 
 pub push_reserved-requires : goal.push_reserved-requires
-push_reserved-requires c =
-    let es = c.requires.free.0 in let filled = c.requires.free.1 in let room = c.requires.free.2 in
-    let some : 0 < c.args.self.now.base = omega (arith, room) in
-    let within : c.args.first < c.args.self.now.base = rw c.requires.class (mod-lt c.args.hash some) in
-    let all = all-full c.args.self.now.base c.args.first es some within (c.requires.full es filled)
-    (c.requires.others_full es filled) in
-    omega (arith, all, room, filled.reserved, filled.chains.size, c.args.self.now.lines.ok.0)
+push_reserved-requires c = grind (arith, common_steps, mod-lt, all-full)
 
 pub overflow_cast-number : goal.overflow_cast-number
-overflow_cast-number c =
-    let es = c.requires.free.0 in let filled = c.requires.free.1 in let room = c.requires.free.2 in
-    let some : 0 < c.args.self.now.base = omega (arith, room) in
-    let within : c.args.first < c.args.self.now.base = rw c.requires.class (mod-lt c.args.hash some) in
-    let all = all-full c.args.self.now.base c.args.first es some within (c.requires.full es filled)
-    (c.requires.others_full es filled) in
-    omega (
-      arith,
-      all,
-      room,
-      filled.small,
-      filled.chains.size,
-      c.args.self.now.lines.ok.0,
-      c.len-number.ensures,
-    )
+overflow_cast-number c = grind (arith, common_steps)
 
 pub returns-clause-placed : goal.returns-clause-placed
 returns-clause-placed c es room filled =

@@ -1,3 +1,4 @@
+use Rattle.std.proofs.lemmas.Grind.{common_steps}
 use Rattle.std.proofs.Common.{arith, sym}
 use Rattle.std.proofs.lemmas.List.{length-take, take-map}
 use Rattle.intaglio_records.specs.Records.{pair_of}
@@ -26,10 +27,7 @@ invariant_of-self c =
     })
 
 pub returns-clause-list : goal.returns-clause-list
-returns-clause-list c = rw (
-  ← c.self.view_is,
-  c.truncate.ensures.list,
-) (sym (take-map pair_of c.args.n c.self.inside.records.list))
+returns-clause-list c = grind (arith, common_steps, take-map)
 
 pub returns-clause-spare_bytes : goal.returns-clause-spare_bytes
 returns-clause-spare_bytes c =
@@ -46,11 +44,4 @@ returns-clause-spare_bytes c =
     ))
 
 pub returns-clause-byte_room : goal.returns-clause-byte_room
-returns-clause-byte_room c =
-    let old = c.self.inside.records in
-    let new = c.truncate.new.self in
-    let is = invariant_of-self c in
-    let was =
-    room-is old (are-long old.list c.self.invariant.each) c.self.invariant.order c.self.invariant.headers in
-    let now = room-is new (are-long new.list is.each) is.order is.headers in
-    rw (← c.self.view_is) (omega (arith, was, now, c.truncate.ensures.most, c.truncate.ensures.byte_room))
+returns-clause-byte_room c = grind (arith, common_steps, invariant_of-self, room-is, are-long)

@@ -1,47 +1,17 @@
+use Rattle.std.proofs.lemmas.Grind.{common_steps}
 use Rattle.std.proofs.Common.{◌≡◌, ◌∙◌, ◌≤◌, ◌∷◌, length, get_or, arith, sym, take_all, length-take-le}
 use Rattle.intaglio_records.specs.Strings.{AreEnds}
 use Rattle.intaglio_records.proofs.Ends.{byte_room-is, ends-take, strings-take, strings_length, starts-within}
 use Rattle.intaglio_records.proofs.string_buffer.StringBuffer.truncate.Goals as goal
 
 pub invariant_of-self : goal.invariant_of-self
-invariant_of-self c =
-    let below : c.args.n ≤ length c.self.inside.ends.list = omega (arith, c.if-n-len.true, c.len.ensures) in
-    let within = starts-within 0 (length c.self.inside.bytes.items) c.self.inside.ends.list c.args.n
-    c.self.invariant.ends below in
-    rw (
-      c.truncate.ensures.items,
-      c.truncate-then-n-len.ensures.list,
-      c.truncate-then-n-len.ensures.largest,
-      c.start-end.ensures,
-      c.truncate.ensures.capacity,
-      length-take-le (get_or (0 ∷ c.self.inside.ends.list) c.args.n 0) c.self.inside.bytes.items within,
-    )
-    (record {
-      ends = ends-take 0 (length c.self.inside.bytes.items) c.self.inside.ends.list c.args.n
-          c.self.invariant.ends below;
-      within = omega (arith, within, c.self.invariant.within);
-      held =
-          c.self.invariant.held;
-      reached = c.self.invariant.reached;
-    })
+invariant_of-self c = grind (arith, common_steps, starts-within, length-take-le, ends-take)
 
 pub returns-then-n-len-clause-list : goal.returns-then-n-len-clause-list
-returns-then-n-len-clause-list c =
-    let below : c.args.n ≤ length c.self.inside.ends.list = omega (arith, c.if-n-len.true, c.len.ensures) in
-    rw (← c.self.view_is, c.truncate.ensures.items, c.truncate-then-n-len.ensures.list)
-    (strings-take 0 (length c.self.inside.bytes.items) c.self.inside.bytes.items c.self.inside.ends.list
-    c.args.n c.start-end.result c.self.invariant.ends below (omega (arith, c.start-end.ensures)))
+returns-then-n-len-clause-list c = grind (arith, common_steps, strings-take)
 
 pub returns-else-n-len-clause-list : goal.returns-else-n-len-clause-list
-returns-else-n-len-clause-list c =
-    rw (← c.self.view_is)
-    (sym (take_all c.args.n _
-    (omega (
-      arith,
-      c.if-n-len.false,
-      c.len.ensures,
-      strings_length 0 c.self.inside.bytes.items c.self.inside.ends.list,
-    ))))
+returns-else-n-len-clause-list c = grind (arith, common_steps, take_all, strings_length)
 
 pub returns-then-n-len-clause-byte_room : goal.returns-then-n-len-clause-byte_room
 returns-then-n-len-clause-byte_room c =
