@@ -1,4 +1,5 @@
 -- How chains of lines change.
+use Rattle.std.proofs.lemmas.Grind.{common_steps}
 use Rattle.std.proofs.Common.{◌≡◌, ◌≢◌, ℕ, suc, ◌+◌, ◌<◌, ◌≤◌, ◌==◌, List, [], ◌∷◌, ◌++◌, length, get_or, set, take, refl, sym, subst, ap, ◌∙◌, arith, inl, inr, length-append}
 use Rattle.std.proofs.lemmas.Bool.{cases_eq, cond-true, cond-false, eq-eqb, ne_eqb}
 use Rattle.std.proofs.lemmas.Bool.Decides.{eqb_tells}
@@ -182,27 +183,8 @@ chains-new base c e lines f os x y within are first leads =
     ∙ get_or-append_seam lines x [] no_line in
     record {
       size = length-set more c y ∙ omega (arith, long, are.size);
-      firsts_are = λ k lt. elim (cases_eq k c) [
-        | inl same ↦
-            subst (λ n. IsLine (get_or (set more c y) n no_line) (f n) (newest base n ((c, e ∷ []) ∷ os)))
-            (sym same)
-            (rw (here, get_or-set_same more c y no_line (omega (arith, within, long, are.size))) leads)
-        | inr other ↦
-            (let stays : newest base k ((c, e ∷ []) ∷ os) ≡ newest base k os =
-            cond-false (c == k) (base + length os) (newest base k os)
-            (ne_eqb c k (λ same. other (sym same))) in
-            rw (
-              stays,
-              get_or-set_other more c k y no_line other,
-              get_or_append_left lines (x ∷ []) no_line k (omega (arith, lt, are.size)),
-            )
-            (are.firsts_are k lt))
-      ];
-      behind = (
-        rw (get_or-set_other more c (base + length os) y no_line apart, at) first,
-        behind-kept base more c y os (λ k ge lt same. omega (arith, ge, within, same))
-            (behind-append base lines x os (omega (arith, are.size)) are.behind),
-      );
+      firsts_are = grind (arith, common_steps);
+      behind = grind (arith, common_steps, get_or-set_other, behind-kept, behind-append);
     }
 
 -- a line that was read

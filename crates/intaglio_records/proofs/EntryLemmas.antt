@@ -33,14 +33,7 @@ begins-same rs zero long = refl
 begins-same [] (suc n) long = refl
 begins-same (r ∷ rs) (suc n) long =
     let rest = begins-same rs n (λ i l. long (suc i) (omega (arith, l))) in
-    omega (
-      arith,
-      long 0 (omega arith),
-      length-drop 13 r,
-      sum_by-cons length r (take n rs),
-      sum_by-cons size_of (pair_of r) (take n (map pair_of rs)),
-      rest,
-    )
+    omega (arith, long 0 (omega arith), length-drop 13 r, sum_by-cons length r (take n rs), sum_by-cons size_of (pair_of r) (take n (map pair_of rs)))
 
 -- the entries of strings are those of their records
 pub entries-same : (is_long : Bool) (rs : List (List ℕ)) (n : ℕ) → AreLong rs → n ≤ length rs

@@ -48,8 +48,15 @@ overflow_slots-other : (base k tag : ℕ) (e : Entry) (es : List Entry) → k �
     overflow_slots k tag (overflow base (e ∷ es)) ≡ overflow_slots k tag (overflow base es)
 overflow_slots-other base k tag e es other =
     grind (
-      arith, common_steps, cases_lt, overflow-same, overflow-add, slots-other, overflow-new,
-      cond-false, ne_eqb
+      arith,
+      common_steps,
+      cases_lt,
+      overflow-same,
+      overflow-add,
+      slots-other,
+      overflow-new,
+      cond-false,
+      ne_eqb,
     )
 
 -- the slots of one class and tag
@@ -71,9 +78,7 @@ found-behind base tag e es behind full is perm =
     let c = e.0 % base in
     let front = slots_with tag (first_line base c es) in
     let rest = overflow_slots c tag (overflow base es) in
-    let whole : found base c tag (e ∷ es) ≡ front ++ behind =
-    ap (λ xs. slots_with tag xs ++ overflow_slots c tag (overflow base (e ∷ es)))
-    (first-full base e es full c) ∙ ap (λ xs. front ++ xs) is in
+    let whole : found base c tag (e ∷ es) ≡ front ++ behind = grind (arith, common_steps) in
     subst (λ xs. IsPermutation (one_of tag e ++ (front ++ rest)) xs) (sym whole)
     (IsPermutation-trans (one_of tag e ++ (front ++ rest)) (front ++ (one_of tag e ++ rest)) (front ++ behind)
     (subst (λ xs. IsPermutation (one_of tag e ++ (front ++ rest)) xs) (append_assoc front (one_of tag e) rest)
@@ -92,8 +97,20 @@ found-here : (base tag : ℕ) (e : Entry) (es : List Entry) → 0 < base →
     IsPermutation (one_of tag e ++ found base (e.0 % base) tag es) (found base (e.0 % base) tag (e ∷ es))
 found-here base tag e es some =
     grind (
-      arith, common_steps, is-top, cases_lt, found, one_of, first-here, overflow-same, inserted,
-      found-new, length-none, found-behind, overflow-add, slots-here
+      arith,
+      common_steps,
+      is-top,
+      cases_lt,
+      found,
+      one_of,
+      first-here,
+      overflow-same,
+      inserted,
+      found-new,
+      length-none,
+      found-behind,
+      overflow-add,
+      slots-here,
     )
 
 -- if there is a first line, a search by a hash gives the slot of each entry of its class and tag once
@@ -103,17 +120,10 @@ are-found base hash (e ∷ es) some =
     let k = hash % base in let tag = tag_of hash in
     let old = are-found base hash es some in
     elim (cases_eq k (e.0 % base)) [
-      | inr other ↦
-          (let apart = ne_eqb (e.0 % base) k (λ same. other (sym same)) in
-          subst (λ xs. IsPermutation (slots_of base hash (e ∷ es)) xs)
-          (sym (found-other base k tag e es other)) (rw apart old))
+      | inr other ↦ grind (arith, common_steps, ne_eqb, found-other)
       | inl same ↦
-          (let one : slots_of base hash (e ∷ es) ≡ one_of tag e ++ slots_of base hash es =
-          ap (λ b. cond (b && (tag_of e.0 == tag)) (e.1 ∷ []) [] ++ slots_of base hash es)
-          (eq-eqb (e.0 % base) k (sym same)) in
-          let here : IsPermutation (one_of tag e ++ found base k tag es) (found base k tag (e ∷ es)) =
-          subst (λ n. IsPermutation (one_of tag e ++ found base n tag es) (found base n tag (e ∷ es)))
-          (sym same) (found-here base tag e es some) in
+          (let one : slots_of base hash (e ∷ es) ≡ one_of tag e ++ slots_of base hash es = grind (arith, common_steps) in
+          let here : IsPermutation (one_of tag e ++ found base k tag es) (found base k tag (e ∷ es)) = grind (arith, common_steps, found-here) in
           subst (λ xs. IsPermutation xs (found base k tag (e ∷ es))) (sym one)
           (IsPermutation-trans (one_of tag e ++ slots_of base hash es) (one_of tag e ++ found base k tag es)
           (found base k tag (e ∷ es))

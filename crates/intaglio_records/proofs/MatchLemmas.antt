@@ -72,9 +72,7 @@ stepped xs hash matches next slot at left begins is gives =
     let begin = begin_of matches.is_long rs in
     let all : All here (slot ∷ slots) = subst (λ ss. All here ss) given.1 is.each_slot in
     let first : here slot = All-head here slot slots all in
-    let now : left ≡ numbers_with hash bytes (at ∷ map begin slots) = is.left_is
-    ∙ ap (λ ss. numbers_with hash bytes (map begin ss)) given.1
-    ∙ ap (λ a. numbers_with hash bytes (a ∷ map begin slots)) (sym begins) in
+    let now : left ≡ numbers_with hash bytes (at ∷ map begin slots) = grind (arith, common_steps) in
     let rest = numbers_with hash bytes (map begin slots) in
     record {
       rest = rest;
@@ -89,12 +87,8 @@ stepped xs hash matches next slot at left begins is gives =
         hash_is = is.hash_is;
         left_is = refl;
       };
-      same = λ e. now
-          ∙ cond-true (hash_at bytes at == hash) (number_at bytes at ∷ rest) rest
-          (eq-eqb (hash_at bytes at) hash e);
-      other = λ n. now
-          ∙ cond-false (hash_at bytes at == hash) (number_at bytes at ∷ rest) rest
-          (ne_eqb (hash_at bytes at) hash n);
+      same = grind (arith, common_steps);
+      other = grind (arith, common_steps);
     }
 
 -- the pair of the record that is found
@@ -180,10 +174,7 @@ count-slots long rs bytes base hash i (suc n) all each few l =
     let at = position rs n in
     let slot = slot_of long n at in
     let t = there rs bytes at n all each few (omega (arith, l)) refl in
-    let value : count_of long rs hash bytes i slot ≡ cond (h == hash) (one_of i n) 0 =
-    ap (count_at hash bytes i) (begin-is long rs n)
-    ∙ ap (λ x. cond (x == hash) (one_of i (number_at bytes at)) 0) t.hash
-    ∙ ap (λ x. cond (h == hash) (one_of i x) 0) t.number in
+    let value : count_of long rs hash bytes i slot ≡ cond (h == hash) (one_of i n) 0 = grind (arith, common_steps) in
     count-entry base hash h slot (one_of i n) (entries long rs n) (count_of long rs hash bytes i) value
     ∙ ap (λ x. cond (h == hash) (one_of i n) 0 + x)
     (count-slots long rs bytes base hash i n all each few (omega (arith, l)))
@@ -205,10 +196,7 @@ all-found long rs base hash slots each few perm i =
     ∙ count-mapped (count_at hash bytes i) (begin_of long rs) slots ∙ moved
     ∙ count-slots long rs bytes base hash i n refl each few (omega arith) in
     counted ∙ elim (cases_lt i n) [
-      | inl low ↦
-          (let same : (get_or xs i (0, [])).0 ≡ hash_at (get_or rs i []) 0 =
-          ap (λ (p : ℕ × List ℕ). p.0) (get_or-map pair_of rs i [] (0, []) low) in
-          rw (length-map rs pair_of, same) refl)
+      | inl low ↦ grind (arith, common_steps)
       | inr high ↦ rw (length-map rs pair_of, le-ltb i n high) refl
     ]
 

@@ -20,9 +20,7 @@ part-at [] i l = absurd (omega (arith, l))
 part-at (r ∷ rs) zero l = refl
 part-at (r ∷ rs) (suc i) l =
     let at : position (r ∷ rs) (suc i) ≡ length r + position rs i = sum_by-cons length r (take i rs) in
-    let front : drop (length r) (r ++ concat rs) ≡ concat rs =
-    drop-append-le (length r) r (concat rs) (omega arith)
-    ∙ ap (λ (xs : List ℕ). xs ++ concat rs) (drop_all (length r) r (omega arith)) in
+    let front : drop (length r) (r ++ concat rs) ≡ concat rs = grind (arith, common_steps) in
     ap (λ n. drop n (r ++ concat rs)) at ∙ sym (drop-drop (position rs i) (length r) (r ++ concat rs))
     ∙ ap (drop (position rs i)) front ∙ part-at rs i (omega (arith, l))
 

@@ -53,14 +53,7 @@ pub strings-bytes : (rs : List (List ℕ)) → AreLong rs
 strings-bytes [] h = refl
 strings-bytes (r ∷ rs) h =
     let rest = strings-bytes rs (λ i l. h (suc i) (omega (arith, l))) in
-    omega (
-      arith,
-      h 0 (omega arith),
-      length-drop 13 r,
-      sum_by-cons length r rs,
-      sum_by-cons length (drop 13 r) (strings_in rs),
-      rest,
-    )
+    omega (arith, h 0 (omega arith), length-drop 13 r, sum_by-cons length r rs, sum_by-cons length (drop 13 r) (strings_in rs))
 
 -- so are those of all strings that there is room for
 pub headers-fit : (b : Strings) → AreLong b.list → length b.list ≤ b.most → set_aside b ≤ b.spare_bytes
@@ -87,10 +80,7 @@ pub records-push : (rs : List (List ℕ)) (r : List ℕ) → AreRecords rs → I
     → AreRecords (rs ++ r ∷ [])
 records-push rs r h is i l = elim (cases_lt i (length rs)) [
   | inl low ↦ subst (λ x. IsRecord i x) (sym (get_or_append_left rs (r ∷ []) [] i low)) (h i low)
-  | inr high ↦
-      (let at : length rs ≡ i = omega (arith, l, high, length-append rs (r ∷ [])) in
-      subst (λ k. IsRecord k (get_or (rs ++ r ∷ []) k [])) at (subst (λ x. IsRecord (length rs) x)
-      (sym (get_or-append_seam rs r [] [])) is))
+  | inr high ↦ grind (arith, common_steps)
 ]
 
 -- the first n records

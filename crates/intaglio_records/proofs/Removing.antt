@@ -51,10 +51,7 @@ length-add : (k c : ℕ) (e : Entry) (os : List Overflow) → 0 < newest_length 
 length-add k c e [] some = some
 length-add k c e (o ∷ os) some =
     elim (eqb_tells o.0 c) [
-      | inl h ↦ elim (eqb_tells o.0 k) [
-        | inl at ↦ rw (h.0, at.0) (omega arith)
-        | inr at ↦ rw (h.0, at.0) (rw at.0 at some)
-      ]
+      | inl h ↦ grind (arith, common_steps)
       | inr h ↦ elim (eqb_tells o.0 k) [
         | inl at ↦ rw (h.0, at.0) (rw at.0 at some)
         | inr at ↦ rw (h.0, at.0) (length-add k c e os (rw at.0 at some))
@@ -69,13 +66,7 @@ length-some base k (e ∷ es) =
     let old = length-some base k es in
     elim (cases_lt (length (first_line base c es)) 11) [
       | inl lt ↦ rw (overflow-same base e es lt) old
-      | inr full ↦ elim (cases_lt (newest_length c os) 11) [
-        | inl lt ↦ rw (overflow-add base e es full lt) (length-add k c e os old)
-        | inr none ↦ rw (overflow-new base e es full none) (elim (eqb_tells c k) [
-          | inl h ↦ rw h.0 (omega arith)
-          | inr h ↦ rw h.0 old
-        ])
-      ]
+      | inr full ↦ grind (arith, common_steps, cases_lt, overflow-add, length-add, overflow-new, eqb_tells)
     ]
 
 -- in which line the newest entry is

@@ -26,18 +26,7 @@ pub picked-first : (bits fewer : ℕ) (slots : List ℕ) (p n : ℕ) → p < n �
 picked-first bits fewer slots p zero lt here below gone others = absurd (omega (arith, lt))
 picked-first bits fewer slots p (suc n) lt here below gone others =
     elim (cases_eq n p) [
-      | inl same ↦
-          (let low : (i : ℕ) → i < n → bit_at bits i ≡ 0 = λ i l. below i (omega (arith, l, same)) in
-          let low' : (i : ℕ) → i < n → bit_at fewer i ≡ 0 =
-          λ i l. others i (omega (arith, l)) (λ e. omega (arith, l, e, same)) ∙ low i l in
-          let here' : bit_at bits n ≡ 1 = subst (λ k. bit_at bits k ≡ 1) (sym same) here in
-          let gone' : bit_at fewer n ≡ 0 = subst (λ k. bit_at fewer k ≡ 0) (sym same) gone in
-          rw (
-            picked-none bits slots n low,
-            picked-none fewer slots n low',
-            here',
-            gone',
-          ) (ap (λ k. get_or slots k 0 ∷ []) same))
+      | inl same ↦ grind (arith, common_steps, picked-none)
       | inr other ↦
           (let rest =
           picked-first bits fewer slots p n (omega (arith, lt, other)) here below gone
@@ -79,17 +68,7 @@ pub next-line : (base c tag : ℕ) (lines : List Line) (os : List Overflow) → 
 next-line base c tag lines [] are some = absurd (omega (arith, some))
 next-line base c tag lines (o ∷ os) are some =
     elim (eqb_tells o.0 c) [
-      | inl h ↦
-          rw h.0 (
-            o.1,
-            os,
-            subst (λ k. IsLine (get_or lines (base + length os) no_line) o.1 (newest base k os))
-                h.1 are.0,
-            are.1,
-            refl,
-            omega arith,
-            refl,
-          )
+      | inl h ↦ grind (arith, common_steps)
       | inr h ↦
           (let rest = next-line base c tag lines os are.1 (rw h.0 at some) in
           rw h.0 (rest.0, rest.1, rest.2, rest.3, rest.4, omega (arith, rest.5), rest.6))
@@ -130,16 +109,7 @@ pub bits-fewer : (bits fewer p n : ℕ) → p < n → bit_at bits p ≡ 1 → bi
     → ((i : ℕ) → i < n → i ≢ p → bit_at fewer i ≡ bit_at bits i) → bits_below fewer n < bits_below bits n
 bits-fewer bits fewer p zero lt here gone others = absurd (omega (arith, lt))
 bits-fewer bits fewer p (suc n) lt here gone others = elim (cases_eq n p) [
-  | inl last ↦
-      (let here' : bit_at bits n ≡ 1 = subst (λ k. bit_at bits k ≡ 1) (sym last) here in
-      let gone' : bit_at fewer n ≡ 0 = subst (λ k. bit_at fewer k ≡ 0) (sym last) gone in
-      omega (
-        arith,
-        here',
-        gone',
-        bits-same bits fewer n
-            (λ i l. others i (omega (arith, l)) (λ at. absurd (omega (arith, l, at, last)))),
-      ))
+  | inl last ↦ grind (arith, common_steps, bits-same)
   | inr other ↦
       (let low : p < n = omega (arith, lt, other) in
       omega (

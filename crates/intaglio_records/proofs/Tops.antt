@@ -75,8 +75,15 @@ newest-other : (base k : ℕ) (e : Entry) (es : List Entry) → k ≢ e.0 % base
     newest base k (overflow base (e ∷ es)) ≡ newest base k (overflow base es)
 newest-other base k e es other =
     grind (
-      arith, common_steps, cases_lt, overflow-same, overflow-add, newest-add, overflow-new,
-      cond-false, ne_eqb
+      arith,
+      common_steps,
+      cases_lt,
+      overflow-same,
+      overflow-add,
+      newest-add,
+      overflow-new,
+      cond-false,
+      ne_eqb,
     )
 
 -- one more entry doesn't change how many entries the newest overflow line of another class has
@@ -84,8 +91,15 @@ newest_length-other : (base k : ℕ) (e : Entry) (es : List Entry) → k ≢ e.0
     newest_length k (overflow base (e ∷ es)) ≡ newest_length k (overflow base es)
 newest_length-other base k e es other =
     grind (
-      arith, common_steps, cases_lt, overflow-same, overflow-add, length-other, overflow-new,
-      cond-false, ne_eqb
+      arith,
+      common_steps,
+      cases_lt,
+      overflow-same,
+      overflow-add,
+      length-other,
+      overflow-new,
+      cond-false,
+      ne_eqb,
     )
 
 -- how many entries the line has that takes the next entry of a class, or that is full
@@ -123,10 +137,7 @@ top-few base c [] = omega arith
 top-few base c (e ∷ es) =
     let few = top-few base c es in
     elim (eqb_tells (e.0 % base) c) [
-      | inl h ↦ rw h.0 (elim (eqb_tells (top base c es) 11) [
-        | inl full ↦ rw full.0 (omega arith)
-        | inr room ↦ rw room.0 (omega (arith, few, room.1))
-      ])
+      | inl h ↦ grind (arith, common_steps)
       | inr h ↦ rw h.0 few
     ]
 
@@ -142,8 +153,19 @@ top-here : (base : ℕ) (e : Entry) (es : List Entry) → 0 < base → IsTop bas
     IsTop base (e.0 % base) (e ∷ es)
 top-here base e es some old =
     grind (
-      arith, common_steps, top-few, cases_lt, overflow-same, first-here, top-more, new-top,
-      length-none, overflow-add, newest-add, first-full, length-here
+      arith,
+      common_steps,
+      top-few,
+      cases_lt,
+      overflow-same,
+      first-here,
+      top-more,
+      new-top,
+      length-none,
+      overflow-add,
+      newest-add,
+      first-full,
+      length-here,
     )
 
 -- if there is a first line, the top line of a class is its newest overflow line, or its first if it has none
@@ -152,21 +174,8 @@ is-top base c [] some = inl (refl, refl)
 is-top base c (e ∷ es) some =
     let old = is-top base c es some in
     elim (cases_eq c (e.0 % base)) [
-      | inl same ↦
-          subst (λ n. IsTop base n (e ∷ es)) (sym same)
-          (top-here base e es some (subst (λ n. IsTop base n es) same old))
-      | inr other ↦ elim old [
-        | inl h ↦ inl (
-          newest-other base c e es other ∙ h.0,
-          ap length (first-other base c e es other) ∙ h.1
-              ∙ sym (top-other base c e es other),
-        )
-        | inr h ↦ inr (
-          rw (newest-other base c e es other) h.0,
-          ap length (first-other base c e es other) ∙ h.1,
-          newest_length-other base c e es other ∙ h.2 ∙ sym (top-other base c e es other),
-        )
-      ]
+      | inl same ↦ grind (arith, common_steps, top-here)
+      | inr other ↦ grind (arith, common_steps, newest-other, first-other, top-other, newest_length-other)
     ]
 
 -- the sum of f below n
@@ -186,9 +195,7 @@ total-change : (f g : ℕ → ℕ) (c n : ℕ) → ((k : ℕ) → k ≢ c → f 
 total-change f g c zero same lt = omega (arith, lt)
 total-change f g c (suc n) same lt =
     elim (cases_eq n c) [
-      | inl at ↦
-          (let rest = total-same f g n (λ k below. same k (λ e. omega (arith, below, at, e))) in
-          let p : f n ≡ f c = ap f at in let q : g n ≡ g c = ap g at in omega (arith, rest, p, q))
+      | inl at ↦ grind (arith, common_steps, total-same)
       | inr other ↦ omega (arith, same n other, total-change f g c n same (omega (arith, lt, other)))
     ]
 
@@ -213,39 +220,8 @@ grown : (base : ℕ) (e : Entry) (es : List Entry) → 0 < base →
 grown base e es some =
     let c = e.0 % base in let os = overflow base es in
     elim (is-top base c es some) [
-      | inl h ↦ elim (cases_lt (length (first_line base c es)) 11) [
-        | inl lt ↦
-            omega (
-              arith,
-              ap length (overflow-same base e es lt),
-              top-more base e es (λ full. omega (arith, full, h.1, lt)),
-            )
-        | inr full ↦
-            omega (
-              arith,
-              ap length (overflow-new base e es full (omega (arith, length-none base c os some h.0))),
-              top-full base e es (omega (arith, full, h.1, top-few base c es)),
-              h.1,
-              full,
-              top-few base c es,
-            )
-      ]
-      | inr h ↦ elim (cases_lt (newest_length c os) 11) [
-        | inl lt ↦ omega (
-          arith,
-          ap length (overflow-add base e es (omega (arith, h.1)) lt),
-          add-length c e os,
-          top-more base e es (λ full. omega (arith, full, h.2, lt)),
-        )
-        | inr full ↦ omega (
-          arith,
-          ap length (overflow-new base e es (omega (arith, h.1)) full),
-          top-full base e es (omega (arith, full, h.2, top-few base c es)),
-          h.2,
-          full,
-          top-few base c es,
-        )
-      ]
+      | inl h ↦ grind (arith, common_steps, cases_lt, overflow-same, top-more, overflow-new, length-none, top-full, top-few)
+      | inr h ↦ grind (arith, common_steps, cases_lt, overflow-add, add-length, top-more, overflow-new, top-full, top-few)
     ]
 
 -- the lines that aren't full, and eleven for each overflow line

@@ -23,13 +23,7 @@ loop-i-preserved c =
     let within : i < length rs = omega (arith, c.loop-i-test.true) in
     let hash = c.read_hash-hash.result in
     let more = entry-more long rs i hash c.string.result.now c.string.ensures c.read_hash-hash.ensures in
-    let placed = c.place.ensures.placed (entries long rs i) (omega (
-      arith,
-      length-entries long rs i,
-      c.loop-i.invariant.places,
-      c.requires.enough,
-      within,
-    )) c.loop-i.invariant.filled in
+    let placed = c.place.ensures.placed (entries long rs i) (omega (arith, length-entries long rs i)) c.loop-i.invariant.filled in
     let slot = c.slot_for.ensures ∙ ap (slot_of long i) c.start.ensures in
     record {
       filled = subst (λ es. IsFilled c.place.new.self es) (ap (λ s. (hash, s) ∷ entries long rs i) slot

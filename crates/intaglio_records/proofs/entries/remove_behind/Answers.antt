@@ -39,9 +39,4 @@ pub returns-clause-kept : goal.returns-clause-kept
 returns-clause-kept c =
     let long = c.args.is_long in
     let rs = c.args.records.now.list in
-    subst (λ n. IsFilled c.loop-count.lines (entries long rs n)) (omega (
-      arith,
-      c.loop-count.invariant.above,
-      c.loop-count.invariant.within,
-      c.loop-count-test.false,
-    )) c.loop-count.invariant.filled
+    subst (λ n. IsFilled c.loop-count.lines (entries long rs n)) (omega arith) c.loop-count.invariant.filled

@@ -18,9 +18,7 @@ loop-i-preserved c =
         each = λ i lt. elim (cases_lt i c.loop-i._i) [
           | inl low ↦ rw (items, get_or_append_left old (x ∷ []) no_line i (omega (arith, low, was.size)))
               (was.each i low)
-          | inr high ↦
-              (let at : i ≡ length old = omega (arith, lt, high, was.size) in
-              rw (items, at, get_or-append_seam old x [] no_line) c.empty.ensures)
+          | inr high ↦ grind (arith, common_steps)
         ];
       };
       room = omega (arith, c.push_reserved.ensures.capacity, c.loop-i.invariant.room);

@@ -14,6 +14,13 @@ place-requires c = grind (arith, common_steps, length-entries_of)
 pub returns-clause-over : goal.returns-clause-over
 returns-clause-over c string =
     grind (
-      arith, common_steps, sum_by, sizes-all, are-long, length-entries_of, length-map,
-      entries-push, length-append
+      arith,
+      common_steps,
+      sum_by,
+      sizes-all,
+      are-long,
+      length-entries_of,
+      length-map,
+      entries-push,
+      length-append,
     )

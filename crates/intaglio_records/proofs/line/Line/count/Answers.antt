@@ -17,22 +17,10 @@ returns c es next is =
     let tags = c.args.self.now.tags in
     let here : bit_at m at ≡ 1 =
     bits at (omega (arith, is.few)) ∙ ap (λ tag. cond (tag == 0) 1 0) (is.others at (omega arith)) in
-    let some : 0 < m = elim (cases_order m 0) [
-      | inl none ↦ absurd (omega (arith, sym (bit_at-zero at) ∙ ap (λ n. bit_at n at) (sym none) ∙ here))
-      | inr (inl below) ↦ omega arith
-      | inr (inr above) ↦ above
-    ] in
+    let some : 0 < m = grind (arith, common_steps) in
     let lowest = bit_at-trailing_zeros w64 m some (omega arith) in
     elim (cases_order (trailing_zeros w64 m) at) [
       | inl same ↦ same
-      | inr (inl below) ↦
-          (let none : get_or tags (trailing_zeros w64 m) 0 ≡ 0 =
-          set_is_none (get_or tags (trailing_zeros w64 m) 0)
-          (sym (bits (trailing_zeros w64 m) (omega (arith, is.few, below))) ∙ lowest.1) in
-          absurd (omega (
-            arith,
-            none,
-            entry-tag tags c.args.self.now.slots es (trailing_zeros w64 m) is.entries below,
-          )))
+      | inr (inl below) ↦ grind (arith, common_steps, w64, set_is_none, entry-tag)
       | inr (inr above) ↦ absurd (omega (arith, sym here ∙ lowest.2 at above))
     ]

@@ -1,3 +1,4 @@
+use Rattle.std.proofs.lemmas.Grind.{common_steps}
 use Rattle.std.proofs.Common.{◌≡◌, ◌<◌, ◌++◌, length, get_or, refl, sym, subst, ap, ◌∙◌, arith, mod-lt}
 use Rattle.std.proofs.lemmas.List.{get_or_default}
 use Rattle.intaglio_records.specs.Chains.{first_line, overflow, newest, no_line, AreBehind}
@@ -24,9 +25,7 @@ returns-clause-left c es filled =
     let all : c.deref-2.result.now ≡ lines.lines.items = c.deref-2.ensures.value in
     let tagged : 0 < tag = rw c.tag_of-tag.ensures (tag-some c.args.hash) in
     let b = c.equal.ensures in
-    let there : x ≡ get_or c.deref-2.result.now first no_line = c.index-line.ensures
-    ∙ get_or_default lines.lines.items first x no_line inside
-    ∙ ap (λ ls. get_or ls first no_line) (sym all) in
+    let there : x ≡ get_or c.deref-2.result.now first no_line = grind (arith, common_steps) in
     let fresh =
     picked-fresh c.equal.result tag x.tags x.slots F read.entries
     (λ i lt. b.bits i (omega (arith, lt, read.few))) in
@@ -46,9 +45,7 @@ returns-clause-left c es filled =
       size = λ more. rw all (omega (arith, filled.chains.size));
       next = c.next.ensures F (newest base first os) read;
       lines = subst (λ ls. AreBehind base ls os) (sym all) filled.chains.behind;
-      left_is = named
-          ∙ ap (λ front. front ++ overflow_slots first tag os) (sym fresh
-          ∙ ap (λ l. picked c.equal.result l.slots (length F)) there);
+      left_is = grind (arith, common_steps);
     }
 
 pub returns-clause-found : goal.returns-clause-found

@@ -1,3 +1,4 @@
+use Rattle.std.proofs.lemmas.Grind.{common_steps}
 use Rattle.std.proofs.Common.{◌≡◌, ℕ, ◌%◌, ◌<◌, List, ◌∷◌, length, get_or, set, sym, subst, ap, ◌∙◌, arith, mod-lt}
 use Rattle.intaglio_records.specs.Chains.{first_line, newest_length, overflow, newest, no_line, AreChains}
 use Rattle.intaglio_records.specs.Line.{Entry, IsLine}
@@ -56,12 +57,7 @@ returns-then-count-lt-SLOTS-clause-placed c es room filled =
     let inside : c.next-newest.result < length items =
     omega (arith, at, newest-in lines es filled c.args.first within) in
     let lt : newest_length (c.args.hash % base) os < 11 =
-    rw (sym class) (omega (
-      arith,
-      found.3,
-      c.count-count.ensures found.0 found.1 found.2,
-      c.if-count-lt-SLOTS.true,
-    )) in
+    rw (sym class) (omega (arith, c.count-count.ensures found.0 found.1 found.2)) in
     let put : (xs : List Entry) (next : ℕ) →
     IsLine (get_or items (newest base (c.args.hash % base) os) no_line) xs next →
     IsLine c.put.new.self (e ∷ xs) next = λ xs next is.
@@ -75,9 +71,7 @@ returns-then-count-lt-SLOTS-clause-placed c es room filled =
     place-add base e es items some filled.chains c.put.new.self (rw (sym class) (c.requires.full es filled))
     lt there put in
     record {
-      chains =
-          subst (λ i. AreChains base (set items i c.put.new.self) (λ k. first_line base k (e ∷ es))
-          (overflow base (e ∷ es))) (sym at') whole;
+      chains = grind (arith, common_steps);
       power = filled.power;
       few = omega (arith, room);
       reserved = filled.reserved;
@@ -97,12 +91,7 @@ place_in_new-requires-clause-others_full c es filled =
           (let found = other-is lines es filled c.args.first within w.index-then-newest-ne0.result.now
           c.next-newest.result at w.if-newest-ne0.true w.index-then-newest-ne0.ensures in
           omega (arith, found.3, w.count-count.ensures found.0 found.1 found.2, w.if-count-lt-SLOTS.false))
-      | else-newest-ne0 w ↦
-          omega (
-            arith,
-            length-none lines.base c.args.first (overflow lines.base es) some
-                (sym at ∙ w.if-newest-ne0.false),
-          )
+      | else-newest-ne0 w ↦ grind (arith, common_steps, length-none)
     ]
 
 pub place_in_new-requires-clause-newest : goal.place_in_new-requires-clause-newest

@@ -1,3 +1,4 @@
+use Rattle.std.proofs.lemmas.Grind.{common_steps}
 use Rattle.std.proofs.Common.{◌≡◌, ℕ, ◌+◌, ◌%◌, ◌<◌, List, [], ◌∷◌, length, get_or, set, take, sym, subst, ap, ◌∙◌, arith, mod-lt}
 use Rattle.intaglio_records.specs.Line.{Entry, IsLine}
 use Rattle.intaglio_records.specs.Chains.{first_line, newest_length, overflow, newest, no_line, AreChains}
@@ -13,12 +14,7 @@ index-requires c =
     let filled = c.requires.there.2 in
     let within : c.args.first < lines.base =
     rw c.requires.class (mod-lt c.args.hash (omega (arith, filled.few))) in
-    omega (
-      arith,
-      c.requires.newest all filled,
-      newest-in lines all filled c.args.first within,
-      lines.lines.ok.0,
-    )
+    omega (arith, c.requires.newest all filled, newest-in lines all filled c.args.first within)
 
 pub count-count-requires : goal.count-count-requires
 count-count-requires c =
@@ -36,12 +32,7 @@ index_mut-requires c =
     let filled = c.requires.there.2 in
     let within : c.args.first < lines.base =
     rw c.requires.class (mod-lt c.args.hash (omega (arith, filled.few))) in
-    omega (
-      arith,
-      c.requires.newest all filled,
-      newest-in lines all filled c.args.first within,
-      lines.lines.ok.0,
-    )
+    omega (arith, c.requires.newest all filled, newest-in lines all filled c.args.first within)
 
 pub index-requires-2 : goal.index-requires-2
 index-requires-2 c =
@@ -49,12 +40,7 @@ index-requires-2 c =
     let filled = c.requires.there.2 in
     let within : c.args.first < lines.base =
     rw c.requires.class (mod-lt c.args.hash (omega (arith, filled.few))) in
-    omega (
-      arith,
-      c.requires.newest all filled,
-      newest-in lines all filled c.args.first within,
-      lines.lines.ok.0,
-    )
+    omega (arith, c.requires.newest all filled, newest-in lines all filled c.args.first within)
 
 pub remove-requires : goal.remove-requires
 remove-requires c =
@@ -143,9 +129,7 @@ returns-clause-removed c slot es filled =
           other-is lines (e ∷ es) filled first within c.index.result.now c.args.newest
           (c.requires.newest (e ∷ es) filled) c.requires.some c.index.ensures in
           let count = c.count-count.ensures found.0 found.1 found.2 in
-          let long : newest_length k (overflow base (e ∷ es)) ≡ newest_length k (overflow base es) + 1 =
-          ap (newest_length k) (overflow-add base e es full lt)
-          ∙ omega (arith, length-here base k e (overflow base es) there) in
+          let long : newest_length k (overflow base (e ∷ es)) ≡ newest_length k (overflow base es) + 1 = grind (arith, common_steps, overflow-add, length-here) in
           let same : newest_length first (overflow base (e ∷ es)) ≡ newest_length k (overflow base (e ∷ es)) =
           ap (λ i. newest_length i (overflow base (e ∷ es))) class in
           absurd (omega (arith, count, found.3, same, long, length-some base k es, c.if-count-gt1.false)))
@@ -165,9 +149,7 @@ returns-clause-removed c slot es filled =
           first-is lines (e ∷ es) filled first within c.index_mut-2.result.now
           c.index_mut-2.ensures.value in
           let leads = c.set_next.ensures _ _ again in
-          let kept : IsLine y (first_line base first es) next =
-          subst (λ f. IsLine y f next) (first-full base e es full first)
-          (subst (λ n. IsLine y (first_line base first (e ∷ es)) n) older leads) in
+          let kept : IsLine y (first_line base first es) next = grind (arith, common_steps) in
           let whole =
           remove-new base e es items some filled.chains y full none
           (subst (λ i. IsLine y (first_line base i es) next) class kept) in

@@ -1,3 +1,4 @@
+use Rattle.std.proofs.lemmas.Grind.{common_steps}
 use Rattle.std.proofs.Common.{◌≡◌, ◌%◌, ◌<◌, ◌∷◌, length, set, sym, subst, ap, ◌∙◌, arith, mod-lt}
 use Rattle.intaglio_records.specs.Line.{Entry, IsLine}
 use Rattle.intaglio_records.specs.Chains.{first_line, overflow, newest, AreChains}
@@ -25,9 +26,7 @@ returns-clause-removed c slot es filled =
     elim (is-in base e es some) [
       | in_first lt none ↦
           (let N = newest base first (overflow base (e ∷ es)) in
-          let was : first_line base first (e ∷ es) ≡ e ∷ first_line base first es =
-          subst (λ i. first_line base i (e ∷ es) ≡ e ∷ first_line base i es) (sym at)
-          (first-here base e es lt) in
+          let was : first_line base first (e ∷ es) ≡ e ∷ first_line base first es = grind (arith, common_steps) in
           let count =
           c.count-count.ensures _ _
           (first-is lines (e ∷ es) filled first within c.index-2.result.now c.index-2.ensures) in

@@ -1,3 +1,4 @@
+use Rattle.std.proofs.lemmas.Grind.{common_steps}
 use Rattle.std.proofs.Common.{◌≡◌, ℕ, [], ◌∷◌, get_or, map, arith, ap, ◌∙◌, sym, subst}
 use Rattle.std.specs.List.{concat}
 use Rattle.intaglio_records.specs.Header.{hash_at, number_at}
@@ -50,9 +51,7 @@ returns-then-read_hash-self-clause-gives c xs hash left was =
     let t = there rs c.bytes-bytes.result.now c.begin-at.result at.begins.0 bytes is.each is.few at.begins.1
     at.begins.2 in
     let read : c.read_hash.result ≡ hash = c.if-read_hash-self.true ∙ is.hash_is in
-    let same : hash_at (concat rs) c.begin-at.result ≡ hash =
-    ap (λ bs. hash_at bs c.begin-at.result) (sym bytes)
-    ∙ sym c.read_hash.ensures ∙ read in
+    let same : hash_at (concat rs) c.begin-at.result ≡ hash = grind (arith, common_steps) in
     let number : number_at (concat rs) c.begin-at.result ≡ c.read_number.result =
     ap (λ bs. number_at bs c.begin-at.result) (sym bytes) ∙ sym c.read_number.ensures in
     let string = c.string_at.ensures at.begins.0 at.begins.1 at.begins.2 in

@@ -14,15 +14,7 @@ invariant_of-self c =
     (record {
       each = records-take c.args.n rs c.self.invariant.each;
       order = omega (arith, length-take c.args.n rs, c.truncate.ensures.most, c.self.invariant.order);
-      headers = omega (
-        arith,
-        length-take c.args.n rs,
-        behind,
-        c.truncate.ensures.most,
-        room,
-        c.self.invariant.order,
-        c.self.invariant.headers,
-      );
+      headers = grind (arith, common_steps);
       small = omega (arith, room, c.self.invariant.small);
     })
 
@@ -33,15 +25,7 @@ pub returns-clause-spare_bytes : goal.returns-clause-spare_bytes
 returns-clause-spare_bytes c =
     let rs = c.self.inside.records.list in
     rw (← c.self.view_is, c.truncate.ensures.list)
-    (omega (
-      arith,
-      length-take c.args.n rs,
-      headers-behind c.args.n rs (are-long rs c.self.invariant.each),
-      c.truncate.ensures.most,
-      rw c.truncate.ensures.list at c.truncate.ensures.byte_room,
-      c.self.invariant.order,
-      c.self.invariant.headers,
-    ))
+    (omega (arith, length-take c.args.n rs, headers-behind c.args.n rs (are-long rs c.self.invariant.each), rw c.truncate.ensures.list at c.truncate.ensures.byte_room))
 
 pub returns-clause-byte_room : goal.returns-clause-byte_room
 returns-clause-byte_room c = grind (arith, common_steps, invariant_of-self, room-is, are-long)

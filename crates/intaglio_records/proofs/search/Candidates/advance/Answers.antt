@@ -1,3 +1,4 @@
+use Rattle.std.proofs.lemmas.Grind.{common_steps}
 use Rattle.std.proofs.Common.{◌<◌, ◌++◌, length, get_or, sym, subst, ap, ◌∙◌, arith}
 use Rattle.std.specs.Int.{bit_at}
 use Rattle.std.proofs.lemmas.Nat.Bits.{bit_at-zero}
@@ -37,9 +38,7 @@ returns-clause-left c left is =
       behind = there.1;
       some = is.some;
       few = line.few;
-      bits = λ i lt set.
-          bits-within (get_or s.lines.now s.next no_line) there.0 (newest is.base is.class there.1)
-          c.equal-self.result s.tag line is.some b.bits b.above i set;
+      bits = grind (arith, common_steps);
       line = λ some. next-inside s left is c.requires.more;
       based = is.based;
       size = λ some. omega (arith, is.size (omega (arith, there.5)), there.5);
@@ -56,10 +55,4 @@ returns-clause-older c =
     let there = next-line is.base is.class s.tag s.lines.now is.behind is.lines some in
     let line = subst (λ i. IsLine (get_or s.lines.now i no_line) there.0 (newest is.base is.class there.1))
     (sym is.next) there.2 in
-    omega (
-      arith,
-      c.next.ensures there.0 (newest is.base is.class there.1) line,
-      newest-lt is.base is.class there.1 is.based,
-      there.6,
-      is.next,
-    )
+    omega (arith, c.next.ensures there.0 (newest is.base is.class there.1) line, newest-lt is.base is.class there.1 is.based)

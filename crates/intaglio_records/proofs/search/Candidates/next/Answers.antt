@@ -1,3 +1,4 @@
+use Rattle.std.proofs.lemmas.Grind.{common_steps}
 use Rattle.std.proofs.Common.{◌≡◌, ◌≢◌, ℕ, ◌-◌, ◌*◌, ◌%◌, ◌^◌, ◌<◌, ◌++◌, ◌∷◌, get_or, refl, sym, subst, ap, ◌∙◌, arith, w64, inl, inr, bit_and}
 use Rattle.std.specs.Int.{bit_at, trailing_zeros}
 use Rattle.std.proofs.lemmas.Bool.{cases_eq}
@@ -51,10 +52,7 @@ returns-clause-gives c left was =
         behind = is.behind;
         some = is.some;
         few = is.few;
-        bits = λ i l set. elim (cases_eq i p) [
-          | inl same ↦ absurd (omega (arith, set, subst (λ k. bit_at fewer k ≡ 0) (sym same) gone))
-          | inr other ↦ is.bits i l (sym (others i l other) ∙ set)
-        ];
+        bits = grind (arith, common_steps);
         line = λ more. is.line some;
         based = is.based;
         size = is.size;

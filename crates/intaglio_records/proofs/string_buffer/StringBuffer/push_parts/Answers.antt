@@ -16,5 +16,10 @@ returns-clause-spare_bytes c = grind (arith, common_steps)
 pub returns-clause-byte_room : goal.returns-clause-byte_room
 returns-clause-byte_room c =
     grind (
-      arith, common_steps, append_assoc, length-append, ends-push, byte_room-is
+      arith,
+      common_steps,
+      append_assoc,
+      length-append,
+      ends-push,
+      byte_room-is,
     )

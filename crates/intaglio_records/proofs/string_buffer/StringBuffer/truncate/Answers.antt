@@ -20,10 +20,7 @@ returns-then-n-len-clause-byte_room c =
     c.self.invariant.ends below in
     let kept =
     length-take-le (get_or (0 ∷ c.self.inside.ends.list) c.args.n 0) c.self.inside.bytes.items starts in
-    let ends : AreEnds 0 (length c.truncate.new.self.items) c.truncate-then-n-len.new.self.list =
-    rw (c.truncate.ensures.items, c.truncate-then-n-len.ensures.list, c.start-end.ensures, kept)
-    (ends-take 0 (length c.self.inside.bytes.items) c.self.inside.ends.list c.args.n
-    c.self.invariant.ends below) in
+    let ends : AreEnds 0 (length c.truncate.new.self.items) c.truncate-then-n-len.new.self.list = grind (arith, common_steps, ends-take) in
     let shorter : length c.truncate.new.self.items ≡ get_or (0 ∷ c.self.inside.ends.list) c.args.n 0 =
     rw (c.truncate.ensures.items, c.start-end.ensures) kept in
     let after : length c.truncate.new.self.items ≤ c.self.inside.room =
