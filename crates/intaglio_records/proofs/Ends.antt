@@ -1,8 +1,8 @@
 -- Strings between ends.
 use Rattle.std.proofs.lemmas.Grind.{common_steps}
-use Rattle.std.proofs.Common.{sym, ◌≡◌, ℕ, ◌+◌, ◌-◌, ◌<◌, ◌≤◌, suc, zero, List, [], ◌∷◌, ◌++◌, length, take, drop, get_or, slice_get, slice_range, Some, refl, ap, ◌∙◌, arith, length-drop, take_all, length-take-le, sum_by}
+use Rattle.std.proofs.Common.{sym, ◌≡◌, ℕ, ◌+◌, ◌-◌, ◌<◌, ◌≤◌, suc, zero, List, [], ◌∷◌, ◌++◌, length, take, drop, get_or, slice_get, slice_range, Some, refl, ap, ◌∙◌, arith, length-drop, length-take-le, sum_by}
 use Rattle.std.specs.List.{concat}
-use Rattle.std.proofs.lemmas.List.{drop_all, drop-drop, take-append-drop, take-append-le, drop-append-le, drop-take, take-take}
+use Rattle.std.proofs.lemmas.List.{drop_all, drop-drop, take-append-drop, drop-take, take-take}
 use Rattle.std.proofs.lemmas.List.Sums.{sum_by-cons}
 use Rattle.intaglio_records.specs.Strings.{strings_from, AreEnds}
 
@@ -122,11 +122,6 @@ start-is at bytes (e ∷ es) (suc i) h l =
 pub byte_room-is : (capacity : ℕ) (bytes es : List ℕ) → AreEnds 0 (length bytes) es → length bytes ≤ capacity
     → sum_by length (strings_from 0 bytes es) + (capacity - length bytes) ≡ capacity
 byte_room-is capacity bytes es h within = omega (arith, sum-lengths 0 bytes es h)
-
--- with no strings there are no bytes
-pub no-bytes : (all : ℕ) (es : List ℕ) → AreEnds 0 all es → length es ≡ 0 → all ≡ 0
-no-bytes all [] h none = sym h
-no-bytes all (e ∷ es) h none = absurd (omega (arith, none))
 
 -- all strings, one behind the other, are the bytes from the beginning on
 pub concat-strings : (at : ℕ) (bytes es : List ℕ) → AreEnds at (length bytes) es →

@@ -8,7 +8,7 @@ use Rattle.std.proofs.lemmas.List.Sorted.{IsPermutation-refl, IsPermutation-tran
 use Rattle.intaglio_records.specs.Line.{Entry, tag_of}
 use Rattle.intaglio_records.specs.Chains.{Overflow, first_line, newest_length, add, overflow, newest}
 use Rattle.intaglio_records.specs.Search.{slots_with, overflow_slots, slots_of, AreFound}
-use Rattle.intaglio_records.proofs.Tops.{first-other, first-here, first-full, overflow-same, overflow-add, overflow-new, is-top, length-none}
+use Rattle.intaglio_records.proofs.Tops.{first-other, first-here, overflow-same, overflow-add, overflow-new, is-top, length-none}
 
 -- an entry in the middle
 inserted : (one front behind : List ℕ) → IsPermutation (one ++ (front ++ behind)) ((front ++ one) ++ behind)

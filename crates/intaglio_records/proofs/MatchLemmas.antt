@@ -1,11 +1,10 @@
 -- Searches among records.
 use Rattle.std.proofs.lemmas.Grind.{common_steps}
-use Rattle.std.proofs.Common.{◌≡◌, ◌≢◌, ℕ, zero, suc, ◌+◌, ◌%◌, ◌^◌, ◌<◌, ◌≤◌, ◌==◌, ◌&&◌, nat_lt, Bool, true, false, inl, inr, arith, sum_by, List, [], ◌∷◌, ◌++◌, length, drop, get_or, slice_get, Some, option_map, map, take, take_all, cond, refl, sym, ap, ◌∙◌, subst}
-use Rattle.std.specs.List.{concat, filter, All}
-use Rattle.std.proofs.lemmas.Bool.{cases_lt, cond_both, cond-true, cond-false, eq-eqb, ne_eqb, lt-ltb, le-ltb}
-use Rattle.std.proofs.lemmas.Bool.Decides.{eqb_tells}
+use Rattle.std.proofs.Common.{◌≡◌, ◌≢◌, ℕ, zero, suc, ◌+◌, ◌%◌, ◌^◌, ◌<◌, ◌≤◌, ◌==◌, ◌&&◌, nat_lt, Bool, true, false, inl, inr, arith, sum_by, List, [], ◌∷◌, ◌++◌, length, drop, get_or, slice_get, Some, option_map, map, cond, refl, sym, ap, ◌∙◌, subst}
+use Rattle.std.specs.List.{concat, All}
+use Rattle.std.proofs.lemmas.Bool.{cases_lt, cond_both, cond-true, eq-eqb, le-ltb}
 use Rattle.std.proofs.lemmas.List.Sums.{sum_by-cons}
-use Rattle.std.proofs.lemmas.Option.{get_or_from_slice_get, slice_get-map, slice_get-get_or, slice_get_within}
+use Rattle.std.proofs.lemmas.Option.{slice_get-map, slice_get-get_or}
 use Rattle.std.proofs.lemmas.List.Elements.{All-cons, All-head, All-nil, All-tail}
 use Rattle.intaglio_records.specs.declared.search.Candidates.{Candidates}
 use Rattle.intaglio_records.specs.Search as search
@@ -17,8 +16,7 @@ use Rattle.intaglio_records.specs.Entries.{entries, position, slot_of}
 use Rattle.intaglio_records.proofs.Reading.{there}
 use Rattle.intaglio_records.specs.Matches.{IsPosition, IsSlot, begin_of, numbers_with, one_of, AreAll, IsLeft}
 use Rattle.std.specs.List.Sorted.{IsPermutation}
-use Rattle.std.proofs.lemmas.List.{get_or-map, length-map}
-use Rattle.std.proofs.lemmas.List.Filters.{length-filter_more}
+use Rattle.std.proofs.lemmas.List.{length-map}
 use Rattle.std.proofs.lemmas.List.Sorted.{sum_by-IsPermutation}
 
 -- what is known after a slot is given whose record begins here: whether that is the
@@ -37,12 +35,6 @@ pub slot-begins : (long : Bool) (rs : List (List ℕ)) (slot : ℕ) → IsSlot l
     → IsPosition rs (begin_of long rs slot)
 slot-begins true rs slot is = (is.0, is.1, ap (position rs) is.2)
 slot-begins false rs slot is = is
-
--- that of the slot of record i begins where that record does
-begin-is : (long : Bool) (rs : List (List ℕ)) (i : ℕ)
-    → begin_of long rs (slot_of long i (position rs i)) ≡ position rs i
-begin-is true rs i = refl
-begin-is false rs i = refl
 
 -- the slot that a search gives is that of a record
 pub slot-given : (xs : List (ℕ × List ℕ)) (hash : ℕ) (matches : Matches) (next : Candidates) (slot : ℕ)
@@ -222,73 +214,3 @@ all-within xs hash left all = within left (λ n. below n)
         let here : one_of n n ≡ 1 = cond-true (n == n) 1 0 (eq-eqb n n refl) in
         All-cons (λ n. n < length xs) n ns (is n (omega (arith, here, sum_by-cons (one_of n) n ns)))
         (within ns (λ m some. is m (omega (arith, some, sum_by-cons (one_of m) n ns))))
-
--- the sum of f of all numbers below n
-abbrev pub sum_below : (ℕ → ℕ) → ℕ → ℕ
-sum_below f zero = 0
-sum_below f (suc n) = sum_below f n + f n
-
--- if each value of f is those of g and h together, the sum of f below n is those of g and h together
-below-plus : (f g h : ℕ → ℕ) (n : ℕ) → ((i : ℕ) → f i ≡ g i + h i) →
-    sum_below f n ≡ sum_below g n + sum_below h n
-below-plus f g h zero is = refl
-below-plus f g h (suc n) is = omega (arith, is n, below-plus f g h n is)
-
--- of 1 for number i alone
-below-one : (i n : ℕ) → sum_below (λ k. one_of k i) n ≡ cond (nat_lt i n) 1 0
-below-one i zero = rw (le-ltb i 0 (omega arith)) refl
-below-one i (suc n) = elim (eqb_tells i n) [
-  | inl e ↦
-      rw (below-one i n, e.0, le-ltb i n (omega (arith, e.1)), lt-ltb i (suc n) (omega (arith, e.1))) refl
-  | inr d ↦ elim (cases_lt i n) [
-    | inl low ↦ rw (below-one i n, d.0, lt-ltb i n low, lt-ltb i (suc n) (omega (arith, low))) refl
-    | inr high ↦ rw (below-one i n, d.0, le-ltb i n high, le-ltb i (suc n) (omega (arith, high, d.1))) refl
-  ]
-]
-
--- each number of the list is counted once
-below-length : (n : ℕ) (ns : List ℕ) → All (λ i. i < n) ns →
-    sum_below (λ k. sum_by (one_of k) ns) n ≡ length ns
-below-length n [] all = nothing n
-  where
-    nothing : (n : ℕ) → sum_below (λ _. 0) n ≡ 0
-    nothing zero = refl
-    nothing (suc n) = omega (arith, nothing n)
-below-length n (i ∷ ns) all =
-    let first : i < n = All-head (λ i. i < n) i ns all in
-    let rest = below-length n ns (All-tail (λ i. i < n) i ns all) in
-    let parts = below-plus (λ k. sum_by (one_of k) (i ∷ ns)) (λ k. one_of k i) (λ k. sum_by (one_of k) ns) n
-    (λ k. sum_by-cons (one_of k) i ns) in
-    let once : ◌≡◌ {A = ℕ} (cond (nat_lt i n) 1 0) 1 = rw (lt-ltb i n first) refl in
-    omega (arith, parts, rest, once, below-one i n)
-
--- functions that are equal below n have the same sum below n
-below-same : (f g : ℕ → ℕ) (n : ℕ) → ((i : ℕ) → i < n → f i ≡ g i) → sum_below f n ≡ sum_below g n
-below-same f g zero is = refl
-below-same f g (suc n) is =
-    omega (arith, is n (omega arith), below-same f g n (λ i l. is i (omega (arith, l))))
-
--- the entries of the first n hashes that are equal to this one
-below-filter : (hash : ℕ) (hs : List ℕ) (n : ℕ) → n ≤ length hs
-    → sum_below (λ k. cond (get_or hs k 0 == hash) 1 0) n ≡ length (filter (λ h. h == hash) (take n hs))
-below-filter hash hs zero l = refl
-below-filter hash hs (suc n) l =
-    let within : n < length hs = omega (arith, l) in
-    let e : suc n ≡ n + 1 = omega arith in
-    ap (λ x. x + cond (get_or hs n 0 == hash) 1 0) (below-filter hash hs n (omega (arith, l)))
-    ∙ sym (length-filter_more (λ h. h == hash) hs n 0 within)
-    ∙ ap (λ k. length (filter (λ h. h == hash) (take k hs))) (sym e)
-
--- a search gives as many strings as have the hash
-pub all-count : (xs : List (ℕ × List ℕ)) (hash : ℕ) (left : List ℕ) → AreAll xs hash left
-    → length left ≡ length (filter (λ h. h == hash) (map (λ (p : ℕ × List ℕ). p.0) xs))
-all-count xs hash left all =
-    let n = length xs in
-    let hs = map (λ (p : ℕ × List ℕ). p.0) xs in
-    let size : length hs ≡ n = length-map xs (λ (p : ℕ × List ℕ). p.0) in
-    let value : (k : ℕ) → k < n → sum_by (one_of k) left ≡ cond (get_or hs k 0 == hash) 1 0 =
-    λ k l. all k ∙ rw (lt-ltb k n l, get_or-map (λ (p : ℕ × List ℕ). p.0) xs k (0, []) 0 l) refl in
-    sym (below-length n left (all-within xs hash left all))
-    ∙ below-same (λ k. sum_by (one_of k) left) (λ k. cond (get_or hs k 0 == hash) 1 0) n value
-    ∙ below-filter hash hs n (omega (arith, size))
-    ∙ ap (λ (hs : List ℕ). length (filter (λ h. h == hash) hs)) (take_all n hs (omega (arith, size)))

@@ -1,14 +1,12 @@
 -- Lists of records.
 use Rattle.std.proofs.lemmas.Grind.{common_steps}
-use Rattle.std.proofs.Common.{◌≡◌, ℕ, ◌+◌, ◌-◌, ◌*◌, ◌%◌, ◌^◌, ◌<◌, ◌≤◌, suc, zero, List, [], ◌∷◌, ◌++◌, length, take, drop, map, get_or, slice_get, Some, option_map, min, sum_by, refl, sym, ap, ◌∙◌, subst, arith, inl, inr}
+use Rattle.std.proofs.Common.{◌≡◌, ℕ, ◌+◌, ◌-◌, ◌*◌, ◌%◌, ◌^◌, ◌<◌, ◌≤◌, suc, zero, List, [], ◌∷◌, ◌++◌, length, take, drop, map, get_or, slice_get, Some, option_map, sum_by, refl, sym, ap, ◌∙◌, subst, arith, inl, inr}
 use Rattle.std.specs.Prelude.{OnOk, OnErr, Result, Ok, Err, ◌⊎◌}
 use Rattle.std.proofs.lemmas.Bool.{cases_lt}
-use Rattle.std.proofs.lemmas.List.{get_or-take, get_or_append_left, length-append, length-drop, length-take}
+use Rattle.std.proofs.lemmas.List.{get_or_append_left, length-drop}
 use Rattle.std.proofs.lemmas.Option.{slice_get-map}
 use Rattle.std.proofs.lemmas.List.Sums.{sum_by-cons}
-use Rattle.std.proofs.lemmas.Nat.{from_le_bytes-to_le_bytes_4, from_le_bytes-to_le_bytes_8}
-use Rattle.std.proofs.Math.Seq.{get_or-append_seam}
-use Rattle.intaglio_records.specs.Header.{header_of, hash_at}
+use Rattle.intaglio_records.specs.Header.{header_of}
 use Rattle.intaglio_records.specs.Records.{IsRecord, AreRecords, pair_of, set_aside}
 use Rattle.intaglio_records.specs.Strings.{Strings, byte_room_of}
 
@@ -55,20 +53,10 @@ strings-bytes (r ∷ rs) h =
     let rest = strings-bytes rs (λ i l. h (suc i) (omega (arith, l))) in
     omega (arith, h 0 (omega arith), length-drop 13 r, sum_by-cons length r rs, sum_by-cons length (drop 13 r) (strings_in rs))
 
--- so are those of all strings that there is room for
-pub headers-fit : (b : Strings) → AreLong b.list → length b.list ≤ b.most → set_aside b ≤ b.spare_bytes
-    → 13 * b.most ≤ byte_room_of b
-headers-fit b long order headers = omega (arith, headers-within b.list long, order, headers)
-
 -- how many bytes of strings there is room for, said of the buffer
 pub room-is : (b : Strings) → AreLong b.list → length b.list ≤ b.most → set_aside b ≤ b.spare_bytes
     → 13 * b.most + (sum_by length (strings_in b.list) + (b.spare_bytes - set_aside b)) ≡ byte_room_of b
 room-is b long order headers = omega (arith, strings-bytes b.list long, order, headers)
-
--- the hash that a header was made with
-pub made-hash : (hash number n : ℕ) (string : List ℕ) → hash < 2 ^ 64
-    → hash_at (header_of hash number n ++ string) 0 ≡ hash
-made-hash hash number n string small = from_le_bytes-to_le_bytes_8 hash small
 
 -- a header in front of its string makes a record
 pub record-made : (hash number : ℕ) (string : List ℕ)

@@ -1,6 +1,5 @@
 use Rattle.std.proofs.lemmas.Grind.{common_steps}
 use Rattle.std.proofs.Common.{◌<◌, ◌∷◌, length, arith, ap, ◌∙◌, sym, subst}
-use Rattle.std.proofs.lemmas.List.Sums.{sum_by-take-le}
 use Rattle.intaglio_records.specs.Chains.{IsFilled}
 use Rattle.intaglio_records.specs.Entries.{entries, slot_of}
 use Rattle.intaglio_records.proofs.EntryLemmas.{entry-more, length-entries}

@@ -1,9 +1,6 @@
 use Rattle.std.proofs.lemmas.Grind.{common_steps}
-use Rattle.std.proofs.Common.{◌≡◌, length, not, arith, ap, sym, subst, ◌∙◌}
+use Rattle.std.proofs.Common.{◌≡◌, not, arith, ◌∙◌}
 use Rattle.std.proofs.lemmas.Bool.{not-false}
-use Rattle.std.proofs.lemmas.List.{length-map}
-use Rattle.intaglio_records.specs.Chains.{IsFilled}
-use Rattle.intaglio_records.specs.Records.{pair_of}
 use Rattle.intaglio_records.proofs.EntryLemmas.{entries-all}
 use Rattle.intaglio_records.proofs.RecordLemmas.{are-long}
 use Rattle.intaglio_records.proofs.index.RecordIndex.over.Goals as goal

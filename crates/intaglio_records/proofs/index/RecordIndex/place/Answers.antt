@@ -1,9 +1,6 @@
 use Rattle.std.proofs.lemmas.Grind.{common_steps}
-use Rattle.std.proofs.Common.{◌≡◌, ◌<◌, ℕ, List, [], ◌∷◌, length, sum_by, arith, ap, sym, subst, ◌∙◌}
+use Rattle.std.proofs.Common.{◌≡◌, ◌<◌, [], ◌∷◌, sum_by, arith, ◌∙◌}
 use Rattle.std.proofs.lemmas.List.{length-append, length-map}
-use Rattle.intaglio_records.specs.Chains.{IsFilled, places_of}
-use Rattle.intaglio_records.specs.Records.{pair_of}
-use Rattle.intaglio_records.specs.Entries.{entries_of, size_of, slot_of}
 use Rattle.intaglio_records.proofs.EntryLemmas.{entries-push, length-entries_of, sizes-all}
 use Rattle.intaglio_records.proofs.RecordLemmas.{are-long}
 use Rattle.intaglio_records.proofs.index.RecordIndex.place.Goals as goal

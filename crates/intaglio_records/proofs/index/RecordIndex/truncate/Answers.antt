@@ -1,9 +1,6 @@
 use Rattle.std.proofs.lemmas.Grind.{common_steps}
-use Rattle.std.proofs.Common.{◌≡◌, length, min, take, arith, ap, sym, subst, ◌∙◌}
+use Rattle.std.proofs.Common.{◌≡◌, arith, ◌∙◌}
 use Rattle.std.proofs.lemmas.List.{length-map, length-take}
-use Rattle.intaglio_records.specs.Chains.{IsFilled}
-use Rattle.intaglio_records.specs.Records.{pair_of}
-use Rattle.intaglio_records.specs.Entries.{entries, entries_of}
 use Rattle.intaglio_records.proofs.EntryLemmas.{entries-all, entries-cut, entries-first}
 use Rattle.intaglio_records.proofs.RecordLemmas.{are-long}
 use Rattle.intaglio_records.proofs.index.RecordIndex.truncate.Goals as goal

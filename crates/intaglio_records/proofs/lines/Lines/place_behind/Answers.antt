@@ -1,6 +1,6 @@
 use Rattle.std.proofs.lemmas.Grind.{common_steps}
-use Rattle.std.proofs.Common.{◌≡◌, ℕ, ◌%◌, ◌<◌, List, ◌∷◌, length, get_or, set, sym, subst, ap, ◌∙◌, arith, mod-lt}
-use Rattle.intaglio_records.specs.Chains.{first_line, newest_length, overflow, newest, no_line, AreChains}
+use Rattle.std.proofs.Common.{◌≡◌, ℕ, ◌%◌, ◌<◌, List, ◌∷◌, length, get_or, sym, subst, ap, ◌∙◌, arith, mod-lt}
+use Rattle.intaglio_records.specs.Chains.{newest_length, overflow, newest, no_line}
 use Rattle.intaglio_records.specs.Line.{Entry, IsLine}
 use Rattle.intaglio_records.proofs.ChainLemmas.{read-line}
 use Rattle.intaglio_records.proofs.Tops.{length-none}

@@ -3,7 +3,7 @@ use Rattle.std.proofs.Common.{◌≡◌, ℕ, ◌+◌, ◌%◌, ◌<◌, List, [
 use Rattle.intaglio_records.specs.Line.{Entry, IsLine}
 use Rattle.intaglio_records.specs.Chains.{first_line, newest_length, overflow, newest, no_line, AreChains}
 use Rattle.intaglio_records.proofs.ChainLemmas.{read-line}
-use Rattle.intaglio_records.proofs.Tops.{first-full, overflow-add, overflow-new, length-here}
+use Rattle.intaglio_records.proofs.Tops.{overflow-add, overflow-new, length-here}
 use Rattle.intaglio_records.proofs.Placing.{first-is, newest-in, other-is}
 use Rattle.intaglio_records.proofs.Removing.{is-in, in_first, in_newest, in_new, newest-more, newest-new, length-some, remove-newest, remove-new}
 use Rattle.intaglio_records.proofs.lines.Lines.remove_behind.Goals as goal

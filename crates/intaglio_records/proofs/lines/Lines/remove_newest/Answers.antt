@@ -2,7 +2,7 @@ use Rattle.std.proofs.lemmas.Grind.{common_steps}
 use Rattle.std.proofs.Common.{◌≡◌, ◌%◌, ◌<◌, ◌∷◌, length, set, sym, subst, ap, ◌∙◌, arith, mod-lt}
 use Rattle.intaglio_records.specs.Line.{Entry, IsLine}
 use Rattle.intaglio_records.specs.Chains.{first_line, overflow, newest, AreChains}
-use Rattle.intaglio_records.proofs.Tops.{first-here, overflow-same}
+use Rattle.intaglio_records.proofs.Tops.{overflow-same}
 use Rattle.intaglio_records.proofs.Placing.{first-is}
 use Rattle.intaglio_records.proofs.Removing.{is-in, in_first, in_newest, in_new, newest-more, newest-new, remove-first}
 use Rattle.intaglio_records.proofs.lines.Lines.remove_newest.Goals as goal

@@ -1,7 +1,6 @@
 use Rattle.std.proofs.lemmas.Grind.{common_steps}
 use Rattle.std.proofs.Common.{◌≡◌, ◌^◌, ◌-◌, arith}
 use Rattle.std.proofs.lemmas.Bool.{le-leb, leb-true}
-use Rattle.intaglio_records.specs.Records.{record_room_of}
 use Rattle.intaglio_records.proofs.RecordLemmas.{are-long, room-is}
 use Rattle.intaglio_records.proofs.records.StringRecords.is_short.Goals as goal
 

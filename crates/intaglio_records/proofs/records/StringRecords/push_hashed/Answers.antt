@@ -1,9 +1,7 @@
 use Rattle.std.proofs.lemmas.Grind.{common_steps}
-use Rattle.std.proofs.Common.{◌≡◌, ◌+◌, ◌%◌, ◌^◌, [], ◌∷◌, ◌++◌, length, arith, ap, ◌∙◌, subst, sym, length-append}
-use Rattle.intaglio_records.specs.Header.{header_of}
+use Rattle.std.proofs.Common.{◌≡◌, ◌+◌, ◌%◌, ◌^◌, [], ◌∷◌, ◌++◌, arith, ◌∙◌, length-append}
 use Rattle.std.proofs.lemmas.List.{length-map}
-use Rattle.intaglio_records.specs.Records.{IsRecord, AreRecords, pair_of}
-use Rattle.intaglio_records.proofs.RecordLemmas.{are-long, record-made, records-push, room-is}
+use Rattle.intaglio_records.proofs.RecordLemmas.{record-made, records-push}
 use Rattle.intaglio_records.proofs.records.StringRecords.push_hashed.Goals as goal
 
 pub invariant_of-self : goal.invariant_of-self

@@ -1,7 +1,6 @@
 use Rattle.std.proofs.lemmas.Grind.{common_steps}
-use Rattle.std.proofs.Common.{arith, sym}
+use Rattle.std.proofs.Common.{arith}
 use Rattle.std.proofs.lemmas.List.{length-take, take-map}
-use Rattle.intaglio_records.specs.Records.{pair_of}
 use Rattle.intaglio_records.proofs.RecordLemmas.{are-long, headers-behind, records-take, room-is}
 use Rattle.intaglio_records.proofs.records.StringRecords.truncate.Goals as goal
 

@@ -6,7 +6,7 @@ use Rattle.intaglio_records.specs.Line.{IsLine}
 use Rattle.intaglio_records.specs.Chains.{newest, no_line}
 use Rattle.intaglio_records.specs.Search.{overflow_slots}
 use Rattle.intaglio_records.proofs.ChainLemmas.{newest-lt}
-use Rattle.intaglio_records.proofs.Searching.{next-line, next-inside, bits-within, picked-none, picked-fresh}
+use Rattle.intaglio_records.proofs.Searching.{next-line, next-inside, picked-none, picked-fresh}
 use Rattle.intaglio_records.proofs.search.Candidates.advance.Goals as goal
 
 pub offset_bounds-self-self : goal.offset_bounds-self-self
