@@ -8,9 +8,6 @@ use Rattle.intaglio_records.proofs.entries.lines_of.Goals as goal
 pub slot_for-requires-clause-few : goal.slot_for-requires-clause-few
 slot_for-requires-clause-few c = omega (arith, c.loop-i-test.true, c.requires.enough, c.requires.few)
 
-pub slot_for-requires-clause-small : goal.slot_for-requires-clause-small
-slot_for-requires-clause-small c short = grind (arith, common_steps)
-
 pub place-requires : goal.place-requires
 place-requires c = grind (arith, common_steps, length-entries)
 

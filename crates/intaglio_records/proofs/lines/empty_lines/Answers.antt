@@ -22,6 +22,3 @@ loop-i-preserved c =
       };
       room = omega (arith, c.push_reserved.ensures.capacity, c.loop-i.invariant.room);
     }
-
-pub push_reserved-requires : goal.push_reserved-requires
-push_reserved-requires c = grind (arith, common_steps)

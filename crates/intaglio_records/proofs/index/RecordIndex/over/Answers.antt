@@ -5,8 +5,5 @@ use Rattle.intaglio_records.proofs.EntryLemmas.{entries-all}
 use Rattle.intaglio_records.proofs.RecordLemmas.{are-long}
 use Rattle.intaglio_records.proofs.index.RecordIndex.over.Goals as goal
 
-pub lines_of-requires-clause-enough : goal.lines_of-requires-clause-enough
-lines_of-requires-clause-enough c = grind (arith, common_steps)
-
 pub returns-clause-over : goal.returns-clause-over
 returns-clause-over c = grind (arith, common_steps, entries-all, not, are-long, not-false)

@@ -8,9 +8,6 @@ use Rattle.intaglio_records.proofs.lines.Lines.place_in_new.Goals as goal
 pub push_reserved-requires : goal.push_reserved-requires
 push_reserved-requires c = grind (arith, common_steps, mod-lt, all-full)
 
-pub overflow_cast-number : goal.overflow_cast-number
-overflow_cast-number c = grind (arith, common_steps)
-
 pub returns-clause-placed : goal.returns-clause-placed
 returns-clause-placed c es room filled =
     let lines = c.args.self.now in

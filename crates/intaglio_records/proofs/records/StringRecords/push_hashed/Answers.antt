@@ -6,6 +6,3 @@ use Rattle.intaglio_records.proofs.records.StringRecords.push_hashed.Goals as go
 
 pub invariant_of-self : goal.invariant_of-self
 invariant_of-self c = grind (arith, common_steps, record-made, length-append, length-map, records-push)
-
-pub returns-clause-room : goal.returns-clause-room
-returns-clause-room c = grind (arith, common_steps)

@@ -9,9 +9,6 @@ invariant_of-self c = grind (arith, common_steps, append_assoc, length-append, e
 pub returns-clause-list : goal.returns-clause-list
 returns-clause-list c = grind (arith, common_steps, append_assoc, length-append, strings-push)
 
-pub returns-clause-spare_bytes : goal.returns-clause-spare_bytes
-returns-clause-spare_bytes c = grind (arith, common_steps)
-
 pub returns-clause-byte_room : goal.returns-clause-byte_room
 returns-clause-byte_room c =
     grind (
