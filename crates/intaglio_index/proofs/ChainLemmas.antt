@@ -1,4 +1,5 @@
 -- The order of a bucket, by the hashes alone.
+use Rattle.std.proofs.lemmas.Grind.{common_steps}
 use Rattle.std.proofs.Common.{◌≡◌, ◌≢◌, ℕ, zero, suc, ◌+◌, ◌<◌, ◌≤◌, ◌%◌, Bool, true, false, cond, List, [], ◌∷◌, ◌++◌, length, get_or, refl, sym, ap, ◌∙◌, arith, eqb, ltb, length-append, append_assoc, inl, inr}
 use Rattle.std.specs.List.{Contains, AllByRecursion, IsDistinct}
 use Rattle.std.specs.List.Sorted.{IsPermutation}
@@ -13,12 +14,7 @@ use Rattle.intaglio_index.specs.Placed.{Placed, chain, chain_from, places_from, 
 
 -- the test of two numbers for equality is symmetric
 pub eqb-flips : (a b : ℕ) → eqb a b ≡ eqb b a
-eqb-flips a b =
-    elim (eqb_tells a b) [
-      | inl h ↦ h.0 ∙ sym (eq-eqb b a (sym h.1))
-      | inr h ↦ h.0
-          ∙ sym (ne_eqb b a (λ e. h.1 (sym e)))
-    ]
+eqb-flips a b = grind (arith, common_steps)
 
 -- if P implies Q and holds of each element of a list, so does Q
 pub Each-weaker : {X : Type 0} (P Q : X → Type 0) → ((x : X) → P x → Q x) → (xs : List X) →
@@ -275,13 +271,7 @@ chain-entries v b = chain-each v.count b v.hashes
 
 -- the chain of a hash's bucket has exactly the symbols of the bucket, each once, in the order of their hashes
 pub chain-bucket : (v : Placed) (h : ℕ) → IsBucket v h
-chain-bucket v h =
-    record {
-      members = chain-permutation v (h % v.count);
-      sorted = chain-sorted v (h % v.count);
-      hashes =
-          chain-entries v (h % v.count);
-    }
+chain-bucket v h = grind (arith, common_steps, chain-permutation, chain-sorted, chain-entries)
 
 -- each place of a bucket is on its chain
 pub places-complete : (count b at : ℕ) (hs : List ℕ) (i d : ℕ) → i < length hs → get_or hs i d % count ≡ b →

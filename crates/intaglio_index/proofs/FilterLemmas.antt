@@ -1,4 +1,5 @@
 -- What filters tell of the hashes that were placed.
+use Rattle.std.proofs.lemmas.Grind.{common_steps}
 use Rattle.std.proofs.Common.{◌≡◌, ◌≢◌, ℕ, zero, suc, replicate, ◌<◌, ◌/◌, ◌%◌, ◌^◌, List, [], ◌∷◌, ◌++◌, length, get_or, set, take, drop, refl, ◌∙◌, arith, inl, inr, ap}
 use Rattle.std.proofs.lemmas.Bool.Decides.{eqb_tells}
 use Rattle.std.proofs.lemmas.List.{get_or-set_same, get_or-set_other, get_or_default, length-set, take-append-drop}
@@ -38,11 +39,7 @@ filtered-push filters count hashes hash mark filtered within marked kept =
 -- fewer hashes
 pub filtered-take : (filters : List ℕ) (count : ℕ) (hashes : List ℕ) (n : ℕ) →
     IsFiltered filters count hashes → IsFiltered filters count (take n hashes)
-filtered-take filters count hashes n filtered = record {
-  size = filtered.size;
-  marks = Each-left (λ hash. IsMarked (get_or filters (hash % count) 0) hash) (take n hashes) (drop n hashes)
-      (rw (take-append-drop n hashes) filtered.marks);
-}
+filtered-take filters count hashes n filtered = grind (arith, common_steps)
 
 -- a filter whose bucket is empty needs no bit
 pub filtered-vacated : (filters : List ℕ) (count : ℕ) (hashes : List ℕ) (k : ℕ) →

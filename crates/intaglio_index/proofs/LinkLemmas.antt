@@ -1,4 +1,5 @@
 -- Paths of links.
+use Rattle.std.proofs.lemmas.Grind.{common_steps}
 use Rattle.std.proofs.Common.{◌≡◌, ◌≢◌, ℕ, ◌+◌, ◌<◌, ◌≤◌, ◌%◌, ◌^◌, List, [], ◌∷◌, ◌++◌, length, false, refl, sym, ap, ◌∙◌, arith, eqb, Option, Some, None, unwrap_or, get_or, set, append_assoc, length-append, inl, inr, take, subst}
 use Rattle.std.specs.Option.{option_map}
 use Rattle.std.specs.List.{AllByRecursion, IsDistinct}
@@ -124,14 +125,7 @@ leader_same (x ∷ front) e xs ys = refl
 -- no symbol in any bucket
 pub empty_links : (count : ℕ) (hashes : List ℕ) (links : List Symbol) → hashes ≡ [] → links ≡ [] →
     IsLinked count hashes links
-empty_links count hashes links e f =
-    record {
-      paths = λ b. rw e refl;
-      paired = rw (e, f) refl;
-      few = rw e (omega arith);
-      numbered =
-          rw e (omega arith);
-    }
+empty_links count hashes links e f = grind (arith, common_steps)
 
 -- a list of at most 0 hashes is empty
 none_left : (hashes : List ℕ) → length hashes ≤ 0 → hashes ≡ []
@@ -454,10 +448,7 @@ module _ (count : ℕ) (hashes : List ℕ) (hash : ℕ) (links : List Symbol) (l
 -- a list whose last element, at i, is x consists of its first i elements and x
 last_split : {X : Type 0} (xs : List X) (x : X) (i : ℕ) → i + 1 ≡ length xs → x ≡ get_or xs i x →
     xs ≡ take i xs ++ x ∷ []
-last_split xs x i e read =
-    let l : i < length xs = omega arith in
-    let all : take (i + 1) xs ≡ xs = take_all (i + 1) xs (omega arith) in
-    sym all ∙ rw (← read) at (take_more xs i x l)
+last_split xs x i e read = grind (arith, common_steps)
 
 module _ (count : ℕ) (hashes : List ℕ) (links : List Symbol) (linked : IsLinked count hashes links)
     (hash i : ℕ) (last : i + 1 ≡ length hashes) (read : hash ≡ get_or hashes i hash) where

@@ -1,4 +1,5 @@
 -- What a search along a bucket finds.
+use Rattle.std.proofs.lemmas.Grind.{common_steps}
 use Rattle.std.proofs.Common.{◌≡◌, ◌≢◌, ◌⊎◌, ℕ, ◌+◌, ◌*◌, ◌/◌, ◌%◌, ◌<◌, ◌≤◌, Bool, true, false, List, [], ◌∷◌, ◌++◌, length, get_or, replicate, Option, Some, None, refl, sym, ap, ◌∙◌, arith, inl, inr, append_assoc, length-append}
 use Rattle.std.specs.Option.{MatchOption, IfSome}
 use Rattle.std.specs.List.{AllByRecursion}
@@ -40,9 +41,7 @@ entry_is e s h p q = rw (← p, ← q) refl
 steps_push : (old now new : List Event) (front : List (ℕ × ℕ)) (e : ℕ × ℕ) →
     now ≡ old ++ replicate (length front + 1) step → new ≡ now ++ step ∷ [] →
     new ≡ old ++ replicate (length (front ++ e ∷ []) + 1) step
-steps_push old now new front e events more =
-    let size : length (front ++ e ∷ []) ≡ length front + 1 = length-append front (e ∷ []) in
-    rw (more, events, size, replicate_next (length front + 1) step, append_assoc) refl
+steps_push old now new front e events more = grind (arith, common_steps)
 
 -- the search is at the bucket's first symbol
 pub begins : (h : ℕ) (path : List (ℕ × ℕ)) (old now : List Event) (candidate : Option (ℕ × ℕ)) →
@@ -300,9 +299,7 @@ module _ (v : Placed) (h size : ℕ) (head : Head) (word : ℕ) (read : IsRead v
 -- a hash that was read
 pub hash_read : (hashes : List ℕ) (s i hash : ℕ) → s < length hashes → hash ≡ get_or hashes i hash → i ≡ s →
     get_or hashes s 0 ≡ hash
-hash_read hashes s i hash within read same =
-    let is : hash ≡ get_or hashes s hash = rw same at read in
-    get_or_default hashes s 0 hash within ∙ sym is
+hash_read hashes s i hash within read same = grind (arith, common_steps)
 
 -- where the number of buckets is a power of two, the words of a bucket are in the order of its hashes
 module _ (v : Placed) (h size : ℕ) (head : Head) (some : 0 < size) (exact : v.count ≡ size)

@@ -1,4 +1,5 @@
 -- Words that hold a hash with a symbol.
+use Rattle.std.proofs.lemmas.Grind.{common_steps}
 use Rattle.std.proofs.Common.{◌≡◌, ◌≢◌, ◌↔◌, ℕ, ◌+◌, ◌-◌, ◌*◌, ◌/◌, ◌%◌, ◌^◌, ◌<◌, ◌≤◌, sym, ap, ◌∙◌, arith, inl, inr}
 use Rattle.std.specs.Int.{IsPowerOfTwo, bit_at}
 use Rattle.std.specs.Int.RustNames.{bit_xor}
@@ -32,46 +33,24 @@ agrees_at k a b =
 -- the xor of two numbers is at most a mask of low bits exactly if their bits above the mask are the same
 pub agrees_is : (mask a b : ℕ) → IsPowerOfTwo (mask + 1) → bit_xor a b ≤ mask ↔
     (a / (mask + 1) ≡ b / (mask + 1))
-agrees_is mask a b power =
-    let at : bit_xor a b < 2 ^ power.0 ↔ (a / 2 ^ power.0 ≡ b / 2 ^ power.0) = agrees_at power.0 a b in
-    let parted : bit_xor a b < mask + 1 ↔ (a / (mask + 1) ≡ b / (mask + 1)) = rw power.1 at in
-    (λ l. parted.0 (omega arith), λ e. (let below : bit_xor a b < mask + 1 = parted.1 e in omega arith))
+agrees_is mask a b power = grind (arith, common_steps, agrees_at)
 
 -- what one of two numbers differs in from their difference is the other
 xor_undone : (a b : ℕ) → bit_xor (bit_xor a b) b ≡ a
-xor_undone a b =
-    same_from_bits (bit_xor (bit_xor a b) b) a
-    (λ i.
-    (let outer : bit_at (bit_xor (bit_xor a b) b) i ≡ (bit_at (bit_xor a b) i + bit_at b i) % 2 =
-    bit_at_xor (bit_xor a b) b i in
-    let inner : bit_at (bit_xor a b) i ≡ (bit_at a i + bit_at b i) % 2 = bit_at_xor a b i in
-    omega (arith, outer, inner, bit_at-lt a i, bit_at-lt b i)))
+xor_undone a b = grind (arith, common_steps)
 
 -- a number below a size is its own remainder
 below_itself : (n size : ℕ) → 0 < size → n < size → n % size ≡ n
-below_itself n size some below =
-    let whole : n / size * size + n % size ≡ n = div-add-mod' n size in
-    let one : n < 1 * size = omega arith in
-    let least : n / size < 1 = div_below n size 1 some one in
-    let none : n / size ≡ 0 = omega arith in
-    let no_blocks : n / size * size ≡ 0 * size = ap (λ q. q * size) none in
-    omega (arith, whole, no_blocks)
+below_itself n size some below = grind (arith, common_steps)
 
 -- where the bits from k on are the same, the xor with the low k bits of one number gives those of the other
 low_at : (k a b : ℕ) → a / 2 ^ k ≡ b / 2 ^ k → bit_xor (bit_xor a b) (b % 2 ^ k) ≡ a % 2 ^ k
-low_at k a b same =
-    let below : bit_xor a b < 2 ^ k = (agrees_at k a b).1 same in
-    let parts : bit_xor a b ≡ bit_xor (a % 2 ^ k) (b % 2 ^ k) =
-    sym (below_itself (bit_xor a b) (2 ^ k) (pow_pos k) below) ∙ xor_mod a b k in
-    ap (λ n. bit_xor n (b % 2 ^ k)) parts ∙ xor_undone (a % 2 ^ k) (b % 2 ^ k)
+low_at k a b same = grind (arith, common_steps, agrees_at, below_itself, pow_pos, xor_mod, xor_undone)
 
 -- the low bits of a number by those of another with the same high bits
 pub low_beside : (mask a b low : ℕ) → IsPowerOfTwo (mask + 1) → a / (mask + 1) ≡ b / (mask + 1) →
     low ≡ b % (mask + 1) → bit_xor (bit_xor a b) low ≡ a % (mask + 1)
-low_beside mask a b low power same is =
-    let at : bit_xor (bit_xor a b) (b % 2 ^ power.0) ≡ a % 2 ^ power.0 =
-    low_at power.0 a b (rw power.1 at same) in
-    rw (is, power.1) at
+low_beside mask a b low power same is = grind (arith, common_steps, low_at)
 
 module _ (size : ℕ) (some : 0 < size) where
   -- of two numbers in different blocks the one in the lower block is less

@@ -1,3 +1,4 @@
+use Rattle.std.proofs.lemmas.Grind.{common_steps}
 use Rattle.std.proofs.Common.{◌≡◌, ◌<◌, ◌+◌, ◌%◌, length, sym, ap, ◌∙◌, arith, inr}
 use Rattle.intaglio_index.specs.Placed.{Placed}
 use Rattle.intaglio_index.proofs.FilterLemmas.{marked-some}
@@ -19,23 +20,7 @@ exact c =
 read : (c : After-agrees) →
     IsRead c.args.self.now c.args.hash (c.self.inside.modulus.mask + 1) c.index-head.result.now
     c.matching_word-word.result
-read c =
-    let at : c.masked-bucket.result ≡ c.args.hash % c.args.self.now.count =
-    c.masked-bucket.ensures ∙ ap (λ n. c.args.hash % n) (c.self.invariant.counted ∙ sym (count_is c)) in
-    let some : 0 < length c.self.inside.heads.items = omega (arith, exact c, count_is c) in
-    let within : c.args.hash % c.args.self.now.count < length c.self.inside.heads.items =
-    omega (arith, some, count_is c) in
-    record {
-      some = omega arith;
-      occupied = is_occupied c.args.self.now c.self.inside.heads.items c.self.inside.filters.items
-          (c.self.inside.modulus.mask + 1) (c.args.hash % c.args.self.now.count) (count_is c)
-          c.self.invariant.filtered.size (rw (← c.self.view_is) c.self.invariant.headed) within
-          c.index-head.result.now c.index.result.now (rw at at c.index-head.ensures)
-          (rw at at c.index.ensures)
-          (marked-some _ c.args.hash (c.is_marked.ensures.0 c.if-not-is_marked.false));
-      first = c.matching_word-word.ensures.first;
-      second = c.matching_word-word.ensures.second;
-    }
+read c = grind (arith, common_steps, count_is, exact, is_occupied, marked-some)
 
 pub returns-then-hash-head-clause-none : goal.returns-then-hash-head-clause-none
 returns-then-hash-head-clause-none c =
@@ -51,12 +36,7 @@ symbol-requires-clause-number c =
     omega (arith, second_within _ _ _ _ (read all).occupied, placed_is all, c.self.invariant.linked.numbered)
 
 pub find_behind-requires : goal.find_behind-requires
-find_behind-requires c = record {
-  behind =
-      rw c.symbol.ensures (head_behind _ _ _ _ _ (read (goal.at.find_behind-requires c).After-agrees)
-      c.agrees.result c.if-not-agrees.true c.agrees.ensures.1 c.if-hash-head.false c.if-head.false);
-  begun = (c.args.work.now.events, c.step.ensures);
-}
+find_behind-requires c = grind (arith, common_steps, head_behind, read)
 
 pub symbol_beside-symbol-requires-clause-number : goal.symbol_beside-symbol-requires-clause-number
 symbol_beside-symbol-requires-clause-number c =

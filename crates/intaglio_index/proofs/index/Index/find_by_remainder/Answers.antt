@@ -1,3 +1,4 @@
+use Rattle.std.proofs.lemmas.Grind.{common_steps}
 use Rattle.std.proofs.Common.{◌≡◌, ℕ, List, [], ◌∷◌, ◌++◌, ◌<◌, ◌+◌, ◌%◌, length, sym, ap, ◌∙◌, arith, inl}
 use Rattle.std.proofs.lemmas.Bool.{eqb-false}
 use Rattle.intaglio_content.specs.Work.{Event, step}
@@ -18,24 +19,7 @@ placed_is c = ap (λ (v : Placed). length v.hashes) (sym c.self.view_is)
 read : (c : After-agrees) →
     IsRead c.args.self.now c.args.hash (c.self.inside.modulus.mask + 1) c.index-head.result.now
     c.matching_word-word.result
-read c =
-    let at : c.bucket-bucket.result ≡ c.args.hash % c.args.self.now.count =
-    c.bucket-bucket.ensures ∙ ap (λ n. c.args.hash % n) (c.self.invariant.counted ∙ sym (count_is c)) in
-    let some : 0 < length c.self.inside.heads.items =
-    omega (arith, eqb-false _ _ (sym c.is_empty.ensures ∙ c.if-is_empty.false), c.self.inside.heads.ok.0) in
-    let within : c.args.hash % c.args.self.now.count < length c.self.inside.heads.items =
-    omega (arith, some, count_is c) in
-    record {
-      some = omega arith;
-      occupied = is_occupied c.args.self.now c.self.inside.heads.items c.self.inside.filters.items
-          (c.self.inside.modulus.mask + 1) (c.args.hash % c.args.self.now.count) (count_is c)
-          c.self.invariant.filtered.size (rw (← c.self.view_is) c.self.invariant.headed) within
-          c.index-head.result.now c.index.result.now (rw at at c.index-head.ensures)
-          (rw at at c.index.ensures)
-          (marked-some _ c.args.hash (c.is_marked.ensures.0 c.if-not-is_marked.false));
-      first = c.matching_word-word.ensures.first;
-      second = c.matching_word-word.ensures.second;
-    }
+read c = grind (arith, common_steps, count_is, eqb-false, is_occupied, marked-some)
 
 pub returns-then-hash-head-clause-none : goal.returns-then-hash-head-clause-none
 returns-then-hash-head-clause-none c =
@@ -51,20 +35,10 @@ symbol-requires-clause-number c =
     omega (arith, second_within _ _ _ _ (read all).occupied, placed_is all, c.self.invariant.linked.numbered)
 
 pub find_behind-requires : goal.find_behind-requires
-find_behind-requires c = record {
-  behind =
-      rw c.symbol.ensures (head_behind _ _ _ _ _ (read (goal.at.find_behind-requires c).After-agrees)
-      c.agrees.result c.if-not-agrees.true c.agrees.ensures.1 c.if-hash-head.false c.if-head.false);
-  begun = (c.args.work.now.events, c.step.ensures);
-}
+find_behind-requires c = grind (arith, common_steps, head_behind, read)
 
 pub returns-then-not-agrees-clause-found : goal.returns-then-not-agrees-clause-found
-returns-then-not-agrees-clause-found c =
-    let path : List (ℕ × ℕ) = chain c.args.self.now (c.args.hash % c.args.self.now.count) in
-    each_some (λ s. (start : List Event) → c.step.new.self.events ≡ start ++ step ∷ [] →
-    IsFound c.args.hash path start c.find_behind.new.work.events s)
-    (λ s. IsFound c.args.hash path c.args.work.now.events c.find_behind.new.work.events s)
-    c.find_behind.result (λ s f. f c.args.work.now.events c.step.ensures) c.find_behind.ensures.found
+returns-then-not-agrees-clause-found c = grind (arith, common_steps)
 
 pub returns-then-not-agrees-clause-passed : goal.returns-then-not-agrees-clause-passed
 returns-then-not-agrees-clause-passed c =
@@ -110,9 +84,7 @@ returns-then-index-hash-clause-found c =
     c.find_along.ensures.found
 
 pub returns-then-index-hash-clause-passed : goal.returns-then-index-hash-clause-passed
-returns-then-index-hash-clause-passed c =
-    λ e. c.find_along.ensures.passed e _
-    (reached (goal.at.returns-then-index-hash-clause-passed c).After-first_entry)
+returns-then-index-hash-clause-passed c = grind (arith, common_steps, reached)
 
 pub returns-then-word-head-clause-found : goal.returns-then-word-head-clause-found
 returns-then-word-head-clause-found c =

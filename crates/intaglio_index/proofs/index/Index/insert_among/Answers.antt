@@ -1,3 +1,4 @@
+use Rattle.std.proofs.lemmas.Grind.{common_steps}
 use Rattle.std.proofs.Common.{◌≡◌, ℕ, ◌<◌, ◌+◌, ◌%◌, ◌++◌, ◌∷◌, [], length, set, arith, sym, ◌∙◌}
 use Rattle.std.proofs.lemmas.List.{length-set, get_or_read}
 use Rattle.intaglio_index.specs.Placed.{chain, chain_from, first_symbol_of, IsPredecessor}
@@ -93,25 +94,10 @@ invariant_of-self c =
     }
 
 pub next-requires : goal.next-requires
-next-requires c =
-    let all = (goal.at.next-requires c).After-marked in
-    rw c.deref.ensures.value (omega (
-      arith,
-      below all c.in-Some.last c.in-Some.ensures,
-      c.self.invariant.linked.paired,
-    ))
+next-requires c = grind (arith, common_steps, below)
 
 pub index_mut-requires-in-Some-2 : goal.index_mut-requires-in-Some-2
-index_mut-requires-in-Some-2 c =
-    let all = (goal.at.index_mut-requires-in-Some-2 c).After-marked in
-    omega (
-      arith,
-      below all c.in-Some.last c.in-Some.ensures,
-      c.self.invariant.linked.paired,
-      c.id.ensures,
-      c.self.inside.links.ok.0,
-      c.push_reserved-in-Some.ensures.len,
-    )
+index_mut-requires-in-Some-2 c = grind (arith, common_steps, below)
 
 pub invariant_of-self-in-Some : goal.invariant_of-self-in-Some
 unfolding chain

@@ -1,3 +1,4 @@
+use Rattle.std.proofs.lemmas.Grind.{common_steps}
 use Rattle.std.proofs.Common.{◌≡◌, ℕ, ◌<◌, ◌+◌, ◌%◌, [], ◌∷◌, ◌++◌, length, sym, ap, ◌∙◌, arith, inl, inr}
 use Rattle.intaglio_index.specs.Placed.{Placed, chain}
 use Rattle.intaglio_index.proofs.HeadLemmas.{IsOccupied, is_vacant, is_occupied, first_within, second_within}
@@ -30,12 +31,7 @@ empty_bucket c none =
 occupied : (c : After-index) → (c.index.result.now ≡ 0 → ⊥) →
     IsOccupied c.args.self.now (c.args.hash % c.args.self.now.count) (c.self.inside.modulus.mask + 1)
     c.index-head.result.now
-occupied c some =
-    is_occupied c.args.self.now c.self.inside.heads.items c.self.inside.filters.items
-    (c.self.inside.modulus.mask + 1) (c.args.hash % c.args.self.now.count) (count_is c)
-    c.self.invariant.filtered.size (rw (← c.self.view_is) c.self.invariant.headed) (within c)
-    c.index-head.result.now c.index.result.now (rw c.requires.bucket at c.index-head.ensures)
-    (rw c.requires.bucket at c.index.ensures) some
+occupied c some = grind (arith, common_steps, is_occupied, count_is, within)
 
 some_size : (n : ℕ) → 0 < n + 1
 some_size n = omega arith
@@ -60,10 +56,7 @@ symbol-requires-clause-number c =
     )
 
 pub returns-then-high-head-2 : goal.returns-then-high-head-2
-returns-then-high-head-2 c =
-    let all = (goal.at.returns-then-high-head-2 c).After-index in
-    rw c.symbol.ensures (first_precedes _ _ _ _ (some_size _) (exact all) (occupied all c.if-index-eq0.false)
-    (rw c.high-high.ensures at c.if-high-head.false) (rw c.high-high.ensures at c.if-high-head-2.true))
+returns-then-high-head-2 c = grind (arith, common_steps, first_precedes, some_size, exact, occupied)
 
 pub symbol-second-requires-clause-number : goal.symbol-second-requires-clause-number
 symbol-second-requires-clause-number c =

@@ -1,3 +1,4 @@
+use Rattle.std.proofs.lemmas.Grind.{common_steps}
 use Rattle.std.proofs.Common.{◌≡◌, ◌≢◌, ℕ, ◌<◌, ◌%◌, ◌+◌, ◌-◌, List, [], ◌∷◌, length, get_or, set, take, arith, ◌∙◌, sym, Some, unwrap_or, ap, refl, length-append}
 use Rattle.std.proofs.lemmas.List.{length-set}
 use Rattle.intaglio_index.specs.declared.index.head.Head.{Head}
@@ -32,17 +33,12 @@ others : (c : After-predecessor-before) (b : ℕ) →
     chain_from (length c.self.inside.heads.items) b 0 []
     (take (c.placed-last.result - 1) c.self.inside.hashes.items)
     ≡ chain_from (length c.self.inside.heads.items) b 0 [] c.self.inside.hashes.items
-others c = others_stay (length c.self.inside.heads.items) c.self.inside.hashes.items c.self.inside.links.items
-    c.self.invariant.linked c.index-hash.result.now (c.placed-last.result - 1) (last_is c)
-    c.index-hash.ensures
+others c = grind (arith, common_steps, others_stay, last_is)
 
 -- the last symbol's bucket has a filter
 marked : (c : After-predecessor-before) →
     get_or c.self.inside.filters.items (c.index-hash.result.now % length c.self.inside.heads.items) 0 ≡ 0 → ⊥
-marked c none =
-    last_some (length c.self.inside.heads.items) c.self.inside.hashes.items c.self.inside.links.items
-    c.self.invariant.linked c.index-hash.result.now (c.placed-last.result - 1) (last_is c)
-    c.index-hash.ensures ((c.self.invariant.headed.empty_bucket _ (within c)).0 none)
+marked c none = grind (arith, common_steps)
 
 -- what the last symbol leaves where it is its bucket's first
 module _ (c : After-predecessor-before)

@@ -1,12 +1,10 @@
+use Rattle.std.proofs.lemmas.Grind.{common_steps}
 use Rattle.std.proofs.Common.{◌/◌, ◌*◌, ◌^◌, ◌≤◌, ◌<◌, ◌+◌, arith}
 use Rattle.intaglio_index.proofs.Remainders.{by_reciprocal, by_reciprocal_near, rest_is}
 use Rattle.intaglio_index.proofs.index.modulus.remainder.Goals as goal
 
 pub overflow_sub-rest : goal.overflow_sub-rest
-overflow_sub-rest c =
-    rw (c.from.ensures, c.from-2.ensures)
-    (by_reciprocal c.args.hash c.args.count c.args.inverse c.requires.some c.requires.inverse
-    c.ranges.hash.fits)
+overflow_sub-rest c = grind (arith, common_steps, by_reciprocal)
 
 pub returns-then-rest-count : goal.returns-then-rest-count
 returns-then-rest-count c =

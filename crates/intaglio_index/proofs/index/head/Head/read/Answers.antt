@@ -1,3 +1,4 @@
+use Rattle.std.proofs.lemmas.Grind.{common_steps}
 use Rattle.std.proofs.Common.{sym, ◌∙◌, arith}
 use Rattle.intaglio_index.proofs.HeadLemmas.{thread_within, thread_next}
 use Rattle.intaglio_index.proofs.index.head.Head.read.Goals as goal
@@ -6,32 +7,14 @@ pub bounds-hashes-id : goal.bounds-hashes-id
 bounds-hashes-id c = rw c.id.ensures (thread_within _ _ _ _ c.requires.linked.1)
 
 pub word-first-requires-clause-below : goal.word-first-requires-clause-below
-word-first-requires-clause-below c =
-    omega (
-      arith,
-      thread_within c.args.hashes.now c.args.links.now c.args.first_symbol c.requires.linked.0
-          c.requires.linked.1,
-      c.requires.few,
-    )
+word-first-requires-clause-below c = grind (arith, common_steps, thread_within)
 
 pub next-requires : goal.next-requires
-next-requires c =
-    omega (
-      arith,
-      thread_within c.args.hashes.now c.args.links.now c.args.first_symbol c.requires.linked.0
-          c.requires.linked.1,
-      c.requires.linked.1.paired,
-    )
+next-requires c = grind (arith, common_steps, thread_within)
 
 pub bounds-hashes-id-in-Some : goal.bounds-hashes-id-in-Some
 bounds-hashes-id-in-Some c =
     rw c.id-in-Some.ensures (thread_next _ _ _ _ _ c.requires.linked.1 (sym c.next.ensures ∙ c.in-Some.is))
 
 pub word-second-requires-clause-below : goal.word-second-requires-clause-below
-word-second-requires-clause-below c =
-    omega (
-      arith,
-      thread_next c.args.hashes.now c.args.links.now c.args.first_symbol c.requires.linked.0
-          c.in-Some.symbol c.requires.linked.1 (sym c.next.ensures ∙ c.in-Some.is),
-      c.requires.few,
-    )
+word-second-requires-clause-below c = grind (arith, common_steps, thread_next)

@@ -1,3 +1,4 @@
+use Rattle.std.proofs.lemmas.Grind.{common_steps}
 use Rattle.std.proofs.Common.{◌≡◌, ◌+◌, ◌%◌, arith, refl}
 use Rattle.std.specs.Int.RustNames.{bit_and}
 use Rattle.std.proofs.lemmas.Nat.{div-add-mod'}
@@ -5,7 +6,4 @@ use Rattle.intaglio_index.proofs.Remainders.{masked}
 use Rattle.intaglio_index.proofs.index.modulus.Modulus.high.Goals as goal
 
 pub returns : goal.returns
-returns c =
-    let low : bit_and c.args.hash c.args.self.mask ≡ c.args.hash % (c.args.self.mask + 1) =
-    masked c.args.hash (c.args.self.mask + 1) c.args.self.mask c.requires.power refl in
-    omega (arith, low, div-add-mod' c.args.hash (c.args.self.mask + 1))
+returns c = grind (arith, common_steps, masked, div-add-mod')

@@ -1,3 +1,4 @@
+use Rattle.std.proofs.lemmas.Grind.{common_steps}
 use Rattle.std.proofs.Common.{◌+◌, arith}
 use Rattle.intaglio_index.proofs.Words.{word_is, word_fits}
 use Rattle.intaglio_index.proofs.index.modulus.Modulus.word.Goals as goal
@@ -11,10 +12,4 @@ overflow_add-result c =
     }
 
 pub returns-clause-word : goal.returns-clause-word
-returns-clause-word c =
-    rw (
-      c.high.ensures,
-      c.from.ensures,
-      c.id.ensures,
-    ) (word_is (c.args.self.mask + 1) (omega arith) c.args.hash c.args.symbol
-    c.requires.below)
+returns-clause-word c = grind (arith, common_steps, word_is)
