@@ -118,14 +118,7 @@ chain_from-each count b all before (h ∷ hs) met e a =
     let more : length (before ++ h ∷ []) ≡ length before + 1 = length-append before (h ∷ []) in
     let split : all ≡ (before ++ h ∷ []) ++ hs = e ∙ sym (append_assoc before (h ∷ []) hs) in
     let cases : (t : Bool) → eqb (h % count) b ≡ t →
-    AllByRecursion (IsEntry count b all) (cond t (insert_sorted (length before) h met) met) = elim [
-      | true ↦ λ is. insert_sorted-each (IsEntry count b all) (length before) h met (
-        rw e (omega (arith, length-append before (h ∷ hs))),
-        λ d. rw e (get_or_at before h hs d (length before) refl),
-        eqb-true _ _ is,
-      ) a
-      | false ↦ λ is. a
-    ] in
+    AllByRecursion (IsEntry count b all) (cond t (insert_sorted (length before) h met) met) = grind (arith, common_steps, insert_sorted-each, length-append, get_or_at, eqb-true) in
     rw (← more) (chain_from-each count b all (before ++ h ∷ []) hs _ split (cases (eqb (h % count) b) refl))
 
 -- each entry of a chain is a placed symbol of its bucket with its hash
@@ -318,11 +311,7 @@ unput s h [] (f ∷ fs) behind e a l =
     (let q : f ≡ (s, h) = cc in let r : f.1 ≡ h = ap (λ (x : ℕ × ℕ). x.1) q in absurd (omega (arith, r, a.0)))
 unput s h (x ∷ xs) [] behind e a l =
     let cases : (t : Bool) → ltb x.1 h ≡ t → cond t (x ∷ insert_sorted s h xs) ((s, h) ∷ x ∷ xs) ≡ behind →
-    (rest : List (ℕ × ℕ)) × (behind ≡ (s, h) ∷ rest) × (x ∷ xs ≡ rest) = elim [
-      | true ↦
-          λ q e'. (let above : h ≤ x.1 = rw (← e') at l in absurd (omega (arith, above, ltb-true x.1 h q)))
-      | false ↦ λ q e'. (x ∷ xs, sym e', refl)
-    ] in
+    (rest : List (ℕ × ℕ)) × (behind ≡ (s, h) ∷ rest) × (x ∷ xs ≡ rest) = grind (arith, common_steps) in
     cases (ltb x.1 h) refl e
 unput s h (x ∷ xs) (f ∷ fs) behind e a l =
     let cases : (t : Bool) → cond t (x ∷ insert_sorted s h xs) ((s, h) ∷ x ∷ xs) ≡ f ∷ fs ++ behind →

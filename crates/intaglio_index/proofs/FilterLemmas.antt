@@ -25,11 +25,7 @@ filtered-push filters count hashes hash mark filtered within marked kept =
     let l : b < length filters = omega (arith, within, filtered.size) in
     let here : get_or (set filters b mark) b 0 ≡ mark = get_or-set_same filters b mark 0 l in
     let stays : (other : ℕ) → IsMarked (get_or filters (other % count) 0) other →
-    IsMarked (get_or (set filters b mark) (other % count) 0) other = λ other m.
-    elim (eqb_tells (other % count) b) [
-      | inl h ↦ rw (h.1, here) (kept other (rw h.1 at m))
-      | inr h ↦ rw (get_or-set_other filters b (other % count) mark 0 h.1) m
-    ] in
+    IsMarked (get_or (set filters b mark) (other % count) 0) other = grind (arith, common_steps) in
     record {
       size = length-set filters b mark ∙ filtered.size;
       marks = Each-append (λ other. IsMarked (get_or (set filters b mark) (other % count) 0) other) hashes

@@ -52,14 +52,7 @@ symbol-symbol-requires-clause-number c =
 pub index-requires-2 : goal.index-requires-2
 index-requires-2 c =
     let all = (goal.at.index-requires-2 c).After-agrees in
-    omega (
-      arith,
-      word_within _ _ _ _ _ (read all),
-      placed_is all,
-      c.id.ensures,
-      c.symbol-symbol.ensures,
-      c.self.inside.hashes.ok.0,
-    )
+    omega (arith, word_within _ _ _ _ _ (read all), placed_is all)
 
 reached : (c : After-first_entry) →
     IsReached c.args.hash (bucket_of c.args.self.now c.args.hash) c.args.work.now.events

@@ -48,12 +48,7 @@ returns-then-index-eq0 c =
 pub symbol-requires-clause-number : goal.symbol-requires-clause-number
 symbol-requires-clause-number c =
     let all = (goal.at.symbol-requires-clause-number c).After-index in
-    omega (
-      arith,
-      first_within _ _ _ _ (occupied all c.if-index-eq0.false),
-      placed_is all,
-      c.self.invariant.linked.numbered,
-    )
+    omega (arith, first_within _ _ _ _ (occupied all c.if-index-eq0.false), placed_is all)
 
 pub returns-then-high-head-2 : goal.returns-then-high-head-2
 returns-then-high-head-2 c = grind (arith, common_steps, first_precedes, some_size, exact, occupied)
@@ -61,12 +56,7 @@ returns-then-high-head-2 c = grind (arith, common_steps, first_precedes, some_si
 pub symbol-second-requires-clause-number : goal.symbol-second-requires-clause-number
 symbol-second-requires-clause-number c =
     let all = (goal.at.symbol-second-requires-clause-number c).After-index in
-    omega (
-      arith,
-      second_within _ _ _ _ (occupied all c.if-index-eq0.false),
-      placed_is all,
-      c.self.invariant.linked.numbered,
-    )
+    omega (arith, second_within _ _ _ _ (occupied all c.if-index-eq0.false), placed_is all)
 
 pub next_entry-requires : goal.next_entry-requires
 next_entry-requires c =

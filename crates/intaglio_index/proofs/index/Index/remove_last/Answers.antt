@@ -157,12 +157,7 @@ occupied c before head read pred =
 pub symbol-first-requires-clause-number : goal.symbol-first-requires-clause-number
 symbol-first-requires-clause-number c =
     let all = (goal.at.symbol-first-requires-clause-number c).After-predecessor-before in
-    omega (
-      arith,
-      first_within _ _ _ _ (occupied all c.in-Some.before _ c.index.ensures c.in-Some.ensures),
-      placed_is all,
-      c.self.invariant.linked.numbered,
-    )
+    omega (arith, first_within _ _ _ _ (occupied all c.in-Some.before _ c.index.ensures c.in-Some.ensures), placed_is all)
 
 -- what the last symbol leaves where another stands in front of it
 module _ (c : After-predecessor-before) (before : ℕ)

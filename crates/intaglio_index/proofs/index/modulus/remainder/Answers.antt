@@ -8,18 +8,12 @@ overflow_sub-rest c = grind (arith, common_steps, by_reciprocal)
 
 pub returns-then-rest-count : goal.returns-then-rest-count
 returns-then-rest-count c =
-    let below : c.from.result * c.from-2.result / 2 ^ 64 * c.args.count ≤ c.args.hash =
-    rw (c.from.ensures, c.from-2.ensures)
-    (by_reciprocal c.args.hash c.args.count c.args.inverse c.requires.some c.requires.inverse
-    c.ranges.hash.fits) in
+    let below : c.from.result * c.from-2.result / 2 ^ 64 * c.args.count ≤ c.args.hash = grind (arith, common_steps, by_reciprocal) in
     rest_is c.args.hash c.args.count (c.from.result * c.from-2.result / 2 ^ 64) _ (omega (arith, below))
     c.if-rest-count.true
 
 pub returns-else-rest-count : goal.returns-else-rest-count
 returns-else-rest-count c =
-    let near : c.args.hash < c.from.result * c.from-2.result / 2 ^ 64 * c.args.count + 2 * c.args.count =
-    rw (c.from.ensures, c.from-2.ensures)
-    (by_reciprocal_near c.args.hash c.args.count c.args.inverse c.requires.some c.requires.inverse
-    c.ranges.hash.fits) in
+    let near : c.args.hash < c.from.result * c.from-2.result / 2 ^ 64 * c.args.count + 2 * c.args.count = grind (arith, common_steps, by_reciprocal_near) in
     rest_is c.args.hash c.args.count (c.from.result * c.from-2.result / 2 ^ 64 + 1) _
     (omega (arith, c.if-rest-count.false)) (omega (arith, near, c.if-rest-count.false))

@@ -1,3 +1,4 @@
+use Rattle.std.proofs.lemmas.Grind.{common_steps}
 use Rattle.std.proofs.Common.{◌≡◌, ℕ, ◌+◌, ◌-◌, ◌<◌, ◌≤◌, ◌^◌, arith, refl, inl, inr}
 use Rattle.std.proofs.Math.Pow.{pow_mono}
 use Rattle.std.proofs.lemmas.Bool.{cases_lt}
@@ -25,9 +26,7 @@ returns-else-count-eq0-clause-made c =
     × (c.match-checked_next_power_of_two.mask < 2 ^ 64)
     × (c.args.count ≤ c.match-checked_next_power_of_two.mask + 1) =
     elim c.match-checked_next_power_of_two.branch [
-      | in-Some w ↦
-          power_of c.args.count w.in-Some.power c.match-checked_next_power_of_two.mask w.in-Some.ensures
-          c.ranges.count.fits w.mask-is
+      | in-Some w ↦ grind (arith, common_steps)
       | in-None w ↦ (
         (64, omega (arith, w.mask-is)),
         omega (arith, w.mask-is),
