@@ -1,19 +1,13 @@
 -- What filters tell of the hashes that were placed.
 use Rattle.std.proofs.lemmas.Grind.{common_steps}
-use Rattle.std.proofs.Common.{◌≡◌, ◌≢◌, ℕ, zero, suc, replicate, ◌<◌, ◌/◌, ◌%◌, ◌^◌, List, [], ◌∷◌, ◌++◌, length, get_or, set, take, drop, refl, ◌∙◌, arith, inl, inr, ap}
-use Rattle.std.proofs.lemmas.Bool.Decides.{eqb_tells}
-use Rattle.std.proofs.lemmas.List.{get_or-set_same, get_or-set_other, get_or_default, length-set, take-append-drop}
+use Rattle.std.proofs.Common.{◌≡◌, ◌≢◌, ℕ, ◌<◌, ◌/◌, ◌%◌, ◌^◌, List, [], ◌∷◌, ◌++◌, length, get_or, set, take, ◌∙◌, arith, ap}
+use Rattle.std.proofs.lemmas.List.{get_or-set_same, get_or-set_other, get_or_default, length-set}
 use Rattle.std.specs.Int.{bit_at}
 use Rattle.std.proofs.lemmas.Nat.Bits.{bit_at-zero}
 use Rattle.std.proofs.lemmas.List.Elements.{recursion_from_All, All-from_recursion}
 use Rattle.intaglio_index.specs.Placed.{chain_from, symbols_of}
 use Rattle.intaglio_index.specs.Filter.{IsMarked, IsFiltered}
-use Rattle.intaglio_index.proofs.ChainLemmas.{Each-weaker, Each-left, Each-append, chain-complete}
-
--- no hash was placed
-pub filtered-none : (filters : List ℕ) (count : ℕ) (hashes : List ℕ) → length filters ≡ count → hashes ≡ [] →
-    IsFiltered filters count hashes
-filtered-none filters count hashes size none = record { size = size; marks = rw none tt }
+use Rattle.intaglio_index.proofs.ChainLemmas.{Each-weaker, Each-append, chain-complete}
 
 -- one hash more, whose bit is set
 pub filtered-push : (filters : List ℕ) (count : ℕ) (hashes : List ℕ) (hash mark : ℕ) →
@@ -60,13 +54,3 @@ filtered-vacated filters count hashes k filtered none =
 pub marked-some : (filter hash : ℕ) → IsMarked filter hash → filter ≡ 0 → ⊥
 marked-some filter hash m none = (let zero_bit : bit_at 0 (hash / 2 ^ 61) ≡ 0 = bit_at-zero (hash / 2 ^ 61) in
     let one : bit_at 0 (hash / 2 ^ 61) ≡ 1 = rw none at m in omega arith)
-
--- what is read of a list of zeros, with 0 behind its end, is 0
-zero-at : (n b : ℕ) → ◌≡◌ {A = ℕ} (get_or (replicate n 0) b 0) 0
-zero-at zero b = refl
-zero-at (suc n) zero = refl
-zero-at (suc n) (suc b) = zero-at n b
-
--- if all filters are 0, so is that of each bucket
-pub zero-filters : (filters : List ℕ) (n : ℕ) → filters ≡ replicate n 0 → (b : ℕ) → get_or filters b 0 ≡ 0
-zero-filters filters n e b = rw e (zero-at n b)

@@ -148,12 +148,6 @@ module _ (size : ℕ) (heads : List Head) (filters hashes later : List ℕ) (k :
   headed_filter filter empty_bucket is =
       rw (set-get_or heads k no_head) at (headed_changed (get_or heads k no_head) filter empty_bucket is)
 
--- no symbol in any bucket
-pub headed_none : (size : ℕ) (heads : List Head) (filters hashes : List ℕ) →
-    ((b : ℕ) → get_or filters b 0 ≡ 0) → hashes ≡ [] → IsHeaded size heads filters hashes
-headed_none size heads filters hashes zeros none =
-    record { empty_bucket = λ b l. rw none (λ e. refl, λ e. zeros b); words = λ b l. rw none tt }
-
 -- a hash beside the first two
 module _ (size : ℕ) (some : 0 < size) (h : ℕ) (head : Head) where
   -- equal words: there is no second

@@ -5,7 +5,7 @@ use Rattle.std.specs.Option.{option_map}
 use Rattle.std.specs.List.{AllByRecursion, IsDistinct}
 use Rattle.std.proofs.lemmas.Bool.{eqb-false, eq-eqb, ne_eqb}
 use Rattle.std.proofs.lemmas.Bool.Decides.{eqb_tells}
-use Rattle.std.proofs.lemmas.List.{get_or-set_same, get_or-set_other, map-append, get_or_append_left, get_or_push, get_or_default, length-set, take_more, take_all, length-take-le}
+use Rattle.std.proofs.lemmas.List.{get_or-set_same, get_or-set_other, map-append, get_or_append_left, get_or_push, get_or_default, length-set, length-take-le}
 use Rattle.intaglio_symbol.specs.declared.symbol.Symbol.{Symbol}
 use Rattle.intaglio_index.specs.Placed.{chain_from, head_of, first_symbol_of, symbols_of, BeginsAtOrAbove, IsPredecessor, IsEntry}
 use Rattle.intaglio_index.specs.Links.{IsPath, IsThread, IsLinked, entry_of, target_of, next_of}
@@ -121,11 +121,6 @@ pub leader_same : (front : List (ℕ × ℕ)) (e : ℕ × ℕ) (xs ys : List (�
     first_symbol_of (front ++ e ∷ xs) ≡ first_symbol_of (front ++ e ∷ ys)
 leader_same [] e xs ys = refl
 leader_same (x ∷ front) e xs ys = refl
-
--- no symbol in any bucket
-pub empty_links : (count : ℕ) (hashes : List ℕ) (links : List Symbol) → hashes ≡ [] → links ≡ [] →
-    IsLinked count hashes links
-empty_links count hashes links e f = grind (arith, common_steps)
 
 -- a list of at most 0 hashes is empty
 none_left : (hashes : List ℕ) → length hashes ≤ 0 → hashes ≡ []

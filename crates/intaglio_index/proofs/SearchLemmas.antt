@@ -5,7 +5,6 @@ use Rattle.std.specs.Option.{MatchOption, IfSome}
 use Rattle.std.specs.List.{AllByRecursion}
 use Rattle.std.proofs.lemmas.Bool.{eq-eqb, ne_eqb, true≢false}
 use Rattle.std.proofs.lemmas.Bool.Decides.{eqb_tells}
-use Rattle.std.proofs.lemmas.Grind.{replicate_next}
 use Rattle.std.proofs.lemmas.List.{get_or_default}
 use Rattle.std.proofs.lemmas.List.Elements.{recursion_from_All}
 use Rattle.intaglio_content.specs.Work.{Event, step}
@@ -16,7 +15,7 @@ use Rattle.intaglio_index.specs.Heads.{IsHead}
 use Rattle.intaglio_index.proofs.ChainLemmas.{Each-weaker, Each-right, Each-append, chain-complete, chain-each, chain-entries, entry-split, InOrder}
 use Rattle.intaglio_index.proofs.HeadLemmas.{IsOccupied, order, apart, entries, first_within, second_within, none_by_words, both_below, second_agrees}
 use Rattle.intaglio_index.proofs.Words.{same_number, high_below, high_above}
-use Rattle.intaglio_index.proofs.WalkLemmas.{some-rest, standing, moves}
+use Rattle.intaglio_index.proofs.WalkLemmas.{standing, moves}
 
 -- a hash that no entry of its bucket has was not placed
 pub absent_on : (v : Placed) (hash : ℕ) →

@@ -1,7 +1,6 @@
 use Rattle.std.proofs.lemmas.Grind.{common_steps}
-use Rattle.std.proofs.Common.{◌≡◌, ◌%◌, [], length, sym, ap, ◌∙◌, arith}
+use Rattle.std.proofs.Common.{◌≡◌, ◌%◌, [], ◌∙◌, arith}
 use Rattle.std.proofs.lemmas.Bool.{eqb-true}
-use Rattle.intaglio_index.specs.Placed.{head_of}
 use Rattle.intaglio_index.proofs.ChainLemmas.{chain-bucket, none-placed}
 use Rattle.intaglio_index.proofs.LinkLemmas.{no_buckets}
 use Rattle.intaglio_index.proofs.index.Index.first.Goals as goal

@@ -6,7 +6,7 @@ use Rattle.intaglio_index.specs.Placed.{Placed, chain, chain_from, first_symbol_
 use Rattle.intaglio_index.specs.Links.{IsThread, IsLinked, next_of}
 use Rattle.intaglio_index.proofs.FilterLemmas.{filtered-take, filtered-vacated}
 use Rattle.intaglio_index.proofs.HeadLemmas.{IsOccupied, is_occupied_by, first_within, leads, headed_head, headed_filter, neither, nil_leader, led_some}
-use Rattle.intaglio_index.proofs.LinkLemmas.{cut_first, cut_behind, predecessor_below, thread_of, others_stay, last_some}
+use Rattle.intaglio_index.proofs.LinkLemmas.{cut_first, cut_behind, predecessor_below, thread_of, others_stay}
 use Rattle.intaglio_index.proofs.index.Index.remove_last.Goals as goal
 use Rattle.intaglio_index.proofs.index.Index.remove_last.Goals.{After-predecessor-before}
 

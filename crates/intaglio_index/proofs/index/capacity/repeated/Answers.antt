@@ -1,6 +1,5 @@
 use Rattle.std.proofs.lemmas.Grind.{common_steps}
-use Rattle.std.proofs.Common.{◌++◌, ◌∷◌, [], length, ap, ◌∙◌, arith}
-use Rattle.std.proofs.lemmas.List.{length-replicate, replicate_more}
+use Rattle.std.proofs.Common.{◌++◌, ◌∷◌, [], ◌∙◌, arith}
 use Rattle.intaglio_index.proofs.index.capacity.repeated.Goals as goal
 
 pub loop-i-preserved : goal.loop-i-preserved
