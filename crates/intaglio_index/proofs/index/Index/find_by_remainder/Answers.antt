@@ -37,9 +37,6 @@ symbol-requires-clause-number c =
 pub find_behind-requires : goal.find_behind-requires
 find_behind-requires c = grind (arith, common_steps, head_behind, read)
 
-pub returns-then-not-agrees-clause-found : goal.returns-then-not-agrees-clause-found
-returns-then-not-agrees-clause-found c = grind (arith, common_steps)
-
 pub returns-then-not-agrees-clause-passed : goal.returns-then-not-agrees-clause-passed
 returns-then-not-agrees-clause-passed c =
     λ e. c.find_behind.ensures.passed e c.args.work.now.events c.step.ensures
