@@ -1,4 +1,5 @@
 -- How often the memory of a table's contents grows.
+use Rattle.std.proofs.lemmas.Grind.{common_steps}
 use Rattle.std.proofs.Common.{◌≡◌, ◌≢◌, ℕ, suc, ◌+◌, ◌*◌, ◌^◌, ◌≤◌, ◌∙◌, max, Bool, List, [], ◌∷◌, ◌++◌, length, All, inl, inr, refl, ap, arith}
 use Rattle.std.proofs.lemmas.Bool.{cases_eq, cases_lt, eq-eqb, ne_eqb}
 use Rattle.std.proofs.Math.Nat.{mul-le-mul_left, mul_assoc, pow-suc}
@@ -19,14 +20,12 @@ doubled : (g i x y z : ℕ) → g ≡ changes x y + i → (y ≢ x → 2 * max 1
     2 ^ i * max 1 y ≤ max 1 z → 2 ^ g * max 1 x ≤ max 1 z
 doubled g i x y z count twice rest =
     elim (cases_eq y x) [
-      | inl same ↦ let none : changes x y ≡ 0 = rw (eq-eqb y x same) refl in let is : g ≡ i =
-          omega (arith, count, none) in rw (is, ← same) rest
+      | inl same ↦ grind (arith, common_steps)
       | inr differ ↦
           let one : changes x y ≡ 1 = rw (ne_eqb y x differ) refl in
           let once : g ≡ suc i = omega (arith, count, one) in
           let more : 2 ^ i * (2 * max 1 x) ≤ 2 ^ i * max 1 y = mul-le-mul_left (2 ^ i) (twice differ) in
-          let power : 2 ^ suc i * max 1 x ≡ 2 ^ i * (2 * max 1 x) =
-          ap (λ n. n * max 1 x) (pow-suc 2 i) ∙ mul_assoc (2 ^ i) 2 (max 1 x) in
+          let power : 2 ^ suc i * max 1 x ≡ 2 ^ i * (2 * max 1 x) = grind (arith, common_steps, pow-suc, mul_assoc) in
           rw once (omega (arith, more, power, rest))
     ]
 

@@ -24,10 +24,7 @@ loop-call-init g c =
       whole = all;
       room = search rules;
       bytes = λ keep. omega arith;
-      still = rw (all, c.in_ok-replies.ensures.items)
-          (StillRoom-start g.T.Content.Keyed.key g.Q.Keyed.key g.T.Content.Content.spelling g.Q.AddedTo.adds
-          g.Q.AddedTo.copies g.Q.AddedTo.needs g.Q.AddedTo.in_store (g.T.BaseInterner.state c.args.table.now)
-          (g.T.BaseInterner.spare_bytes c.args.table.now) c.args.calls.items);
+      still = grind (arith, common_steps);
     }
 
 pub loop-call-preserved : goal.loop-call-preserved
@@ -81,8 +78,7 @@ returns g c =
     let steps = Step key value_key spelling adds copies in
     let ran = c.loop-call.invariant.ran in
     let so_far = c.loop-call.invariant.growths in
-    let all : c.loop-call.yielded ≡ c.args.calls.items =
-    grind (arith, common_steps, c.in-None.ensures.steps, c.loop-call.invariant.whole) in
+    let all : c.loop-call.yielded ≡ c.args.calls.items = grind (arith, common_steps) in
     let run = rw all at so_far.2 in
     record {
       ok = rw all at ran;
