@@ -5,7 +5,7 @@ use Rattle.intaglio_interner.proofs.Growth.{Runs-hash, Runs-place, Runs-room}
 use Rattle.intaglio_interner.proofs.Issued.{Runs-issue}
 use Rattle.intaglio_interner.proofs.RoomKept.{Runs-roomier}
 use Rattle.intaglio_interner.specs.Run.{KeepsRoom}
-use Rattle.intaglio_interner.proofs.Bytes.{All-next, StillRoom-start, StillRoom-push}
+use Rattle.intaglio_interner.proofs.Bytes.{All-next, StillRoom-push}
 use Rattle.intaglio_interner.proofs.InOrder.{Adds-push}
 use Rattle.intaglio_interner.specs.Step.{Step}
 use Rattle.intaglio_interner.specs.Growths.{room, changes, bytes_of}

@@ -1,6 +1,5 @@
 use Rattle.std.proofs.lemmas.Grind.{common_steps}
-use Rattle.std.proofs.Common.{ℕ, ◌<◌, ◌≤◌, arith, append-nil, sym, refl, ◌∙◌}
-use Rattle.std.proofs.lemmas.Bool.{ne_eqb}
+use Rattle.std.proofs.Common.{ℕ, ◌<◌, ◌≤◌, arith, ◌∙◌}
 use Rattle.intaglio_interner.specs.Batch.{AreHashed}
 use Rattle.intaglio_interner.proofs.Groups.{hashed-first, hashed-next}
 use Rattle.intaglio_interner.proofs.batch.ahead.next_of_group.Goals.{then-ahead-eq0, else-ahead-eq0}
