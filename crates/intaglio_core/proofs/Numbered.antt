@@ -1,4 +1,5 @@
 -- A search that compares the contents with one hash, by their numbers.
+use Rattle.std.proofs.lemmas.Grind.{common_steps}
 use Rattle.std.proofs.Common.{◌≡◌, ◌≢◌, ℕ, zero, suc, ◌+◌, ◌%◌, ◌<◌, ◌≤◌, ◌==◌, ◌&&◌, nat_lt, Bool, true, false, cond, List, [], ◌∷◌, ◌++◌, replicate, length, map, filter, get_or, Some, None, refl, sym, ap, ◌∙◌, subst, arith, append_assoc, append-nil, length-append, inl, inr}
 use Rattle.std.specs.List.{All, AllPairs, Contains, sum_by}
 use Rattle.std.specs.Cmp.{IsEquivalence}
@@ -44,13 +45,7 @@ pub compared-as : {C : Type 0} (key : C → Key) (contents : List C) (s : ℕ) (
     (now later : List Event) → s < length contents → IsCompared key contents s k result now later
     → let x = get_or (map key contents) s [] in
     (later ≡ now ++ compared k x ∷ []) × (result ≡ true → x ≡ k) × (result ≡ false → x ≢ k)
-compared-as key contents s k result now later l is =
-    let read : get_or (map key contents) s [] ≡ key is.content =
-    get_or-map key contents s is.content [] l ∙ ap key (sym is.stands) in (
-      rw read is.event,
-      λ e. read ∙ sym (is.same_keys.0 e),
-      λ e q. false≢true (sym e ∙ is.same_keys.1 (sym q ∙ read)),
-    )
+compared-as key contents s k result now later l is = grind (arith, common_steps)
 
 module _ (keys : List Key) (k : Key) where
   abbrev pub key_at : ℕ → Key

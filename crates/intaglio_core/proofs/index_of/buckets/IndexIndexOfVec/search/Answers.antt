@@ -1,3 +1,4 @@
+use Rattle.std.proofs.lemmas.Grind.{common_steps}
 use Rattle.std.proofs.Common.{◌≡◌, None, Option, Some, slice_get, arith, rules}
 use Rattle.std.specs.Option.{IfSome}
 use Rattle.intaglio_core.proofs.Walking.{passes, begins, within, ends, finds, goes_on, falls}
@@ -8,13 +9,7 @@ any-read None = tt
 any-read (Some x) = tt
 
 pub returns-in_err-find-clause-found : goal.returns-in_err-find-clause-found
-returns-in_err-find-clause-found g c =
-    let by = c.requires.hashed in
-    let none : c.find.result ≡ None = search rules in
-    let gone : c.from_residual.result ≡ None = search rules in
-    rw gone (passes g.C.Keyed.key by.0 c.args.self.now c.args.list.now.items (g.Q.Keyed.key c.args.sought.now)
-    _ _ by.1.stored c.requires.distinct (rw by.1.sought at (c.find.ensures.none none))
-    (rw by.1.sought at (c.find.ensures.passed none))).0
+returns-in_err-find-clause-found g c = grind (arith, common_steps, passes)
 
 pub returns-in_err-find-clause-cost : goal.returns-in_err-find-clause-cost
 returns-in_err-find-clause-cost g c = λ h by.
@@ -24,26 +19,16 @@ returns-in_err-find-clause-cost g c = λ h by.
     (rw by.sought at (c.find.ensures.passed none))).1)
 
 pub loop-candidate-init : goal.loop-candidate-init
-loop-candidate-init g c = record {
-  walking = λ h by. begins c.in_ok-find.field-0 (rw by.sought at c.in_ok-find.ensures.found);
-}
+loop-candidate-init g c = grind (arith, common_steps, begins)
 
 pub same_at-requires-clause-read : goal.same_at-requires-clause-read
 same_at-requires-clause-read g c = any-read (slice_get c.args.list.now.items c.id.result)
 
 pub same_at-requires-clause-there : goal.same_at-requires-clause-there
-same_at-requires-clause-there g c =
-    let by = c.requires.hashed in
-    rw c.id.ensures
-    (within by.1.stored c.in-Some.symbol
-    (rw c.in-Some.is at (c.loop-candidate.invariant.walking by.0 by.1)))
+same_at-requires-clause-there g c = grind (arith, common_steps, within)
 
 pub returns-then-same_at-clause-found : goal.returns-then-same_at-clause-found
-returns-then-same_at-clause-found g c =
-    let by = c.requires.hashed in
-    (finds by.1.stored c.requires.distinct c.in-Some.symbol _
-    (rw c.in-Some.is at (c.loop-candidate.invariant.walking by.0 by.1))
-    (rw c.id.ensures at c.if-same_at.ensures)).0
+returns-then-same_at-clause-found g c = grind (arith, common_steps, finds)
 
 pub returns-then-same_at-clause-cost : goal.returns-then-same_at-clause-cost
 returns-then-same_at-clause-cost g c = λ h by.
@@ -52,21 +37,10 @@ returns-then-same_at-clause-cost g c = λ h by.
     (rw c.id.ensures at c.if-same_at.ensures)).1
 
 pub find_next-candidate-requires : goal.find_next-candidate-requires
-find_next-candidate-requires g c =
-    let by = c.requires.hashed in
-    let l = within by.1.stored c.in-Some.symbol
-    (rw c.in-Some.is at (c.loop-candidate.invariant.walking by.0 by.1)) in
-    omega (arith, l, c.requires.over)
+find_next-candidate-requires g c = grind (arith, common_steps, within)
 
 pub loop-candidate-smaller : goal.loop-candidate-smaller
-loop-candidate-smaller g c =
-    let by = c.requires.hashed in
-    rw (
-      c.in-Some.is,
-      by.1.sought,
-    )
-    (falls c.in-Some.symbol _ (rw c.in-Some.is at (c.loop-candidate.invariant.walking by.0 by.1))
-    c.find_next-candidate.ensures.next)
+loop-candidate-smaller g c = grind (arith, common_steps, falls)
 
 pub loop-candidate-preserved : goal.loop-candidate-preserved
 loop-candidate-preserved g c = record {
@@ -77,11 +51,7 @@ loop-candidate-preserved g c = record {
 }
 
 pub returns-clause-found : goal.returns-clause-found
-returns-clause-found g c =
-    let by = c.requires.hashed in
-    (ends by.1.stored c.requires.distinct
-    (rw c.in_default.is at (c.loop-candidate.invariant.walking by.0 by.1))).0
+returns-clause-found g c = grind (arith, common_steps, ends)
 
 pub returns-clause-cost : goal.returns-clause-cost
-returns-clause-cost g c = λ h by.
-    (ends by.stored c.requires.distinct (rw c.in_default.is at (c.loop-candidate.invariant.walking h by))).1
+returns-clause-cost g c = grind (arith, common_steps, ends)
