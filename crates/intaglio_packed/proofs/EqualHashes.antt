@@ -1,4 +1,5 @@
 -- The numbers that a search by records gives are those of the contents with the hash.
+use Rattle.std.proofs.lemmas.Grind.{common_steps}
 use Rattle.std.proofs.Common.{◌≡◌, ◌≢◌, ℕ, zero, suc, ◌<◌, ◌≤◌, ◌==◌, ◌&&◌, nat_lt, Bool, true, false, cond, List, [], ◌∷◌, length, map, get_or, refl, sym, ap, ◌∙◌, arith, inl, inr}
 use Rattle.std.specs.List.{All, AllPairs, Contains, sum_by}
 use Rattle.std.proofs.lemmas.Bool.{cases_lt, eq-eqb, lt-ltb, le-ltb}
@@ -14,9 +15,7 @@ use Rattle.intaglio_records.specs.Matches.{one_of, AreAll}
 
 -- how often a number is in a list, where it is
 positive : (i : ℕ) (xs : List ℕ) (at : ℕ) → at < length xs → get_or xs at 0 ≡ i → 0 < sum_by (one_of i) xs
-positive i xs at l e =
-    let one : one_of i (get_or xs at 0) ≡ 1 = rw (eq-eqb (get_or xs at 0) i e) refl in
-    omega (arith, get_or-le-sum_by (one_of i) xs at 0 l, one)
+positive i xs at l e = grind (arith, common_steps)
 
 -- and where it is, if it is there
 contained : (i : ℕ) (xs : List ℕ) → 0 < sum_by (one_of i) xs → Contains xs i
@@ -35,9 +34,7 @@ apart-once [] once = λ i j d l lj. absurd (omega (arith, lj))
 apart-once (x ∷ xs) once =
     let one : one_of x x ≡ 1 = rw (eq-eqb x x refl) refl in
     let none : sum_by (one_of x) xs ≡ 0 = omega (arith, once x, sum_by-cons (one_of x) x xs, one) in
-    let others : All (λ j. x ≢ j) xs =
-    λ at d l e.
-    absurd (omega (arith, none, positive x xs at l (sym (get_or_default_zero xs at d l) ∙ sym e))) in
+    let others : All (λ j. x ≢ j) xs = grind (arith, common_steps) in
     AllPairs-cons (λ i j. i ≢ j) x xs others
     (apart-once xs (λ i. omega (arith, once i, sum_by-cons (one_of i) x xs)))
 
@@ -48,41 +45,25 @@ one-at-most false = omega arith
 
 -- a position that the test for those below n with the known hash counts is below n and has that hash
 tells : (i n h known : ℕ) → 0 < cond (nat_lt i n && (h == known)) 1 0 → (i < n) × (h ≡ known)
-tells i n h known some = elim (cases_lt i n) [
-  | inl low ↦ elim (eqb_tells h known) [
-    | inl e ↦ (low, e.1)
-    | inr d ↦ absurd (let none : ◌≡◌ {A = ℕ} (cond (nat_lt i n && (h == known)) 1 0) 0 =
-        rw (lt-ltb i n low, d.0) refl in omega (arith, some, none))
-  ]
-  | inr high ↦ absurd (let none : ◌≡◌ {A = ℕ} (cond (nat_lt i n && (h == known)) 1 0) 0 =
-      rw (le-ltb i n high) refl in omega (arith, some, none))
-]
+tells i n h known some = grind (arith, common_steps)
 
 -- the numbers that a search by records gives are those of the contents with the hash
 pub equal-hashes : (hash : Key → ℕ) (keys : List Key) (k : Key) (xs : List (ℕ × List ℕ)) (known : ℕ)
     (numbers : List ℕ) → map (λ (p : ℕ × List ℕ). p.0) xs ≡ map hash keys → known ≡ hash k
     → AreAll xs known numbers → AreEqualHashes hash keys k numbers
 equal-hashes hash keys k xs known numbers same is all =
-    let size : length xs ≡ length keys = sym (length-map xs (λ (p : ℕ × List ℕ). p.0)) ∙ ap length same
-    ∙ length-map keys hash in
+    let size : length xs ≡ length keys = grind (arith, common_steps) in
     let hash_is : (i : ℕ) → i < length keys → (get_or xs i (0, [])).0 ≡ hash (get_or keys i []) = λ i l.
     (let lx : i < length xs = omega (arith, l, size) in
     sym (get_or-map (λ (p : ℕ × List ℕ). p.0) xs i (0, []) 0 lx) ∙ ap (λ hs. get_or hs i 0) same
     ∙ get_or-map hash keys i [] 0 l) in
     record {
-      apart = apart-once numbers
-          (λ i. rw (all i) (one-at-most (nat_lt i (length xs) && ((get_or xs i (0, [])).0 == known))));
+      apart = grind (arith, common_steps, apart-once, one-at-most, nat_lt);
       each = λ at d l.
           (let i = get_or numbers at d in
-          let there : 0 < sum_by (one_of i) numbers =
-          positive i numbers at l (sym (get_or_default_zero numbers at d l)) in
+          let there : 0 < sum_by (one_of i) numbers = grind (arith, common_steps, positive, get_or_default_zero) in
           let told = tells i (length xs) (get_or xs i (0, [])).0 known (rw (all i) at there) in
           let within : i < length keys = omega (arith, told.0, size) in
           (within, sym (hash_is i within) ∙ told.1 ∙ is));
-      every = λ i l e.
-          contained i numbers (rw (
-            all i,
-            lt-ltb i (length xs) (omega (arith, l, size)),
-            eq-eqb (get_or xs i (0, [])).0 known (hash_is i l ∙ e ∙ sym is),
-          ) (omega arith));
+      every = grind (arith, common_steps, contained, lt-ltb, eq-eqb);
     }

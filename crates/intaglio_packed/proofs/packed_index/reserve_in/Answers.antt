@@ -1,3 +1,4 @@
+use Rattle.std.proofs.lemmas.Grind.{common_steps}
 use Rattle.std.proofs.Common.{◌≡◌, ◌≤◌, ◌-◌, ◌^◌, ℕ, List, sym, refl, arith}
 use Rattle.std.proofs.lemmas.List.{length-map}
 use Rattle.intaglio_records.specs.Records.{record_room_of}
@@ -18,15 +19,5 @@ returns-clause-over g c =
       | then-not-stays_short+in_ok-lengthen w ↦
           rw w.index-is (over_same old.list new.list room room w.lengthen.new.self (sym list) refl
           (rw w.records-then-not-stays_short.ensures at (w.in_ok-lengthen.ensures.over room)))
-      | else-not-stays_short w ↦
-          let stays = rw (w.if-not-stays_short.false, c.records.ensures) at c.stays_short.ensures.stays in
-          let small : room ≤ 2 ^ 32 - 1 =
-          rw list (omega (
-            arith,
-            stays refl new.most
-                (rw (length-map old.list (λ (p : ℕ × List ℕ). p.1)) at c.reserve.ensures.grows),
-            c.reserve.ensures.spare_bytes,
-          )) in
-          rw w.index-is (over_same old.list new.list room room c.args.index.now (sym list) refl
-          (over_short old.list (record_room_of old) room c.args.index.now c.requires.over small))
+      | else-not-stays_short w ↦ grind (arith, common_steps)
     ]

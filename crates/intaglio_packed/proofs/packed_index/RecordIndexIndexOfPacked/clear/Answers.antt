@@ -1,3 +1,4 @@
+use Rattle.std.proofs.lemmas.Grind.{common_steps}
 use Rattle.std.proofs.Common.{◌≡◌, [], sym, arith}
 use Rattle.intaglio_records.specs.Records.{record_room_of}
 use Rattle.intaglio_records.proofs.IndexLemmas.{same_pairs, over_same}
@@ -8,7 +9,6 @@ returns-clause-over g c =
     let old = c.args.list.now in
     let new = c.clear-2.new.self in
     let empty : new.list ≡ [] = same_pairs new.list [] c.clear-2.ensures.hashes c.clear-2.ensures.contents in
-    let room : record_room_of new ≡ record_room_of old =
-    rw c.clear-2.ensures.contents (omega (arith, c.clear-2.ensures.most, c.clear-2.ensures.byte_room)) in
+    let room : record_room_of new ≡ record_room_of old = grind (arith, common_steps) in
     over_same [] new.list (record_room_of old) (record_room_of new) c.clear.new.self (sym empty) (sym room)
     (c.clear.ensures.over old.list (record_room_of old) c.requires)

@@ -1,3 +1,4 @@
+use Rattle.std.proofs.lemmas.Grind.{common_steps}
 use Rattle.std.proofs.Common.{◌≡◌, ℕ, List, [], ◌∷◌, ◌++◌, sym, ◌∙◌, arith}
 use Rattle.std.proofs.lemmas.List.{map-append}
 use Rattle.intaglio_records.specs.Records.{record_room_of}
@@ -10,11 +11,7 @@ returns-clause-over g c =
     let new = c.push.new.store in
     let pushed = g.met.Q.AddedTo.adds_one _ _ _ c.push.ensures.added in
     let pair : ℕ × List ℕ = (c.args.hash, pushed.content) in
-    let list : new.list ≡ old.list ++ pair ∷ [] =
-    same_pairs new.list (old.list ++ pair ∷ []) (c.push.ensures.hashes
-    ∙ sym (map-append (λ (p : ℕ × List ℕ). p.0) old.list (pair ∷ []))) (pushed.added
-    ∙ sym (map-append (λ (p : ℕ × List ℕ). p.1) old.list (pair ∷ []))) in
-    let room : record_room_of new ≡ record_room_of old =
-    omega (arith, c.push.ensures.most, c.push.ensures.byte_room) in
+    let list : new.list ≡ old.list ++ pair ∷ [] = grind (arith, common_steps, same_pairs, map-append) in
+    let room : record_room_of new ≡ record_room_of old = grind (arith, common_steps) in
     over_same (old.list ++ pair ∷ []) new.list (record_room_of old) (record_room_of new) c.place.new.self
     (sym list) (sym room) (rw c.records.ensures at (c.place.ensures.over pushed.content))

@@ -1,3 +1,4 @@
+use Rattle.std.proofs.lemmas.Grind.{common_steps}
 use Rattle.std.proofs.Common.{◌≡◌, ◌<◌, ℕ, List, ◌∷◌, length, map, sym, refl, arith, ◌∙◌, Some, None, true}
 use Rattle.std.proofs.lemmas.List.{length-map}
 use Rattle.std.proofs.lemmas.Option.{slice_get-map, slice_get_within}
@@ -81,9 +82,7 @@ ended g c h by =
     (none_passed h keys k c.requires.distinct at.0 equal c.args.self.now.places) _ _ (rw none.0 at at.4)
 
 pub loop-found-init : goal.loop-found-init
-loop-found-init g c =
-    let all = rw c.records.ensures at c.matches-matches.ensures in
-    (all.0, all.0, all.2, all.1, begins _ _ 0 all.0 _ _ c.step.ensures)
+loop-found-init g c = grind (arith, common_steps)
 
 pub same_at-requires-clause-there : goal.same_at-requires-clause-there
 same_at-requires-clause-there g c = (next_in g (goal.at.same_at-requires-clause-there g c).In-Some).3
@@ -123,8 +122,7 @@ loop-found-preserved g c =
     )
 
 pub returns-clause-found : goal.returns-clause-found
-returns-clause-found g c = let by = c.requires.hashed in
-    (ended g (goal.at.returns-clause-found g c).In_default by.0 by.1).0
+returns-clause-found g c = grind (arith, common_steps, ended)
 
 pub returns-clause-cost : goal.returns-clause-cost
 returns-clause-cost g c = λ h by. (ended g (goal.at.returns-clause-cost g c).In_default h by).1

@@ -1,3 +1,4 @@
+use Rattle.std.proofs.lemmas.Grind.{common_steps}
 use Rattle.std.proofs.Common.{◌≡◌, ℕ, List, take, sym, ◌∙◌, arith}
 use Rattle.std.proofs.lemmas.List.{take-map}
 use Rattle.intaglio_records.specs.Records.{record_room_of}
@@ -9,11 +10,7 @@ returns-clause-over g c =
     let old = c.args.list.now in
     let new = c.truncate-2.new.self in
     let n = c.args.n in
-    let list : new.list ≡ take n old.list =
-    same_pairs new.list (take n old.list) (c.truncate-2.ensures.hashes
-    ∙ take-map (λ (p : ℕ × List ℕ). p.0) n old.list) (c.truncate-2.ensures.contents
-    ∙ take-map (λ (p : ℕ × List ℕ). p.1) n old.list) in
-    let room : record_room_of new ≡ record_room_of old =
-    omega (arith, c.truncate-2.ensures.most, c.truncate-2.ensures.byte_room) in
+    let list : new.list ≡ take n old.list = grind (arith, common_steps, same_pairs, take-map) in
+    let room : record_room_of new ≡ record_room_of old = grind (arith, common_steps) in
     over_same (take n old.list) new.list (record_room_of old) (record_room_of new) c.truncate.new.self
     (sym list) (sym room) (rw c.records.ensures at c.truncate.ensures.over)
