@@ -11,7 +11,7 @@ use Rattle.intaglio_interner.specs.State.{first}
 use Rattle.intaglio_records.specs.Matches.{IsLeft}
 use Rattle.intaglio_records.specs.Records.{hashes_of, strings_of}
 use Rattle.intaglio_core.specs.IndexOf.{AreHashed, LookupCost}
-use Rattle.intaglio_core.proofs.Numbered.{IsSearching, begins, compared-as, ends, finds, goes_on, none_passed}
+use Rattle.intaglio_core.proofs.Numbered.{IsSearching, compared-as, ends, finds, goes_on, none_passed}
 use Rattle.intaglio_packed.proofs.EqualHashes.{equal-hashes}
 use Rattle.intaglio_packed.proofs.packed_index.RecordIndexIndexOfPacked.search.Given.{Over}
 use Rattle.intaglio_packed.proofs.packed_index.RecordIndexIndexOfPacked.search.Goals as goal
