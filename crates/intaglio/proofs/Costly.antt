@@ -1,4 +1,5 @@
 -- What is no cost of a search or of an interning.
+use Rattle.std.proofs.lemmas.Grind.{common_steps}
 use Rattle.std.proofs.Common.{◌≡◌, ◌≢◌, ℕ, suc, ◌+◌, ◌<◌, List, [], ◌∷◌, ◌++◌, None, length, All, length-append, refl, ap, arith}
 use Rattle.std.specs.Prelude.{Contains}
 use Rattle.std.proofs.lemmas.List.Elements.{All-nil, All-cons, All-head, All-tail, All-same}
@@ -17,13 +18,7 @@ hashings-sum a b = rw (hashed_keys-append a b) (length-append (hashed_keys a) (h
 
 -- events with two hashings among them have more than one hashed key
 two-hashings : (x y : Key) (a b c : List Event) → 1 < length (hashed_keys (a ++ hashed x ∷ b ++ hashed y ∷ c))
-two-hashings x y a b c =
-    let whole : length (hashed_keys (a ++ hashed x ∷ b ++ hashed y ∷ c))
-    ≡ length (hashed_keys (a ++ hashed x ∷ b)) + length (y ∷ hashed_keys c) =
-    hashings-sum (a ++ hashed x ∷ b) (hashed y ∷ c) in
-    let begins : length (hashed_keys (a ++ hashed x ∷ b)) ≡ length (hashed_keys a)
-    + length (x ∷ hashed_keys b) = hashings-sum a (hashed x ∷ b) in
-    omega (arith, whole, begins)
+two-hashings x y a b c = grind (arith, common_steps, hashings-sum)
 
 module _ (P : Key → Type 0) where
   hashed-holds : (x : Key) (a b : List Event) → All P (hashed_keys (a ++ hashed x ∷ b)) → P x

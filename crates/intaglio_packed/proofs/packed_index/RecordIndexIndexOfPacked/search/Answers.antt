@@ -81,9 +81,6 @@ ended g c h by =
     ends h keys k c.requires.distinct at.0 equal 0 c.args.self.now.places
     (none_passed h keys k c.requires.distinct at.0 equal c.args.self.now.places) _ _ (rw none.0 at at.4)
 
-pub loop-found-init : goal.loop-found-init
-loop-found-init g c = grind (arith, common_steps)
-
 pub same_at-requires-clause-there : goal.same_at-requires-clause-there
 same_at-requires-clause-there g c = (next_in g (goal.at.same_at-requires-clause-there g c).In-Some).3
 
