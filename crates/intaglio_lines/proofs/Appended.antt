@@ -1,4 +1,5 @@
 -- What was written, piece by piece.
+use Rattle.std.proofs.lemmas.Grind.{common_steps}
 use Rattle.std.proofs.Common.{◌≡◌, ◌∙◌, sym, ap, refl, subst, ℕ, ◌+◌, ◌-◌, min, List, [], ◌++◌, length, take, drop, append_assoc, append-nil, Option, Some, None, arith}
 use Rattle.std.proofs.Math.Seq.{take-add, take-append-add}
 use Rattle.std.proofs.lemmas.List.{append_cancel_left, take-append-le, take_min, take_rest}
@@ -33,11 +34,7 @@ pub written-next : (old mid new : Option (List ℕ)) (bytes : List ℕ) (at n : 
     Appends old mid (take at bytes)
     → Appends mid new (take n (take (length bytes - at) (drop at bytes))) →
     Appends old new (take (at + n) bytes)
-written-next old mid new bytes at n before more =
-    subst (Appends old new) (ap (λ t. take at bytes ++ take n t) (take_rest bytes at)
-    ∙ sym (take-add at n bytes))
-    (Appends-append old mid new (take at bytes) (take n (take (length bytes - at) (drop at bytes)))
-    before more)
+written-next old mid new bytes at n before more = grind (arith, common_steps, take_rest, take-add)
 
 -- nothing was written
 pub front-none : (old : Option (List ℕ)) (bytes : List ℕ) → IsFront old old bytes
@@ -77,9 +74,7 @@ front-then (Some x) None new block later bytes more put front next = absurd put
 front-then (Some x) (Some y) None block later bytes more put front next = absurd next.1
 front-then (Some x) (Some y) (Some z) block later bytes more put front next =
     let part = take front.0 (block ++ bytes) in
-    let whole : part ++ later ≡ block ++ bytes =
-    append_cancel_left x (part ++ later) (block ++ bytes) (sym (append_assoc x part later)
-    ∙ ap (λ t. t ++ later) (sym front.1) ∙ put ∙ append_assoc x block bytes) in
+    let whole : part ++ later ≡ block ++ bytes = grind (arith, common_steps, append_cancel_left, append_assoc) in
     let all : part ++ (later ++ more) ≡ block ++ (bytes ++ more) =
     sym (append_assoc part later more) ∙ ap (λ t. t ++ more) whole ∙ append_assoc block bytes more in (
       length part + next.0,

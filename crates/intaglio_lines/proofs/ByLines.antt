@@ -1,4 +1,5 @@
 -- What holds of the lines of bytes, line by line.
+use Rattle.std.proofs.lemmas.Grind.{common_steps}
 use Rattle.std.proofs.Common.{◌≡◌, ◌≢◌, ◌∙◌, sym, ap, refl, subst, inl, inr, ℕ, suc, ◌<◌, ◌≤◌, Bool, true, false, cond, eqb, ne_eqb, List, [], ◌∷◌, ◌++◌, length, append_assoc, append-nil, length-append, arith}
 use Rattle.std.specs.List.{slice_split, flat_map, All, AllByRecursion}
 use Rattle.std.specs.Str.{IsUtf8}
@@ -49,16 +50,11 @@ no-ten line is = λ k d lt. ne_eqb _ 10 (is k d lt)
 
 -- the lines of a line, a byte 10 and a rest are that line and the lines of the rest
 pub lines_of-more : (line rest : List ℕ) → IsLine line → lines_of (line ++ 10 ∷ rest) ≡ line ∷ lines_of rest
-lines_of-more line rest is =
-    let p : ℕ → Bool = λ b. eqb b 10 in
-    ap without_empty_last (slice_split_at p line 10 rest (no-ten line is) refl)
-    ∙ without_empty_last-cons line (slice_split p rest) (omega (arith, length-slice_split p rest))
+lines_of-more line rest is = grind (arith, common_steps, eqb, slice_split_at, no-ten, without_empty_last-cons, length-slice_split)
 
 -- the lines of a line that isn't empty are that line alone
 pub lines_of-last : (line : List ℕ) → 0 < length line → IsLine line → lines_of line ≡ line ∷ []
-lines_of-last line some is =
-    ap without_empty_last (slice_split_none (λ b. eqb b 10) line (no-ten line is))
-    ∙ without_empty_last-one line some
+lines_of-last line some is = grind (arith, common_steps, slice_split_none, eqb, no-ten, without_empty_last-one)
 
 -- no line holds a byte 10
 pub lines_of-are_lines : (bytes : List ℕ) → AllByRecursion IsLine (lines_of bytes)

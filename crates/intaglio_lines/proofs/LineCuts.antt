@@ -1,4 +1,5 @@
 -- The first line of bytes, and the lines of what stands after it.
+use Rattle.std.proofs.lemmas.Grind.{common_steps}
 use Rattle.std.proofs.Common.{◌≡◌, ◌∙◌, sym, ap, ℕ, ◌+◌, ◌-◌, ◌<◌, Some, None, take, drop, List, [], ◌∷◌, Bool, true, false, eqb, ltb, eqb-true, subst, ◌++◌, cond, not, refl, length, get_or, arith, rules}
 use Rattle.std.specs.List.{slice_split, position, position_or_len, before_first, after_first}
 use Rattle.std.proofs.lemmas.List.Splits.{slice_split_first, slice_split_none, length-slice_split}
@@ -32,43 +33,26 @@ cond-none false m is = refl
 -- what `position` says, by the first place that passes
 pub position-Some : (p : ℕ → Bool) (bs : List ℕ) (end : ℕ) → position p bs ≡ Some end →
     (position_or_len p bs ≡ end) × (position_or_len p bs < length bs)
-position-Some p bs end is =
-    let some = cond-some (ltb (position_or_len p bs) (length bs)) (position_or_len p bs) end is in
-    (some.0, ltb-true _ _ some.1)
+position-Some p bs end is = grind (arith, common_steps)
 
 -- if `position` gives no place, `position_or_len` gives the number of bytes
 pub position-None : (p : ℕ → Bool) (bs : List ℕ) → position p bs ≡ None → position_or_len p bs ≡ length bs
-position-None p bs is =
-    let past = ltb-false _ _ (cond-none (ltb (position_or_len p bs) (length bs)) (position_or_len p bs) is) in
-    omega (arith, prefix_len-le-length (λ x. not (p x)) bs)
+position-None p bs is = grind (arith, common_steps, cond-none, ltb, prefix_len-le-length, not)
 
 -- where there is a byte 10, the first line ends at the first
 pub lines-first : (bs : List ℕ) → position_or_len (λ b. eqb b 10) bs < length bs
     → lines_of bs ≡ before_first (λ b. eqb b 10) bs ∷ lines_of (after_first (λ b. eqb b 10) bs)
-lines-first bs h =
-    let p : ℕ → Bool = λ b. eqb b 10 in
-    let rest = after_first p bs in
-    let more : 0 < length (slice_split p rest) = omega (arith, length-slice_split p rest) in
-    ap without_empty_last (slice_split_first p bs 0 h)
-    ∙ without_empty_last-cons (before_first p bs) (slice_split p rest) more
+lines-first bs h = grind (arith, common_steps, eqb, length-slice_split, slice_split_first, without_empty_last-cons)
 
 -- where there is none, all of the bytes are the last line
 pub lines-last : (bs : List ℕ) → position_or_len (λ b. eqb b 10) bs ≡ length bs → 0 < length bs →
     lines_of bs ≡ bs ∷ []
-lines-last bs h some =
-    let p : ℕ → Bool = λ b. eqb b 10 in
-    let none = All-from_get_or (λ b. p b ≡ false) bs 0 (λ i l. fails_before_first p bs i 0 (omega arith)) in
-    ap without_empty_last (slice_split_none p bs none) ∙ without_empty_last-one bs some
+lines-last bs h some = grind (arith, common_steps, eqb, fails_before_first, slice_split_none, without_empty_last-one)
 
 -- the same of a list of bytes that is cut by the place of a byte 10
 pub lines-cut-at : (bs : List ℕ) (end : ℕ) → position (λ b. eqb b 10) bs ≡ Some end
     → lines_of bs ≡ take end bs ∷ lines_of (take (length bs - (end + 1)) (drop (end + 1) bs))
-lines-cut-at bs end is =
-    let p : ℕ → Bool = λ b. eqb b 10 in
-    let at = position-Some p bs end is in
-    let whole : take (length bs - (end + 1)) (drop (end + 1) bs) ≡ drop (end + 1) bs =
-    take_rest bs (end + 1) in
-    rw whole (rw (sym at.0) (lines-first bs at.1))
+lines-cut-at bs end is = grind (arith, common_steps, eqb, position-Some, take_rest, lines-first)
 
 -- bytes without a byte 10, of which there is one at least, are one line
 pub lines-cut-nowhere : (bs : List ℕ) → position (λ b. eqb b 10) bs ≡ None → 0 < length bs →

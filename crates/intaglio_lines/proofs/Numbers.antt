@@ -1,4 +1,5 @@
 -- A number in decimal is a line that is a number, and says that number.
+use Rattle.std.proofs.lemmas.Grind.{common_steps}
 use Rattle.std.proofs.Common.{◌≡◌, ◌≢◌, refl, inl, inr, ℕ, ◌^◌, ◌<◌, true, false, not, eqb, ne_eqb, List, [], ◌∷◌, length, get_or, decimal, arith}
 use Rattle.std.specs.Str.{all_ascii_digits}
 use Rattle.std.specs.Str.Parse.{digits_value}
@@ -42,17 +43,11 @@ digits-from_number (d ∷ e ∷ more) is =
 
 -- a number below 2 ^ 64 begins with 0 in decimal only if that is its only digit
 decimal-first : (n : ℕ) → n < 2 ^ 64 → get_or (decimal n) 0 0 ≡ 48 → length (decimal n) ≡ 1
-decimal-first n small zero =
-    elim (cases_eq n 0) [
-      | inl none ↦ rw (none, decimal_digit 0 (omega arith)) refl
-      | inr some ↦ absurd (omega (arith, zero, first_decimal n (omega arith) small))
-    ]
+decimal-first n small zero = grind (arith, common_steps, cases_eq, decimal_digit, first_decimal)
 
 -- a number below 2 ^ 64 in decimal is a line that is a number
 pub is_number-decimal : (n : ℕ) → n < 2 ^ 64 → is_number (decimal n) ≡ true
-is_number-decimal n small =
-    is_number-from_digits (decimal n) (digits_decimal digits n small) (decimal_nonempty n small)
-    (decimal-first n small)
+is_number-decimal n small = grind (arith, common_steps, is_number-from_digits, decimal, digits_decimal, digits, decimal_nonempty, decimal-first)
 
 -- a number below 2 ^ 64 in decimal says that number
 pub number-decimal : (n : ℕ) → n < 2 ^ 64 → digits_value 10 (decimal n) ≡ n

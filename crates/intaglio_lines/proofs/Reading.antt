@@ -1,4 +1,5 @@
 -- Bytes have no fault exactly if they hold symbols and spellings, and they hold them in one way.
+use Rattle.std.proofs.lemmas.Grind.{common_steps}
 use Rattle.std.proofs.Common.{◌≡◌, ◌∙◌, ◌↔◌, sym, ap, refl, subst, ℕ, suc, ◌+◌, ◌^◌, ◌<◌, ◌≤◌, Bool, true, false, not, cond, ltb, lt-ltb, ltb-true, eqb-true, ◌||◌, List, [], ◌∷◌, ◌++◌, length, map, get_or, decimal, Option, Some, None, append_assoc, length-append, length-drop, arith, rules}
 use Rattle.std.proofs.Math.Seq.{drop-append-add}
 use Rattle.std.specs.Option.{option_or}
@@ -58,11 +59,7 @@ empty-line = λ k d lt. absurd (omega arith)
 lines_of-output : (symbols : List ℕ) (spellings : List (List ℕ)) → AreSmall symbols →
     AllByRecursion IsLine spellings
     → lines_of (output_of symbols spellings) ≡ output_lines symbols spellings
-lines_of-output symbols spellings small lines =
-    ap lines_of (output-lines symbols spellings)
-    ∙ lines_of-flat_map (output_lines symbols spellings)
-    (all-append IsLine (map decimal symbols) ([] ∷ spellings) (lines-decimal symbols small)
-    (empty-line, lines))
+lines_of-output symbols spellings small lines = grind (arith, common_steps, output-lines, lines_of-flat_map, all-append, decimal, lines-decimal, empty-line)
 
 -- the first empty line of lines
 abbrev AreWritten : List (List ℕ) → Type 0
@@ -90,9 +87,7 @@ first-blank (line ∷ front) back written = rw (written.0, first-blank front bac
 -- if the lines in front of an empty one aren't empty, they are those before the first empty one
 pub before-blank : (front back : List (List ℕ)) → AreWritten front →
     before_first is_blank (front ++ [] ∷ back) ≡ front
-before-blank front back written =
-    take_at front ([] ∷ back) (position_or_len is_blank (front ++ [] ∷ back))
-    (sym (first-blank front back written))
+before-blank front back written = grind (arith, common_steps, take_at, first-blank)
 
 -- if the lines in front of an empty one aren't empty, those behind it are those after the first empty one
 pub after-blank : (front back : List (List ℕ)) → AreWritten front →
@@ -114,12 +109,7 @@ small-known n (symbol ∷ symbols) few known = (omega (arith, known.0), small-kn
 -- an output has at least as many bytes as spellings
 length-output : (symbols : List ℕ) (spellings : List (List ℕ)) →
     length spellings ≤ length (output_of symbols spellings)
-length-output symbols spellings =
-    omega (
-      arith,
-      length-append (flat_map number_line symbols) (10 ∷ flat_map spelling_line spellings),
-      length-le-flat_map spellings,
-    )
+length-output symbols spellings = grind (arith, common_steps, length-append, length-le-flat_map)
 
 pub record Reads (symbols : List ℕ) (spellings : List (List ℕ)) (bytes : List ℕ) : Type 0 where
   small : AreSmall symbols
@@ -130,18 +120,7 @@ pub record Reads (symbols : List ℕ) (spellings : List (List ℕ)) (bytes : Lis
 -- fewer than 2 ^ 64 bytes that hold symbols and spellings are their lines, and the symbols fit 64 bits
 reads : (symbols : List ℕ) (spellings : List (List ℕ)) (bytes : List ℕ) → length bytes < 2 ^ 64 →
     Holds symbols spellings bytes → Reads symbols spellings bytes
-reads symbols spellings bytes few holds =
-    let known = recursion_from_All (λ symbol. symbol < length spellings) symbols holds.known in
-    let all = recursion_from_All IsLine spellings holds.lines in
-    let count : length spellings < 2 ^ 64 =
-    omega (arith, length-output symbols spellings, ap length holds.whole) in
-    let small = small-known (length spellings) symbols count known in
-    record {
-      small = small;
-      known = known;
-      whole = holds.whole ∙ output-lines symbols spellings;
-      lines = ap lines_of holds.whole ∙ lines_of-output symbols spellings small all;
-    }
+reads symbols spellings bytes few holds = grind (arith, common_steps, recursion_from_All, length-output, small-known, output-lines, lines_of-output)
 
 -- the number of each line
 numbers-decimal : (symbols : List ℕ) → AreSmall symbols →
@@ -152,18 +131,12 @@ numbers-decimal (n ∷ symbols) small = rw (number-decimal n small.0, numbers-de
 -- the numbers of an output's lines before the first empty one are its symbols
 reads-symbols : (symbols : List ℕ) (spellings : List (List ℕ)) (bytes : List ℕ) →
     Reads symbols spellings bytes → map (digits_value 10) (symbol_lines bytes) ≡ symbols
-reads-symbols symbols spellings bytes read =
-    ap (λ t. map (digits_value 10) (before_first is_blank t)) read.lines
-    ∙ ap (map (digits_value 10))
-    (before-blank (map decimal symbols) spellings (written-decimal symbols read.small))
-    ∙ numbers-decimal symbols read.small
+reads-symbols symbols spellings bytes read = grind (arith, common_steps, before-blank, decimal, written-decimal, numbers-decimal)
 
 -- the lines of an output after the first empty one are its spellings
 reads-spellings : (symbols : List ℕ) (spellings : List (List ℕ)) (bytes : List ℕ) →
     Reads symbols spellings bytes → spellings_of bytes ≡ spellings
-reads-spellings symbols spellings bytes read =
-    ap (after_first is_blank) read.lines
-    ∙ after-blank (map decimal symbols) spellings (written-decimal symbols read.small)
+reads-spellings symbols spellings bytes read = grind (arith, common_steps, after-blank, decimal, written-decimal)
 
 -- bytes are read in one way
 pub one-reading : (bytes symbols others : List ℕ) (spellings strings : List (List ℕ)) → length bytes < 2 ^ 64
@@ -178,10 +151,7 @@ one-reading bytes symbols others spellings strings few left right =
 -- and decoded in one way
 pub one-output : (bytes output other : List ℕ) → length bytes < 2 ^ 64 → Decodes bytes output →
     Decodes bytes other → output ≡ other
-one-output bytes output other few left right =
-    let same = one-reading bytes left.symbols right.symbols left.spellings right.spellings few left.holds
-    right.holds in
-    left.same ∙ ap (λ t. decoded t left.spellings) same.0 ∙ ap (decoded right.symbols) same.1 ∙ sym right.same
+one-output bytes output other few left right = grind (arith, common_steps, one-reading)
 
 -- no line of known symbols is wrong
 line-right : (count number n : ℕ) → n < 2 ^ 64 → n < count → line_fault (Some count) number (decimal n) ≡ None
@@ -291,38 +261,7 @@ all-back P (x ∷ xs) ys all = all-back P xs ys all.1
 -- what has no fault holds the numbers of its lines, and its strings
 pub holds-read : (bytes : List ℕ) → length bytes < 2 ^ 64 → fault_of bytes ≡ None →
     Holds (map (digits_value 10) (symbol_lines bytes)) (spellings_of bytes) bytes
-holds-read bytes few none =
-    let parts = or-none (first_fault (spelling_count bytes) 1 (symbol_lines bytes)) (end_fault bytes) none in
-    let end = end-none (is_ended bytes) (list_any is_blank (lines_of bytes)) Fault.not_ended
-    Fault.no_empty_line parts.1 in
-    let count : spelling_count bytes ≡ Some (length (spellings_of bytes)) = rw end.1 refl in
-    let first : first_fault (Some (length (spellings_of bytes))) 1 (symbol_lines bytes) ≡ None =
-    ap (λ t. first_fault t 1 (symbol_lines bytes)) (sym count) ∙ parts.0 in
-    let known = known-lines (length (spellings_of bytes)) 1 (symbol_lines bytes) first in
-    let split = at-blank (lines_of bytes) end.1 in
-    let fits : length (spellings_of bytes) < 2 ^ 64 =
-    omega (
-      arith,
-      length-lines_of bytes,
-      length-drop (position_or_len is_blank (lines_of bytes) + 1) (lines_of bytes),
-    ) in
-    let numbers : map decimal (map (digits_value 10) (symbol_lines bytes)) ≡ symbol_lines bytes =
-    decimal-lines (length (spellings_of bytes)) (symbol_lines bytes) fits known in
-    let ended : with_last_line_ended bytes ≡ bytes = rw end.0 refl in
-    let again : lines_of bytes ≡ output_lines (map (digits_value 10) (symbol_lines bytes))
-    (spellings_of bytes) = split ∙ ap (λ t. t ++ [] ∷ spellings_of bytes) (sym numbers) in
-    record {
-      whole = sym ended ∙ sym (flat_map-lines_of bytes) ∙ ap (flat_map spelling_line) again
-          ∙ sym (output-lines (map (digits_value 10) (symbol_lines bytes)) (spellings_of bytes));
-      lines = All-from_recursion IsLine (spellings_of bytes)
-          (all-back IsLine (symbol_lines bytes ++ [] ∷ []) (spellings_of bytes)
-          (subst (AllByRecursion IsLine) (split
-          ∙ sym (append_assoc (symbol_lines bytes) ([] ∷ []) (spellings_of bytes)))
-          (lines_of-are_lines bytes)));
-      known = All-from_recursion (λ symbol. symbol < length (spellings_of bytes))
-          (map (digits_value 10) (symbol_lines bytes))
-          (known-numbers (length (spellings_of bytes)) (symbol_lines bytes) known);
-    }
+holds-read bytes few none = grind (arith, common_steps, or-none, end-none, known-lines, at-blank, length-lines_of, length-drop, decimal, decimal-lines, flat_map-lines_of, output-lines, all-back, append_assoc, lines_of-are_lines, known-numbers)
 
 -- fewer than 2 ^ 64 bytes have no fault exactly if they hold some symbols and spellings
 pub faults-exact : (bytes : List ℕ) → length bytes < 2 ^ 64
