@@ -1,6 +1,6 @@
 -- What was written, piece by piece.
 use Rattle.std.proofs.lemmas.Grind.{common_steps}
-use Rattle.std.proofs.Common.{◌≡◌, ◌∙◌, sym, ap, refl, subst, ℕ, ◌+◌, ◌-◌, min, List, [], ◌++◌, length, take, drop, append_assoc, append-nil, Option, Some, None, arith}
+use Rattle.std.proofs.Common.{◌≡◌, ◌∙◌, sym, ap, refl, ℕ, ◌+◌, ◌-◌, min, List, [], ◌++◌, length, take, drop, append_assoc, append-nil, Option, Some, None, arith}
 use Rattle.std.proofs.Math.Seq.{take-add, take-append-add}
 use Rattle.std.proofs.lemmas.List.{append_cancel_left, take-append-le, take_min, take_rest}
 use Rattle.std.specs.Io.KnownBytes.{Appends, Keeps, append_known}
@@ -14,14 +14,6 @@ Appends-append (Some xs) None new front more one other = absurd one
 Appends-append (Some xs) (Some ys) None front more one other = absurd other
 Appends-append (Some xs) (Some ys) (Some zs) front more one other =
     rw (other, one) (append_assoc xs front more)
-
--- nothing more
-pub keeps-more : (old mid new : Option (List ℕ)) (bytes : List ℕ) → Appends old mid bytes → Keeps mid new →
-    Appends old new bytes
-keeps-more None mid new bytes one keeps = tt
-keeps-more (Some x) None new bytes one keeps = absurd one
-keeps-more (Some x) (Some y) None bytes one keeps = absurd keeps
-keeps-more (Some x) (Some y) (Some z) bytes one keeps = keeps ∙ one
 
 -- bytes that stay as they were have grown by none
 pub keeps-none : (old new : Option (List ℕ)) → Keeps old new → Appends old new []

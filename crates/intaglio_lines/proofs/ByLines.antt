@@ -1,7 +1,7 @@
 -- What holds of the lines of bytes, line by line.
 use Rattle.std.proofs.lemmas.Grind.{common_steps}
 use Rattle.std.proofs.Common.{◌≡◌, ◌≢◌, ◌∙◌, sym, ap, refl, subst, inl, inr, ℕ, suc, ◌<◌, ◌≤◌, Bool, true, false, cond, eqb, ne_eqb, List, [], ◌∷◌, ◌++◌, length, append_assoc, append-nil, length-append, arith}
-use Rattle.std.specs.List.{slice_split, flat_map, All, AllByRecursion}
+use Rattle.std.specs.List.{flat_map, All, AllByRecursion}
 use Rattle.std.specs.Str.{IsUtf8}
 use Rattle.std.proofs.lemmas.Str.Ascii.{IsAscii-cons, IsAscii-nil}
 use Rattle.std.proofs.lemmas.Str.{IsUtf8-nil, IsUtf8-append, IsUtf8-from_ascii}
@@ -9,7 +9,7 @@ use Rattle.std.proofs.lemmas.List.Splits.{slice_split_at, slice_split_none, leng
 use Rattle.std.proofs.lemmas.List.Elements.{All-nil, All-cons, All-append}
 use Rattle.std.proofs.lemmas.Bool.{cases_eq, true≢false}
 use Rattle.intaglio_lines.specs.Cuts.{IsUtf8-parts}
-use Rattle.intaglio_lines.specs.Lines.{lines_of, without_empty_last}
+use Rattle.intaglio_lines.specs.Lines.{lines_of}
 use Rattle.intaglio_lines.specs.Output.{spelling_line}
 use Rattle.intaglio_lines.specs.Decoded.{IsLine, is_ended, with_last_line_ended}
 use Rattle.intaglio_lines.proofs.LineCuts.{without_empty_last-cons, without_empty_last-one}

@@ -1,12 +1,10 @@
 -- The first line of bytes, and the lines of what stands after it.
 use Rattle.std.proofs.lemmas.Grind.{common_steps}
-use Rattle.std.proofs.Common.{◌≡◌, ◌∙◌, sym, ap, ℕ, ◌+◌, ◌-◌, ◌<◌, Some, None, take, drop, List, [], ◌∷◌, Bool, true, false, eqb, ltb, eqb-true, subst, ◌++◌, cond, not, refl, length, get_or, arith, rules}
-use Rattle.std.specs.List.{slice_split, position, position_or_len, before_first, after_first}
+use Rattle.std.proofs.Common.{◌≡◌, ◌∙◌, sym, ℕ, ◌+◌, ◌-◌, ◌<◌, Some, None, take, drop, List, [], ◌∷◌, Bool, true, false, eqb, ltb, eqb-true, subst, ◌++◌, cond, not, refl, length, get_or, arith, rules}
+use Rattle.std.specs.List.{position, position_or_len, before_first, after_first}
 use Rattle.std.proofs.lemmas.List.Splits.{slice_split_first, slice_split_none, length-slice_split}
 use Rattle.std.proofs.lemmas.List.Sums.{fails_before_first, passes_at_first, split_at_first, prefix_len-le-length}
-use Rattle.std.proofs.lemmas.List.Elements.{All-from_get_or}
 use Rattle.std.proofs.lemmas.List.{take_rest}
-use borrow.Author.Tests.{ltb-true, ltb-false}
 use Rattle.intaglio_lines.specs.Lines.{lines_of, without_empty_last}
 
 -- only the last piece may go
@@ -19,11 +17,6 @@ without_empty_last-cons x (y ∷ more) h = refl
 pub without_empty_last-one : (x : List ℕ) → 0 < length x → without_empty_last (x ∷ []) ≡ x ∷ []
 without_empty_last-one [] h = absurd (omega arith)
 without_empty_last-one (b ∷ bs) h = search rules
-
--- which case an `Option` came from
-cond-some : (b : Bool) (m n : ℕ) → cond b (Some m) None ≡ Some n → (m ≡ n) × (b ≡ true)
-cond-some true m n is = (cc, refl)
-cond-some false m n is = cc
 
 -- if an option that is given by a test is `None`, the test is false
 cond-none : (b : Bool) (m : ℕ) → cond b (Some m) None ≡ None → b ≡ false

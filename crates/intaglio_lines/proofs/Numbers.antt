@@ -1,6 +1,6 @@
 -- A number in decimal is a line that is a number, and says that number.
 use Rattle.std.proofs.lemmas.Grind.{common_steps}
-use Rattle.std.proofs.Common.{◌≡◌, ◌≢◌, refl, inl, inr, ℕ, ◌^◌, ◌<◌, true, false, not, eqb, ne_eqb, List, [], ◌∷◌, length, get_or, decimal, arith}
+use Rattle.std.proofs.Common.{◌≡◌, ◌≢◌, refl, ℕ, ◌^◌, ◌<◌, true, false, not, eqb, ne_eqb, List, [], ◌∷◌, length, get_or, decimal, arith}
 use Rattle.std.specs.Str.{all_ascii_digits}
 use Rattle.std.specs.Str.Parse.{digits_value}
 use Rattle.std.proofs.lemmas.List.Elements.{All-from_get_or}

@@ -1,6 +1,6 @@
 -- Bytes have no fault exactly if they hold symbols and spellings, and they hold them in one way.
 use Rattle.std.proofs.lemmas.Grind.{common_steps}
-use Rattle.std.proofs.Common.{◌≡◌, ◌∙◌, ◌↔◌, sym, ap, refl, subst, ℕ, suc, ◌+◌, ◌^◌, ◌<◌, ◌≤◌, Bool, true, false, not, cond, ltb, lt-ltb, ltb-true, eqb-true, ◌||◌, List, [], ◌∷◌, ◌++◌, length, map, get_or, decimal, Option, Some, None, append_assoc, length-append, length-drop, arith, rules}
+use Rattle.std.proofs.Common.{◌≡◌, ◌∙◌, ◌↔◌, sym, ap, refl, ℕ, suc, ◌+◌, ◌^◌, ◌<◌, ◌≤◌, Bool, true, false, not, cond, ltb, lt-ltb, ltb-true, eqb-true, ◌||◌, List, [], ◌∷◌, ◌++◌, length, map, get_or, decimal, Option, Some, None, append_assoc, length-append, length-drop, arith, rules}
 use Rattle.std.proofs.Math.Seq.{drop-append-add}
 use Rattle.std.specs.Option.{option_or}
 use Rattle.std.specs.List.{flat_map, position_or_len, before_first, after_first, list_any, AllByRecursion}
@@ -8,12 +8,12 @@ use Rattle.std.specs.Str.Parse.{digits_value}
 use Rattle.std.proofs.lemmas.List.{take_at, nil_from_length}
 use Rattle.std.proofs.lemmas.List.Sums.{split_at_first, passes_at_first}
 use Rattle.std.proofs.lemmas.List.Concat.{flat_map-append}
-use Rattle.std.proofs.lemmas.List.Elements.{All-from_recursion, recursion_from_All}
+use Rattle.std.proofs.lemmas.List.Elements.{recursion_from_All}
 use Rattle.std.proofs.lemmas.Bool.{or_right}
 use Rattle.intaglio_lines.specs.Lines.{lines_of}
 use Rattle.intaglio_lines.specs.Output.{number_line, spelling_line, output_of}
-use Rattle.intaglio_lines.specs.Decoded.{IsLine, Holds, Decodes, decoded, is_ended, with_last_line_ended}
-use Rattle.intaglio_lines.specs.Fault.{Fault, is_blank, symbol_lines, spellings_of, spelling_count, is_number, line_fault, first_fault, end_fault, fault_of, AreKnown}
+use Rattle.intaglio_lines.specs.Decoded.{IsLine, Holds, Decodes, is_ended}
+use Rattle.intaglio_lines.specs.Fault.{Fault, is_blank, symbol_lines, spellings_of, spelling_count, is_number, line_fault, first_fault, fault_of, AreKnown}
 use Rattle.intaglio_lines.proofs.ByLines.{lines_of-are_lines, length-lines_of, lines_of-flat_map, flat_map-lines_of, is_ended-flat_map, length-le-flat_map}
 use Rattle.intaglio_lines.proofs.Numbers.{digits-from_number, IsLine-digits, is_number-decimal, number-decimal, decimal-number}
 

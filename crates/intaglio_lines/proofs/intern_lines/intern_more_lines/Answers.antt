@@ -1,9 +1,7 @@
 -- Lines are interned in groups: what a group adds and what the lines behind it will add is what all lines add.
 use Rattle.std.proofs.lemmas.Grind.{common_steps}
-use Rattle.std.proofs.Common.{◌≡◌, ◌∙◌, ◌++◌, ◌+◌, ◌<◌, length, length-append, map, sym, ap, append_assoc, arith, rules}
+use Rattle.std.proofs.Common.{◌≡◌, ◌∙◌, ◌++◌, ◌+◌, ◌<◌, length-append, append_assoc, arith}
 use Rattle.std.proofs.lemmas.List.{length-map}
-use Rattle.intaglio_interner.specs.Issue.{interned_all}
-use Rattle.intaglio_lines.specs.Lines.{lines_of}
 use Rattle.intaglio_lines.proofs.Spellings.{group-symbols, group-held, group-over}
 use Rattle.intaglio_lines.proofs.intern_lines.intern_more_lines.Goals as goal
 
